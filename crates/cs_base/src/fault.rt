@@ -1,0 +1,223 @@
+// What a text is refused for: each fault has the line at which it stands and its one kind.
+ghost use Rattle.std.specs.Prelude.{◌≡◌};
+ghost use Rattle.cs_base.specs.declared.fault.Or.TheVariants as or;
+ghost use Rattle.cs_base.specs.Faults.{orc_kind_number, orc_kind_name, score_kind_number, score_kind_name};
+
+use std::alloc::{AllocError, AllocFailed};
+use thiserror::Error;
+
+/// Memory was refused. It is an answer of its own, and no clause says when it comes.
+#[derive(Clone, Copy, Debug, PartialEq, Eq)]
+pub struct OutOfMemory;
+
+impl From<AllocError> for OutOfMemory {
+    fn from(_: AllocError) -> Self {
+        OutOfMemory
+    }
+}
+
+impl<T: Drop> From<AllocFailed<T>> for OutOfMemory {
+    fn from(_: AllocFailed<T>) -> Self {
+        OutOfMemory
+    }
+}
+
+/// A fault of a text, or want of memory.
+#[derive(Clone, Copy, Debug, PartialEq, Eq)]
+pub enum Or<F> {
+    Fault(F),
+    OutOfMemory,
+}
+
+impl<F> From<AllocError> for Or<F> {
+    ghost from_gives = { λ _ e. e ≡ or.OutOfMemory };
+
+    fn from(_: AllocError) -> Self {
+        Or::OutOfMemory
+    }
+}
+
+impl<F, T: Drop> From<AllocFailed<T>> for Or<F> {
+    ghost from_gives = { λ _ e. e ≡ or.OutOfMemory };
+
+    fn from(_: AllocFailed<T>) -> Self {
+        Or::OutOfMemory
+    }
+}
+
+impl<F> From<OutOfMemory> for Or<F> {
+    ghost from_gives = { λ _ e. e ≡ or.OutOfMemory };
+
+    fn from(_: OutOfMemory) -> Self {
+        Or::OutOfMemory
+    }
+}
+
+/// The kinds of fault of an orchestra: 1 to 4 are found by tokens, 5 to 11 and 20 to 23 by grammar, 12 to 19 by rates and names.
+#[derive(Clone, Copy, Debug, PartialEq, Eq)]
+pub enum OrcKind {
+    BadByte,
+    BadToken,
+    BadNumber,
+    OpenComment,
+    Unexpected,
+    MissingEndin,
+    NestedInstr,
+    InstrNumber,
+    InstrTwice,
+    MissingEndif,
+    NotInProfile,
+    UnknownOpcode,
+    Undefined,
+    RateMismatch,
+    ArgCount,
+    HeaderValue,
+    HeaderTwice,
+    ChannelRate,
+    OutCount,
+    Recursion,
+    OpcodeTwice,
+    XinXout,
+    MissingEndop,
+}
+
+impl OrcKind {
+    /// The kind's number, from 1 to 23, as a refusal prints it.
+    pub fn number(self) -> u8
+        ensures { result ≡ orc_kind_number self }
+    {
+        match self {
+            OrcKind::BadByte => 1,
+            OrcKind::BadToken => 2,
+            OrcKind::BadNumber => 3,
+            OrcKind::OpenComment => 4,
+            OrcKind::Unexpected => 5,
+            OrcKind::MissingEndin => 6,
+            OrcKind::NestedInstr => 7,
+            OrcKind::InstrNumber => 8,
+            OrcKind::InstrTwice => 9,
+            OrcKind::MissingEndif => 10,
+            OrcKind::NotInProfile => 11,
+            OrcKind::UnknownOpcode => 12,
+            OrcKind::Undefined => 13,
+            OrcKind::RateMismatch => 14,
+            OrcKind::ArgCount => 15,
+            OrcKind::HeaderValue => 16,
+            OrcKind::HeaderTwice => 17,
+            OrcKind::ChannelRate => 18,
+            OrcKind::OutCount => 19,
+            OrcKind::Recursion => 20,
+            OrcKind::OpcodeTwice => 21,
+            OrcKind::XinXout => 22,
+            OrcKind::MissingEndop => 23,
+        }
+    }
+
+    /// The kind's name, as a refusal prints it.
+    pub fn name(self) -> &'static str
+        ensures { result.now ≡ orc_kind_name self }
+    {
+        match self {
+            OrcKind::BadByte => "BadByte",
+            OrcKind::BadToken => "BadToken",
+            OrcKind::BadNumber => "BadNumber",
+            OrcKind::OpenComment => "OpenComment",
+            OrcKind::Unexpected => "Unexpected",
+            OrcKind::MissingEndin => "MissingEndin",
+            OrcKind::NestedInstr => "NestedInstr",
+            OrcKind::InstrNumber => "InstrNumber",
+            OrcKind::InstrTwice => "InstrTwice",
+            OrcKind::MissingEndif => "MissingEndif",
+            OrcKind::NotInProfile => "NotInProfile",
+            OrcKind::UnknownOpcode => "UnknownOpcode",
+            OrcKind::Undefined => "Undefined",
+            OrcKind::RateMismatch => "RateMismatch",
+            OrcKind::ArgCount => "ArgCount",
+            OrcKind::HeaderValue => "HeaderValue",
+            OrcKind::HeaderTwice => "HeaderTwice",
+            OrcKind::ChannelRate => "ChannelRate",
+            OrcKind::OutCount => "OutCount",
+            OrcKind::Recursion => "Recursion",
+            OrcKind::OpcodeTwice => "OpcodeTwice",
+            OrcKind::XinXout => "XinXout",
+            OrcKind::MissingEndop => "MissingEndop",
+        }
+    }
+}
+
+/// The kinds of fault of a score, in the order of their numbers.
+#[derive(Clone, Copy, Debug, PartialEq, Eq)]
+pub enum ScoreKind {
+    BadStatement,
+    BadNumber,
+    MissingField,
+    NothingToCarry,
+    BadTempo,
+    BadGen,
+    BadTableSize,
+    TableResized,
+    NegativeTime,
+    NotInProfile,
+}
+
+impl ScoreKind {
+    /// The kind's number, from 1 to 10, as a refusal prints it.
+    pub fn number(self) -> u8
+        ensures { result ≡ score_kind_number self }
+    {
+        match self {
+            ScoreKind::BadStatement => 1,
+            ScoreKind::BadNumber => 2,
+            ScoreKind::MissingField => 3,
+            ScoreKind::NothingToCarry => 4,
+            ScoreKind::BadTempo => 5,
+            ScoreKind::BadGen => 6,
+            ScoreKind::BadTableSize => 7,
+            ScoreKind::TableResized => 8,
+            ScoreKind::NegativeTime => 9,
+            ScoreKind::NotInProfile => 10,
+        }
+    }
+
+    /// The kind's name, as a refusal prints it.
+    pub fn name(self) -> &'static str
+        ensures { result.now ≡ score_kind_name self }
+    {
+        match self {
+            ScoreKind::BadStatement => "BadStatement",
+            ScoreKind::BadNumber => "BadNumber",
+            ScoreKind::MissingField => "MissingField",
+            ScoreKind::NothingToCarry => "NothingToCarry",
+            ScoreKind::BadTempo => "BadTempo",
+            ScoreKind::BadGen => "BadGen",
+            ScoreKind::BadTableSize => "BadTableSize",
+            ScoreKind::TableResized => "TableResized",
+            ScoreKind::NegativeTime => "NegativeTime",
+            ScoreKind::NotInProfile => "NotInProfile",
+        }
+    }
+}
+
+/// The first broken rule of an orchestra. Lines count from 1.
+#[derive(Clone, Copy, Debug, PartialEq, Eq, Error)]
+#[error("orchestra line {line}: {kind:?}")]
+pub struct OrcFault {
+    pub line: u32,
+    pub kind: OrcKind,
+}
+
+/// The first broken rule of a score. Lines count from 1.
+#[derive(Clone, Copy, Debug, PartialEq, Eq, Error)]
+#[error("score line {line}: {kind:?}")]
+pub struct ScoreFault {
+    pub line: u32,
+    pub kind: ScoreKind,
+}
+
+/// A stated limit that was passed, by its number, and the line that passes it: 0 where no place in a text does.
+#[derive(Clone, Copy, Debug, PartialEq, Eq, Error)]
+#[error("limit L{limit} passed at line {line}")]
+pub struct LimitHit {
+    pub limit: u8,
+    pub line: u32,
+}
