@@ -34,9 +34,10 @@ const MOST_BYTES: usize = 8192;
 /// The most notes that a score may have.
 const MOST_NOTES: usize = 100;
 
-/// The orchestra that a text is, or None where it isn't of the form. A last line feed may be missing.
+/// The orchestra that a text is, or None where it isn't of the form. The last line feed may be missing.
 pub fn orchestra_in(text: Vec<u8>) -> Result<Option<Orchestra>, AllocError>
-    ensures { IfOk result (λ found. MatchOption found ((o : Orchestra) → ¬ (IsOrchestraText text.items o))
+    ensures { IfOk result (λ found. MatchOption found
+        ((o : Orchestra) → ¬ (IsOrchestraText text.items o))
         (λ o. IsOrchestraText text.items o)) }
 {
     if text.len() > MOST_BYTES {
@@ -45,9 +46,11 @@ pub fn orchestra_in(text: Vec<u8>) -> Result<Option<Orchestra>, AllocError>
     Ok(orchestra_of(&completed(text)?))
 }
 
-/// The notes of the score that a text is, or None where it isn't of the form. A last line feed may be missing.
+/// The notes of the score that a text is, or None where it isn't of the form. The last line feed may be
+/// missing.
 pub fn notes_in(alloc: Global, text: Vec<u8>) -> Result<Option<Vec<Note>>, AllocError>
-    ensures { IfOk result (λ found. MatchOption found ((notes : List Note) → ¬ (IsScoreText text.items notes))
+    ensures { IfOk result (λ found. MatchOption found
+        ((notes : List Note) → ¬ (IsScoreText text.items notes))
         (λ notes. IsScoreText text.items notes.items)) }
 {
     if text.len() > MOST_BYTES {
@@ -114,7 +117,8 @@ fn is_tail(text: &[u8]) -> bool
 
 // The note of a score's first line, and the lines behind it.
 fn note_of(text: &[u8]) -> Option<(Note, &[u8])>
-    ensures { MatchOption result ((n : Note) (rest : List ℕ) → IsNote n → text.now ≢ note_text n ++ rest)
+    ensures { MatchOption result
+        ((n : Note) (rest : List ℕ) → IsNote n → text.now ≢ note_text n ++ rest)
         (λ found. IsNote found.0 × (text.now ≡ note_text found.0 ++ found.1.now)) }
 {
     let (start, text) = after_field(text, b"i1 ", 0, 60)?;
@@ -130,3 +134,6 @@ fn note_of(text: &[u8]) -> Option<(Note, &[u8])>
         rest,
     ))
 }
+
+#[cfg(test)]
+mod tests;

@@ -20,8 +20,8 @@ pub fn count_cycles(o: &Orchestra, notes: &[Note]) -> u32
     cycles
 }
 
-/// Sums the notes that sound in a cycle into `mix`, in 65,536ths, one value a frame. `part` is as long as `mix`, and
-/// holds one note's output at a time.
+/// Sums the notes that sound in a cycle into `mix`, in 65,536ths, one value a frame. `part` is as long
+/// as `mix`, and holds one note's output at a time.
 pub fn mix_cycle(o: &Orchestra, notes: &[Note], cycle: u32, part: &mut [i64], mix: &mut [i64])
     requires orchestra { IsOrchestra o.now }
     requires notes { IsNotes notes.now }

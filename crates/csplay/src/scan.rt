@@ -1,5 +1,5 @@
-// Words and numbers at the front of a text. Each reader answers what it found and the rest of the text, or
-// that nothing of its kind stands there.
+// Words and numbers at the front of a text. Each reader answers what it found and the text behind it,
+// or that nothing of its kind stands there.
 ghost use Rattle.std.specs.Prelude.{◌≡◌, ◌≢◌, ◌≤◌, ◌<◌, ◌^◌, ◌↔◌, ℕ, List, ◌++◌, IsTrue, MatchOption};
 ghost use Rattle.std.specs.Fmt.{decimal};
 ghost use Rattle.csplay.specs.Scan.{EndsNumber, AreDigits, IsPlain, read_on};
@@ -12,11 +12,13 @@ pub fn after_word<'a>(text: &'a [u8], word: &[u8]) -> Option<&'a [u8]>
     text.strip_prefix(word)
 }
 
-// A number from `least` to `most` at the front, in decimal digits without a leading zero, and the text behind it.
+// A number from `least` to `most` at the front, in decimal digits without a leading zero, and the text
+// behind it.
 fn after_number(text: &[u8], least: u32, most: u32) -> Option<(u32, &[u8])>
     requires { most < 2 ^ 31 }
     ensures { MatchOption result
-        ((n : ℕ) (rest : List ℕ) → least ≤ n → n ≤ most → EndsNumber rest → text.now ≢ decimal n ++ rest)
+        ((n : ℕ) (rest : List ℕ) → least ≤ n → n ≤ most → EndsNumber rest
+        → text.now ≢ decimal n ++ rest)
         (λ found. (least ≤ found.0) × (found.0 ≤ most) × EndsNumber found.1.now
         × (text.now ≡ decimal found.0 ++ found.1.now)) }
 {
