@@ -1,0 +1,3 @@
+pub mod Cells
+pub mod Meaning
+pub mod Serial

@@ -1,0 +1,2 @@
+pub mod SerialRun
+mod Fold
