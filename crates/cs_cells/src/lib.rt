@@ -12,9 +12,11 @@
 mod bank;
 mod footprint;
 mod job;
+mod layout;
 mod serial;
 
 pub use bank::{Bank, PlainBank};
 pub use footprint::{Area, Feet, Footprint};
 pub use job::Job;
+pub use layout::Layout;
 pub use serial::{run_all, serial_laws};
