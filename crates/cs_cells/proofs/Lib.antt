@@ -1,0 +1,3 @@
+mod Areas
+pub mod SerialRun
+mod Fold
