@@ -1,0 +1,6 @@
+//! Tables by formula.
+#![tactic(auto)]
+
+mod check;
+
+pub use check::{GenFault, check_table};
