@@ -2,5 +2,6 @@
 #![tactic(auto)]
 
 mod check;
+mod sine;
 
 pub use check::{GenFault, check_table};
