@@ -12,13 +12,18 @@
 //! `sure_sink`, `sure` (the law of those that never fail); last `adapters`, the trusted edge.
 #![tactic(auto)]
 
+mod adapters;
+mod digits;
 mod files;
 mod gate;
 mod kept;
 mod lookup;
 mod mem_shelf;
 mod mem_sink;
+mod mirror;
 mod moves;
+mod page;
+mod peak;
 mod portion;
 mod script;
 mod shelf;
@@ -30,11 +35,14 @@ mod taken;
 mod tap;
 mod writing;
 
+pub use adapters::{FileShelf, FileSink, TalkOut};
 pub use files::{Calls, Files, NamedBytes};
 pub use gate::{Gate, OpenGate};
 pub use mem_shelf::MemShelf;
 pub use mem_sink::MemSink;
+pub use mirror::MirrorTap;
 pub use moves::{Failed, Move};
+pub use peak::PeakTap;
 pub use shelf::Shelf;
 pub use sink::Sink;
 pub use sure::sure_never_fail;

@@ -1,0 +1,3 @@
+pub mod Form
+pub mod Mix
+pub mod Scan

@@ -1,0 +1,2 @@
+// When notes sound, and what they sum to.
+use crate::form::{Note, Orchestra};
