@@ -1,5 +1,5 @@
 -- Resources by number: a number stands for one resource, and its index among the areas is the resource's place.
-use Rattle.std.proofs.Common.{◌≡◌, ℕ, zero, suc, ◌+◌, ◌<◌, List, [], ◌∷◌, ◌++◌, length, take, get_or, slice_get, Some, Bool, true, false, ◌&&◌, nat_eq, cond, Option, refl, sym, ◌∙◌, ap, subst, arith, if◌then◌else◌, eqb-true, eq-eqb, ⊎_elim}
+use Rattle.std.proofs.Common.{◌≡◌, ℕ, zero, suc, ◌+◌, ◌<◌, List, [], ◌∷◌, ◌++◌, length, take, get_or, slice_get, Some, Bool, true, false, ◌&&◌, nat_eq, refl, sym, ◌∙◌, ap, subst, arith, if◌then◌else◌, eqb-true, eq-eqb, ⊎_elim}
 use Rattle.std.specs.List.{list_any, position}
 use Rattle.std.proofs.lemmas.List.{map_more, length-map}
 use Rattle.std.proofs.lemmas.List.Quantifiers.{position-Some}

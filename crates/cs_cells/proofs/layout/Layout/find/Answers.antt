@@ -1,4 +1,4 @@
-use Rattle.std.proofs.Common.{◌≡◌, ℕ, Some, true, subst, sym, ◌∙◌, ap}
+use Rattle.std.proofs.Common.{subst, sym, ◌∙◌, ap}
 use Rattle.std.specs.List.{list_any, position}
 use Rattle.std.proofs.lemmas.Bool.{both_ways}
 use Rattle.cs_cells.specs.Areas.{HasPlace, key, keys_of}
