@@ -1,0 +1,53 @@
+use Rattle.std.proofs.Common.{◌≡◌, List, [], ◌∷◌, ◌++◌, Option, None, Some, refl, ap, subst, sym, ◌∙◌, append_assoc, append-nil, ◌+◌}
+use Rattle.std.proofs.lemmas.List.{replicate-append-replicate}
+use Rattle.cs_edge.specs.declared.moves.Move.{Move}
+use Rattle.cs_edge.specs.Told.{Follows, IsFront}
+use Rattle.cs_edge.specs.Moves.{GrownBy, Grown, AreAll}
+
+-- two calls after one another
+pub follows_on : {A : Type 0} (P Q R : A → A → Type 0) → ((x y z : A) → P x y → Q y z → R x z)
+    → (a b c : Option A) → Follows a b P → Follows b c Q → Follows a c R
+follows_on P Q R join a b None p q = tt
+follows_on P Q R join a None (Some z) p q = absurd q
+follows_on P Q R join None (Some y) (Some z) p q = absurd p
+follows_on P Q R join (Some x) (Some y) (Some z) p q = join x y z p q
+
+-- what goes together by P goes together by what follows from P
+pub follows_as : {A : Type 0} (P Q : A → A → Type 0) → ((x y : A) → P x y → Q x y)
+    → (a b : Option A) → Follows a b P → Follows a b Q
+follows_as P Q weaker a None p = tt
+follows_as P Q weaker None (Some y) p = absurd p
+follows_as P Q weaker (Some x) (Some y) p = weaker x y p
+
+itself : {A : Type 0} (P : A → A → Type 0) → ((x : A) → P x x) → (a : Option A) → Follows a a P
+itself P same None = tt
+itself P same (Some x) = same x
+
+-- no call at all
+pub follows_same : {A : Type 0} (P : A → A → Type 0) → ((x : A) → P x x)
+    → (a b : Option A) → b ≡ a → Follows a b P
+follows_same P same a b e = let Q : Option _ → Type 0 = λ o. Follows a o P in subst Q (sym e) (itself P same a)
+
+-- moves of one kind, and then of another
+pub grown_on : (P Q R : List Move → Type 0) → ((x y : List Move) → P x → Q y → R (x ++ y))
+    → (a b c : List Move) → Grown P a b → Grown Q b c → Grown R a c
+grown_on P Q R join a b c p q =
+    (p.0 ++ q.0, join p.0 q.0 p.1 q.1, q.2 ∙ (ap (λ (l : List Move). l ++ q.0) p.2 ∙ append_assoc a p.0 q.0))
+
+-- one move is moves
+pub grown_by : (move : Move) (a b : List Move) → GrownBy move a b → Grown (λ more. more ≡ move ∷ []) a b
+grown_by move a b e = (move ∷ [], refl, e)
+
+-- no move is some number of the same move, and one more is one more
+pub all_none : (move : Move) (a : List Move) → Grown (AreAll move) a a
+all_none move a = ([], (0, refl), sym (append-nil a))
+
+pub all_more : (move : Move) (x y : List Move) → AreAll move x → y ≡ move ∷ [] → AreAll move (x ++ y)
+all_more move x y p e = (p.0 + 1, rw (p.1, e) (replicate-append-replicate p.0 1 move))
+
+-- a front of a list goes on to a longer one
+pub front_all : {A : Type 0} (l : List A) → IsFront l l
+front_all l = ([], sym (append-nil l))
+
+pub front_more : {A : Type 0} (front whole more : List A) → IsFront front whole → IsFront front (whole ++ more)
+front_more front whole more f = (f.0 ++ more, ap (λ (l : List _). l ++ more) f.1 ∙ append_assoc front f.0 more)

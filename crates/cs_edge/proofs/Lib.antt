@@ -1,0 +1,5 @@
+pub mod Chains
+pub mod Lines
+pub mod Lists
+pub mod Places
+pub mod Stories

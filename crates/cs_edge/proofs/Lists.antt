@@ -1,0 +1,24 @@
+use Rattle.std.proofs.Common.{◌≡◌, ◌≤◌, ℕ, ◌+◌, ◌-◌, List, ◌++◌, length, take, drop, sym, ◌∙◌, ap, arith, length-drop}
+use Rattle.std.proofs.lemmas.List.{take_all, take-append-drop}
+use Rattle.std.proofs.Math.Seq.{take-add}
+use Rattle.cs_edge.specs.Told.{IsFront}
+
+-- what follows a place is all of it
+pub rest_whole : {A : Type 0} (at : ℕ) (l : List A) → take (length l - at) (drop at l) ≡ drop at l
+rest_whole at l = take_all (length l - at) (drop at l) (omega (arith, length-drop at l))
+
+-- the first items, and then the first of what follows
+pub take_on : {A : Type 0} (at n : ℕ) (l : List A)
+    → take at l ++ take n (take (length l - at) (drop at l)) ≡ take (at + n) l
+take_on at n l = ap (λ (rest : List _). take at l ++ take n rest) (rest_whole at l) ∙ sym (take-add at n l)
+
+-- so many of what follows are no more than there are
+pub taken_within : {A : Type 0} (at n : ℕ) (l : List A) → at ≤ length l → n ≤ length (take (length l - at) (drop at l))
+    → at + n ≤ length l
+taken_within at n l h k =
+    let e = ap length (rest_whole at l) in
+    omega (arith, length-drop at l)
+
+-- the first items are a front
+pub take_front : {A : Type 0} (n : ℕ) (l : List A) → IsFront (take n l) l
+take_front n l = (drop n l, sym (take-append-drop n l))

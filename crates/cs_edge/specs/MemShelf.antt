@@ -1,0 +1,23 @@
+use Rattle.std.specs.Prelude.{List, Some, drop}
+use Rattle.cs_edge.specs.declared.moves.Move.{Move}
+use Rattle.cs_edge.specs.declared.script.Script.{Script}
+use Rattle.cs_edge.specs.declared.mem_shelf.MemShelf.{MemShelf}
+use Rattle.cs_edge.specs.Files.{ShelfTold}
+use Rattle.cs_edge.specs.Memory.{bytes_at, told_moves}
+
+-- what a shelf in memory tells: its files, what is left of the file begun, its moves as long as they are kept, its faults
+abbrev pub shelf_told : MemShelf → ShelfTold
+shelf_told s = record {
+  files = Some s.files;
+  left = Some (drop s.at (bytes_at s.begun s.files));
+  moves = told_moves s.kept;
+  faults = s.script.faults;
+}
+
+-- its calls that are to fail, and how many were made
+abbrev pub shelf_script : MemShelf → Script
+shelf_script s = s.script
+
+-- the moves that it kept
+abbrev pub shelf_moves : MemShelf → List Move
+shelf_moves s = s.kept.moves

@@ -1,0 +1,150 @@
+// The trusted edge: files and standard output behind the traits. Each keeps a count of its faults, counts every
+// error of the system as one, and tells nothing of what a file or a terminal holds.
+ghost use Rattle.std.specs.Prelude.{None};
+
+use crate::{Failed, Shelf, Sink};
+use std::io::{Read, Write};
+use std::rt::Files;
+use std::{fs, io};
+
+/// Files of the system to read from; a part of the trusted edge. A file that can't be opened is a fault.
+#[derive(Drop)]
+pub struct FileShelf<'a, R: Files> {
+    rt: &'a R,
+    file: Option<R::File>,
+    faults: u64,
+}
+
+impl<'a, R: Files> FileShelf<'a, R> {
+    pub fn new(rt: &'a R) -> FileShelf<'a, R> {
+        FileShelf {
+            rt,
+            file: None,
+            faults: 0,
+        }
+    }
+}
+
+impl<'a, R: Files> Shelf for FileShelf<'a, R> {
+    ghost tells = { λ s. record { files = None; left = None; moves = None; faults = s.faults } };
+
+    fn begin(&mut self, name: &str) -> Result<bool, Failed> {
+        self.file = None;
+        match fs::open(self.rt, name) {
+            Ok(file) => {
+                self.file = Some(file);
+                Ok(true)
+            }
+            Err(_) => {
+                self.faults = self.faults.saturating_add(1);
+                Err(Failed)
+            }
+        }
+    }
+
+    fn read(&mut self, buf: &mut [u8]) -> Result<usize, Failed> {
+        let Some(file) = &mut self.file else {
+            return Ok(0);
+        };
+        match file.read(buf) {
+            Ok(n) => Ok(n),
+            Err(_) => {
+                self.faults = self.faults.saturating_add(1);
+                Err(Failed)
+            }
+        }
+    }
+}
+
+/// A file of the system to write to; a part of the trusted edge. A device that takes nothing is a fault.
+#[derive(Drop)]
+pub struct FileSink<'a, R: Files> {
+    rt: &'a R,
+    file: Option<R::File>,
+    faults: u64,
+}
+
+impl<'a, R: Files> FileSink<'a, R> {
+    pub fn new(rt: &'a R) -> FileSink<'a, R> {
+        FileSink {
+            rt,
+            file: None,
+            faults: 0,
+        }
+    }
+}
+
+impl<'a, R: Files> Sink for FileSink<'a, R> {
+    ghost tells = { λ s. record { held = None; moves = None; faults = s.faults } };
+
+    fn begin(&mut self, name: &str) -> Result<(), Failed> {
+        self.file = None;
+        match fs::create(self.rt, name) {
+            Ok(file) => {
+                self.file = Some(file);
+                Ok(())
+            }
+            Err(_) => {
+                self.faults = self.faults.saturating_add(1);
+                Err(Failed)
+            }
+        }
+    }
+
+    fn write(&mut self, piece: &[u8]) -> Result<usize, Failed> {
+        if let Some(file) = &mut self.file {
+            match file.write(piece) {
+                Ok(n) if n > 0 => return Ok(n),
+                _ => {}
+            }
+        }
+        self.faults = self.faults.saturating_add(1);
+        Err(Failed)
+    }
+
+    fn end(&mut self) -> Result<(), Failed> {
+        if let Some(file) = &mut self.file {
+            if file.flush().is_ok() {
+                self.file = None;
+                return Ok(());
+            }
+        }
+        self.faults = self.faults.saturating_add(1);
+        Err(Failed)
+    }
+}
+
+/// Standard output; a part of the trusted edge. A begin does nothing there, and an end neither.
+#[derive(Drop)]
+pub struct TalkOut<'a, P: Print> {
+    rt: &'a P,
+    faults: u64,
+}
+
+impl<'a, P: Print> TalkOut<'a, P> {
+    pub fn new(rt: &'a P) -> TalkOut<'a, P> {
+        TalkOut { rt, faults: 0 }
+    }
+}
+
+impl<'a, P: Print> Sink for TalkOut<'a, P> {
+    ghost tells = { λ s. record { held = None; moves = None; faults = s.faults } };
+
+    fn begin(&mut self, _name: &str) -> Result<(), Failed> {
+        Ok(())
+    }
+
+    fn write(&mut self, piece: &[u8]) -> Result<usize, Failed> {
+        match io::writer(self.rt).write(piece) {
+            Ok(n) if n > 0 => Ok(n),
+            _ => {
+                self.faults = self.faults.saturating_add(1);
+                Err(Failed)
+            }
+        }
+    }
+
+    fn end(&mut self) -> Result<(), Failed> {
+        Ok(())
+    }
+}

@@ -1,0 +1,14 @@
+use cs_base::{Bytes, Items, Text};
+
+/// A file in memory: its name and its bytes.
+#[derive(Debug, Drop)]
+pub struct NamedBytes {
+    pub name: Text,
+    pub bytes: Bytes,
+}
+
+/// Files in memory; of two with one name the first counts.
+pub type Files = Items<NamedBytes>;
+
+/// The numbers of the calls that are to fail, counted from 1.
+pub type Calls = Items<u64>;

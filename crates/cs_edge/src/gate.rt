@@ -1,0 +1,19 @@
+/// A worker calls it after it has claimed a note and before it runs it.
+pub trait Gate {
+    /// `cycle` counts control cycles from 0; `note` is the note's place in the cycle's serial order, from 0.
+    fn before(&self, cycle: u32, note: u32);
+}
+
+/// A gate that stands open: it does nothing.
+#[derive(Clone, Copy, Debug, PartialEq, Eq)]
+pub struct OpenGate {}
+
+impl OpenGate {
+    pub fn new() -> OpenGate {
+        OpenGate {}
+    }
+}
+
+impl Gate for OpenGate {
+    fn before(&self, _cycle: u32, _note: u32) {}
+}

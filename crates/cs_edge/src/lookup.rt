@@ -1,0 +1,46 @@
+// A file of a list of files, by name and by place.
+ghost use Rattle.std.specs.Prelude.{◌≡◌, ◌-◌, length, min, take, drop, Some, None, MatchOption};
+ghost use Rattle.cs_edge.specs.Files.{file_named};
+ghost use Rattle.cs_edge.specs.Memory.{bytes_at};
+
+use crate::NamedBytes;
+
+/// The place of the first file of that name.
+pub fn place_in(files: &[NamedBytes], name: &str) -> Option<usize>
+    ensures { MatchOption result (file_named name.now files.now ≡ None)
+        (λ place. file_named name.now files.now ≡ Some (bytes_at (Some place) files.now)) }
+{
+    for (place, file) in files.iter().enumerate() {
+        if file.name.as_str() == name {
+            return Some(place);
+        }
+    }
+    None
+}
+
+/// The bytes of the file at a place, and none for no place.
+pub fn bytes_of(files: &[NamedBytes], place: Option<usize>) -> &[u8]
+    ensures { result.now ≡ bytes_at place files.now }
+{
+    let Some(place) = place else {
+        return &[];
+    };
+    if place < files.len() {
+        files[place].bytes.as_slice()
+    } else {
+        &[]
+    }
+}
+
+/// Copies what follows the place `at` into the buffer, as much as there is and fits, and answers how much.
+pub fn copy_front(bytes: &[u8], at: usize, buf: &mut [u8]) -> usize
+    ensures count { result ≡ min (length buf.old) (length bytes.now - at) }
+    ensures taken { take result buf.new ≡ take result (drop at bytes.now) }
+{
+    let left = bytes.len().saturating_sub(at);
+    let n = buf.len().min(left);
+    for i in 0..n {
+        buf[i] = bytes[at + i];
+    }
+    n
+}

@@ -1,0 +1,93 @@
+ghost use Rattle.std.specs.Prelude.{◌≡◌, ℕ, ℤ, List, [], ◌∷◌, ◌++◌, length, IfOk};
+ghost use Rattle.cs_edge.specs.Taps.{IsMirrorOf, mirror_line, mirror_text, Shows};
+ghost use Rattle.cs_edge.specs.Mirror.{room_of, kept_of, count_of};
+
+use crate::Tap;
+use crate::page::{add_number, add_piece, add_signed};
+use cs_base::OutOfMemory;
+use std::alloc::Global;
+
+/// A meter that keeps the first values of the mix, and counts all of them.
+#[derive(Debug, Drop)]
+pub struct MirrorTap {
+    block: Vec<i64>,
+    used: usize,
+    count: u64,
+}
+
+impl MirrorTap {
+    /// A mirror with room for so many values. It stands for no values.
+    pub fn new(alloc: Global, room: u32) -> Result<MirrorTap, OutOfMemory>
+        ensures none { IfOk result (λ t. ⟦<MirrorTap as Tap>⟧.stands_for t []) }
+        ensures room { IfOk result (λ t. room_of t ≡ room) }
+    {
+        Ok(MirrorTap {
+            block: vec![in alloc; 0i64; room as usize]?,
+            used: 0,
+            count: 0,
+        })
+    }
+
+    /// The first values that it was told, as many as it has room for.
+    pub fn kept(&self) -> &[i64]
+        ensures { result.now ≡ kept_of self.now }
+    {
+        &self.block[..self.used.min(self.block.len())]
+    }
+
+    /// How many values it was told; it stays at 2^64 - 1.
+    pub fn count(&self) -> u64
+        ensures { result ≡ count_of self.now }
+    {
+        self.count
+    }
+
+    /// Keeps a value where there is room, and counts it.
+    fn tell(&mut self, z: i64)
+        ensures mirror { (h : List ℤ) → IsMirrorOf (room_of self.old) (kept_of self.old) (count_of self.old) h
+            → IsMirrorOf (room_of self.new) (kept_of self.new) (count_of self.new) (h ++ z ∷ []) }
+        ensures room { room_of self.new ≡ room_of self.old }
+    {
+        if self.used < self.block.len() {
+            self.block[self.used] = z;
+            self.used += 1;
+        }
+        self.count = self.count.saturating_add(1);
+    }
+}
+
+impl Tap for MirrorTap {
+    ghost stands_for = { λ t h. IsMirrorOf (room_of t) (kept_of t) (count_of t) h };
+
+    ghost text = { λ t room. mirror_text (kept_of t) (count_of t) room };
+
+    fn take(&mut self, frames: &[i64])
+        ensures mirror { (h : List ℤ) → IsMirrorOf (room_of self.old) (kept_of self.old) (count_of self.old) h
+            → IsMirrorOf (room_of self.new) (kept_of self.new) (count_of self.new) (h ++ frames.now) }
+        ensures room { room_of self.new ≡ room_of self.old }
+    {
+        for z in frames {
+            self.tell(*z);
+        }
+    }
+
+    fn line(&self, out: &mut [u8]) -> usize {
+        if let Some(used) = put_mirror(out, self.kept(), self.count) {
+            return used;
+        }
+        put_mirror(out, &[], self.count).unwrap_or(0)
+    }
+}
+
+/// Writes the line of a mirror at the front of the buffer, where it fits.
+fn put_mirror(out: &mut [u8], kept: &[i64], count: u64) -> Option<usize>
+    ensures { Shows result out.new (mirror_line kept.now count) }
+{
+    let used = add_piece(out, Some(0), b"mirror ");
+    let mut used = add_number(out, used, count);
+    for z in kept {
+        used = add_piece(out, used, b" ");
+        used = add_signed(out, used, *z);
+    }
+    add_piece(out, used, b"\n")
+}

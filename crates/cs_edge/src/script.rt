@@ -1,0 +1,43 @@
+// Which calls of an object in memory fail.
+ghost use Rattle.std.specs.Prelude.{◌≡◌, ◌≤◌, ◌↔◌, IsTrue, Contains};
+ghost use Rattle.cs_edge.specs.Told.{Rose};
+ghost use Rattle.cs_edge.specs.Memory.{next_call};
+
+use crate::Calls;
+
+/// The calls that are to fail, how many were made, and how many failed.
+#[derive(Debug, Drop)]
+pub struct Script {
+    pub failing: Calls,
+    pub calls: u64,
+    pub faults: u64,
+}
+
+impl Script {
+    /// No call was made yet.
+    pub fn new(failing: Calls) -> Script
+        ensures { result ≡ record { failing = failing; calls = 0; faults = 0 } }
+    {
+        Script {
+            failing,
+            calls: 0,
+            faults: 0,
+        }
+    }
+
+    /// Counts a call, and says whether it is one of those that fail.
+    pub fn call_fails(&mut self) -> bool
+        ensures calls { self.new.calls ≡ next_call self.old.calls }
+        ensures listed { IsTrue result ↔ Contains self.old.failing self.new.calls }
+        ensures later { self.old.faults ≤ self.new.faults }
+        ensures rose { IsTrue result → Rose self.old.faults self.new.faults }
+        ensures failing { self.new.failing ≡ self.old.failing }
+    {
+        self.calls = self.calls.saturating_add(1);
+        let fails = self.failing.as_slice().contains(&self.calls);
+        if fails {
+            self.faults = self.faults.saturating_add(1);
+        }
+        fails
+    }
+}
