@@ -1,0 +1,4 @@
+pub mod NearestLemmas
+pub mod SetLemmas
+pub mod Tests
+pub mod TouchedLemmas

@@ -1,0 +1,5 @@
+pub mod Conflict
+pub mod Graph
+pub mod Sets
+pub mod Touched
+pub mod Nearest
