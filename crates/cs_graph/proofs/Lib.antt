@@ -1,3 +1,7 @@
+pub mod ConflictLemmas
+pub mod DrawLemmas
+pub mod EdgeLemmas
+pub mod GrownLemmas
 pub mod NearestLemmas
 pub mod SetLemmas
 pub mod Tests

@@ -1,4 +1,4 @@
-use Rattle.std.proofs.Common.{◌≡◌, ◌==◌, ◌≢◌, ◌||◌, ℕ, zero, suc, ◌+◌, ◌*◌, ◌/◌, ◌%◌, ◌^◌, ◌<◌, ◌≤◌, max, Bool, true, false, List, [], ◌∷◌, length, get_or, set, refl, sym, ap, ◌∙◌, subst, inl, inr, ⊎_elim, arith, eqb, w64, get_or-set_same, get_or-set_other}
+use Rattle.std.proofs.Common.{◌≡◌, ◌||◌, ℕ, zero, suc, ◌*◌, ◌/◌, ◌%◌, ◌^◌, ◌<◌, max, false, List, [], ◌∷◌, length, get_or, set, refl, ap, ⊎_elim, arith, eqb, w64, get_or-set_same, get_or-set_other}
 use Rattle.std.specs.Int.{bit_at}
 use Rattle.std.specs.Int.RustNames.{bit_or}
 use lib.Bits.{bit_and}
@@ -42,13 +42,13 @@ pub has-insert : (ws : List ℕ) (n i : ℕ) → length ws ≡ 8 → n < 512
 unfolding has
 has-insert ws n i long small = let word : ℕ = bit_or (get_or ws (n / 64) 0) (1 * 2 ^ (n % 64) % 2 ^ 64) in ⊎_elim
     (λ same. let within : n / 64 < length ws = omega arith in
-        let here : get_or (set ws (n / 64) word) (i / 64) 0 ≡ word = rw same (get_or-set_same ws (n / 64) word 0 within) in
-        let test : eqb (i % 64) (n % 64) ≡ eqb i n = grind (arith, nat_tests) in
-        let old : has ws i ≡ eqb (bit_at (get_or ws (n / 64) 0) (i % 64)) 1 = ap (λ q. eqb (bit_at (get_or ws q 0) (i % 64)) 1) same in
-        rw (here, old, ← test) (bit-insert (get_or ws (n / 64) 0) (n % 64) (i % 64) (omega arith)))
+    let here : get_or (set ws (n / 64) word) (i / 64) 0 ≡ word = rw same (get_or-set_same ws (n / 64) word 0 within) in
+    let test : eqb (i % 64) (n % 64) ≡ eqb i n = grind (arith, nat_tests) in
+    let old : has ws i ≡ eqb (bit_at (get_or ws (n / 64) 0) (i % 64)) 1 = ap (λ q. eqb (bit_at (get_or ws q 0) (i % 64)) 1) same in
+    rw (here, old, ← test) (bit-insert (get_or ws (n / 64) 0) (n % 64) (i % 64) (omega arith)))
     (λ apart. let there : get_or (set ws (n / 64) word) (i / 64) 0 ≡ get_or ws (i / 64) 0 = get_or-set_other ws (n / 64) (i / 64) word 0 apart in
-        let test : eqb i n ≡ false = grind (arith, nat_tests) in
-        rw (there, test) (grind arith))
+    let test : eqb i n ≡ false = grind (arith, nat_tests) in
+    rw (there, test) (grind arith))
     (cases_eq (i / 64) (n / 64))
 
 bit-join : (a b j : ℕ) → eqb (bit_at (bit_or a b) j) 1 ≡ (eqb (bit_at a j) 1 || eqb (bit_at b j) 1)
@@ -62,7 +62,7 @@ unfolding has
 has-join ws us vs i long long' long'' each = ⊎_elim
     (λ within. rw (each (i / 64) within) (bit-join (get_or us (i / 64) 0) (get_or vs (i / 64) 0) (i % 64)))
     (λ past. let w : get_or ws (i / 64) 0 ≡ 0 = get_or_past ws (i / 64) 0 (omega arith) in
-        let u : get_or us (i / 64) 0 ≡ 0 = get_or_past us (i / 64) 0 (omega arith) in
-        let v : get_or vs (i / 64) 0 ≡ 0 = get_or_past vs (i / 64) 0 (omega arith) in
-        rw (w, u, v, bit_at-zero (i % 64)) refl)
+    let u : get_or us (i / 64) 0 ≡ 0 = get_or_past us (i / 64) 0 (omega arith) in
+    let v : get_or vs (i / 64) 0 ≡ 0 = get_or_past vs (i / 64) 0 (omega arith) in
+    rw (w, u, v, bit_at-zero (i % 64)) refl)
     (cases_lt (i / 64) 8)

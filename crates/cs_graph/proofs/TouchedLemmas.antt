@@ -1,10 +1,10 @@
-use Rattle.std.proofs.Common.{◌≡◌, ◌==◌, ◌≢◌, ◌||◌, ◌&&◌, ◌⊎◌, ◌↔◌, ℕ, ◌+◌, ◌<◌, Bool, true, false, List, length, get_or, take, nat_lt, refl, sym, ap, ◌∙◌, subst, inl, inr, ⊎_elim, arith}
+use Rattle.std.proofs.Common.{◌≡◌, ◌==◌, ◌≢◌, ◌||◌, ◌&&◌, ◌↔◌, ℕ, ◌+◌, ◌<◌, Bool, true, false, List, length, get_or, take, nat_lt, refl, sym, ap, ◌∙◌, subst, inl, inr, ⊎_elim, arith}
 use Rattle.std.proofs.lemmas.Bool.Decides.{nat_tests}
 use Rattle.std.proofs.lemmas.List.Folds.{Any-from_list_any, list_any-from_Any, list_any_more}
-use Rattle.std.specs.List.{list_any, Contains, Any}
+use Rattle.std.specs.List.{list_any, Contains}
 use Rattle.cs_cells.specs.declared.footprint.Footprint.{Footprint}
 use Rattle.cs_graph.proofs.Tests.{or_cases, or_left, or_right, same_number}
-use Rattle.cs_graph.specs.Conflict.{Uses, Writes, Clash}
+use Rattle.cs_graph.specs.Conflict.{Uses, Clash}
 use Rattle.cs_graph.specs.Touched.{lists}
 
 pub Contains-from_test : (xs : List ℕ) (r : ℕ) → lists xs r ≡ true → Contains xs r
@@ -27,19 +27,19 @@ module _ (F G : Footprint) (w u : ℕ → Bool) (writes : (y : ℕ) → w y ≡ 
 
   clash-tested : (list_any w G.uses || list_any u G.writes) ≡ true ↔ Clash F G
   clash-tested = (
-      λ h. ⊎_elim
-          (λ k. let a = Any-from_list_any w G.uses k in
-              (a.1, inl (Contains-from_test F.writes a.1 (sym (writes a.1) ∙ a.4), inl (a.0, a.2, a.3))))
-          (λ k. let a = Any-from_list_any u G.writes k in (a.1, inr (used a.1 a.4, (a.0, a.2, a.3))))
-          (or_cases _ _ h),
-      λ h. ⊎_elim
-          (λ k. ⊎_elim
-              (λ g. or_left _ _ (any-found w G.uses h.0 g (writes h.0 ∙ test-from_Contains F.writes h.0 k.0)))
-              (λ g. or_right _ _ (any-found u G.writes h.0 g (used' h.0 (inr k.0))))
-              k.1)
-          (λ k. or_right _ _ (any-found u G.writes h.0 k.1 (used' h.0 k.0)))
-          h.1
-    )
+    λ h. ⊎_elim
+        (λ k. let a = Any-from_list_any w G.uses k in
+        (a.1, inl (Contains-from_test F.writes a.1 (sym (writes a.1) ∙ a.4), inl (a.0, a.2, a.3))))
+        (λ k. let a = Any-from_list_any u G.writes k in (a.1, inr (used a.1 a.4, (a.0, a.2, a.3))))
+        (or_cases _ _ h),
+    λ h. ⊎_elim
+        (λ k. ⊎_elim
+        (λ g. or_left _ _ (any-found w G.uses h.0 g (writes h.0 ∙ test-from_Contains F.writes h.0 k.0)))
+        (λ g. or_right _ _ (any-found u G.writes h.0 g (used' h.0 (inr k.0))))
+        k.1)
+        (λ k. or_right _ _ (any-found u G.writes h.0 k.1 (used' h.0 k.0)))
+        h.1,
+  )
 
   pub clash-met : (b : Bool) (us ws : List ℕ) → us ≡ G.uses → ws ≡ G.writes → b ≡ (list_any w us || list_any u ws) → (b ≡ true) ↔ Clash F G
   clash-met b us ws a a' e = let k : b ≡ (list_any w G.uses || list_any u G.writes) = rw (← a, ← a') e in

@@ -1,4 +1,4 @@
-use Rattle.std.specs.Prelude.{◌≡◌, ℕ, suc, ◌<◌, ◌≤◌, ◌⊎◌, ◌+◌, List, [], length, slice_index_or}
+use Rattle.std.specs.Prelude.{ℕ, suc, ◌<◌, ◌≤◌, ◌⊎◌, List, [], length, slice_index_or}
 use Rattle.std.specs.List.{Contains}
 use Rattle.cs_cells.specs.declared.footprint.Footprint.{Footprint}
 

@@ -1,5 +1,5 @@
 use Rattle.std.specs.Prelude.{◌≡◌, ℕ, ◌+◌, ◌<◌, ◌==◌, ◌⊎◌, ◌↔◌, List, map, length, slice_get, slice_index, Some}
-use Rattle.std.specs.List.{Contains, AllPairs, filter}
+use Rattle.std.specs.List.{AllPairs, filter}
 use Rattle.cs_cells.specs.declared.footprint.Footprint.{Footprint}
 use Rattle.cs_graph.specs.Conflict.{Conflict, Near, IsLevel}
 

@@ -62,7 +62,12 @@ fn write_place(rows: &mut Rows, place: u32, note: u32, met: &mut NoteSet) -> Res
     Ok(())
 }
 
-fn use_places(rows: &mut Rows, places: &[u32], note: u32, met: &mut NoteSet) -> Result<(), OutOfMemory>
+fn use_places(
+    rows: &mut Rows,
+    places: &[u32],
+    note: u32,
+    met: &mut NoteSet,
+) -> Result<(), OutOfMemory>
     requires { note < 512 }
     ensures users { OnOk result ((r p : ℕ) → uses_so_far rows.new r p
         ≡ (uses_so_far rows.old r p || (list_any (λ y. r == y) places.now && p == note))) }
@@ -76,7 +81,12 @@ fn use_places(rows: &mut Rows, places: &[u32], note: u32, met: &mut NoteSet) -> 
     Ok(())
 }
 
-fn write_places(rows: &mut Rows, places: &[u32], note: u32, met: &mut NoteSet) -> Result<(), OutOfMemory>
+fn write_places(
+    rows: &mut Rows,
+    places: &[u32],
+    note: u32,
+    met: &mut NoteSet,
+) -> Result<(), OutOfMemory>
     requires { note < 512 }
     ensures users { OnOk result ((r p : ℕ) → uses_so_far rows.new r p
         ≡ (uses_so_far rows.old r p || (list_any (λ y. r == y) places.now && p == note))) }

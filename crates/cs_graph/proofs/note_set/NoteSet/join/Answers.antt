@@ -1,4 +1,4 @@
-use Rattle.std.proofs.Common.{arith, ℕ, ◌<◌}
+use Rattle.std.proofs.Common.{arith}
 use Rattle.cs_graph.proofs.SetLemmas.{has-join}
 use Rattle.cs_graph.proofs.note_set.NoteSet.join.Goals as goal
 
