@@ -23,13 +23,13 @@ module _ (feet : List Footprint) where
 
   pub IsClosed-known : (n : ℕ) (past : List Past) → IsKnown feet n past → IsClosed past n
   IsClosed-known n past k = record {
-      earlier = λ p q within h. Leads-earlier p q ((k.leads p q within).0 h);
-      chained = λ p q r within h g.
-          let second = (k.leads q r within).0 g in
-          let low : q < r = Leads-earlier q r second in
-          (k.leads p r within).1 (Leads-join p q r ((k.leads p q (omega arith)).0 h) second);
-      low = k.low;
-    }
+    earlier = λ p q within h. Leads-earlier p q ((k.leads p q within).0 h);
+    chained = λ p q r within h g.
+        let second = (k.leads q r within).0 g in
+        let low : q < r = Leads-earlier q r second in
+        (k.leads p r within).1 (Leads-join p q r ((k.leads p q (omega arith)).0 h) second);
+    low = k.low;
+  }
 
   -- what is found at note t
   module _ (t : ℕ) (within : t < length feet) (met : List ℕ) (past : List Past) (found : Found)
@@ -43,9 +43,9 @@ module _ (feet : List Footprint) where
 
     pub found-near : (p : ℕ) → Has found.near p → Near feet p t
     found-near p h = let w = f.near p h in record {
-        conflict = conflict-met p w.1 w.2;
-        no_longer_way = λ q l c. w.3 q c.earlier (met-conflict q c) ((k.leads p q c.earlier).1 l);
-      }
+      conflict = conflict-met p w.1 w.2;
+      no_longer_way = λ q l c. w.3 q c.earlier (met-conflict q c) ((k.leads p q c.earlier).1 l);
+    }
 
     pub found-rest : (p : ℕ) → Conflict feet p t → Has found.near p ⊎ ((q : ℕ) × Leads feet p q × Conflict feet q t)
     found-rest p c = ⊎_elim (λ h. inl h) (λ w. inr (w.0, (k.leads p w.0 w.1).0 w.3, conflict-met w.0 w.1 w.2)) (f.rest p (omega arith) c.earlier (met-conflict p c))
@@ -54,13 +54,15 @@ module _ (feet : List Footprint) where
     near-found p n = ⊎_elim (λ h. h) (λ w. absurd (n.no_longer_way w.0 w.1 w.2)) (found-rest p n.conflict)
 
     pub found-leads : (p : ℕ) → Has found.past.reach p ↔ Leads feet p t
-    found-leads p = (λ h. let w = f.reach p h in let c = conflict-met w.0 w.2 w.3 in
-            ⊎_elim (λ (same : p ≡ w.0). direct p t (subst (λ x. Conflict feet x t) (sym same) c)) (λ l. beyond p w.0 t ((k.leads p w.0 w.2).0 l) c) w.4,
-        λ l. leads-found p l)
+    found-leads p = (
+      λ h. let w = f.reach p h in let c = conflict-met w.0 w.2 w.3 in
+          ⊎_elim (λ (same : p ≡ w.0). direct p t (subst (λ x. Conflict feet x t) (sym same) c)) (λ l. beyond p w.0 t ((k.leads p w.0 w.2).0 l) c) w.4,
+      λ l. leads-found p l,
+    )
       where
-      leads-found : (p : ℕ) → Leads feet p t → Has found.past.reach p
-      leads-found p (direct _ _ c) = f.all p p (omega arith) c.earlier (met-conflict p c) (inl refl)
-      leads-found p (beyond _ q _ l c) = f.all p q (omega arith) c.earlier (met-conflict q c) (inr ((k.leads p q c.earlier).1 l))
+        leads-found : (p : ℕ) → Leads feet p t → Has found.past.reach p
+        leads-found p (direct _ _ c) = f.all p p (omega arith) c.earlier (met-conflict p c) (inl refl)
+        leads-found p (beyond _ q _ l c) = f.all p q (omega arith) c.earlier (met-conflict q c) (inr ((k.leads p q c.earlier).1 l))
 
     abbrev more : List Past
     more = past ++ found.past ∷ []
@@ -73,53 +75,53 @@ module _ (feet : List Footprint) where
 
     pub known_push : IsKnown feet (t + 1) more
     known_push = record {
-        long = omega (arith, k.long, length-append past (found.past ∷ []));
-        leads = λ p q low. ⊎_elim
-            (λ (here : q ≡ t). rw (here, new_past) (found-leads p))
-            (λ apart. rw (old_past q (omega arith)) (k.leads p q (omega arith)))
-            (cases_eq q t);
-        low = λ q low. ⊎_elim
-            (λ (here : q ≡ t). rw (here, new_past) f.low)
-            (λ apart. rw (old_past q (omega arith)) (k.low q (omega arith)))
-            (cases_eq q t);
-        above = λ p q low c. ⊎_elim
-            (λ (here : q ≡ t). let c' : Conflict feet p t = subst (Conflict feet p) here c in
-                rw (here, new_past, old_past p c'.earlier) (f.above p (omega arith) c'.earlier (met-conflict p c')))
-            (λ apart. rw (old_past q (omega arith), old_past p (omega (arith, c.earlier))) (k.above p q (omega arith) c))
-            (cases_eq q t);
-        greatest = λ q low. ⊎_elim
-            (λ (here : q ≡ t). rw (here, new_past) (λ h. let w = f.greatest h in (w.0, conflict-met w.0 w.2 w.3, rw (old_past w.0 w.2) w.4)))
-            (λ apart. rw (old_past q (omega arith)) (λ h. let w = k.greatest q (omega arith) h in (w.0, w.1, rw (old_past w.0 (omega (arith, w.1.earlier))) w.2)))
-            (cases_eq q t);
-      }
+      long = omega (arith, k.long, length-append past (found.past ∷ []));
+      leads = λ p q low. ⊎_elim
+          (λ (here : q ≡ t). rw (here, new_past) (found-leads p))
+          (λ apart. rw (old_past q (omega arith)) (k.leads p q (omega arith)))
+          (cases_eq q t);
+      low = λ q low. ⊎_elim
+          (λ (here : q ≡ t). rw (here, new_past) f.low)
+          (λ apart. rw (old_past q (omega arith)) (k.low q (omega arith)))
+          (cases_eq q t);
+      above = λ p q low c. ⊎_elim
+          (λ (here : q ≡ t). let c' : Conflict feet p t = subst (Conflict feet p) here c in
+          rw (here, new_past, old_past p c'.earlier) (f.above p (omega arith) c'.earlier (met-conflict p c')))
+          (λ apart. rw (old_past q (omega arith), old_past p (omega (arith, c.earlier))) (k.above p q (omega arith) c))
+          (cases_eq q t);
+      greatest = λ q low. ⊎_elim
+          (λ (here : q ≡ t). rw (here, new_past) (λ h. let w = f.greatest h in (w.0, conflict-met w.0 w.2 w.3, rw (old_past w.0 w.2) w.4)))
+          (λ apart. rw (old_past q (omega arith)) (λ h. let w = k.greatest q (omega arith) h in (w.0, w.1, rw (old_past w.0 (omega (arith, w.1.earlier))) w.2)))
+          (cases_eq q t);
+    }
 
     pub level_push : (levels : List ℕ) → length levels ≡ t → ((q : ℕ) → q < t → get_or levels q 0 ≡ (past_at past q).level)
         → (q : ℕ) → q < t + 1 → get_or (levels ++ found.past.level ∷ []) q 0 ≡ (past_at more q).level
     level_push levels long same q low = ⊎_elim
         (λ (here : q ≡ t). rw (here, new_past) (get_or_push levels found.past.level 0 t long))
         (λ apart. let below : q < t = omega arith in
-            rw (old_past q below) (get_or_append_left levels (found.past.level ∷ []) 0 q (omega arith) ∙ same q below))
+        rw (old_past q below) (get_or_append_left levels (found.past.level ∷ []) 0 q (omega arith) ∙ same q below))
         (cases_eq q t)
 
     pub drawn_more : (old edges : List (ℕ × ℕ)) → IsDrawn feet t old
         → ((a b : ℕ) → HasEdge edges a b ↔ (HasEdge old a b ⊎ ((b ≡ t) × (a < t) × Has found.near a))) → IsDrawn feet (t + 1) edges
     drawn_more old edges d grown = record {
-        each = λ p b h. ⊎_elim
-            (λ g. let w = d.each p b g in (omega (arith, w.0), w.1))
-            (λ g. (omega (arith, g.0), subst (Near feet p) (sym g.0) (found-near p g.2)))
-            ((grown p b).0 h);
-        near = λ p b low n. ⊎_elim
-            (λ (here : b ≡ t). let n' : Near feet p t = subst (Near feet p) here n in (grown p b).1 (inr (here, n'.conflict.earlier, near-found p n')))
-            (λ apart. (grown p b).1 (inl (d.near p b (omega arith) n)))
-            (cases_eq b t);
-        rest = λ p b low c. ⊎_elim
-            (λ (here : b ≡ t). let c' : Conflict feet p t = subst (Conflict feet p) here c in ⊎_elim
-                (λ h. inl ((grown p b).1 (inr (here, c'.earlier, h))))
-                (λ w. inr (w.0, w.1, subst (Conflict feet w.0) (sym here) w.2))
-                (found-rest p c'))
-            (λ apart. ⊎_elim (λ h. inl ((grown p b).1 (inl h))) (λ w. inr w) (d.rest p b (omega arith) c))
-            (cases_eq b t);
-      }
+      each = λ p b h. ⊎_elim
+          (λ g. let w = d.each p b g in (omega (arith, w.0), w.1))
+          (λ g. (omega (arith, g.0), subst (Near feet p) (sym g.0) (found-near p g.2)))
+          ((grown p b).0 h);
+      near = λ p b low n. ⊎_elim
+          (λ (here : b ≡ t). let n' : Near feet p t = subst (Near feet p) here n in (grown p b).1 (inr (here, n'.conflict.earlier, near-found p n')))
+          (λ apart. (grown p b).1 (inl (d.near p b (omega arith) n)))
+          (cases_eq b t);
+      rest = λ p b low c. ⊎_elim
+          (λ (here : b ≡ t). let c' : Conflict feet p t = subst (Conflict feet p) here c in ⊎_elim
+          (λ h. inl ((grown p b).1 (inr (here, c'.earlier, h))))
+          (λ w. inr (w.0, w.1, subst (Conflict feet w.0) (sym here) w.2))
+          (found-rest p c'))
+          (λ apart. ⊎_elim (λ h. inl ((grown p b).1 (inl h))) (λ w. inr w) (d.rest p b (omega arith) c))
+          (cases_eq b t);
+    }
 
   -- edges that join all nearest conflicts make ways for all conflicts
   module _ (n : ℕ) (edges : List (ℕ × ℕ)) (whole : length feet ≤ n) (d : IsDrawn feet n edges) where
@@ -137,14 +139,14 @@ module _ (feet : List Footprint) where
     Reaches-conflict (suc m) p t near c = ⊎_elim
         (λ h. step h.0 p t h.1)
         (λ w. let low : p < w.0 = Leads-earlier p w.0 w.1 in
-            Reaches-join p w.0 t (Reaches-leads m (Reaches-conflict m) p w.0 (omega (arith, w.2.earlier)) w.1) (Reaches-conflict m w.0 t (omega arith) w.2))
+        Reaches-join p w.0 t (Reaches-leads m (Reaches-conflict m) p w.0 (omega (arith, w.2.earlier)) w.1) (Reaches-conflict m w.0 t (omega arith) w.2))
         (d.rest p t (omega (arith, c.within)) c)
 
     pub IsFit-drawn : IsFit feet edges
     IsFit-drawn = record {
-        each = λ e p t h. (d.each p t (e, h)).1.conflict;
-        all = λ p t c. Reaches-conflict t p t (omega arith) c;
-      }
+      each = λ e p t h. (d.each p t (e, h)).1.conflict;
+      all = λ p t c. Reaches-conflict t p t (omega arith) c;
+    }
 
   -- levels by the rule on earlier conflicting notes are the longest chains
   module _ (levels : List ℕ) (r : IsLevelled feet levels) where
@@ -163,11 +165,11 @@ module _ (feet : List Footprint) where
   pub levelled_known : (past : List Past) (levels : List ℕ) → IsKnown feet (length feet) past
       → ((q : ℕ) → q < length feet → get_or levels q 0 ≡ (past_at past q).level) → IsLevelled feet levels
   levelled_known past levels k same = record {
-      none = λ t within no_. ⊎_elim
-          (λ high. absurd (no_ (k.greatest t within (rw (← same t within) high)).0 (k.greatest t within (rw (← same t within) high)).1))
-          (λ low. omega arith)
-          (cases_lt 0 (get_or levels t 0));
-      above = λ p t c. rw (same p (omega (arith, c.earlier, c.within)), same t c.within) (k.above p t c.within c);
-      greatest = λ t within high. let w = k.greatest t within (rw (← same t within) high) in
-          (w.0, w.1, rw (same t within, same w.0 (omega (arith, w.1.earlier, within))) w.2);
-    }
+    none = λ t within no_. ⊎_elim
+        (λ high. absurd (no_ (k.greatest t within (rw (← same t within) high)).0 (k.greatest t within (rw (← same t within) high)).1))
+        (λ low. omega arith)
+        (cases_lt 0 (get_or levels t 0));
+    above = λ p t c. rw (same p (omega (arith, c.earlier, c.within)), same t c.within) (k.above p t c.within c);
+    greatest = λ t within high. let w = k.greatest t within (rw (← same t within) high) in
+        (w.0, w.1, rw (same t within, same w.0 (omega (arith, w.1.earlier, within))) w.2);
+  }

@@ -26,20 +26,22 @@ pub drawn_none : (old : List (ℕ × ℕ)) (near : List ℕ) (t : ℕ) → AreDr
 drawn_none old near t a b = (λ h. inl h, λ h. ⊎_elim (λ k. k) (λ k. absurd (omega (arith, k.1))) h)
 
 pub drawn_skip : (old edges : List (ℕ × ℕ)) (near : List ℕ) (t p : ℕ) → has near p ≡ false → AreDrawn old near t p edges → AreDrawn old near t (p + 1) edges
-drawn_skip old edges near t p no_ d a b = (λ h. ⊎_elim (λ k. inl k) (λ k. inr (k.0, omega (arith, k.1), k.2)) ((d a b).0 h),
-    λ h. (d a b).1 (⊎_elim (λ k. inl k) (λ k. inr (k.0, ⊎_elim (λ (same : a ≡ p). absurd (both_ways _ no_ (rw (← same) k.2))) (λ apart. omega (arith, k.1)) (cases_eq a p), k.2)) h))
+drawn_skip old edges near t p no_ d a b = (
+  λ h. ⊎_elim (λ k. inl k) (λ k. inr (k.0, omega (arith, k.1), k.2)) ((d a b).0 h),
+  λ h. (d a b).1 (⊎_elim (λ k. inl k) (λ k. inr (k.0, ⊎_elim (λ (same : a ≡ p). absurd (both_ways _ no_ (rw (← same) k.2))) (λ apart. omega (arith, k.1)) (cases_eq a p), k.2)) h),
+)
 
 pub drawn_push : (old edges : List (ℕ × ℕ)) (near : List ℕ) (t p : ℕ) → has near p ≡ true → AreDrawn old near t p edges → AreDrawn old near t (p + 1) (edges ++ (p, t) ∷ [])
 drawn_push old edges near t p yes_ d a b = (
-    λ h. ⊎_elim
-        (λ k. ⊎_elim (λ l. inl l) (λ l. inr (l.0, omega (arith, l.1), l.2)) ((d a b).0 (h.0, k)))
-        (λ k. inr (sym k.2, omega (arith, k.1), subst (λ x. has near x ≡ true) k.1 yes_))
-        (edge_cases p t edges h.0 a b h.1),
-    λ h. ⊎_elim
-        (λ k. let w = (d a b).1 (inl k) in (w.0, edge_kept p t edges w.0 a b w.1))
-        (λ k. ⊎_elim
-            (λ (same : a ≡ p). (length edges, subst (λ x. Edge (edges ++ (p, t) ∷ []) (length edges) x b) (sym same) (subst (λ x. Edge (edges ++ (p, t) ∷ []) (length edges) p x) (sym k.0) (edge_new p t edges))))
-            (λ apart. let w = (d a b).1 (inr (k.0, omega (arith, k.1), k.2)) in (w.0, edge_kept p t edges w.0 a b w.1))
-            (cases_eq a p))
-        h
-  )
+  λ h. ⊎_elim
+      (λ k. ⊎_elim (λ l. inl l) (λ l. inr (l.0, omega (arith, l.1), l.2)) ((d a b).0 (h.0, k)))
+      (λ k. inr (sym k.2, omega (arith, k.1), subst (λ x. has near x ≡ true) k.1 yes_))
+      (edge_cases p t edges h.0 a b h.1),
+  λ h. ⊎_elim
+      (λ k. let w = (d a b).1 (inl k) in (w.0, edge_kept p t edges w.0 a b w.1))
+      (λ k. ⊎_elim
+      (λ (same : a ≡ p). (length edges, subst (λ x. Edge (edges ++ (p, t) ∷ []) (length edges) x b) (sym same) (subst (λ x. Edge (edges ++ (p, t) ∷ []) (length edges) p x) (sym k.0) (edge_new p t edges))))
+      (λ apart. let w = (d a b).1 (inr (k.0, omega (arith, k.1), k.2)) in (w.0, edge_kept p t edges w.0 a b w.1))
+      (cases_eq a p))
+      h,
+)

@@ -53,42 +53,50 @@ module _ (p t : ℕ) where
 
   in_stays : (xs : List (ℕ × ℕ)) (q : ℕ) (preds : List ℕ) (first : ℕ) → t ≢ q → IsInOf xs q preds first → IsInOf (grown xs) q preds first
   in_stays xs q preds first apart r = let test : (t == q) ≡ false = grind (arith, nat_tests) in record {
-      ends = r.ends ∙ sym (rw (preds-grown xs q, test) (append-nil (preds_of xs q)));
-      numbers = λ e. (λ h. let w = (r.numbers e).0 h in (w.0, edge_kept xs e w.0 q w.1),
-          λ h. ⊎_elim (λ k. (r.numbers e).1 (h.0, k)) (λ k. absurd (apart k.2)) (edge_cases xs e h.0 q h.1));
-      low = omega (arith, r.low, length-append xs ((p, t) ∷ []));
-    }
+    ends = r.ends ∙ sym (rw (preds-grown xs q, test) (append-nil (preds_of xs q)));
+    numbers = λ e. (
+      λ h. let w = (r.numbers e).0 h in (w.0, edge_kept xs e w.0 q w.1),
+      λ h. ⊎_elim (λ k. (r.numbers e).1 (h.0, k)) (λ k. absurd (apart k.2)) (edge_cases xs e h.0 q h.1),
+    );
+    low = omega (arith, r.low, length-append xs ((p, t) ∷ []));
+  }
 
   in_gains : (xs : List (ℕ × ℕ)) (preds : List ℕ) (first : ℕ) → first + length preds ≡ length xs → IsInOf xs t preds first → IsInOf (grown xs) t (preds ++ p ∷ []) first
   in_gains xs preds first up r = let test : (t == t) ≡ true = grind (arith, nat_tests) in let long = length-append preds (p ∷ []) in record {
-      ends = rw (preds-grown xs t, test) (ap (λ l. l ++ p ∷ []) r.ends);
-      numbers = λ e. (λ h. ⊎_elim (λ below. let w = (r.numbers e).0 (h.0, omega arith) in (w.0, edge_kept xs e w.0 t w.1))
-              (λ past. (p, subst (λ n. Edge (grown xs) n p t) (let k : length xs ≡ e = omega (arith, h.1, long) in k) (edge_new xs)))
-              (cases_lt e (length xs)),
-          λ h. ⊎_elim (λ k. let w = (r.numbers e).1 (h.0, k) in (w.0, omega (arith, w.1, long))) (λ k. (omega (arith, k.0), omega (arith, k.0, long))) (edge_cases xs e h.0 t h.1));
-      low = omega (arith, r.low, long, length-append xs ((p, t) ∷ []));
-    }
+    ends = rw (preds-grown xs t, test) (ap (λ l. l ++ p ∷ []) r.ends);
+    numbers = λ e. (
+      λ h. ⊎_elim (λ below. let w = (r.numbers e).0 (h.0, omega arith) in (w.0, edge_kept xs e w.0 t w.1))
+          (λ past. (p, subst (λ n. Edge (grown xs) n p t) (let k : length xs ≡ e = omega (arith, h.1, long) in k) (edge_new xs)))
+          (cases_lt e (length xs)),
+      λ h. ⊎_elim (λ k. let w = (r.numbers e).1 (h.0, k) in (w.0, omega (arith, w.1, long))) (λ k. (omega (arith, k.0), omega (arith, k.0, long))) (edge_cases xs e h.0 t h.1),
+    );
+    low = omega (arith, r.low, long, length-append xs ((p, t) ∷ []));
+  }
 
   out_stays : (xs : List (ℕ × ℕ)) (q : ℕ) (succs numbers : List ℕ) → p ≢ q → IsOutOf xs q succs numbers → IsOutOf (grown xs) q succs numbers
   out_stays xs q succs numbers apart r = let test : (p == q) ≡ false = grind (arith, nat_tests) in record {
-      ends = r.ends ∙ sym (rw (succs-grown xs q, test) (append-nil (succs_of xs q)));
-      numbers = λ e. (λ h. let w = (r.numbers e).0 h in (w.0, edge_kept xs e q w.0 w.1),
-          λ h. ⊎_elim (λ k. (r.numbers e).1 (h.0, k)) (λ k. absurd (apart k.1)) (edge_cases xs e q h.0 h.1));
-      up = r.up;
-    }
+    ends = r.ends ∙ sym (rw (succs-grown xs q, test) (append-nil (succs_of xs q)));
+    numbers = λ e. (
+      λ h. let w = (r.numbers e).0 h in (w.0, edge_kept xs e q w.0 w.1),
+      λ h. ⊎_elim (λ k. (r.numbers e).1 (h.0, k)) (λ k. absurd (apart k.1)) (edge_cases xs e q h.0 h.1),
+    );
+    up = r.up;
+  }
 
   out_gains : (xs : List (ℕ × ℕ)) (succs numbers : List ℕ) → IsOutOf xs p succs numbers → IsOutOf (grown xs) p (succs ++ t ∷ []) (numbers ++ length xs ∷ [])
   out_gains xs succs numbers r = let test : (p == p) ≡ true = grind (arith, nat_tests) in record {
-      ends = rw (succs-grown xs p, test) (ap (λ l. l ++ t ∷ []) r.ends);
-      numbers = λ e. (λ h. ⊎_elim (λ k. let w = (r.numbers e).0 k in (w.0, edge_kept xs e p w.0 w.1))
-              (λ k. (t, subst (λ n. Edge (grown xs) n p t) k (edge_new xs)))
-              (Contains-push_cases numbers (length xs) e h),
-          λ h. ⊎_elim (λ k. Contains-append_left numbers (length xs ∷ []) e ((r.numbers e).1 (h.0, k)))
-              (λ k. subst (Contains (numbers ++ length xs ∷ [])) (sym k.0) (Contains-push numbers (length xs)))
-              (edge_cases xs e p h.0 h.1));
-      up = all_pairs_push (λ d e. d < e) numbers (length xs) r.up (λ k d within.
-          let w = (r.numbers (get_or numbers k d)).0 (Contains-get_or numbers k d within) in slice_get_within xs (get_or numbers k d) (p, w.0) w.1);
-    }
+    ends = rw (succs-grown xs p, test) (ap (λ l. l ++ t ∷ []) r.ends);
+    numbers = λ e. (
+      λ h. ⊎_elim (λ k. let w = (r.numbers e).0 k in (w.0, edge_kept xs e p w.0 w.1))
+          (λ k. (t, subst (λ n. Edge (grown xs) n p t) k (edge_new xs)))
+          (Contains-push_cases numbers (length xs) e h),
+      λ h. ⊎_elim (λ k. Contains-append_left numbers (length xs ∷ []) e ((r.numbers e).1 (h.0, k)))
+          (λ k. subst (Contains (numbers ++ length xs ∷ [])) (sym k.0) (Contains-push numbers (length xs)))
+          (edge_cases xs e p h.0 h.1),
+    );
+    up = all_pairs_push (λ d e. d < e) numbers (length xs) r.up (λ k d within.
+        let w = (r.numbers (get_or numbers k d)).0 (Contains-get_or numbers k d within) in slice_get_within xs (get_or numbers k d) (p, w.0) w.1);
+  }
 
   module _ (xs : List (ℕ × ℕ)) (nodes : List Node) (earlier : p < t) (last : t + 1 ≡ length nodes) (r : IsIndexed xs nodes) (up : IsOpen xs nodes t)
       (after : All (λ e. ComesBefore e (p, t)) xs) (n m : Node)
@@ -109,22 +117,22 @@ module _ (p t : ℕ) where
 
     pub indexed_more : IsIndexed (grown xs) both
     indexed_more = record {
-        into = λ q within. ⊎_elim
-            (λ (here : q ≡ t). rw (here, at_t, n_is) (in_gains xs _ _ up (r.into t (omega arith))))
-            (λ apart. ⊎_elim
-                (λ (here : q ≡ p). rw (here, at_p) (in_stays xs p _ _ (λ same. omega (arith, same)) (r.into p (omega arith))))
-                (λ apart'. rw (at_other q apart' apart) (in_stays xs q _ _ (λ same. apart (sym same)) (r.into q (omega (arith, within, length-set nodes t n, length-set (set nodes t n) p m)))))
-                (cases_eq q p))
-            (cases_eq q t);
-        out = λ q within. ⊎_elim
-            (λ (here : q ≡ p). rw (here, at_p) (out_gains xs _ _ (r.out p (omega arith))))
-            (λ apart. ⊎_elim
-                (λ (here : q ≡ t). rw (here, at_t, n_is) (out_stays xs t _ _ (λ same. omega (arith, same)) (r.out t (omega arith))))
-                (λ apart'. rw (at_other q apart apart') (out_stays xs q _ _ (λ same. apart (sym same)) (r.out q (omega (arith, within, length-set nodes t n, length-set (set nodes t n) p m)))))
-                (cases_eq q t))
-            (cases_eq q p);
-        ordered = all_pairs_push ComesBefore xs (p, t) r.ordered (λ k d within. after k d within);
-      }
+      into = λ q within. ⊎_elim
+          (λ (here : q ≡ t). rw (here, at_t, n_is) (in_gains xs _ _ up (r.into t (omega arith))))
+          (λ apart. ⊎_elim
+          (λ (here : q ≡ p). rw (here, at_p) (in_stays xs p _ _ (λ same. omega (arith, same)) (r.into p (omega arith))))
+          (λ apart'. rw (at_other q apart' apart) (in_stays xs q _ _ (λ same. apart (sym same)) (r.into q (omega (arith, within, length-set nodes t n, length-set (set nodes t n) p m)))))
+          (cases_eq q p))
+          (cases_eq q t);
+      out = λ q within. ⊎_elim
+          (λ (here : q ≡ p). rw (here, at_p) (out_gains xs _ _ (r.out p (omega arith))))
+          (λ apart. ⊎_elim
+          (λ (here : q ≡ t). rw (here, at_t, n_is) (out_stays xs t _ _ (λ same. omega (arith, same)) (r.out t (omega arith))))
+          (λ apart'. rw (at_other q apart apart') (out_stays xs q _ _ (λ same. apart (sym same)) (r.out q (omega (arith, within, length-set nodes t n, length-set (set nodes t n) p m)))))
+          (cases_eq q t))
+          (cases_eq q p);
+      ordered = all_pairs_push ComesBefore xs (p, t) r.ordered (λ k d within. after k d within);
+    }
 
 -- in the edges to one note, and in those from one note, the other ends ascend
 module _ (xs : List (ℕ × ℕ)) (ordered : AllPairs ComesBefore xs) (q : ℕ) where
@@ -160,32 +168,32 @@ module _ (xs : List (ℕ × ℕ)) (nodes : List Node) (t : ℕ) (long : length n
 
   in_fresh : IsInOf xs t [] (length xs)
   in_fresh = record {
-      ends = sym (ap (map (λ (e : ℕ × ℕ). e.0)) (filter_none (λ e. e.1 == t) xs (λ e a b h. let w = before e a b h in grind (arith, nat_tests))));
-      numbers = λ e. (λ h. absurd (omega (arith, h.0, h.1)), λ h. absurd (omega (arith, (before e h.0 t h.1).1)));
-      low = omega arith;
-    }
+    ends = sym (ap (map (λ (e : ℕ × ℕ). e.0)) (filter_none (λ e. e.1 == t) xs (λ e a b h. let w = before e a b h in grind (arith, nat_tests))));
+    numbers = λ e. (λ h. absurd (omega (arith, h.0, h.1)), λ h. absurd (omega (arith, (before e h.0 t h.1).1)));
+    low = omega arith;
+  }
 
   out_fresh : IsOutOf xs t [] []
   out_fresh = record {
-      ends = sym (ap (map (λ (e : ℕ × ℕ). e.1)) (filter_none (λ e. e.0 == t) xs (λ e a b h. let w = before e a b h in grind (arith, nat_tests))));
-      numbers = λ e. (λ h. absurd (omega (arith, h.1)), λ h. let w = before e t h.0 h.1 in absurd (omega (arith, w.0, w.1)));
-      up = λ i j d low within. absurd (omega (arith, within));
-    }
+    ends = sym (ap (map (λ (e : ℕ × ℕ). e.1)) (filter_none (λ e. e.0 == t) xs (λ e a b h. let w = before e a b h in grind (arith, nat_tests))));
+    numbers = λ e. (λ h. absurd (omega (arith, h.1)), λ h. let w = before e t h.0 h.1 in absurd (omega (arith, w.0, w.1)));
+    up = λ i j d low within. absurd (omega (arith, within));
+  }
 
   pub indexed_push : IsIndexed xs nodes → IsIndexed xs (nodes ++ fresh ∷ [])
   indexed_push r = record {
-      into = λ q within. ⊎_elim
-          (λ (here : q ≡ t). rw (here, get_or_push nodes fresh (node_at [] 0) t long) in_fresh)
-          (λ apart. let low : q < length nodes = omega (arith, within, length-append nodes (fresh ∷ [])) in
-              rw (get_or_append_left nodes (fresh ∷ []) (node_at [] 0) q low) (r.into q low))
-          (cases_eq q t);
-      out = λ q within. ⊎_elim
-          (λ (here : q ≡ t). rw (here, get_or_push nodes fresh (node_at [] 0) t long) out_fresh)
-          (λ apart. let low : q < length nodes = omega (arith, within, length-append nodes (fresh ∷ [])) in
-              rw (get_or_append_left nodes (fresh ∷ []) (node_at [] 0) q low) (r.out q low))
-          (cases_eq q t);
-      ordered = r.ordered;
-    }
+    into = λ q within. ⊎_elim
+        (λ (here : q ≡ t). rw (here, get_or_push nodes fresh (node_at [] 0) t long) in_fresh)
+        (λ apart. let low : q < length nodes = omega (arith, within, length-append nodes (fresh ∷ [])) in
+        rw (get_or_append_left nodes (fresh ∷ []) (node_at [] 0) q low) (r.into q low))
+        (cases_eq q t);
+    out = λ q within. ⊎_elim
+        (λ (here : q ≡ t). rw (here, get_or_push nodes fresh (node_at [] 0) t long) out_fresh)
+        (λ apart. let low : q < length nodes = omega (arith, within, length-append nodes (fresh ∷ [])) in
+        rw (get_or_append_left nodes (fresh ∷ []) (node_at [] 0) q low) (r.out q low))
+        (cases_eq q t);
+    ordered = r.ordered;
+  }
 
   pub all_before : All (λ e. e.1 < t) xs
   all_before k d within = (before k (get_or xs k d).0 (get_or xs k d).1 (slice_get-get_or xs k d within)).1

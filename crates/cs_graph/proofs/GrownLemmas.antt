@@ -15,8 +15,8 @@ module _ (feet : List Footprint) (g : Growing) (r : IsGrown feet (length feet) g
 
   pub grown_graph : IsGraphOf feet (record { edges = g.edges.items; levels = g.levels.items })
   grown_graph = record {
-      notes = r.levels;
-      near = λ p t. (λ h. (r.drawn.each p t h).1, λ n. r.drawn.near p t n.conflict.within n);
-      ordered = r.indexed.ordered;
-      level = λ t within. IsLevel-levelled feet g.levels.items grown_levelled t within;
-    }
+    notes = r.levels;
+    near = λ p t. (λ h. (r.drawn.each p t h).1, λ n. r.drawn.near p t n.conflict.within n);
+    ordered = r.indexed.ordered;
+    level = λ t within. IsLevel-levelled feet g.levels.items grown_levelled t within;
+  }

@@ -30,6 +30,23 @@ impl Row {
             writers: NoteSet::new(),
         }
     }
+
+    fn add_user(&mut self, note: u32)
+        requires { note < 512 }
+        ensures users { (p : ℕ) → has self.new.users p ≡ (has self.old.users p || p == note) }
+        ensures writers { self.new.writers ≡ self.old.writers }
+    {
+        self.users.insert(note);
+    }
+
+    fn add_writer(&mut self, note: u32)
+        requires { note < 512 }
+        ensures users { (p : ℕ) → has self.new.users p ≡ (has self.old.users p || p == note) }
+        ensures writers { (p : ℕ) → has self.new.writers p ≡ (has self.old.writers p || p == note) }
+    {
+        self.add_user(note);
+        self.writers.insert(note);
+    }
 }
 
 // The note uses the place: it meets the place's writers so far.
@@ -42,7 +59,7 @@ fn use_place(rows: &mut Rows, place: u32, note: u32, met: &mut NoteSet) -> Resul
 {
     let row = rows.entry(place)?.or_insert(Row::new());
     met.join(&row.writers);
-    row.users.insert(note);
+    row.add_user(note);
     Ok(())
 }
 
@@ -57,8 +74,7 @@ fn write_place(rows: &mut Rows, place: u32, note: u32, met: &mut NoteSet) -> Res
 {
     let row = rows.entry(place)?.or_insert(Row::new());
     met.join(&row.users);
-    row.users.insert(note);
-    row.writers.insert(note);
+    row.add_writer(note);
     Ok(())
 }
 

@@ -18,23 +18,23 @@ loop-earlier-preserved c =
           let e = w.in_ok-add_edge.ensures in
           let long = length-append old ((p, t) ∷ []) in
           rw (w.edges-is, w.nodes-is) (record {
-              indexed = e.indexed;
-              last = e.last;
-              notes = omega (arith, e.notes, i.notes);
-              few = rw e.edges (omega (arith, long, i.few));
-              after = rw e.edges (after_push p t old i.after);
-              drawn = rw e.edges (drawn_push from old near t p tested i.drawn);
-            })
+            indexed = e.indexed;
+            last = e.last;
+            notes = omega (arith, e.notes, i.notes);
+            few = rw e.edges (omega (arith, long, i.few));
+            after = rw e.edges (after_push p t old i.after);
+            drawn = rw e.edges (drawn_push from old near t p tested i.drawn);
+          })
       | else-contains w ↦
           let tested : has near p ≡ false = sym c.contains.ensures ∙ w.if-contains.false in
           rw (w.edges-is, w.nodes-is) (record {
-              indexed = i.indexed;
-              last = i.last;
-              notes = i.notes;
-              few = omega (arith, i.few);
-              after = after_skip p t old i.after;
-              drawn = drawn_skip from old near t p tested i.drawn;
-            })
+            indexed = i.indexed;
+            last = i.last;
+            notes = i.notes;
+            few = omega (arith, i.few);
+            after = after_skip p t old i.after;
+            drawn = drawn_skip from old near t p tested i.drawn;
+          })
     ]
 
 pub returns-clause-edges : goal.returns-clause-edges
