@@ -11,8 +11,8 @@ use Rattle.std.specs.List.Sorted.{IsStrictlyIncreasing}
 use Rattle.cs_graph.proofs.Tests.{same_number, read_at}
 use Rattle.std.specs.List.{All, AllPairs, Contains, filter}
 use Rattle.std.proofs.Math.ListN.{length-set}
-use Rattle.cs_graph.specs.Graph.{preds_of, succs_of, Edge, ComesBefore}
-use Rattle.cs_graph.specs.Index.{node_at, IsInOf, IsOutOf, IsIndexed, IsOpen, IsStored}
+use Rattle.cs_graph.specs.Graph.{Edge, ComesBefore}
+use Rattle.cs_graph.specs.Index.{preds_of, succs_of, node_at, IsInOf, IsOutOf, IsIndexed, IsOpen, IsStored}
 use Rattle.cs_graph.specs.declared.node.Node.{Node}
 
 map_up : (f : ℕ × ℕ → ℕ) (test : ℕ × ℕ → Bool) (xs : List (ℕ × ℕ)) → AllPairs ComesBefore xs

@@ -1,5 +1,5 @@
-use Rattle.std.specs.Prelude.{◌≡◌, ℕ, ◌+◌, ◌<◌, ◌==◌, ◌⊎◌, ◌↔◌, List, map, length, slice_get, slice_index, Some}
-use Rattle.std.specs.List.{AllPairs, filter}
+use Rattle.std.specs.Prelude.{◌≡◌, ℕ, ◌+◌, ◌<◌, ◌⊎◌, ◌↔◌, List, length, slice_get, slice_index, Some}
+use Rattle.std.specs.List.{AllPairs}
 use Rattle.cs_cells.specs.declared.footprint.Footprint.{Footprint}
 use Rattle.cs_graph.specs.Conflict.{Conflict, Near, IsLevel}
 
@@ -7,14 +7,6 @@ use Rattle.cs_graph.specs.Conflict.{Conflict, Near, IsLevel}
 pub record Dependencies : Type 0 where
   pub edges : List (ℕ × ℕ)
   pub levels : List ℕ
-
--- the earlier notes of the edges that lead to note t, in the edges' order
-abbrev pub preds_of : List (ℕ × ℕ) → ℕ → List ℕ
-preds_of edges t = map (λ e. e.0) (filter (λ e. e.1 == t) edges)
-
--- the later notes of the edges that lead from note p
-abbrev pub succs_of : List (ℕ × ℕ) → ℕ → List ℕ
-succs_of edges p = map (λ e. e.1) (filter (λ e. e.0 == p) edges)
 
 -- edge number e leads from note p to note t
 abbrev pub Edge : List (ℕ × ℕ) → ℕ → ℕ → ℕ → Type 0

@@ -1,8 +1,16 @@
 -- What is kept for each note so that a look-up costs its own edges alone.
-use Rattle.std.specs.Prelude.{◌≡◌, ℕ, ◌+◌, ◌<◌, ◌≤◌, ◌↔◌, List, [], length, slice_index_or}
-use Rattle.std.specs.List.{Contains, AllPairs}
-use Rattle.cs_graph.specs.Graph.{preds_of, succs_of, Edge, ComesBefore}
+use Rattle.std.specs.Prelude.{◌≡◌, ℕ, ◌+◌, ◌<◌, ◌≤◌, ◌↔◌, ◌==◌, List, [], map, length, slice_index_or}
+use Rattle.std.specs.List.{Contains, AllPairs, filter}
+use Rattle.cs_graph.specs.Graph.{Edge, ComesBefore}
 use Rattle.cs_graph.specs.declared.node.Node.{Node}
+
+-- the earlier notes of the edges that lead to note t, in the edges' order
+abbrev pub preds_of : List (ℕ × ℕ) → ℕ → List ℕ
+preds_of edges t = map (λ e. e.0) (filter (λ e. e.1 == t) edges)
+
+-- the later notes of the edges that lead from note p
+abbrev pub succs_of : List (ℕ × ℕ) → ℕ → List ℕ
+succs_of edges p = map (λ e. e.1) (filter (λ e. e.0 == p) edges)
 
 abbrev pub node_at : List Node → ℕ → Node
 node_at nodes q = slice_index_or nodes q (record { preds = []; succs = []; out_edges = []; first_in = 0 })

@@ -2,7 +2,7 @@
 ghost use Rattle.std.specs.Prelude.{◌≡◌, ◌+◌, ◌<◌, ◌≤◌, ◌↔◌, ℕ, length, slice_index, IfOk, OnOk};
 ghost use Rattle.std.specs.List.{Contains};
 ghost use Rattle.std.specs.List.Sorted.{IsStrictlyIncreasing};
-ghost use Rattle.cs_graph.specs.Graph.{IsGraphOf, IsFit, IsLevelled, preds_of, succs_of, Edge};
+ghost use Rattle.cs_graph.specs.Graph.{IsGraphOf, IsFit, IsLevelled, Edge};
 ghost use Rattle.cs_graph.specs.Growing.{IsGrown};
 
 use crate::nearest::{Past, nearest};
@@ -100,7 +100,8 @@ impl Graph {
 
     /// The number of notes.
     pub fn len(&self) -> u32
-        ensures { result ≡ length self.now.levels }
+        ensures notes { result ≡ length self.now.levels }
+        ensures few { result ≤ 512 }
     {
         self.levels.len() as u32
     }
@@ -108,7 +109,7 @@ impl Graph {
     /// The nearest earlier notes that a note conflicts with, ascending.
     pub fn preds(&self, note: u32) -> &[u32]
         requires { note < length self.now.levels }
-        ensures edges { result.now ≡ preds_of self.now.edges note }
+        ensures each { (p : ℕ) → Contains result.now p ↔ ((e : ℕ) × Edge self.now.edges e p note) }
         ensures ascending { IsStrictlyIncreasing result.now }
     {
         let node = &self.nodes[note as usize];
@@ -118,7 +119,7 @@ impl Graph {
     /// The later notes of which a note is a nearest earlier one, ascending.
     pub fn succs(&self, note: u32) -> &[u32]
         requires { note < length self.now.levels }
-        ensures edges { result.now ≡ succs_of self.now.edges note }
+        ensures each { (t : ℕ) → Contains result.now t ↔ ((e : ℕ) × Edge self.now.edges e note t) }
         ensures ascending { IsStrictlyIncreasing result.now }
     {
         let node = &self.nodes[note as usize];
@@ -135,7 +136,8 @@ impl Graph {
 
     /// All edges, each from an earlier note to a later one, in the order of the later note and then of the earlier one.
     pub fn edges(&self) -> &[(u32, u32)]
-        ensures { result.now ≡ self.now.edges }
+        ensures edges { result.now ≡ self.now.edges }
+        ensures few { length result.now ≤ 262144 }
     {
         &self.edges
     }
@@ -153,7 +155,7 @@ impl Graph {
     /// The numbers of the edges that lead from a note, ascending.
     pub fn out_edges(&self, note: u32) -> &[u32]
         requires { note < length self.now.levels }
-        ensures edges { (e : ℕ) → Contains result.now e ↔ ((t : ℕ) × Edge self.now.edges e note t) }
+        ensures each { (e : ℕ) → Contains result.now e ↔ ((t : ℕ) × Edge self.now.edges e note t) }
         ensures ascending { IsStrictlyIncreasing result.now }
     {
         let node = &self.nodes[note as usize];
