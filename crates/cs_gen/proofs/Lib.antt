@@ -1,2 +1,3 @@
-pub mod Quotients
+pub mod HarmonicSums
 pub mod Quarter
+pub mod Quotients

@@ -2,6 +2,7 @@
 #![tactic(auto)]
 
 mod check;
+mod harmonics;
 mod sine;
 
 pub use check::{GenFault, check_table};
