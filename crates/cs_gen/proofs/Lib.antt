@@ -1,3 +1,4 @@
 pub mod HarmonicSums
 pub mod Quarter
 pub mod Quotients
+pub mod Walks

@@ -2,7 +2,8 @@
 use Rattle.std.proofs.Common.{◌≡◌, ℕ, zero, suc, ◌+◌, ◌*◌, ◌/◌, ◌<◌, ◌≤◌, ℤ, pos, negsuc, neg_ℤ, ◌+ℤ◌, ◌-ℤ◌, ◌*ℤ◌, ◌≤ℤ◌, unsigned_abs, arith, subst, refl, ap, ◌∙◌, sym}
 use Rattle.std.proofs.Math.Nat.{div-le_of_le-mul, div-lt_iff_lt-mul, mul-le-mul_left}
 use Rattle.std.proofs.lemmas.Nat.{le-div, mul-le, div_below}
-use Rattle.std.proofs.lemmas.Int.{ints, unsigned_abs-mul}
+use Rattle.std.proofs.lemmas.Int.{ints, clamps, unsigned_abs-mul}
+use Rattle.cs_base.specs.Numbers.{IsRaw, clamp}
 use Rattle.cs_gen.specs.Points.{floor_div}
 
 -- a quotient is at most d, where the number is at most d times the divisor
@@ -93,3 +94,7 @@ on_rise low high a b (negsuc m) e j n h la lb ha hb =
 pub on_line : (low high a b : ℤ) (j n : ℕ) → j < n → low ≤ℤ a → low ≤ℤ b → a ≤ℤ high → b ≤ℤ high →
     (low ≤ℤ (a +ℤ floor_div ((b -ℤ a) *ℤ pos j) n)) × ((a +ℤ floor_div ((b -ℤ a) *ℤ pos j) n) ≤ℤ high)
 on_line low high a b j n h la lb ha hb = on_rise low high a b (b -ℤ a) refl j n h la lb ha hb
+
+-- a number in range is brought nowhere
+pub clamp_same : (z : ℤ) → IsRaw z → clamp z ≡ z
+clamp_same z h = let low = h.0 in let high = h.1 in omega (arith, ints, clamps)

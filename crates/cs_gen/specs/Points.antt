@@ -1,7 +1,7 @@
 -- The points of a table, each by a formula for its one place.
-use Rattle.std.specs.Prelude.{ℕ, ◌+◌, ◌-◌, ◌*◌, ◌/◌, ◌%◌, ◌^◌, max, ◌==◌, nat_lt, nat_le, List, [], ◌∷◌, length, map, ℤ, pos, neg_ℤ, ◌+ℤ◌, ◌-ℤ◌, ◌*ℤ◌, unsigned_abs, int_lt, slice_index, if◌then◌else◌}
+use Rattle.std.specs.Prelude.{ℕ, ◌+◌, ◌-◌, ◌*◌, ◌/◌, ◌%◌, ◌^◌, max, sum, ◌==◌, nat_lt, nat_le, List, [], ◌∷◌, length, map, ℤ, pos, neg_ℤ, ◌+ℤ◌, ◌-ℤ◌, ◌*ℤ◌, unsigned_abs, int_lt, slice_index, if◌then◌else◌}
 use Rattle.std.specs.Int.{int_div_euclid}
-use Rattle.std.specs.List.{sum_by, position_or_len, range_with_len}
+use Rattle.std.specs.List.{position_or_len, range_with_len}
 use Rattle.cs_base.specs.Numbers.{clamp}
 use Rattle.cs_gen.specs.Faults.{argument, whole, segments_of}
 
@@ -62,7 +62,7 @@ length_of args k = unsigned_abs (whole (argument args (2 * k + 1)))
 
 -- the place at which segment k begins: the lengths of those before it
 unfoldable pub begin_of : List ℤ → ℕ → ℕ
-begin_of args k = sum_by (length_of args) (range_with_len 0 k)
+begin_of args k = sum (map (length_of args) (range_with_len 0 k))
 
 -- the first segment that ends after place j; where none does, their number
 unfoldable pub segment_at : List ℤ → ℕ → ℕ

@@ -81,6 +81,16 @@ pub(crate) fn segments_of(args: &[Num]) -> usize
     args.len().saturating_sub(1) / 2
 }
 
+/// Argument `k`, counted from 0; one that is missing is 0.
+pub(crate) fn argument(args: &[Num], k: usize) -> Num
+    ensures { result ≡ argument args.now k }
+{
+    match args.get(k) {
+        Some(value) => *value,
+        None => Num::of_raw(0),
+    }
+}
+
 // A length counts as its whole part, rounded down, so that a negative one stays negative.
 fn is_negative_segment(args: &[Num], k: usize) -> bool
     requires { k < segments_of args.now }

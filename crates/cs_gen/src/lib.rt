@@ -3,6 +3,7 @@
 
 mod check;
 mod harmonics;
+mod segments;
 mod sine;
 
 pub use check::{GenFault, check_table};
