@@ -98,3 +98,12 @@ on_line low high a b j n h la lb ha hb = on_rise low high a b (b -ℤ a) refl j 
 -- a number in range is brought nowhere
 pub clamp_same : (z : ℤ) → IsRaw z → clamp z ≡ z
 clamp_same z h = let low = h.0 in let high = h.1 in omega (arith, ints, clamps)
+
+-- a number within m, as a part of m in 65,536ths, is in range
+pub ratio_in_range : (z : ℤ) (m : ℕ) → 0 < m → unsigned_abs z ≤ m → IsRaw (floor_div (z *ℤ pos 65536) m)
+ratio_in_range z m some h =
+    let product : unsigned_abs (z *ℤ pos 65536) ≤ 65536 * m = omega (arith, product_within z (pos 65536) m 65536 h (omega arith)) in
+    let small = floor_div_within (z *ℤ pos 65536) 65536 m some product in
+    let low = above_within (floor_div (z *ℤ pos 65536) m) 65536 small in
+    let high = below_within (floor_div (z *ℤ pos 65536) m) 65536 small in
+    (omega (arith, ints, low), omega (arith, ints, high))

@@ -3,7 +3,10 @@
 
 mod check;
 mod harmonics;
+mod normal;
 mod segments;
 mod sine;
+mod table;
 
-pub use check::{GenFault, check_table};
+pub use check::{check_table, GenFault};
+pub use table::{make_table, Points};
