@@ -70,7 +70,7 @@ IsSummed-none len strengths j some =
       come = ap (λ n. n % len) (omega arith);
       inside = mod-lt j some;
       summed = first_harmonics-none len strengths j;
-      bounded = omega arith
+      bounded = omega arith;
     }
 
 pub IsSummed-more : (len : ℕ) (strengths : List ℤ) (j step phase i : ℕ) (sum : ℤ) → IsSummed len strengths j step phase i sum →
@@ -85,7 +85,7 @@ IsSummed-more len strengths j step phase i sum before next strength part more s 
       inside = inside;
       summed = m ∙ first_harmonics-more len strengths j i sum part before.summed (one_harmonic len strengths j phase i strength part before.come s p);
       bounded = subst (λ z. unsigned_abs z ≤ (i + 1) * 2 ^ 47) (sym m)
-        (let far = unsigned_abs-sum sum part in let kept = before.bounded in omega arith)
+          (let far = unsigned_abs-sum sum part in let kept = before.bounded in omega arith);
     }
 
 pub IsSummed-all : (len : ℕ) (strengths : List ℤ) (j step phase i : ℕ) (sum : ℤ) → IsSummed len strengths j step phase i sum →

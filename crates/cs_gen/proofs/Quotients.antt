@@ -70,9 +70,10 @@ part_way_up m j n h =
 pub part_way_down : (m j n : ℕ) → j < n → (negsuc m ≤ℤ floor_div (negsuc m *ℤ pos j) n) × (floor_div (negsuc m *ℤ pos j) n ≤ℤ pos 0)
 part_way_down m j n h =
     let some : 0 < n = omega arith in
-    let p : suc m * j ≤ suc m * n = mul-le (suc m) j (suc m) n (omega arith) (omega arith) in
-    (le-floor_div (negsuc m *ℤ pos j) (negsuc m) n some (omega (arith, ints)),
-      floor_div_le (negsuc m *ℤ pos j) (pos 0) n some (omega (arith, ints)))
+    let p : suc m * j ≤ suc m * n = mul-le (suc m) j (suc m) n (omega arith) (omega arith) in (
+      le-floor_div (negsuc m *ℤ pos j) (negsuc m) n some (omega (arith, ints)),
+      floor_div_le (negsuc m *ℤ pos j) (pos 0) n some (omega (arith, ints)),
+    )
 
 -- from a, part of the way up or down to b, is between what both are above and what both are below
 moved_up : (low high a b f : ℤ) (m : ℕ) → b -ℤ a ≡ pos m → pos 0 ≤ℤ f → f ≤ℤ pos m → low ≤ℤ a → b ≤ℤ high →

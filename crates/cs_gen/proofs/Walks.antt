@@ -27,7 +27,7 @@ HasPassed-more args j k begin end p real e low =
     record {
       begins = next;
       real = omega arith;
-      passed = below_more (λ i. begin_of args (i + 1) ≤ j) k p.passed (omega arith)
+      passed = below_more (λ i. begin_of args (i + 1) ≤ j) k p.passed (omega arith);
     }
 
 pub HasReached-here : (args : List ℤ) (j k begin end : ℕ) → HasPassed args j k begin → end ≡ begin + length_of args k → j < end →

@@ -54,7 +54,7 @@ total (z ∷ zs) = z +ℤ total zs
 unfoldable pub harmonics : ℕ → List ℤ → ℕ → ℤ
 harmonics len strengths j =
     total (map (λ h. floor_div (argument strengths (h - 1) *ℤ sine len h j) 32767)
-      (range_with_len 1 (length strengths)))
+    (range_with_len 1 (length strengths)))
 
 -- GEN07: how many points segment k is long
 abbrev pub length_of : List ℤ → ℕ → ℕ
@@ -79,8 +79,8 @@ segments args j =
     let k = segment_at args j in
     let into = j - begin_of args k in
     if nat_lt k (segments_of args)
-      then value_of args k +ℤ floor_div ((value_of args (k + 1) -ℤ value_of args k) *ℤ pos into) (length_of args k)
-      else if into == 0 then value_of args k else pos 0
+    then value_of args k +ℤ floor_div ((value_of args (k + 1) -ℤ value_of args k) *ℤ pos into) (length_of args k)
+    else if into == 0 then value_of args k else pos 0
 
 -- a point by the formula of GEN02, GEN07 or GEN10
 unfoldable pub plain_point : ℕ → ℕ → List ℤ → ℕ → ℤ

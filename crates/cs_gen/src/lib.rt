@@ -7,6 +7,8 @@ mod normal;
 mod segments;
 mod sine;
 mod table;
+#[cfg(test)]
+mod tests;
 
-pub use check::{check_table, GenFault};
-pub use table::{make_table, Points};
+pub use check::{GenFault, check_table};
+pub use table::{Points, make_table};

@@ -7,10 +7,8 @@ use cs_base::Num;
 
 /// Brings the greatest absolute value to 1 where the GEN is positive.
 pub(crate) fn normalise_for(gen_: i64, points: &mut Vec<Num>)
-    ensures {
-        let kept = points.old.items in
-        points.new.items ≡ (if int_lt (pos 0) gen_ then map (normalised (greatest kept)) kept else kept)
-    }
+    ensures { let kept = points.old.items in
+        points.new.items ≡ (if int_lt (pos 0) gen_ then map (normalised (greatest kept)) kept else kept) }
 {
     if gen_ > 0 {
         normalise(points);

@@ -18,12 +18,19 @@ struct Walk {
 }
 
 /// The points at places 0 to `count` - 1. A length counts as its whole part, and none is negative.
-pub(crate) fn segment_points(alloc: Global, count: u64, args: &[Num]) -> Result<Vec<Num>, AllocError>
+pub(crate) fn segment_points(
+    alloc: Global,
+    count: u64,
+    args: &[Num],
+) -> Result<Vec<Num>, AllocError>
     requires { count ≤ 65537 }
     ensures { IfOk result (λ points. points.items ≡ map (segments args.now) (range_with_len 0 count)) }
 {
     let mut points = Vec::new(alloc);
-    let mut walk = Walk { segment: 0, begin: 0 };
+    let mut walk = Walk {
+        segment: 0,
+        begin: 0,
+    };
     for j in 0..count {
         walk = reached(args, walk, j);
         points.push(point(args, walk, j))?;
@@ -43,7 +50,10 @@ fn reached(args: &[Num], from: Walk, j: u64) -> Walk
         if j < end {
             return walk;
         }
-        walk = Walk { segment: walk.segment + 1, begin: end };
+        walk = Walk {
+            segment: walk.segment + 1,
+            begin: end,
+        };
     }
     walk
 }

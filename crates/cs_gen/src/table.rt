@@ -5,7 +5,7 @@ ghost use Rattle.cs_gen.specs.Faults.{table_fault, argument};
 ghost use Rattle.cs_gen.specs.Points.{points_of, plain_point, harmonics, len_of};
 ghost use Rattle.cs_base.specs.Numbers.{clamp};
 
-use crate::check::{argument, check_table, GenFault};
+use crate::check::{GenFault, argument, check_table};
 use crate::harmonics::harmonics;
 use crate::normal::normalise_for;
 use crate::segments::segment_points;
@@ -58,9 +58,7 @@ fn argument_points(alloc: Global, count: u64, args: &[Num]) -> Result<Vec<Num>, 
 fn harmonic_points(alloc: Global, size: u64, strengths: &[Num]) -> Result<Vec<Num>, AllocError>
     requires some { 2 ≤ size }
     requires wide { size ≤ 65537 }
-    ensures {
-        IfOk result (λ points. points.items ≡ map (λ j. clamp (harmonics (len_of size) strengths.now j)) (range_with_len 0 size))
-    }
+    ensures { IfOk result (λ points. points.items ≡ map (λ j. clamp (harmonics (len_of size) strengths.now j)) (range_with_len 0 size)) }
 {
     let len = size - size % 2;
     let mut points = Vec::new(alloc);

@@ -13,8 +13,10 @@ normalised-requires-clause-most c =
     omega (arith, ap unsigned_abs here, low, most)
 
 pub loop-point-preserved : goal.loop-point-preserved
-loop-point-preserved c =
-    (c.loop-point.invariant.0, c.loop-point.invariant.1,
-      ap (λ z. set c.loop-point.points c.loop-point.point-index z) c.normalised.ensures
+loop-point-preserved c = (
+  c.loop-point.invariant.0,
+  c.loop-point.invariant.1,
+  ap (λ z. set c.loop-point.points c.loop-point.point-index z) c.normalised.ensures
       ∙ map_over_more (normalised c.greatest-most.result) c.args.points.now c.loop-point.points c.loop-point.point-index _ c.loop-point-test.true c.loop-point.invariant.2
-        (get_or_default c.loop-point.points c.loop-point.point-index _ _ (omega arith)))
+      (get_or_default c.loop-point.points c.loop-point.point-index _ _ (omega arith)),
+)
