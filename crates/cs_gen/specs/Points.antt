@@ -98,13 +98,21 @@ greatest (z ∷ zs) = max (unsigned_abs z) (greatest zs)
 abbrev pub normalised : ℕ → ℤ → ℤ
 normalised m v = if m == 0 then v else floor_div (v *ℤ pos 65536) m
 
+-- the values of f at the first n places
+abbrev pub at_places : ℕ → (ℕ → ℤ) → List ℤ
+at_places n f = map f (range_with_len 0 n)
+
 -- point j of a table: a positive GEN normalises
 unfoldable pub point : ℤ → ℤ → List ℤ → ℕ → ℤ
 point size gen args j =
     let plain : ℕ → ℤ = plain_point (unsigned_abs size) (unsigned_abs gen) args in
-    let kept = map plain (range_with_len 0 (unsigned_abs size)) in
+    let kept = at_places (unsigned_abs size) plain in
     if int_lt (pos 0) gen then normalised (greatest kept) (plain j) else plain j
 
 -- all points that a table keeps
 unfoldable pub points_of : ℤ → ℤ → List ℤ → List ℤ
-points_of size gen args = map (point size gen args) (range_with_len 0 (unsigned_abs size))
+points_of size gen args = at_places (unsigned_abs size) (point size gen args)
+
+-- the place of the guard point: the last of a size that is one more than a power of two, else place 0
+abbrev pub guard_place : ℕ → ℕ
+guard_place size = if size % 2 == 1 then size - 1 else 0

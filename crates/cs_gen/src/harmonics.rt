@@ -23,7 +23,6 @@ pub(crate) fn harmonics(len: u64, strengths: &[Num], j: u64) -> Num
 }
 
 // A strength times the wave, where the harmonic has come so many of `len` parts of its turn.
-
 fn harmonic(len: u64, strength: Num, phase: u64) -> i64
     requires wide { len ≤ 65536 }
     requires within { phase < len }
@@ -33,6 +32,7 @@ fn harmonic(len: u64, strength: Num, phase: u64) -> i64
     scaled(strength.raw(), wave(phase * (1 << 24) / len))
 }
 
+// A strength times a height of the wave, rounded down.
 fn scaled(strength: i64, height: i64) -> i64
     requires strong { unsigned_abs strength ≤ 2 ^ 47 }
     requires high { unsigned_abs height ≤ 32767 }
@@ -54,6 +54,7 @@ fn turned(len: u64, phase: u64, step: u64) -> u64
     if next < len { next } else { next - len }
 }
 
+// A sum, brought into range.
 fn narrowed(exact: i128) -> Num
     ensures { result ≡ clamp exact }
 {

@@ -1,9 +1,8 @@
 // GEN07: a point lies on the line of the segment in which its place is.
-ghost use Rattle.std.specs.Prelude.{◌≡◌, ◌<◌, ◌≤◌, ◌+◌, ◌*◌, ◌^◌, ◌+ℤ◌, ◌-ℤ◌, ◌*ℤ◌, pos, unsigned_abs, IfOk, map};
-ghost use Rattle.std.specs.List.{range_with_len};
+ghost use Rattle.std.specs.Prelude.{◌≡◌, ◌<◌, ◌≤◌, ◌+◌, ◌*◌, ◌^◌, ◌+ℤ◌, ◌-ℤ◌, ◌*ℤ◌, pos, unsigned_abs, IfOk};
 ghost use Rattle.cs_base.specs.Numbers.{IsRaw};
 ghost use Rattle.cs_gen.specs.Faults.{argument, segments_of};
-ghost use Rattle.cs_gen.specs.Points.{floor_div, length_of, segments};
+ghost use Rattle.cs_gen.specs.Points.{at_places, floor_div, length_of, segments};
 ghost use Rattle.cs_gen.specs.Walk.{HasPassed, HasReached};
 
 use crate::check::{argument, segments_of};
@@ -11,7 +10,7 @@ use cs_base::Num;
 use std::alloc::{AllocError, Global};
 
 // A segment, by its number, and the place at which it begins.
-#[derive(Clone, Copy, Debug)]
+#[derive(Clone, Copy)]
 struct Walk {
     segment: usize,
     begin: u64,
@@ -24,7 +23,7 @@ pub(crate) fn segment_points(
     args: &[Num],
 ) -> Result<Vec<Num>, AllocError>
     requires { count ≤ 65537 }
-    ensures { IfOk result (λ points. points.items ≡ map (segments args.now) (range_with_len 0 count)) }
+    ensures { IfOk result (λ points. points.items ≡ at_places count (segments args.now)) }
 {
     let mut points = Vec::new(alloc);
     let mut walk = Walk {
@@ -58,6 +57,7 @@ fn reached(args: &[Num], from: Walk, j: u64) -> Walk
     walk
 }
 
+// The point at place `j`, which the walk has reached.
 fn point(args: &[Num], walk: Walk, j: u64) -> Num
     requires near { j < 65537 }
     requires reached { HasReached args.now j walk.segment walk.begin }
@@ -83,7 +83,7 @@ fn on_line(value: i64, next: i64, into: u64, length: u64) -> Num
     requires wide { length ≤ 2 ^ 31 }
     ensures { result ≡ value +ℤ floor_div ((next -ℤ value) *ℤ pos into) length }
 {
-    sum(value, part(difference(next, value), into, length))
+    moved(value, part(difference(next, value), into, length))
 }
 
 fn difference(next: i64, value: i64) -> i128
@@ -92,6 +92,7 @@ fn difference(next: i64, value: i64) -> i128
     i128::from(next) - i128::from(value)
 }
 
+// So many parts of a rise, rounded down.
 fn part(rise: i128, into: u64, length: u64) -> i128
     requires small { unsigned_abs rise < 2 ^ 48 }
     requires inside { into < length }
@@ -100,13 +101,15 @@ fn part(rise: i128, into: u64, length: u64) -> i128
     (rise * i128::from(into)).div_euclid(i128::from(length))
 }
 
-fn sum(value: i64, rise: i128) -> Num
+// A value that is raised, where it stays in range.
+fn moved(value: i64, rise: i128) -> Num
     requires { IsRaw (value +ℤ rise) }
     ensures { result ≡ value +ℤ rise }
 {
     Num::of_raw((i128::from(value) + rise) as i64)
 }
 
+// A segment's length in points: the whole part of its argument.
 fn length_of(args: &[Num], segment: usize) -> u64
     requires { segment < segments_of args.now }
     ensures value { result ≡ length_of args.now segment }

@@ -12,7 +12,6 @@ const QUARTER: [u16; 65] = [
 ];
 
 /// The wave at `w` of 2^24 parts of its turn, from -32,767 to 32,767.
-/// The wave at `w` of 2^24 parts of its turn, from -32,767 to 32,767.
 #[tactic(auto, unfolding(crate::specs::Points::wave))]
 pub(crate) fn wave(w: u64) -> i64
     requires { w < 2 ^ 24 }

@@ -1,8 +1,7 @@
 // A table by its size, its GEN and the arguments.
-ghost use Rattle.std.specs.Prelude.{◌≡◌, ◌<◌, ◌≤◌, ◌↔◌, IfOk, OnOk, Some, None, Err, map};
-ghost use Rattle.std.specs.List.{range_with_len};
+ghost use Rattle.std.specs.Prelude.{ℕ, ◌≡◌, ◌≤◌, ◌↔◌, IfOk, OnOk, Some, None, Err, pos, length, slice_index_or, unsigned_abs};
 ghost use Rattle.cs_gen.specs.Faults.{table_fault, argument};
-ghost use Rattle.cs_gen.specs.Points.{points_of, plain_point, harmonics, len_of};
+ghost use Rattle.cs_gen.specs.Points.{at_places, guard_place, harmonics, len_of, plain_point, point, points_of};
 ghost use Rattle.cs_base.specs.Numbers.{clamp};
 
 use crate::check::{GenFault, argument, check_table};
@@ -15,13 +14,18 @@ use std::alloc::{AllocError, Global};
 /// The points that a table keeps.
 pub type Points = Items<Num>;
 
-/// All points that a table of this size keeps, by its GEN; a positive GEN normalises.
+/// All points that a table of this size keeps, `size` of them, by its GEN; a positive GEN normalises. The fault
+/// is that of `check_table`.
 pub fn make_table(alloc: Global, size: i64, gen_: i64, args: &[Num]) -> Result<Points, Or<GenFault>>
     ensures points { IfOk result (λ points. points ≡ points_of size gen_ args.now) }
+    ensures guard { let place = guard_place (unsigned_abs size) in
+        IfOk result (λ points.
+        slice_index_or points (guard_place (length points)) (pos 0) ≡ point size gen_ args.now place) }
     ensures accepted { OnOk result (table_fault size gen_ args.now ≡ None) }
 
     // A fault is found before memory is asked for.
-    ensures refused { (fault : GenFault) → (result ≡ Err (Or.Fault fault)) ↔ (table_fault size gen_ args.now ≡ Some fault) }
+    ensures refused { (fault : GenFault) →
+        (result ≡ Err (Or.Fault fault)) ↔ (table_fault size gen_ args.now ≡ Some fault) }
 {
     if let Err(fault) = check_table(size, gen_, args) {
         return Err(Or::Fault(fault));
@@ -35,7 +39,7 @@ pub fn make_table(alloc: Global, size: i64, gen_: i64, args: &[Num]) -> Result<P
 fn plain_points(alloc: Global, size: u64, gen_: u64, args: &[Num]) -> Result<Vec<Num>, AllocError>
     requires some { 2 ≤ size }
     requires wide { size ≤ 65537 }
-    ensures { IfOk result (λ points. points.items ≡ map (plain_point size gen_ args.now) (range_with_len 0 size)) }
+    ensures { IfOk result (λ points. points.items ≡ at_places size (plain_point size gen_ args.now)) }
 {
     match gen_ {
         2 => argument_points(alloc, size, args),
@@ -44,9 +48,9 @@ fn plain_points(alloc: Global, size: u64, gen_: u64, args: &[Num]) -> Result<Vec
     }
 }
 
-// GEN02: the arguments themselves.
+// GEN02: the arguments themselves, and 0 where there are none left.
 fn argument_points(alloc: Global, count: u64, args: &[Num]) -> Result<Vec<Num>, AllocError>
-    ensures { IfOk result (λ points. points.items ≡ map (argument args.now) (range_with_len 0 count)) }
+    ensures { IfOk result (λ points. points.items ≡ at_places count (argument args.now)) }
 {
     let mut points = Vec::new(alloc);
     for j in 0..count {
@@ -55,10 +59,12 @@ fn argument_points(alloc: Global, count: u64, args: &[Num]) -> Result<Vec<Num>, 
     Ok(points)
 }
 
+// GEN10: the sums of harmonics.
 fn harmonic_points(alloc: Global, size: u64, strengths: &[Num]) -> Result<Vec<Num>, AllocError>
     requires some { 2 ≤ size }
     requires wide { size ≤ 65537 }
-    ensures { IfOk result (λ points. points.items ≡ map (λ j. clamp (harmonics (len_of size) strengths.now j)) (range_with_len 0 size)) }
+    ensures { let wave = λ (j : ℕ). clamp (harmonics (len_of size) strengths.now j) in
+        IfOk result (λ points. points.items ≡ at_places size wave) }
 {
     let len = size - size % 2;
     let mut points = Vec::new(alloc);

@@ -1,4 +1,4 @@
-use Rattle.std.proofs.Common.{set, ap, ◌∙◌, arith, unsigned_abs, rules}
+use Rattle.std.proofs.Common.{set, ap, ◌∙◌, arith, unsigned_abs}
 use Rattle.std.proofs.lemmas.List.Edits.{map_over_more}
 use Rattle.std.proofs.lemmas.List.{get_or_default}
 use Rattle.cs_gen.specs.Points.{normalised}

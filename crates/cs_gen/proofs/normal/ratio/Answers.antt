@@ -1,5 +1,4 @@
-use Rattle.std.proofs.Common.{◌≡◌, ◌*ℤ◌, pos, unsigned_abs, ◌*◌, ◌≤◌, to_z, of_z, w64, ap, ◌∙◌, rules, arith}
-use Rattle.std.specs.Int.{int_div_euclid}
+use Rattle.std.proofs.Common.{◌≡◌, ◌*ℤ◌, pos, to_z, of_z, w64, ap, ◌∙◌, rules, arith}
 use Rattle.std.proofs.lemmas.Int.{ints, to_z-of_z}
 use Rattle.cs_base.specs.Numbers.{clamp}
 use Rattle.cs_gen.specs.Points.{floor_div}

@@ -1,4 +1,4 @@
-use Rattle.std.proofs.Common.{arith, rules, sym, ◌∙◌, ap, to_z, of_z, w64}
+use Rattle.std.proofs.Common.{arith, rules, sym, ◌∙◌, to_z, of_z, w64}
 use Rattle.std.proofs.lemmas.Int.{to_z-of_z}
 use Rattle.cs_gen.proofs.Walks.{begins_before, ends_after, is_on_segment, at_end, past_end}
 use Rattle.cs_gen.proofs.segments.point.Goals as goal

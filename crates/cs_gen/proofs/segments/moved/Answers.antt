@@ -3,7 +3,7 @@ use Rattle.std.specs.Int.{w128}
 use Rattle.std.proofs.lemmas.Int.{ints}
 use Rattle.cs_base.specs.Numbers.{clamp}
 use Rattle.cs_gen.proofs.Quotients.{clamp_same}
-use Rattle.cs_gen.proofs.segments.sum.Goals as goal
+use Rattle.cs_gen.proofs.segments.moved.Goals as goal
 
 pub returns : goal.returns
 returns c =
