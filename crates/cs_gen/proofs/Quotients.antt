@@ -1,8 +1,9 @@
 -- Quotients rounded down: their bounds.
-use Rattle.std.proofs.Common.{◌≡◌, ℕ, zero, suc, ◌+◌, ◌*◌, ◌/◌, ◌<◌, ◌≤◌, ℤ, pos, negsuc, neg_ℤ, ◌+ℤ◌, ◌-ℤ◌, ◌*ℤ◌, ◌≤ℤ◌, unsigned_abs, arith, subst, refl, ap, ◌∙◌, sym}
-use Rattle.std.proofs.Math.Nat.{div-le_of_le-mul, div-lt_iff_lt-mul, mul-le-mul_left}
+use Rattle.std.proofs.Common.{◌≡◌, ℕ, zero, suc, ◌*◌, ◌/◌, ◌<◌, ◌≤◌, ℤ, pos, negsuc, neg_ℤ, ◌+ℤ◌, ◌-ℤ◌, ◌*ℤ◌, ◌≤ℤ◌, unsigned_abs, arith, subst, refl}
+use Rattle.std.proofs.Math.Nat.{div-le_of_le-mul}
 use Rattle.std.proofs.lemmas.Nat.{le-div, mul-le, div_below}
-use Rattle.std.proofs.lemmas.Int.{ints, unsigned_abs-mul}
+use Rattle.std.proofs.lemmas.Int.{ints, clamps, unsigned_abs-mul}
+use Rattle.cs_base.specs.Numbers.{IsRaw, clamp}
 use Rattle.cs_gen.specs.Points.{floor_div}
 
 -- a quotient is at most d, where the number is at most d times the divisor
@@ -69,9 +70,10 @@ part_way_up m j n h =
 pub part_way_down : (m j n : ℕ) → j < n → (negsuc m ≤ℤ floor_div (negsuc m *ℤ pos j) n) × (floor_div (negsuc m *ℤ pos j) n ≤ℤ pos 0)
 part_way_down m j n h =
     let some : 0 < n = omega arith in
-    let p : suc m * j ≤ suc m * n = mul-le (suc m) j (suc m) n (omega arith) (omega arith) in
-    (le-floor_div (negsuc m *ℤ pos j) (negsuc m) n some (omega (arith, ints)),
-      floor_div_le (negsuc m *ℤ pos j) (pos 0) n some (omega (arith, ints)))
+    let p : suc m * j ≤ suc m * n = mul-le (suc m) j (suc m) n (omega arith) (omega arith) in (
+      le-floor_div (negsuc m *ℤ pos j) (negsuc m) n some (omega (arith, ints)),
+      floor_div_le (negsuc m *ℤ pos j) (pos 0) n some (omega (arith, ints)),
+    )
 
 -- from a, part of the way up or down to b, is between what both are above and what both are below
 moved_up : (low high a b f : ℤ) (m : ℕ) → b -ℤ a ≡ pos m → pos 0 ≤ℤ f → f ≤ℤ pos m → low ≤ℤ a → b ≤ℤ high →
@@ -93,3 +95,16 @@ on_rise low high a b (negsuc m) e j n h la lb ha hb =
 pub on_line : (low high a b : ℤ) (j n : ℕ) → j < n → low ≤ℤ a → low ≤ℤ b → a ≤ℤ high → b ≤ℤ high →
     (low ≤ℤ (a +ℤ floor_div ((b -ℤ a) *ℤ pos j) n)) × ((a +ℤ floor_div ((b -ℤ a) *ℤ pos j) n) ≤ℤ high)
 on_line low high a b j n h la lb ha hb = on_rise low high a b (b -ℤ a) refl j n h la lb ha hb
+
+-- a number in range is brought nowhere
+pub clamp_same : (z : ℤ) → IsRaw z → clamp z ≡ z
+clamp_same z h = let low = h.0 in let high = h.1 in omega (arith, ints, clamps)
+
+-- a number within m, as a part of m in 65,536ths, is in range
+pub ratio_in_range : (z : ℤ) (m : ℕ) → 0 < m → unsigned_abs z ≤ m → IsRaw (floor_div (z *ℤ pos 65536) m)
+ratio_in_range z m some h =
+    let product : unsigned_abs (z *ℤ pos 65536) ≤ 65536 * m = omega (arith, product_within z (pos 65536) m 65536 h (omega arith)) in
+    let small = floor_div_within (z *ℤ pos 65536) 65536 m some product in
+    let low = above_within (floor_div (z *ℤ pos 65536) m) 65536 small in
+    let high = below_within (floor_div (z *ℤ pos 65536) m) 65536 small in
+    (omega (arith, ints, low), omega (arith, ints, high))

@@ -36,7 +36,7 @@ has_negative_length args =
     list_any (λ k. int_lt (whole (argument args (2 * k + 1))) (pos 0)) (range_with_len 0 (segments_of args))
 
 -- the first rule that a table breaks: its size, then its GEN, then the lengths of its segments
-abbrev pub table_fault : ℤ → ℤ → List ℤ → Option GenFault
+unfoldable pub table_fault : ℤ → ℤ → List ℤ → Option GenFault
 table_fault size gen args =
     if is_size size
     then if is_gen gen

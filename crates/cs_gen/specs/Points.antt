@@ -1,7 +1,7 @@
 -- The points of a table, each by a formula for its one place.
-use Rattle.std.specs.Prelude.{ℕ, ◌+◌, ◌-◌, ◌*◌, ◌/◌, ◌%◌, ◌^◌, max, ◌==◌, nat_lt, nat_le, List, [], ◌∷◌, length, map, ℤ, pos, neg_ℤ, ◌+ℤ◌, ◌-ℤ◌, ◌*ℤ◌, unsigned_abs, int_lt, slice_index, if◌then◌else◌}
+use Rattle.std.specs.Prelude.{ℕ, ◌+◌, ◌-◌, ◌*◌, ◌/◌, ◌%◌, ◌^◌, max, sum, ◌==◌, nat_lt, nat_le, List, [], ◌∷◌, length, map, ℤ, pos, neg_ℤ, ◌+ℤ◌, ◌-ℤ◌, ◌*ℤ◌, unsigned_abs, int_lt, slice_index, if◌then◌else◌}
 use Rattle.std.specs.Int.{int_div_euclid}
-use Rattle.std.specs.List.{sum_by, position_or_len, range_with_len}
+use Rattle.std.specs.List.{position_or_len, range_with_len}
 use Rattle.cs_base.specs.Numbers.{clamp}
 use Rattle.cs_gen.specs.Faults.{argument, whole, segments_of}
 
@@ -54,7 +54,7 @@ total (z ∷ zs) = z +ℤ total zs
 unfoldable pub harmonics : ℕ → List ℤ → ℕ → ℤ
 harmonics len strengths j =
     total (map (λ h. floor_div (argument strengths (h - 1) *ℤ sine len h j) 32767)
-      (range_with_len 1 (length strengths)))
+    (range_with_len 1 (length strengths)))
 
 -- GEN07: how many points segment k is long
 abbrev pub length_of : List ℤ → ℕ → ℕ
@@ -62,7 +62,7 @@ length_of args k = unsigned_abs (whole (argument args (2 * k + 1)))
 
 -- the place at which segment k begins: the lengths of those before it
 unfoldable pub begin_of : List ℤ → ℕ → ℕ
-begin_of args k = sum_by (length_of args) (range_with_len 0 k)
+begin_of args k = sum (map (length_of args) (range_with_len 0 k))
 
 -- the first segment that ends after place j; where none does, their number
 unfoldable pub segment_at : List ℤ → ℕ → ℕ
@@ -79,8 +79,8 @@ segments args j =
     let k = segment_at args j in
     let into = j - begin_of args k in
     if nat_lt k (segments_of args)
-      then value_of args k +ℤ floor_div ((value_of args (k + 1) -ℤ value_of args k) *ℤ pos into) (length_of args k)
-      else if into == 0 then value_of args k else pos 0
+    then value_of args k +ℤ floor_div ((value_of args (k + 1) -ℤ value_of args k) *ℤ pos into) (length_of args k)
+    else if into == 0 then value_of args k else pos 0
 
 -- a point by the formula of GEN02, GEN07 or GEN10
 unfoldable pub plain_point : ℕ → ℕ → List ℤ → ℕ → ℤ
@@ -98,13 +98,21 @@ greatest (z ∷ zs) = max (unsigned_abs z) (greatest zs)
 abbrev pub normalised : ℕ → ℤ → ℤ
 normalised m v = if m == 0 then v else floor_div (v *ℤ pos 65536) m
 
+-- the values of f at the first n places
+abbrev pub at_places : ℕ → (ℕ → ℤ) → List ℤ
+at_places n f = map f (range_with_len 0 n)
+
 -- point j of a table: a positive GEN normalises
 unfoldable pub point : ℤ → ℤ → List ℤ → ℕ → ℤ
 point size gen args j =
     let plain : ℕ → ℤ = plain_point (unsigned_abs size) (unsigned_abs gen) args in
-    let kept = map plain (range_with_len 0 (unsigned_abs size)) in
+    let kept = at_places (unsigned_abs size) plain in
     if int_lt (pos 0) gen then normalised (greatest kept) (plain j) else plain j
 
 -- all points that a table keeps
 unfoldable pub points_of : ℤ → ℤ → List ℤ → List ℤ
-points_of size gen args = map (point size gen args) (range_with_len 0 (unsigned_abs size))
+points_of size gen args = at_places (unsigned_abs size) (point size gen args)
+
+-- the place of the guard point: the last of a size that is one more than a power of two, else place 0
+abbrev pub guard_place : ℕ → ℕ
+guard_place size = if size % 2 == 1 then size - 1 else 0

@@ -17,11 +17,13 @@ pub enum GenFault {
     NegativeLength,
 }
 
+// What a table's length may be; a size is one of these, or one more.
 const LENGTHS: [i64; 16] = [
     2, 4, 8, 16, 32, 64, 128, 256, 512, 1024, 2048, 4096, 8192, 16384, 32768, 65536,
 ];
 
 /// The first reason why a table of this size, GEN and arguments can't be made, if there is one.
+#[tactic(auto, unfolding(crate::specs::Faults::table_fault))]
 pub fn check_table(size: i64, gen_: i64, args: &[Num]) -> Result<(), GenFault>
     ensures accepted { OnOk result (table_fault size gen_ args.now ≡ None) }
     ensures refused { IfErr result (λ fault. table_fault size gen_ args.now ≡ Some fault) }
@@ -79,6 +81,16 @@ pub(crate) fn segments_of(args: &[Num]) -> usize
     ensures { result ≡ segments_of args.now }
 {
     args.len().saturating_sub(1) / 2
+}
+
+/// Argument `k`, counted from 0; one that is missing is 0.
+pub(crate) fn argument(args: &[Num], k: usize) -> Num
+    ensures { result ≡ argument args.now k }
+{
+    match args.get(k) {
+        Some(value) => *value,
+        None => Num::of_raw(0),
+    }
 }
 
 // A length counts as its whole part, rounded down, so that a negative one stays negative.

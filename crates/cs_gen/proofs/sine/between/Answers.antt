@@ -11,5 +11,5 @@ returns c =
     record {
       value = omega (arith, ints, part, line.0, line.1);
       above = omega (arith, ints, part, line.0, line.1);
-      below = omega (arith, ints, part, line.0, line.1)
+      below = omega (arith, ints, part, line.0, line.1);
     }

@@ -1,0 +1,75 @@
+// A table by its size, its GEN and the arguments.
+ghost use Rattle.std.specs.Prelude.{ℕ, ◌≡◌, ◌≤◌, ◌↔◌, IfOk, OnOk, Some, None, Err, pos, length, slice_index_or, unsigned_abs};
+ghost use Rattle.cs_gen.specs.Faults.{table_fault, argument};
+ghost use Rattle.cs_gen.specs.Points.{at_places, guard_place, harmonics, len_of, plain_point, point, points_of};
+ghost use Rattle.cs_base.specs.Numbers.{clamp};
+
+use crate::check::{GenFault, argument, check_table};
+use crate::harmonics::harmonics;
+use crate::normal::normalise_for;
+use crate::segments::segment_points;
+use cs_base::{Items, Num, Or};
+use std::alloc::{AllocError, Global};
+
+/// The points that a table keeps.
+pub type Points = Items<Num>;
+
+/// All points that a table of this size keeps, `size` of them, by its GEN; a positive GEN normalises. The fault
+/// is that of `check_table`.
+pub fn make_table(alloc: Global, size: i64, gen_: i64, args: &[Num]) -> Result<Points, Or<GenFault>>
+    ensures points { IfOk result (λ points. points ≡ points_of size gen_ args.now) }
+    ensures guard { let place = guard_place (unsigned_abs size) in
+        IfOk result (λ points.
+        slice_index_or points (guard_place (length points)) (pos 0) ≡ point size gen_ args.now place) }
+    ensures accepted { OnOk result (table_fault size gen_ args.now ≡ None) }
+
+    // A fault is found before memory is asked for.
+    ensures refused { (fault : GenFault) →
+        (result ≡ Err (Or.Fault fault)) ↔ (table_fault size gen_ args.now ≡ Some fault) }
+{
+    if let Err(fault) = check_table(size, gen_, args) {
+        return Err(Or::Fault(fault));
+    }
+    let mut points = plain_points(alloc, size.unsigned_abs(), gen_.unsigned_abs(), args)?;
+    normalise_for(gen_, &mut points);
+    Ok(Items::from_vec(points))
+}
+
+#[tactic(auto, unfolding(crate::specs::Points::plain_point))]
+fn plain_points(alloc: Global, size: u64, gen_: u64, args: &[Num]) -> Result<Vec<Num>, AllocError>
+    requires some { 2 ≤ size }
+    requires wide { size ≤ 65537 }
+    ensures { IfOk result (λ points. points.items ≡ at_places size (plain_point size gen_ args.now)) }
+{
+    match gen_ {
+        2 => argument_points(alloc, size, args),
+        7 => segment_points(alloc, size, args),
+        _ => harmonic_points(alloc, size, args),
+    }
+}
+
+// GEN02: the arguments themselves, and 0 where there are none left.
+fn argument_points(alloc: Global, count: u64, args: &[Num]) -> Result<Vec<Num>, AllocError>
+    ensures { IfOk result (λ points. points.items ≡ at_places count (argument args.now)) }
+{
+    let mut points = Vec::new(alloc);
+    for j in 0..count {
+        points.push(argument(args, j as usize))?;
+    }
+    Ok(points)
+}
+
+// GEN10: the sums of harmonics.
+fn harmonic_points(alloc: Global, size: u64, strengths: &[Num]) -> Result<Vec<Num>, AllocError>
+    requires some { 2 ≤ size }
+    requires wide { size ≤ 65537 }
+    ensures { let wave = λ (j : ℕ). clamp (harmonics (len_of size) strengths.now j) in
+        IfOk result (λ points. points.items ≡ at_places size wave) }
+{
+    let len = size - size % 2;
+    let mut points = Vec::new(alloc);
+    for j in 0..size {
+        points.push(harmonics(len, strengths, j))?;
+    }
+    Ok(points)
+}
