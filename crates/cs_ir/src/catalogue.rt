@@ -241,7 +241,11 @@ mod tests {
             ("event_i", 0, 4, u32::MAX),
         ] {
             let info = find_opcode(name.as_bytes()).ok_or("not found")?;
-            assert_eq!(rt; info.id.name(), name);
+            assert_eq!(rt;
+                find_opcode(info.id.name().as_bytes()),
+                Some(info),
+                "at {name}"
+            );
             assert_eq!(rt; info.id.info(), info, "at {name}");
             assert_eq!(rt; info.results, results, "results of {name}");
             assert_eq!(rt; info.least, least, "least of {name}");
