@@ -1,0 +1,15 @@
+use Rattle.std.proofs.Common.{arith, ℕ, get_or}
+use Rattle.std.proofs.lemmas.Grind.{common_steps}
+use Rattle.cs_graph.proofs.TouchedLemmas.{others_same, met_more}
+use Rattle.cs_graph.proofs.touched.write_places.Goals as goal
+
+pub loop-place-preserved : goal.loop-place-preserved
+loop-place-preserved c = record {
+  users = λ r p. grind (arith, common_steps, c.loop-place.invariant.users r p);
+  writers = λ r p. grind (arith, common_steps, c.loop-place.invariant.writers r p);
+  met = λ p apart.
+      let i : ℕ = c.loop-place.place-index in
+      met_more _ c.args.places.now i _ _ _ _ (omega arith) (c.in_ok-write_place.ensures.met p)
+      (others_same _ _ _ p c.args.note apart (c.loop-place.invariant.users (get_or c.args.places.now i 0) p))
+      (c.loop-place.invariant.met p apart);
+}

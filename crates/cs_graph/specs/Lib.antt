@@ -1,0 +1,7 @@
+pub mod Conflict
+pub mod Graph
+pub mod Growing
+pub mod Index
+pub mod Nearest
+pub mod Sets
+pub mod Touched

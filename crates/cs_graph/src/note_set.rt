@@ -1,0 +1,55 @@
+// A set of up to 512 notes, one bit each.
+ghost use Rattle.std.specs.Prelude.{◌≡◌, ◌==◌, ◌||◌, ℕ, ◌<◌, false};
+ghost use Rattle.cs_graph.specs.Sets.{has};
+
+use std::marker::Model;
+
+/// A set of notes below 512, as bits of eight words. Contracts see the words, and ask for a member by `has`.
+#[derive(Clone, Copy)]
+pub struct NoteSet {
+    words: [u64; 8],
+}
+
+impl Model for NoteSet {
+    ghost use Rattle.std.specs.Prelude.{ℕ, List, length, ◌≡◌};
+
+    ghost Value = { List ℕ };
+
+    ghost view = { λ s. s.words };
+
+    ghost invariant = { λ s. length s.words ≡ 8 };
+
+    ghost inverse = { λ ws. record { words = ws } };
+}
+
+impl NoteSet {
+    /// No notes.
+    pub fn new() -> NoteSet
+        ensures { (i : ℕ) → has result i ≡ false }
+    {
+        NoteSet { words: [0; 8] }
+    }
+
+    pub fn contains(&self, note: u32) -> bool
+        requires { note < 512 }
+        ensures { result ≡ has self.now note }
+    {
+        self.words[(note / 64) as usize] >> (note % 64) & 1 == 1
+    }
+
+    pub fn insert(&mut self, note: u32)
+        requires { note < 512 }
+        ensures { (i : ℕ) → has self.new i ≡ (has self.old i || i == note) }
+    {
+        self.words[(note / 64) as usize] |= 1u64 << (note % 64);
+    }
+
+    /// Adds the members of another set.
+    pub fn join(&mut self, other: &NoteSet)
+        ensures { (i : ℕ) → has self.new i ≡ (has self.old i || has other.now i) }
+    {
+        for k in 0..8 {
+            self.words[k] |= other.words[k];
+        }
+    }
+}

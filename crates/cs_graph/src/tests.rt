@@ -1,0 +1,106 @@
+use crate::Graph;
+use cs_base::{Items, Places};
+use cs_cells::{Feet, Footprint};
+use std::alloc::{AllocError, Global};
+
+/// What a note uses, and what it writes.
+type Note<'a> = (&'a [u32], &'a [u32]);
+
+fn places(alloc: Global, list: &[u32]) -> Result<Places, AllocError> {
+    Ok(Items::from_vec(Vec::from_slice(alloc, list)?))
+}
+
+fn graph_of(alloc: Global, notes: &[Note]) -> Graph {
+    let mut feet: Feet = Items::new(alloc);
+    for (uses, writes) in notes {
+        feet.push(Footprint {
+            uses: places(alloc, uses).unwrap(),
+            writes: places(alloc, writes).unwrap(),
+        })
+        .unwrap();
+    }
+    Graph::build(alloc, &feet).unwrap()
+}
+
+// Edges and levels as the profile's rows give them, or by hand from the rule on conflicts.
+#[test]
+fn small_graphs(rt: HostRuntime) {
+    let alloc = rt.alloc();
+    let reader: Note = (&[7], &[]);
+    let writer: Note = (&[7], &[7]);
+    let nothing: Note = (&[], &[]);
+    let rows: [(&[Note], &[(u32, u32)], &[u32]); 8] = [
+        // no notes, and notes that touch nothing
+        (&[], &[], &[]),
+        (&[nothing, nothing], &[], &[0, 0]),
+        // four writers; a writer, two readers, a writer
+        (
+            &[writer, writer, writer, writer],
+            &[(0, 1), (1, 2), (2, 3)],
+            &[0, 1, 2, 3],
+        ),
+        (
+            &[writer, reader, reader, writer],
+            &[(0, 1), (0, 2), (1, 3), (2, 3)],
+            &[0, 1, 1, 2],
+        ),
+        // `gk1 = 1`, `k1 = gk1`, `k1 = gk2`
+        (
+            &[(&[0], &[0]), (&[0], &[]), (&[1], &[])],
+            &[(0, 1)],
+            &[0, 1, 0],
+        ),
+        // two writers that are not listed as users; readers alone; the greatest place
+        (&[(&[], &[3]), (&[], &[3])], &[(0, 1)], &[0, 1]),
+        (&[reader, reader, reader], &[], &[0, 0, 0]),
+        (
+            &[(&[1, u32::MAX], &[u32::MAX]), nothing, (&[u32::MAX], &[])],
+            &[(0, 2)],
+            &[0, 0, 1],
+        ),
+    ];
+    for (notes, edges, levels) in rows {
+        let graph = graph_of(alloc, notes);
+        assert_eq!(rt; graph.edges(), edges);
+        assert_eq!(rt; graph.len() as usize, levels.len());
+        for note in 0..graph.len() {
+            assert_eq!(rt; graph.level(note), levels[note as usize]);
+        }
+    }
+}
+
+// A look-up's answer for each note of one graph.
+#[test]
+fn look_ups(rt: HostRuntime) {
+    let alloc = rt.alloc();
+    let graph = graph_of(
+        alloc,
+        &[(&[7], &[7]), (&[7], &[]), (&[7], &[]), (&[7], &[7])],
+    );
+    let rows: [(u32, &[u32], &[u32], &[u32], u32, u32); 4] = [
+        (0, &[], &[1, 2], &[0, 1], 0, 0),
+        (1, &[0], &[3], &[2], 0, 1),
+        (2, &[0], &[3], &[3], 1, 2),
+        (3, &[1, 2], &[], &[], 2, 4),
+    ];
+    for (note, preds, succs, out_edges, first_in, end_in) in rows {
+        assert_eq!(rt; graph.preds(note), preds);
+        assert_eq!(rt; graph.succs(note), succs);
+        assert_eq!(rt; graph.out_edges(note), out_edges);
+        assert_eq!(rt; graph.in_edges(note).start, first_in);
+        assert_eq!(rt; graph.in_edges(note).end, end_in);
+    }
+}
+
+// 512 writers of one resource have 511 edges.
+#[test]
+fn most_notes(rt: HostRuntime) {
+    let alloc = rt.alloc();
+    let writer: Note = (&[7], &[7]);
+    let writers = [writer; 512];
+    let graph = graph_of(alloc, &writers);
+    assert_eq!(rt; graph.len(), 512);
+    assert_eq!(rt; graph.edges().len(), 511);
+    assert_eq!(rt; graph.preds(511), [510u32].as_slice());
+    assert_eq!(rt; graph.level(511), 511);
+}
