@@ -8,7 +8,7 @@ use Rattle.cs_cells.specs.declared.footprint.Area.{Area}
 use Rattle.cs_cells.specs.Areas.{HasPlace, IsLaid, word_count}
 use Rattle.cs_cells.specs.Cells.{in_area, covers}
 
-at_push : {X : Type 0} (xs : List X) (x : X) (k : ℕ) (y : X) → slice_get (xs ++ x ∷ []) k ≡ Some y → ((slice_get xs k ≡ Some y) × (k < length xs)) ⊎ ((k ≡ length xs) × (y ≡ x))
+pub at_push : {X : Type 0} (xs : List X) (x : X) (k : ℕ) (y : X) → slice_get (xs ++ x ∷ []) k ≡ Some y → ((slice_get xs k ≡ Some y) × (k < length xs)) ⊎ ((k ≡ length xs) × (y ≡ x))
 at_push [] x zero y at = inr (refl, cc)
 at_push [] x (suc k) y at = absurd (cc)
 at_push (z ∷ xs) x zero y at = inl (at, omega arith)
@@ -89,3 +89,10 @@ pub covers_place : (areas : List Area) (places : List ℕ) (i place x : ℕ) →
 covers_place areas [] i place x at h = absurd (cc)
 covers_place areas (y ∷ places) zero place x at h = or_left (in_area (slice_get areas y) x) (covers areas places x) (let e : y ≡ place = cc in subst (λ z. in_area (slice_get areas z) x ≡ true) (sym e) h)
 covers_place areas (y ∷ places) (suc i) place x at h = or_right (in_area (slice_get areas y) x) (covers areas places x) (covers_place areas places i place x at h)
+
+-- a covered address is one of the layout's
+pub covered_below : (areas : List Area) (places : List ℕ) (x : ℕ) → IsLaid areas → covers areas places x ≡ true → x < word_count areas
+covered_below areas places x laid h =
+    let at = covered_place areas places x h in
+    let a = in_some (slice_get areas at.1) x at.3 in
+    omega (arith, area_within areas at.1 a.0 laid a.1, a.3)

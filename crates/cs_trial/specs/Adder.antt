@@ -36,7 +36,7 @@ adding = record {
   foot = λ j. j.foot;
   after = λ j c. j;
   leaves = λ j c. add_all j.addrs c;
-  sound = IsAdder
+  sound = IsAdder;
 }
 
 length-add_all : (rest : List ℕ) (c : Cells) → length (add_all rest c) ≡ length c
@@ -47,12 +47,12 @@ set_alike : (c d : Cells) (a b : ℕ) → length c ≡ length d → cell c a ≡
 set_alike c d a b long same here =
     ⊎_elim
     (λ equal. ⊎_elim
-      (λ near. let far : a < length d = omega arith in
-        ap (λ x. cell (slice_set c a (more (cell c a))) x) equal ∙ get_or-set_same c a (more (cell c a)) (pos 0) near
-        ∙ ap more same ∙ sym (get_or-set_same d a (more (cell d a)) (pos 0) far) ∙ ap (λ x. cell (slice_set d a (more (cell d a))) x) (sym equal))
-      (λ past. let gone : length d ≤ a = omega arith in
-        ap (λ x. cell x b) (set_past c a (more (cell c a)) past) ∙ here ∙ sym (ap (λ x. cell x b) (set_past d a (more (cell d a)) gone)))
-      (cases_lt a (length c)))
+    (λ near. let far : a < length d = omega arith in
+    ap (λ x. cell (slice_set c a (more (cell c a))) x) equal ∙ get_or-set_same c a (more (cell c a)) (pos 0) near
+    ∙ ap more same ∙ sym (get_or-set_same d a (more (cell d a)) (pos 0) far) ∙ ap (λ x. cell (slice_set d a (more (cell d a))) x) (sym equal))
+    (λ past. let gone : length d ≤ a = omega arith in
+    ap (λ x. cell x b) (set_past c a (more (cell c a)) past) ∙ here ∙ sym (ap (λ x. cell x b) (set_past d a (more (cell d a)) gone)))
+    (cases_lt a (length c)))
     (λ other. get_or-set_other c a b (more (cell c a)) (pos 0) other ∙ here ∙ sym (get_or-set_other d a b (more (cell d a)) (pos 0) other))
     (cases_eq b a)
 
@@ -65,7 +65,7 @@ add_all-agrees P (a ∷ rest) c d all same =
     add_all-agrees P rest (slice_set c a (more (cell c a))) (slice_set d a (more (cell d a))) (tail_all P a rest all)
     (record {
       long = length-set c a (more (cell c a)) ∙ same.long ∙ sym (length-set d a (more (cell d a)));
-      same = λ b p. set_alike c d a b same.long (same.same a (all 0 a (omega arith))) (same.same b p)
+      same = λ b p. set_alike c d a b same.long (same.same a (all 0 a (omega arith))) (same.same b p);
     })
 
 add_all-others : (P : ℕ → Type 0) (rest : List ℕ) (c : Cells) (b : ℕ) → All P rest → ¬ (P b) → cell (add_all rest c) b ≡ cell c b

@@ -28,13 +28,13 @@ steps [] s = s
 steps (op ∷ rest) s = steps rest (step op s)
 
 -- the op's registers are there, the cell that it reads is used, the one that it writes used and written
-abbrev pub Fits : Small → Op → Type 0
-Fits j (Read r a) = (r < length j.regs) × (covers j.areas j.foot.uses a ≡ true)
-Fits j (Add r z) = r < length j.regs
-Fits j (Write a r) = (r < length j.regs) × (covers j.areas j.foot.uses a ≡ true) × (covers j.areas j.foot.writes a ≡ true)
+abbrev pub Fits : List Area → Footprint → ℕ → Op → Type 0
+Fits areas foot n (Read r a) = (r < n) × (covers areas foot.uses a ≡ true)
+Fits areas foot n (Add r z) = r < n
+Fits areas foot n (Write a r) = (r < n) × (covers areas foot.uses a ≡ true) × (covers areas foot.writes a ≡ true)
 
 abbrev pub IsSmall : Small → Type 0
-IsSmall j = All (Fits j) j.ops
+IsSmall j = All (Fits j.areas j.foot (length j.regs)) j.ops
 
 abbrev pub small : Meaning Small
 small = record {
@@ -42,7 +42,7 @@ small = record {
   foot = λ j. j.foot;
   after = λ j c. record j { regs = (steps j.ops (j.regs, c)).0 };
   leaves = λ j c. (steps j.ops (j.regs, c)).1;
-  sound = IsSmall
+  sound = IsSmall;
 }
 
 -- what one op needs of a bank and of the registers

@@ -1,8 +1,9 @@
 // A job that adds 1 to each cell of some resources.
-ghost use Rattle.std.specs.Prelude.{◌≡◌, slice_set, slice_get, IfOk, IfSome, Some};
-ghost use Rattle.cs_cells.specs.Cells.{cell, covers, in_area};
+ghost use Rattle.std.specs.Prelude.{◌≡◌, slice_set, IfOk, IfSome};
+ghost use Rattle.cs_cells.specs.Cells.{cell};
 ghost use Rattle.cs_trial.specs.Adder.{more};
 
+use crate::covers::is_covered;
 use cs_cells::{Area, Bank, Footprint, Job};
 use std::alloc::{AllocError, Global};
 use std::marker::Model;
@@ -28,7 +29,11 @@ impl<'t> Model for AddOne<'t> {
 impl<'t> AddOne<'t> {
     /// A job on the resources that the footprint writes, or None where an area of them has a cell that the
     /// footprint doesn't use or that lies past the greatest address.
-    pub fn new(alloc: Global, areas: &'t [Area], foot: Footprint) -> Result<Option<AddOne<'t>>, AllocError>
+    pub fn new(
+        alloc: Global,
+        areas: &'t [Area],
+        foot: Footprint,
+    ) -> Result<Option<AddOne<'t>>, AllocError>
         ensures areas { IfOk result (λ o. IfSome o (λ j. j.areas ≡ areas.now)) }
         ensures foot { IfOk result (λ o. IfSome o (λ j. j.foot ≡ foot)) }
     {
@@ -41,7 +46,9 @@ impl<'t> AddOne<'t> {
                 let Some(addr) = area.first.checked_add(step) else {
                     return Ok(None);
                 };
-                if !is_covered(areas, foot.uses.as_slice(), addr) || !is_covered(areas, foot.writes.as_slice(), addr) {
+                if !is_covered(areas, foot.uses.as_slice(), addr)
+                    || !is_covered(areas, foot.writes.as_slice(), addr)
+                {
                     return Ok(None);
                 }
                 addrs.push(addr)?;
@@ -77,31 +84,4 @@ fn add_one<B: Bank>(bank: &mut B, addr: u32)
 {
     let value = bank.get(addr);
     bank.set(addr, value.wrapping_add(1));
-}
-
-/// Whether the address lies in an area whose place is listed.
-fn is_covered(areas: &[Area], places: &[u32], addr: u32) -> bool
-    ensures { result ≡ covers areas.now places.now addr }
-{
-    for place in places {
-        if is_in(areas, *place, addr) {
-            return true;
-        }
-    }
-    false
-}
-
-fn is_in(areas: &[Area], place: u32, addr: u32) -> bool
-    ensures { result ≡ in_area (slice_get areas.now place) addr }
-{
-    match areas.get(place as usize) {
-        Some(area) => has_cell(*area, addr),
-        None => false,
-    }
-}
-
-fn has_cell(area: Area, addr: u32) -> bool
-    ensures { result ≡ in_area (Some area) addr }
-{
-    area.first <= addr && u64::from(addr) < u64::from(area.first) + u64::from(area.length)
 }

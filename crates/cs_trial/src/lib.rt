@@ -3,7 +3,13 @@
 #![tactic(auto)]
 
 mod add_one;
+mod covers;
+mod fixtures;
 mod mini;
 
 pub use add_one::AddOne;
+pub use fixtures::{adders, areas_of, foot, play};
 pub use mini::{Mini, Op};
+
+#[cfg(test)]
+mod tests;

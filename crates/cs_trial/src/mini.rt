@@ -1,7 +1,8 @@
 // A small machine with registers, whose code is shared: the shape of a note.
-ghost use Rattle.std.specs.Prelude.{◌≡◌, length};
-ghost use Rattle.cs_trial.specs.Mini.{MayDo, step};
+ghost use Rattle.std.specs.Prelude.{◌≡◌, length, IfSome, IsTrue};
+ghost use Rattle.cs_trial.specs.Mini.{MayDo, Fits, step};
 
+use crate::covers::is_covered;
 use cs_cells::{Area, Bank, Footprint, Job};
 use std::marker::Model;
 
@@ -30,6 +31,53 @@ impl<'t> Model for Mini<'t> {
     ghost view = { λ j. record { areas = j.areas.now; foot = j.foot.now; ops = j.ops.now; regs = j.regs.items } };
 
     ghost invariant = { λ j. IsSmall record { areas = j.areas.now; foot = j.foot.now; ops = j.ops.now; regs = j.regs.items } };
+}
+
+impl<'t> Mini<'t> {
+    /// A note with these registers, or None where an op names a register that isn't there, or a cell that the
+    /// footprint doesn't let it read or write.
+    pub fn new(
+        areas: &'t [Area],
+        foot: &'t Footprint,
+        ops: &'t [Op],
+        regs: Vec<i64>,
+    ) -> Option<Mini<'t>>
+        ensures { IfSome result (λ j. (j.areas ≡ areas.now) × (j.foot ≡ foot.now) × (j.ops ≡ ops.now) × (j.regs ≡ regs.items)) }
+    {
+        for op in ops {
+            if !fits(areas, foot, regs.len(), *op) {
+                return None;
+            }
+        }
+        Some(Mini {
+            areas,
+            foot,
+            ops,
+            regs,
+        })
+    }
+
+    /// The registers, by number.
+    pub fn regs(&self) -> &[i64]
+        ensures { result.now ≡ self.now.regs }
+    {
+        self.regs.as_slice()
+    }
+}
+
+fn fits(areas: &[Area], foot: &Footprint, regs: usize, op: Op) -> bool
+    ensures { IsTrue result → Fits areas.now foot.now regs op }
+{
+    match op {
+        Op::Read(reg, addr) => (reg as usize) < regs
+            && is_covered(areas, foot.uses.as_slice(), addr),
+        Op::Add(reg, _) => (reg as usize) < regs,
+        Op::Write(addr, reg) => {
+            (reg as usize) < regs
+                && is_covered(areas, foot.uses.as_slice(), addr)
+                && is_covered(areas, foot.writes.as_slice(), addr)
+        }
+    }
 }
 
 impl<'t> Job for Mini<'t> {

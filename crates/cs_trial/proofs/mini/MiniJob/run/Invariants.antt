@@ -9,5 +9,5 @@ invariant-loop-op g l = record {
   areas : l.self-inside.areas.now ≡ l.initial.self-inside.areas.now;
   foot : l.self-inside.foot.now ≡ l.initial.self-inside.foot.now;
   ops : l.self-inside.ops.now ≡ l.initial.self-inside.ops.now;
-  rest : g.B.Bank.rest l.bank ≡ g.B.Bank.rest l.initial.bank
+  rest : g.B.Bank.rest l.bank ≡ g.B.Bank.rest l.initial.bank;
 }
