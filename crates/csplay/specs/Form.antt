@@ -63,3 +63,9 @@ pub record IsScoreText (text : List ℕ) (all : List Note) : Type 0 where
   pub tail : List ℕ
   pub tail_is : IsTail tail
   pub lines : HasLines text (flat_map note_text all ++ tail)
+
+-- the text with a line feed behind a last line that lacks it
+pub record Completes (text whole : List ℕ) : Type 0 where
+  pub same :
+    ((whole ≡ text) × ((text ≡ []) ⊎ ((front : List ℕ) × (text ≡ front ++ 10 ∷ []))))
+    ⊎ ((whole ≡ text ++ 10 ∷ []) × ((front : List ℕ) × (last : ℕ) × (last ≢ 10) × (text ≡ front ++ last ∷ [])))

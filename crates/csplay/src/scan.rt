@@ -13,8 +13,8 @@ pub fn after_word<'a>(text: &'a [u8], word: &[u8]) -> Option<&'a [u8]>
     text.strip_prefix(word)
 }
 
-/// A number from `least` to `most` at the front, in decimal digits without a leading zero, and the text behind it.
-pub fn after_number(text: &[u8], least: u32, most: u32) -> Option<(u32, &[u8])>
+// A number from `least` to `most` at the front, in decimal digits without a leading zero, and the text behind it.
+fn after_number(text: &[u8], least: u32, most: u32) -> Option<(u32, &[u8])>
     requires { most < 2 ^ 31 }
     ensures {
         MatchOption result
@@ -33,6 +33,19 @@ pub fn after_number(text: &[u8], least: u32, most: u32) -> Option<(u32, &[u8])>
         return None;
     }
     Some((number, rest))
+}
+
+/// A word at the front and a number from `least` to `most` behind it, and the text behind both.
+pub fn after_field<'a>(text: &'a [u8], word: &[u8], least: u32, most: u32) -> Option<(u32, &'a [u8])>
+    requires { most < 2 ^ 31 }
+    ensures {
+        MatchOption result
+        ((n : ℕ) (rest : List ℕ) → least ≤ n → n ≤ most → EndsNumber rest
+            → text.now ≢ word.now ++ (decimal n ++ rest))
+        (λ found. (least ≤ found.0) × (found.0 ≤ most) × EndsNumber found.1.now
+            × (text.now ≡ word.now ++ (decimal found.0 ++ found.1.now))) }
+{
+    after_number(after_word(text, word)?, least, most)
 }
 
 // The digits at the front, as many as stand there, and the text behind them.
