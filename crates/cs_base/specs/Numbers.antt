@@ -1,5 +1,6 @@
-use Rattle.std.specs.Prelude.{ℤ, pos, negsuc, ◌≤ℤ◌}
-use Rattle.std.specs.Int.{int_max, int_min}
+use Rattle.std.specs.Prelude.{ℤ, pos, negsuc, ◌≤ℤ◌, ◌+ℤ◌, ◌-ℤ◌, ◌*ℤ◌, neg_ℤ, suc, if◌then◌else◌, unsigned_abs}
+use Rattle.std.specs.Int.{int_max, int_min, int_div_euclid, is_positive, is_negative}
+use Rattle.std.specs.Ordering.{int_eq}
 
 -- the least raw value: -2^47
 abbrev pub least : ℤ
@@ -16,3 +17,52 @@ IsRaw z = (least ≤ℤ z) × (z ≤ℤ greatest)
 -- a whole number brought into that range
 abbrev pub clamp : ℤ → ℤ
 clamp z = int_max least (int_min z greatest)
+
+-- one, in 65,536ths
+abbrev pub one : ℤ
+one = pos 65536
+
+-- n / d rounded down, for a d other than 0
+abbrev pub floor_div : ℤ → ℤ → ℤ
+floor_div n (pos d) = int_div_euclid n (pos d)
+floor_div n (negsuc d) = int_div_euclid (neg_ℤ n) (pos (suc d))
+
+-- x + y
+abbrev pub sum_of : ℤ → ℤ → ℤ
+sum_of x y = clamp (x +ℤ y)
+
+-- x - y
+abbrev pub difference_of : ℤ → ℤ → ℤ
+difference_of x y = clamp (x -ℤ y)
+
+-- x * y, rounded down to whole 65,536ths
+abbrev pub product_of : ℤ → ℤ → ℤ
+product_of x y = clamp (floor_div (x *ℤ y) one)
+
+-- x / 0: the greatest number, the least or 0, by the sign of x
+abbrev pub quotient_by_zero : ℤ → ℤ
+quotient_by_zero x = if is_positive x then greatest else (if is_negative x then least else pos 0)
+
+-- x / y, rounded down to whole 65,536ths
+abbrev pub quotient_of : ℤ → ℤ → ℤ
+quotient_of x y = if int_eq y (pos 0) then quotient_by_zero x else clamp (floor_div (x *ℤ one) y)
+
+-- what x / y rounded down to a whole number leaves of x; by 0 it is 0
+abbrev pub remainder_of : ℤ → ℤ → ℤ
+remainder_of x y = if int_eq y (pos 0) then pos 0 else x -ℤ (y *ℤ floor_div x y)
+
+-- the greatest whole number that is at most x
+abbrev pub floor_of : ℤ → ℤ
+floor_of x = floor_div x one *ℤ one
+
+-- x without its fraction: rounded down where x is 0 or more, and up where it is less
+abbrev pub int_of : ℤ → ℤ
+int_of x = if is_negative x then clamp (neg_ℤ (floor_of (neg_ℤ x))) else floor_of x
+
+-- the fraction that `int_of` drops, with the sign of x
+abbrev pub frac_of : ℤ → ℤ
+frac_of x = x -ℤ int_of x
+
+-- x without its sign
+abbrev pub abs_of : ℤ → ℤ
+abs_of x = clamp (pos (unsigned_abs x))

@@ -87,3 +87,45 @@ pub type Numbers = Items<u32>;
 pub type Places = Items<u32>;
 
 pub type Rates = Items<Rate>;
+
+#[cfg(test)]
+mod tests {
+    use super::*;
+    use crate::{Or, OrcFault, OrcKind, Steps, Text};
+
+    fn one_more(alloc: Global, item: u32) -> Result<Numbers, Or<OrcFault>> {
+        let mut numbers = Numbers::new(alloc);
+        numbers.push(item)?;
+        if item == 0 {
+            return Err(Or::Fault(OrcFault {
+                line: 1,
+                kind: OrcKind::HeaderValue,
+            }));
+        }
+        Ok(numbers)
+    }
+
+    #[test]
+    fn shared_types(rt: HostRuntime) -> Result<(), std::test::Fail> {
+        let numbers = one_more(rt.alloc(), 7).ok().ok_or("refused")?;
+        assert_eq!(rt; numbers.as_slice(), [7].as_slice());
+        assert_eq!(rt; numbers.len(), 1);
+        let again: Numbers = Items::from_vec(numbers.into_vec());
+        assert!(rt; !again.is_empty());
+        let fault = one_more(rt.alloc(), 0).err().ok_or("accepted")?;
+        assert_eq!(rt;
+            fault,
+            Or::Fault(OrcFault {
+                line: 1,
+                kind: OrcKind::HeaderValue
+            })
+        );
+        assert_eq!(rt; OrcKind::HeaderValue.number(), 16);
+        let text = Text::from_string(format!(in rt.alloc(); "{:?}", OrcKind::HeaderValue)?);
+        assert_eq!(rt; text.as_str(), OrcKind::HeaderValue.name());
+        let mut steps = Steps::new();
+        steps.tick();
+        assert_eq!(rt; steps.count, 1);
+        Ok(())
+    }
+}

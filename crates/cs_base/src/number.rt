@@ -1,12 +1,17 @@
 // A number of the profile is a whole count of 65,536ths; nothing anywhere is floating point.
-ghost use Rattle.std.specs.Prelude.{◌≡◌, pos, ◌*ℤ◌};
-ghost use Rattle.cs_base.specs.Numbers.{IsRaw, clamp};
+ghost use Rattle.std.specs.Prelude.{◌≡◌, ◌≢◌, ◌<◌, ◌^◌, pos, ◌+ℤ◌, ◌-ℤ◌, ◌*ℤ◌, ◌≤ℤ◌, neg_ℤ, unsigned_abs};
+ghost use Rattle.std.specs.Int.{int_div_euclid};
+ghost use Rattle.std.specs.Ordering.{int_cmp};
+ghost use Rattle.cs_base.specs.Numbers.{IsRaw, clamp, one, floor_div, sum_of, difference_of, product_of, quotient_by_zero, quotient_of, remainder_of, floor_of, int_of, frac_of, abs_of};
 
+use std::cmp::Ordering;
 use std::marker::Model;
 
 const LEAST: i64 = -140_737_488_355_328;
 
 const GREATEST: i64 = 140_737_488_355_327;
+
+const ONE: i64 = 65_536;
 
 /// A number of the profile: `raw` whole 65,536ths, from -2^47 to 2^47 - 1. Contracts see `raw`.
 #[derive(Clone, Copy, Debug, PartialEq, Eq)]
@@ -50,5 +55,228 @@ impl Num {
         ensures in_range { IsRaw result }
     {
         self.raw
+    }
+
+    /// The sum, brought into range.
+    pub fn add(self, other: Num) -> Num
+        ensures { result ≡ sum_of self other }
+    {
+        Num::of_raw(self.raw + other.raw)
+    }
+
+    /// The difference, brought into range.
+    pub fn sub(self, other: Num) -> Num
+        ensures { result ≡ difference_of self other }
+    {
+        Num::of_raw(self.raw - other.raw)
+    }
+
+    /// The product, rounded down and brought into range.
+    pub fn mul(self, other: Num) -> Num
+        ensures { result ≡ product_of self other }
+    {
+        narrowed(floored(times(self.raw, other.raw), ONE))
+    }
+
+    /// The quotient, rounded down and brought into range. By 0 it is the greatest number where `self` is above 0,
+    /// the least where it is below, and 0 where it is 0.
+    pub fn div(self, other: Num) -> Num
+        ensures { result ≡ quotient_of self other }
+    {
+        if other.raw == 0 {
+            Num {
+                raw: by_zero(self.raw),
+            }
+        } else {
+            narrowed(floored(times(self.raw, ONE), other.raw))
+        }
+    }
+
+    /// What the quotient, rounded down to a whole number, leaves of `self`. It has the divisor's sign, and by 0 it is 0.
+    pub fn rem(self, other: Num) -> Num
+        ensures { result ≡ remainder_of self other }
+    {
+        if other.raw == 0 {
+            Num { raw: 0 }
+        } else {
+            Num {
+                raw: modulo(self.raw, other.raw),
+            }
+        }
+    }
+
+    /// The greatest whole number that is at most `self`.
+    pub fn floor(self) -> Num
+        ensures { result ≡ floor_of self }
+    {
+        Num {
+            raw: whole_below(self.raw),
+        }
+    }
+
+    /// The number without its fraction: `floor` of a number from 0 on, else the negation of `floor` of the negation.
+    pub fn int(self) -> Num
+        ensures { result ≡ int_of self }
+    {
+        if self.raw < 0 {
+            Num::of_raw(-whole_below(-self.raw))
+        } else {
+            self.floor()
+        }
+    }
+
+    /// What `int` drops, with the sign of `self`.
+    pub fn frac(self) -> Num
+        ensures { result ≡ frac_of self }
+    {
+        Num {
+            raw: self.raw - self.int().raw,
+        }
+    }
+
+    /// The number without its sign, brought into range.
+    pub fn abs(self) -> Num
+        ensures { result ≡ abs_of self }
+    {
+        Num::of_raw(self.raw.abs())
+    }
+
+    /// How the number stands to another.
+    pub fn compare(self, other: Num) -> Ordering
+        ensures { result ≡ int_cmp self other }
+    {
+        self.raw.cmp(&other.raw)
+    }
+}
+
+// The exact product.
+fn times(x: i64, y: i64) -> i128
+    ensures { result ≡ x *ℤ y }
+{
+    x as i128 * y as i128
+}
+
+// The exact quotient, rounded down.
+fn floored(n: i128, d: i64) -> i128
+    requires nonzero { unsigned_abs d ≢ 0 }
+    requires bounded { unsigned_abs n < 2 ^ 126 }
+    ensures { result ≡ floor_div n d }
+{
+    let d = d as i128;
+    if d > 0 {
+        n.div_euclid(d)
+    } else {
+        (-n).div_euclid(-d)
+    }
+}
+
+// An exact value, brought into range.
+fn narrowed(exact: i128) -> Num
+    ensures { result ≡ clamp exact }
+{
+    if exact > GREATEST as i128 {
+        return Num { raw: GREATEST };
+    }
+    if exact < LEAST as i128 {
+        return Num { raw: LEAST };
+    }
+    Num { raw: exact as i64 }
+}
+
+// The quotient by 0.
+fn by_zero(x: i64) -> i64
+    ensures { result ≡ quotient_by_zero x }
+{
+    if x > 0 {
+        GREATEST
+    } else if x < 0 {
+        LEAST
+    } else {
+        0
+    }
+}
+
+// What the quotient rounded down leaves: the remainder that the code has, moved to the divisor's sign.
+fn modulo(x: i64, y: i64) -> i64
+    requires nonzero { unsigned_abs y ≢ 0 }
+    requires dividend { IsRaw x }
+    requires divisor { IsRaw y }
+    ensures { result ≡ remainder_of x y }
+{
+    if y > 0 {
+        x.rem_euclid(y)
+    } else {
+        negated(negated(x).rem_euclid(negated(y)))
+    }
+}
+
+fn negated(x: i64) -> i64
+    requires { neg_ℤ (pos (2 ^ 62)) ≤ℤ x }
+    ensures { result ≡ neg_ℤ x }
+{
+    -x
+}
+
+// The greatest multiple of 65,536 that is at most x.
+fn whole_below(x: i64) -> i64
+    requires low { neg_ℤ (pos (2 ^ 47)) ≤ℤ x }
+    requires high { x ≤ℤ pos (2 ^ 47) }
+    ensures { result ≡ floor_of x }
+{
+    x.div_euclid(ONE) * ONE
+}
+
+#[cfg(test)]
+mod tests {
+    use super::*;
+
+    #[test]
+    fn arithmetic(rt: HostRuntime) {
+        let whole = |n: i64| Num::of_whole(n);
+        let least = Num::of_raw(i64::MIN);
+        let greatest = Num::of_raw(i64::MAX);
+        let half_below = Num::of_raw(-98_304);
+        for (got, raw, what) in [
+            (whole(1).div(whole(0)), 140_737_488_355_327, "1 / 0"),
+            (whole(-1).div(whole(0)), -140_737_488_355_328, "-1 / 0"),
+            (whole(0).div(whole(0)), 0, "0 / 0"),
+            (
+                greatest.mul(greatest),
+                140_737_488_355_327,
+                "the greatest times itself",
+            ),
+            (
+                Num::of_raw(-1).mul(Num::of_raw(1)),
+                -1,
+                "a product is rounded down",
+            ),
+            (whole(-1).rem(whole(3)), 131_072, "-1 rem 3"),
+            (whole(1).rem(whole(-3)), -131_072, "1 rem -3"),
+            (whole(5).rem(whole(0)), 0, "5 rem 0"),
+            (whole(-1).div(whole(3)), -21_846, "-1 / 3"),
+            (whole(1).div(whole(-3)), -21_846, "1 / -3"),
+            (half_below.floor(), -131_072, "floor of -1.5"),
+            (half_below.int(), -65_536, "int of -1.5"),
+            (half_below.frac(), -32_768, "frac of -1.5"),
+            (
+                least.abs(),
+                140_737_488_355_327,
+                "the least without its sign",
+            ),
+            (least.int(), -140_737_488_355_328, "int of the least"),
+            (
+                greatest.add(Num::of_raw(1)),
+                140_737_488_355_327,
+                "a sum past the greatest",
+            ),
+            (
+                least.sub(Num::of_raw(1)),
+                -140_737_488_355_328,
+                "a difference past the least",
+            ),
+        ] {
+            assert_eq!(rt; got.raw(), raw, "{what}");
+        }
+        assert_eq!(rt; least.compare(greatest), Ordering::Less);
     }
 }

@@ -47,8 +47,8 @@ sample_bytes bytes dbfs mix = little_bytes bytes (complement bytes (sample bytes
 unfoldable pub sound : ℕ → ℤ → List ℤ → List ℕ
 sound bytes dbfs mix = flat_map (sample_bytes bytes dbfs) mix
 
--- the header before a sound of this size, in samples of so many bytes: the size of all that follows it,
--- the format, and the size of the sound
+-- the header before a sound of this size, in samples of so many bytes: the size of all that follows
+-- its first eight bytes, the format, and the size of the sound
 unfoldable pub header_bytes : ℕ → ℕ → Head → List ℕ
 header_bytes bytes size head =
     codes "RIFF" ++ little_bytes 4 (36 + size + size % 2) ++ codes "WAVE"
@@ -57,12 +57,13 @@ header_bytes bytes size head =
     ++ little_bytes 2 (head.nchnls * bytes) ++ little_bytes 2 (8 * bytes)
     ++ codes "data" ++ little_bytes 4 size
 
--- the file of these mix values, frame by frame, the channels of a frame in order; a sound of odd size
--- is followed by one byte 0
+-- the file of these mix values, frame by frame, the channels of a frame in order; a sound of odd
+-- size is followed by one byte 0
 unfoldable pub wav_of : List ℤ → Head → Bool → List ℕ
 wav_of mix head wide =
     let size = length mix * bytes_of wide in
-    header_bytes (bytes_of wide) size head ++ sound (bytes_of wide) head.dbfs mix ++ replicate (size % 2) 0
+    header_bytes (bytes_of wide) size head ++ sound (bytes_of wide) head.dbfs mix
+    ++ replicate (size % 2) 0
 
 -- what a sum of notes may be: at most 2^56 in size
 abbrev pub IsMix : ℤ → Type 0

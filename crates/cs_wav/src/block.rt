@@ -6,8 +6,8 @@ ghost use Rattle.cs_wav.specs.Wav.{IsWidth, is_out_of_range, sound};
 use crate::sample::put_value;
 use cs_base::Num;
 
-/// Writes these mix values, in 65,536ths, as samples of 16 bits, where `dbfs` stands for full scale. Answers how
-/// many were out of range and had to be brought in.
+/// Writes these mix values, in 65,536ths, as samples of 16 bits, where `dbfs` stands for full scale.
+/// Answers how many were out of range and had to be brought in.
 pub fn pcm_block(mix: &[i64], dbfs: Num, out: &mut [u8]) -> u32
     requires few { length mix.now < 2 ^ 32 }
     requires room { length out.old ≡ length mix.now * 2 }
@@ -18,8 +18,8 @@ pub fn pcm_block(mix: &[i64], dbfs: Num, out: &mut [u8]) -> u32
     samples(2, mix, dbfs, out)
 }
 
-/// Writes these mix values, in 65,536ths, as samples of 24 bits, where `dbfs` stands for full scale. Answers how
-/// many were out of range and had to be brought in.
+/// Writes these mix values, in 65,536ths, as samples of 24 bits, where `dbfs` stands for full scale.
+/// Answers how many were out of range and had to be brought in.
 pub fn pcm_block24(mix: &[i64], dbfs: Num, out: &mut [u8]) -> u32
     requires few { length mix.now < 2 ^ 32 }
     requires room { length out.old ≡ length mix.now * 3 }

@@ -1,10 +1,11 @@
 //! The bytes of the sound file: a header, and the mix as samples of two or of three bytes.
 //!
-//! Its one contract: header, samples and, behind a sound of odd size, one byte 0 are the WAV of the mix, byte
-//! for byte, and a sample that had to be brought into range is counted. The layers above know the definition
-//! of the file alone, so the way to a sample may be changed here without anyone noticing.
+//! Its one contract: header, samples and, behind a sound of odd size, one byte 0 are the WAV of the
+//! mix, byte for byte, and a sample that had to be brought into range is counted. The layers above
+//! know the definition of the file alone, so the way to a sample may be changed without anyone noticing.
 //!
-//! Read `mix` (notes are summed), `sample` (a mix value becomes bytes), `block` (many of them), `riff` (the header).
+//! Read `mix` (notes are summed), `sample` (a mix value becomes bytes), `block` (many of them) and
+//! `riff` (the header).
 #![tactic(auto)]
 
 mod block;

@@ -1,4 +1,5 @@
-// One mix value becomes one sample. The width is a number of bytes, 2 or 3, and full scale follows from it.
+// One mix value becomes one sample. The width is a number of bytes, 2 or 3, and full scale follows
+// from it.
 ghost use Rattle.std.specs.Prelude.{◌≡◌, ◌≤◌, ◌<◌, ◌+◌, ◌≤ℤ◌, ◌<ℤ◌, ◌↔◌, ℤ, pos, neg_ℤ, int_lt, ◌*ℤ◌, ◌-ℤ◌, ◌++◌, ◌||◌, IsTrue, length, take, drop};
 ghost use Rattle.std.specs.Int.{int_max, int_min, int_div_euclid};
 ghost use Rattle.cs_wav.specs.Wav.{IsWidth, full_scale, is_out_of_range, little_bytes, complement, sample_bytes};
@@ -6,12 +7,14 @@ ghost use Rattle.cs_wav.specs.Wav.{IsWidth, full_scale, is_out_of_range, little_
 use byteorder::{ByteOrder, LittleEndian};
 use cs_base::Num;
 
-/// Writes a mix value as a sample into `out` from place `at` on, and answers whether it had to be brought in.
+/// Writes a mix value as a sample into `out` from place `at` on, and answers whether it had to be
+/// brought in.
 pub fn put_value(out: &mut [u8], at: usize, bytes: usize, dbfs: Num, value: i64) -> bool
     requires width { IsWidth bytes }
     requires above_zero { pos 0 <ℤ dbfs }
     requires room { at + bytes ≤ length out.old }
-    ensures written { out.new ≡ take at out.old ++ (sample_bytes bytes dbfs value ++ drop (at + bytes) out.old) }
+    ensures written { out.new ≡ take at out.old
+        ++ (sample_bytes bytes dbfs value ++ drop (at + bytes) out.old) }
     ensures out_of_range { result ≡ is_out_of_range bytes dbfs value }
 {
     let full = full_scale_of(bytes);

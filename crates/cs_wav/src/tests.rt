@@ -52,8 +52,8 @@ fn a_sound_of_odd_size(rt: HostRuntime) {
     assert_eq!(rt; wide[40], 9);
 }
 
-// The notes are summed first, and the sum is brought into range: 30,000 + 30,000 - 30,000 is 30,000, and
-// 60,000 is the greatest sample. What is just below 0 is rounded down.
+// The notes are summed first, and the sum is brought into range: 30,000 + 30,000 - 30,000 is 30,000,
+// and 60,000 is the greatest sample. What is just below 0 is rounded down.
 #[test]
 fn sums_and_greatest_samples(rt: HostRuntime) {
     let full = Num::of_whole(32_768);

@@ -27,7 +27,8 @@ EndsLine-append front text e = record {
   front = front ++ e.front;
   last = e.last;
   other = e.other;
-  text_is = ap (λ (l : List ℕ). front ++ l) e.text_is ∙ (simp append_assoc) }
+  text_is = ap (λ (l : List ℕ). front ++ l) e.text_is ∙ (simp append_assoc);
+}
 
 -- a number's last digit is no line feed
 pub record EndsOther (text : List ℕ) : Type 0 where
@@ -85,14 +86,14 @@ one_feed : (lines : List ℕ) → AreLines lines → lines ≡ [] ++ 10 ∷ [] �
 one_feed lines are e = ⊎_elim
     (λ none. let h : ◌≡◌ {A = List ℕ} [] (10 ∷ []) = sym none ∙ e in cc)
     (λ line. let h = (same_from_push (line.front ++ line.last ∷ []) [] 10 10 (sym line.text_is ∙ e)).0 in
-        let long = ap length h in omega (arith, length-append line.front (line.last ∷ [])))
+    let long = ap length h in omega (arith, length-append line.front (line.last ∷ [])))
     are
 
 two_feeds : (lines front : List ℕ) → AreLines lines → lines ≡ (front ++ 10 ∷ []) ++ 10 ∷ [] → ⊥
 two_feeds lines front are e = ⊎_elim
     (λ none. let long = ap length (sym none ∙ e) in omega (arith, length-append (front ++ 10 ∷ []) (10 ∷ [])))
     (λ line. let h = (same_from_push (line.front ++ line.last ∷ []) (front ++ 10 ∷ []) 10 10 (sym line.text_is ∙ e)).0 in
-        line.other (same_from_push line.front front line.last 10 h).1)
+    line.other (same_from_push line.front front line.last 10 h).1)
     are
 
 unfed : (lines front : List ℕ) (last : ℕ) → last ≢ 10 → AreLines lines → lines ≡ front ++ last ∷ [] → ⊥
@@ -104,11 +105,11 @@ unfed lines front last other are e = ⊎_elim
 pub completed-HasLines : (text whole lines : List ℕ) → Completes text whole → AreLines lines → HasLines text lines → whole ≡ lines
 completed-HasLines text whole lines c are has = ⊎_elim
     (λ same. ⊎_elim
-        (λ e. same.0 ∙ e)
-        (λ e. absurd (⊎_elim (λ none. one_feed lines are (sym e ∙ ap (λ (l : List ℕ). l ++ 10 ∷ []) none)) (λ fed. two_feeds lines fed.0 are (sym e ∙ ap (λ (l : List ℕ). l ++ 10 ∷ []) fed.1)) same.1))
-        has)
+    (λ e. same.0 ∙ e)
+    (λ e. absurd (⊎_elim (λ none. one_feed lines are (sym e ∙ ap (λ (l : List ℕ). l ++ 10 ∷ []) none)) (λ fed. two_feeds lines fed.0 are (sym e ∙ ap (λ (l : List ℕ). l ++ 10 ∷ []) fed.1)) same.1))
+    has)
     (λ more. ⊎_elim
-        (λ e. absurd (unfed lines more.1.0 more.1.1 more.1.2 are (sym e ∙ more.1.3)))
-        (λ e. more.0 ∙ e)
-        has)
+    (λ e. absurd (unfed lines more.1.0 more.1.1 more.1.2 are (sym e ∙ more.1.3)))
+    (λ e. more.0 ∙ e)
+    has)
     c.same

@@ -1,11 +1,10 @@
 -- Decimal digits at the front of a text, and the number that they write.
-use Rattle.std.proofs.Common.{◌≡◌, ◌≤◌, ◌<◌, ◌⊎◌, ℕ, zero, suc, ◌+◌, ◌-◌, ◌*◌, ◌^◌, Bool, true, false, List, [], ◌∷◌, ◌++◌, length, take, get_or, refl, ap, sym, ◌∙◌, subst, arith, rules, ⊎_elim, inl, inr}
+use Rattle.std.proofs.Common.{◌≡◌, ◌≤◌, ◌<◌, ◌⊎◌, ℕ, zero, suc, ◌+◌, ◌-◌, ◌*◌, ◌^◌, List, [], ◌∷◌, ◌++◌, length, take, get_or, refl, ap, sym, ◌∙◌, subst, arith, rules, ⊎_elim, inl, inr}
 use Rattle.std.proofs.lemmas.Fmt.{digits_decimal, digits_value-decimal, decimal_nonempty, first_decimal, decimal_digit, decimal-digits_value}
 use Rattle.std.proofs.lemmas.List.{take_more}
 use Rattle.std.proofs.lemmas.Str.Parse.{IsNumeralModel, numerals_by_fold, tells_all_ascii_digits, digit_at}
 use Rattle.std.specs.Fmt.{decimal}
 use Rattle.std.specs.Int.{IsInRange}
-use Rattle.std.specs.Str.{all_ascii_digits}
 use Rattle.csplay.specs.Scan.{AreDigits, EndsNumber, IsPlain, read_on}
 
 own : IsNumeralModel AreDigits (read_on 0)
@@ -58,7 +57,8 @@ zero_or_more (suc n) = inr (omega arith)
 pub IsPlain-decimal : (n : ℕ) → n < 2 ^ 64 → IsPlain (decimal n)
 IsPlain-decimal n h = record {
   some = decimal_nonempty n h;
-  no_leading_zero = λ e. ⊎_elim (λ none. subst (λ (k : ℕ). length (decimal k) ≡ 1) (sym none) (ap length (decimal_digit 0 (omega arith)))) (λ more. absurd (let above : 48 < get_or (decimal n) 0 0 = first_decimal n more h in omega arith)) (zero_or_more n) }
+  no_leading_zero = λ e. ⊎_elim (λ none. subst (λ (k : ℕ). length (decimal k) ≡ 1) (sym none) (ap length (decimal_digit 0 (omega arith)))) (λ more. absurd (let above : 48 < get_or (decimal n) 0 0 = first_decimal n more h in omega arith)) (zero_or_more n);
+}
 
 -- and plain digits are what it writes of their number
 pub decimal-read_on : (ds : List ℕ) → AreDigits ds → IsPlain ds → read_on 0 ds < 2 ^ 64 → decimal (read_on 0 ds) ≡ ds

@@ -1,5 +1,5 @@
 -- An orchestra and a note as their texts, field by field.
-use Rattle.std.proofs.Common.{◌≡◌, ◌≢◌, ◌≤◌, ◌<◌, ◌⊎◌, ℕ, zero, suc, ◌+◌, ◌^◌, Option, Some, None, List, [], ◌∷◌, ◌++◌, length, codes, refl, ap, sym, ◌∙◌, subst, arith, inl, inr, ⊎_elim, append_assoc}
+use Rattle.std.proofs.Common.{◌≡◌, ◌≢◌, ◌≤◌, ◌<◌, ◌⊎◌, ℕ, ◌+◌, ◌^◌, Option, Some, None, List, [], ◌∷◌, ◌++◌, length, codes, refl, ap, sym, ◌∙◌, subst, arith, inl, ⊎_elim, append_assoc}
 use Rattle.std.proofs.lemmas.Fmt.{decimal_injective}
 use Rattle.std.proofs.lemmas.List.{append_cancel_left, length-append}
 use Rattle.std.specs.Fmt.{decimal}
@@ -93,12 +93,13 @@ no_end text a b c sr ksmps field f g h none o i = λ e. none (goes_on b (codes "
 -- and where all are found, it is the one of these numbers
 pub is_orchestra : (text a b c : List ℕ) (sr ksmps field : ℕ) → Found text (codes "sr = ") 1 48000 sr a → Found a (codes "\nksmps = ") 1 64 ksmps b → Found b (codes "\ninstr 1\na1 = p") 1 9 field c → c ≡ behind_field → IsOrchestra (record { sr = sr; ksmps = ksmps; field = field }) × (text ≡ orchestra_text (record { sr = sr; ksmps = ksmps; field = field }))
 unfolding orchestra_text
-is_orchestra text a b c sr ksmps field f g h e =
-    (record { sr = (f.0, f.1); ksmps = (g.0, g.1); field = (h.0, h.1) },
-    f.3
-    ∙ ap (λ (l : List ℕ). codes "sr = " ++ (decimal sr ++ l)) g.3
-    ∙ ap (λ (l : List ℕ). codes "sr = " ++ (decimal sr ++ (codes "\nksmps = " ++ (decimal ksmps ++ l)))) h.3
-    ∙ ap (λ (l : List ℕ). codes "sr = " ++ (decimal sr ++ (codes "\nksmps = " ++ (decimal ksmps ++ (codes "\ninstr 1\na1 = p" ++ (decimal field ++ l)))))) e)
+is_orchestra text a b c sr ksmps field f g h e = (
+  record { sr = (f.0, f.1); ksmps = (g.0, g.1); field = (h.0, h.1) },
+  f.3
+      ∙ ap (λ (l : List ℕ). codes "sr = " ++ (decimal sr ++ l)) g.3
+      ∙ ap (λ (l : List ℕ). codes "sr = " ++ (decimal sr ++ (codes "\nksmps = " ++ (decimal ksmps ++ l)))) h.3
+      ∙ ap (λ (l : List ℕ). codes "sr = " ++ (decimal sr ++ (codes "\nksmps = " ++ (decimal ksmps ++ (codes "\ninstr 1\na1 = p" ++ (decimal field ++ l)))))) e,
+)
 
 -- the same for a note, with what follows it
 pub no_start : (text : List ℕ) → FoundNone text (codes "i1 ") 0 60 → (n : Note) (rest : List ℕ) → IsNote n → text ≢ note_text n ++ rest
@@ -124,13 +125,14 @@ no_line_feed text a b c start len value f g h none n rest i = λ e. none rest (a
 
 pub is_note : (text a b c rest : List ℕ) (start len value : ℕ) → Found text (codes "i1 ") 0 60 start a → Found a (codes " ") 1 60 len b → Found b (codes " ") 0 32767 value c → c ≡ codes "\n" ++ rest → IsNote (record { start = start; length = len; value = value }) × (text ≡ note_text (record { start = start; length = len; value = value }) ++ rest)
 is_note text a b c rest start len value f g h e =
-    let n : Note = record { start = start; length = len; value = value } in
-    (record { start = f.1; length = (g.0, g.1); value = h.1 },
-    f.3
-    ∙ ap (λ (l : List ℕ). codes "i1 " ++ (decimal start ++ l)) g.3
-    ∙ ap (λ (l : List ℕ). codes "i1 " ++ (decimal start ++ (codes " " ++ (decimal len ++ l)))) h.3
-    ∙ ap (λ (l : List ℕ). codes "i1 " ++ (decimal start ++ (codes " " ++ (decimal len ++ (codes " " ++ (decimal value ++ l)))))) e
-    ∙ sym (note_text-fields n rest))
+    let n : Note = record { start = start; length = len; value = value } in (
+      record { start = f.1; length = (g.0, g.1); value = h.1 },
+      f.3
+          ∙ ap (λ (l : List ℕ). codes "i1 " ++ (decimal start ++ l)) g.3
+          ∙ ap (λ (l : List ℕ). codes "i1 " ++ (decimal start ++ (codes " " ++ (decimal len ++ l)))) h.3
+          ∙ ap (λ (l : List ℕ). codes "i1 " ++ (decimal start ++ (codes " " ++ (decimal len ++ (codes " " ++ (decimal value ++ l)))))) e
+          ∙ sym (note_text-fields n rest),
+    )
 
 -- a note takes some of the text
 pub shorter : (n : Note) (text behind : List ℕ) → text ≡ note_text n ++ behind → length behind < length text
@@ -160,7 +162,7 @@ pub no_note_in_tail : (n : Note) (rest tail : List ℕ) → IsTail tail → tail
 no_note_in_tail n rest tail t = λ e. ⊎_elim
     (λ none. let h : ◌≡◌ {A = List ℕ} [] (codes "i1 " ++ (decimal n.start ++ behind_start n rest)) = sym none ∙ e ∙ note_text-fields n rest in cc)
     (λ line. let h : ◌≡◌ {A = List ℕ} (codes "e\n") (codes "i1 " ++ (decimal n.start ++ behind_start n rest)) = sym line ∙ e ∙ note_text-fields n rest in
-        let letters : ◌≡◌ {A = ℕ} 101 105 = cc in omega arith)
+    let letters : ◌≡◌ {A = ℕ} 101 105 = cc in omega arith)
     t
 
 -- What stands behind some notes at the front of a score is the rest of its notes, and the tail.
@@ -176,7 +178,7 @@ left_over (n ∷ notes) [] rest tail ns ok t e =
     absurd (no_note_in_tail n (flat_map note_text notes ++ rest) tail t (sym e ∙ append_assoc (note_text n) (flat_map note_text notes) rest))
 left_over (n ∷ notes) (m ∷ all) rest tail ns ok t e =
     let both : note_text n ++ (flat_map note_text notes ++ rest) ≡ note_text m ++ (flat_map note_text all ++ tail) =
-        sym (append_assoc (note_text n) (flat_map note_text notes) rest) ∙ e ∙ append_assoc (note_text m) (flat_map note_text all) tail in
+    sym (append_assoc (note_text n) (flat_map note_text notes) rest) ∙ e ∙ append_assoc (note_text m) (flat_map note_text all) tail in
     let behind = left_over notes all rest tail ns.1 ok.1 t (one_note n m (flat_map note_text notes ++ rest) (flat_map note_text all ++ tail) ns.0 ok.0 both) in
     record { more = behind.more; count = omega (arith, behind.count); rest_is = behind.rest_is; are_notes = behind.are_notes }
 

@@ -1,4 +1,4 @@
-use Rattle.std.specs.Prelude.{◌≡◌, ◌≢◌, ◌≤◌, ℕ, ◌+◌, ◌⊎◌, List, [], ◌∷◌, ◌++◌, length, codes}
+use Rattle.std.specs.Prelude.{◌≡◌, ◌≢◌, ◌≤◌, ℕ, ◌⊎◌, List, [], ◌∷◌, ◌++◌, length, codes}
 use Rattle.std.specs.Fmt.{decimal}
 use Rattle.std.specs.List.{flat_map, AllByRecursion}
 use Rattle.csplay.specs.declared.form.Orchestra.{Orchestra}
@@ -18,8 +18,8 @@ orchestra_text o =
 -- the line of a note
 unfoldable pub note_text : Note → List ℕ
 note_text n =
-    joined (codes "i1 " ∷ decimal n.start ∷ codes " " ∷ decimal n.length ∷ codes " " ∷ decimal n.value
-    ∷ codes "\n" ∷ [])
+    joined (codes "i1 " ∷ decimal n.start ∷ codes " " ∷ decimal n.length
+    ∷ codes " " ∷ decimal n.value ∷ codes "\n" ∷ [])
 
 -- an orchestra's numbers are in range
 pub record IsOrchestra (o : Orchestra) : Type 0 where
@@ -67,5 +67,6 @@ pub record IsScoreText (text : List ℕ) (all : List Note) : Type 0 where
 -- the text with a line feed behind a last line that lacks it
 pub record Completes (text whole : List ℕ) : Type 0 where
   pub same :
-    ((whole ≡ text) × ((text ≡ []) ⊎ ((front : List ℕ) × (text ≡ front ++ 10 ∷ []))))
-    ⊎ ((whole ≡ text ++ 10 ∷ []) × ((front : List ℕ) × (last : ℕ) × (last ≢ 10) × (text ≡ front ++ last ∷ [])))
+      ((whole ≡ text) × ((text ≡ []) ⊎ ((front : List ℕ) × (text ≡ front ++ 10 ∷ []))))
+      ⊎ ((whole ≡ text ++ 10 ∷ [])
+      × ((front : List ℕ) × (last : ℕ) × (last ≢ 10) × (text ≡ front ++ last ∷ [])))

@@ -16,7 +16,7 @@ end_of o n = max (cycle_of o n.start + 1) (cycle_of o (n.start + n.length))
 abbrev pub is_active : Orchestra → ℕ → Note → Bool
 is_active o cycle n = nat_le (cycle_of o n.start) cycle && nat_lt cycle (end_of o n)
 
--- the field of that number, as the score has it: the instrument, start, length and value of the line
+-- the field of that number, as the line has it: instrument, start, length, value, and 0 for the rest
 abbrev pub field_of : ℕ → Note → ℕ
 field_of number n =
     if number == 1 then 1
@@ -45,7 +45,8 @@ up_to (suc n) = up_to n ++ n ∷ []
 
 -- the mix at each frame of so many cycles
 unfoldable pub frames_of : Orchestra → List Note → ℕ → List ℤ
-frames_of o notes cycles = map (λ frame. pos (mix_of o notes (frame / o.ksmps))) (up_to (cycles * o.ksmps))
+frames_of o notes cycles =
+    map (λ frame. pos (mix_of o notes (frame / o.ksmps))) (up_to (cycles * o.ksmps))
 
 -- the mix at each frame of the piece
 abbrev pub mixes : Orchestra → List Note → List ℤ

@@ -34,11 +34,11 @@ const MOST_BYTES: usize = 8192;
 /// The most notes that a score may have.
 const MOST_NOTES: usize = 100;
 
-/// The orchestra that a text is, or None where it isn't of the form. A last line feed may be missing.
+/// The orchestra that a text is, or None where it isn't of the form. The last line feed may be missing.
 pub fn orchestra_in(text: Vec<u8>) -> Result<Option<Orchestra>, AllocError>
-    ensures {
-        IfOk result (λ found. MatchOption found ((o : Orchestra) → ¬ (IsOrchestraText text.items o))
-            (λ o. IsOrchestraText text.items o)) }
+    ensures { IfOk result (λ found. MatchOption found
+        ((o : Orchestra) → ¬ (IsOrchestraText text.items o))
+        (λ o. IsOrchestraText text.items o)) }
 {
     if text.len() > MOST_BYTES {
         return Ok(None);
@@ -46,11 +46,12 @@ pub fn orchestra_in(text: Vec<u8>) -> Result<Option<Orchestra>, AllocError>
     Ok(orchestra_of(&completed(text)?))
 }
 
-/// The notes of the score that a text is, or None where it isn't of the form. A last line feed may be missing.
+/// The notes of the score that a text is, or None where it isn't of the form. The last line feed may be
+/// missing.
 pub fn notes_in(alloc: Global, text: Vec<u8>) -> Result<Option<Vec<Note>>, AllocError>
-    ensures {
-        IfOk result (λ found. MatchOption found ((notes : List Note) → ¬ (IsScoreText text.items notes))
-            (λ notes. IsScoreText text.items notes.items)) }
+    ensures { IfOk result (λ found. MatchOption found
+        ((notes : List Note) → ¬ (IsScoreText text.items notes))
+        (λ notes. IsScoreText text.items notes.items)) }
 {
     if text.len() > MOST_BYTES {
         return Ok(None);
@@ -71,24 +72,26 @@ fn completed(mut text: Vec<u8>) -> Result<Vec<u8>, AllocError>
 }
 
 fn orchestra_of(text: &[u8]) -> Option<Orchestra>
-    ensures {
-        MatchOption result ((o : Orchestra) → IsOrchestra o → text.now ≢ orchestra_text o)
+    ensures { MatchOption result ((o : Orchestra) → IsOrchestra o → text.now ≢ orchestra_text o)
         (λ o. IsOrchestra o × (text.now ≡ orchestra_text o)) }
 {
     let (sr, text) = after_field(text, b"sr = ", 1, 48_000)?;
     let (ksmps, text) = after_field(text, b"\nksmps = ", 1, 64)?;
     let (field, text) = after_field(text, b"\ninstr 1\na1 = p", 1, 9)?;
-    if text == b"\nout a1\nendin\n".as_slice() { Some(Orchestra { sr, ksmps, field }) } else { None }
+    if text == b"\nout a1\nendin\n".as_slice() {
+        Some(Orchestra { sr, ksmps, field })
+    } else {
+        None
+    }
 }
 
 // The notes of a score, whose last line may be `e`.
 fn notes_of(alloc: Global, text: &[u8]) -> Result<Option<Vec<Note>>, AllocError>
-    ensures {
-        IfOk result (λ found. MatchOption found
-            ((notes : List Note) (tail : List ℕ) → IsNotes notes → IsTail tail
-                → text.now ≢ flat_map note_text notes ++ tail)
-            (λ notes. IsNotes notes.items
-                × (tail : List ℕ) × IsTail tail × (text.now ≡ flat_map note_text notes.items ++ tail))) }
+    ensures { IfOk result (λ found. MatchOption found
+        ((notes : List Note) (tail : List ℕ) → IsNotes notes → IsTail tail
+        → text.now ≢ flat_map note_text notes ++ tail)
+        (λ notes. IsNotes notes.items
+        × (tail : List ℕ) × IsTail tail × (text.now ≡ flat_map note_text notes.items ++ tail))) }
 {
     let mut notes = Vec::new(alloc);
     let mut rest = text;
@@ -99,7 +102,11 @@ fn notes_of(alloc: Global, text: &[u8]) -> Result<Option<Vec<Note>>, AllocError>
         notes.push(note)?;
         rest = behind;
     }
-    if is_tail(rest) { Ok(Some(notes)) } else { Ok(None) }
+    if is_tail(rest) {
+        Ok(Some(notes))
+    } else {
+        Ok(None)
+    }
 }
 
 fn is_tail(text: &[u8]) -> bool
@@ -110,13 +117,23 @@ fn is_tail(text: &[u8]) -> bool
 
 // The note of a score's first line, and the lines behind it.
 fn note_of(text: &[u8]) -> Option<(Note, &[u8])>
-    ensures {
-        MatchOption result ((n : Note) (rest : List ℕ) → IsNote n → text.now ≢ note_text n ++ rest)
+    ensures { MatchOption result
+        ((n : Note) (rest : List ℕ) → IsNote n → text.now ≢ note_text n ++ rest)
         (λ found. IsNote found.0 × (text.now ≡ note_text found.0 ++ found.1.now)) }
 {
     let (start, text) = after_field(text, b"i1 ", 0, 60)?;
     let (length, text) = after_field(text, b" ", 1, 60)?;
     let (value, text) = after_field(text, b" ", 0, 32_767)?;
     let rest = after_word(text, b"\n")?;
-    Some((Note { start, length, value }, rest))
+    Some((
+        Note {
+            start,
+            length,
+            value,
+        },
+        rest,
+    ))
 }
+
+#[cfg(test)]
+mod tests;

@@ -1,4 +1,3 @@
-use Rattle.std.proofs.Common.{◌≡◌, ◌≢◌, List, codes}
 use Rattle.csplay.proofs.Spelled.{no_start, no_length, no_value, no_line_feed, is_note}
 use Rattle.csplay.proofs.form.note_of.Goals as goal
 

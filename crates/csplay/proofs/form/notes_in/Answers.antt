@@ -1,9 +1,7 @@
-use Rattle.std.proofs.Common.{◌≡◌, ◌≢◌, ◌≤◌, Option, ℕ, List, ◌++◌, length, sym, ◌∙◌, arith}
+use Rattle.std.proofs.Common.{◌≤◌, ◌++◌, length, sym, ◌∙◌, arith}
 use Rattle.std.proofs.lemmas.Result.{IfOk-weaker}
 use Rattle.std.specs.List.{flat_map}
-use Rattle.std.specs.Option.{MatchOption}
-use Rattle.csplay.specs.declared.form.Note.{Note}
-use Rattle.csplay.specs.Form.{note_text, IsNotes, IsTail, IsScoreText}
+use Rattle.csplay.specs.Form.{note_text}
 use Rattle.csplay.proofs.Lines.{AreLines-score, completed-HasLines, HasLines-completed}
 use Rattle.csplay.proofs.Spelled.{MatchOption-weaker}
 use Rattle.csplay.proofs.form.notes_in.Goals as goal
@@ -22,4 +20,5 @@ returns c =
       notes = is.0;
       tail = is.1;
       tail_is = is.2;
-      lines = HasLines-completed text whole (flat_map note_text notes.items ++ is.1) completes (sym c.deref.ensures.value ∙ is.3) })) c.notes_of.ensures
+      lines = HasLines-completed text whole (flat_map note_text notes.items ++ is.1) completes (sym c.deref.ensures.value ∙ is.3);
+    })) c.notes_of.ensures

@@ -1,4 +1,4 @@
-use Rattle.std.proofs.Common.{◌≡◌, ◌≤◌, length, inr, sym, ◌∙◌, arith}
+use Rattle.std.proofs.Common.{inr, sym, ◌∙◌, arith}
 use Rattle.csplay.specs.Form.{orchestra_text}
 use Rattle.csplay.proofs.Lines.{EndsLine-orchestra, completed-HasLines, HasLines-completed}
 use Rattle.csplay.proofs.Spelled.{MatchOption-weaker}
@@ -15,4 +15,5 @@ returns c =
     (λ o is. record {
       short = omega arith;
       in_range = is.0;
-      lines = HasLines-completed text whole (orchestra_text o) completes (sym c.deref.ensures.value ∙ is.1) })
+      lines = HasLines-completed text whole (orchestra_text o) completes (sym c.deref.ensures.value ∙ is.1);
+    })

@@ -18,12 +18,12 @@ returns-in_err-field c = rw c.from_residual-in_err-field.ensures
 pub returns-then-eq : goal.returns-then-eq
 returns-then-eq c =
     let same : c.in_ok-field.text.now ≡ behind_field =
-        (slice_eq-Decides Decides-eqb c.in_ok-field.text.now c.as_slice.result.now c.eq.result c.eq.ensures).0 c.if-eq.true ∙ c.as_slice.ensures in
+    (slice_eq-Decides Decides-eqb c.in_ok-field.text.now c.as_slice.result.now c.eq.result c.eq.ensures).0 c.if-eq.true ∙ c.as_slice.ensures in
     is_orchestra c.args.text.now c.in_ok-sr.text.now c.in_ok-ksmps.text.now c.in_ok-field.text.now c.in_ok-sr.sr c.in_ok-ksmps.ksmps c.in_ok-field.field c.in_ok-sr.ensures c.in_ok-ksmps.ensures c.in_ok-field.ensures same
 
 pub returns-else-eq : goal.returns-else-eq
 returns-else-eq c =
     let other : c.in_ok-field.text.now ≢ behind_field = λ e.
-        let told = (slice_eq-Decides Decides-eqb c.in_ok-field.text.now c.as_slice.result.now c.eq.result c.eq.ensures).1 (e ∙ sym c.as_slice.ensures) in
-        absurd (cc (told, c.if-eq.false)) in
+    let told = (slice_eq-Decides Decides-eqb c.in_ok-field.text.now c.as_slice.result.now c.eq.result c.eq.ensures).1 (e ∙ sym c.as_slice.ensures) in
+    absurd (cc (told, c.if-eq.false)) in
     no_end c.args.text.now c.in_ok-sr.text.now c.in_ok-ksmps.text.now c.in_ok-field.text.now c.in_ok-sr.sr c.in_ok-ksmps.ksmps c.in_ok-field.field c.in_ok-sr.ensures c.in_ok-ksmps.ensures c.in_ok-field.ensures other

@@ -1,7 +1,6 @@
-use Rattle.std.proofs.Common.{◌≡◌, ◌≤◌, ℕ, List, ◌++◌, sym, ◌∙◌, ap}
+use Rattle.std.proofs.Common.{ℕ, List, ◌++◌, sym, ◌∙◌, ap}
 use Rattle.std.proofs.lemmas.List.{append_cancel_left}
 use Rattle.std.specs.Fmt.{decimal}
-use Rattle.csplay.specs.Scan.{EndsNumber}
 use Rattle.csplay.proofs.Spelled.{MatchOption-weaker}
 use Rattle.csplay.proofs.scan.after_field.Goals as goal
 

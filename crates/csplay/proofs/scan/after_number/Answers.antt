@@ -1,6 +1,6 @@
-use Rattle.std.proofs.Common.{◌≡◌, ◌<◌, ℕ, ◌^◌, List, ◌++◌, subst, arith, sym, ◌∙◌, ap}
+use Rattle.std.proofs.Common.{◌<◌, ℕ, ◌^◌, List, ◌++◌, subst, arith, sym, ◌∙◌, ap}
 use Rattle.std.specs.Fmt.{decimal}
-use Rattle.csplay.specs.Scan.{AreDigits, EndsNumber, IsPlain, read_on}
+use Rattle.csplay.specs.Scan.{IsPlain, read_on}
 use Rattle.csplay.proofs.Numerals.{one_number, one_value, IsPlain-decimal, decimal-read_on}
 use Rattle.csplay.proofs.scan.after_number.Goals as goal
 

@@ -1,4 +1,4 @@
-use Rattle.std.proofs.Common.{◌≤◌, ℕ, ◌-◌, length, take}
+use Rattle.std.proofs.Common.{◌≤◌, ◌-◌, length, take}
 use Rattle.csplay.specs.Scan.{AreDigits}
 use Rattle.csplay.proofs.scan.digits.Given as goal
 

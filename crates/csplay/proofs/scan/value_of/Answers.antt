@@ -1,4 +1,4 @@
-use Rattle.std.proofs.Common.{◌≡◌, ◌<◌, ◌≤◌, ℕ, List, ◌∷◌, ◌+◌, ◌-◌, ◌*◌, length, drop, get_or, arith, sym, ◌∙◌, ap}
+use Rattle.std.proofs.Common.{◌≡◌, ◌<◌, ℕ, List, ◌+◌, ◌-◌, ◌*◌, length, drop, get_or, arith, sym, ◌∙◌, ap}
 use Rattle.std.proofs.lemmas.List.{drop_more}
 use Rattle.csplay.specs.Scan.{read_on}
 use Rattle.csplay.proofs.Numerals.{digits_at, read_on_grows}

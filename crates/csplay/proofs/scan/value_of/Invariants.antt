@@ -1,4 +1,4 @@
-use Rattle.std.proofs.Common.{◌≡◌, ◌≤◌, take, drop}
+use Rattle.std.proofs.Common.{◌≡◌, ◌≤◌, drop}
 use Rattle.csplay.specs.Scan.{read_on}
 use Rattle.csplay.proofs.scan.value_of.Given as goal
 

@@ -1,0 +1,150 @@
+// Decimals as a text writes them: digits with a point among or beside them, and no sign.
+ghost use Rattle.std.specs.Prelude.{◌≡◌, ◌*◌, ◌^◌, ◌-◌, min, take, length, true, if◌then◌else◌, Some, None, ◌≤◌};
+ghost use Rattle.std.specs.List.{list_all, position};
+ghost use Rattle.std.specs.Char.{is_ascii_digit};
+ghost use Rattle.std.specs.Str.Parse.{digits_value};
+ghost use Rattle.cs_base.specs.Numbers.{clamp};
+ghost use Rattle.cs_base.specs.Decimals.{is_point, before_point, after_point, decimal_of, raw_of_decimal, millionths_of};
+
+use crate::Num;
+
+/// The greatest whole part of a decimal.
+const GREATEST_WHOLE: u32 = 2_147_483_647;
+
+/// A decimal without a sign: its whole part, at most 2,147,483,647 as `read_decimal` gives it, and its billionths.
+#[derive(Clone, Copy, Debug, PartialEq, Eq)]
+pub struct Decimal {
+    pub whole: u32,
+    pub billionths: u32,
+}
+
+impl Decimal {
+    /// The number, rounded down to whole 65,536ths and brought into range.
+    pub fn num(self) -> Num
+        ensures { result ≡ clamp (raw_of_decimal self) }
+    {
+        let whole = self.whole as i64;
+        let billionths = self.billionths as i64;
+        Num::of_raw(whole * 65_536 + billionths * 65_536 / 1_000_000_000)
+    }
+
+    /// The value in millionths, rounded down.
+    pub fn millionths(self) -> u64
+        ensures { result ≡ millionths_of self }
+    {
+        self.whole as u64 * 1_000_000 + self.billionths as u64 / 1_000
+    }
+}
+
+/// Reads a decimal: digits, digits and a point, digits with a point and digits, or a point and digits. Digits past
+/// the ninth after the point are dropped. `None` where the text is no such thing, or its whole part is above
+/// 2,147,483,647.
+pub fn read_decimal(text: &[u8]) -> Option<Decimal>
+    ensures { result ≡ decimal_of text.now }
+{
+    let (before, after) = split_at_point(text);
+    let digits = before.len() > 0 || after.len() > 0;
+    if !digits || !all_digits(before) || !all_digits(after) {
+        return None;
+    }
+    let whole = value_of_digits(before);
+    if whole > GREATEST_WHOLE {
+        return None;
+    }
+    Some(Decimal {
+        whole,
+        billionths: billionths_of_digits(after),
+    })
+}
+
+// What stands before the first point, and what after it.
+fn split_at_point(text: &[u8]) -> (&[u8], &[u8])
+    ensures before { result.0.now ≡ before_point text.now }
+    ensures after { result.1.now ≡ after_point text.now }
+{
+    match point_of(text) {
+        Some(point) => (&text[..point], &text[point + 1..]),
+        None => (text, &[]),
+    }
+}
+
+// The place of the first point.
+fn point_of(text: &[u8]) -> Option<usize>
+    ensures { result ≡ position is_point text.now }
+{
+    text.iter().position(|byte| *byte == b'.')
+}
+
+fn all_digits(text: &[u8]) -> bool
+    ensures { result ≡ list_all is_ascii_digit text.now }
+{
+    text.iter().all(|byte| byte.is_ascii_digit())
+}
+
+// The value of digits, or the greatest u32 where it is greater.
+fn value_of_digits(digits: &[u8]) -> u32
+    requires { list_all is_ascii_digit digits.now ≡ true }
+    ensures { result ≡ min (digits_value 10 digits.now) (2 ^ 32 - 1) }
+{
+    let mut value: u32 = 0;
+    for digit in digits {
+        value = value
+            .saturating_mul(10)
+            .saturating_add(u32::from(*digit - b'0'));
+    }
+    value
+}
+
+// The first nine digits after a point, as billionths.
+fn billionths_of_digits(digits: &[u8]) -> u32
+    requires { list_all is_ascii_digit digits.now ≡ true }
+    ensures { result ≡ digits_value 10 (take 9 digits.now) * 10 ^ (9 - length digits.now) }
+{
+    let count = digits.len().min(9);
+    value_of_digits(&digits[..count]) * 10u32.pow(9 - count as u32)
+}
+
+#[cfg(test)]
+mod tests {
+    use super::*;
+
+    #[test]
+    fn decimals(rt: HostRuntime) {
+        for (text, whole, billionths, raw, millionths) in [
+            ("0.5", 0, 500_000_000, 32_768, 500_000),
+            (".5", 0, 500_000_000, 32_768, 500_000),
+            ("5.", 5, 0, 327_680, 5_000_000),
+            ("007", 7, 0, 458_752, 7_000_000),
+            ("1378.125", 1378, 125_000_000, 90_316_800, 1_378_125_000),
+            ("0.123456789", 0, 123_456_789, 8_090, 123_456),
+            ("0.1234567899", 0, 123_456_789, 8_090, 123_456),
+            ("0.000000001", 0, 1, 0, 0),
+            (
+                "2147483647.999999999",
+                2_147_483_647,
+                999_999_999,
+                140_737_488_355_327,
+                2_147_483_647_999_999,
+            ),
+        ] {
+            let want = Decimal { whole, billionths };
+            assert_eq!(rt; read_decimal(text.as_bytes()), Some(want), "{text}");
+            assert_eq!(rt; want.num().raw(), raw, "{text}");
+            assert_eq!(rt; want.millionths(), millionths, "{text}");
+        }
+        for text in [
+            "",
+            ".",
+            "-1",
+            "+1",
+            "1e3",
+            "0x10",
+            "1.2.3",
+            "1 ",
+            "2147483648",
+            "99999999999999999999",
+        ] {
+            assert_eq!(rt; read_decimal(text.as_bytes()), None, "{text}");
+        }
+    }
+}

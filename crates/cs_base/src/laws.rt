@@ -1,0 +1,51 @@
+// What holds of the arithmetic for all numbers, said once for every caller: calls that do nothing, whose contracts are the laws.
+ghost use Rattle.std.specs.Prelude.{◌≡◌, ℤ, pos, neg_ℤ, ◌+ℤ◌, ◌-ℤ◌, ◌*ℤ◌, ◌≤ℤ◌, ◌<ℤ◌, ℕ, List, Some};
+ghost use Rattle.std.specs.Cmp.{IsTotalOrder};
+ghost use Rattle.std.specs.Ordering.{int_cmp};
+ghost use Rattle.std.specs.declared.cmp.Ordering.TheVariants.{Equal};
+ghost use Rattle.cs_base.specs.declared.decimal.Decimal.{Decimal};
+ghost use Rattle.cs_base.specs.Numbers.{IsRaw, clamp, one, floor_div, sum_of, difference_of, product_of, quotient_of, remainder_of, floor_of, int_of, frac_of, abs_of};
+ghost use Rattle.cs_base.specs.Decimals.{decimal_of, raw_of_decimal};
+
+/// Every result lies in the range of numbers, and a value of the range is its own `clamp`.
+pub fn results_in_range()
+    ensures clamp { (z : ℤ) → IsRaw (clamp z) }
+    ensures kept { (z : ℤ) → IsRaw z → clamp z ≡ z }
+    ensures sum { (x y : ℤ) → IsRaw (sum_of x y) }
+    ensures difference { (x y : ℤ) → IsRaw (difference_of x y) }
+    ensures product { (x y : ℤ) → IsRaw (product_of x y) }
+    ensures quotient { (x y : ℤ) → IsRaw (quotient_of x y) }
+    ensures remainder { (x y : ℤ) → IsRaw y → IsRaw (remainder_of x y) }
+    ensures floor { (x : ℤ) → IsRaw x → IsRaw (floor_of x) }
+    ensures int { (x : ℤ) → IsRaw x → IsRaw (int_of x) }
+    ensures frac { (x : ℤ) → IsRaw x → IsRaw (frac_of x) }
+    ensures abs { (x : ℤ) → IsRaw (abs_of x) }
+    ensures decimal { (text : List ℕ) (d : Decimal) → decimal_of text ≡ Some d → IsRaw (raw_of_decimal d) }
+{}
+
+/// A quotient rounded down, and what it leaves: 0 or of the divisor's sign, and nearer to 0 than the divisor.
+pub fn division_rounds_down()
+    ensures rounded { (n d : ℤ) → pos 0 <ℤ d
+        → ((d *ℤ floor_div n d) ≤ℤ n) × (n <ℤ ((d *ℤ floor_div n d) +ℤ d)) }
+    ensures sign_above { (x y : ℤ) → pos 0 <ℤ y
+        → (pos 0 ≤ℤ remainder_of x y) × (remainder_of x y <ℤ y) }
+    ensures sign_below { (x y : ℤ) → y <ℤ pos 0
+        → (y <ℤ remainder_of x y) × (remainder_of x y ≤ℤ pos 0) }
+{}
+
+/// A number is its floor and a part from 0 below one; it is also its `int`, which lies between 0 and it, and its `frac`.
+pub fn parts_of_a_number()
+    ensures floor { (x : ℤ) → (floor_of x ≤ℤ x) × (x <ℤ (floor_of x +ℤ one)) }
+    ensures whole { (x : ℤ) → (n : ℤ) × (floor_of x ≡ n *ℤ one) }
+    ensures int_from_zero { (x : ℤ) → pos 0 ≤ℤ x
+        → (pos 0 ≤ℤ int_of x) × (int_of x ≤ℤ x) × (x <ℤ (int_of x +ℤ one)) }
+    ensures int_below_zero { (x : ℤ) → IsRaw x → x <ℤ pos 0
+        → (int_of x ≤ℤ pos 0) × (x ≤ℤ int_of x) × (int_of x <ℤ (x +ℤ one)) }
+    ensures int_and_frac { (x : ℤ) → int_of x +ℤ frac_of x ≡ x }
+{}
+
+/// The order of `compare` is total, and only the same number is equal in it.
+pub fn order_is_total()
+    ensures total { IsTotalOrder int_cmp }
+    ensures equal { (x y : ℤ) → int_cmp x y ≡ Equal → x ≡ y }
+{}

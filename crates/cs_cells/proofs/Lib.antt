@@ -1,0 +1,4 @@
+mod Areas
+pub mod Laid
+pub mod SerialRun
+mod Fold

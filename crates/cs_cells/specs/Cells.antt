@@ -1,0 +1,31 @@
+use Rattle.std.specs.Prelude.{◌≡◌, ℕ, ℤ, pos, List, [], ◌∷◌, map, length, ◌+◌, Bool, false, ◌&&◌, ◌||◌, nat_le, nat_lt, Option, Some, None, slice_get, slice_index_or}
+use Rattle.std.specs.Int.{cast_signed, w64}
+use Rattle.cs_cells.specs.declared.footprint.Area.{Area}
+
+-- a word as a signed number in two's complement
+abbrev pub signed : ℕ → ℤ
+signed n = cast_signed w64 n
+
+abbrev pub values : List ℕ → List ℤ
+values ws = map signed ws
+
+-- the value of each cell, by address
+abbrev pub Cells : Type 0
+Cells = List ℤ
+
+abbrev pub cell : Cells → ℕ → ℤ
+cell c a = slice_index_or c a (pos 0)
+
+abbrev pub in_area : Option Area → ℕ → Bool
+in_area None a = false
+in_area (Some area) a = nat_le area.first a && nat_lt a (area.first + area.length)
+
+-- the address lies in an area whose place is listed
+abbrev pub covers : List Area → List ℕ → ℕ → Bool
+covers areas [] a = false
+covers areas (place ∷ places) a = in_area (slice_get areas place) a || covers areas places a
+
+-- as many cells, and the same value at each of these addresses
+pub record Agree (P : ℕ → Type 0) (c d : Cells) : Type 0 where
+  pub long : length c ≡ length d
+  pub same : (a : ℕ) → P a → cell c a ≡ cell d a

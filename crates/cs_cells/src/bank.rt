@@ -1,0 +1,65 @@
+// A row of cells behind addresses.
+ghost use Rattle.std.specs.Prelude.{◌≡◌, ℕ, ℤ, pos, List, ◌<◌, length, slice_index_or, slice_set};
+ghost use Rattle.cs_cells.specs.Cells.{values};
+
+/// Cells that a job reads and writes by address, from 0. A cell holds a signed 64-bit number.
+pub trait Bank {
+    // What no call changes: what the bank stands over, and what may be read and set there.
+    ghost Rest: { Type 0 };
+
+    ghost rest: { Self → Rest };
+
+    ghost can_get: { Rest → ℕ → Type 0 };
+
+    ghost can_set: { Rest → ℕ → Type 0 };
+
+    // The value of each cell, by address.
+    ghost cells: { Self → List ℤ };
+
+    fn get(&mut self, addr: u32) -> i64
+        requires { can_get (rest self.old) addr }
+        ensures value { result ≡ slice_index_or (cells self.old) addr (pos 0) }
+        ensures cells { cells self.new ≡ cells self.old }
+        ensures rest { rest self.new ≡ rest self.old };
+
+    fn set(&mut self, addr: u32, value: i64)
+        requires { can_set (rest self.old) addr }
+        ensures cells { cells self.new ≡ slice_set (cells self.old) addr value }
+        ensures rest { rest self.new ≡ rest self.old };
+}
+
+/// A bank over a vector of words, one cell a word, in two's complement. Each may be read and set.
+#[derive(Drop)]
+pub struct PlainBank<'w> {
+    words: &'w mut Vec<u64>,
+}
+
+impl<'w> PlainBank<'w> {
+    pub fn new(words: &'w mut Vec<u64>) -> PlainBank<'w>
+        ensures same { result.words.ghost_name ≡ words.entry.ghost_name }
+        ensures words { result.words.now ≡ words.old }
+    {
+        PlainBank { words }
+    }
+}
+
+impl Bank for PlainBank<'_> {
+    // The name of the borrow, and the number of words.
+    ghost Rest = { ℕ × ℕ };
+
+    ghost rest = { λ b. (b.words.ghost_name, length b.words.now.items) };
+
+    ghost can_get = { λ r a. a < r.1 };
+
+    ghost can_set = { λ r a. a < r.1 };
+
+    ghost cells = { λ b. values b.words.now.items };
+
+    fn get(&mut self, addr: u32) -> i64 {
+        self.words[addr as usize].cast_signed()
+    }
+
+    fn set(&mut self, addr: u32, value: i64) {
+        self.words[addr as usize] = value.cast_unsigned();
+    }
+}

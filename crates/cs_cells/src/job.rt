@@ -1,0 +1,27 @@
+// What runs in a control cycle, such as the performing of one note.
+ghost use Rattle.std.specs.Prelude.{◌≡◌, ℕ};
+ghost use Rattle.cs_cells.specs.Meaning.{Meaning, Frames, Uses, Writes};
+
+use crate::{Bank, Footprint};
+
+/// Something that runs once in a control cycle over the cells of a bank.
+pub trait Job {
+    // The layout and the footprint of a job, the job and the cells after its run, and what is true of each job that code holds.
+    ghost means: { Meaning Self };
+
+    /// The places, in the job's layout, of the resources that it may use and write.
+    fn footprint(&self) -> &Footprint
+        ensures foot { result.now ≡ means.foot self.now }
+        ensures sound { means.sound self.now };
+
+    /// Runs once. The bank must have each cell that the job uses, and let each be set that it writes.
+    fn run<B: Bank>(&mut self, bank: &mut B)
+        requires get { (a : ℕ) → Uses means self.old a → B.can_get (B.rest bank.old) a }
+        requires set { (a : ℕ) → Writes means self.old a → B.can_set (B.rest bank.old) a }
+        ensures job { self.new ≡ means.after self.old (B.cells bank.old) }
+        ensures cells { B.cells bank.new ≡ means.leaves self.old (B.cells bank.old) }
+        ensures rest { B.rest bank.new ≡ B.rest bank.old };
+
+    // The frame law. It stands below the last method, and so each kind of job proves it.
+    ghost frames: { Frames means };
+}

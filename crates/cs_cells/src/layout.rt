@@ -1,0 +1,142 @@
+// Which cells are whose.
+ghost use Rattle.std.specs.Prelude.{◌≡◌, ℕ, ◌+◌, ◌<◌, length, slice_get, IfOk, IfErr, IfSome, IfNone};
+ghost use Rattle.cs_base.specs.declared.fault.Or.TheVariants as or;
+ghost use Rattle.cs_cells.specs.Areas.{HasPlace, IsLaid, limit_passed, word_count, key, keys_of};
+
+use crate::Area;
+use cs_base::{LimitHit, Or, Res};
+use indexmap::IndexSet;
+use std::alloc::{AllocFailed, Global};
+use std::marker::Model;
+
+/// At most so many resources, by limit 11.
+const MOST_RESOURCES: usize = 4_096;
+
+/// At most so many words, by limit 9.
+const MOST_WORDS: u64 = 65_536;
+
+/// Where each resource's cells are. Contracts see the list of its areas; a resource's place is its index there.
+#[derive(Drop)]
+pub struct Layout {
+    areas: Vec<Area>,
+    keys: IndexSet<(u8, u32)>,
+    words: u32,
+}
+
+impl Model for Layout {
+    ghost use Rattle.std.specs.Prelude.{List};
+    ghost use Rattle.cs_cells.specs.declared.footprint.Area.{Area};
+    ghost use Rattle.cs_cells.specs.Areas.{IsIndexed};
+
+    ghost Value = { List Area };
+
+    ghost view = { λ l. l.areas.items };
+
+    ghost invariant = { λ l. IsIndexed l.areas.items l.keys.keys l.words };
+}
+
+impl Layout {
+    /// Lays out areas that follow one another from address 0 without gaps, each of another resource. More than
+    /// 4,096 of them are refused as limit 11, and then more than 65,536 words in all as limit 9, at line 0.
+    pub fn build(alloc: Global, areas: &[Area]) -> Result<Layout, Or<LimitHit>>
+        requires { IsLaid areas.now }
+        ensures areas { IfOk result (λ l. l ≡ areas.now) }
+        ensures limit { IfSome (limit_passed areas.now) (λ h. result ≡ Err (or.Fault h)) }
+        // Within the limits want of memory alone is refused.
+        ensures memory { IfNone (limit_passed areas.now) (IfErr result (λ e. e ≡ or.OutOfMemory)) }
+    {
+        if areas.len() > MOST_RESOURCES {
+            return Err(Or::Fault(LimitHit { limit: 11, line: 0 }));
+        }
+        let words = words_of(areas);
+        if words > MOST_WORDS {
+            return Err(Or::Fault(LimitHit { limit: 9, line: 0 }));
+        }
+        let keys = index(alloc, areas)?;
+        Ok(Layout {
+            areas: areas.to_vec(alloc)?,
+            keys,
+            words: words as u32,
+        })
+    }
+
+    /// The place of a resource's area, or None where no area is the resource's.
+    pub fn find(&self, res: Res) -> Option<u32>
+        ensures found { IfSome result (HasPlace self.now res) }
+        ensures none { IfNone result ((place : ℕ) → ¬ (HasPlace self.now res place)) }
+    {
+        match self.keys.get_index_of(&key_of(res)) {
+            Some(place) => Some(place as u32),
+            None => None,
+        }
+    }
+
+    /// The area at a place.
+    pub fn area(&self, place: u32) -> Area
+        requires { place < length self.now }
+        ensures { slice_get self.now place ≡ Some result }
+    {
+        self.areas[place as usize]
+    }
+
+    /// The number of cells of all areas.
+    pub fn words(&self) -> u32
+        ensures words { result ≡ word_count self.now }
+        ensures laid { IsLaid self.now }
+        ensures within { limit_passed self.now ≡ None }
+    {
+        self.words
+    }
+
+    /// The number of areas.
+    pub fn len(&self) -> u32
+        ensures { result ≡ length self.now }
+    {
+        self.areas.len() as u32
+    }
+}
+
+/// The end of the last area.
+fn words_of(areas: &[Area]) -> u64
+    requires { IsLaid areas.now }
+    ensures { result ≡ word_count areas.now }
+{
+    match areas.last() {
+        Some(last) => end_of(*last),
+        None => 0,
+    }
+}
+
+/// The address after the area's last.
+fn end_of(area: Area) -> u64
+    ensures { result ≡ area.first + area.length }
+{
+    u64::from(area.first) + u64::from(area.length)
+}
+
+fn key_of(res: Res) -> (u8, u32)
+    ensures { result ≡ key res }
+{
+    match res {
+        Res::Gi(number) => (0, number),
+        Res::Gk(number) => (1, number),
+        Res::Ga(number) => (2, number),
+        Res::ZakK(number) => (3, number),
+        Res::ZakA(number) => (4, number),
+        Res::Control(number) => (5, number),
+        Res::Sound(number) => (6, number),
+        Res::Table(number) => (7, number),
+    }
+}
+
+/// The resources by number, each at the place of its area.
+fn index(alloc: Global, areas: &[Area]) -> Result<IndexSet<(u8, u32)>, AllocFailed<(u8, u32)>>
+    requires { IsLaid areas.now }
+    ensures { IfOk result (λ s. s.keys ≡ keys_of areas.now) }
+{
+    let mut keys = IndexSet::new(alloc);
+    for area in areas {
+        keys.insert(key_of(area.res))?;
+    }
+    Ok(keys)
+}

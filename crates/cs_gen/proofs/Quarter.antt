@@ -1,0 +1,18 @@
+-- The table of the quarter wave: its bound, found by a test of each entry.
+use Rattle.std.proofs.Common.{◌≡◌, ℕ, zero, suc, ◌≤◌, Bool, true, false, ◌&&◌, List, [], ◌∷◌, get_or, slice_index, nat_le, refl, arith}
+use Rattle.std.specs.List.{list_all}
+use Rattle.std.proofs.lemmas.Bool.Decides.{nat_tests}
+use Rattle.cs_gen.specs.Points.{quarter}
+
+-- a test that all entries pass, and 0 too, is passed at any place
+all_pass_at : (p : ℕ → Bool) (xs : List ℕ) (k : ℕ) → list_all p xs ≡ true → p 0 ≡ true → p (get_or xs k 0) ≡ true
+all_pass_at p [] k h z = z
+all_pass_at p (x ∷ xs) zero h z = grind arith
+all_pass_at p (x ∷ xs) (suc k) h z = all_pass_at p xs k (grind arith) z
+
+is_low : (n : ℕ) → nat_le n 32767 ≡ true → n ≤ 32767
+is_low n h = grind (arith, nat_tests)
+
+pub quarter_low : (k : ℕ) → slice_index quarter k ≤ 32767
+unfolding quarter
+quarter_low k = is_low (slice_index quarter k) (all_pass_at (λ n. nat_le n 32767) quarter k refl refl)

@@ -1,0 +1,95 @@
+-- Quotients rounded down: their bounds.
+use Rattle.std.proofs.Common.{◌≡◌, ℕ, zero, suc, ◌+◌, ◌*◌, ◌/◌, ◌<◌, ◌≤◌, ℤ, pos, negsuc, neg_ℤ, ◌+ℤ◌, ◌-ℤ◌, ◌*ℤ◌, ◌≤ℤ◌, unsigned_abs, arith, subst, refl, ap, ◌∙◌, sym}
+use Rattle.std.proofs.Math.Nat.{div-le_of_le-mul, div-lt_iff_lt-mul, mul-le-mul_left}
+use Rattle.std.proofs.lemmas.Nat.{le-div, mul-le, div_below}
+use Rattle.std.proofs.lemmas.Int.{ints, unsigned_abs-mul}
+use Rattle.cs_gen.specs.Points.{floor_div}
+
+-- a quotient is at most d, where the number is at most d times the divisor
+pub floor_div_le : (z d : ℤ) (n : ℕ) → 0 < n → z ≤ℤ (d *ℤ pos n) → floor_div z n ≤ℤ d
+floor_div_le (pos a) (pos e) n some h =
+    let small : a ≤ e * n = omega (arith, ints) in
+    let q : a / n ≤ e = div-le_of_le-mul n (omega (arith, small)) in omega (arith, ints)
+floor_div_le (pos a) (negsuc e) n some h =
+    let big : n ≤ suc e * n = omega (arith, mul-le 1 n (suc e) n (omega arith) (omega arith)) in
+    absurd (omega (arith, ints))
+floor_div_le (negsuc a) (pos e) n some h = omega (arith, ints)
+floor_div_le (negsuc a) (negsuc e) n some h =
+    let big : e * n ≤ a = omega (arith, ints) in
+    let q : e ≤ a / n = le-div e a n some big in omega (arith, ints)
+
+-- a quotient is at least d, where the number is at least d times the divisor
+pub le-floor_div : (z d : ℤ) (n : ℕ) → 0 < n → (d *ℤ pos n) ≤ℤ z → d ≤ℤ floor_div z n
+le-floor_div (pos a) (pos e) n some h =
+    let small : e * n ≤ a = omega (arith, ints) in
+    let q : e ≤ a / n = le-div e a n some small in omega (arith, ints)
+le-floor_div (pos a) (negsuc e) n some h = omega (arith, ints)
+le-floor_div (negsuc a) (pos e) n some h = absurd (omega (arith, ints))
+le-floor_div (negsuc a) (negsuc e) n some h =
+    let small : a < suc e * n = omega (arith, ints) in
+    let q : a / n < suc e = div_below a n (suc e) some small in omega (arith, ints)
+
+-- a product of a number within m and one within n is within m * n
+pub product_within : (x y : ℤ) (m n : ℕ) → unsigned_abs x ≤ m → unsigned_abs y ≤ n → unsigned_abs (x *ℤ y) ≤ m * n
+product_within x y m n p q =
+    let e = unsigned_abs-mul x y in
+    let h : unsigned_abs x * unsigned_abs y ≤ m * n = mul-le (unsigned_abs x) (unsigned_abs y) m n p q in
+    omega (arith, e, h)
+
+-- a number within m is from -m to m
+pub above_within : (z : ℤ) (m : ℕ) → unsigned_abs z ≤ m → neg_ℤ (pos m) ≤ℤ z
+above_within (pos a) m h = omega (arith, ints)
+above_within (negsuc a) m h = omega (arith, ints)
+
+pub below_within : (z : ℤ) (m : ℕ) → unsigned_abs z ≤ m → z ≤ℤ pos m
+below_within (pos a) m h = omega (arith, ints)
+below_within (negsuc a) m h = omega (arith, ints)
+
+pub within : (z : ℤ) (m : ℕ) → neg_ℤ (pos m) ≤ℤ z → z ≤ℤ pos m → unsigned_abs z ≤ m
+within (pos a) m p q = omega (arith, ints)
+within (negsuc a) m p q = omega (arith, ints)
+
+neg_times : (m n : ℕ) → neg_ℤ (pos (m * n)) ≡ neg_ℤ (pos m) *ℤ pos n
+neg_times zero n = omega (arith, ints)
+neg_times (suc m) n = refl
+
+-- the quotient of a number within m * n is within m
+pub floor_div_within : (z : ℤ) (m n : ℕ) → 0 < n → unsigned_abs z ≤ m * n → unsigned_abs (floor_div z n) ≤ m
+floor_div_within z m n some h =
+    within (floor_div z n) m
+    (le-floor_div z (neg_ℤ (pos m)) n some (subst (λ w. w ≤ℤ z) (neg_times m n) (above_within z (m * n) h)))
+    (floor_div_le z (pos m) n some (below_within z (m * n) h))
+
+-- part of the way from 0 to d: j of n steps, rounded down
+pub part_way_up : (m j n : ℕ) → j < n → (pos 0 ≤ℤ floor_div (pos m *ℤ pos j) n) × (floor_div (pos m *ℤ pos j) n ≤ℤ pos m)
+part_way_up m j n h =
+    let some : 0 < n = omega arith in
+    (omega (arith, ints), floor_div_le (pos m *ℤ pos j) (pos m) n some (let p : m * j ≤ m * n = mul-le m j m n (omega arith) (omega arith) in omega (arith, ints)))
+
+pub part_way_down : (m j n : ℕ) → j < n → (negsuc m ≤ℤ floor_div (negsuc m *ℤ pos j) n) × (floor_div (negsuc m *ℤ pos j) n ≤ℤ pos 0)
+part_way_down m j n h =
+    let some : 0 < n = omega arith in
+    let p : suc m * j ≤ suc m * n = mul-le (suc m) j (suc m) n (omega arith) (omega arith) in
+    (le-floor_div (negsuc m *ℤ pos j) (negsuc m) n some (omega (arith, ints)),
+      floor_div_le (negsuc m *ℤ pos j) (pos 0) n some (omega (arith, ints)))
+
+-- from a, part of the way up or down to b, is between what both are above and what both are below
+moved_up : (low high a b f : ℤ) (m : ℕ) → b -ℤ a ≡ pos m → pos 0 ≤ℤ f → f ≤ℤ pos m → low ≤ℤ a → b ≤ℤ high →
+    (low ≤ℤ (a +ℤ f)) × ((a +ℤ f) ≤ℤ high)
+moved_up low high a b f m e p q la hb = (omega (arith, ints), omega (arith, ints))
+
+moved_down : (low high a b f : ℤ) (m : ℕ) → b -ℤ a ≡ negsuc m → negsuc m ≤ℤ f → f ≤ℤ pos 0 → low ≤ℤ b → a ≤ℤ high →
+    (low ≤ℤ (a +ℤ f)) × ((a +ℤ f) ≤ℤ high)
+moved_down low high a b f m e p q lb ha = (omega (arith, ints), omega (arith, ints))
+
+on_rise : (low high a b d : ℤ) → b -ℤ a ≡ d → (j n : ℕ) → j < n → low ≤ℤ a → low ≤ℤ b → a ≤ℤ high → b ≤ℤ high →
+    (low ≤ℤ (a +ℤ floor_div (d *ℤ pos j) n)) × ((a +ℤ floor_div (d *ℤ pos j) n) ≤ℤ high)
+on_rise low high a b (pos m) e j n h la lb ha hb =
+    let part = part_way_up m j n h in moved_up low high a b (floor_div (pos m *ℤ pos j) n) m e part.0 part.1 la hb
+on_rise low high a b (negsuc m) e j n h la lb ha hb =
+    let part = part_way_down m j n h in moved_down low high a b (floor_div (negsuc m *ℤ pos j) n) m e part.0 part.1 lb ha
+
+-- a place on the line from a to b stays above what both ends are above, and below what both are below
+pub on_line : (low high a b : ℤ) (j n : ℕ) → j < n → low ≤ℤ a → low ≤ℤ b → a ≤ℤ high → b ≤ℤ high →
+    (low ≤ℤ (a +ℤ floor_div ((b -ℤ a) *ℤ pos j) n)) × ((a +ℤ floor_div ((b -ℤ a) *ℤ pos j) n) ≤ℤ high)
+on_line low high a b j n h la lb ha hb = on_rise low high a b (b -ℤ a) refl j n h la lb ha hb

@@ -1,0 +1,45 @@
+-- Which tables are refused, and for what.
+use Rattle.std.specs.Prelude.{ℕ, ◌+◌, ◌-◌, ◌*◌, ◌/◌, Bool, ◌&&◌, ◌||◌, ◌==◌, List, [], ◌∷◌, length, ℤ, pos, unsigned_abs, int_lt, Option, Some, None, slice_index_or, if◌then◌else◌}
+use Rattle.std.specs.Int.{int_div_euclid}
+use Rattle.std.specs.List.{list_any, range_with_len}
+use Rattle.std.specs.Ordering.{int_eq}
+use Rattle.cs_gen.specs.declared.check.GenFault.{GenFault}
+use Rattle.cs_gen.specs.declared.check.GenFault.TheVariants.{Size, Unknown, NegativeLength}
+
+-- argument k of a GEN, counted from 0; one that is missing is 0
+abbrev pub argument : List ℤ → ℕ → ℤ
+argument args k = slice_index_or args k (pos 0)
+
+-- the whole part of a number, rounded down
+abbrev pub whole : ℤ → ℤ
+whole raw = int_div_euclid raw (pos 65536)
+
+-- how many segments GEN07's arguments give: one for each value after the first
+abbrev pub segments_of : List ℤ → ℕ
+segments_of args = (length args - 1) / 2
+
+-- the powers of two that a table's length may be
+unfoldable pub lengths : List ℕ
+lengths = 2 ∷ 4 ∷ 8 ∷ 16 ∷ 32 ∷ 64 ∷ 128 ∷ 256 ∷ 512 ∷ 1024 ∷ 2048 ∷ 4096 ∷ 8192 ∷ 16384 ∷ 32768 ∷ 65536 ∷ []
+
+-- a size is one of them, or one more
+unfoldable pub is_size : ℤ → Bool
+is_size size = list_any (λ len. int_eq size (pos len) || int_eq size (pos (len + 1))) lengths
+
+-- GEN02, GEN07 and GEN10, and their negatives
+unfoldable pub is_gen : ℤ → Bool
+is_gen gen = (unsigned_abs gen == 2) || (unsigned_abs gen == 7) || (unsigned_abs gen == 10)
+
+-- one of GEN07's segments has a negative length: segment k's is the whole part of argument 2k + 1
+unfoldable pub has_negative_length : List ℤ → Bool
+has_negative_length args =
+    list_any (λ k. int_lt (whole (argument args (2 * k + 1))) (pos 0)) (range_with_len 0 (segments_of args))
+
+-- the first rule that a table breaks: its size, then its GEN, then the lengths of its segments
+abbrev pub table_fault : ℤ → ℤ → List ℤ → Option GenFault
+table_fault size gen args =
+    if is_size size
+    then if is_gen gen
+    then if (unsigned_abs gen == 7) && has_negative_length args then Some NegativeLength else None
+    else Some Unknown
+    else Some Size

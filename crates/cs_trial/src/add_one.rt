@@ -1,0 +1,107 @@
+// A job that adds 1 to each cell of some resources.
+ghost use Rattle.std.specs.Prelude.{◌≡◌, slice_set, slice_get, IfOk, IfSome, Some};
+ghost use Rattle.cs_cells.specs.Cells.{cell, covers, in_area};
+ghost use Rattle.cs_trial.specs.Adder.{more};
+
+use cs_cells::{Area, Bank, Footprint, Job};
+use std::alloc::{AllocError, Global};
+use std::marker::Model;
+
+/// Adds 1 to each cell that it writes, and keeps nothing.
+#[derive(Drop)]
+pub struct AddOne<'t> {
+    areas: &'t [Area],
+    foot: Footprint,
+    addrs: Vec<u32>,
+}
+
+impl<'t> Model for AddOne<'t> {
+    ghost use Rattle.cs_trial.specs.Adder.{Adder, IsAdder};
+
+    ghost Value = { Adder };
+
+    ghost view = { λ j. record { areas = j.areas.now; foot = j.foot; addrs = j.addrs.items } };
+
+    ghost invariant = { λ j. IsAdder record { areas = j.areas.now; foot = j.foot; addrs = j.addrs.items } };
+}
+
+impl<'t> AddOne<'t> {
+    /// A job on the resources that the footprint writes, or None where an area of them has a cell that the
+    /// footprint doesn't use or that lies past the greatest address.
+    pub fn new(alloc: Global, areas: &'t [Area], foot: Footprint) -> Result<Option<AddOne<'t>>, AllocError>
+        ensures areas { IfOk result (λ o. IfSome o (λ j. j.areas ≡ areas.now)) }
+        ensures foot { IfOk result (λ o. IfSome o (λ j. j.foot ≡ foot)) }
+    {
+        let mut addrs = Vec::new(alloc);
+        for place in foot.writes.as_slice() {
+            let Some(area) = areas.get(*place as usize) else {
+                return Ok(None);
+            };
+            for step in 0..area.length {
+                let Some(addr) = area.first.checked_add(step) else {
+                    return Ok(None);
+                };
+                if !is_covered(areas, foot.uses.as_slice(), addr) || !is_covered(areas, foot.writes.as_slice(), addr) {
+                    return Ok(None);
+                }
+                addrs.push(addr)?;
+            }
+        }
+        Ok(Some(AddOne { areas, foot, addrs }))
+    }
+}
+
+impl<'t> Job for AddOne<'t> {
+    ghost use Rattle.cs_trial.specs.Adder.{adding, adding_frames};
+
+    ghost means = { adding };
+
+    fn footprint(&self) -> &Footprint {
+        &self.foot
+    }
+
+    fn run<B: Bank>(&mut self, bank: &mut B) {
+        for addr in &self.addrs {
+            add_one(bank, *addr);
+        }
+    }
+
+    ghost frames = { adding_frames };
+}
+
+fn add_one<B: Bank>(bank: &mut B, addr: u32)
+    requires get { B.can_get (B.rest bank.old) addr }
+    requires set { B.can_set (B.rest bank.old) addr }
+    ensures cells { B.cells bank.new ≡ slice_set (B.cells bank.old) addr (more (cell (B.cells bank.old) addr)) }
+    ensures rest { B.rest bank.new ≡ B.rest bank.old }
+{
+    let value = bank.get(addr);
+    bank.set(addr, value.wrapping_add(1));
+}
+
+/// Whether the address lies in an area whose place is listed.
+fn is_covered(areas: &[Area], places: &[u32], addr: u32) -> bool
+    ensures { result ≡ covers areas.now places.now addr }
+{
+    for place in places {
+        if is_in(areas, *place, addr) {
+            return true;
+        }
+    }
+    false
+}
+
+fn is_in(areas: &[Area], place: u32, addr: u32) -> bool
+    ensures { result ≡ in_area (slice_get areas.now place) addr }
+{
+    match areas.get(place as usize) {
+        Some(area) => has_cell(*area, addr),
+        None => false,
+    }
+}
+
+fn has_cell(area: Area, addr: u32) -> bool
+    ensures { result ≡ in_area (Some area) addr }
+{
+    area.first <= addr && u64::from(addr) < u64::from(area.first) + u64::from(area.length)
+}

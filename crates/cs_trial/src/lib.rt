@@ -1,0 +1,9 @@
+//! Small jobs on which the dispatch is tried, and its tests with them. Nothing of the product stands on this
+//! crate. In reading order: `add_one`, `mini`, `tests`.
+#![tactic(auto)]
+
+mod add_one;
+mod mini;
+
+pub use add_one::AddOne;
+pub use mini::{Mini, Op};

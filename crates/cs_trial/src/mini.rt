@@ -1,0 +1,71 @@
+// A small machine with registers, whose code is shared: the shape of a note.
+ghost use Rattle.std.specs.Prelude.{◌≡◌, length};
+ghost use Rattle.cs_trial.specs.Mini.{MayDo, step};
+
+use cs_cells::{Area, Bank, Footprint, Job};
+use std::marker::Model;
+
+/// One op: a cell into a register, a number onto a register, or a register into a cell.
+#[derive(Clone, Copy, Debug, PartialEq, Eq)]
+pub enum Op {
+    Read(u32, u32),
+    Add(u32, i64),
+    Write(u32, u32),
+}
+
+/// A note of the small machine. Its code is shared by all notes that run it.
+#[derive(Drop)]
+pub struct Mini<'t> {
+    areas: &'t [Area],
+    foot: &'t Footprint,
+    ops: &'t [Op],
+    regs: Vec<i64>,
+}
+
+impl<'t> Model for Mini<'t> {
+    ghost use Rattle.cs_trial.specs.Mini.{Small, IsSmall};
+
+    ghost Value = { Small };
+
+    ghost view = { λ j. record { areas = j.areas.now; foot = j.foot.now; ops = j.ops.now; regs = j.regs.items } };
+
+    ghost invariant = { λ j. IsSmall record { areas = j.areas.now; foot = j.foot.now; ops = j.ops.now; regs = j.regs.items } };
+}
+
+impl<'t> Job for Mini<'t> {
+    ghost use Rattle.cs_trial.specs.Mini.{small};
+    ghost use Rattle.cs_trial.specs.MiniFrame.{small_frames};
+
+    ghost means = { small };
+
+    fn footprint(&self) -> &Footprint {
+        self.foot
+    }
+
+    fn run<B: Bank>(&mut self, bank: &mut B) {
+        for op in self.ops {
+            run_op(*op, &mut self.regs, bank);
+        }
+    }
+
+    ghost frames = { small_frames };
+}
+
+fn run_op<B: Bank>(op: Op, regs: &mut Vec<i64>, bank: &mut B)
+    requires { MayDo (B.can_get (B.rest bank.old)) (B.can_set (B.rest bank.old)) (length regs.old.items) op }
+    ensures regs { regs.new.items ≡ (step op (regs.old.items, B.cells bank.old)).0 }
+    ensures cells { B.cells bank.new ≡ (step op (regs.old.items, B.cells bank.old)).1 }
+    ensures rest { B.rest bank.new ≡ B.rest bank.old }
+{
+    match op {
+        Op::Read(reg, addr) => {
+            regs[reg as usize] = bank.get(addr);
+        }
+        Op::Add(reg, value) => {
+            regs[reg as usize] = regs[reg as usize].wrapping_add(value);
+        }
+        Op::Write(addr, reg) => {
+            bank.set(addr, regs[reg as usize]);
+        }
+    }
+}
