@@ -51,8 +51,8 @@ pub all_on : (move : Move) (a b c : Option (List Move)) → Follows a b (Grown (
     → Follows b c (GrownBy move) → Follows a c (Grown (AreAll move))
 all_on move a b c p q =
     follows_on (Grown (AreAll move)) (GrownBy move) (Grown (AreAll move))
-      (λ x y z g e. grown_on (AreAll move) (λ more. more ≡ move ∷ []) (AreAll move) (all_more move) x y z g (grown_by move y z e))
-      a b c p q
+    (λ x y z g e. grown_on (AreAll move) (λ more. more ≡ move ∷ []) (AreAll move) (all_more move) x y z g (grown_by move y z e))
+    a b c p q
 
 -- a begin is a run, and goes on with the run's moves
 pub run_begun : (name : List ℕ) (move : Move) (a b : Option (List Move)) → Follows a b (GrownBy (Begin name))
