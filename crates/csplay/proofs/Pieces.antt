@@ -1,9 +1,9 @@
-use Rattle.std.proofs.Common.{◌≡◌, ◌≤◌, ◌⊎◌, ℕ, List, [], ◌∷◌, ◌++◌, length, take, min, Option, None, Some, Result, IsErrOf, IfOk, refl, ap, sym, subst, ◌∙◌, inl, inr, ⊎_elim, arith}
+use Rattle.std.proofs.Common.{◌≡◌, ◌≤◌, ◌⊎◌, ℕ, List, [], ◌∷◌, ◌++◌, length, take, Option, None, Some, refl, ap, sym, subst, ◌∙◌, inl, inr, ⊎_elim, arith}
 use Rattle.std.proofs.lemmas.List.{take_all, length-take}
 use Rattle.cs_edge.specs.declared.files.NamedBytes.{NamedBytes}
 use Rattle.cs_edge.specs.declared.moves.Move.{Move}
 use Rattle.cs_edge.specs.declared.moves.Move.TheVariants.{Begin, Read}
-use Rattle.cs_edge.specs.Told.{Follows, IsFront}
+use Rattle.cs_edge.specs.Told.{Follows}
 use Rattle.cs_edge.specs.Moves.{Grown, IsRun, IsFrontOf}
 use Rattle.cs_edge.specs.Files.{file_named}
 use Rattle.cs_edge.proofs.Chains.{follows_on, follows_as, grown_on, front_all}

@@ -1,11 +1,10 @@
-use Rattle.std.proofs.Common.{◌≡◌, ◌≤◌, ◌<◌, ℕ, ◌+◌, ◌*◌, List, [], ◌∷◌, ◌++◌, pos, replicate, false, Result, Ok, Err, OnOk, OnErr, refl, ap, sym, subst, ◌∙◌, arith, append_assoc, append-nil}
-use Rattle.std.proofs.lemmas.Result.{on_err_weaker}
+use Rattle.std.proofs.Common.{◌≡◌, ◌≤◌, ◌<◌, ℕ, ◌+◌, ◌*◌, List, [], ◌++◌, pos, replicate, false, Result, Ok, Err, OnOk, OnErr, ap, sym, subst, ◌∙◌, arith, append_assoc, append-nil}
 use Rattle.cs_base.specs.declared.head.Head.{Head}
-use Rattle.cs_edge.specs.declared.moves.Move.TheVariants.{Begin, End}
+use Rattle.cs_edge.specs.declared.moves.Move.TheVariants.{End}
 use Rattle.cs_edge.specs.Told.{Follows, IsFront}
 use Rattle.cs_edge.specs.Moves.{SinkTold, GrownBy, WroteMore, Wrote, Finished, Stopped}
 use Rattle.cs_edge.proofs.Chains.{front_more}
-use Rattle.cs_edge.proofs.Stories.{begun, wrote_on, finished, stopped_writes, stopped_end}
+use Rattle.cs_edge.proofs.Stories.{wrote_on, finished, stopped_writes}
 use Rattle.cs_wav.specs.Wav.{header_bytes, sound, wav_of}
 use Rattle.csplay.specs.declared.form.Orchestra.{Orchestra}
 use Rattle.csplay.specs.declared.form.Note.{Note}
@@ -51,6 +50,13 @@ so_far_more : (o : Orchestra) (notes : List Note) (head : Head) (cycle : ℕ)
 so_far_more o notes head cycle =
     append_assoc (opening o notes head) (sound 2 head.dbfs (frames_of o notes cycle)) (samples o notes head cycle)
     ∙ ap (λ (l : List ℕ). opening o notes head ++ l) (sym (sound-frames_more o notes head.dbfs cycle))
+
+-- what the header's writer gives is the opening
+pub opened : (written : List ℕ) (cycles : ℕ) (o : Orchestra) (notes : List Note) (head : Head)
+    → written ≡ header_bytes 2 ((cycles * o.ksmps) * head.nchnls * 2) head → cycles ≡ cycles_of o notes
+    → written ≡ opening o notes head
+opened written cycles o notes head e all =
+    e ∙ ap (λ (n : ℕ). header_bytes 2 ((n * o.ksmps) * head.nchnls * 2) head) all
 
 -- the header was written
 pub header_written : (a b : SinkTold) (name written : List ℕ) (o : Orchestra) (notes : List Note) (head : Head)

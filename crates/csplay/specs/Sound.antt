@@ -1,4 +1,4 @@
-use Rattle.std.specs.Prelude.{ℕ, ◌≡◌, List, codes, Option, false}
+use Rattle.std.specs.Prelude.{ℕ, List, codes, Option, false}
 use Rattle.cs_base.specs.declared.head.Head.{Head}
 use Rattle.cs_edge.specs.declared.files.NamedBytes.{NamedBytes}
 use Rattle.cs_edge.specs.Moves.{SinkTold, Finished, Stopped}

@@ -1,4 +1,4 @@
-use Rattle.std.proofs.lemmas.Result.{on_ok_weaker, on_err_weaker}
+use Rattle.std.proofs.lemmas.Result.{on_err_weaker}
 use Rattle.cs_edge.proofs.Stories.{begun, stopped_begin}
 use Rattle.csplay.proofs.Played.{begun_in_part}
 use Rattle.csplay.proofs.play.begin_file.Goals as goal

@@ -1,25 +1,24 @@
-use Rattle.std.proofs.Common.{◌≡◌, ◌<◌, ℕ, ◌*◌, ap, ◌∙◌, arith}
+use Rattle.std.proofs.Common.{◌≡◌, ◌<◌, arith}
 use Rattle.cs_edge.proofs.Stories.{stopped_end}
-use Rattle.cs_wav.specs.Wav.{header_bytes}
 use Rattle.csplay.specs.Mix.{cycles_of}
-use Rattle.csplay.proofs.Played.{however_ok, however_err, header_written, header_stopped, cycle_written, cycle_stopped, all_written}
+use Rattle.csplay.proofs.Played.{however_ok, however_err, opened, header_written, header_stopped, cycle_written, cycle_stopped, all_written}
 use Rattle.csplay.proofs.play.play.Goals as goal
 
 pub returns-in-Err-clause-stopped : goal.returns-in-Err-clause-stopped
 returns-in-Err-clause-stopped g c =
-    let o = c.args.o.now in
-    let head = c.args.head.now in
-    let e = c.header-header.ensures
-    ∙ ap (λ (n : ℕ). header_bytes 2 ((n * o.ksmps) * head.nchnls * 2) head) c.count_cycles-cycles.ensures.cycles in
-    header_stopped _ _ _ _ o c.args.notes.now head c.requires.head e c.in-Err.ensures.stopped
+    header_stopped _ _ _ c.header-header.result c.args.o.now c.args.notes.now c.args.head.now c.requires.head
+    (opened c.header-header.result c.count_cycles-cycles.result c.args.o.now c.args.notes.now c.args.head.now
+    c.header-header.ensures c.count_cycles-cycles.ensures.cycles)
+    c.in-Err.ensures.stopped
 
 pub loop-cycle-init : goal.loop-cycle-init
-loop-cycle-init g c =
-    let o = c.args.o.now in
-    let head = c.args.head.now in
-    let e = c.header-header.ensures
-    ∙ ap (λ (n : ℕ). header_bytes 2 ((n * o.ksmps) * head.nchnls * 2) head) c.count_cycles-cycles.ensures.cycles in
-    (header_written _ _ _ _ o c.args.notes.now head e c.in_default.ensures.begun, c.requires.blocks)
+loop-cycle-init g c = (
+  header_written _ _ _ c.header-header.result c.args.o.now c.args.notes.now c.args.head.now
+      (opened c.header-header.result c.count_cycles-cycles.result c.args.o.now c.args.notes.now c.args.head.now
+      c.header-header.ensures c.count_cycles-cycles.ensures.cycles)
+      c.in_default.ensures.begun,
+  c.requires.blocks,
+)
 
 pub returns-in-Err-write_cycle-clause-stopped : goal.returns-in-Err-write_cycle-clause-stopped
 returns-in-Err-write_cycle-clause-stopped g c =

@@ -1,7 +1,6 @@
-use Rattle.std.proofs.Common.{ℕ, List, ◌≡◌, ◌∙◌, length, subst, arith}
+use Rattle.std.proofs.Common.{length}
 use Rattle.cs_edge.specs.declared.moves.Move.TheVariants.{Read}
 use Rattle.cs_edge.proofs.Chains.{all_on}
-use Rattle.csplay.specs.Reading.{IsFrontOf}
 use Rattle.csplay.proofs.Readings.{fill_more, fill_end}
 use Rattle.csplay.proofs.read.fill.Goals as goal
 
