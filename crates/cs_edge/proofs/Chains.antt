@@ -1,8 +1,9 @@
-use Rattle.std.proofs.Common.{◌≡◌, List, [], ◌∷◌, ◌++◌, Option, None, Some, refl, ap, subst, sym, ◌∙◌, append_assoc, append-nil, ◌+◌}
+use Rattle.std.proofs.Common.{◌≡◌, ℕ, List, [], ◌∷◌, ◌++◌, Option, None, Some, refl, ap, subst, sym, ◌∙◌, append_assoc, append-nil, ◌+◌}
 use Rattle.std.proofs.lemmas.List.{replicate-append-replicate}
 use Rattle.cs_edge.specs.declared.moves.Move.{Move}
+use Rattle.cs_edge.specs.declared.moves.Move.TheVariants.{Begin}
 use Rattle.cs_edge.specs.Told.{Follows, IsFront}
-use Rattle.cs_edge.specs.Moves.{GrownBy, Grown, AreAll}
+use Rattle.cs_edge.specs.Moves.{GrownBy, Grown, AreAll, IsRun}
 
 -- two calls after one another
 pub follows_on : {A : Type 0} (P Q R : A → A → Type 0) → ((x y z : A) → P x y → Q y z → R x z)
@@ -44,6 +45,24 @@ all_none move a = ([], (0, refl), sym (append-nil a))
 
 pub all_more : (move : Move) (x y : List Move) → AreAll move x → y ≡ move ∷ [] → AreAll move (x ++ y)
 all_more move x y p e = (p.0 + 1, rw (p.1, e) (replicate-append-replicate p.0 1 move))
+
+-- some number of the same move, and one more call
+pub all_on : (move : Move) (a b c : Option (List Move)) → Follows a b (Grown (AreAll move))
+    → Follows b c (GrownBy move) → Follows a c (Grown (AreAll move))
+all_on move a b c p q =
+    follows_on (Grown (AreAll move)) (GrownBy move) (Grown (AreAll move))
+    (λ x y z g e. grown_on (AreAll move) (λ more. more ≡ move ∷ []) (AreAll move) (all_more move) x y z g (grown_by move y z e))
+    a b c p q
+
+-- a begin is a run, and goes on with the run's moves
+pub run_begun : (name : List ℕ) (move : Move) (a b : Option (List Move)) → Follows a b (GrownBy (Begin name))
+    → Follows a b (Grown (IsRun name move))
+run_begun name move a b p =
+    follows_as (GrownBy (Begin name)) (Grown (IsRun name move)) (λ x y e. (Begin name ∷ [], (0, refl), e)) a b p
+
+pub run_on : (name : List ℕ) (move : Move) (x y : List Move) → IsRun name move x → AreAll move y → IsRun name move (x ++ y)
+run_on name move x y p q =
+    (p.0 + q.0, rw (p.1, q.1) (ap (λ (l : List Move). Begin name ∷ l) (replicate-append-replicate p.0 q.0 move)))
 
 -- a front of a list goes on to a longer one
 pub front_all : {A : Type 0} (l : List A) → IsFront l l

@@ -1,10 +1,9 @@
-use Rattle.std.proofs.Common.{◌≡◌, ◌≤◌, ℕ, ◌+◌, List, [], ◌∷◌, ◌++◌, None, Some, refl, ap, sym, ◌∙◌, inl, inr, append_assoc, append-nil, arith}
-use Rattle.std.proofs.lemmas.List.{replicate-append-replicate}
+use Rattle.std.proofs.Common.{◌≡◌, ◌≤◌, ℕ, List, [], ◌∷◌, ◌++◌, None, Some, refl, ap, sym, ◌∙◌, inl, inr, append_assoc, append-nil, arith}
 use Rattle.cs_edge.specs.declared.moves.Move.{Move}
 use Rattle.cs_edge.specs.declared.moves.Move.TheVariants.{Begin, Write, End}
 use Rattle.cs_edge.specs.Told.{Follows, IsFront}
 use Rattle.cs_edge.specs.Moves.{SinkTold, Held, GrownBy, Grown, AreAll, IsRun, IsWhole, IsFrontOf, TakenMore, WroteMore, Wrote, Finished, Stopped, HoldsFront}
-use Rattle.cs_edge.proofs.Chains.{follows_on, follows_as, follows_same, grown_on, grown_by, all_none, all_more, front_all}
+use Rattle.cs_edge.proofs.Chains.{follows_on, follows_as, follows_same, grown_on, grown_by, all_none, all_on, run_begun, run_on, front_all}
 
 -- what is held, with these bytes more
 abbrev with_more : List ℕ → Held → Held
@@ -24,19 +23,12 @@ more_none a = record {
   later = omega arith;
 }
 
-one_write : (a b c : SinkTold) → Follows a.moves b.moves (Grown (AreAll Write)) → Follows b.moves c.moves (GrownBy Write)
-    → Follows a.moves c.moves (Grown (AreAll Write))
-one_write a b c p q =
-    follows_on (Grown (AreAll Write)) (GrownBy Write) (Grown (AreAll Write))
-    (λ x y z g e. grown_on (AreAll Write) (λ more. more ≡ Write ∷ []) (AreAll Write) (all_more Write) x y z g (grown_by Write y z e))
-    a.moves b.moves c.moves p q
-
 -- a write that took these bytes
 pub more_on : (a b c : SinkTold) (xs ys : List ℕ) → WroteMore a b xs → Follows b.held c.held (TakenMore ys)
     → Follows b.moves c.moves (GrownBy Write) → b.faults ≤ c.faults → WroteMore a c (xs ++ ys)
 more_on a b c xs ys w held moves later = record {
   taken = follows_on (TakenMore xs) (TakenMore ys) (TakenMore (xs ++ ys)) (more_twice xs ys) a.held b.held c.held w.taken held;
-  made = one_write a b c w.made moves;
+  made = all_on Write a.moves b.moves c.moves w.made moves;
   later = omega (arith, w.later);
 }
 
@@ -45,7 +37,7 @@ pub more_failed : (a b c : SinkTold) (xs : List ℕ) → WroteMore a b xs → Fo
     → Follows b.moves c.moves (GrownBy Write) → b.faults ≤ c.faults → WroteMore a c xs
 more_failed a b c xs w held moves later = record {
   taken = follows_on (TakenMore xs) (λ before now. now ≡ before) (TakenMore xs) (λ x y z p q. q ∙ p) a.held b.held c.held w.taken held;
-  made = one_write a b c w.made moves;
+  made = all_on Write a.moves b.moves c.moves w.made moves;
   later = omega (arith, w.later);
 }
 
@@ -57,14 +49,9 @@ pub begun : (a b : SinkTold) (name : List ℕ)
     → Follows a.moves b.moves (GrownBy (Begin name)) → a.faults ≤ b.faults → Wrote a b name []
 begun a b name held moves later = record {
   taken = held;
-  made = follows_as (GrownBy (Begin name)) (Grown (IsRun name Write))
-      (λ x y e. (Begin name ∷ [], (0, refl), e)) a.moves b.moves moves;
+  made = run_begun name Write a.moves b.moves moves;
   later = later;
 }
-
-run_on : (name : List ℕ) (x y : List Move) → IsRun name Write x → AreAll Write y → IsRun name Write (x ++ y)
-run_on name x y p q =
-    (p.0 + q.0, rw (p.1, q.1) (ap (λ (l : List Move). Begin name ∷ l) (replicate-append-replicate p.0 q.0 Write)))
 
 -- and writes
 pub wrote_on : (a b c : SinkTold) (name xs ys : List ℕ) → Wrote a b name xs → WroteMore b c ys → Wrote a c name (xs ++ ys)
@@ -73,7 +60,7 @@ wrote_on a b c name xs ys w m = record {
       (λ _ now. now ≡ record { name = Some name; bytes = xs ++ ys })
       (λ x y z p q. q ∙ ap (with_more ys) p) a.held b.held c.held w.taken m.taken;
   made = follows_on (Grown (IsRun name Write)) (Grown (AreAll Write)) (Grown (IsRun name Write))
-      (grown_on (IsRun name Write) (AreAll Write) (IsRun name Write) (run_on name)) a.moves b.moves c.moves w.made m.made;
+      (grown_on (IsRun name Write) (AreAll Write) (IsRun name Write) (run_on name Write)) a.moves b.moves c.moves w.made m.made;
   later = omega (arith, w.later, m.later);
 }
 

@@ -7,9 +7,10 @@
 //!
 //! What an object keeps, and how, may change without anyone above noticing; so may the adapters over the runtime.
 //!
-//! In reading order: `moves` (the calls made on an object), `files`, `shelf`, `sink`, `gate`, `tap`; then the
-//! objects in memory, `script` (which calls are to fail), `kept`, `mem_shelf`, `sure_shelf`, `mem_sink`,
-//! `sure_sink`, `sure` (the law of those that never fail); last `adapters`, the trusted edge.
+//! In reading order: `moves` (the calls made on an object), `files`, `shelf`, `sink`, `writing` (all of a piece),
+//! `gate`, `tap`; then the objects in memory, `script` (which calls are to fail), `kept`, `lookup`, `mem_shelf`,
+//! `sure_shelf`, `taken`, `portion`, `mem_sink`, `sure_sink`, `sure` (the law of those that never fail); the meters,
+//! `digits`, `page` (a line in a buffer), `peak`, `mirror`; last `adapters`, the trusted edge.
 #![tactic(auto)]
 
 mod adapters;
@@ -50,3 +51,6 @@ pub use sure_shelf::SureShelf;
 pub use sure_sink::SureSink;
 pub use tap::Tap;
 pub use writing::write_all;
+
+#[cfg(test)]
+mod tests;

@@ -44,7 +44,7 @@ impl Taken {
         ensures { Follows (told_taken self.old) (told_taken self.new)
             (λ _ now. now ≡ record { name = Some name.now; bytes = [] }) }
     {
-        self.bytes.clear();
+        self.clear();
         match text_of(self.alloc, name) {
             Ok(name) => self.name = Some(name),
             Err(_) => self.told = false,

@@ -1,3 +1,9 @@
+pub mod Blocks
 pub mod Form
 pub mod Mix
+pub mod Piece
+pub mod Reading
 pub mod Scan
+pub mod Sound
+pub mod Status
+pub mod Words

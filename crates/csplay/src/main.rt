@@ -1,8 +1,62 @@
-//! The program: two texts in, a sound file out.
+//! The program: an orchestra and a score in, a sound file out. It stands on all the other crates.
+//!
+//! The one contract is that of `csplay`: a run that ends Ok has written exactly the WAV of the mix that the two texts
+//! mean, and every other status has its stated cause and leaves what it says. What is built is the form of six lines
+//! for an orchestra and of single notes for a score; `form` and `scan` go when the whole language is read, and
+//! nothing above `load` notices.
+//!
+//! In reading order: `words` (two names), `status`, `read` (a text of a shelf), `scan` and `form` (what a text says),
+//! `load` (both texts), `mix` (what the notes sum to), `blocks`, `play` (the file, cycle by cycle), `perform`, `top`
+//! (the whole run), and `main`, which makes the objects of the edge.
 #![tactic(auto)]
 
+mod blocks;
 mod form;
+mod load;
 mod mix;
+mod perform;
+mod play;
+mod read;
 mod scan;
+mod status;
+#[cfg(test)]
+mod tests;
+mod top;
+mod words;
 
-fn main(_rt: HostRuntime) {}
+use crate::status::Status;
+use crate::top::csplay;
+use cs_edge::{FileShelf, FileSink, OpenGate, TalkOut};
+use std::process::ExitCode;
+use std::rt::{Env, Files};
+use std::sync::Wait;
+use std::thread::Threads;
+use std::{env, io};
+
+fn main(rt: HostRuntime) -> ExitCode {
+    ExitCode::from(run(&rt).number())
+}
+
+/// Calls `csplay` with the words behind the program's name, over the system's files and standard output. A word that
+/// isn't UTF-8 is no name.
+fn run<R: Env + Files + Print + AllocGlobal + Threads + Wait + Sync>(rt: &R) -> Status {
+    let args = match env::args(rt) {
+        Ok(args) => args,
+        Err(error) if error.kind() == io::ErrorKind::OutOfMemory => return Status::OutOfMemory,
+        Err(_) => return Status::Usage,
+    };
+    let words: Result<Vec<String>, _> = args.skip(1).collect(rt.alloc());
+    let Ok(words) = words else {
+        return Status::OutOfMemory;
+    };
+    csplay(
+        rt,
+        rt.alloc(),
+        &words,
+        &mut FileShelf::new(rt),
+        &mut FileSink::new(rt),
+        &mut TalkOut::new(rt),
+        &mut Vec::new(rt.alloc()),
+        &OpenGate::new(),
+    )
+}
