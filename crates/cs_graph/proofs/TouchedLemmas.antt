@@ -3,7 +3,7 @@ use Rattle.std.proofs.lemmas.Bool.Decides.{nat_tests}
 use Rattle.std.proofs.lemmas.List.Folds.{Any-from_list_any, list_any-from_Any, list_any_more}
 use Rattle.std.specs.List.{list_any, Contains}
 use Rattle.cs_cells.specs.declared.footprint.Footprint.{Footprint}
-use Rattle.cs_graph.proofs.Tests.{or_cases, or_left, or_right, same_number}
+use Rattle.cs_graph.proofs.BoolLemmas.{or_cases, or_left, or_right, same_number}
 use Rattle.cs_graph.specs.Conflict.{Uses, Clash}
 use Rattle.cs_graph.specs.Touched.{lists}
 

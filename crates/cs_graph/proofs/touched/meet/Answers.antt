@@ -1,7 +1,7 @@
 use Rattle.std.proofs.Common.{◌≡◌, ◌≢◌, ◌∙◌, arith}
 use Rattle.cs_graph.specs.Conflict.{foot}
 use Rattle.cs_graph.specs.Touched.{uses_so_far, writes_so_far}
-use Rattle.cs_graph.proofs.Tests.{read_at}
+use Rattle.cs_graph.proofs.BoolLemmas.{read_at}
 use Rattle.cs_graph.proofs.TouchedLemmas.{others_same, clash-met, or_with, of_earlier}
 use Rattle.cs_graph.proofs.touched.meet.Goals as goal
 
