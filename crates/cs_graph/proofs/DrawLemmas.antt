@@ -4,7 +4,7 @@ use Rattle.std.proofs.lemmas.Bool.{cases_eq}
 use Rattle.std.proofs.lemmas.List.Elements.{All-weaker, All-push}
 use Rattle.std.specs.List.{All}
 use Rattle.cs_graph.proofs.EdgeLemmas.{edge_kept, edge_new, edge_cases}
-use Rattle.cs_graph.proofs.Tests.{both_ways}
+use Rattle.cs_graph.proofs.BoolLemmas.{both_ways}
 use Rattle.cs_graph.specs.Graph.{ComesBefore, Edge}
 use Rattle.cs_graph.specs.Index.{HasEdge}
 use Rattle.cs_graph.specs.Sets.{has}

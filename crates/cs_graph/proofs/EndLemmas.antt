@@ -3,7 +3,7 @@ use Rattle.std.proofs.Common.{◌≡◌, ◌==◌, ◌⊎◌, ◌↔◌, ℕ, ze
 use Rattle.std.proofs.lemmas.Bool.Decides.{nat_tests}
 use Rattle.std.proofs.lemmas.Option.{none-some, same_Some}
 use Rattle.std.specs.List.{Contains, filter, slice_get}
-use Rattle.cs_graph.proofs.Tests.{on_test, same_number}
+use Rattle.cs_graph.proofs.BoolLemmas.{on_test, same_number}
 use Rattle.cs_graph.specs.Index.{preds_of, succs_of, HasEdge}
 
 here_or_there : {X : Type 0} (y : X) (ys : List X) (x : X) → Contains (y ∷ ys) x → (y ≡ x) ⊎ Contains ys x

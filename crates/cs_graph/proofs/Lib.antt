@@ -1,3 +1,4 @@
+pub mod BoolLemmas
 pub mod ConflictLemmas
 pub mod DrawLemmas
 pub mod EdgeLemmas
@@ -5,5 +6,4 @@ pub mod EndLemmas
 pub mod GrownLemmas
 pub mod NearestLemmas
 pub mod SetLemmas
-pub mod Tests
 pub mod TouchedLemmas

@@ -1,7 +1,7 @@
 use Rattle.std.proofs.Common.{◌≡◌, ◌==◌, ◌||◌, ◌&&◌, not, ℕ, ◌+◌, ◌<◌, ◌≤◌, max, true, false, List, refl, sym, ◌∙◌, inl, inr, ⊎_elim, arith}
 use Rattle.std.proofs.lemmas.Bool.{cases_eq, cases_lt}
 use Rattle.std.proofs.lemmas.Bool.Decides.{nat_tests}
-use Rattle.cs_graph.proofs.Tests.{or_cases, and_cases, or_left, or_right, not_true, same_number, both_ways}
+use Rattle.cs_graph.proofs.BoolLemmas.{or_cases, and_cases, or_left, or_right, not_true, same_number, both_ways}
 use Rattle.cs_graph.specs.Sets.{has}
 use Rattle.cs_graph.specs.Nearest.{past_at, Has, LeadsIn, IsClosed, IsFound}
 use Rattle.cs_graph.specs.declared.nearest.Past.{Past}

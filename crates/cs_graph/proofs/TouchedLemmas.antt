@@ -1,9 +1,9 @@
-use Rattle.std.proofs.Common.{◌≡◌, ◌==◌, ◌≢◌, ◌||◌, ◌&&◌, ◌↔◌, ℕ, ◌+◌, ◌<◌, Bool, true, false, List, length, get_or, take, nat_lt, refl, sym, ap, ◌∙◌, subst, inl, inr, ⊎_elim, arith}
+use Rattle.std.proofs.Common.{◌≡◌, ◌==◌, ◌≢◌, ◌||◌, ◌&&◌, ◌↔◌, ℕ, ◌+◌, ◌<◌, Bool, true, false, cond, List, length, get_or, take, nat_lt, refl, sym, ap, ◌∙◌, subst, inl, inr, ⊎_elim, arith}
 use Rattle.std.proofs.lemmas.Bool.Decides.{nat_tests}
 use Rattle.std.proofs.lemmas.List.Folds.{Any-from_list_any, list_any-from_Any, list_any_more}
 use Rattle.std.specs.List.{list_any, Contains}
 use Rattle.cs_cells.specs.declared.footprint.Footprint.{Footprint}
-use Rattle.cs_graph.proofs.Tests.{or_cases, or_left, or_right, same_number}
+use Rattle.cs_graph.proofs.BoolLemmas.{or_cases, or_left, or_right, same_number}
 use Rattle.cs_graph.specs.Conflict.{Uses, Clash}
 use Rattle.cs_graph.specs.Touched.{lists}
 
@@ -64,3 +64,12 @@ others_same a b t p note apart e = grind (arith, nat_tests)
 pub met_more : (f : ℕ → Bool) (xs : List ℕ) (i : ℕ) (m0 m m' u : Bool) → i < length xs → m' ≡ (m || u) → u ≡ f (get_or xs i 0)
     → m ≡ (m0 || list_any f (take i xs)) → m' ≡ (m0 || list_any f (take (i + 1) xs))
 met_more f xs i m0 m m' u within e k before = rw (e, k, before, list_any_more f xs i 0 within) (or_assoc m0 (list_any f (take i xs)) (f (get_or xs i 0)))
+
+pub others_same_where : (a w b t : Bool) (p note : ℕ) → p ≢ note → t ≡ (a || (w && (b && p == note))) → t ≡ a
+others_same_where a true b t p note apart e = others_same a b t p note apart e
+others_same_where true false b t p note apart e = e
+others_same_where false false b t p note apart e = e
+
+pub meets_same : (w a b a' b' : Bool) → a ≡ a' → b ≡ b' → cond w a b ≡ cond w a' b'
+meets_same true a b a' b' same same' = same
+meets_same false a b a' b' same same' = same'

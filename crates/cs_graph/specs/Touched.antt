@@ -1,4 +1,4 @@
-use Rattle.std.specs.Prelude.{◌≡◌, ℕ, Bool, false, Option, Some, None, List, nat_eq, nat_lt, ◌==◌, ◌&&◌, ◌||◌}
+use Rattle.std.specs.Prelude.{◌≡◌, ℕ, Bool, false, cond, Option, Some, None, List, nat_eq, nat_lt, ◌==◌, ◌&&◌, ◌||◌}
 use Rattle.std.specs.declared.hash.FoldHasher.{FoldHasher}
 use Rattle.std.specs.declared.hash.BuildHasherDefault.{BuildHasherDefault}
 use Rattle.std.specs.HashMap.{get, HashMap}
@@ -25,6 +25,10 @@ uses_so_far rows r p = users_in (get nat_eq rows r) p
 
 abbrev pub writes_so_far : Rows → ℕ → ℕ → Bool
 writes_so_far rows r p = writers_in (get nat_eq rows r) p
+
+-- whom a note meets at a place: its writers, or where it writes the place itself all its users
+abbrev pub meets_so_far : Bool → Rows → ℕ → ℕ → Bool
+meets_so_far writes rows r p = cond writes (uses_so_far rows r p) (writes_so_far rows r p)
 
 abbrev pub lists : List ℕ → ℕ → Bool
 lists places r = list_any (λ y. r == y) places

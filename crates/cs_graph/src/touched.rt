@@ -3,7 +3,7 @@ ghost use Rattle.std.specs.Prelude.{◌≡◌, ◌==◌, ◌≢◌, ◌&&◌, �
 ghost use Rattle.std.specs.List.{list_any};
 ghost use Rattle.cs_graph.specs.Conflict.{Clash, foot};
 ghost use Rattle.cs_graph.specs.Sets.{has};
-ghost use Rattle.cs_graph.specs.Touched.{uses_so_far, writes_so_far, IsTouchedBy};
+ghost use Rattle.cs_graph.specs.Touched.{uses_so_far, writes_so_far, meets_so_far, IsTouchedBy};
 
 use crate::note_set::NoteSet;
 use cs_base::OutOfMemory;
@@ -49,57 +49,37 @@ impl Row {
     }
 }
 
-// The note uses the place: it meets the place's writers so far.
-fn use_place(rows: &mut Rows, place: u32, note: u32, met: &mut NoteSet) -> Result<(), OutOfMemory>
-    requires { note < 512 }
-    ensures users { OnOk result ((r p : ℕ) → uses_so_far rows.new r p
-        ≡ (uses_so_far rows.old r p || (r == place && p == note))) }
-    ensures writers { OnOk result ((r p : ℕ) → writes_so_far rows.new r p ≡ writes_so_far rows.old r p) }
-    ensures met { OnOk result ((p : ℕ) → has met.new p ≡ (has met.old p || writes_so_far rows.old place p)) }
-{
-    let row = rows.entry(place)?.or_insert(Row::new());
-    met.join(&row.writers);
-    row.add_user(note);
-    Ok(())
-}
-
-// The note writes the place: it meets the place's users so far.
-fn write_place(rows: &mut Rows, place: u32, note: u32, met: &mut NoteSet) -> Result<(), OutOfMemory>
-    requires { note < 512 }
-    ensures users { OnOk result ((r p : ℕ) → uses_so_far rows.new r p
-        ≡ (uses_so_far rows.old r p || (r == place && p == note))) }
-    ensures writers { OnOk result ((r p : ℕ) → writes_so_far rows.new r p
-        ≡ (writes_so_far rows.old r p || (r == place && p == note))) }
-    ensures met { OnOk result ((p : ℕ) → has met.new p ≡ (has met.old p || uses_so_far rows.old place p)) }
-{
-    let row = rows.entry(place)?.or_insert(Row::new());
-    met.join(&row.users);
-    row.add_writer(note);
-    Ok(())
-}
-
-fn use_places(
+// The note uses the place, and so meets the place's writers so far; or it writes the place, and meets its users.
+fn touch_place(
     rows: &mut Rows,
-    places: &[u32],
+    place: u32,
+    writes: bool,
     note: u32,
     met: &mut NoteSet,
 ) -> Result<(), OutOfMemory>
     requires { note < 512 }
     ensures users { OnOk result ((r p : ℕ) → uses_so_far rows.new r p
-        ≡ (uses_so_far rows.old r p || (list_any (λ y. r == y) places.now && p == note))) }
-    ensures writers { OnOk result ((r p : ℕ) → writes_so_far rows.new r p ≡ writes_so_far rows.old r p) }
+        ≡ (uses_so_far rows.old r p || (r == place && p == note))) }
+    ensures writers { OnOk result ((r p : ℕ) → writes_so_far rows.new r p
+        ≡ (writes_so_far rows.old r p || (writes && (r == place && p == note)))) }
     ensures met { OnOk result ((p : ℕ) → has met.new p
-        ≡ (has met.old p || list_any (λ y. writes_so_far rows.old y p) places.now)) }
+        ≡ (has met.old p || meets_so_far writes rows.old place p)) }
 {
-    for place in places {
-        use_place(rows, *place, note, met)?;
+    let row = rows.entry(place)?.or_insert(Row::new());
+    if writes {
+        met.join(&row.users);
+        row.add_writer(note);
+    } else {
+        met.join(&row.writers);
+        row.add_user(note);
     }
     Ok(())
 }
 
-fn write_places(
+fn touch_places(
     rows: &mut Rows,
     places: &[u32],
+    writes: bool,
     note: u32,
     met: &mut NoteSet,
 ) -> Result<(), OutOfMemory>
@@ -107,12 +87,12 @@ fn write_places(
     ensures users { OnOk result ((r p : ℕ) → uses_so_far rows.new r p
         ≡ (uses_so_far rows.old r p || (list_any (λ y. r == y) places.now && p == note))) }
     ensures writers { OnOk result ((r p : ℕ) → writes_so_far rows.new r p
-        ≡ (writes_so_far rows.old r p || (list_any (λ y. r == y) places.now && p == note))) }
+        ≡ (writes_so_far rows.old r p || (writes && (list_any (λ y. r == y) places.now && p == note)))) }
     ensures met { OnOk result ((p : ℕ) → p ≢ note → has met.new p
-        ≡ (has met.old p || list_any (λ y. uses_so_far rows.old y p) places.now)) }
+        ≡ (has met.old p || list_any (λ y. meets_so_far writes rows.old y p) places.now)) }
 {
     for place in places {
-        write_place(rows, *place, note, met)?;
+        touch_place(rows, *place, writes, note, met)?;
     }
     Ok(())
 }
@@ -128,7 +108,7 @@ pub fn meet(rows: &mut Rows, feet: &[Footprint], note: u32) -> Result<NoteSet, O
 {
     let foot = &feet[note as usize];
     let mut met = NoteSet::new();
-    use_places(rows, foot.uses.as_slice(), note, &mut met)?;
-    write_places(rows, foot.writes.as_slice(), note, &mut met)?;
+    touch_places(rows, foot.uses.as_slice(), false, note, &mut met)?;
+    touch_places(rows, foot.writes.as_slice(), true, note, &mut met)?;
     Ok(met)
 }

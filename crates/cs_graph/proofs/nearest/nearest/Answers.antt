@@ -1,7 +1,7 @@
 use Rattle.std.proofs.Common.{◌≡◌, ℕ, ◌+◌, ◌-◌, ◌<◌, max, length, sym, ◌∙◌, subst, arith}
 use Rattle.cs_graph.specs.Sets.{has}
 use Rattle.cs_graph.specs.Nearest.{IsFound, Has, past_at}
-use Rattle.cs_graph.proofs.Tests.{on_test, read_at}
+use Rattle.cs_graph.proofs.BoolLemmas.{on_test, read_at}
 use Rattle.cs_graph.proofs.NearestLemmas.{found_reached, found_nearest}
 use Rattle.cs_graph.proofs.nearest.nearest.Goals as goal
 
