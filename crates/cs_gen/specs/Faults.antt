@@ -1,8 +1,10 @@
 -- Which tables are refused, and for what.
-use Rattle.std.specs.Prelude.{ℕ, ◌+◌, ◌-◌, ◌*◌, ◌/◌, Bool, ◌&&◌, ◌||◌, ◌==◌, List, [], ◌∷◌, length, ℤ, pos, unsigned_abs, int_lt, Option, Some, None, slice_index_or, if◌then◌else◌}
+use Rattle.std.specs.Prelude.{◌≡◌, ℕ, ◌+◌, ◌-◌, ◌*◌, ◌/◌, Bool, ◌&&◌, ◌||◌, ◌==◌, List, [], ◌∷◌, length, ℤ, pos, unsigned_abs, int_lt, Option, Some, None, slice_index_or, if◌then◌else◌}
 use Rattle.std.specs.Int.{int_div_euclid}
 use Rattle.std.specs.List.{list_any, range_with_len}
 use Rattle.std.specs.Ordering.{int_eq}
+use Rattle.cs_base.specs.declared.fault.Or.{Or}
+use Rattle.cs_base.specs.declared.fault.Or.TheVariants.{Fault, OutOfMemory}
 use Rattle.cs_gen.specs.declared.check.GenFault.{GenFault}
 use Rattle.cs_gen.specs.declared.check.GenFault.TheVariants.{Size, Unknown, NegativeLength}
 
@@ -43,3 +45,8 @@ table_fault size gen args =
     then if (unsigned_abs gen == 7) && has_negative_length args then Some NegativeLength else None
     else Some Unknown
     else Some Size
+
+-- why no table was made: its fault, or want of memory where it has none
+abbrev pub IsCauseOf : Option GenFault → Or GenFault → Type 0
+IsCauseOf fault (Fault found) = fault ≡ Some found
+IsCauseOf fault OutOfMemory = fault ≡ None

@@ -23,7 +23,6 @@ const LENGTHS: [i64; 16] = [
 ];
 
 /// The first reason why a table of this size, GEN and arguments can't be made, if there is one.
-#[tactic(auto, unfolding(crate::specs::Faults::table_fault))]
 pub fn check_table(size: i64, gen_: i64, args: &[Num]) -> Result<(), GenFault>
     ensures accepted { OnOk result (table_fault size gen_ args.now ≡ None) }
     ensures refused { IfErr result (λ fault. table_fault size gen_ args.now ≡ Some fault) }

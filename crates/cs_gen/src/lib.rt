@@ -1,4 +1,11 @@
-//! Tables by formula.
+//! Tables by formula: every point that a table of the profile keeps, from its size, its GEN and the arguments.
+//!
+//! The one contract: `make_table` answers the points of `points_of`, or the fault that `check_table` finds, or want of
+//! memory. Each point is a formula of its one place (specs/Points.antt). How a table is filled, by a walk along the
+//! segments, a turning phase or a second pass, may be changed without anyone above noticing.
+//!
+//! Modules in reading order: `check` (what is refused), `sine` (the one wave), `harmonics` (GEN10), `segments` (GEN07),
+//! `normal` (positive GENs), `table` (GEN02 and the whole).
 #![tactic(auto)]
 
 mod check;

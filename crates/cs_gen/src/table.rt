@@ -1,6 +1,6 @@
 // A table by its size, its GEN and the arguments.
-ghost use Rattle.std.specs.Prelude.{ℕ, ◌≡◌, ◌≤◌, ◌↔◌, IfOk, OnOk, Some, None, Err, pos, length, slice_index_or, unsigned_abs};
-ghost use Rattle.cs_gen.specs.Faults.{table_fault, argument};
+ghost use Rattle.std.specs.Prelude.{ℕ, ◌≡◌, ◌≤◌, IfOk, IfErr, OnOk, None, pos, length, slice_index_or, unsigned_abs};
+ghost use Rattle.cs_gen.specs.Faults.{IsCauseOf, argument, table_fault};
 ghost use Rattle.cs_gen.specs.Points.{at_places, guard_place, harmonics, len_of, plain_point, point, points_of};
 ghost use Rattle.cs_base.specs.Numbers.{clamp};
 
@@ -24,8 +24,7 @@ pub fn make_table(alloc: Global, size: i64, gen_: i64, args: &[Num]) -> Result<P
     ensures accepted { OnOk result (table_fault size gen_ args.now ≡ None) }
 
     // A fault is found before memory is asked for.
-    ensures refused { (fault : GenFault) →
-        (result ≡ Err (Or.Fault fault)) ↔ (table_fault size gen_ args.now ≡ Some fault) }
+    ensures refused { IfErr result (IsCauseOf (table_fault size gen_ args.now)) }
 {
     if let Err(fault) = check_table(size, gen_, args) {
         return Err(Or::Fault(fault));
