@@ -1,12 +1,10 @@
 -- Areas of the control variables 0, 1, 2 and so on, one after another.
-use Rattle.std.proofs.Common.{◌≡◌, ℕ, ◌+◌, ◌<◌, List, [], ◌∷◌, ◌++◌, length, slice_get, Some, refl, sym, ◌∙◌, ap, ⊎_elim, arith}
-use Rattle.std.proofs.lemmas.List.{length_push}
+use Rattle.std.proofs.Common.{◌≡◌, ℕ, ◌+◌, List, [], ◌∷◌, ◌++◌, length, slice_get, Some, refl, sym, ◌∙◌, ap, ⊎_elim, arith}
 use Rattle.std.proofs.lemmas.List.Sums.{sum_by_push}
 use Rattle.std.proofs.lemmas.Option.{slice_get_within}
-use Rattle.cs_base.specs.declared.resource.Res.{Res}
 use Rattle.cs_base.specs.declared.resource.Res.TheVariants.{Gk}
 use Rattle.cs_cells.specs.declared.footprint.Area.{Area}
-use Rattle.cs_cells.specs.Areas.{HasPlace, IsLaid, word_count}
+use Rattle.cs_cells.specs.Areas.{IsLaid, word_count}
 use Rattle.cs_cells.proofs.Laid.{laid_none, laid_more, at_push}
 
 pub record Numbered (areas : List Area) (first : ℕ) : Type 0 where

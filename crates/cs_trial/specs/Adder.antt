@@ -4,7 +4,7 @@ use Rattle.cs_cells.specs.declared.footprint.Area.{Area}
 use Rattle.cs_cells.specs.declared.footprint.Footprint.{Footprint}
 use Rattle.cs_cells.specs.Cells.{Cells, cell, covers, Agree}
 use Rattle.cs_cells.specs.Meaning.{Meaning, Frames, Uses, Writes}
-use Rattle.std.proofs.Common.{refl, sym, ◌∙◌, ap, ◌⊎◌, ⊎_elim, subst, get_or, set, arith, ◌<◌, ◌≤◌}
+use Rattle.std.proofs.Common.{refl, sym, ◌∙◌, ap, ⊎_elim, subst, arith, ◌<◌, ◌≤◌}
 use Rattle.std.proofs.lemmas.List.{length-set, get_or-set_same, get_or-set_other, set_past}
 use Rattle.std.proofs.lemmas.Bool.{cases_eq, cases_lt}
 

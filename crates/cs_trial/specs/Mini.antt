@@ -1,9 +1,9 @@
-use Rattle.std.specs.Prelude.{◌≡◌, ℕ, suc, ℤ, pos, ◌<◌, List, [], ◌∷◌, true, All, slice_set, slice_index_or, length}
+use Rattle.std.specs.Prelude.{◌≡◌, ℕ, ℤ, pos, ◌<◌, List, [], ◌∷◌, true, All, slice_set, slice_index_or, length}
 use Rattle.std.specs.Int.{int_wrapping_add, w64}
 use Rattle.cs_cells.specs.declared.footprint.Area.{Area}
 use Rattle.cs_cells.specs.declared.footprint.Footprint.{Footprint}
-use Rattle.cs_cells.specs.Cells.{Cells, cell, covers, Agree}
-use Rattle.cs_cells.specs.Meaning.{Meaning, Frames, Uses, Writes}
+use Rattle.cs_cells.specs.Cells.{Cells, cell, covers}
+use Rattle.cs_cells.specs.Meaning.{Meaning}
 use Rattle.cs_trial.specs.declared.mini.Op.{Op}
 use Rattle.cs_trial.specs.declared.mini.Op.TheVariants.{Read, Add, Write}
 

@@ -1,10 +1,10 @@
-use Rattle.std.proofs.Common.{◌≡◌, ℕ, suc, ℤ, pos, ◌<◌, List, [], ◌∷◌, true, length, get_or, ◌≤◌, slice_set, refl, sym, ◌∙◌, ap, subst, arith, ⊎_elim}
+use Rattle.std.proofs.Common.{◌≡◌, ℕ, suc, ℤ, pos, ◌<◌, List, [], ◌∷◌, length, get_or, ◌≤◌, slice_set, refl, sym, ◌∙◌, ap, subst, arith, ⊎_elim}
 use Rattle.std.specs.List.{All}
 use Rattle.std.specs.Int.{int_wrapping_add, w64}
 use Rattle.std.proofs.lemmas.List.{length-set, get_or-set_same, get_or-set_other, set_past}
 use Rattle.std.proofs.lemmas.Bool.{cases_eq, cases_lt}
-use Rattle.cs_cells.specs.Cells.{Cells, cell, covers, Agree}
-use Rattle.cs_cells.specs.Meaning.{Meaning, Frames, Uses, Writes}
+use Rattle.cs_cells.specs.Cells.{Cells, cell, Agree}
+use Rattle.cs_cells.specs.Meaning.{Frames, Uses, Writes}
 use Rattle.cs_trial.specs.declared.mini.Op.{Op}
 use Rattle.cs_trial.specs.declared.mini.Op.TheVariants.{Read, Add, Write}
 use Rattle.cs_trial.specs.Mini.{Small, step, steps, reg, Fits, IsSmall, small}
