@@ -1,0 +1,4 @@
+pub mod Bytes
+pub mod Front
+pub mod Lexed
+pub mod Rows

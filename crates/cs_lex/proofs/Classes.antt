@@ -1,0 +1,62 @@
+-- What the class of a byte means.
+use Rattle.std.proofs.Common.{◌≡◌, ◌≢◌, ◌+◌, ◌<◌, ◌≤◌, ℕ, Bool, true, false, cond, ◌&&◌, ◌||◌, ◌==◌, not, List, [], ◌∷◌, arith, ap, sym, ◌∙◌, codes, refl, subst, if◌then◌else◌}
+use Rattle.std.specs.List.{list_all, list_any}
+use Rattle.std.specs.Char.{is_ascii_digit}
+use Rattle.std.proofs.lemmas.Bool.{and_parts, and_from, false≢true}
+use Rattle.std.proofs.lemmas.Bool.Decides.{nat_tests, eqb_tells}
+use Rattle.cs_lex.specs.declared.class.Class.{Class}
+use Rattle.cs_lex.specs.declared.class.Class.TheVariants as class
+use Rattle.cs_lex.specs.Bytes.{is_blank, is_feed, is_quote, is_letter, is_word_byte, is_allowed, is_short_sign}
+use Rattle.cs_lex.specs.Rows.{is_stray}
+use Rattle.cs_lex.specs.Front.{class_of}
+use Rattle.cs_lex.proofs.Text.{by_test}
+
+-- what a byte of each class is
+abbrev pub Means : Class → ℕ → Type 0
+Means class.Letter b = is_letter b ≡ true
+Means class.Digit b = is_ascii_digit b ≡ true
+Means class.Blank b = is_blank b ≡ true
+Means class.LineFeed b = b ≡ 10
+Means class.Quote b = b ≡ 34
+Means class.Point b = b ≡ 46
+Means class.Slash b = b ≡ 47
+Means class.Semicolon b = b ≡ 59
+Means class.Backslash b = b ≡ 92
+Means class.Sign b = (is_short_sign b ≡ true) × (b ≢ 47) × (b ≢ 59)
+Means class.Stray b = is_stray b ≡ true
+Means class.Bad b = is_allowed b ≡ false
+
+pick : (b : Bool) (c d : Class) (n : ℕ) → (b ≡ true → Means c n) → (b ≡ false → Means d n) → Means (if b then c else d) n
+pick true c d n f g = f refl
+pick false c d n f g = g refl
+
+is : (a b : ℕ) → (a == b) ≡ true → a ≡ b
+is a b h = grind (arith, nat_tests)
+
+is_not : (a b : ℕ) → (a == b) ≡ false → a ≢ b
+is_not a b h = grind (arith, nat_tests)
+
+or_false : (a b : Bool) → a ≡ false → b ≡ false → (a || b) ≡ false
+or_false false b h k = k
+or_false true b h k = cc
+
+and_not : (a b : Bool) → a ≡ true → b ≡ false → (a && not b) ≡ true
+and_not true false h k = refl
+and_not true true h k = cc
+and_not false b h k = cc
+
+pub class_means : (b : ℕ) → Means (class_of b) b
+class_means b =
+    pick (is_letter b) _ _ b (λ h. h) (λ n1.
+    pick (is_ascii_digit b) _ _ b (λ h. h) (λ n2.
+    pick (is_blank b) _ _ b (λ h. h) (λ n3.
+    pick (is_feed b) _ _ b (λ h. is b 10 h) (λ n4.
+    pick (is_quote b) _ _ b (λ h. is b 34 h) (λ n5.
+    pick (b == 46) _ _ b (λ h. is b 46 h) (λ n6.
+    pick (b == 47) _ _ b (λ h. is b 47 h) (λ n7.
+    pick (b == 59) _ _ b (λ h. is b 59 h) (λ n8.
+    pick (b == 92) _ _ b (λ h. is b 92 h) (λ n9.
+    pick (is_short_sign b) _ _ b (λ h. (h, is_not b 47 n7, is_not b 59 n8)) (λ n10.
+    pick (is_allowed b) class.Stray class.Bad b
+    (λ h. and_not (is_allowed b) _ h (or_false _ _ (or_false _ _ (or_false _ _ (or_false _ _ (or_false _ _ (or_false _ _ (or_false _ _ (or_false _ _ n1 n2) n3) n4) n5) n6) n8) n9) n10))
+    (λ h. h)))))))))))

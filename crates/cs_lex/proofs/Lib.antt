@@ -1,0 +1,7 @@
+pub mod Classes
+pub mod Complete
+pub mod Cuts
+pub mod Numerals
+pub mod Reading
+pub mod Sound
+pub mod Text

@@ -1,0 +1,124 @@
+-- How the reader finds the piece at the front of a text, row by row. What a text reads as is said without this, in Rows and Lexed.
+use Rattle.std.specs.Prelude.{ℕ, Bool, List, [], ◌∷◌, ◌+◌, ◌&&◌, ◌||◌, ◌==◌, not, length, take, drop, slice_index, nat_lt, nat_le, codes, unwrap_or, Option, Some, None, Result, Ok, Err, if◌then◌else◌}
+use Rattle.std.specs.List.{list_all, list_any, prefix_len}
+use Rattle.std.specs.Char.{is_ascii_digit}
+use Rattle.cs_base.specs.Decimals.{decimal_of, raw_of_decimal}
+use Rattle.cs_base.specs.Numbers.{clamp}
+use Rattle.cs_base.specs.declared.fault.OrcKind.{OrcKind}
+use Rattle.cs_base.specs.declared.fault.OrcKind.TheVariants as orc
+use Rattle.cs_base.specs.declared.decimal.Decimal.{Decimal}
+use Rattle.cs_lex.specs.declared.token.Mark.{Mark}
+use Rattle.cs_lex.specs.declared.token.Mark.TheVariants as mark
+use Rattle.cs_lex.specs.declared.token.Token.{Token}
+use Rattle.cs_lex.specs.Lexed.{is_newline_mark}
+use Rattle.cs_lex.specs.declared.front.Front.{Front}
+use Rattle.cs_lex.specs.declared.class.Class.{Class}
+use Rattle.cs_lex.specs.declared.class.Class.TheVariants as class
+use Rattle.cs_lex.specs.Bytes.{is_blank, is_feed, is_quote, is_letter, is_word_byte, is_allowed, is_line_byte, is_quotable, begins, begins_with, is_short_sign, is_long_sign}
+
+-- what a first byte may begin
+abbrev pub class_of : ℕ → Class
+class_of b =
+    if is_letter b then class.Letter else (if is_ascii_digit b then class.Digit else (
+    if is_blank b then class.Blank else (if is_feed b then class.LineFeed else (
+    if is_quote b then class.Quote else (if b == 46 then class.Point else (
+    if b == 47 then class.Slash else (if b == 59 then class.Semicolon else (
+    if b == 92 then class.Backslash else (if is_short_sign b then class.Sign else (
+    if is_allowed b then class.Stray else class.Bad))))))))))
+
+-- how many bytes at the front are of a kind
+abbrev pub run : (ℕ → Bool) → List ℕ → ℕ
+run p text = prefix_len p text
+
+abbrev pub gap : ℕ → Result Front OrcKind
+gap n = Ok (record { mark = None; len = n })
+
+abbrev pub token : Mark → ℕ → Result Front OrcKind
+token m n = Ok (record { mark = Some m; len = n })
+
+abbrev pub line_comment_front : List ℕ → Result Front OrcKind
+line_comment_front text = gap (run is_line_byte text)
+
+-- the place of the first `*/`, or the length where there is none
+abbrev pub close_of : List ℕ → ℕ
+close_of [] = 0
+close_of (b ∷ rest) = if begins_with (codes "*/") (b ∷ rest) then 0 else 1 + close_of rest
+
+abbrev pub block_comment_front : List ℕ → Result Front OrcKind
+block_comment_front body =
+    if nat_lt (close_of body) (length body) then gap (close_of body + 4) else Err orc.OpenComment
+
+abbrev pub sign_front : List ℕ → Result Front OrcKind
+sign_front text =
+    if nat_lt 1 (length text) && is_long_sign (slice_index text 0) (slice_index text 1) then token mark.Sign 2 else token mark.Sign 1
+
+abbrev pub slash_front : List ℕ → Result Front OrcKind
+slash_front text =
+    if begins_with (codes "//") text then line_comment_front text
+    else (if begins_with (codes "/*") text then block_comment_front (drop 2 text) else sign_front text)
+
+abbrev pub joined_front : List ℕ → Result Front OrcKind
+joined_front rest =
+    if begins is_feed (drop (run is_blank rest) rest) then gap (run is_blank rest + 2) else Err orc.BadToken
+
+abbrev pub word_front : List ℕ → Result Front OrcKind
+word_front text = token mark.Word (run is_word_byte text)
+
+-- where a text's line or its quotation ends
+abbrev pub quoted_len : List ℕ → ℕ
+quoted_len rest = run is_quotable rest
+
+abbrev pub text_front : List ℕ → Result Front OrcKind
+text_front rest =
+    if not (list_all is_allowed (take (quoted_len rest) rest)) then Err orc.BadByte
+    else (if begins is_quote (drop (quoted_len rest) rest) then token mark.Text (quoted_len rest + 2) else Err orc.BadToken)
+
+-- the digits of a decimal, a point and the digits after it
+abbrev pub numeral_len : List ℕ → ℕ
+numeral_len text =
+    let whole = run is_ascii_digit text in
+    if begins (λ b. b == 46) (drop whole text) then whole + 1 + run is_ascii_digit (drop (whole + 1) text) else whole
+
+abbrev pub number_of : Option Decimal → ℕ → Result Front OrcKind
+number_of None n = Err orc.BadNumber
+number_of (Some d) n = token (mark.Number (clamp (raw_of_decimal d))) n
+
+abbrev pub number_front : List ℕ → Result Front OrcKind
+number_front text =
+    if begins is_letter (drop (numeral_len text) text) then Err orc.BadNumber
+    else number_of (decimal_of (take (numeral_len text) text)) (numeral_len text)
+
+abbrev pub digit_front : List ℕ → Result Front OrcKind
+digit_front text =
+    if begins_with (codes "0dbfs") text && not (begins is_word_byte (drop 5 text)) then token mark.Word 5 else number_front text
+
+abbrev pub point_front : List ℕ → Result Front OrcKind
+point_front text =
+    if begins is_ascii_digit (drop 1 text) then number_front text else Err orc.BadToken
+
+abbrev pub by_class : Class → List ℕ → Result Front OrcKind
+by_class class.Letter text = word_front text
+by_class class.Digit text = digit_front text
+by_class class.Blank text = gap 1
+by_class class.LineFeed text = token mark.NewLine 1
+by_class class.Quote text = text_front (drop 1 text)
+by_class class.Point text = point_front text
+by_class class.Slash text = slash_front text
+by_class class.Semicolon text = line_comment_front text
+by_class class.Backslash text = joined_front (drop 1 text)
+by_class class.Sign text = sign_front text
+by_class class.Stray text = Err orc.BadToken
+by_class class.Bad text = Err orc.BadByte
+
+-- the piece at the front of a text, or the fault that it begins with
+abbrev pub front_of : List ℕ → Result Front OrcKind
+front_of text = by_class (class_of (slice_index text 0)) text
+
+-- the tokens that a piece gives, and whether a line feed, or nothing, stands before what follows it
+abbrev pub told : Option Mark → ℕ → ℕ → ℕ → List Token
+told None at to line = []
+told (Some m) at to line = record { mark = m; from = at; to = to; line = line } ∷ []
+
+abbrev pub fed_by : Bool → Option Mark → Bool
+fed_by fed None = fed
+fed_by fed (Some m) = is_newline_mark m

@@ -1,0 +1,105 @@
+// What a byte may be, and what it may begin.
+ghost use Rattle.std.specs.Prelude.{◌≡◌, ◌==◌, codes};
+ghost use Rattle.std.specs.List.{list_any};
+ghost use Rattle.cs_lex.specs.Bytes.{is_blank, is_feed, is_quote, is_letter, is_word_byte, is_allowed, is_short_sign, is_long_sign};
+ghost use Rattle.cs_lex.specs.Front.{class_of};
+
+/// What the first byte of a piece says of it.
+#[derive(Clone, Copy, Debug, PartialEq, Eq)]
+pub enum Class {
+    Letter,
+    Digit,
+    Blank,
+    LineFeed,
+    Quote,
+    Point,
+    Slash,
+    Semicolon,
+    Backslash,
+    Sign,
+    Stray,
+    Bad,
+}
+
+impl Class {
+    pub fn of(byte: u8) -> Class
+        ensures { result ≡ class_of byte }
+    {
+        if is_letter(byte) {
+            Class::Letter
+        } else if byte.is_ascii_digit() {
+            Class::Digit
+        } else if is_blank(byte) {
+            Class::Blank
+        } else if byte == b'\n' {
+            Class::LineFeed
+        } else if byte == b'"' {
+            Class::Quote
+        } else if byte == b'.' {
+            Class::Point
+        } else if byte == b'/' {
+            Class::Slash
+        } else if byte == b';' {
+            Class::Semicolon
+        } else if byte == b'\\' {
+            Class::Backslash
+        } else if is_short_sign(byte) {
+            Class::Sign
+        } else if is_allowed(byte) {
+            Class::Stray
+        } else {
+            Class::Bad
+        }
+    }
+}
+
+pub fn is_blank(byte: u8) -> bool
+    ensures { result ≡ is_blank byte }
+{
+    byte == b' ' || byte == b'\t' || byte == b'\r'
+}
+
+pub fn is_letter(byte: u8) -> bool
+    ensures { result ≡ is_letter byte }
+{
+    byte.is_ascii_alphabetic() || byte == b'_'
+}
+
+pub fn is_word_byte(byte: u8) -> bool
+    ensures { result ≡ is_word_byte byte }
+{
+    is_letter(byte) || byte.is_ascii_digit()
+}
+
+/// Whether the byte may stand outside comments.
+pub fn is_allowed(byte: u8) -> bool
+    ensures { result ≡ is_allowed byte }
+{
+    (32 <= byte && byte <= 126) || byte == b'\t' || byte == b'\n' || byte == b'\r'
+}
+
+/// Whether the byte is a sign of the language, or one outside the profile.
+pub fn is_short_sign(byte: u8) -> bool
+    ensures { result ≡ is_short_sign byte }
+{
+    b"(),=+-*/%<>?:[]{}#$^!~&|".iter().any(|sign| byte == *sign)
+}
+
+/// Whether the two bytes are one sign.
+pub fn is_long_sign(first: u8, second: u8) -> bool
+    ensures { result ≡ is_long_sign first second }
+{
+    (second == b'=' && takes_equals(first)) || (first == second && is_doubled(first))
+}
+
+fn takes_equals(first: u8) -> bool
+    ensures { result ≡ list_any (λ sign. first == sign) (codes "+<>=!") }
+{
+    b"+<>=!".iter().any(|sign| first == *sign)
+}
+
+fn is_doubled(first: u8) -> bool
+    ensures { result ≡ list_any (λ sign. first == sign) (codes "&|") }
+{
+    b"&|".iter().any(|sign| first == *sign)
+}

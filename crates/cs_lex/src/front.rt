@@ -1,0 +1,252 @@
+// The piece at the front of a text: its row by its first byte, and how far it runs.
+ghost use Rattle.std.specs.Prelude.{◌≡◌, ◌<◌, ◌≤◌, ◌||◌, ◌==◌, length, not, drop, IfOk, List, ℕ};
+ghost use Rattle.std.specs.List.{list_all};
+ghost use Rattle.std.specs.Char.{is_ascii_digit};
+ghost use Rattle.cs_lex.specs.Bytes.{is_blank, is_line_byte, is_quote, is_letter, is_word_byte, is_allowed, begins, begins_with};
+ghost use Rattle.cs_lex.specs.Front.{front_of, run, close_of, line_comment_front, block_comment_front, sign_front, slash_front, joined_front, word_front, quoted_len, text_front, numeral_len, number_front, digit_front, point_front};
+
+use crate::Mark;
+use crate::class::{Class, is_allowed, is_blank, is_letter, is_long_sign, is_word_byte};
+use cs_base::{OrcKind, read_decimal};
+
+/// A piece of a text: a token by its mark, or what stands between tokens; and how many bytes it has.
+#[derive(Clone, Copy, Debug, PartialEq, Eq)]
+pub struct Front {
+    pub mark: Option<Mark>,
+    pub len: usize,
+}
+
+impl Front {
+    fn gap(len: usize) -> Front
+        ensures { result ≡ record { mark = None; len = len } }
+    {
+        Front { mark: None, len }
+    }
+
+    fn token(mark: Mark, len: usize) -> Front
+        ensures { result ≡ record { mark = Some mark; len = len } }
+    {
+        Front {
+            mark: Some(mark),
+            len,
+        }
+    }
+
+    /// The piece at the front of a text, or the fault that the text begins with.
+    pub fn of(text: &[u8]) -> Result<Front, OrcKind>
+        requires { 0 < length text.now }
+        ensures value { result ≡ front_of text.now }
+        ensures within { IfOk result (λ f. (0 < f.len) × (f.len ≤ length text.now)) }
+    {
+        by_first_byte(text)
+    }
+}
+
+fn by_first_byte(text: &[u8]) -> Result<Front, OrcKind>
+    requires { 0 < length text.now }
+    ensures { result ≡ front_of text.now }
+{
+    match Class::of(text[0]) {
+        Class::Letter => Ok(word(text)),
+        Class::Digit => after_digit(text),
+        Class::Blank => Ok(Front::gap(1)),
+        Class::LineFeed => Ok(Front::token(Mark::NewLine, 1)),
+        Class::Quote => quoted(&text[1..]),
+        Class::Point => after_point(text),
+        Class::Slash => after_slash(text),
+        Class::Semicolon => Ok(line_comment(text)),
+        Class::Backslash => joined(&text[1..]),
+        Class::Sign => Ok(sign(text)),
+        Class::Stray => Err(OrcKind::BadToken),
+        Class::Bad => Err(OrcKind::BadByte),
+    }
+}
+
+fn word(text: &[u8]) -> Front
+    ensures { word_front text.now ≡ Ok result }
+{
+    Front::token(Mark::Word, word_len(text))
+}
+
+fn after_digit(text: &[u8]) -> Result<Front, OrcKind>
+    ensures { result ≡ digit_front text.now }
+{
+    if begins_with(text, b"0dbfs") && !begins_with_word_byte(text, 5) {
+        return Ok(Front::token(Mark::Word, 5));
+    }
+    number(text)
+}
+
+fn after_point(text: &[u8]) -> Result<Front, OrcKind>
+    requires { 0 < length text.now }
+    ensures { result ≡ point_front text.now }
+{
+    if digits_len(&text[1..]) == 0 {
+        return Err(OrcKind::BadToken);
+    }
+    number(text)
+}
+
+fn number(text: &[u8]) -> Result<Front, OrcKind>
+    ensures { result ≡ number_front text.now }
+{
+    let len = numeral_len(text);
+    if begins_with_letter(text, len) {
+        return Err(OrcKind::BadNumber);
+    }
+    match read_decimal(&text[..len]) {
+        Some(decimal) => Ok(Front::token(Mark::Number(decimal.num()), len)),
+        None => Err(OrcKind::BadNumber),
+    }
+}
+
+// The bytes of the decimal at the front: digits, a point, digits.
+fn numeral_len(text: &[u8]) -> usize
+    ensures value { result ≡ numeral_len text.now }
+    ensures within { result ≤ length text.now }
+{
+    let whole = digits_len(text);
+    if whole < text.len() && text[whole] == b'.' {
+        whole + 1 + digits_len(&text[whole + 1..])
+    } else {
+        whole
+    }
+}
+
+// `rest` stands after a quotation mark.
+fn quoted(rest: &[u8]) -> Result<Front, OrcKind>
+    ensures { result ≡ text_front rest.now }
+{
+    let len = quoted_len(rest);
+    if !all_allowed(&rest[..len]) {
+        return Err(OrcKind::BadByte);
+    }
+    if len < rest.len() && rest[len] == b'"' {
+        Ok(Front::token(Mark::Text, len + 2))
+    } else {
+        Err(OrcKind::BadToken)
+    }
+}
+
+fn after_slash(text: &[u8]) -> Result<Front, OrcKind>
+    requires { 0 < length text.now }
+    ensures { result ≡ slash_front text.now }
+{
+    if begins_with(text, b"//") {
+        Ok(line_comment(text))
+    } else if begins_with(text, b"/*") {
+        block_comment(&text[2..])
+    } else {
+        Ok(sign(text))
+    }
+}
+
+fn line_comment(text: &[u8]) -> Front
+    ensures { line_comment_front text.now ≡ Ok result }
+{
+    Front::gap(line_len(text))
+}
+
+// `body` stands after `/*`.
+fn block_comment(body: &[u8]) -> Result<Front, OrcKind>
+    ensures { result ≡ block_comment_front body.now }
+{
+    let close = close_of(body);
+    if close < body.len() {
+        Ok(Front::gap(close + 4))
+    } else {
+        Err(OrcKind::OpenComment)
+    }
+}
+
+// The place of the first `*/`, or the length where there is none.
+fn close_of(body: &[u8]) -> usize
+    ensures { result ≡ close_of body.now }
+{
+    let mut at = 0;
+    while at < body.len() {
+        if begins_with(&body[at..], b"*/") {
+            return at;
+        }
+        at += 1;
+    }
+    at
+}
+
+// `rest` stands after a `\`.
+fn joined(rest: &[u8]) -> Result<Front, OrcKind>
+    ensures { result ≡ joined_front rest.now }
+{
+    let blanks = blanks_len(rest);
+    if blanks < rest.len() && rest[blanks] == b'\n' {
+        Ok(Front::gap(blanks + 2))
+    } else {
+        Err(OrcKind::BadToken)
+    }
+}
+
+fn sign(text: &[u8]) -> Front
+    requires { 0 < length text.now }
+    ensures { sign_front text.now ≡ Ok result }
+{
+    let long = text.len() > 1 && is_long_sign(text[0], text[1]);
+    Front::token(Mark::Sign, if long { 2 } else { 1 })
+}
+
+fn begins_with(text: &[u8], front: &[u8]) -> bool
+    ensures { result ≡ begins_with front.now text.now }
+{
+    text.starts_with(front)
+}
+
+fn begins_with_letter(text: &[u8], at: usize) -> bool
+    ensures { result ≡ begins is_letter (drop at text.now) }
+{
+    at < text.len() && is_letter(text[at])
+}
+
+fn begins_with_word_byte(text: &[u8], at: usize) -> bool
+    ensures { result ≡ begins is_word_byte (drop at text.now) }
+{
+    at < text.len() && is_word_byte(text[at])
+}
+
+fn word_len(text: &[u8]) -> usize
+    ensures { result ≡ run is_word_byte text.now }
+{
+    text.iter().take_while(|byte| is_word_byte(**byte)).count()
+}
+
+fn digits_len(text: &[u8]) -> usize
+    ensures value { result ≡ run is_ascii_digit text.now }
+    ensures within { result ≤ length text.now }
+{
+    text.iter().take_while(|byte| byte.is_ascii_digit()).count()
+}
+
+fn blanks_len(text: &[u8]) -> usize
+    ensures { result ≡ run is_blank text.now }
+{
+    text.iter().take_while(|byte| is_blank(**byte)).count()
+}
+
+fn line_len(text: &[u8]) -> usize
+    ensures { result ≡ run is_line_byte text.now }
+{
+    text.iter().take_while(|byte| **byte != b'\n').count()
+}
+
+// The bytes before the next quotation mark, line feed or end.
+fn quoted_len(text: &[u8]) -> usize
+    ensures { result ≡ quoted_len text.now }
+{
+    text.iter()
+        .take_while(|byte| **byte != b'"' && **byte != b'\n')
+        .count()
+}
+
+fn all_allowed(text: &[u8]) -> bool
+    ensures { result ≡ list_all is_allowed text.now }
+{
+    text.iter().all(|byte| is_allowed(*byte))
+}
