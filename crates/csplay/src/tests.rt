@@ -21,6 +21,76 @@ const ONE_NOTE_WAV: &[u8] =
 const NO_NOTE_WAV: &[u8] =
     b"RIFF\x24\0\0\0WAVEfmt \x10\0\0\0\x01\0\x01\0\x08\0\0\0\x10\0\0\0\x02\0\x10\0data\0\0\0\0";
 
+/// Orchestra and score; the status, and the sound file where there is one.
+const TEXTS: &[(&[u8], &[u8], u8, &[u8])] = &[
+    (FIELD_4, b"", 0, NO_NOTE_WAV),
+    (FIELD_4, b"e", 0, NO_NOTE_WAV),
+    (FIELD_4, b"e\n", 0, NO_NOTE_WAV),
+    (FIELD_4, b"i1 0 1 100", 0, ONE_NOTE_WAV),
+    (FIELD_4, b"i1 0 1 100\ne", 0, ONE_NOTE_WAV),
+    (
+        b"sr = 8\nksmps = 4\ninstr 1\na1 = p4\nout a1\nendin",
+        b"i1 0 1 100\n",
+        0,
+        ONE_NOTE_WAV,
+    ),
+    (FIELD_4, b"i2 0 1 5\n", 10, b""),
+    (FIELD_4, b"i1 0 1\n", 10, b""),
+    (FIELD_4, b"i1 0 1 ", 10, b""),
+    (FIELD_4, b"i1 0 1 5\r\n", 10, b""),
+    (FIELD_4, b"i1 00 1 5\n", 10, b""),
+    (FIELD_4, b"i1 61 1 5\n", 10, b""),
+    (FIELD_4, b"i1 0 0 5\n", 10, b""),
+    (FIELD_4, b"i1 0 1 32768\n", 10, b""),
+    (FIELD_4, b"i1 0 1 5\xff\n", 10, b""),
+    (FIELD_4, b"e\ni1 0 1 5\n", 10, b""),
+    (b"", ONE_NOTE, 10, b""),
+    (b"sr = 8\nksmps = 4\ninstr 1\na1 =", ONE_NOTE, 10, b""),
+    (
+        b"sr = 8\r\nksmps = 4\r\ninstr 1\r\na1 = p4\r\nout a1\r\nendin\r\n",
+        ONE_NOTE,
+        10,
+        b"",
+    ),
+    (
+        b"sr = 0\nksmps = 4\ninstr 1\na1 = p4\nout a1\nendin\n",
+        ONE_NOTE,
+        10,
+        b"",
+    ),
+    (
+        b"sr = 08\nksmps = 4\ninstr 1\na1 = p4\nout a1\nendin\n",
+        ONE_NOTE,
+        10,
+        b"",
+    ),
+    (
+        b"sr = 48001\nksmps = 4\ninstr 1\na1 = p4\nout a1\nendin\n",
+        ONE_NOTE,
+        10,
+        b"",
+    ),
+    (
+        b"sr = 8\nksmps = 65\ninstr 1\na1 = p4\nout a1\nendin\n",
+        ONE_NOTE,
+        10,
+        b"",
+    ),
+    (
+        b"sr = 8\nksmps = 4\ninstr 1\na1 = p10\nout a1\nendin\n",
+        ONE_NOTE,
+        10,
+        b"",
+    ),
+    (
+        b"sr = 8\nksmps = 4\ninstr 1\na1 = p4\nout a1\nendin\n\n",
+        ONE_NOTE,
+        10,
+        b"",
+    ),
+    (b"\xff\xfe\x00", ONE_NOTE, 10, b""),
+    ];
+
 fn words_of(alloc: Global, words: &[&str]) -> Result<Vec<String>, AllocError> {
     let mut all = Vec::new(alloc);
     for word in words {
@@ -139,80 +209,8 @@ fn one_note(rt: HostRuntime) -> Result<(), Fail> {
 
 #[test]
 fn texts(rt: HostRuntime) -> Result<(), Fail> {
-    // orchestra and score; the status, and the sound file where there is one
-    let spaces = [b' '; 8193];
-    let cases: &[(&[u8], &[u8], u8, &[u8])] = &[
-        (FIELD_4, b"", 0, NO_NOTE_WAV),
-        (FIELD_4, b"e", 0, NO_NOTE_WAV),
-        (FIELD_4, b"e\n", 0, NO_NOTE_WAV),
-        (FIELD_4, b"i1 0 1 100", 0, ONE_NOTE_WAV),
-        (FIELD_4, b"i1 0 1 100\ne", 0, ONE_NOTE_WAV),
-        (
-            b"sr = 8\nksmps = 4\ninstr 1\na1 = p4\nout a1\nendin",
-            b"i1 0 1 100\n",
-            0,
-            ONE_NOTE_WAV,
-        ),
-        (FIELD_4, b"i2 0 1 5\n", 10, b""),
-        (FIELD_4, b"i1 0 1\n", 10, b""),
-        (FIELD_4, b"i1 0 1 ", 10, b""),
-        (FIELD_4, b"i1 0 1 5\r\n", 10, b""),
-        (FIELD_4, b"i1 00 1 5\n", 10, b""),
-        (FIELD_4, b"i1 61 1 5\n", 10, b""),
-        (FIELD_4, b"i1 0 0 5\n", 10, b""),
-        (FIELD_4, b"i1 0 1 32768\n", 10, b""),
-        (FIELD_4, b"i1 0 1 5\xff\n", 10, b""),
-        (FIELD_4, b"e\ni1 0 1 5\n", 10, b""),
-        (FIELD_4, &spaces, 10, b""),
-        (&spaces, ONE_NOTE, 10, b""),
-        (b"", ONE_NOTE, 10, b""),
-        (b"sr = 8\nksmps = 4\ninstr 1\na1 =", ONE_NOTE, 10, b""),
-        (
-            b"sr = 8\r\nksmps = 4\r\ninstr 1\r\na1 = p4\r\nout a1\r\nendin\r\n",
-            ONE_NOTE,
-            10,
-            b"",
-        ),
-        (
-            b"sr = 0\nksmps = 4\ninstr 1\na1 = p4\nout a1\nendin\n",
-            ONE_NOTE,
-            10,
-            b"",
-        ),
-        (
-            b"sr = 08\nksmps = 4\ninstr 1\na1 = p4\nout a1\nendin\n",
-            ONE_NOTE,
-            10,
-            b"",
-        ),
-        (
-            b"sr = 48001\nksmps = 4\ninstr 1\na1 = p4\nout a1\nendin\n",
-            ONE_NOTE,
-            10,
-            b"",
-        ),
-        (
-            b"sr = 8\nksmps = 65\ninstr 1\na1 = p4\nout a1\nendin\n",
-            ONE_NOTE,
-            10,
-            b"",
-        ),
-        (
-            b"sr = 8\nksmps = 4\ninstr 1\na1 = p10\nout a1\nendin\n",
-            ONE_NOTE,
-            10,
-            b"",
-        ),
-        (
-            b"sr = 8\nksmps = 4\ninstr 1\na1 = p4\nout a1\nendin\n\n",
-            ONE_NOTE,
-            10,
-            b"",
-        ),
-        (b"\xff\xfe\x00", ONE_NOTE, 10, b""),
-    ];
     let alloc = rt.alloc();
-    for (orchestra, score, status, bytes) in cases {
+    for (orchestra, score, status, bytes) in TEXTS {
         let mut shelf = MemShelf::new(alloc, files_of(alloc, orchestra, score)?, Calls::new(alloc));
         let mut wav = MemSink::new(alloc, Calls::new(alloc), 1000);
         let ended = run(&rt, &["a.orc", "a.sco"], &mut shelf, &mut wav)?;
@@ -221,19 +219,14 @@ fn texts(rt: HostRuntime) -> Result<(), Fail> {
         assert_eq!(rt; wav.moves().is_empty(), *status != 0);
     }
 
-    // 100 notes are a score, 101 aren't
-    let mut score = Vec::new(alloc);
-    for (lines, status) in [(99, 0), (1, 0), (1, 10)] {
-        for _ in 0..lines {
-            score.extend_from_slice(b"i1 0 1 1\n")?;
-        }
-        let mut shelf = MemShelf::new(alloc, files_of(alloc, FIELD_4, &score)?, Calls::new(alloc));
-        let mut wav = MemSink::new(alloc, Calls::new(alloc), 1000);
-        assert_eq!(rt;
-            run(&rt, &["a.orc", "a.sco"], &mut shelf, &mut wav)?.number(),
-            status
-        );
+    // a text of 8,193 bytes is too long
+    let mut spaces = Vec::new(alloc);
+    for _ in 0..8193 {
+        spaces.push(b' ')?;
     }
+    let mut shelf = MemShelf::new(alloc, files_of(alloc, FIELD_4, &spaces)?, Calls::new(alloc));
+    let mut wav = MemSink::new(alloc, Calls::new(alloc), 1000);
+    assert_eq!(rt; run(&rt, &["a.orc", "a.sco"], &mut shelf, &mut wav)?, Status::NotBuilt);
 
     // two notes of 30,000 are too loud together
     let mut shelf = MemShelf::new(
@@ -286,6 +279,21 @@ fn words(rt: HostRuntime) -> Result<(), Fail> {
         assert_eq!(rt; wav.moves().is_empty(), *status != 0);
         assert!(rt; talk.moves().is_empty());
         assert_eq!(rt; shelf.moves().is_empty(), *status == 2);
+    }
+    Ok(())
+}
+
+#[test]
+fn a_hundred_notes(rt: HostRuntime) -> Result<(), Fail> {
+    let alloc = rt.alloc();
+    let mut score = Vec::new(alloc);
+    for (lines, status) in [(100, 0), (1, 10)] {
+        for _ in 0..lines {
+            score.extend_from_slice(b"i1 0 1 1\n")?;
+        }
+        let mut shelf = MemShelf::new(alloc, files_of(alloc, FIELD_4, &score)?, Calls::new(alloc));
+        let mut wav = MemSink::new(alloc, Calls::new(alloc), 1000);
+        assert_eq!(rt; run(&rt, &["a.orc", "a.sco"], &mut shelf, &mut wav)?.number(), status);
     }
     Ok(())
 }
