@@ -1,15 +1,12 @@
 -- What the class of a byte means.
-use Rattle.std.proofs.Common.{◌≡◌, ◌≢◌, ◌+◌, ◌<◌, ◌≤◌, ℕ, Bool, true, false, cond, ◌&&◌, ◌||◌, ◌==◌, not, List, [], ◌∷◌, arith, ap, sym, ◌∙◌, codes, refl, subst, if◌then◌else◌}
-use Rattle.std.specs.List.{list_all, list_any}
+use Rattle.std.proofs.Common.{◌≡◌, ◌≢◌, ℕ, Bool, true, false, ◌&&◌, ◌||◌, ◌==◌, not, arith, refl, if◌then◌else◌}
 use Rattle.std.specs.Char.{is_ascii_digit}
-use Rattle.std.proofs.lemmas.Bool.{and_parts, and_from, false≢true}
-use Rattle.std.proofs.lemmas.Bool.Decides.{nat_tests, eqb_tells}
+use Rattle.std.proofs.lemmas.Bool.Decides.{nat_tests}
 use Rattle.cs_lex.specs.declared.class.Class.{Class}
 use Rattle.cs_lex.specs.declared.class.Class.TheVariants as class
-use Rattle.cs_lex.specs.Bytes.{is_blank, is_feed, is_quote, is_letter, is_word_byte, is_allowed, is_short_sign}
+use Rattle.cs_lex.specs.Bytes.{is_blank, is_feed, is_quote, is_letter, is_allowed, is_short_sign}
 use Rattle.cs_lex.specs.Rows.{is_stray}
 use Rattle.cs_lex.specs.Front.{class_of}
-use Rattle.cs_lex.proofs.Text.{by_test}
 
 -- what a byte of each class is
 abbrev pub Means : Class → ℕ → Type 0

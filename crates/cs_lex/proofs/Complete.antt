@@ -1,10 +1,10 @@
 -- A span of a row's form is what the reader finds there, and a fault is the fault that it finds.
-use Rattle.std.proofs.Common.{◌≡◌, ◌≢◌, ◌+◌, ◌<◌, ◌≤◌, ℕ, zero, suc, Bool, true, false, cond, ◌&&◌, ◌||◌, ◌==◌, not, List, [], ◌∷◌, ◌++◌, length, drop, take, arith, ap, sym, ◌∙◌, codes, refl, subst, inl, inr, ◌⊎◌, Option, Some, None, Result, Ok, Err, nat_lt, nat_le, nat_eq, ℤ, if◌then◌else◌}
+use Rattle.std.proofs.Common.{◌≡◌, ◌≢◌, ◌+◌, ◌<◌, ℕ, suc, Bool, true, false, ◌&&◌, ◌||◌, ◌==◌, not, List, [], ◌∷◌, ◌++◌, length, drop, take, arith, ap, sym, ◌∙◌, codes, refl, subst, inl, inr, ◌⊎◌, Option, Some, None, Result, Ok, Err, nat_lt, nat_le, ℤ, if◌then◌else◌}
 use Rattle.std.proofs.Math.Seq.{take-append-add}
 use Rattle.cs_base.specs.declared.decimal.Decimal.{Decimal}
 use Rattle.cs_base.specs.Numbers.{clamp}
 use Rattle.cs_base.proofs.Arithmetic.{clamp_same, decimal_in_range}
-use Rattle.std.specs.List.{list_all, list_any, prefix_len}
+use Rattle.std.specs.List.{list_all, list_any}
 use Rattle.std.specs.Option.{IsSomeAnd}
 use Rattle.std.specs.Char.{is_ascii_digit}
 use Rattle.std.proofs.lemmas.Bool.{and_parts, and_from, false≢true}
@@ -20,8 +20,8 @@ use Rattle.cs_lex.specs.declared.front.Front.{Front}
 use Rattle.cs_lex.specs.declared.class.Class.{Class}
 use Rattle.cs_lex.specs.declared.class.Class.TheVariants as class
 use Rattle.cs_lex.specs.Bytes.{is_blank, is_feed, is_quote, is_letter, is_word_byte, is_allowed, is_line_byte, is_quotable, is_text_byte, begins, begins_with, is_sign, is_short_sign, is_long_sign}
-use Rattle.cs_lex.specs.Front.{front_of, by_class, class_of, run, gap, token, line_comment_front, close_of, block_comment_front, sign_front, slash_front, joined_front, word_front, quoted_len, text_front, numeral_len, number_of, number_front, digit_front, point_front}
-use Rattle.cs_lex.specs.Rows.{Fits, IsFault, Longest, NoneCloses, is_line_comment, is_word, begins_comment, IsBlockComment, IsJoin, IsSign, IsText, IsLoneBackslash, IsOpenComment, HasBadByte, IsBadByte, IsOpenText, IsNumeral, IsNumber, IsBadNumber, IsFullScale, IsStray, is_stray}
+use Rattle.cs_lex.specs.Front.{front_of, by_class, class_of, run, line_comment_front, close_of, sign_front, numeral_len, number_of, number_front}
+use Rattle.cs_lex.specs.Rows.{Fits, IsFault, Longest, NoneCloses, is_line_comment, is_word, begins_comment, IsBlockComment, IsJoin, IsSign, IsText, IsLoneBackslash, IsOpenComment, HasBadByte, IsBadByte, IsOpenText, IsNumber, IsBadNumber, IsFullScale, IsStray, is_stray}
 use Rattle.cs_lex.proofs.Text.{by_test, front_is, front_tests, run_is, run_past, close_none, close_here, list_all_weaken, list_all_cut, and_false, longest_once, equals, split, after_run, first_is}
 use Rattle.cs_lex.proofs.Classes.{Means, class_means}
 use Rattle.cs_lex.proofs.Numerals.{NumeralFront, digit_front_is, point_front_is, numeral_first}

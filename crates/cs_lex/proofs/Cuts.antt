@@ -1,7 +1,7 @@
 -- Every text is cut in one way, up to its end or its first fault.
-use Rattle.std.proofs.Common.{◌≡◌, ◌≢◌, ◌+◌, ◌<◌, ◌≤◌, ℕ, zero, suc, Bool, true, false, List, [], ◌∷◌, ◌++◌, length, drop, take, arith, ap, sym, ◌∙◌, refl, subst, inl, inr, ◌⊎◌, Option, Some, None, Result, Ok, Err, MatchResult}
+use Rattle.std.proofs.Common.{◌≡◌, ◌<◌, ◌≤◌, ℕ, zero, suc, true, List, [], ◌∷◌, ◌++◌, length, drop, take, arith, ap, sym, ◌∙◌, refl, subst, inl, inr, ◌⊎◌, Option, Result, Ok, Err}
 use Rattle.std.proofs.lemmas.Bool.{false≢true}
-use Rattle.std.proofs.lemmas.List.{append_assoc, length-append, append_cancel_left, append-nil, take_at, drop_at}
+use Rattle.std.proofs.lemmas.List.{append_assoc, length-append, take_at, drop_at}
 use Rattle.cs_base.specs.declared.fault.OrcKind.{OrcKind}
 use Rattle.cs_base.specs.declared.fault.OrcKind.TheVariants as orc
 use Rattle.cs_base.specs.Decimals.{is_numeral}
@@ -10,7 +10,7 @@ use Rattle.cs_lex.specs.declared.token.Token.{Token}
 use Rattle.cs_lex.specs.declared.front.Front.{Front}
 use Rattle.cs_lex.specs.Rows.{Fits, IsFault}
 use Rattle.cs_lex.specs.Front.{front_of}
-use Rattle.cs_lex.specs.Lexed.{Piece, text_of, AllFit, IsCut, Lexed, LexFault, tokens_after, merged, end_of, line_after}
+use Rattle.cs_lex.specs.Lexed.{Piece, text_of, AllFit, Lexed, LexFault, tokens_after, merged, end_of, line_after}
 use Rattle.cs_lex.proofs.Sound.{Starts, Right, front_right}
 use Rattle.cs_lex.proofs.Complete.{found, fits_found, fault_found}
 

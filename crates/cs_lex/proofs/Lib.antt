@@ -4,4 +4,5 @@ pub mod Cuts
 pub mod Numerals
 pub mod Reading
 pub mod Sound
+pub mod Spans
 pub mod Text

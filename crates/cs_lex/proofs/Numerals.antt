@@ -1,8 +1,8 @@
 -- The decimal at the front of a text.
-use Rattle.std.proofs.Common.{◌≡◌, ◌≢◌, ◌+◌, ◌<◌, ◌≤◌, ℕ, zero, suc, Bool, true, false, cond, ◌&&◌, ◌||◌, ◌==◌, not, List, [], ◌∷◌, ◌++◌, length, drop, take, arith, ap, sym, ◌∙◌, refl, subst, inl, inr, ◌⊎◌, nat_lt}
-use Rattle.std.specs.List.{list_all, prefix_len, position_or_len, before_first, after_first}
+use Rattle.std.proofs.Common.{◌≡◌, ◌+◌, ◌<◌, ℕ, suc, Bool, true, false, ◌&&◌, ◌||◌, ◌==◌, List, [], ◌∷◌, ◌++◌, length, drop, take, arith, ap, sym, ◌∙◌, refl, inl, inr, ◌⊎◌, nat_lt}
+use Rattle.std.specs.List.{list_all, position_or_len}
 use Rattle.std.specs.Char.{is_ascii_digit}
-use Rattle.std.proofs.lemmas.Bool.{and_parts, and_from, false≢true}
+use Rattle.std.proofs.lemmas.Bool.{and_parts, false≢true}
 use Rattle.std.proofs.lemmas.Bool.Decides.{nat_tests}
 use Rattle.std.proofs.lemmas.List.{append_assoc, length-append, append-nil, drop_at, take_at, take_all, drop_all, nil_from_length}
 use Rattle.std.proofs.Math.Seq.{take-append-add}
@@ -10,7 +10,7 @@ use Rattle.cs_base.specs.Decimals.{is_point, before_point, after_point, is_numer
 use Rattle.cs_lex.specs.Bytes.{begins}
 use Rattle.cs_lex.specs.Front.{run, numeral_len}
 use Rattle.cs_lex.specs.Rows.{Longest}
-use Rattle.cs_lex.proofs.Text.{by_test, Split, split, after_run, run_is, list_all_cut, and_false, longest_to, first_is, equals}
+use Rattle.cs_lex.proofs.Text.{by_test, split, after_run, list_all_cut, and_false, longest_to, first_is, equals}
 
 digit_is_no_point : (b : ℕ) → is_ascii_digit b ≡ true → is_point b ≡ false
 digit_is_no_point b h = grind (arith, nat_tests)

@@ -1,5 +1,5 @@
 -- One pass over a text: what has been read, and one piece more.
-use Rattle.std.proofs.Common.{◌≡◌, ◌+◌, ◌-◌, ◌<◌, ◌≤◌, ℕ, Bool, true, false, ◌&&◌, List, [], ◌∷◌, ◌++◌, length, drop, take, arith, ap, sym, ◌∙◌, refl, subst, Option, Some, None, Result, Ok, Err, IfOk, if◌then◌else◌, count_by}
+use Rattle.std.proofs.Common.{◌≡◌, ◌+◌, ◌-◌, ◌<◌, ◌≤◌, ℕ, Bool, true, ◌&&◌, List, [], ◌∷◌, ◌++◌, length, drop, take, arith, ap, sym, ◌∙◌, refl, subst, Option, Some, None, Result, Ok, Err, IfOk, if◌then◌else◌, count_by}
 use Rattle.std.proofs.lemmas.List.{append_assoc, length-append, append-nil, length-drop, length-take, take_rest, take_at, drop_at, drop_all, drop-drop}
 use Rattle.std.proofs.lemmas.List.Sums.{count_by-le-length, sum_by-append}
 use Rattle.cs_lex.specs.declared.token.Mark.{Mark}
@@ -7,7 +7,7 @@ use Rattle.cs_lex.specs.declared.token.Token.{Token}
 use Rattle.cs_lex.specs.Bytes.{is_feed}
 use Rattle.cs_base.specs.declared.fault.OrcKind.{OrcKind}
 use Rattle.cs_lex.specs.Rows.{Fits, IsFault}
-use Rattle.cs_lex.specs.Lexed.{Piece, text_of, AllFit, IsCut, Lexed, LexFault, tokens_after, token_of, token_at, merged, is_newline, end_of, line_after}
+use Rattle.cs_lex.specs.Lexed.{Piece, text_of, AllFit, Lexed, LexFault, tokens_after, token_of, token_at, merged, is_newline, end_of, line_after}
 use Rattle.cs_lex.specs.declared.front.Front.{Front}
 use Rattle.cs_lex.specs.Front.{front_of, told, fed_by}
 use Rattle.cs_lex.proofs.Sound.{Starts, Right, front_right}

@@ -1,5 +1,5 @@
 -- What the reader finds at the front of a text is of its row's form, or a fault.
-use Rattle.std.proofs.Common.{◌≡◌, ◌≢◌, ◌+◌, ◌<◌, ◌≤◌, ℕ, zero, suc, Bool, true, false, cond, ◌&&◌, ◌||◌, ◌==◌, not, List, [], ◌∷◌, ◌++◌, length, drop, take, get_or, arith, ap, sym, ◌∙◌, codes, refl, subst, inl, inr, ◌⊎◌, Option, Some, None, Result, Ok, Err, MatchResult, nat_lt, nat_le, nat_eq}
+use Rattle.std.proofs.Common.{◌≡◌, ◌≢◌, ◌+◌, ◌<◌, ℕ, Bool, true, false, ◌&&◌, ◌||◌, ◌==◌, not, List, [], ◌∷◌, ◌++◌, length, drop, take, arith, ap, sym, ◌∙◌, codes, refl, subst, inl, inr, ◌⊎◌, Option, Some, None, Result, MatchResult, nat_lt, nat_le, nat_eq}
 use Rattle.std.specs.Option.{IsSomeAnd}
 use Rattle.cs_base.specs.declared.decimal.Decimal.{Decimal}
 use Rattle.cs_base.specs.Decimals.{decimal_of, raw_of_decimal, is_numeral, whole_part, billionths_part, greatest_whole}
@@ -7,18 +7,17 @@ use Rattle.cs_base.specs.Numbers.{clamp}
 use Rattle.cs_base.proofs.Arithmetic.{clamp_same, decimal_in_range}
 use Rattle.cs_lex.proofs.Classes.{Means, class_means}
 use Rattle.cs_lex.proofs.Numerals.{NumeralFront, digit_front_is, point_front_is}
-use Rattle.std.specs.List.{list_all, list_any, prefix_len}
+use Rattle.std.specs.List.{list_all}
 use Rattle.std.specs.Char.{is_ascii_digit}
 use Rattle.cs_base.specs.declared.fault.OrcKind.{OrcKind}
-use Rattle.cs_base.specs.declared.fault.OrcKind.TheVariants as orc
 use Rattle.cs_lex.specs.declared.token.Mark.{Mark}
 use Rattle.cs_lex.specs.declared.token.Mark.TheVariants as mark
 use Rattle.cs_lex.specs.declared.front.Front.{Front}
 use Rattle.cs_lex.specs.declared.class.Class.{Class}
 use Rattle.cs_lex.specs.declared.class.Class.TheVariants as class
-use Rattle.cs_lex.specs.Bytes.{is_blank, is_feed, is_quote, is_letter, is_word_byte, is_allowed, is_line_byte, is_quotable, is_text_byte, begins, begins_with, is_sign, is_short_sign, is_long_sign}
-use Rattle.cs_lex.specs.Front.{front_of, by_class, class_of, run, gap, token, line_comment_front, close_of, block_comment_front, sign_front, slash_front, joined_front, word_front, quoted_len, text_front, numeral_len, number_of, number_front, digit_front, point_front}
-use Rattle.cs_lex.specs.Rows.{Fits, IsFault, Longest, NoneCloses, is_line_comment, is_word, begins_comment, IsBlockComment, IsJoin, IsSign, IsLoneBackslash, IsOpenComment, HasBadByte, IsOpenText, IsNumeral, IsNumber, IsBadNumber, IsFullScale, IsStray, is_stray}
+use Rattle.cs_lex.specs.Bytes.{is_blank, is_feed, is_quote, is_letter, is_word_byte, is_allowed, is_line_byte, is_quotable, begins, begins_with, is_sign, is_short_sign, is_long_sign}
+use Rattle.cs_lex.specs.Front.{front_of, by_class, class_of, run, gap, token, line_comment_front, close_of, block_comment_front, sign_front, slash_front, joined_front, word_front, text_front, numeral_len, number_front, digit_front, point_front}
+use Rattle.cs_lex.specs.Rows.{Fits, IsFault, is_line_comment, is_word, begins_comment, HasBadByte, IsNumeral, IsFullScale}
 use Rattle.cs_lex.proofs.Text.{Split, split, longer, longest_to, list_all_cut, by_test, and_false, front_is, front_tests, close_here, close_none, after_run, take_run, run_is, first_is, equals, where_fails, list_all_both, list_all_front}
 use Rattle.std.proofs.lemmas.Bool.{and_parts, and_from, false≢true}
 use Rattle.std.proofs.lemmas.Bool.Decides.{nat_tests}

@@ -1,10 +1,10 @@
 -- Fronts of a text: runs, splits, and the first place of `*/`.
-use Rattle.std.proofs.Common.{◌≡◌, ◌≢◌, ◌+◌, ◌<◌, ◌≤◌, ℕ, zero, suc, Bool, true, false, cond, ◌&&◌, List, [], ◌∷◌, ◌++◌, length, drop, take, get_or, arith, ap, sym, ◌∙◌, codes, refl, subst, inl, inr, ◌⊎◌, nat_eq, ◌==◌, nat_lt}
-use Rattle.std.specs.List.{list_all, prefix_len}
+use Rattle.std.proofs.Common.{◌≡◌, ◌≢◌, ◌+◌, ◌<◌, ◌≤◌, ℕ, zero, suc, Bool, true, false, ◌&&◌, List, [], ◌∷◌, ◌++◌, length, drop, take, get_or, arith, ap, sym, ◌∙◌, codes, refl, inl, inr, nat_eq, ◌==◌}
+use Rattle.std.specs.List.{list_all}
 use Rattle.std.proofs.lemmas.Bool.{and_parts, and_from, false≢true}
-use Rattle.std.proofs.lemmas.Bool.Decides.{leb_tells, eqb_tells, nat_tests, Decides-eqb}
+use Rattle.std.proofs.lemmas.Bool.Decides.{leb_tells, nat_tests, Decides-eqb}
 use Rattle.std.proofs.lemmas.Slice.Eq.{starts_is}
-use Rattle.std.proofs.lemmas.List.{drop_more, append_assoc, length-append, drop_at, take_at, append_cancel_left, append-nil}
+use Rattle.std.proofs.lemmas.List.{drop_more, drop_at, take_at, append-nil}
 use Rattle.std.proofs.lemmas.List.Folds.{list_all-append}
 use Rattle.cs_lex.specs.Bytes.{begins, begins_with}
 use Rattle.cs_lex.specs.Front.{close_of, run}

@@ -1,6 +1,6 @@
 -- How the reader finds the piece at the front of a text, row by row. What a text reads as is said without this, in Rows and Lexed.
-use Rattle.std.specs.Prelude.{ℕ, Bool, List, [], ◌∷◌, ◌+◌, ◌&&◌, ◌||◌, ◌==◌, not, length, take, drop, slice_index, nat_lt, nat_le, codes, unwrap_or, Option, Some, None, Result, Ok, Err, if◌then◌else◌}
-use Rattle.std.specs.List.{list_all, list_any, prefix_len}
+use Rattle.std.specs.Prelude.{ℕ, Bool, List, [], ◌∷◌, ◌+◌, ◌&&◌, ◌==◌, not, length, take, drop, slice_index, nat_lt, codes, Option, Some, None, Result, Ok, Err, if◌then◌else◌}
+use Rattle.std.specs.List.{list_all, prefix_len}
 use Rattle.std.specs.Char.{is_ascii_digit}
 use Rattle.cs_base.specs.Decimals.{decimal_of, raw_of_decimal}
 use Rattle.cs_base.specs.Numbers.{clamp}

@@ -1,6 +1,6 @@
-use Rattle.std.specs.Prelude.{ℕ, Bool, true, false, List, [], ◌∷◌, ◌++◌, ◌≡◌, ◌≢◌, ◌<◌, ◌⊎◌, ◌&&◌, ◌||◌, ◌==◌, not, length, drop, codes, Option, Some, None, ℤ, if◌then◌else◌}
+use Rattle.std.specs.Prelude.{ℕ, Bool, true, false, List, [], ◌∷◌, ◌++◌, ◌≡◌, ◌≢◌, ◌<◌, ◌⊎◌, ◌&&◌, ◌||◌, ◌==◌, not, length, drop, codes, Option, Some, None, ℤ}
 use Rattle.std.specs.Option.{IsSomeAnd}
-use Rattle.std.specs.List.{list_all, list_any}
+use Rattle.std.specs.List.{list_all}
 use Rattle.std.specs.Char.{is_ascii_digit}
 use Rattle.cs_base.specs.Decimals.{is_numeral, whole_part, greatest_whole, decimal_of, raw_of_decimal}
 use Rattle.cs_base.specs.declared.fault.OrcKind.{OrcKind}

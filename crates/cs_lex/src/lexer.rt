@@ -172,7 +172,9 @@ mod tests {
 
     #[test]
     fn values(rt: HostRuntime) -> Result<(), Fail> {
-        let tokens = lex(rt.alloc(), b"gk1+=.5").ok().ok_or("refused")?;
+        let source = b"gk1+=.5".as_slice();
+        assert!(rt; source.len() < 1000);
+        let tokens = lex(rt.alloc(), source).ok().ok_or("refused")?;
         let number = Token {
             mark: Mark::Number(cs_base::Num::of_raw(32_768)),
             from: 5,
@@ -222,6 +224,7 @@ mod tests {
             (b"a \\\n @ 2x", 2, BadToken),
             (b"/*\n*/ /*", 2, OpenComment),
         ] {
+            assert!(rt; source.len() < 1000);
             let fault = lex(rt.alloc(), source).err().ok_or("accepted")?;
             assert_eq!(rt; fault, Or::Fault(OrcFault { line, kind }));
         }

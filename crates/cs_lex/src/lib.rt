@@ -15,6 +15,6 @@ mod laws;
 mod lexer;
 mod token;
 
-pub use laws::one_reading;
+pub use laws::{one_reading, tokens_stand_in_the_text};
 pub use lexer::lex;
 pub use token::{Mark, Token, Tokens};

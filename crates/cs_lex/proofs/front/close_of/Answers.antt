@@ -1,7 +1,6 @@
-use Rattle.std.proofs.Common.{◌≡◌, ◌+◌, ◌≤◌, ℕ, cond, false, List, length, drop, arith, ap, sym, ◌∙◌, codes}
+use Rattle.std.proofs.Common.{arith, ap, sym, ◌∙◌, codes}
 use Rattle.std.proofs.lemmas.List.{take_rest}
 use Rattle.cs_lex.specs.Bytes.{begins_with}
-use Rattle.cs_lex.specs.Front.{close_of}
 use Rattle.cs_lex.proofs.Text.{close_of_next}
 use Rattle.cs_lex.proofs.front.close_of.Goals as goal
 
