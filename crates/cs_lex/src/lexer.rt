@@ -139,6 +139,7 @@ mod tests {
                 b"a /* // */ b /**/ c /***/ d /*/*/ e",
                 b"W1a W1b W1c W1d W1e E1 ",
             ),
+            (b"/* \x00\x7f\x80\xff */a", b"W1a E1 "),
             (b"a*/b", b"W1a S1* S1/ W1b E1 "),
             (b"a \\ \t\r\nb\\\nc", b"W1a W2b W3c E3 "),
             (b"a;\\\nb", b"W1a L1n W2b E2 "),
@@ -167,6 +168,15 @@ mod tests {
             let got = shown(rt.alloc(), source).ok_or("refused")?;
             assert_eq!(rt; got.as_slice(), want);
         }
+        Ok(())
+    }
+
+    #[test]
+    fn blanks_alone(rt: HostRuntime) -> Result<(), Fail> {
+        let longest = 1 << 20;
+        let source = vec![in rt.alloc(); b' '; longest]?;
+        let tokens = lex(rt.alloc(), &source).ok().ok_or("refused")?;
+        assert_eq!(rt; tokens.len(), 1);
         Ok(())
     }
 
@@ -221,6 +231,7 @@ mod tests {
             (b"a\nb /* x\n\n", 2, OpenComment),
             (b"/*/", 1, OpenComment),
             (b"/* /*", 1, OpenComment),
+            (b"a /* // x", 1, OpenComment),
             (b"a \\\n @ 2x", 2, BadToken),
             (b"/*\n*/ /*", 2, OpenComment),
         ] {

@@ -89,7 +89,7 @@ const TEXTS: &[(&[u8], &[u8], u8, &[u8])] = &[
         b"",
     ),
     (b"\xff\xfe\x00", ONE_NOTE, 10, b""),
-    ];
+];
 
 fn words_of(alloc: Global, words: &[&str]) -> Result<Vec<String>, AllocError> {
     let mut all = Vec::new(alloc);
@@ -226,7 +226,10 @@ fn texts(rt: HostRuntime) -> Result<(), Fail> {
     }
     let mut shelf = MemShelf::new(alloc, files_of(alloc, FIELD_4, &spaces)?, Calls::new(alloc));
     let mut wav = MemSink::new(alloc, Calls::new(alloc), 1000);
-    assert_eq!(rt; run(&rt, &["a.orc", "a.sco"], &mut shelf, &mut wav)?, Status::NotBuilt);
+    assert_eq!(rt;
+        run(&rt, &["a.orc", "a.sco"], &mut shelf, &mut wav)?,
+        Status::NotBuilt
+    );
 
     // two notes of 30,000 are too loud together
     let mut shelf = MemShelf::new(
@@ -293,7 +296,10 @@ fn a_hundred_notes(rt: HostRuntime) -> Result<(), Fail> {
         }
         let mut shelf = MemShelf::new(alloc, files_of(alloc, FIELD_4, &score)?, Calls::new(alloc));
         let mut wav = MemSink::new(alloc, Calls::new(alloc), 1000);
-        assert_eq!(rt; run(&rt, &["a.orc", "a.sco"], &mut shelf, &mut wav)?.number(), status);
+        assert_eq!(rt;
+            run(&rt, &["a.orc", "a.sco"], &mut shelf, &mut wav)?.number(),
+            status
+        );
     }
     Ok(())
 }
