@@ -181,7 +181,7 @@ fn one_note(rt: HostRuntime) -> Result<(), Fail> {
     for (shelf_call, sink_call, most, status, bytes, calls) in cases {
         let files = files_of(alloc, FIELD_4, ONE_NOTE)?;
         let mut shelf = MemShelf::new(alloc, files, failing(alloc, shelf_call)?);
-        let mut wav = MemSink::new(alloc, failing(alloc, sink_call)?, most);
+        let mut wav = MemSink::new(alloc, failing(alloc, sink_call)?, most.max(1));
         let ended = run(&rt, &["a.orc", "a.sco"], &mut shelf, &mut wav)?;
         assert_eq!(rt; ended.number(), status, "at {shelf_call} and {sink_call}");
         let taken = wav.taken();
