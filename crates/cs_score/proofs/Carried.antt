@@ -1,0 +1,122 @@
+-- A statement's fields, filled by those of the one before.
+use Rattle.std.proofs.Common.{◌≡◌, ℕ, zero, suc, ◌+◌, ◌<◌, min, max, Bool, true, false, List, [], ◌∷◌, ◌++◌, length, drop, take, map, set, get_or, arith, ap, sym, ◌∙◌, refl, append_assoc, Option, Some, None, slice_get, unwrap_or, if◌then◌else◌}
+use Rattle.std.specs.List.{range_with_len}
+use Rattle.std.proofs.lemmas.List.{drop_more, get_or_at, take_more, set_at, append-nil, length-take-le, same_lists}
+use Rattle.std.proofs.lemmas.List.FromFn.{length-map-range_with_len, get_or-map-range_with_len}
+use Rattle.cs_score.specs.declared.field.Field.{Field}
+use Rattle.cs_score.specs.declared.field.Field.TheVariants.{Number, Same, After, Ahead, Foreign, Unreadable}
+use Rattle.cs_score.specs.declared.row.Row.{Row}
+use Rattle.cs_score.specs.Carry.{taken, field, count, fields, continues}
+use Rattle.cs_score.specs.State.{filled, filled_one, completed}
+
+pub length-filled : (ws before : List Field) → length (filled ws before) ≡ max (length ws) (length before)
+length-filled [] before = omega arith
+length-filled (f ∷ fs) [] = omega arith
+length-filled (f ∷ fs) (g ∷ gs) = let e = length-filled fs gs in omega (arith, e)
+
+get_filled : (ws before : List Field) (k : ℕ) (d : Field) → k < length ws → k < length before → get_or (filled ws before) k d ≡ filled_one (get_or ws k d) (get_or before k d)
+get_filled [] before k d l m = absurd (omega arith)
+get_filled (f ∷ fs) [] k d l m = absurd (omega arith)
+get_filled (f ∷ fs) (g ∷ gs) zero d l m = refl
+get_filled (f ∷ fs) (g ∷ gs) (suc k) d l m = get_filled fs gs k d (omega arith) (omega arith)
+
+-- the fields that both have, then those that one of them has
+pub filled_end : (n : ℕ) (ws before : List Field) → n ≡ min (length ws) (length before) → take n (filled ws before) ++ (drop n ws ++ drop n before) ≡ filled ws before
+filled_end zero [] before e = refl
+filled_end zero (f ∷ fs) [] e = append-nil (f ∷ fs)
+filled_end zero (f ∷ fs) (g ∷ gs) e = absurd (omega arith)
+filled_end (suc n) [] before e = absurd (omega arith)
+filled_end (suc n) (f ∷ fs) [] e = absurd (omega arith)
+filled_end (suc n) (f ∷ fs) (g ∷ gs) e = ap (λ t. filled_one f g ∷ t) (filled_end n fs gs (omega arith))
+
+-- one field more
+pub filled_more : (ws before now : List Field) (k : ℕ) (v d : Field) → k < length ws → k < length before → v ≡ filled_one (get_or ws k d) (get_or before k d) → now ≡ take k (filled ws before) ++ drop k ws → set now k v ≡ take (k + 1) (filled ws before) ++ drop (k + 1) ws
+filled_more ws before now k v d l m is e =
+    let F = filled ws before in
+    let front = take k F in
+    let rest = drop (k + 1) ws in
+    let small : k < length F = omega (arith, length-filled ws before) in
+    let split : now ≡ front ++ get_or ws k d ∷ rest = e ∙ ap (λ t. front ++ t) (drop_more ws k d l) in
+    ap (λ t. set t k v) split ∙ set_at front (get_or ws k d) rest v k (length-take-le k F (omega arith))
+    ∙ ap (λ x. front ++ x ∷ rest) (is ∙ sym (get_filled ws before k d l m))
+    ∙ sym (append_assoc front (get_or F k d ∷ []) rest)
+    ∙ ap (λ t. t ++ rest) (sym (take_more F k d small))
+
+pub now_at : (ws before now : List Field) (k : ℕ) (d : Field) → k < length ws → k < length before → now ≡ take k (filled ws before) ++ drop k ws → get_or now k d ≡ get_or ws k d
+now_at ws before now k d l m e =
+    let F = filled ws before in
+    let small : k < length F = omega (arith, length-filled ws before) in
+    ap (λ t. get_or t k d) (e ∙ ap (λ t. take k F ++ t) (drop_more ws k d l)) ∙ get_or_at (take k F) (get_or ws k d) (drop (k + 1) ws) d k (length-take-le k F (omega arith))
+
+-- ---- each field by looking back
+
+-- the code's way: the row of the statement before, filled
+abbrev pub kept_fields : List Row → List Field
+kept_fields [] = []
+kept_fields (row ∷ above) = completed (continues (row ∷ above)) row.fields (kept_fields above)
+
+taken_none : (f : Option Field) → taken f None ≡ f
+taken_none None = refl
+taken_none (Some (Number n)) = refl
+taken_none (Some Same) = refl
+taken_none (Some After) = refl
+taken_none (Some (Ahead x)) = refl
+taken_none (Some Foreign) = refl
+taken_none (Some Unreadable) = refl
+
+taken_some : (f g : Field) → taken (Some f) (Some g) ≡ Some (filled_one f g)
+taken_some (Number n) g = refl
+taken_some Same g = refl
+taken_some After g = refl
+taken_some (Ahead x) g = refl
+taken_some Foreign g = refl
+taken_some Unreadable g = refl
+
+get_of_filled : (ws before : List Field) (k : ℕ) → slice_get (filled ws before) k ≡ taken (slice_get ws k) (slice_get before k)
+get_of_filled [] before k = refl
+get_of_filled (f ∷ fs) [] k = sym (taken_none (slice_get (f ∷ fs) k))
+get_of_filled (f ∷ fs) (g ∷ gs) zero = sym (taken_some f g)
+get_of_filled (f ∷ fs) (g ∷ gs) (suc k) = get_of_filled fs gs k
+
+by_choice : (b : Bool) (row : List Field) (before : List Field) (k : ℕ) → taken (slice_get row k) (if b then slice_get before k else None) ≡ slice_get (completed b row before) k
+by_choice true row before k = sym (get_of_filled row before k)
+by_choice false row before k = taken_none (slice_get row k)
+
+pub field_is_kept : (rows : List Row) (k : ℕ) → field rows k ≡ slice_get (kept_fields rows) k
+field_is_kept [] k = refl
+field_is_kept (row ∷ above) k =
+    let b = continues (row ∷ above) in
+    ap (λ f. taken (slice_get row.fields k) (if b then f else None)) (field_is_kept above k) ∙ by_choice b row.fields (kept_fields above) k
+
+count_choice : (b : Bool) (row before : List Field) → max (length row) (if b then length before else 0) ≡ length (completed b row before)
+count_choice true row before = sym (length-filled row before)
+count_choice false row before = omega arith
+
+count_is_kept : (rows : List Row) → count rows ≡ length (kept_fields rows)
+count_is_kept [] = refl
+count_is_kept (row ∷ above) =
+    let b = continues (row ∷ above) in
+    ap (λ n. max (length row.fields) (if b then n else 0)) (count_is_kept above) ∙ count_choice b row.fields (kept_fields above)
+
+get_or_is : (xs : List Field) (k : ℕ) (d : Field) → k < length xs → unwrap_or (slice_get xs k) Same ≡ get_or xs k d
+get_or_is [] k d l = absurd (omega arith)
+get_or_is (x ∷ xs) zero d l = refl
+get_or_is (x ∷ xs) (suc k) d l = get_or_is xs k d (omega arith)
+
+pub fields_are_kept : (rows : List Row) → fields rows ≡ kept_fields rows
+fields_are_kept rows =
+    let at : ℕ → Field = λ k. unwrap_or (field rows k) Same in
+    let n = count rows in
+    let len : length (map at (range_with_len 0 n)) ≡ n = length-map-range_with_len at 0 n in
+    let same_count : n ≡ length (kept_fields rows) = count_is_kept rows in
+    same_lists (fields rows) (kept_fields rows) (len ∙ same_count)
+    (λ k d h. let l : k < n = omega arith in
+    get_or-map-range_with_len at 0 n k k d l (omega arith) ∙ ap (λ f. unwrap_or f Same) (field_is_kept rows k) ∙ get_or_is (kept_fields rows) k d (omega arith))
+
+-- all fields of a statement, by those of the one before
+pub fields_next : (row : Row) (above : List Row) → fields (row ∷ above) ≡ completed (continues (row ∷ above)) row.fields (fields above)
+fields_next row above =
+    fields_are_kept (row ∷ above) ∙ ap (completed (continues (row ∷ above)) row.fields) (sym (fields_are_kept above))
+
+pub field_is : (rows : List Row) (k : ℕ) → field rows k ≡ slice_get (fields rows) k
+field_is rows k = field_is_kept rows k ∙ ap (λ fs. slice_get fs k) (sym (fields_are_kept rows))

@@ -1,0 +1,92 @@
+-- What an `i` statement writes and what it takes from those before it. A list of rows stands newest first.
+use Rattle.std.specs.Prelude.{ℕ, Bool, true, false, List, [], ◌∷◌, ◌&&◌, ◌==◌, not, length, max, map, nat_le, slice_get, unwrap_or, Option, Some, None, Result, Ok, Err, if◌then◌else◌}
+use Rattle.std.specs.List.{range_with_len}
+use Rattle.cs_base.specs.declared.fault.ScoreKind.{ScoreKind}
+use Rattle.cs_base.specs.declared.fault.ScoreKind.TheVariants.{BadNumber, NothingToCarry, NotInProfile}
+use Rattle.cs_score.specs.declared.field.Instrument.{Instrument}
+use Rattle.cs_score.specs.declared.field.Signed.{Signed}
+use Rattle.cs_score.specs.declared.field.Field.{Field}
+use Rattle.cs_score.specs.declared.field.Field.TheVariants.{Number, Same, After, Ahead, Foreign, Unreadable}
+use Rattle.cs_score.specs.declared.row.Letter.{Letter}
+use Rattle.cs_score.specs.declared.row.Letter.TheVariants as letter
+use Rattle.cs_score.specs.declared.row.Row.{Row}
+use Rattle.cs_score.specs.Fields.{is_whole}
+
+-- one reading after another: the first fault counts
+abbrev pub and_then : {A B E : Type 0} → Result A E → (A → Result B E) → Result B E
+and_then (Ok x) f = f x
+and_then (Err e) f = Err e
+
+-- the number of a field at a place where no `+` may stand; a `.` that nothing fills is refused as `dot`
+abbrev pub number_of : ScoreKind → Field → Result Signed ScoreKind
+number_of dot (Number n) = Ok n
+number_of dot Same = Err dot
+number_of dot After = Err BadNumber
+number_of dot (Ahead x) = Err BadNumber
+number_of dot Foreign = Err NotInProfile
+number_of dot Unreadable = Err BadNumber
+
+-- an instrument number, with a minus for a stop
+abbrev pub as_instrument : Signed → Result Instrument ScoreKind
+as_instrument n =
+    if is_whole n
+    then if nat_le 1 n.size.whole && nat_le n.size.whole 32767
+    then Ok (record { number = n.size.whole; stop = n.minus })
+    else Err BadNumber
+    else Err NotInProfile
+
+-- p1 as it is written
+abbrev pub instrument_of : Field → Result Instrument ScoreKind
+instrument_of f = and_then (number_of NothingToCarry f) as_instrument
+
+abbrev pub is_note_letter : Letter → Bool
+is_note_letter letter.Note = true
+is_note_letter _ = false
+
+-- whether the newest statement is an `i`
+abbrev pub is_note : List Row → Bool
+is_note [] = false
+is_note (row ∷ above) = is_note_letter row.letter
+
+abbrev pub p1_by : Option Field → Result Instrument ScoreKind → Result Instrument ScoreKind
+p1_by None before = before
+p1_by (Some Same) before = before
+p1_by (Some f) before = instrument_of f
+
+-- p1 of an `i` statement: what it writes, or else p1 of the `i` statement right before
+abbrev pub p1 : List Row → Result Instrument ScoreKind
+p1 [] = Err NothingToCarry
+p1 (row ∷ above) = p1_by (slice_get row.fields 0) (if is_note above then p1 above else Err NothingToCarry)
+
+-- one instrument, and both a stop or neither
+abbrev pub is_same_instrument : Instrument → Instrument → Bool
+is_same_instrument a b = a.number == b.number && (if a.stop then b.stop else not b.stop)
+
+abbrev pub is_same : Result Instrument ScoreKind → Result Instrument ScoreKind → Bool
+is_same (Ok a) (Ok b) = is_same_instrument a b
+is_same _ _ = false
+
+-- it continues the statement before, an `i` with the same p1
+abbrev pub continues : List Row → Bool
+continues [] = false
+continues (row ∷ above) = is_note above && is_same (p1 (row ∷ above)) (p1 above)
+
+abbrev pub taken : Option Field → Option Field → Option Field
+taken None before = before
+taken (Some Same) (Some f) = Some f
+taken (Some Same) None = Some Same
+taken (Some f) before = Some f
+
+-- field k, from 0: what the statement writes there, or else, where it continues the one before, field k of that
+abbrev pub field : List Row → ℕ → Option Field
+field [] k = None
+field (row ∷ above) k = taken (slice_get row.fields k) (if continues (row ∷ above) then field above k else None)
+
+-- how many fields it has, those taken from before counted
+abbrev pub count : List Row → ℕ
+count [] = 0
+count (row ∷ above) = max (length row.fields) (if continues (row ∷ above) then count above else 0)
+
+-- all its fields
+abbrev pub fields : List Row → List Field
+fields rows = map (λ k. unwrap_or (field rows k) Same) (range_with_len 0 (count rows))

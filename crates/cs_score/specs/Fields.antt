@@ -1,0 +1,87 @@
+-- What a field of a line says, wherever it stands.
+use Rattle.std.specs.Prelude.{ℕ, ℤ, pos, neg_ℤ, Bool, true, false, List, [], ◌∷◌, ◌&&◌, ◌||◌, ◌==◌, length, slice_index, drop, codes, nat_eq, nat_lt, Option, Some, None, if◌then◌else◌}
+use Rattle.std.specs.List.{list_any, starts_with}
+use Rattle.std.specs.Option.{option_map}
+use Rattle.cs_base.specs.Decimals.{decimal_of, raw_of_decimal, millionths_of}
+use Rattle.cs_base.specs.Numbers.{clamp}
+use Rattle.cs_base.specs.declared.decimal.Decimal.{Decimal}
+use Rattle.cs_score.specs.declared.field.Signed.{Signed}
+use Rattle.cs_score.specs.declared.field.Field.{Field}
+use Rattle.cs_score.specs.declared.field.Field.TheVariants.{Number, Same, After, Ahead, Foreign, Unreadable}
+
+-- whether a text begins with another
+abbrev pub begins_with : List ℕ → List ℕ → Bool
+begins_with front text = starts_with nat_eq text front
+
+-- whether a text has a first byte, of this kind
+abbrev pub begins : (ℕ → Bool) → List ℕ → Bool
+begins p [] = false
+begins p (b ∷ rest) = p b
+
+-- the bytes `< > ! [ { " ( ) ~ $ @ n p`, with which fields begin that the profile leaves out
+abbrev pub is_foreign : ℕ → Bool
+is_foreign b = b == 34 || list_any (λ sign. b == sign) (codes "<>![{()~$@np")
+
+-- a decimal, and whether a minus stands before it
+abbrev pub signed : Bool → List ℕ → Option Signed
+signed minus text = option_map (λ (d : Decimal). record { minus = minus; size = d }) (decimal_of text)
+
+-- the number that a word is: a decimal after `-`, after `+`, or alone
+abbrev pub signed_of : List ℕ → Option Signed
+signed_of word =
+    if begins (λ b. b == 45) word then signed true (drop 1 word)
+    else if begins (λ b. b == 43) word then signed false (drop 1 word)
+    else signed false word
+
+abbrev pub number_field : Option Signed → Field
+number_field (Some n) = Number n
+number_field None = Unreadable
+
+abbrev pub ahead_field : Option Decimal → Field
+ahead_field (Some x) = Ahead x
+ahead_field None = Foreign
+
+-- `^+x` with a decimal x; every other word that begins with `^` is outside the profile
+abbrev pub caret_field : List ℕ → Field
+caret_field word = if begins_with (codes "^+") word then ahead_field (decimal_of (drop 2 word)) else Foreign
+
+-- whether a word is this one byte
+abbrev pub is_only : ℕ → List ℕ → Bool
+is_only byte word = length word == 1 && slice_index word 0 == byte
+
+-- what a word says
+abbrev pub field_of : List ℕ → Field
+field_of word =
+    if is_only 46 word then Same
+    else if is_only 43 word then After
+    else if begins (λ b. b == 94) word then caret_field word
+    else if begins is_foreign word then Foreign
+    else number_field (signed_of word)
+
+-- a size with its sign
+abbrev pub with_sign : Bool → ℤ → ℤ
+with_sign minus z = if minus then neg_ℤ z else z
+
+-- the value in 65,536ths: the sign is applied to the rounded size
+abbrev pub raw_of : Signed → ℤ
+raw_of n = with_sign n.minus (clamp (raw_of_decimal n.size))
+
+-- the whole part, with the sign
+abbrev pub whole_of : Signed → ℤ
+whole_of n = with_sign n.minus (pos n.size.whole)
+
+-- the size in millionths: digits past the sixth are dropped
+abbrev pub size_of : Signed → ℕ
+size_of n = millionths_of n.size
+
+-- no digit but 0 among the nine after the point
+abbrev pub is_whole : Signed → Bool
+is_whole n = n.size.billionths == 0
+
+-- below 0, by the nine digits after the point
+abbrev pub is_below_zero : Signed → Bool
+is_below_zero n = n.minus && (nat_lt 0 n.size.whole || nat_lt 0 n.size.billionths)
+
+-- a time below 0, by the six digits that a time keeps
+abbrev pub is_negative_time : Signed → Bool
+is_negative_time n = n.minus && nat_lt 0 (size_of n)

@@ -1,0 +1,110 @@
+-- The lines of a text that have a statement: its letter, its line number and its fields.
+use Rattle.std.specs.Prelude.{ℕ, Bool, List, [], ◌∷◌, ◌++◌, ◌+◌, ◌-◌, ◌||◌, ◌==◌, not, map, take, drop, codes, length, min, if◌then◌else◌, count_by}
+use Rattle.std.specs.Char.{is_ascii_alphabetic}
+use Rattle.std.specs.List.{prefix_len}
+use Rattle.cs_score.specs.declared.row.Letter.{Letter}
+use Rattle.cs_score.specs.declared.row.Letter.TheVariants as letter
+use Rattle.cs_score.specs.declared.row.Row.{Row}
+use Rattle.cs_score.specs.Fields.{begins_with, begins, field_of}
+
+-- space, tab and carriage return
+abbrev pub is_blank : ℕ → Bool
+is_blank b = b == 32 || b == 9 || b == 13
+
+abbrev pub is_feed : ℕ → Bool
+is_feed b = b == 10
+
+abbrev pub is_line_byte : ℕ → Bool
+is_line_byte b = not (is_feed b)
+
+-- the bytes of a comment after its `/*`, up to the next `*/` or to the end of the text
+abbrev pub block_len : List ℕ → ℕ
+block_len [] = 0
+block_len (b ∷ rest) = if begins_with (codes "*/") (b ∷ rest) then 2 else 1 + block_len rest
+
+-- how many bytes of a text's front are a comment: to the end of the line after `;` or `//`, to `*/` after `/*`
+abbrev pub comment_len : List ℕ → ℕ
+comment_len text =
+    if begins_with (codes ";") text || begins_with (codes "//") text then prefix_len is_line_byte text
+    else if begins_with (codes "/*") text then 2 + block_len (drop 2 text)
+    else 0
+
+-- how many bytes from here on are a comment, where so many are hidden by one that began before
+abbrev pub hidden_here : ℕ → List ℕ → ℕ
+hidden_here hidden text = if hidden == 0 then comment_len text else hidden
+
+-- a text with a space in place of each byte of a comment, where its first bytes are hidden already
+abbrev pub plain_from : ℕ → List ℕ → List ℕ
+plain_from hidden [] = []
+plain_from hidden (b ∷ rest) =
+    let here = hidden_here hidden (b ∷ rest) in
+    (if here == 0 then b else 32) ∷ plain_from (here - 1) rest
+
+abbrev pub plain_of : List ℕ → List ℕ
+plain_of text = plain_from 0 text
+
+-- a line: the place of its first byte, and its bytes
+pub record Line : Type 0 where
+  pub at : ℕ
+  pub bytes : List ℕ
+
+abbrev pub with_byte : ℕ → ℕ → List Line → List Line
+with_byte at b [] = record { at = at; bytes = b ∷ [] } ∷ []
+with_byte at b (l ∷ ls) = record { at = at; bytes = b ∷ l.bytes } ∷ ls
+
+-- the lines of a text whose first byte has this place: line feeds end them
+abbrev pub lines_from : ℕ → List ℕ → List Line
+lines_from at [] = []
+lines_from at (b ∷ rest) =
+    if is_feed b then record { at = at; bytes = [] } ∷ lines_from (at + 1) rest
+    else with_byte at b (lines_from (at + 1) rest)
+
+abbrev pub with_first : ℕ → List (List ℕ) → List (List ℕ)
+with_first b [] = (b ∷ []) ∷ []
+with_first b (w ∷ ws) = (b ∷ w) ∷ ws
+
+abbrev pub is_word_byte : ℕ → Bool
+is_word_byte b = not (is_blank b)
+
+-- the words of a line, which blanks part
+abbrev pub words : List ℕ → List (List ℕ)
+words [] = []
+words (b ∷ rest) =
+    if is_blank b then words rest
+    else if begins is_word_byte rest then with_first b (words rest)
+    else (b ∷ []) ∷ words rest
+
+-- what the first byte of a statement says
+abbrev pub letter_of : ℕ → Letter
+letter_of b =
+    if b == 105 then letter.Note else if b == 102 then letter.Table
+    else if b == 116 then letter.Tempo else if b == 98 then letter.Base
+    else if b == 115 then letter.Section else if b == 101 then letter.End
+    else if is_ascii_alphabetic b then letter.Other else letter.Stray
+
+-- a statement: its first byte, and the words after it, the first of which may follow at once
+abbrev pub row_at : ℕ → List ℕ → List Row
+row_at line [] = []
+row_at line (b ∷ rest) = record { line = line; letter = letter_of b; fields = map field_of (words rest) } ∷ []
+
+-- the line number of what stands after a text
+abbrev pub line_after : List ℕ → ℕ
+line_after before = count_by is_feed before + 1
+
+-- the statement of a line, if it has one; its line number is that of its letter
+abbrev pub row_of : List ℕ → Line → List Row
+row_of source l =
+    let indent = prefix_len is_blank l.bytes in
+    row_at (line_after (take (l.at + indent) source)) (drop indent l.bytes)
+
+abbrev pub rows_in : List ℕ → List Line → List Row
+rows_in source [] = []
+rows_in source (l ∷ ls) = row_of source l ++ rows_in source ls
+
+-- the bytes of a text's first line, with its line feed
+abbrev pub next_len : List ℕ → ℕ
+next_len text = min (prefix_len is_line_byte text + 1) (length text)
+
+-- the statements of a text
+abbrev pub rows_of : List ℕ → List Row
+rows_of source = rows_in source (lines_from 0 (plain_of source))

@@ -1,0 +1,217 @@
+-- The statements of a score, line after line, or its first fault.
+use Rattle.std.specs.Prelude.{ℕ, ℤ, pos, Bool, true, false, List, [], ◌∷◌, ◌++◌, ◌&&◌, ◌==◌, not, length, drop, nat_le, nat_lt, slice_get, Option, Some, None, Result, Ok, Err, if◌then◌else◌}
+use Rattle.std.specs.Option.{option_or}
+use Rattle.std.specs.Ordering.{int_eq}
+use Rattle.cs_base.specs.declared.fault.ScoreFault.{ScoreFault}
+use Rattle.cs_base.specs.declared.fault.ScoreKind.{ScoreKind}
+use Rattle.cs_base.specs.declared.fault.ScoreKind.TheVariants.{BadStatement, BadNumber, MissingField, BadTempo, BadGen, BadTableSize, TableResized, NotInProfile}
+use Rattle.cs_gen.specs.declared.check.GenFault.{GenFault}
+use Rattle.cs_gen.specs.declared.check.GenFault.TheVariants as gen
+use Rattle.cs_gen.specs.Faults.{table_fault}
+use Rattle.cs_score.specs.declared.field.Signed.{Signed}
+use Rattle.cs_score.specs.declared.field.Field.{Field}
+use Rattle.cs_score.specs.declared.row.Letter.{Letter}
+use Rattle.cs_score.specs.declared.row.Letter.TheVariants as letter
+use Rattle.cs_score.specs.declared.row.Row.{Row}
+use Rattle.cs_score.specs.declared.statement.TempoPoint.{TempoPoint}
+use Rattle.cs_score.specs.declared.statement.ScoreWhat.{ScoreWhat}
+use Rattle.cs_score.specs.declared.statement.ScoreWhat.TheVariants.{Table, Extend, Tempo, Section}
+use Rattle.cs_score.specs.declared.statement.ScoreStmt.{ScoreStmt}
+use Rattle.cs_score.specs.Fields.{whole_of, size_of, is_whole, is_below_zero, is_negative_time}
+use Rattle.cs_score.specs.Carry.{and_then, number_of}
+use Rattle.cs_score.specs.Notes.{as_time, values_of, note, ok_or_zero}
+use Rattle.cs_score.specs.Ranges.{beats_end}
+use Rattle.cs_score.specs.Rows.{rows_of}
+
+-- a time of `f` or `b`, below the greatest beat
+abbrev pub in_beats : ℕ → Result ℕ ScoreKind
+in_beats at = if nat_lt at beats_end then Ok at else Err BadNumber
+
+abbrev pub time_of : Field → Result ℕ ScoreKind
+time_of f = and_then (number_of BadNumber f) (λ n. and_then (as_time n) in_beats)
+
+-- a field that isn't there reads as 0: it is missed when the fields are counted
+abbrev pub time_or_zero : Option Field → Result ℕ ScoreKind
+time_or_zero None = Ok 0
+time_or_zero (Some f) = time_of f
+
+abbrev pub time_at : List Field → ℕ → Result ℕ ScoreKind
+time_at fs k = time_or_zero (slice_get fs k)
+
+-- a size or a GEN
+abbrev pub as_whole : Signed → Result ℤ ScoreKind
+as_whole n = if is_whole n then Ok (whole_of n) else Err BadNumber
+
+abbrev pub whole_or_zero : Option Field → Result ℤ ScoreKind
+whole_or_zero None = Ok (pos 0)
+whole_or_zero (Some f) = and_then (number_of BadNumber f) as_whole
+
+abbrev pub whole_at : List Field → ℕ → Result ℤ ScoreKind
+whole_at fs k = whole_or_zero (slice_get fs k)
+
+-- the number of a table, or 0
+abbrev pub as_table_number : Signed → Result ℕ ScoreKind
+as_table_number n =
+    if is_below_zero n then Err NotInProfile
+    else if is_whole n && nat_le n.size.whole 65535 then Ok n.size.whole
+    else Err BadNumber
+
+abbrev pub table_number_at : List Field → Result ℕ ScoreKind
+table_number_at [] = Ok 0
+table_number_at (f ∷ fs) = and_then (number_of BadNumber f) as_table_number
+
+abbrev pub at_least : ℕ → List Field → ScoreWhat → Result ScoreWhat ScoreKind
+at_least n fs what = if nat_lt (length fs) n then Err MissingField else Ok what
+
+-- `f 0 time`: its further fields aren't looked at
+abbrev pub extend_of : List Field → Result ScoreWhat ScoreKind
+extend_of fs = and_then (time_at fs 1) (λ at. at_least 2 fs (Extend at))
+
+-- the fields of a table in order, then their count
+abbrev pub table_by : ℕ → List Field → Result ScoreWhat ScoreKind
+table_by number fs =
+    and_then (time_at fs 1) (λ at. and_then (whole_at fs 2) (λ size. and_then (whole_at fs 3) (λ gen.
+    and_then (values_of BadNumber (drop 4 fs)) (λ args. at_least 4 fs (Table number at size gen args)))))
+
+-- an `f` by its fields alone
+abbrev pub written_table : List Field → Result ScoreWhat ScoreKind
+written_table fs = and_then (table_number_at fs) (λ number. if number == 0 then extend_of fs else table_by number fs)
+
+abbrev pub size_for : ℕ → Result ScoreWhat ScoreKind → Option ℤ
+size_for number (Ok (Table m at size gen args)) = if m == number then Some size else None
+size_for number _ = None
+
+-- the size that a statement gives a table
+abbrev pub size_by : ℕ → List Field → Letter → Option ℤ
+size_by number fs letter.Table = size_for number (written_table fs)
+size_by number fs _ = None
+
+abbrev pub size_in : ℕ → Row → Option ℤ
+size_in number row = size_by number row.fields row.letter
+
+-- the size that the first `f` of a number gave, in rows that stand newest first
+abbrev pub first_size : List Row → ℕ → Option ℤ
+first_size [] number = None
+first_size (row ∷ above) number = option_or (first_size above number) (size_in number row)
+
+abbrev pub is_other_size : Option ℤ → ℤ → Bool
+is_other_size None size = false
+is_other_size (Some first) size = not (int_eq first size)
+
+-- the rules of a table in their order: its size, the size that its number had first, its GEN
+abbrev pub table_refusal : Option GenFault → Bool → Option ScoreKind
+table_refusal (Some gen.Size) resized = Some BadTableSize
+table_refusal (Some gen.Unknown) resized = Some (if resized then TableResized else BadGen)
+table_refusal (Some gen.NegativeLength) resized = Some (if resized then TableResized else BadGen)
+table_refusal None resized = if resized then Some TableResized else None
+
+abbrev pub unless : Option ScoreKind → ScoreWhat → Result ScoreWhat ScoreKind
+unless None what = Ok what
+unless (Some kind) what = Err kind
+
+-- why a table is refused where numbers have these first sizes
+abbrev pub refusal_of : (ℕ → Option ℤ) → ScoreWhat → Option ScoreKind
+refusal_of first (Table number at size gen args) =
+    table_refusal (table_fault size gen args) (is_other_size (first number) size)
+refusal_of first _ = None
+
+-- an `f` after the statements above
+abbrev pub table : List Row → List Field → Result ScoreWhat ScoreKind
+table above fs = and_then (written_table fs) (λ what. unless (refusal_of (first_size above) what) what)
+
+-- the first beat of a tempo is 0, and none is before the one before it
+abbrev pub follows : Option ℕ → ℕ → Bool
+follows None beat = beat == 0
+follows (Some last) beat = nat_le last beat
+
+-- a beat of a tempo
+abbrev pub as_beat : Option ℕ → Signed → Result ℕ ScoreKind
+as_beat last n =
+    if is_negative_time n then Err BadTempo
+    else if nat_lt (size_of n) beats_end
+    then if follows last (size_of n) then Ok (size_of n) else Err BadTempo
+    else Err BadNumber
+
+-- 1 to 60,000 beats a minute, in millionths
+abbrev pub as_tempo : Signed → Result ℕ ScoreKind
+as_tempo n =
+    if n.minus then Err BadTempo
+    else if nat_le 1000000 (size_of n) && nat_le (size_of n) 60000000000 then Ok (size_of n) else Err BadTempo
+
+-- the pairs of beat and tempo, after a pair with this beat
+abbrev pub points_of : Option ℕ → List Field → Result (List TempoPoint) ScoreKind
+points_of last [] = Ok []
+points_of last (f ∷ []) = and_then (number_of BadNumber f) (λ n. and_then (as_beat last n) (λ _. Err MissingField))
+points_of last (f ∷ g ∷ fs) =
+    and_then (number_of BadNumber f) (λ n. and_then (as_beat last n) (λ beat.
+    and_then (number_of BadNumber g) (λ m. and_then (as_tempo m) (λ tempo.
+    and_then (points_of (Some beat) fs) (λ points. Ok (record { beat = beat; tempo = tempo } ∷ points))))))
+
+abbrev pub tempo_of : List Field → Result ScoreWhat ScoreKind
+tempo_of fs =
+    if length fs == 0 then Err MissingField else and_then (points_of None fs) (λ points. Ok (Tempo points))
+
+-- the base that a `b` gives; its further fields are numbers, and no more is asked of them
+abbrev pub base_by : List Field → Result ℕ ScoreKind
+base_by [] = Err MissingField
+base_by (f ∷ fs) = and_then (time_of f) (λ base. and_then (values_of BadNumber fs) (λ _. Ok base))
+
+abbrev pub base_after : List Field → ℕ → Letter → ℕ
+base_after fs before letter.Base = ok_or_zero (base_by fs)
+base_after fs before letter.Section = 0
+base_after fs before _ = before
+
+-- the base after rows that stand newest first: 0 at the start of a section
+abbrev pub base_of : List Row → ℕ
+base_of [] = 0
+base_of (row ∷ above) = base_after row.fields (base_of above) row.letter
+
+abbrev pub one : Result ScoreWhat ScoreKind → Result (List ScoreWhat) ScoreKind
+one r = and_then r (λ what. Ok (what ∷ []))
+
+abbrev pub ended : List Field → Result (List ScoreWhat) ScoreKind
+ended [] = Ok []
+ended (f ∷ fs) = Err NotInProfile
+
+-- what a row asks for after those above: one thing, or nothing
+abbrev pub asked_by : List Row → Row → Letter → Result (List ScoreWhat) ScoreKind
+asked_by above row letter.Note = one (note (base_of above) (row ∷ above))
+asked_by above row letter.Table = one (table above row.fields)
+asked_by above row letter.Tempo = one (tempo_of row.fields)
+asked_by above row letter.Base = and_then (base_by row.fields) (λ _. Ok [])
+asked_by above row letter.Section = Ok (Section ∷ [])
+asked_by above row letter.End = ended row.fields
+asked_by above row letter.Other = Err NotInProfile
+asked_by above row letter.Stray = Err BadStatement
+
+abbrev pub asked : List Row → Row → Result (List ScoreWhat) ScoreKind
+asked above row = asked_by above row row.letter
+
+abbrev pub at_line : ℕ → List ScoreWhat → List ScoreStmt
+at_line line [] = []
+at_line line (what ∷ more) = record { line = line; what = what } ∷ at_line line more
+
+-- a row's statement with its line, or its fault with its line
+abbrev pub stated : ℕ → Result (List ScoreWhat) ScoreKind → Result (List ScoreStmt) ScoreFault
+stated line (Ok asked) = Ok (at_line line asked)
+stated line (Err kind) = Err (record { line = line; kind = kind })
+
+-- the statements of rows that stand after those above
+abbrev pub statements_of : List Row → List Row → Result (List ScoreStmt) ScoreFault
+statements_of above [] = Ok []
+statements_of above (row ∷ rows) =
+    and_then (stated row.line (asked above row)) (λ these.
+    and_then (statements_of (row ∷ above) rows) (λ more. Ok (these ++ more)))
+
+abbrev pub is_end : Letter → Bool
+is_end letter.End = true
+is_end _ = false
+
+-- the rows up to `e`
+abbrev pub up_to_end : List Row → List Row
+up_to_end [] = []
+up_to_end (row ∷ rows) = row ∷ (if is_end row.letter then [] else up_to_end rows)
+
+-- the statements of a score's text, or the first fault
+unfoldable pub score_of : List ℕ → Result (List ScoreStmt) ScoreFault
+score_of text = statements_of [] (up_to_end (rows_of text))

@@ -1,0 +1,86 @@
+// The lines of a text, one by one.
+ghost use Rattle.std.specs.Prelude.{◌≡◌, ◌<◌, ◌≤◌, ◌+◌, ◌-◌, ◌++◌, drop, take, length, count_by, IfOk};
+ghost use Rattle.std.specs.Option.{option_to_list};
+ghost use Rattle.cs_score.specs.Rows.{is_feed, line_after, lines_from, next_len, plain_of, row_at, rows_in};
+
+use crate::comment::line_len;
+use crate::row::{Letter, Row, blanks_len, fields_of};
+use std::alloc::{AllocError, Global};
+
+/// A line that was read: its statement, if it has one, and the place and the line number of what follows.
+#[derive(Debug, Drop)]
+pub struct LineRead {
+    pub row: Option<Row>,
+    pub next: usize,
+    pub line: u32,
+}
+
+/// Reads the line of a text at a place; `plain` is the text without its comments, and `line` the line number there.
+pub fn read_line(
+    alloc: Global,
+    text: &[u8],
+    plain: &[u8],
+    at: usize,
+    line: u32,
+) -> Result<LineRead, AllocError>
+    requires small { length text.now ≤ 4194304 }
+    requires plain { length plain.now ≡ length text.now }
+    requires at { at < length plain.now }
+    requires line { line ≡ line_after (take at text.now) }
+    ensures row { IfOk result (λ r. rows_in text.now (lines_from at (drop at plain.now))
+        ≡ option_to_list r.row ++ rows_in text.now (lines_from r.next (drop r.next plain.now))) }
+    ensures next { IfOk result (λ r. (at < r.next) × (r.next ≤ length plain.now)) }
+    ensures line { IfOk result (λ r. r.line ≡ line_after (take r.next text.now)) }
+{
+    let rest = &plain[at..];
+    let bytes = &rest[..line_len(rest)];
+    let indent = blanks_len(bytes);
+    let letter = at + indent;
+    let next = at + next_len(rest);
+    let row_line = line_on(text, line, at, letter);
+    let row = row_at(alloc, row_line, &bytes[indent..])?;
+    Ok(LineRead {
+        row,
+        next,
+        line: line_on(text, row_line, letter, next),
+    })
+}
+
+// The bytes of a line with its line feed.
+fn next_len(text: &[u8]) -> usize
+    ensures { result ≡ next_len text.now }
+{
+    (line_len(text) + 1).min(text.len())
+}
+
+// The line number at a place, from that at an earlier one.
+fn line_on(text: &[u8], line: u32, from: usize, to: usize) -> u32
+    requires small { length text.now ≤ 4194304 }
+    requires from { from ≤ to }
+    requires to { to ≤ length text.now }
+    requires line { line ≡ line_after (take from text.now) }
+    ensures { result ≡ line_after (take to text.now) }
+{
+    line + feeds(&text[from..to])
+}
+
+fn feeds(text: &[u8]) -> u32
+    requires { length text.now ≤ 4194304 }
+    ensures { result ≡ count_by is_feed text.now }
+{
+    text.iter().filter(|byte| **byte == b'\n').count() as u32
+}
+
+// A statement, where a line has one after its blanks: its letter, and its fields.
+fn row_at(alloc: Global, line: u32, text: &[u8]) -> Result<Option<Row>, AllocError>
+    ensures { IfOk result (λ row. option_to_list row ≡ row_at line text.now) }
+{
+    match text {
+        [] => Ok(None),
+        [first, others @ ..] => Ok(Some(Row {
+            line,
+            letter: Letter::of(*first),
+            fields: fields_of(alloc, others)?,
+        })),
+    }
+}

@@ -1,0 +1,93 @@
+// The line of a statement: its letter and its fields.
+ghost use Rattle.std.specs.Prelude.{◌≡◌, ◌<◌, ◌≤◌, drop, length, map, IfOk};
+ghost use Rattle.std.specs.List.{prefix_len};
+ghost use Rattle.cs_score.specs.Fields.{field_of};
+ghost use Rattle.cs_score.specs.Rows.{letter_of, is_blank, is_word_byte, words};
+
+use crate::field::Field;
+use cs_base::Items;
+use std::alloc::{AllocError, Global};
+
+/// What the first byte of a statement says.
+#[derive(Clone, Copy, Debug, PartialEq, Eq)]
+pub enum Letter {
+    /// `i`
+    Note,
+    /// `f`
+    Table,
+    /// `t`
+    Tempo,
+    /// `b`
+    Base,
+    /// `s`
+    Section,
+    /// `e`
+    End,
+    /// Another letter.
+    Other,
+    /// No letter.
+    Stray,
+}
+
+impl Letter {
+    pub fn of(byte: u8) -> Letter
+        ensures { result ≡ letter_of byte }
+    {
+        match byte {
+            b'i' => Letter::Note,
+            b'f' => Letter::Table,
+            b't' => Letter::Tempo,
+            b'b' => Letter::Base,
+            b's' => Letter::Section,
+            b'e' => Letter::End,
+            _ if byte.is_ascii_alphabetic() => Letter::Other,
+            _ => Letter::Stray,
+        }
+    }
+}
+
+/// A statement as a line writes it. Lines count from 1.
+#[derive(Debug, Drop)]
+pub struct Row {
+    pub line: u32,
+    pub letter: Letter,
+    pub fields: Items<Field>,
+}
+
+/// The fields of a line, which blanks part.
+pub fn fields_of(alloc: Global, line: &[u8]) -> Result<Items<Field>, AllocError>
+    ensures { IfOk result (λ fields. fields ≡ map field_of (words line.now)) }
+{
+    let mut fields = Items::new(alloc);
+    let mut at = 0;
+    while at < line.len() {
+        if is_blank(line[at]) {
+            at += 1;
+        } else {
+            let len = word_len(&line[at..]);
+            fields.push(Field::of(&line[at..at + len]))?;
+            at += len;
+        }
+    }
+    Ok(fields)
+}
+
+pub fn is_blank(byte: u8) -> bool
+    ensures { result ≡ is_blank byte }
+{
+    byte == b' ' || byte == b'\t' || byte == b'\r'
+}
+
+pub fn blanks_len(text: &[u8]) -> usize
+    ensures value { result ≡ prefix_len is_blank text.now }
+    ensures within { result ≤ length text.now }
+{
+    text.iter().take_while(|byte| is_blank(**byte)).count()
+}
+
+fn word_len(text: &[u8]) -> usize
+    ensures value { result ≡ prefix_len is_word_byte text.now }
+    ensures within { result ≤ length text.now }
+{
+    text.iter().take_while(|byte| !is_blank(**byte)).count()
+}

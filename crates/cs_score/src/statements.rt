@@ -1,0 +1,146 @@
+// Each statement after those that were read before it.
+ghost use Rattle.std.specs.Prelude.{ℕ, ◌≡◌, ◌==◌, Some, None, Ok, if◌then◌else◌, OnOk, IfOk, IfSome, nat_eq};
+ghost use Rattle.std.specs.HashMap.{get};
+ghost use Rattle.std.specs.Option.{option_or};
+ghost use Rattle.cs_score.specs.declared.row.Letter.TheVariants as letter;
+ghost use Rattle.cs_score.specs.Ranges.{HasRange};
+ghost use Rattle.cs_score.specs.Statements.{size_for};
+ghost use Rattle.cs_score.specs.Past.{AskedAnswers, Follows, HasRangeOrNothing, asked_after};
+
+use crate::ScoreWhat;
+use crate::carry::read_note;
+use crate::last::LastNote;
+use crate::past::Past;
+use crate::refusal::Refusal;
+use crate::row::{Letter, Row};
+use crate::table::{Sizes, base, first_size, refusal, written_table};
+use crate::tempo::tempo;
+use cs_base::ScoreKind;
+use std::alloc::{AllocError, Global};
+use std::collections::HashMap;
+
+impl Past {
+    /// No statement was read.
+    pub fn new(alloc: Global) -> Past
+        ensures base { result.base ≡ 0 }
+        ensures sizes { (n : ℕ) → get nat_eq result.sizes n ≡ None }
+        ensures last { result.last.instr ≡ None }
+    {
+        Past {
+            base: 0,
+            sizes: HashMap::new(alloc),
+            last: LastNote::none(alloc),
+        }
+    }
+
+    /// What a statement asks for after those that were read: one thing, or nothing.
+    pub fn read(&mut self, alloc: Global, row: Row) -> Result<Option<ScoreWhat>, Refusal>
+        ensures value { AskedAnswers result (asked_after self.old row row.letter) }
+        ensures follows { OnOk result (Follows self.old row self.new) }
+        ensures range { IfOk result HasRangeOrNothing }
+    {
+        match row.letter {
+            Letter::Note => self.note(alloc, row),
+            Letter::Table => self.table(alloc, row),
+            Letter::Tempo => self.tempo(alloc, row),
+            Letter::Base => self.base(alloc, row),
+            Letter::Section => Ok(self.section(row)),
+            Letter::End => self.end(row),
+            Letter::Other => Err(ScoreKind::NotInProfile.into()),
+            Letter::Stray => Err(ScoreKind::BadStatement.into()),
+        }
+    }
+
+    fn note(&mut self, alloc: Global, row: Row) -> Result<Option<ScoreWhat>, Refusal>
+        requires { row.letter ≡ letter.Note }
+        ensures value { AskedAnswers result (asked_after self.old row letter.Note) }
+        ensures follows { OnOk result (Follows self.old row self.new) }
+        ensures range { IfOk result HasRangeOrNothing }
+    {
+        let read = read_note(alloc, self.base, &self.last, row.fields)?;
+        self.last = read.last;
+        Ok(Some(read.what))
+    }
+
+    fn table(&mut self, alloc: Global, row: Row) -> Result<Option<ScoreWhat>, Refusal>
+        requires { row.letter ≡ letter.Table }
+        ensures value { AskedAnswers result (asked_after self.old row letter.Table) }
+        ensures follows { OnOk result (Follows self.old row self.new) }
+        ensures range { IfOk result HasRangeOrNothing }
+    {
+        let what = written_table(alloc, row.fields.as_slice())?;
+        if let Some(kind) = refusal(&self.sizes, &what) {
+            return Err(kind.into());
+        }
+        keep_size(&mut self.sizes, &what)?;
+        self.last.instr = None;
+        Ok(Some(what))
+    }
+
+    fn tempo(&mut self, alloc: Global, row: Row) -> Result<Option<ScoreWhat>, Refusal>
+        requires { row.letter ≡ letter.Tempo }
+        ensures value { AskedAnswers result (asked_after self.old row letter.Tempo) }
+        ensures follows { OnOk result (Follows self.old row self.new) }
+        ensures range { IfOk result HasRangeOrNothing }
+    {
+        let what = tempo(alloc, row.fields.as_slice())?;
+        self.last.instr = None;
+        Ok(Some(what))
+    }
+
+    fn base(&mut self, alloc: Global, row: Row) -> Result<Option<ScoreWhat>, Refusal>
+        requires { row.letter ≡ letter.Base }
+        ensures value { AskedAnswers result (asked_after self.old row letter.Base) }
+        ensures follows { OnOk result (Follows self.old row self.new) }
+        ensures range { IfOk result HasRangeOrNothing }
+    {
+        self.base = base(alloc, row.fields.as_slice())?;
+        self.last.instr = None;
+        Ok(None)
+    }
+
+    fn section(&mut self, row: Row) -> Option<ScoreWhat>
+        requires { row.letter ≡ letter.Section }
+        ensures value { AskedAnswers (Ok result) (asked_after self.old row letter.Section) }
+        ensures follows { Follows self.old row self.new }
+        ensures range { HasRangeOrNothing result }
+    {
+        self.base = 0;
+        self.last.instr = None;
+        Some(ScoreWhat::Section)
+    }
+
+    fn end(&mut self, row: Row) -> Result<Option<ScoreWhat>, Refusal>
+        requires { row.letter ≡ letter.End }
+        ensures value { AskedAnswers result (asked_after self.old row letter.End) }
+        ensures follows { OnOk result (Follows self.old row self.new) }
+        ensures range { IfOk result HasRangeOrNothing }
+    {
+        if row.fields.len() > 0 {
+            return Err(ScoreKind::NotInProfile.into());
+        }
+        self.last.instr = None;
+        Ok(None)
+    }
+}
+
+// Keeps the size of a table whose number had none before.
+fn keep_size(sizes: &mut Sizes, what: &ScoreWhat) -> Result<(), AllocError>
+    ensures { OnOk result ((n : ℕ) → get nat_eq sizes.new n
+        ≡ option_or (get nat_eq sizes.old n) (size_for n (Ok what.now))) }
+{
+    match what {
+        ScoreWhat::Table { number, size, .. } => keep_first(sizes, *number, *size),
+        _ => Ok(()),
+    }
+}
+
+fn keep_first(sizes: &mut Sizes, number: u32, size: i64) -> Result<(), AllocError>
+    ensures { OnOk result ((n : ℕ) → get nat_eq sizes.new n
+        ≡ option_or (get nat_eq sizes.old n) (if number == n then Some size else None)) }
+{
+    if first_size(sizes, number).is_none() {
+        sizes.insert(number, size)?;
+    }
+    Ok(())
+}

@@ -1,0 +1,210 @@
+// An `f` statement, and the base that a `b` gives.
+ghost use Rattle.std.specs.Prelude.{◌≡◌, ◌<◌, Some, None, Ok, IfOk, OnOk, IfErr, IfSome, slice_get, nat_eq, ◌==◌};
+ghost use Rattle.std.specs.HashMap.{get};
+ghost use Rattle.cs_base.specs.declared.fault.ScoreKind.TheVariants.{BadNumber};
+ghost use Rattle.cs_gen.specs.Faults.{table_fault};
+ghost use Rattle.cs_score.specs.Ranges.{HasRange, beats_end, IsTableNumber};
+ghost use Rattle.cs_score.specs.Statements.{in_beats, time_of, time_at, as_whole, whole_at, as_table_number, table_number_at, extend_of, table_by, written_table, is_other_size, table_refusal, refusal_of, base_by};
+ghost use Rattle.cs_score.specs.State.{Answers, HasWrittenRange};
+
+use crate::ScoreWhat;
+use crate::field::{Field, Signed};
+use crate::note::{BEATS_END, rest, time, values};
+use crate::refusal::Refusal;
+use cs_base::{Nums, ScoreKind};
+use cs_gen::{GenFault, check_table};
+use std::alloc::Global;
+use std::collections::HashMap;
+
+/// The greatest number of a table.
+const TABLES: u32 = 65_535;
+
+/// The size that the first `f` of each number gave.
+pub type Sizes = HashMap<u32, i64>;
+
+// A time of `f` or `b`, below the greatest beat.
+fn beats(field: Field) -> Result<u64, ScoreKind>
+    ensures value { result ≡ time_of field }
+    ensures below { IfOk result (λ at. at < beats_end) }
+{
+    let at = time(field.number(ScoreKind::BadNumber)?)?;
+    if at < BEATS_END {
+        Ok(at)
+    } else {
+        Err(ScoreKind::BadNumber)
+    }
+}
+
+// A field that isn't there reads as 0: it is missed when the fields are counted.
+fn time_at(fields: &[Field], k: usize) -> Result<u64, ScoreKind>
+    ensures value { result ≡ time_at fields.now k }
+    ensures below { IfOk result (λ at. at < beats_end) }
+{
+    match fields.get(k) {
+        None => Ok(0),
+        Some(field) => beats(*field),
+    }
+}
+
+fn whole_at(fields: &[Field], k: usize) -> Result<i64, ScoreKind>
+    ensures { result ≡ whole_at fields.now k }
+{
+    match fields.get(k) {
+        None => Ok(0),
+        Some(field) => whole(field.number(ScoreKind::BadNumber)?),
+    }
+}
+
+// A size or a GEN.
+fn whole(n: Signed) -> Result<i64, ScoreKind>
+    ensures { result ≡ as_whole n }
+{
+    if n.is_whole() {
+        Ok(n.whole())
+    } else {
+        Err(ScoreKind::BadNumber)
+    }
+}
+
+fn table_number_at(fields: &[Field]) -> Result<u32, ScoreKind>
+    ensures value { result ≡ table_number_at fields.now }
+    ensures range { IfOk result (λ number. number < 65536) }
+{
+    match fields.get(0) {
+        None => Ok(0),
+        Some(field) => table_number(field.number(ScoreKind::BadNumber)?),
+    }
+}
+
+// The number of a table, or 0.
+fn table_number(n: Signed) -> Result<u32, ScoreKind>
+    ensures value { result ≡ as_table_number n }
+    ensures range { IfOk result (λ number. number < 65536) }
+{
+    if n.is_below_zero() {
+        return Err(ScoreKind::NotInProfile);
+    }
+    if n.is_whole() && n.size.whole <= TABLES {
+        Ok(n.size.whole)
+    } else {
+        Err(ScoreKind::BadNumber)
+    }
+}
+
+/// An `f` by its fields alone: a table, or the extension of a section by `f 0 time`.
+pub fn written_table(alloc: Global, fields: &[Field]) -> Result<ScoreWhat, Refusal>
+    ensures value { Answers result (written_table fields.now) }
+    ensures range { IfOk result HasWrittenRange }
+{
+    let number = table_number_at(fields)?;
+    if number == 0 {
+        Ok(extend(fields)?)
+    } else {
+        table(alloc, number, fields)
+    }
+}
+
+// `f 0 time`: its further fields aren't looked at.
+fn extend(fields: &[Field]) -> Result<ScoreWhat, ScoreKind>
+    ensures value { result ≡ extend_of fields.now }
+    ensures range { IfOk result HasWrittenRange }
+{
+    let at = time_at(fields, 1)?;
+    if fields.len() < 2 {
+        return Err(ScoreKind::MissingField);
+    }
+    Ok(ScoreWhat::Extend { at })
+}
+
+// The fields of a table in order, then their count.
+fn table(alloc: Global, number: u32, fields: &[Field]) -> Result<ScoreWhat, Refusal>
+    requires { IsTableNumber number }
+    ensures value { Answers result (table_by number fields.now) }
+    ensures range { IfOk result HasWrittenRange }
+{
+    let at = time_at(fields, 1)?;
+    let size = whole_at(fields, 2)?;
+    let gen_ = whole_at(fields, 3)?;
+    let args = values(alloc, ScoreKind::BadNumber, rest(fields, 4))?;
+    if fields.len() < 4 {
+        return Err(ScoreKind::MissingField.into());
+    }
+    Ok(ScoreWhat::Table {
+        number,
+        at,
+        size,
+        gen_,
+        args,
+    })
+}
+
+/// Why a table is refused where numbers have these first sizes.
+pub fn refusal(sizes: &Sizes, what: &ScoreWhat) -> Option<ScoreKind>
+    ensures { result ≡ refusal_of (get nat_eq sizes.now) what.now }
+{
+    match what {
+        ScoreWhat::Table {
+            number,
+            size,
+            gen_,
+            args,
+            ..
+        } => table_refusal(
+            fault(*size, *gen_, args),
+            is_other_size(first_size(sizes, *number), *size),
+        ),
+        _ => None,
+    }
+}
+
+fn fault(size: i64, gen_: i64, args: &Nums) -> Option<GenFault>
+    ensures { result ≡ table_fault size gen_ args.now }
+{
+    match check_table(size, gen_, args.as_slice()) {
+        Ok(()) => None,
+        Err(fault) => Some(fault),
+    }
+}
+
+/// The size that the first `f` of a number gave.
+pub fn first_size(sizes: &Sizes, number: u32) -> Option<i64>
+    ensures { result ≡ get nat_eq sizes.now number }
+{
+    sizes.get(&number).copied()
+}
+
+fn is_other_size(first: Option<i64>, size: i64) -> bool
+    ensures { result ≡ is_other_size first size }
+{
+    match first {
+        None => false,
+        Some(first) => first != size,
+    }
+}
+
+// The rules of a table in their order: its size, the size that its number had first, its GEN.
+fn table_refusal(fault: Option<GenFault>, resized: bool) -> Option<ScoreKind>
+    ensures { result ≡ table_refusal fault resized }
+{
+    match fault {
+        Some(GenFault::Size) => Some(ScoreKind::BadTableSize),
+        _ if resized => Some(ScoreKind::TableResized),
+        Some(_) => Some(ScoreKind::BadGen),
+        None => None,
+    }
+}
+
+/// The base that a `b` gives; its further fields are numbers, and no more is asked of them.
+pub fn base(alloc: Global, fields: &[Field]) -> Result<u64, Refusal>
+    ensures value { Answers result (base_by fields.now) }
+    ensures below { IfOk result (λ base. base < beats_end) }
+{
+    match fields {
+        [] => Err(ScoreKind::MissingField.into()),
+        [first, others @ ..] => {
+            let base = beats(*first)?;
+            values(alloc, ScoreKind::BadNumber, others)?;
+            Ok(base)
+        }
+    }
+}

@@ -1,0 +1,89 @@
+// A `t` statement: pairs of beat and tempo.
+ghost use Rattle.std.specs.Prelude.{◌≡◌, ◌<◌, ◌≤◌, None, IfOk, length};
+ghost use Rattle.cs_score.specs.Ranges.{AreTempoPoints, HasRange, beats_end};
+ghost use Rattle.cs_score.specs.Statements.{follows, as_beat, as_tempo, points_of, tempo_of};
+ghost use Rattle.cs_score.specs.State.{Answers};
+
+use crate::field::{Field, Signed};
+use crate::note::BEATS_END;
+use crate::refusal::Refusal;
+use crate::{ScoreWhat, TempoPoint, TempoPoints};
+use cs_base::ScoreKind;
+use std::alloc::Global;
+
+/// One beat a minute, and 60,000, in millionths.
+const SLOWEST: u64 = 1_000_000;
+
+const FASTEST: u64 = 60_000_000_000;
+
+/// The tempo that a `t` gives.
+pub fn tempo(alloc: Global, fields: &[Field]) -> Result<ScoreWhat, Refusal>
+    ensures value { Answers result (tempo_of fields.now) }
+    ensures range { IfOk result HasRange }
+{
+    if fields.len() == 0 {
+        return Err(ScoreKind::MissingField.into());
+    }
+    let points = points(alloc, fields)?;
+    Ok(ScoreWhat::Tempo { points })
+}
+
+fn points(alloc: Global, fields: &[Field]) -> Result<TempoPoints, Refusal>
+    requires { 0 < length fields.now }
+    ensures value { Answers result (points_of None fields.now) }
+    ensures range { IfOk result AreTempoPoints }
+{
+    let mut points = TempoPoints::new(alloc);
+    let mut last = None;
+    let mut at = 0;
+    while at < fields.len() {
+        let beat = beat(last, fields[at].number(ScoreKind::BadNumber)?)?;
+        if at + 1 == fields.len() {
+            return Err(ScoreKind::MissingField.into());
+        }
+        let tempo = beats_a_minute(fields[at + 1].number(ScoreKind::BadNumber)?)?;
+        points.push(TempoPoint { beat, tempo })?;
+        last = Some(beat);
+        at += 2;
+    }
+    Ok(points)
+}
+
+// A beat of a tempo, after the one before.
+fn beat(last: Option<u64>, n: Signed) -> Result<u64, ScoreKind>
+    ensures { result ≡ as_beat last n }
+{
+    let beat = n.millionths();
+    if n.is_negative_time() {
+        return Err(ScoreKind::BadTempo);
+    }
+    if beat >= BEATS_END {
+        return Err(ScoreKind::BadNumber);
+    }
+    if follows(last, beat) {
+        Ok(beat)
+    } else {
+        Err(ScoreKind::BadTempo)
+    }
+}
+
+// The first beat is 0, and none is before the one before it.
+fn follows(last: Option<u64>, beat: u64) -> bool
+    ensures { result ≡ follows last beat }
+{
+    match last {
+        None => beat == 0,
+        Some(last) => last <= beat,
+    }
+}
+
+fn beats_a_minute(n: Signed) -> Result<u64, ScoreKind>
+    ensures { result ≡ as_tempo n }
+{
+    let tempo = n.millionths();
+    if n.minus || tempo < SLOWEST || tempo > FASTEST {
+        Err(ScoreKind::BadTempo)
+    } else {
+        Ok(tempo)
+    }
+}
