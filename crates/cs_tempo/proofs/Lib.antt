@@ -1,0 +1,14 @@
+pub mod Climbs
+pub mod Clocks
+pub mod Firsts
+pub mod Floors
+pub mod Orders
+pub mod Pairs
+pub mod Parts
+pub mod Plots
+pub mod Ramps
+pub mod Shorts
+pub mod Sorting
+pub mod Sweeps
+pub mod Times
+pub mod Walks

@@ -1,0 +1,17 @@
+use Rattle.std.proofs.Common.{◌++◌, ◌∙◌, refl, ap, ℕ}
+use Rattle.std.proofs.lemmas.List.Sorted.{IsNonDecreasingBy-from_sort}
+use Rattle.cs_tempo.specs.Sweep.{ends_of, own_end}
+use Rattle.cs_tempo.proofs.Sweeps.{ends_more}
+use Rattle.cs_tempo.proofs.active.sorted_ends.Goals as goal
+
+pub loop-event-init : goal.loop-event-init
+unfolding ends_of
+loop-event-init c = rw c.new-ends.ensures.items refl
+
+pub loop-event-preserved : goal.loop-event-preserved
+loop-event-preserved c =
+    c.in_ok-push_end.ensures ∙ ap (λ r. r ++ own_end c.event-item.result) c.loop-event.invariant
+    ∙ ends_more c.args.events.now c.loop-event.event-index c.event-item.result c.loop-event-test.true c.event-item.is
+
+pub returns-clause-order : goal.returns-clause-order
+returns-clause-order c = IsNonDecreasingBy-from_sort (λ (n : ℕ). n) _ c.in_ok-sort.ensures.sorted

@@ -1,0 +1,13 @@
+pub mod Clock
+pub mod Counts
+pub mod Events
+pub mod Limits
+pub mod Line
+pub mod Order
+pub mod Pairing
+pub mod Plot
+pub mod Sections
+pub mod Stops
+pub mod Sweep
+pub mod Time
+pub mod Turns

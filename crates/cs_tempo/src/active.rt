@@ -1,0 +1,85 @@
+// Counts the notes that are active in a cycle, by one way through the events in order.
+ghost use Rattle.std.specs.Prelude.{◌≡◌, ◌≤◌, ◌<◌, ◌+◌, ◌++◌, [], ℕ, length, slice_index, cond, IfOk, OnOk};
+ghost use Rattle.std.specs.List.Sorted.{IsNonDecreasingBy, IsNonDecreasing, IsPermutation};
+ghost use Rattle.cs_tempo.specs.Limits.{first_at, passes_notes, at_event, cycles_in};
+ghost use Rattle.cs_tempo.specs.Sweep.{ends_of, own_end, is_note, IsPast};
+
+use crate::plot::{Event, EventAct};
+use cs_base::{LimitHit, OutOfMemory};
+use std::alloc::Global;
+
+// Notes that are active in one cycle.
+const NOTES: usize = 512;
+
+/// The refusal of the first start with which more notes are active in its cycle than may be.
+pub fn notes_past(alloc: Global, events: &[Event]) -> Result<Option<LimitHit>, OutOfMemory>
+    requires { IsNonDecreasingBy (λ e. e.cycle) events.now }
+    ensures { IfOk result (λ hit. hit ≡ at_event 5 (first_at passes_notes [] events.now)) }
+{
+    let ends = sorted_ends(alloc, events)?;
+    let mut started: usize = 0;
+    let mut ended: usize = 0;
+    for event in events {
+        started += notes_in(event);
+        ended = ended_by(&ends, ended, u64::from(event.cycle));
+        if started - ended > NOTES {
+            return Ok(Some(LimitHit {
+                limit: 5,
+                line: event.line,
+            }));
+        }
+    }
+    Ok(None)
+}
+
+// How many of the ends are at or before a cycle, where `from` of them are.
+fn ended_by(ends: &[u64], from: usize, cycle: u64) -> usize
+    requires within { from ≤ length ends.now }
+    requires below { (i : ℕ) → i < from → slice_index ends.now i ≤ cycle }
+    ensures { IsPast ends.now cycle result }
+{
+    let mut ended = from;
+    while ended < ends.len() && ends[ended] <= cycle {
+        ended += 1;
+    }
+    ended
+}
+
+// The cycles in which notes end, ascending.
+fn sorted_ends(alloc: Global, events: &[Event]) -> Result<Vec<u64>, OutOfMemory>
+    ensures ends { IfOk result (λ ends. IsPermutation (ends_of events.now) ends.items) }
+    ensures order { IfOk result (λ ends. IsNonDecreasing ends.items) }
+{
+    let mut ends = Vec::new(alloc);
+    for event in events {
+        push_end(&mut ends, event)?;
+    }
+    ends.sort()?;
+    Ok(ends)
+}
+
+fn push_end(ends: &mut Vec<u64>, event: &Event) -> Result<(), OutOfMemory>
+    ensures { OnOk result (ends.new.items ≡ ends.old.items ++ own_end event.now) }
+{
+    let cycles = cycles_in(&event.act);
+    if cycles > 0 {
+        ends.push(u64::from(event.cycle) + u64::from(cycles))?;
+    }
+    Ok(())
+}
+
+fn notes_in(event: &Event) -> usize
+    ensures { result ≡ cond (is_note event.now) 1 0 }
+{
+    if cycles_in(&event.act) > 0 { 1 } else { 0 }
+}
+
+// How many cycles an event's note lasts; none for a table.
+fn cycles_in(act: &EventAct) -> u32
+    ensures { result ≡ cycles_in act.now }
+{
+    match act {
+        EventAct::Start { cycles, .. } => *cycles,
+        EventAct::Table { .. } => 0,
+    }
+}

@@ -1,0 +1,41 @@
+// What holds of the definitions for every score: calls that do nothing, whose contracts are the laws.
+ghost use Rattle.std.specs.Prelude.{◌≡◌, ◌≤◌, ◌+◌, ◌*◌, ◌/◌, ◌^◌, ℕ, List, None, pos, ◌+ℤ◌, ◌-ℤ◌, ◌*ℤ◌};
+ghost use Rattle.std.specs.List.{All};
+ghost use Rattle.std.specs.List.Sorted.{IsNonDecreasingBy};
+ghost use Rattle.cs_base.specs.Numbers.{floor_div};
+ghost use Rattle.cs_base.specs.declared.head.Head.{Head};
+ghost use Rattle.cs_score.specs.Ranges.{IsInRange};
+ghost use Rattle.cs_score.specs.declared.statement.TempoPoint.{TempoPoint};
+ghost use Rattle.cs_score.specs.declared.statement.ScoreStmt.{ScoreStmt};
+ghost use Rattle.cs_tempo.specs.Time.{IsTempo, ramp_time, time_of, cycle_of};
+ghost use Rattle.cs_tempo.specs.Plot.{plot_of};
+ghost use Rattle.cs_tempo.specs.Limits.{cycles_in, limit_of};
+
+/// The time of a beat never falls as the beat grows, nor does the cycle of a time; a beat lasts a minute
+/// at most.
+pub fn time_never_falls()
+    ensures time { (tempo : List TempoPoint) (a b : ℕ) → IsTempo tempo
+        → a ≤ b → time_of tempo a ≤ time_of tempo b }
+    ensures cycle { (a b sr ksmps : ℕ) → a ≤ b → cycle_of a sr ksmps ≤ cycle_of b sr ksmps }
+    ensures small { (tempo : List TempoPoint) (beat : ℕ) → IsTempo tempo
+        → time_of tempo beat ≤ 60000 * beat }
+{}
+
+/// The time along a ramp is its formula over whole numbers with a sign, each part rounded down.
+pub fn ramps_are_rounded_down()
+    ensures { (first last span x : ℕ) → 1000000 ≤ first → 1000000 ≤ last → 1 ≤ span → x ≤ span
+        → pos (ramp_time first last span x) ≡ pos (first * x / 1000000)
+        +ℤ floor_div ((pos last -ℤ pos first) *ℤ pos (x * x)) (pos (2 * span * 1000000)) }
+{}
+
+/// The events of a plot stand in the order of their cycles, and each note ends within the plot; the plot
+/// of a score that passes no limit has 2^30 cycles at most.
+pub fn plots_are_in_order()
+    ensures order { (head : Head) (score : List ScoreStmt) → All IsInRange score
+        → IsNonDecreasingBy (λ e. e.cycle) (plot_of head score).events }
+    ensures within { (head : Head) (score : List ScoreStmt) → All IsInRange score
+        → All (λ e. e.cycle + cycles_in e.act ≤ (plot_of head score).cycles)
+        (plot_of head score).events }
+    ensures short { (head : Head) (score : List ScoreStmt) → limit_of head score ≡ None
+        → (plot_of head score).cycles ≤ 2 ^ 30 }
+{}

@@ -1,0 +1,166 @@
+// Pairs the stops of a section with its held notes, by instrument.
+ghost use Rattle.std.specs.Prelude.{◌≡◌, ◌≢◌, ◌==◌, ℕ, List, ◌+◌, ◌-◌, ◌<◌, ◌^◌, ◌++◌, ◌∷◌, [], map, drop, length, slice_get, nat_eq, IfOk, OnOk, Option, Some, None, if◌then◌else◌};
+ghost use Rattle.std.specs.HashMap.{get};
+ghost use Rattle.cs_tempo.specs.Pairing.{own_stop, sounding, sounding_after, stops_of};
+ghost use Rattle.cs_tempo.specs.Stops.{Shows, AreLines, ending};
+ghost use Rattle.cs_tempo.specs.Line.{Line};
+
+use cs_base::OutOfMemory;
+use cs_score::{ScoreStmt, ScoreWhat};
+use std::alloc::Global;
+use std::collections::HashMap;
+use std::marker::Model;
+
+/// An instrument's stops, how many of them have passed, and how many of its held notes sound.
+#[derive(Drop)]
+pub struct Stops {
+    beats: Vec<u64>,
+    passed: usize,
+    sounding: usize,
+}
+
+impl Model for Stops {
+    ghost use Rattle.std.specs.Prelude.{drop, length, ◌≤◌};
+    ghost use Rattle.cs_tempo.specs.Line.{Line};
+
+    ghost Value = { Line };
+
+    ghost view = { λ s. record { stops = drop s.passed s.beats.items; sounding = s.sounding } };
+
+    ghost invariant = { λ s. s.passed ≤ length s.beats.items };
+}
+
+/// The instruments of a section that have stops.
+pub type StopsByInstrument = HashMap<u32, Stops>;
+
+impl Stops {
+    fn new(alloc: Global) -> Stops
+        ensures stops { result.stops ≡ [] }
+        ensures sounding { result.sounding ≡ 0 }
+    {
+        Stops {
+            beats: Vec::new(alloc),
+            passed: 0,
+            sounding: 0,
+        }
+    }
+
+    fn push(&mut self, beat: u64) -> Result<(), OutOfMemory>
+        ensures stops { OnOk result (self.new.stops ≡ self.old.stops ++ beat ∷ []) }
+        ensures sounding { OnOk result (self.new.sounding ≡ self.old.sounding) }
+    {
+        self.beats.push(beat)?;
+        Ok(())
+    }
+
+    // A held note starts: the beat of the stop that ends it.
+    fn hold(&mut self) -> Option<u64>
+        requires { self.old.sounding < 2 ^ 63 }
+        ensures stop { result ≡ slice_get self.old.stops self.old.sounding }
+        ensures stops { self.new.stops ≡ self.old.stops }
+        ensures sounding { self.new.sounding ≡ self.old.sounding + 1 }
+    {
+        let stop = self.beats.get(self.passed + self.sounding).copied();
+        self.sounding += 1;
+        stop
+    }
+
+    // A stop comes.
+    fn pass(&mut self)
+        ensures stops { self.new.stops ≡ drop 1 self.old.stops }
+        ensures sounding { self.new.sounding ≡ self.old.sounding - 1 }
+    {
+        self.passed = (self.passed + 1).min(self.beats.len());
+        self.sounding = self.sounding.saturating_sub(1);
+    }
+}
+
+/// The stops of the turns of a section.
+pub fn stops_by_instrument(
+    alloc: Global,
+    order: &[&ScoreStmt],
+) -> Result<StopsByInstrument, OutOfMemory>
+    ensures { IfOk result (λ lines. AreLines lines [] (map (λ s. s.now) order.now)) }
+{
+    let mut lines = HashMap::new(alloc);
+    for statement in order {
+        add_own_stop(&mut lines, alloc, &statement.what)?;
+    }
+    Ok(lines)
+}
+
+fn add_own_stop(
+    lines: &mut StopsByInstrument,
+    alloc: Global,
+    what: &ScoreWhat,
+) -> Result<(), OutOfMemory>
+    ensures { OnOk result ((n : ℕ) (stops : List ℕ) → Shows (get nat_eq lines.old n) stops 0
+        → Shows (get nat_eq lines.new n) (stops ++ own_stop n what.now) 0) }
+{
+    match what {
+        ScoreWhat::Stop { instr, at } => add_stop(lines, alloc, *instr, *at),
+        _ => Ok(()),
+    }
+}
+
+fn add_stop(
+    lines: &mut StopsByInstrument,
+    alloc: Global,
+    instr: u32,
+    at: u64,
+) -> Result<(), OutOfMemory>
+    ensures { OnOk result ((n : ℕ) (stops : List ℕ) → Shows (get nat_eq lines.old n) stops 0
+        → Shows (get nat_eq lines.new n) (stops ++ (if n == instr then at ∷ [] else [])) 0) }
+{
+    lines.entry(instr)?.or_insert(Stops::new(alloc)).push(at)
+}
+
+/// A held note starts: the beat of the stop that ends it, where one does.
+pub fn hold(lines: &mut StopsByInstrument, instr: u32) -> Option<u64>
+    requires { (line : Line) → get nat_eq lines.old instr ≡ Some line → line.sounding < 2 ^ 63 }
+    ensures stop { (stops : List ℕ) (sounding : ℕ) → Shows (get nat_eq lines.old instr) stops sounding
+        → result ≡ slice_get stops sounding }
+    ensures own { (stops : List ℕ) (sounding : ℕ) → Shows (get nat_eq lines.old instr) stops sounding
+        → Shows (get nat_eq lines.new instr) stops (sounding + 1) }
+    ensures others { (n : ℕ) → n ≢ instr → get nat_eq lines.new n ≡ get nat_eq lines.old n }
+{
+    match lines.get_mut(&instr) {
+        Some(stops) => stops.hold(),
+        None => None,
+    }
+}
+
+/// A stop comes.
+pub fn pass(lines: &mut StopsByInstrument, instr: u32)
+    ensures own { (stops : List ℕ) (sounding : ℕ) → Shows (get nat_eq lines.old instr) stops sounding
+        → Shows (get nat_eq lines.new instr) (drop 1 stops) (sounding - 1) }
+    ensures others { (n : ℕ) → n ≢ instr → get nat_eq lines.new n ≡ get nat_eq lines.old n }
+{
+    if let Some(stops) = lines.get_mut(&instr) {
+        stops.pass();
+    }
+}
+
+/// The turn of a statement comes: the beat of the stop that ends it, where it is a held note.
+pub fn take_turn(lines: &mut StopsByInstrument, what: &ScoreWhat) -> Option<u64>
+    requires { (n : ℕ) (line : Line) → get nat_eq lines.old n ≡ Some line → line.sounding < 2 ^ 63 }
+    ensures stop { (stops : ℕ → List ℕ) (sounding : ℕ → ℕ)
+        → ((n : ℕ) → Shows (get nat_eq lines.old n) (stops n) (sounding n))
+        → result ≡ ending what.now stops sounding }
+    ensures lines { (n : ℕ) (stops : List ℕ) (sounding : ℕ)
+        → Shows (get nat_eq lines.old n) (own_stop n what.now ++ stops) sounding
+        → Shows (get nat_eq lines.new n) stops (sounding_after n what.now sounding) }
+{
+    match what {
+        ScoreWhat::Hold { instr, .. } => hold(lines, *instr),
+        ScoreWhat::Stop { instr, .. } => {
+            pass(lines, *instr);
+            None
+        }
+        ScoreWhat::Note { .. } => None,
+        ScoreWhat::Table { .. } => None,
+        ScoreWhat::Extend { .. } => None,
+        ScoreWhat::Tempo { .. } => None,
+        ScoreWhat::Section => None,
+    }
+}
