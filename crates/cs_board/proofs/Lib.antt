@@ -1,0 +1,9 @@
+pub mod Stepping
+pub mod Trying
+pub mod Finishing
+pub mod Chaining
+pub mod Slotting
+pub mod Making
+pub mod Ending
+pub mod Performing
+pub mod Turning

@@ -1,0 +1,46 @@
+-- A view whose image alone changed, and the note that has run.
+use Rattle.std.proofs.Common.{◌≡◌, ℕ, suc, ◌+◌, [], Option, Some, None, refl, sym, ap, ◌∙◌, subst, arith, slice_get, true}
+use Rattle.cs_board.specs.Banks.{bare, imageless}
+use Rattle.cs_board.specs.Board.{IsViewOf}
+use Rattle.cs_board.specs.Places.{deed, deed_in}
+use Rattle.cs_cells.specs.Cells.{Cells}
+use Rattle.cs_cells.specs.Meaning.{Meaning, Uses, Writes}
+use Rattle.cs_cells.proofs.SerialRun.{before-suc}
+use Rattle.cs_cells.specs.Cells.{covers}
+use Rattle.cs_rule.specs.Plans.{IsPlan, before_at, uses_at, writes_at, uses_of, writes_of}
+use Rattle.cs_rule.specs.Views.{does}
+use Rattle.cs_rule.specs.declared.view.Doing.{Doing}
+use Rattle.cs_rule.specs.declared.view.Plan.{Plan}
+use Rattle.cs_rule.specs.declared.view.View.{View}
+
+some_is : {A : Type 0} {p q : A} → Some p ≡ Some q → p ≡ q
+some_is e = cc
+
+module _ {J : Type 0} where
+  same_but : (v w : View J) (o : Option Doing) → w.doing ≡ o → imageless w ≡ imageless v → w ≡ record v { doing = o }
+  same_but v w o e h = λ i. record (h i) { doing = e i }
+
+  pub reimage : (v w : View J) (d : Doing) (X : Cells) → v.doing ≡ Some d → imageless w ≡ imageless v → (deed w).image ≡ X → w ≡ does v (record d { image = X })
+  reimage v w d X doing h image = go w.doing refl
+    where
+      go : (o : Option Doing) → w.doing ≡ o → w ≡ does v (record d { image = X })
+      go None e = absurd (let z : None ≡ Some (record d { image = [] }) = sym (ap bare e) ∙ ap (λ y. y.doing) h ∙ ap bare doing in cc)
+      go (Some f) e =
+          let z : record f { image = [] } ≡ record d { image = [] } = some_is (sym (ap bare e) ∙ ap (λ y. y.doing) h ∙ ap bare doing) in
+          let pic : f.image ≡ X = sym (ap (λ y. (deed_in y).image) e) ∙ image in
+          let f_is : f ≡ record d { image = X } = λ i. record (z i) { image = pic i } in
+          same_but v w (Some f) e h ∙ ap (λ y. does v y) f_is
+
+  -- a view that knows the board's plan knows it whatever its image is
+  pub view_bare : (k : Plan J) (v : View J) → IsViewOf k v → IsViewOf k (imageless v)
+  view_bare k v h = record { plan = h.plan; live = h.live; owes_in = h.owes_in }
+
+module _ {J : Type 0} (M : Meaning J) (k : Plan J) (whole : IsPlan M k) (t : ℕ) (j : J) (at_ : slice_get k.jobs t ≡ Some j) where
+  pub used_of : (a : ℕ) → Uses M j a → uses_at M k t a ≡ true
+  used_of a u = subst (λ o. covers k.areas (uses_of M o) a ≡ true) (sym at_) (subst (λ z. covers z (M.foot j).uses a ≡ true) (whole.layout t j at_) u)
+
+  pub written_of : (a : ℕ) → Writes M j a → writes_at M k t a ≡ true
+  written_of a u = subst (λ o. covers k.areas (writes_of M o) a ≡ true) (sym at_) (subst (λ z. covers z (M.foot j).writes a ≡ true) (whole.layout t j at_) u)
+
+  pub leaves_is : M.leaves j (before_at M k t) ≡ before_at M k (t + 1)
+  leaves_is = sym (before-suc M k.jobs k.cells t j at_) ∙ (let e : suc t ≡ t + 1 = omega arith in ap (before_at M k) e)

@@ -1,0 +1,18 @@
+use Rattle.std.proofs.Common.{◌≡◌, ℕ, ◌+◌, ◌-◌, length, Some}
+use Rattle.cs_board.specs.Board.{plan}
+use Rattle.cs_board.specs.Places.{IsPlaceOf, Beside}
+use Rattle.cs_graph.specs.Graph.{Edge}
+use Rattle.cs_board.proofs.board.Board.move_on.Given as goal
+
+abbrev pub invariant-loop-next : goal.invariant-loop-next
+invariant-loop-next g l = record {
+  place : IsPlaceOf g.J.Job.means l.self l.place;
+  carries : l.place.me.1 ≡ l.initial.place.me.1;
+  edge : (p : ℕ) × Edge (plan l.self).edges l.last p l.note;
+  moving : l.place.me.0.moving ≡ Some (record { note = l.note; place = l.last + 1 });
+  closing : l.place.me.0.closing ≡ l.initial.place.me.0.closing;
+  beside : Beside l.initial.place.me.0 l.place.me.0;
+}
+
+abbrev pub decreases-loop-next : goal.decreases-loop-next
+decreases-loop-next g l = length (plan l.self).edges - l.last

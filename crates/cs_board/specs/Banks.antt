@@ -1,0 +1,59 @@
+-- The cells of the board as a job sees them.
+use Rattle.std.specs.Prelude.{◌≡◌, ℕ, List, [], Option, Some, None, true}
+use Rattle.atomic_table.specs.Seated.{TableId}
+use Rattle.atomic_table.specs.declared.shared.Seat.{Seat}
+use Rattle.cs_board.specs.Board.{plan, IsViewOf}
+use Rattle.cs_board.specs.Places.{deed}
+use Rattle.cs_board.specs.declared.board.Board.{Board}
+use Rattle.cs_cells.specs.Meaning.{Meaning}
+use Rattle.cs_rule.specs.Plans.{IsPlan, uses_at, writes_at}
+use Rattle.cs_rule.specs.declared.view.Doing.{Doing}
+use Rattle.cs_rule.specs.declared.view.View.{View}
+
+abbrev pub bare : Option Doing → Option Doing
+bare None = None
+bare (Some d) = Some (record d { image = [] })
+
+module _ {J : Type 0} where
+  -- the view without the image of its note
+  abbrev pub imageless : View J → View J
+  imageless v = record v { doing = bare v.doing }
+
+-- What no look and no set changes: the board, and all of the seat but the image.
+pub record Frame (J : Type 0) : Type 0 where
+  pub name : ℕ
+  pub board : Board J
+  pub table_id : TableId
+  pub id : ℕ
+  pub view : View J
+  pub carried : List (ℕ × Option J)
+
+module _ {J : Type 0} where
+  abbrev pub frame_of : Board J → Seat (Option J) (View J) → ℕ → Frame J
+  frame_of board place name = record {
+    name = name;
+    board = board;
+    table_id = place.table_id;
+    id = place.id;
+    view = imageless place.me.0;
+    carried = place.me.1;
+  }
+
+module _ {J : Type 0} (M : Meaning J) where
+  -- the seat of the board does a note that uses the cell
+  pub record CanGet (r : Frame J) (a : ℕ) : Type 0 where
+    pub whole : IsPlan M (plan r.board)
+    pub table : r.table_id ≡ r.board.table.shared.table_id
+    pub knows : IsViewOf (plan r.board) r.view
+    pub doing : r.view.doing ≡ Some (deed r.view)
+    pub uses : uses_at M (plan r.board) (deed r.view).note a ≡ true
+
+  -- and the note, which has not run yet, writes it
+  pub record CanSet (r : Frame J) (a : ℕ) : Type 0 where
+    pub whole : IsPlan M (plan r.board)
+    pub table : r.table_id ≡ r.board.table.shared.table_id
+    pub knows : IsViewOf (plan r.board) r.view
+    pub doing : r.view.doing ≡ Some (deed r.view)
+    pub held : (deed r.view).held ≡ true
+    pub phase : (deed r.view).phase ≡ 0
+    pub writes : writes_at M (plan r.board) (deed r.view).note a ≡ true

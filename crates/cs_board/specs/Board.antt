@@ -1,0 +1,92 @@
+-- What the calls of a board promise of its seats.
+use Rattle.std.specs.Prelude.{◌≡◌, ℕ, ◌+◌, ◌<◌, ◌≤◌, List, [], ◌∷◌, length, true, false, Option, Some, None, MatchOption, slice_get}
+use Rattle.std.specs.List.{sum_by}
+use Rattle.std.specs.Vec.{vec_capacity}
+use Rattle.cs_cells.specs.Meaning.{Meaning}
+use Rattle.cs_board.specs.declared.board.Board.{Board}
+use Rattle.cs_board.specs.declared.board.BoardSeat.{BoardSeat}
+use Rattle.cs_rule.specs.Facts.{owed}
+use Rattle.cs_rule.specs.Keys.{plan_of}
+use Rattle.cs_rule.specs.Plans.{IsPlan, before_at, places_used, places_written, writers_before}
+use Rattle.cs_rule.specs.Views.{newcomer, no_plan, fresh}
+use Rattle.cs_rule.specs.declared.view.Doing.{Doing}
+use Rattle.cs_rule.specs.declared.view.Plan.{Plan}
+use Rattle.cs_rule.specs.declared.view.View.{View}
+
+abbrev pub note_in : Option Doing → ℕ
+note_in None = 0
+note_in (Some d) = d.note
+
+module _ {J : Type 0} where
+  -- with what the board's cycle began
+  abbrev pub plan : Board J → Plan J
+  plan board = plan_of board.table.shared.key
+
+  abbrev pub first_of : List (View J) → View J
+  first_of [] = newcomer no_plan 0
+  first_of (v ∷ vs) = v
+
+  -- what the seat knows
+  abbrev pub view : BoardSeat J → View J
+  view seat = first_of seat.badge.views
+
+  -- a view that belongs to the board of this plan
+  pub record IsViewOf (k : Plan J) (v : View J) : Type 0 where
+    pub plan : v.plan ≡ k
+    pub live : v.spent ≡ false
+    pub owes_in : (t : ℕ) → 0 < owed t v → t < k.notes
+
+  -- the first seat has room for the jobs at the end
+  abbrev pub HasRoom : Plan J → View J → BoardSeat J → Type 0
+  HasRoom k v seat = MatchOption seat.room (v.first ≡ false) (λ jobs. (v.first ≡ true) × (jobs.items ≡ []) × (k.notes ≤ vec_capacity jobs))
+
+  -- it runs nothing and has nothing to finish
+  pub record IsIdle (v : View J) : Type 0 where
+    pub doing : v.doing ≡ None
+    pub closing : v.closing ≡ None
+    pub moving : v.moving ≡ None
+
+  -- the note that the seat does
+  abbrev pub note_of : View J → ℕ
+  note_of v = note_in v.doing
+
+  -- which seat it is, and what it knows of the others
+  pub record SamePlace (v w : View J) : Type 0 where
+    pub first : w.first ≡ v.first
+    pub number : w.number ≡ v.number
+    pub out : w.out ≡ v.out
+    pub made : w.made ≡ v.made
+
+  -- a try with a number above `tries` found note t other than Available
+  abbrev pub FoundSince : ℕ → View J → ℕ → Type 0
+  FoundSince tries v t = (i : ℕ) × (n : ℕ) × (slice_get v.found i ≡ Some (t, n)) × (tries < n)
+
+module _ {J : Type 0} (M : Meaning J) where
+  -- a seat of this board, from its `new` or a `split`
+  pub record IsSeatOf (board : Board J) (seat : BoardSeat J) : Type 0 where
+    pub whole : IsPlan M (plan board)
+    pub table : seat.badge.table_id ≡ board.table.shared.table_id
+    pub one : seat.badge.views ≡ view seat ∷ []
+    pub knows : IsViewOf (plan board) (view seat)
+    pub note : (d : Doing) → (view seat).doing ≡ Some d → (d.note ≡ seat.note) × (d.note < (plan board).notes)
+    pub room : HasRoom (plan board) (view seat) seat
+
+  -- a note that has run, every turn made
+  abbrev pub run_through : Plan J → ℕ → Doing
+  run_through k t = record { note = t; phase = 1 + length (places_written M k t); held = false; image = before_at M k (t + 1) }
+
+  -- it has claimed a note and not run it: the note's cells are those of the serial run
+  pub record IsClaimed (v : View J) : Type 0 where
+    pub doing : v.doing ≡ Some (fresh M v.plan (note_of v))
+    pub closing : v.closing ≡ None
+    pub moving : v.moving ≡ None
+
+  -- the note that it claimed has run: its cells are those after it in the serial run
+  pub record HasRun (v : View J) : Type 0 where
+    pub doing : v.doing ≡ Some (run_through v.plan (note_of v))
+    pub closing : v.closing ≡ None
+    pub moving : v.moving ≡ None
+
+  -- over the resources that note t uses, how many earlier notes write each, added up
+  abbrev pub turns_before : Plan J → ℕ → ℕ
+  turns_before k t = sum_by (λ r. writers_before M k t r) (places_used M k t)

@@ -1,0 +1,93 @@
+-- A seat in the midst of a call.
+use Rattle.std.specs.Prelude.{◌≡◌, ◌≢◌, ℕ, ◌+◌, ◌<◌, ◌≤◌, [], Bool, true, false, cond, Option, Some, None}
+use Rattle.atomic_table.specs.declared.shared.Seat.{Seat}
+use Rattle.cs_board.specs.Board.{plan, IsViewOf, SamePlace, FoundSince}
+use Rattle.cs_board.specs.Wires.{IsNextOut, NoneIn}
+use Rattle.cs_board.specs.declared.board.Board.{Board}
+use Rattle.cs_cells.specs.Meaning.{Meaning}
+use Rattle.cs_graph.specs.Graph.{Edge}
+use Rattle.cs_rule.specs.Facts.{owed}
+use Rattle.cs_rule.specs.Plans.{IsPlan, before_at}
+use Rattle.cs_rule.specs.Views.{began, missed, fresh, settled, passed}
+use Rattle.cs_rule.specs.declared.view.Doing.{Doing}
+use Rattle.cs_rule.specs.declared.view.Plan.{Plan}
+use Rattle.cs_rule.specs.declared.view.View.{View}
+
+abbrev pub deed_in : Option Doing → Doing
+deed_in None = record { note = 0; phase = 0; held = false; image = [] }
+deed_in (Some d) = d
+
+-- the job is out of its slot
+abbrev pub out : Doing → Doing
+out d = record d { held = true }
+
+module _ {J : Type 0} where
+  -- what the view does, where it does a note
+  abbrev pub deed : View J → Doing
+  deed v = deed_in v.doing
+
+  -- the note is being closed, and this is its next edge
+  abbrev pub ClosesAt : Plan J → View J → ℕ → ℕ → Type 0
+  ClosesAt k v note e = (i : ℕ) × (v.closing ≡ Some (record { note = note; place = i })) × IsNextOut k.edges note i e
+
+  -- the note is being moved, and this is its next edge
+  pub record MovesAt (k : Plan J) (v : View J) (note e : ℕ) : Type 0 where
+    pub from : ℕ
+    pub moving : v.moving ≡ Some (record { note = note; place = from })
+    pub low : from ≤ e
+    pub edge : (q : ℕ) × Edge k.edges e q note
+    pub first : (g r : ℕ) → Edge k.edges g r note → from ≤ g → e ≤ g
+
+  -- the note is being moved and has passed all edges into it
+  abbrev pub MovesOut : Plan J → View J → ℕ → Type 0
+  MovesOut k v note = (i : ℕ) × (v.moving ≡ Some (record { note = note; place = i })) × NoneIn k.edges note i
+
+  -- it watches the edge, or has passed it
+  abbrev pub stopped : Bool → View J → ℕ → ℕ → View J
+  stopped watches v t e = cond watches (settled v) (passed v t e)
+
+  -- what neither the closing of a note nor the moving of another changes
+  pub record Beside (v w : View J) : Type 0 where
+    pub doing : w.doing ≡ v.doing
+    pub tries : w.tries ≡ v.tries
+    pub found : w.found ≡ v.found
+    pub mine : w.mine ≡ v.mine
+    pub place : SamePlace v w
+
+  -- what tries change: notes are found, and no note is owed that wasn't
+  pub record Tries (v w : View J) : Type 0 where
+    pub more : v.tries ≤ w.tries
+    pub found : (tries t : ℕ) → FoundSince tries v t → FoundSince tries w t
+    pub owes : (t : ℕ) → owed t w ≤ owed t v
+    pub mine : w.mine ≡ v.mine
+    pub place : SamePlace v w
+
+  -- each note from `from` on and below `to` was tried and found other than Available
+  abbrev pub AllTried : View J → View J → ℕ → ℕ → Type 0
+  AllTried v w from to = (t : ℕ) → from ≤ t → t < to → FoundSince v.tries w t × (owed t w ≡ 0)
+
+  -- and so was each but for one of them
+  abbrev pub AllBut : ℕ → View J → View J → ℕ → ℕ → Type 0
+  AllBut but v w from to = (t : ℕ) → t ≢ but → from ≤ t → t < to → FoundSince v.tries w t × (owed t w ≡ 0)
+
+module _ {J : Type 0} (M : Meaning J) where
+  -- a seat of this board
+  pub record IsPlaceOf (board : Board J) (place : Seat (Option J) (View J)) : Type 0 where
+    pub whole : IsPlan M (plan board)
+    pub table : place.table_id ≡ board.table.shared.table_id
+    pub knows : IsViewOf (plan board) place.me.0
+
+  -- a try of note t that won it, or not
+  abbrev pub tried : Bool → View J → ℕ → View J
+  tried won v t = cond won (began M v t) (missed v t)
+
+  -- the note has run, its job is out, and so many turns are made
+  abbrev pub ran_out : Plan J → ℕ → ℕ → Doing
+  ran_out k t phase = record { note = t; phase = phase; held = true; image = before_at M k (t + 1) }
+
+  -- note t was claimed, and nothing else is to be done
+  pub record Has (k : Plan J) (v : View J) (t : ℕ) : Type 0 where
+    pub within : t < k.notes
+    pub doing : v.doing ≡ Some (fresh M k t)
+    pub closing : v.closing ≡ None
+    pub moving : v.moving ≡ None

@@ -1,0 +1,86 @@
+// Seats: sitting down for a call, splitting one off and taking one in.
+ghost use Rattle.std.specs.Prelude.{◌≡◌, ◌<◌, ℕ, [], Some, true, false, IfSome};
+ghost use Rattle.cs_board.specs.Board.{plan, view, IsSeatOf, IsIdle, HasRoom};
+ghost use Rattle.cs_board.specs.Places.{IsPlaceOf};
+ghost use Rattle.cs_rule.specs.Views.{kept_view, given_view, joined};
+ghost use Rattle.cs_rule.specs.declared.view.Doing.{Doing};
+
+use crate::board::{Board, BoardSeat, Place};
+use atomic_table::Badge;
+use cs_cells::Job;
+use cs_rule::{Gather, Split};
+use std::mem;
+
+impl<J: Job> Board<J> {
+    /// The seat begins a call.
+    pub(crate) fn sit(&self, seat: &mut BoardSeat<J>) -> Place<J>
+        requires { IsSeatOf J.means self.now seat.old }
+        ensures place { IsPlaceOf J.means self.now result }
+        ensures me { result.me ≡ (view seat.old, []) }
+        ensures room { HasRoom (plan self.now) (view seat.old) seat.new }
+        ensures note { seat.new.note ≡ seat.old.note }
+    {
+        mem::replace(&mut seat.badge, Badge::blank()).into_seat()
+    }
+
+    /// The seat ends a call.
+    pub(crate) fn rise(&self, seat: &mut BoardSeat<J>, place: Place<J>)
+        requires place { IsPlaceOf J.means self.now place }
+        requires carries { place.me.1 ≡ [] }
+        requires note { (d : Doing) → place.me.0.doing ≡ Some d → (d.note ≡ seat.old.note)
+            × (d.note < (plan self.now).notes) }
+        requires room { HasRoom (plan self.now) place.me.0 seat.old }
+        ensures seat { IsSeatOf J.means self.now seat.new }
+        ensures view { view seat.new ≡ place.me.0 }
+        ensures same { (seat.new.note ≡ seat.old.note) × (seat.new.room ≡ seat.old.room) }
+    {
+        seat.badge = place.into_badge();
+    }
+
+    /// A new seat of the board, split off the first one.
+    pub fn split(&self, seat: &mut BoardSeat<J>) -> BoardSeat<J>
+        requires seat { IsSeatOf J.means self.now seat.old }
+        requires first { (view seat.old).first ≡ true }
+        ensures seat { IsSeatOf J.means self.now seat.new }
+        ensures view { view seat.new ≡ kept_view (view seat.old) }
+        ensures other { IsSeatOf J.means self.now result }
+        ensures new { view result ≡ given_view (view seat.old) }
+    {
+        let mut place = self.sit(seat);
+        let other = self.table.shared.split_seat::<Split>(&mut place);
+        self.rise(seat, place);
+        BoardSeat {
+            badge: other.into_badge(),
+            note: 0,
+            opened: None,
+            next: 0,
+            room: None,
+        }
+    }
+
+    /// The first seat takes in another, which runs nothing and owes nothing, as after a claim that answered None.
+    pub fn join(&self, seat: &mut BoardSeat<J>, other: BoardSeat<J>)
+        requires seat { IsSeatOf J.means self.now seat.old }
+        requires first { (view seat.old).first ≡ true }
+        requires other { IsSeatOf J.means self.now other }
+        requires later { (view other).first ≡ false }
+        requires idle { IsIdle (view other) }
+        requires owes { (view other).owes ≡ [] }
+        ensures seat { IsSeatOf J.means self.now seat.new }
+        ensures view { view seat.new ≡ joined (view seat.old) (view other) }
+    {
+        let mut place = self.sit(seat);
+        let BoardSeat {
+            badge,
+            note: _,
+            opened: _,
+            next: _,
+            room,
+        } = other;
+        let None = room else { unreachable!() };
+        self.table
+            .shared
+            .join_seat::<Gather>(&mut place, badge.into_seat());
+        self.rise(seat, place);
+    }
+}

@@ -1,0 +1,11 @@
+pub mod Counts
+pub mod Ending
+pub mod Facts
+pub mod Keys
+pub mod Laws
+pub mod Opening
+pub mod Plans
+pub mod Rule
+pub mod Told
+pub mod Views
+pub mod Words

@@ -1,0 +1,66 @@
+-- What each kind of step tells the worker that makes it: the view before and after, and what was found.
+use Rattle.std.specs.Prelude.{◌≡◌, ◌≢◌, ℕ, ◌+◌, ◌<◌, ◌∷◌, length, Option, Some, true, false, slice_get}
+use Rattle.atomic_table.specs.Table.{Me, Step, rest}
+use Rattle.cs_cells.specs.Cells.{cell, signed}
+use Rattle.cs_cells.specs.Meaning.{Meaning}
+use Rattle.cs_graph.specs.Graph.{Edge}
+use Rattle.cs_rule.specs.Facts.{turned_in}
+use Rattle.cs_rule.specs.Plans.{uses_at, places_used, writers_before, area_count}
+use Rattle.cs_rule.specs.Views.{does, set_image, next_phase, began, missed, ended, shut, settled, passed, opened}
+use Rattle.cs_rule.specs.Counts.{listed}
+use Rattle.cs_rule.specs.Words.{status_at, watch_at, turn_at, cell_at}
+use Rattle.cs_rule.specs.declared.view.Doing.{Doing}
+use Rattle.cs_rule.specs.declared.view.View.{View}
+
+-- a seat's view and the slots that it has taken, and what a step tells of it before, of the number found and of it after
+abbrev pub Sat : Type 0 → Type 0
+Sat J = Me (Option J) (View J)
+
+abbrev pub Tells : Type 0 → Type 1
+Tells J = Step (Option J) → Sat J → ℕ → Sat J → Type 0
+
+module _ {J : Type 0} where
+  -- the job is out of its slot
+  abbrev pub took : Tells J
+  took st m r n = (d : Doing) (j : J) → m.0.doing ≡ Some d → slice_get m.0.plan.jobs d.note ≡ Some j → d.phase ≡ 0
+      → n ≡ (does m.0 (record d { held = true }), (d.note, Some j) ∷ m.1)
+
+  abbrev pub gave : Tells J
+  gave st m r n = (d : Doing) → m.0.doing ≡ Some d → n ≡ (does m.0 (record d { held = false }), rest m.1)
+
+  abbrev pub set_cell : Tells J
+  set_cell st m r n = (a : ℕ) (d : Doing) → st.word ≡ cell_at m.0.plan a → m.0.doing ≡ Some d
+      → n ≡ (does m.0 (set_image d a (signed st.first)), m.1)
+
+  abbrev pub turned : Tells J
+  turned st m r n = (d : Doing) → m.0.doing ≡ Some d → n ≡ (does m.0 (next_phase d), m.1)
+
+  abbrev pub finished : Tells J
+  finished st m r n = (t : ℕ) → st.word ≡ status_at m.0.plan t → n ≡ (ended m.0 t, m.1)
+
+  abbrev pub closed : Tells J
+  closed st m r n = (e p t : ℕ) → st.word ≡ watch_at m.0.plan e → Edge m.0.plan.edges e p t → n ≡ (shut m.0 e p t r, m.1)
+
+  abbrev pub watched : Tells J
+  watched st m r n = (e p t : ℕ) → st.word ≡ watch_at m.0.plan e → Edge m.0.plan.edges e p t
+      → (r ≡ 0 → n ≡ (settled m.0, m.1)) × (r ≢ 0 → n ≡ (passed m.0 t e, m.1))
+
+  abbrev pub opens : Tells J
+  opens st m r n = (t : ℕ) → st.word ≡ status_at m.0.plan t → n ≡ (opened m.0 t, m.1)
+
+module _ {J : Type 0} (M : Meaning J) where
+  -- note t was Available and is this seat's now, or it was found otherwise
+  abbrev pub claimed : Tells J
+  claimed st m r n = (t : ℕ) → st.word ≡ status_at m.0.plan t
+      → (r ≡ 1 → n ≡ (began M m.0 t, m.1)) × (r ≢ 1 → n ≡ (missed m.0 t, m.1))
+
+  -- the cell found is the image's
+  abbrev pub looked : Tells J
+  looked st m r n = (n ≡ m) × ((a : ℕ) (d : Doing) → st.word ≡ cell_at m.0.plan a → a < length m.0.plan.cells
+      → m.0.doing ≡ Some d → uses_at M m.0.plan d.note a ≡ true → signed r ≡ cell d.image a)
+
+  -- the turn word found counts the earlier notes that write the resource, and this note once it has made its turn there
+  abbrev pub looked_turn : Tells J
+  looked_turn st m r n = (n ≡ m) × ((x : ℕ) (d : Doing) → st.word ≡ turn_at m.0.plan x → x < area_count m.0.plan
+      → m.0.doing ≡ Some d → listed (places_used M m.0.plan d.note) x ≡ true
+      → r ≡ writers_before M m.0.plan d.note x + turned_in M m.0.plan x m.0.doing)
