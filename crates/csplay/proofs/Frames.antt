@@ -1,13 +1,14 @@
 -- The frames of a piece cycle by cycle, and the file so far as a front of the whole. For whoever writes the file.
-use Rattle.std.proofs.Common.{◌≡◌, ◌≤◌, ℕ, zero, suc, ◌+◌, ◌*◌, ◌/◌, ◌-◌, ℤ, pos, false, List, [], ◌∷◌, ◌++◌, length, map, replicate, refl, ap, sym, ◌∙◌, subst, arith, append_assoc, add-suc}
+use Rattle.std.proofs.Common.{◌≡◌, ◌≤◌, ℕ, zero, suc, ◌+◌, ◌*◌, ◌/◌, ◌-◌, ℤ, false, List, [], ◌∷◌, ◌++◌, length, map, replicate, refl, ap, sym, ◌∙◌, subst, arith, append_assoc, add-suc}
 use Rattle.std.proofs.lemmas.List.{map-append, length-map, length-append, append-nil, replicate_more}
 use Rattle.std.proofs.lemmas.Nat.{div-mul-add}
 use Rattle.cs_base.specs.declared.head.Head.{Head}
 use Rattle.cs_wav.specs.Wav.{sound, header_bytes, wav_of}
 use Rattle.cs_wav.proofs.Files.{sound-nil, sound-append, wav_of-narrow}
-use Rattle.csplay.specs.declared.form.Orchestra.{Orchestra}
-use Rattle.csplay.specs.declared.form.Note.{Note}
-use Rattle.csplay.specs.Mix.{mix_of, cycles_of, up_to, frames_of, mixes, IsHeadOf}
+use Rattle.csplay.specs.declared.orchestra.Orchestra.{Orchestra}
+use Rattle.cs_tempo.specs.declared.plot.Plot.{Plot}
+use Rattle.csplay.specs.Orchestra.{IsHeadOf}
+use Rattle.csplay.specs.Mix.{mix_of, up_to, frames_of, mixes}
 
 -- a value for each number below another, as many
 length-up_to : (n : ℕ) → length (up_to n) ≡ n
@@ -43,32 +44,32 @@ cycle_values f k cycle (suc j) h =
     ∙ ap (λ (l : List ℤ). map g (up_to (cycle * k)) ++ l) (replicate_more j (f cycle) ∙ ap (λ (n : ℕ). replicate n (f cycle)) (let next : j + 1 ≡ suc j = omega arith in next))
 
 -- no cycles, no frames
-pub frames_of-none : (o : Orchestra) (notes : List Note) → frames_of o notes 0 ≡ []
+pub frames_of-none : (o : Orchestra) (plot : Plot) → frames_of o plot 0 ≡ []
 unfolding frames_of
-frames_of-none o notes = ap (λ (n : ℕ). map (λ frame. pos (mix_of o notes (frame / o.ksmps))) (up_to n)) (let none : 0 * o.ksmps ≡ 0 = omega arith in none)
+frames_of-none o plot = ap (λ (n : ℕ). map (λ frame. mix_of o plot (frame / o.ksmps)) (up_to n)) (let none : 0 * o.ksmps ≡ 0 = omega arith in none)
 
 -- one cycle more
-pub frames_of_more : (o : Orchestra) (notes : List Note) (cycle : ℕ) → frames_of o notes (cycle + 1) ≡ frames_of o notes cycle ++ replicate o.ksmps (pos (mix_of o notes cycle))
+pub frames_of_more : (o : Orchestra) (plot : Plot) (cycle : ℕ) → frames_of o plot (cycle + 1) ≡ frames_of o plot cycle ++ replicate o.ksmps (mix_of o plot cycle)
 unfolding frames_of
-frames_of_more o notes cycle =
-    ap (λ (n : ℕ). map (λ frame. pos (mix_of o notes (frame / o.ksmps))) (up_to n)) (let next : (cycle + 1) * o.ksmps ≡ cycle * o.ksmps + o.ksmps = omega arith in next)
-    ∙ cycle_values (λ c. pos (mix_of o notes c)) o.ksmps cycle o.ksmps (omega arith)
+frames_of_more o plot cycle =
+    ap (λ (n : ℕ). map (λ frame. mix_of o plot (frame / o.ksmps)) (up_to n)) (let next : (cycle + 1) * o.ksmps ≡ cycle * o.ksmps + o.ksmps = omega arith in next)
+    ∙ cycle_values (λ c. mix_of o plot c) o.ksmps cycle o.ksmps (omega arith)
 
 -- how many frames there are
-pub length-frames_of : (o : Orchestra) (notes : List Note) (cycles : ℕ) → length (frames_of o notes cycles) ≡ cycles * o.ksmps
+pub length-frames_of : (o : Orchestra) (plot : Plot) (cycles : ℕ) → length (frames_of o plot cycles) ≡ cycles * o.ksmps
 unfolding frames_of
-length-frames_of o notes cycles =
-    length-map (up_to (cycles * o.ksmps)) (λ frame. pos (mix_of o notes (frame / o.ksmps))) ∙ length-up_to (cycles * o.ksmps)
+length-frames_of o plot cycles =
+    length-map (up_to (cycles * o.ksmps)) (λ frame. mix_of o plot (frame / o.ksmps)) ∙ length-up_to (cycles * o.ksmps)
 
 -- the frames so far stand at the front of all
-pub record FramesBehind (o : Orchestra) (notes : List Note) (cycle all : ℕ) : Type 0 where
+pub record FramesBehind (o : Orchestra) (plot : Plot) (cycle all : ℕ) : Type 0 where
   pub rest : List ℤ
-  pub split : frames_of o notes all ≡ frames_of o notes cycle ++ rest
+  pub split : frames_of o plot all ≡ frames_of o plot cycle ++ rest
 
-frames_of-add : (o : Orchestra) (notes : List Note) (cycle more : ℕ) → FramesBehind o notes cycle (cycle + more)
+frames_of-add : (o : Orchestra) (plot : Plot) (cycle more : ℕ) → FramesBehind o plot cycle (cycle + more)
 unfolding frames_of
-frames_of-add o notes cycle more =
-    let f : ℕ → ℤ = λ frame. pos (mix_of o notes (frame / o.ksmps)) in
+frames_of-add o plot cycle more =
+    let f : ℕ → ℤ = λ frame. mix_of o plot (frame / o.ksmps) in
     let behind = up_to-add (cycle * o.ksmps) (more * o.ksmps) in
     record {
       rest = map f behind.rest;
@@ -76,45 +77,45 @@ frames_of-add o notes cycle more =
           ∙ ap (map f) behind.split ∙ map-append f (up_to (cycle * o.ksmps)) behind.rest;
     }
 
-pub frames_of-front : (o : Orchestra) (notes : List Note) (cycle all : ℕ) → cycle ≤ all → FramesBehind o notes cycle all
-frames_of-front o notes cycle all h =
-    subst (FramesBehind o notes cycle) (let back : cycle + (all - cycle) ≡ all = omega arith in back) (frames_of-add o notes cycle (all - cycle))
+pub frames_of-front : (o : Orchestra) (plot : Plot) (cycle all : ℕ) → cycle ≤ all → FramesBehind o plot cycle all
+frames_of-front o plot cycle all h =
+    subst (FramesBehind o plot cycle) (let back : cycle + (all - cycle) ≡ all = omega arith in back) (frames_of-add o plot cycle (all - cycle))
 
 -- the sound so far, with one cycle more
-pub sound-frames_more : (o : Orchestra) (notes : List Note) (dbfs : ℤ) (cycle : ℕ) → sound 2 dbfs (frames_of o notes (cycle + 1)) ≡ sound 2 dbfs (frames_of o notes cycle) ++ sound 2 dbfs (replicate o.ksmps (pos (mix_of o notes cycle)))
-sound-frames_more o notes dbfs cycle =
-    ap (sound 2 dbfs) (frames_of_more o notes cycle)
-    ∙ sound-append 2 dbfs (frames_of o notes cycle) (replicate o.ksmps (pos (mix_of o notes cycle)))
+pub sound-frames_more : (o : Orchestra) (plot : Plot) (dbfs : ℤ) (cycle : ℕ) → sound 2 dbfs (frames_of o plot (cycle + 1)) ≡ sound 2 dbfs (frames_of o plot cycle) ++ sound 2 dbfs (replicate o.ksmps (mix_of o plot cycle))
+sound-frames_more o plot dbfs cycle =
+    ap (sound 2 dbfs) (frames_of_more o plot cycle)
+    ∙ sound-append 2 dbfs (frames_of o plot cycle) (replicate o.ksmps (mix_of o plot cycle))
 
 -- the file before the first cycle is the header
-pub sound-frames_none : (o : Orchestra) (notes : List Note) (dbfs : ℤ) → sound 2 dbfs (frames_of o notes 0) ≡ []
-sound-frames_none o notes dbfs = ap (sound 2 dbfs) (frames_of-none o notes) ∙ sound-nil 2 dbfs
+pub sound-frames_none : (o : Orchestra) (plot : Plot) (dbfs : ℤ) → sound 2 dbfs (frames_of o plot 0) ≡ []
+sound-frames_none o plot dbfs = ap (sound 2 dbfs) (frames_of-none o plot) ∙ sound-nil 2 dbfs
 
 -- the size of the sound, as the header is told of it
-pub size_of_sound : (o : Orchestra) (notes : List Note) (head : Head) → IsHeadOf o head → (cycles_of o notes * o.ksmps) * head.nchnls * 2 ≡ length (mixes o notes) * 2
-size_of_sound o notes head is =
-    ap (λ (n : ℕ). (cycles_of o notes * o.ksmps) * n * 2) is.nchnls
-    ∙ (let one : (cycles_of o notes * o.ksmps) * 1 * 2 ≡ (cycles_of o notes * o.ksmps) * 2 = omega arith in one)
-    ∙ ap (λ (n : ℕ). n * 2) (sym (length-frames_of o notes (cycles_of o notes)))
+pub size_of_sound : (o : Orchestra) (plot : Plot) (head : Head) → IsHeadOf o head → (plot.cycles * o.ksmps) * head.nchnls * 2 ≡ length (mixes o plot) * 2
+size_of_sound o plot head is =
+    ap (λ (n : ℕ). (plot.cycles * o.ksmps) * n * 2) is.nchnls
+    ∙ (let one : (plot.cycles * o.ksmps) * 1 * 2 ≡ (plot.cycles * o.ksmps) * 2 = omega arith in one)
+    ∙ ap (λ (n : ℕ). n * 2) (sym (length-frames_of o plot plot.cycles))
 
 -- the header and the sound of all cycles are the file
-pub wav_of-whole : (o : Orchestra) (notes : List Note) (head : Head) → IsHeadOf o head → header_bytes 2 ((cycles_of o notes * o.ksmps) * head.nchnls * 2) head ++ sound 2 head.dbfs (frames_of o notes (cycles_of o notes)) ≡ wav_of (mixes o notes) head false
-wav_of-whole o notes head is =
-    ap (λ (n : ℕ). header_bytes 2 n head ++ sound 2 head.dbfs (mixes o notes)) (size_of_sound o notes head is)
-    ∙ sym (wav_of-narrow (mixes o notes) head)
+pub wav_of-whole : (o : Orchestra) (plot : Plot) (head : Head) → IsHeadOf o head → header_bytes 2 ((plot.cycles * o.ksmps) * head.nchnls * 2) head ++ sound 2 head.dbfs (frames_of o plot plot.cycles) ≡ wav_of (mixes o plot) head false
+wav_of-whole o plot head is =
+    ap (λ (n : ℕ). header_bytes 2 n head ++ sound 2 head.dbfs (mixes o plot)) (size_of_sound o plot head is)
+    ∙ sym (wav_of-narrow (mixes o plot) head)
 
 -- and those of the cycles so far are its front
-pub record FileBehind (o : Orchestra) (notes : List Note) (head : Head) (cycle : ℕ) : Type 0 where
+pub record FileBehind (o : Orchestra) (plot : Plot) (head : Head) (cycle : ℕ) : Type 0 where
   pub rest : List ℕ
-  pub split : wav_of (mixes o notes) head false ≡ (header_bytes 2 ((cycles_of o notes * o.ksmps) * head.nchnls * 2) head ++ sound 2 head.dbfs (frames_of o notes cycle)) ++ rest
+  pub split : wav_of (mixes o plot) head false ≡ (header_bytes 2 ((plot.cycles * o.ksmps) * head.nchnls * 2) head ++ sound 2 head.dbfs (frames_of o plot cycle)) ++ rest
 
-pub wav_of-front : (o : Orchestra) (notes : List Note) (head : Head) (cycle : ℕ) → IsHeadOf o head → cycle ≤ cycles_of o notes → FileBehind o notes head cycle
-wav_of-front o notes head cycle is h =
-    let opening : List ℕ = header_bytes 2 ((cycles_of o notes * o.ksmps) * head.nchnls * 2) head in
-    let behind = frames_of-front o notes cycle (cycles_of o notes) h in
+pub wav_of-front : (o : Orchestra) (plot : Plot) (head : Head) (cycle : ℕ) → IsHeadOf o head → cycle ≤ plot.cycles → FileBehind o plot head cycle
+wav_of-front o plot head cycle is h =
+    let opening : List ℕ = header_bytes 2 ((plot.cycles * o.ksmps) * head.nchnls * 2) head in
+    let behind = frames_of-front o plot cycle plot.cycles h in
     record {
       rest = sound 2 head.dbfs behind.rest;
-      split = sym (wav_of-whole o notes head is)
-          ∙ ap (λ (l : List ℕ). opening ++ l) (ap (sound 2 head.dbfs) behind.split ∙ sound-append 2 head.dbfs (frames_of o notes cycle) behind.rest)
-          ∙ sym (append_assoc opening (sound 2 head.dbfs (frames_of o notes cycle)) (sound 2 head.dbfs behind.rest));
+      split = sym (wav_of-whole o plot head is)
+          ∙ ap (λ (l : List ℕ). opening ++ l) (ap (sound 2 head.dbfs) behind.split ∙ sound-append 2 head.dbfs (frames_of o plot cycle) behind.rest)
+          ∙ sym (append_assoc opening (sound 2 head.dbfs (frames_of o plot cycle)) (sound 2 head.dbfs behind.rest));
     }

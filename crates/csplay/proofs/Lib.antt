@@ -1,8 +1,15 @@
 pub mod Frames
 pub mod Lines
 pub mod Numerals
-pub mod Pieces
 pub mod Played
 pub mod Readings
 pub mod Spelled
-pub mod Sums
+pub mod Saying
+pub mod Voices
+pub mod Refusals
+pub mod Heads
+pub mod Limits
+pub mod Loads
+pub mod Orchestras
+pub mod Firsts
+pub mod Runs

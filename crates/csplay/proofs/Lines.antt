@@ -1,13 +1,9 @@
 -- Lines, of which the last may lack its line feed.
-use Rattle.std.proofs.Common.{◌≡◌, ◌≢◌, ◌≤◌, ◌<◌, ◌⊎◌, ℕ, ◌+◌, ◌/◌, ◌%◌, ◌^◌, List, [], ◌∷◌, ◌++◌, length, codes, refl, ap, sym, ◌∙◌, arith, subst, inl, inr, ⊎_elim, append_assoc}
-use Rattle.std.proofs.lemmas.Bool.{cases_lt}
-use Rattle.std.proofs.lemmas.Fmt.{decimal_digit, decimal_step}
-use Rattle.std.proofs.lemmas.List.{same_from_push, append-nil, length-append}
+use Rattle.std.proofs.Common.{◌≡◌, ◌≢◌, ◌⊎◌, ℕ, List, [], ◌∷◌, ◌++◌, length, codes, refl, ap, sym, ◌∙◌, arith, subst, inl, inr, ⊎_elim, append_assoc}
+use Rattle.std.proofs.lemmas.List.{same_from_push, length-append}
 use Rattle.std.specs.Fmt.{decimal}
-use Rattle.std.specs.List.{flat_map, AllByRecursion}
-use Rattle.csplay.specs.declared.form.Orchestra.{Orchestra}
-use Rattle.csplay.specs.declared.form.Note.{Note}
-use Rattle.csplay.specs.Form.{orchestra_text, note_text, IsNote, IsTail, HasLines, Completes}
+use Rattle.csplay.specs.declared.orchestra.Orchestra.{Orchestra}
+use Rattle.csplay.specs.Orchestra.{orchestra_text, HasLines, Completes}
 use Rattle.csplay.proofs.Spelled.{behind_field, behind_ksmps, behind_sr, orchestra_text-fields}
 
 -- a text that ends in a byte other than a line feed, and then a line feed
@@ -30,25 +26,6 @@ EndsLine-append front text e = record {
   text_is = ap (λ (l : List ℕ). front ++ l) e.text_is ∙ (simp append_assoc);
 }
 
--- a number's last digit is no line feed
-pub record EndsOther (text : List ℕ) : Type 0 where
-  pub front : List ℕ
-  pub last : ℕ
-  pub other : last ≢ 10
-  pub text_is : text ≡ front ++ last ∷ []
-
-EndsOther-decimal : (n : ℕ) → n < 2 ^ 64 → EndsOther (decimal n)
-EndsOther-decimal n small = ⊎_elim
-    (λ one. record { front = []; last = 48 + n; other = λ e. omega arith; text_is = decimal_digit n one })
-    (λ more. record { front = decimal (n / 10); last = 48 + n % 10; other = λ e. omega arith; text_is = decimal_step n more small })
-    (cases_lt n 10)
-
--- a number and a line feed
-EndsLine-number : (n : ℕ) → n < 2 ^ 64 → EndsLine (decimal n ++ 10 ∷ [])
-EndsLine-number n small =
-    let e = EndsOther-decimal n small in
-    record { front = e.front; last = e.last; other = e.other; text_is = ap (λ (l : List ℕ). l ++ 10 ∷ []) e.text_is }
-
 pub EndsLine-orchestra : (o : Orchestra) → EndsLine (orchestra_text o)
 EndsLine-orchestra o =
     let last : EndsLine behind_field = record { front = codes "\nout a1\nendi"; last = 110; other = λ e. omega arith; text_is = refl } in
@@ -58,24 +35,6 @@ EndsLine-orchestra o =
     let e3 = EndsLine-append (codes "\nksmps = ") (decimal o.ksmps ++ behind_ksmps o) e2 in
     let e4 = EndsLine-append (decimal o.sr) (behind_sr o) e3 in
     subst EndsLine (sym (orchestra_text-fields o)) (EndsLine-append (codes "sr = ") (decimal o.sr ++ behind_sr o) e4)
-
-pub EndsLine-note : (n : Note) → IsNote n → EndsLine (note_text n)
-unfolding note_text
-EndsLine-note n i =
-    let high : n.value ≤ 32767 = i.value in
-    let last : EndsLine (decimal n.value ++ 10 ∷ []) = EndsLine-number n.value (omega arith) in
-    let e1 = EndsLine-append (codes " ") (decimal n.value ++ 10 ∷ []) last in
-    let e2 = EndsLine-append (decimal n.length) (codes " " ++ (decimal n.value ++ 10 ∷ [])) e1 in
-    let e3 = EndsLine-append (codes " ") (decimal n.length ++ (codes " " ++ (decimal n.value ++ 10 ∷ []))) e2 in
-    let e4 = EndsLine-append (decimal n.start) (codes " " ++ (decimal n.length ++ (codes " " ++ (decimal n.value ++ 10 ∷ [])))) e3 in
-    EndsLine-append (codes "i1 ") (decimal n.start ++ (codes " " ++ (decimal n.length ++ (codes " " ++ (decimal n.value ++ 10 ∷ []))))) e4
-
-pub AreLines-score : (notes : List Note) (tail : List ℕ) → AllByRecursion IsNote notes → IsTail tail → AreLines (flat_map note_text notes ++ tail)
-AreLines-score [] tail ok t = ⊎_elim (λ none. inl none) (λ line. inr (record { front = []; last = 101; other = λ e. omega arith; text_is = line })) t
-AreLines-score (n ∷ notes) tail ok t = ⊎_elim
-    (λ none. inr (subst EndsLine (sym (append_assoc (note_text n) (flat_map note_text notes) tail ∙ ap (λ (l : List ℕ). note_text n ++ l) none ∙ append-nil (note_text n))) (EndsLine-note n ok.0)))
-    (λ line. inr (subst EndsLine (sym (append_assoc (note_text n) (flat_map note_text notes) tail)) (EndsLine-append (note_text n) (flat_map note_text notes ++ tail) line)))
-    (AreLines-score notes tail ok.1 t)
 
 -- a completed text is the lines, where they are such
 pub HasLines-completed : (text whole lines : List ℕ) → Completes text whole → whole ≡ lines → HasLines text lines
@@ -89,7 +48,7 @@ one_feed lines are e = ⊎_elim
     let long = ap length h in omega (arith, length-append line.front (line.last ∷ [])))
     are
 
-two_feeds : (lines front : List ℕ) → AreLines lines → lines ≡ (front ++ 10 ∷ []) ++ 10 ∷ [] → ⊥
+pub two_feeds : (lines front : List ℕ) → AreLines lines → lines ≡ (front ++ 10 ∷ []) ++ 10 ∷ [] → ⊥
 two_feeds lines front are e = ⊎_elim
     (λ none. let long = ap length (sym none ∙ e) in omega (arith, length-append (front ++ 10 ∷ []) (10 ∷ [])))
     (λ line. let h = (same_from_push (line.front ++ line.last ∷ []) (front ++ 10 ∷ []) 10 10 (sym line.text_is ∙ e)).0 in

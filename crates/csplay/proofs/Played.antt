@@ -1,4 +1,4 @@
-use Rattle.std.proofs.Common.{◌≡◌, ◌≤◌, ◌<◌, ℕ, ◌+◌, ◌*◌, List, [], ◌++◌, pos, replicate, false, Result, Ok, Err, OnOk, OnErr, ap, sym, subst, ◌∙◌, arith, append_assoc, append-nil}
+use Rattle.std.proofs.Common.{◌≡◌, ◌≤◌, ◌<◌, ℕ, ◌+◌, ◌*◌, List, [], ◌++◌, replicate, false, Result, Ok, Err, OnOk, OnErr, ap, sym, subst, ◌∙◌, arith, append_assoc, append-nil}
 use Rattle.cs_base.specs.declared.head.Head.{Head}
 use Rattle.cs_edge.specs.declared.moves.Move.TheVariants.{End}
 use Rattle.cs_edge.specs.Told.{Follows, IsFront}
@@ -6,9 +6,10 @@ use Rattle.cs_edge.specs.Moves.{SinkTold, GrownBy, WroteMore, Wrote, Finished, S
 use Rattle.cs_edge.proofs.Chains.{front_more}
 use Rattle.cs_edge.proofs.Stories.{wrote_on, finished, stopped_writes}
 use Rattle.cs_wav.specs.Wav.{header_bytes, sound, wav_of}
-use Rattle.csplay.specs.declared.form.Orchestra.{Orchestra}
-use Rattle.csplay.specs.declared.form.Note.{Note}
-use Rattle.csplay.specs.Mix.{IsHeadOf, mix_of, frames_of, mixes, cycles_of}
+use Rattle.csplay.specs.declared.orchestra.Orchestra.{Orchestra}
+use Rattle.cs_tempo.specs.declared.plot.Plot.{Plot}
+use Rattle.csplay.specs.Orchestra.{IsHeadOf}
+use Rattle.csplay.specs.Mix.{mix_of, frames_of, mixes}
 use Rattle.csplay.proofs.Frames.{sound-frames_none, sound-frames_more, wav_of-whole, wav_of-front}
 
 -- what holds however a call ended
@@ -30,79 +31,79 @@ begun_in_part a b c name first w s rest =
     stopped_writes a c name s.0 (first ++ rest) (wrote_on a b c name [] s.0 w s.2) (front_more s.0 first rest s.1)
 
 -- the header of a piece
-abbrev pub opening : Orchestra → List Note → Head → List ℕ
-opening o notes head = header_bytes 2 ((cycles_of o notes * o.ksmps) * head.nchnls * 2) head
+abbrev pub opening : Orchestra → Plot → Head → List ℕ
+opening o plot head = header_bytes 2 ((plot.cycles * o.ksmps) * head.nchnls * 2) head
 
 -- the file after so many cycles
-abbrev pub so_far : Orchestra → List Note → Head → ℕ → List ℕ
-so_far o notes head cycle = opening o notes head ++ sound 2 head.dbfs (frames_of o notes cycle)
+abbrev pub so_far : Orchestra → Plot → Head → ℕ → List ℕ
+so_far o plot head cycle = opening o plot head ++ sound 2 head.dbfs (frames_of o plot cycle)
 
 -- the samples of a cycle
-abbrev pub samples : Orchestra → List Note → Head → ℕ → List ℕ
-samples o notes head cycle = sound 2 head.dbfs (replicate o.ksmps (pos (mix_of o notes cycle)))
+abbrev pub samples : Orchestra → Plot → Head → ℕ → List ℕ
+samples o plot head cycle = sound 2 head.dbfs (replicate o.ksmps (mix_of o plot cycle))
 
-so_far_none : (o : Orchestra) (notes : List Note) (head : Head) → opening o notes head ≡ so_far o notes head 0
-so_far_none o notes head =
-    sym (ap (λ (l : List ℕ). opening o notes head ++ l) (sound-frames_none o notes head.dbfs) ∙ append-nil (opening o notes head))
+so_far_none : (o : Orchestra) (plot : Plot) (head : Head) → opening o plot head ≡ so_far o plot head 0
+so_far_none o plot head =
+    sym (ap (λ (l : List ℕ). opening o plot head ++ l) (sound-frames_none o plot head.dbfs) ∙ append-nil (opening o plot head))
 
-so_far_more : (o : Orchestra) (notes : List Note) (head : Head) (cycle : ℕ)
-    → so_far o notes head cycle ++ samples o notes head cycle ≡ so_far o notes head (cycle + 1)
-so_far_more o notes head cycle =
-    append_assoc (opening o notes head) (sound 2 head.dbfs (frames_of o notes cycle)) (samples o notes head cycle)
-    ∙ ap (λ (l : List ℕ). opening o notes head ++ l) (sym (sound-frames_more o notes head.dbfs cycle))
+so_far_more : (o : Orchestra) (plot : Plot) (head : Head) (cycle : ℕ)
+    → so_far o plot head cycle ++ samples o plot head cycle ≡ so_far o plot head (cycle + 1)
+so_far_more o plot head cycle =
+    append_assoc (opening o plot head) (sound 2 head.dbfs (frames_of o plot cycle)) (samples o plot head cycle)
+    ∙ ap (λ (l : List ℕ). opening o plot head ++ l) (sym (sound-frames_more o plot head.dbfs cycle))
 
 -- what the header's writer gives is the opening
-pub opened : (written : List ℕ) (cycles : ℕ) (o : Orchestra) (notes : List Note) (head : Head)
-    → written ≡ header_bytes 2 ((cycles * o.ksmps) * head.nchnls * 2) head → cycles ≡ cycles_of o notes
-    → written ≡ opening o notes head
-opened written cycles o notes head e all =
+pub opened : (written : List ℕ) (cycles : ℕ) (o : Orchestra) (plot : Plot) (head : Head)
+    → written ≡ header_bytes 2 ((cycles * o.ksmps) * head.nchnls * 2) head → cycles ≡ plot.cycles
+    → written ≡ opening o plot head
+opened written cycles o plot head e all =
     e ∙ ap (λ (n : ℕ). header_bytes 2 ((n * o.ksmps) * head.nchnls * 2) head) all
 
 -- the header was written
-pub header_written : (a b : SinkTold) (name written : List ℕ) (o : Orchestra) (notes : List Note) (head : Head)
-    → written ≡ opening o notes head → Wrote a b name written → Wrote a b name (so_far o notes head 0)
-header_written a b name written o notes head e w =
-    subst (λ (l : List ℕ). Wrote a b name l) (e ∙ so_far_none o notes head) w
+pub header_written : (a b : SinkTold) (name written : List ℕ) (o : Orchestra) (plot : Plot) (head : Head)
+    → written ≡ opening o plot head → Wrote a b name written → Wrote a b name (so_far o plot head 0)
+header_written a b name written o plot head e w =
+    subst (λ (l : List ℕ). Wrote a b name l) (e ∙ so_far_none o plot head) w
 
 -- a part of the header was written
-pub header_stopped : (a b : SinkTold) (name written : List ℕ) (o : Orchestra) (notes : List Note) (head : Head)
-    → IsHeadOf o head → written ≡ opening o notes head → ((rest : List ℕ) → Stopped a b name (written ++ rest))
-    → Stopped a b name (wav_of (mixes o notes) head false)
-header_stopped a b name written o notes head is e s =
-    let sounds : List ℕ = sound 2 head.dbfs (frames_of o notes (cycles_of o notes)) in
+pub header_stopped : (a b : SinkTold) (name written : List ℕ) (o : Orchestra) (plot : Plot) (head : Head)
+    → IsHeadOf o head → written ≡ opening o plot head → ((rest : List ℕ) → Stopped a b name (written ++ rest))
+    → Stopped a b name (wav_of (mixes o plot) head false)
+header_stopped a b name written o plot head is e s =
+    let sounds : List ℕ = sound 2 head.dbfs (frames_of o plot plot.cycles) in
     subst (λ (l : List ℕ). Stopped a b name l)
-    (ap (λ (l : List ℕ). l ++ sounds) e ∙ wav_of-whole o notes head is)
+    (ap (λ (l : List ℕ). l ++ sounds) e ∙ wav_of-whole o plot head is)
     (s sounds)
 
 -- a cycle was written
-pub cycle_written : (a b c : SinkTold) (name : List ℕ) (o : Orchestra) (notes : List Note) (head : Head) (cycle : ℕ)
-    → Wrote a b name (so_far o notes head cycle) → WroteMore b c (samples o notes head cycle)
-    → Wrote a c name (so_far o notes head (cycle + 1))
-cycle_written a b c name o notes head cycle w m =
-    subst (λ (l : List ℕ). Wrote a c name l) (so_far_more o notes head cycle)
-    (wrote_on a b c name (so_far o notes head cycle) (samples o notes head cycle) w m)
+pub cycle_written : (a b c : SinkTold) (name : List ℕ) (o : Orchestra) (plot : Plot) (head : Head) (cycle : ℕ)
+    → Wrote a b name (so_far o plot head cycle) → WroteMore b c (samples o plot head cycle)
+    → Wrote a c name (so_far o plot head (cycle + 1))
+cycle_written a b c name o plot head cycle w m =
+    subst (λ (l : List ℕ). Wrote a c name l) (so_far_more o plot head cycle)
+    (wrote_on a b c name (so_far o plot head cycle) (samples o plot head cycle) w m)
 
 -- a part of a cycle was written
-pub cycle_stopped : (a b c : SinkTold) (name : List ℕ) (o : Orchestra) (notes : List Note) (head : Head) (cycle : ℕ)
-    → IsHeadOf o head → cycle < cycles_of o notes → Wrote a b name (so_far o notes head cycle)
-    → (front : List ℕ) × IsFront front (samples o notes head cycle) × WroteMore b c front
-    → Stopped a c name (wav_of (mixes o notes) head false)
-cycle_stopped a b c name o notes head cycle is lt w s =
-    let before : List ℕ = so_far o notes head cycle in
-    let behind = wav_of-front o notes head (cycle + 1) is (omega arith) in
+pub cycle_stopped : (a b c : SinkTold) (name : List ℕ) (o : Orchestra) (plot : Plot) (head : Head) (cycle : ℕ)
+    → IsHeadOf o head → cycle < plot.cycles → Wrote a b name (so_far o plot head cycle)
+    → (front : List ℕ) × IsFront front (samples o plot head cycle) × WroteMore b c front
+    → Stopped a c name (wav_of (mixes o plot) head false)
+cycle_stopped a b c name o plot head cycle is lt w s =
+    let before : List ℕ = so_far o plot head cycle in
+    let behind = wav_of-front o plot head (cycle + 1) is (omega arith) in
     let whole = behind.split
     ∙ (ap (λ (l : List ℕ). l ++ behind.rest)
-    (sym (so_far_more o notes head cycle) ∙ (ap (λ (l : List ℕ). before ++ l) s.1.1 ∙ sym (append_assoc before s.0 s.1.0)))
+    (sym (so_far_more o plot head cycle) ∙ (ap (λ (l : List ℕ). before ++ l) s.1.1 ∙ sym (append_assoc before s.0 s.1.0)))
     ∙ append_assoc (before ++ s.0) s.1.0 behind.rest) in
-    stopped_writes a c name (before ++ s.0) (wav_of (mixes o notes) head false) (wrote_on a b c name before s.0 w s.2)
+    stopped_writes a c name (before ++ s.0) (wav_of (mixes o plot) head false) (wrote_on a b c name before s.0 w s.2)
     (s.1.0 ++ behind.rest, whole)
 
 -- all cycles were written, and the file ended
-pub all_written : (a b c : SinkTold) (name : List ℕ) (o : Orchestra) (notes : List Note) (head : Head) (cycle : ℕ)
-    → IsHeadOf o head → cycle ≡ cycles_of o notes → Wrote a b name (so_far o notes head cycle)
+pub all_written : (a b c : SinkTold) (name : List ℕ) (o : Orchestra) (plot : Plot) (head : Head) (cycle : ℕ)
+    → IsHeadOf o head → cycle ≡ plot.cycles → Wrote a b name (so_far o plot head cycle)
     → Follows b.held c.held (λ before now. now ≡ before) → Follows b.moves c.moves (GrownBy End) → b.faults ≤ c.faults
-    → Finished a c name (wav_of (mixes o notes) head false)
-all_written a b c name o notes head cycle is e w held moves later =
-    finished a b c name (wav_of (mixes o notes) head false)
-    (subst (λ (l : List ℕ). Wrote a b name l) (ap (so_far o notes head) e ∙ wav_of-whole o notes head is) w)
+    → Finished a c name (wav_of (mixes o plot) head false)
+all_written a b c name o plot head cycle is e w held moves later =
+    finished a b c name (wav_of (mixes o plot) head false)
+    (subst (λ (l : List ℕ). Wrote a b name l) (ap (so_far o plot head) e ∙ wav_of-whole o plot head is) w)
     held moves later

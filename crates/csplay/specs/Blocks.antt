@@ -3,6 +3,5 @@ use Rattle.csplay.specs.declared.blocks.Blocks.{Blocks}
 
 -- the blocks of a cycle of so many frames
 pub record AreBlocksOf (ksmps : ℕ) (b : Blocks) : Type 0 where
-  pub part : length b.part.items ≡ ksmps
   pub mix : length b.mix.items ≡ ksmps
   pub out : length b.out.items ≡ ksmps * 2

@@ -1,9 +1,14 @@
 pub mod Blocks
-pub mod Form
+pub mod Load
 pub mod Mix
-pub mod Piece
+pub mod Orchestra
 pub mod Reading
+pub mod Refusal
+pub mod Run
 pub mod Scan
 pub mod Sound
+pub mod Stage
 pub mod Status
+pub mod Talk
+pub mod Texts
 pub mod Words

@@ -1,42 +1,34 @@
-use Rattle.std.specs.Prelude.{◌≡◌, ℕ, zero, suc, ◌+◌, ◌*◌, ◌/◌, ◌==◌, max, nat_le, nat_lt, ℤ, pos, Bool, ◌&&◌, if◌then◌else◌, List, [], ◌∷◌, ◌++◌, map}
-use Rattle.std.specs.List.{sum_by}
-use Rattle.cs_base.specs.declared.head.Head.{Head}
-use Rattle.csplay.specs.declared.form.Orchestra.{Orchestra}
-use Rattle.csplay.specs.declared.form.Note.{Note}
+use Rattle.std.specs.Prelude.{◌≤◌, ℕ, zero, suc, ◌-◌, ◌*◌, ◌/◌, ◌^◌, ◌==◌, ℤ, pos, ◌+ℤ◌, if◌then◌else◌, List, [], ◌∷◌, ◌++◌, map, slice_index_or}
+use Rattle.std.specs.List.{count_by}
+use Rattle.std.specs.List.Sorted.{IsNonDecreasingBy}
+use Rattle.cs_tempo.specs.declared.plot.Event.{Event}
+use Rattle.cs_tempo.specs.declared.plot.EventAct.{EventAct}
+use Rattle.cs_tempo.specs.declared.plot.EventAct.TheVariants.{Start, Table}
+use Rattle.cs_tempo.specs.declared.plot.Plot.{Plot}
+use Rattle.cs_tempo.specs.Limits.{is_active}
+use Rattle.csplay.specs.declared.orchestra.Orchestra.{Orchestra}
 
--- the control cycle of a second, rounded half up
-abbrev pub cycle_of : Orchestra → ℕ → ℕ
-cycle_of o second = (2 * second * o.sr + o.ksmps) / (2 * o.ksmps)
+-- the sum of some numbers
+abbrev pub total : List ℤ → ℤ
+total [] = pos 0
+total (z ∷ zs) = z +ℤ total zs
 
--- the cycle after a note's last: a note has one at least
-abbrev pub end_of : Orchestra → Note → ℕ
-end_of o n = max (cycle_of o n.start + 1) (cycle_of o (n.start + n.length))
+-- the field of that number, counted from 1, and 0 where the note has none
+abbrev pub field_of : ℕ → List ℤ → ℤ
+field_of number fields = slice_index_or fields (number - 1) (pos 0)
 
--- the note sounds in this cycle
-abbrev pub is_active : Orchestra → ℕ → Note → Bool
-is_active o cycle n = nat_le (cycle_of o n.start) cycle && nat_lt cycle (end_of o n)
+-- what an event puts out while its note lasts: a note of instrument 1 the field; another note is silent, and a table makes no sound
+abbrev pub output_of : ℕ → EventAct → ℤ
+output_of field (Start instr cycles fields) = if instr == 1 then field_of field fields else pos 0
+output_of field (Table number size gen args) = pos 0
 
--- the field of that number, as the line has it: instrument, start, length, value, and 0 for the rest
-abbrev pub field_of : ℕ → Note → ℕ
-field_of number n =
-    if number == 1 then 1
-    else if number == 2 then n.start
-    else if number == 3 then n.length
-    else if number == 4 then n.value
-    else 0
+-- what an event gives to each frame of a cycle, in 65,536ths
+abbrev pub part_of : ℕ → ℕ → Event → ℤ
+part_of field cycle e = if is_active cycle e then output_of field e.act else pos 0
 
--- what a note gives to each frame of a cycle, in 65,536ths
-abbrev pub part_of : Orchestra → ℕ → Note → ℕ
-part_of o cycle n = if is_active o cycle n then 65536 * field_of o.field n else 0
-
--- the mix of a cycle: the sum over the notes
-abbrev pub mix_of : Orchestra → List Note → ℕ → ℕ
-mix_of o notes cycle = sum_by (part_of o cycle) notes
-
--- how many cycles a piece has: the greatest end of its notes, or 0
-abbrev pub cycles_of : Orchestra → List Note → ℕ
-cycles_of o [] = 0
-cycles_of o (n ∷ notes) = max (end_of o n) (cycles_of o notes)
+-- the mix of a cycle: the sum over all events
+unfoldable pub mix_of : Orchestra → Plot → ℕ → ℤ
+mix_of o plot cycle = total (map (part_of o.field cycle) plot.events)
 
 -- the numbers below n
 abbrev pub up_to : ℕ → List ℕ
@@ -44,17 +36,16 @@ up_to zero = []
 up_to (suc n) = up_to n ++ n ∷ []
 
 -- the mix at each frame of so many cycles
-unfoldable pub frames_of : Orchestra → List Note → ℕ → List ℤ
-frames_of o notes cycles =
-    map (λ frame. pos (mix_of o notes (frame / o.ksmps))) (up_to (cycles * o.ksmps))
+unfoldable pub frames_of : Orchestra → Plot → ℕ → List ℤ
+frames_of o plot cycles = map (λ frame. mix_of o plot (frame / o.ksmps)) (up_to (cycles * o.ksmps))
 
 -- the mix at each frame of the piece
-abbrev pub mixes : Orchestra → List Note → List ℤ
-mixes o notes = frames_of o notes (cycles_of o notes)
+abbrev pub mixes : Orchestra → Plot → List ℤ
+mixes o plot = frames_of o plot plot.cycles
 
--- the head of such a piece: one channel, and full scale at 32,768
-pub record IsHeadOf (o : Orchestra) (head : Head) : Type 0 where
-  pub sr : head.sr ≡ o.sr
-  pub ksmps : head.ksmps ≡ o.ksmps
-  pub nchnls : head.nchnls ≡ 1
-  pub dbfs : head.dbfs ≡ pos 2147483648
+-- A plot that passes no limit can be played: its samples have at most 2^31 bytes, its events stand in the order of
+-- their cycles, and in no cycle are more than 512 notes active.
+pub record IsPlayable (o : Orchestra) (plot : Plot) : Type 0 where
+  pub bytes : plot.cycles * o.ksmps * 2 ≤ 2 ^ 31
+  pub in_order : IsNonDecreasingBy (λ e. e.cycle) plot.events
+  pub few : (cycle : ℕ) → count_by (is_active cycle) plot.events ≤ 512

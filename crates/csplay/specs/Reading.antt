@@ -5,10 +5,6 @@ use Rattle.cs_edge.specs.Told.{Follows}
 use Rattle.cs_edge.specs.Moves.{Grown, AreAll}
 use Rattle.cs_edge.specs.Files.{ShelfTold, file_named}
 
--- the most bytes of a text that are read: one more than a text of the form may have
-unfoldable pub most_read : ℕ
-most_read = 8193
-
 -- what has been read stands at the front of what was left, where that is told
 abbrev pub ReadSoFar : Option (List ℕ) → Option (List ℕ) → List ℕ → Type 0
 ReadSoFar None now text = ⊤

@@ -1,83 +1,55 @@
-// The two texts of a piece.
-ghost use Rattle.std.specs.Prelude.{◌≡◌, ◌≤◌, ◌⊎◌, List, IfOk, IsErrOf};
-ghost use Rattle.cs_edge.specs.Told.{Follows, Rose};
-ghost use Rattle.cs_edge.specs.Moves.{Grown, IsFrontOf};
-ghost use Rattle.csplay.specs.Form.{IsOrchestra, IsNotes, IsOrchestraText, IsScoreText};
-ghost use Rattle.csplay.specs.Piece.{TellsPiece, TellsOtherText, LacksOne, AreBothRuns};
-ghost use Rattle.csplay.specs.Reading.{LeavesRest, most_read};
+// The two texts of a shelf, and what they mean together.
+ghost use Rattle.std.specs.Prelude.{IfOk, IfErr};
+ghost use Rattle.csplay.specs.Load.{IsLoaded, IsStop, ReadsTexts};
+ghost use Rattle.csplay.specs.Mix.{IsPlayable};
+ghost use Rattle.csplay.specs.Orchestra.{IsOrchestra};
 
-use crate::form::{Note, Orchestra, notes_in, orchestra_in};
+use crate::piece::{MOST_OF_ORCHESTRA, MOST_OF_SCORE, Piece, passed_nowhere, piece_of};
 use crate::read::{ReadFault, read_text};
+use crate::status::Status;
+use cs_base::Or;
 use cs_edge::Shelf;
 use std::alloc::Global;
 
-/// What the two texts say.
-#[derive(Debug, Drop)]
-pub struct Piece {
-    pub orchestra: Orchestra,
-    pub notes: Vec<Note>,
-}
-
 /// Why there is no piece.
-#[derive(Clone, Copy, Debug, PartialEq, Eq)]
-pub enum LoadFault {
-    /// The shelf failed, or lacks a name.
-    Shelf,
-    /// A text isn't of the form.
-    NotBuilt,
+#[derive(Clone, Copy, Debug)]
+pub enum Stop<'a> {
+    /// The text of this name can't be read: the shelf failed, or lacks it.
+    Unread(&'a str),
+    /// The texts are refused.
+    Refused(Status),
     OutOfMemory,
 }
 
-/// Reads both texts, and then says what they are.
-pub fn load<F: Shelf>(
+/// Reads both texts, one byte more than they may have at most, and then says what they mean. Where the orchestra is
+/// too long, the score isn't begun.
+pub fn load<'a, F: Shelf>(
     alloc: Global,
     shelf: &mut F,
-    orc: &str,
-    sco: &str,
-) -> Result<Piece, LoadFault>
-    ensures piece { IfOk result (λ p. TellsPiece (F.tells shelf.old).files orc.now sco.now p.orchestra p.notes.items) }
-    ensures in_range { IfOk result (λ p. IsOrchestra p.orchestra × IsNotes p.notes.items) }
-    ensures fault { IsErrOf result LoadFault.Shelf
-        → Rose (F.tells shelf.old).faults (F.tells shelf.new).faults
-        ⊎ LacksOne (F.tells shelf.old).files orc.now sco.now }
-    ensures not_built { IsErrOf result LoadFault.NotBuilt → TellsOtherText (F.tells shelf.old).files orc.now sco.now }
-    // Of the score no more was read than its first bytes.
-    ensures rest { IfOk result (λ _. LeavesRest most_read (F.tells shelf.old).files sco.now (F.tells shelf.new).left) }
-    ensures rest_refused { IsErrOf result LoadFault.NotBuilt
-        → LeavesRest most_read (F.tells shelf.old).files sco.now (F.tells shelf.new).left }
-    ensures later { (F.tells shelf.old).faults ≤ (F.tells shelf.new).faults }
-    ensures moves { Follows (F.tells shelf.old).moves (F.tells shelf.new).moves
-        (Grown (IsFrontOf (AreBothRuns orc.now sco.now))) }
+    orc: &'a str,
+    sco: &'a str,
+) -> Result<Piece, Stop<'a>>
+    ensures piece { IfOk result (λ p. IsLoaded (F.tells shelf.old) (F.tells shelf.new) orc.now sco.now p.orchestra p.plot) }
+    ensures playable { IfOk result (λ p. IsOrchestra p.orchestra × IsPlayable p.orchestra p.plot) }
+    ensures stop { IfErr result (λ stop. IsStop (F.tells shelf.old) (F.tells shelf.new) orc.now sco.now stop) }
+    ensures shelf { ReadsTexts (F.tells shelf.old) (F.tells shelf.new) orc.now sco.now }
 {
-    let orchestra = match read_text(alloc, shelf, orc) {
+    let orchestra = match read_text(alloc, shelf, orc, MOST_OF_ORCHESTRA + 1) {
         Ok(text) => text,
-        Err(ReadFault::Shelf) => return Err(LoadFault::Shelf),
-        Err(ReadFault::OutOfMemory) => return Err(LoadFault::OutOfMemory),
+        Err(ReadFault::Shelf) => return Err(Stop::Unread(orc)),
+        Err(ReadFault::OutOfMemory) => return Err(Stop::OutOfMemory),
     };
-    let score = match read_text(alloc, shelf, sco) {
+    if orchestra.len() > MOST_OF_ORCHESTRA {
+        return Err(Stop::Refused(passed_nowhere(1)));
+    }
+    let score = match read_text(alloc, shelf, sco, MOST_OF_SCORE + 1) {
         Ok(text) => text,
-        Err(ReadFault::Shelf) => return Err(LoadFault::Shelf),
-        Err(ReadFault::OutOfMemory) => return Err(LoadFault::OutOfMemory),
+        Err(ReadFault::Shelf) => return Err(Stop::Unread(sco)),
+        Err(ReadFault::OutOfMemory) => return Err(Stop::OutOfMemory),
     };
-    piece_of(alloc, orchestra, score)
-}
-
-/// The piece that the two texts are.
-fn piece_of(alloc: Global, orchestra: Vec<u8>, score: Vec<u8>) -> Result<Piece, LoadFault>
-    ensures piece { IfOk result (λ p. IsOrchestraText orchestra.items p.orchestra × IsScoreText score.items p.notes.items) }
-    ensures shelf { ¬ (IsErrOf result LoadFault.Shelf) }
-    ensures not_built { IsErrOf result LoadFault.NotBuilt
-        → ((o : Orchestra) → IsOrchestraText orchestra.items o → ⊥)
-        ⊎ ((notes : List Note) → IsScoreText score.items notes → ⊥) }
-{
-    let orchestra = match orchestra_in(orchestra) {
-        Ok(Some(orchestra)) => orchestra,
-        Ok(None) => return Err(LoadFault::NotBuilt),
-        Err(_) => return Err(LoadFault::OutOfMemory),
-    };
-    match notes_in(alloc, score) {
-        Ok(Some(notes)) => Ok(Piece { orchestra, notes }),
-        Ok(None) => Err(LoadFault::NotBuilt),
-        Err(_) => Err(LoadFault::OutOfMemory),
+    match piece_of(alloc, &orchestra, &score) {
+        Ok(piece) => Ok(piece),
+        Err(Or::Fault(refusal)) => Err(Stop::Refused(refusal)),
+        Err(Or::OutOfMemory) => Err(Stop::OutOfMemory),
     }
 }

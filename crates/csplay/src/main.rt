@@ -1,24 +1,27 @@
 //! The program: an orchestra and a score in, a sound file out. It stands on all the other crates.
 //!
-//! The one contract is that of `csplay`: a run that ends Ok has written exactly the WAV of the mix that the two texts
-//! mean, and every other status has its stated cause and leaves what it says. What is built is the form of six lines
-//! for an orchestra and of single notes for a score; `form` and `scan` go when the whole language is read, and
-//! nothing above `load` notices.
+//! The one contract is that of `csplay`, the record `IsRun`: a run that ends Ok has written exactly the WAV of the mix
+//! that the two texts mean, and every other status has its stated cause, its line on talk, and leaves what it says.
+//! What is built is the whole score, and for an orchestra the form of six lines; `orchestra`, `scan`, `stage` and `play`
+//! go when the whole language is performed, and nothing above `piece` and `perform` notices.
 //!
-//! In reading order: `words` (two names), `status`, `read` (a text of a shelf), `scan` and `form` (what a text says),
-//! `load` (both texts), `mix` (what the notes sum to), `blocks`, `play` (the file, cycle by cycle), `perform`, `top`
-//! (the whole run), and `main`, which makes the objects of the edge.
+//! In reading order: `words` (two names), `status`, `talk` (its line), `orchestra` and `scan` (what an orchestra says),
+//! `piece` (what two texts mean), `read` (a text of a shelf), `load` (both texts), `stage` (the notes that sound),
+//! `blocks`, `play` (the file, cycle by cycle), `perform`, `top` (the whole run), and `main`, which makes the objects of
+//! the edge.
 #![tactic(auto)]
 
 mod blocks;
-mod form;
 mod load;
-mod mix;
+mod orchestra;
 mod perform;
+mod piece;
 mod play;
 mod read;
 mod scan;
+mod stage;
 mod status;
+mod talk;
 #[cfg(test)]
 mod tests;
 mod top;

@@ -2,14 +2,14 @@
 ghost use Rattle.std.specs.Prelude.{◌≡◌, ◌≤◌, OnOk, IfOk, IsErrOf};
 ghost use Rattle.cs_edge.specs.Told.{Rose};
 ghost use Rattle.csplay.specs.Blocks.{AreBlocksOf};
-ghost use Rattle.csplay.specs.Form.{IsOrchestra, IsNotes};
-ghost use Rattle.csplay.specs.Mix.{IsHeadOf};
+ghost use Rattle.csplay.specs.Mix.{IsPlayable};
+ghost use Rattle.csplay.specs.Orchestra.{IsOrchestra};
 ghost use Rattle.csplay.specs.Sound.{Plays, PlaysPart};
 
 use crate::blocks::Blocks;
-use crate::form::{Note, Orchestra};
+use crate::piece::{Piece, head_of};
 use crate::play::play;
-use cs_base::{Head, Num};
+use crate::stage::Stage;
 use cs_edge::Sink;
 use std::alloc::{AllocError, Global};
 
@@ -21,26 +21,30 @@ pub enum PlayFault {
     OutOfMemory,
 }
 
-/// Writes the sound file of these notes into the sink. All memory is taken before the sink is begun.
+/// Writes the sound file of a piece into the sink. All memory is taken before the sink is begun.
 pub fn perform<K: Sink>(
     alloc: Global,
-    o: &Orchestra,
-    notes: &[Note],
+    piece: &Piece,
     name: &str,
     wav: &mut K,
 ) -> Result<(), PlayFault>
-    requires orchestra { IsOrchestra o.now }
-    requires notes { IsNotes notes.now }
-    ensures played { OnOk result (Plays (K.tells wav.old) (K.tells wav.new) name.now o.now notes.now) }
+    requires orchestra { IsOrchestra piece.now.orchestra }
+    requires plot { IsPlayable piece.now.orchestra piece.now.plot }
+    ensures played { OnOk result (Plays (K.tells wav.old) (K.tells wav.new) name.now piece.now.orchestra piece.now.plot) }
     ensures sink { IsErrOf result PlayFault.Sink → Rose (K.tells wav.old).faults (K.tells wav.new).faults }
-    ensures part { IsErrOf result PlayFault.Sink → PlaysPart (K.tells wav.old) (K.tells wav.new) name.now o.now notes.now }
+    ensures part { IsErrOf result PlayFault.Sink
+        → PlaysPart (K.tells wav.old) (K.tells wav.new) name.now piece.now.orchestra piece.now.plot }
     ensures memory { IsErrOf result PlayFault.OutOfMemory → wav.new ≡ wav.old }
 {
+    let o = &piece.orchestra;
+    let Ok(mut stage) = Stage::new(alloc) else {
+        return Err(PlayFault::OutOfMemory);
+    };
     let Ok(mut blocks) = blocks_of(alloc, o.ksmps as usize) else {
         return Err(PlayFault::OutOfMemory);
     };
     let head = head_of(o);
-    match play(o, notes, &head, name, wav, &mut blocks) {
+    match play(o, &piece.plot, &head, name, wav, &mut stage, &mut blocks) {
         Ok(()) => Ok(()),
         Err(_) => Err(PlayFault::Sink),
     }
@@ -51,21 +55,7 @@ fn blocks_of(alloc: Global, ksmps: usize) -> Result<Blocks, AllocError>
     ensures { IfOk result (λ blocks. AreBlocksOf ksmps blocks) }
 {
     Ok(Blocks {
-        part: vec![in alloc; 0i64; ksmps]?,
         mix: vec![in alloc; 0i64; ksmps]?,
         out: vec![in alloc; 0u8; ksmps * 2]?,
     })
-}
-
-// One channel, and full scale at 32,768.
-fn head_of(o: &Orchestra) -> Head
-    requires { IsOrchestra o.now }
-    ensures { IsHeadOf o.now result }
-{
-    Head {
-        sr: o.sr,
-        ksmps: o.ksmps,
-        nchnls: 1,
-        dbfs: Num::of_whole(32_768),
-    }
 }

@@ -1,16 +1,13 @@
-// A text of a shelf, read to its end or to one byte more than a text of the form may have.
+// A text of a shelf, read to its end or as far as it may be read.
 ghost use Rattle.std.specs.Prelude.{◌≡◌, ◌≤◌, ◌⊎◌, IfOk, IsErrOf, length, take};
 ghost use Rattle.cs_edge.specs.declared.moves.Move.TheVariants.{Read};
 ghost use Rattle.cs_edge.specs.Told.{Follows, HasCause, Rose};
 ghost use Rattle.cs_edge.specs.Moves.{Grown, AreAll, IsRun};
 ghost use Rattle.cs_edge.specs.Files.{Lacks};
-ghost use Rattle.csplay.specs.Reading.{IsFrontOf, IsTextOf, LeavesRest, most_read};
+ghost use Rattle.csplay.specs.Reading.{IsFrontOf, IsTextOf, LeavesRest};
 
 use cs_edge::{Failed, Shelf};
 use std::alloc::{AllocError, Global};
-
-/// The most bytes of a text that are read.
-const MOST_READ: usize = 8193;
 
 /// Why a text wasn't read.
 #[derive(Clone, Copy, Debug, PartialEq, Eq)]
@@ -20,11 +17,16 @@ pub enum ReadFault {
     OutOfMemory,
 }
 
-/// The first bytes of the file of that name, 8,193 at most.
-pub fn read_text<F: Shelf>(alloc: Global, shelf: &mut F, name: &str) -> Result<Vec<u8>, ReadFault>
-    ensures text { IfOk result (λ text. IsTextOf most_read (F.tells shelf.old).files name.now text.items) }
+/// The first bytes of the file of that name, so many at most.
+pub fn read_text<F: Shelf>(
+    alloc: Global,
+    shelf: &mut F,
+    name: &str,
+    most: usize,
+) -> Result<Vec<u8>, ReadFault>
+    ensures text { IfOk result (λ text. IsTextOf most (F.tells shelf.old).files name.now text.items) }
     // No more was read.
-    ensures rest { IfOk result (λ _. LeavesRest most_read (F.tells shelf.old).files name.now (F.tells shelf.new).left) }
+    ensures rest { IfOk result (λ _. LeavesRest most (F.tells shelf.old).files name.now (F.tells shelf.new).left) }
     ensures fault { IsErrOf result ReadFault.Shelf
         → Rose (F.tells shelf.old).faults (F.tells shelf.new).faults
         ⊎ Lacks (F.tells shelf.old).files name.now }
@@ -33,20 +35,20 @@ pub fn read_text<F: Shelf>(alloc: Global, shelf: &mut F, name: &str) -> Result<V
     ensures files { (F.tells shelf.new).files ≡ (F.tells shelf.old).files }
 {
     match shelf.begin(name) {
-        Ok(true) => read_begun(alloc, shelf),
+        Ok(true) => read_begun(alloc, shelf, most),
         _ => Err(ReadFault::Shelf),
     }
 }
 
-/// The first bytes of what is left of the file begun.
-fn read_begun<F: Shelf>(alloc: Global, shelf: &mut F) -> Result<Vec<u8>, ReadFault>
-    ensures text { IfOk result (λ text. IsFrontOf most_read (F.tells shelf.old).left text.items (F.tells shelf.new).left) }
+/// The first bytes of what is left of the file begun, so many at most.
+fn read_begun<F: Shelf>(alloc: Global, shelf: &mut F, most: usize) -> Result<Vec<u8>, ReadFault>
+    ensures text { IfOk result (λ text. IsFrontOf most (F.tells shelf.old).left text.items (F.tells shelf.new).left) }
     ensures fault { IsErrOf result ReadFault.Shelf → Rose (F.tells shelf.old).faults (F.tells shelf.new).faults }
     ensures later { (F.tells shelf.old).faults ≤ (F.tells shelf.new).faults }
     ensures moves { Follows (F.tells shelf.old).moves (F.tells shelf.new).moves (Grown (AreAll Read)) }
     ensures files { (F.tells shelf.new).files ≡ (F.tells shelf.old).files }
 {
-    let Ok(mut text) = block_of(alloc, MOST_READ) else {
+    let Ok(mut text) = block_of(alloc, most) else {
         return Err(ReadFault::OutOfMemory);
     };
     match fill(shelf, &mut text) {

@@ -1,6 +1,8 @@
 ghost use Rattle.std.specs.Prelude.{◌≡◌};
 ghost use Rattle.csplay.specs.Status.{status_number};
 
+use cs_base::{LimitHit, OrcFault, ScoreFault};
+
 /// How a run ended.
 #[derive(Clone, Copy, Debug, PartialEq, Eq)]
 pub enum Status {
@@ -10,11 +12,17 @@ pub enum Status {
     Usage,
     /// A text couldn't be read.
     ShelfFault,
+    /// The orchestra breaks a rule of the language.
+    OrcRefused(OrcFault),
+    /// The score breaks a rule of the language.
+    ScoreRefused(ScoreFault),
+    /// A stated limit was passed.
+    Limit(LimitHit),
     /// The sound file couldn't be written.
     SinkFault,
     /// Memory was refused.
     OutOfMemory,
-    /// A text isn't of the form that is built yet.
+    /// The orchestra isn't one that can be played yet.
     NotBuilt,
 }
 
@@ -27,6 +35,9 @@ impl Status {
             Status::Ok => 0,
             Status::Usage => 2,
             Status::ShelfFault => 3,
+            Status::OrcRefused(_) => 4,
+            Status::ScoreRefused(_) => 5,
+            Status::Limit(_) => 6,
             Status::SinkFault => 7,
             Status::OutOfMemory => 8,
             Status::NotBuilt => 10,

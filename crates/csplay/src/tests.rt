@@ -1,4 +1,4 @@
-// Runs worked out by hand, as tables: what goes in, and the status and bytes that must come.
+// Runs worked out by hand, as tables: what goes in, and the status, the line and the sound that must come.
 use crate::status::Status;
 use crate::top::csplay;
 use cs_base::{Bytes, Text};
@@ -10,6 +10,7 @@ use std::sync::Wait;
 use std::test::Fail;
 use std::thread::Threads;
 
+/// One second is 2 control cycles and 8 frames.
 const FIELD_4: &[u8] = b"sr = 8\nksmps = 4\ninstr 1\na1 = p4\nout a1\nendin\n";
 
 const ONE_NOTE: &[u8] = b"i1 0 1 100\n";
@@ -18,77 +19,107 @@ const ONE_NOTE: &[u8] = b"i1 0 1 100\n";
 const ONE_NOTE_WAV: &[u8] =
     b"RIFF\x34\0\0\0WAVEfmt \x10\0\0\0\x01\0\x01\0\x08\0\0\0\x10\0\0\0\x02\0\x10\0data\x10\0\0\0\x64\0\x64\0\x64\0\x64\0\x64\0\x64\0\x64\0\x64\0";
 
-const NO_NOTE_WAV: &[u8] =
-    b"RIFF\x24\0\0\0WAVEfmt \x10\0\0\0\x01\0\x01\0\x08\0\0\0\x10\0\0\0\x02\0\x10\0data\0\0\0\0";
-
-/// Orchestra and score; the status, and the sound file where there is one.
-const TEXTS: &[(&[u8], &[u8], u8, &[u8])] = &[
-    (FIELD_4, b"", 0, NO_NOTE_WAV),
-    (FIELD_4, b"e", 0, NO_NOTE_WAV),
-    (FIELD_4, b"e\n", 0, NO_NOTE_WAV),
-    (FIELD_4, b"i1 0 1 100", 0, ONE_NOTE_WAV),
-    (FIELD_4, b"i1 0 1 100\ne", 0, ONE_NOTE_WAV),
+/// Orchestra and score; the status, the line, and the runs of equal samples where there is a sound file.
+const TEXTS: &[(&[u8], &[u8], u8, &[u8], &[(i16, usize)])] = &[
+    (FIELD_4, b"", 0, b"", &[]),
+    (FIELD_4, b"e", 0, b"", &[]),
+    (FIELD_4, b"i1 0 0 9", 0, b"", &[]),
     (
-        b"sr = 8\nksmps = 4\ninstr 1\na1 = p4\nout a1\nendin",
-        b"i1 0 1 100\n",
+        b"sr = 8\nksmps = 4\ninstr 1\na1 = p3\nout a1\nendin",
+        b"i1 0 1 100",
         0,
-        ONE_NOTE_WAV,
-    ),
-    (FIELD_4, b"i2 0 1 5\n", 10, b""),
-    (FIELD_4, b"i1 0 1\n", 10, b""),
-    (FIELD_4, b"i1 0 1 ", 10, b""),
-    (FIELD_4, b"i1 0 1 5\r\n", 10, b""),
-    (FIELD_4, b"i1 00 1 5\n", 10, b""),
-    (FIELD_4, b"i1 61 1 5\n", 10, b""),
-    (FIELD_4, b"i1 0 0 5\n", 10, b""),
-    (FIELD_4, b"i1 0 1 32768\n", 10, b""),
-    (FIELD_4, b"i1 0 1 5\xff\n", 10, b""),
-    (FIELD_4, b"e\ni1 0 1 5\n", 10, b""),
-    (b"", ONE_NOTE, 10, b""),
-    (b"sr = 8\nksmps = 4\ninstr 1\na1 =", ONE_NOTE, 10, b""),
-    (
-        b"sr = 8\r\nksmps = 4\r\ninstr 1\r\na1 = p4\r\nout a1\r\nendin\r\n",
-        ONE_NOTE,
-        10,
         b"",
+        &[(1, 8)],
     ),
     (
-        b"sr = 0\nksmps = 4\ninstr 1\na1 = p4\nout a1\nendin\n",
-        ONE_NOTE,
-        10,
+        FIELD_4,
+        b"i1 0 1 30000\ni1 0 1 30000",
+        0,
         b"",
+        &[(32_767, 8)],
     ),
     (
-        b"sr = 08\nksmps = 4\ninstr 1\na1 = p4\nout a1\nendin\n",
-        ONE_NOTE,
-        10,
+        FIELD_4,
+        b"i1 0 1 30000\ni1 0 1 -30000\ni1 0 1 30000",
+        0,
         b"",
+        &[(30_000, 8)],
     ),
+    (
+        FIELD_4,
+        b"i1 0 1 5\ni1 + . .\ni1 ^+2 . 6",
+        0,
+        b"",
+        &[(5, 16), (0, 8), (6, 8)],
+    ),
+    (FIELD_4, b"i1 0 1 5\ni . +\ni", 0, b"", &[(5, 24)]),
+    (FIELD_4, b"i7 0 1", 0, b"", &[(0, 8)]),
+    (FIELD_4, b"i1 0 1", 0, b"", &[(0, 8)]),
+    (FIELD_4, b"t 0 120\ni1 0 1 7", 0, b"", &[(7, 4)]),
+    (
+        FIELD_4,
+        b"b 2\ni1 0 1 5\ni1 + . .",
+        0,
+        b"",
+        &[(0, 16), (5, 16)],
+    ),
+    (FIELD_4, b"i1 0 1 5\ns\ni1 0 1 6", 0, b"", &[(5, 8), (6, 8)]),
+    (FIELD_4, b"f 0 2", 0, b"", &[(0, 16)]),
+    (
+        FIELD_4,
+        b"f 1 0 4 -2 1 2 3 4\ni1 0 1 3\ni2 0 1 4",
+        0,
+        b"",
+        &[(3, 8)],
+    ),
+    (FIELD_4, b"i1 0 2 5\ni1 0 1 6", 0, b"", &[(11, 8), (5, 8)]),
+    (FIELD_4, b"i1 0 -1 9", 0, b"", &[(9, 4)]),
+    (
+        FIELD_4,
+        b"i1 0 -1 9\ni1 2 1 5\ni-1 1",
+        0,
+        b"",
+        &[(9, 8), (0, 8), (5, 8)],
+    ),
+    (FIELD_4, b"i1 0 -1 9\ni1 2 1 5", 0, b"", &[(9, 16), (14, 8)]),
+    (
+        FIELD_4,
+        b"i1 0 -1 9\ni1 0 -1 7\ni-1 1 0\nf 0 2",
+        0,
+        b"",
+        &[(16, 8), (7, 8)],
+    ),
+    (FIELD_4, b"i-1 3", 0, b"", &[(0, 24)]),
+    (FIELD_4, b"i1 0 -1 9\ni1 + 1 5", 0, b"", &[(9, 8), (14, 8)]),
+    (
+        FIELD_4,
+        b"i1 0 1 5\ni2 . 1",
+        5,
+        b"score line 2: 4 NothingToCarry\n",
+        &[],
+    ),
+    (
+        FIELD_4,
+        b"t 0 1\ni1 0 3000000",
+        6,
+        b"limit L8 passed at line 0\n",
+        &[],
+    ),
+    (b"", b"x", 10, b"not built yet\n", &[]),
     (
         b"sr = 48001\nksmps = 4\ninstr 1\na1 = p4\nout a1\nendin\n",
-        ONE_NOTE,
-        10,
         b"",
-    ),
-    (
-        b"sr = 8\nksmps = 65\ninstr 1\na1 = p4\nout a1\nendin\n",
-        ONE_NOTE,
         10,
-        b"",
+        b"not built yet\n",
+        &[],
     ),
     (
         b"sr = 8\nksmps = 4\ninstr 1\na1 = p10\nout a1\nendin\n",
-        ONE_NOTE,
-        10,
         b"",
-    ),
-    (
-        b"sr = 8\nksmps = 4\ninstr 1\na1 = p4\nout a1\nendin\n\n",
-        ONE_NOTE,
         10,
-        b"",
+        b"not built yet\n",
+        &[],
     ),
-    (b"\xff\xfe\x00", ONE_NOTE, 10, b""),
 ];
 
 fn words_of(alloc: Global, words: &[&str]) -> Result<Vec<String>, AllocError> {
@@ -122,30 +153,20 @@ fn files_of(alloc: Global, orchestra: &[u8], score: &[u8]) -> Result<Files, Allo
     Ok(files)
 }
 
-fn run<R: AllocGlobal + Threads + Wait + Sync, F: Shelf, K: Sink>(
+fn run<R: AllocGlobal + Threads + Wait + Sync, F: Shelf, K: Sink, T: Sink>(
     rt: &R,
     words: &[&str],
     shelf: &mut F,
     wav: &mut K,
+    talk: &mut T,
 ) -> Result<Status, AllocError> {
     let alloc = rt.alloc();
     let words = words_of(alloc, words)?;
-    let mut talk = SureSink::new();
-    csplay_on(rt, &words, shelf, wav, &mut talk)
-}
-
-fn csplay_on<R: AllocGlobal + Threads + Wait + Sync, F: Shelf, K: Sink, T: Sink>(
-    rt: &R,
-    words: &[String],
-    shelf: &mut F,
-    wav: &mut K,
-    talk: &mut T,
-) -> Result<Status, AllocError> {
-    let mut taps = Vec::new(rt.alloc());
+    let mut taps = Vec::new(alloc);
     Ok(csplay(
         rt,
-        rt.alloc(),
-        words,
+        alloc,
+        &words,
         shelf,
         wav,
         talk,
@@ -154,36 +175,78 @@ fn csplay_on<R: AllocGlobal + Threads + Wait + Sync, F: Shelf, K: Sink, T: Sink>
     ))
 }
 
+/// A run over these two texts: its status, its line, and the sound file.
+fn played<R: AllocGlobal + Threads + Wait + Sync>(
+    rt: &R,
+    orchestra: &[u8],
+    score: &[u8],
+) -> Result<(u8, MemSink, MemSink), AllocError> {
+    let alloc = rt.alloc();
+    let files = files_of(alloc, orchestra, score)?;
+    let mut shelf = MemShelf::new(alloc, files, Calls::new(alloc));
+    let mut wav = MemSink::new(alloc, Calls::new(alloc), 1000);
+    let mut talk = MemSink::new(alloc, Calls::new(alloc), 1000);
+    let status = run(rt, &["a.orc", "a.sco"], &mut shelf, &mut wav, &mut talk)?;
+    Ok((status.number(), talk, wav))
+}
+
+/// Whether the samples behind a header are these runs of equal ones.
+fn has_runs(taken: &[u8], runs: &[(i16, usize)]) -> bool {
+    let Some(mut rest) = taken.get(44..) else {
+        return false;
+    };
+    for (value, count) in runs {
+        for _ in 0..*count {
+            let [low, high] = value.to_le_bytes();
+            let [first, second, behind @ ..] = rest else {
+                return false;
+            };
+            if *first != low || *second != high {
+                return false;
+            }
+            rest = behind;
+        }
+    }
+    rest.is_empty()
+}
+
 // Each call of shelf and sink failing in turn, and sinks that take little at a time. The calls of a shelf are a begin,
 // a read of the text and a read that finds nothing left, for either text.
 #[test]
 fn one_note(rt: HostRuntime) -> Result<(), Fail> {
-    // the shelf's failing call, the sink's, the most bytes a write; the status, the bytes taken, the calls of the sink
+    // the shelf's failing call, the sink's, the most bytes a write; the status, the line, the bytes taken, the calls of
+    // the sink
+    let orchestra: &[u8] = b"cannot read a.orc\n";
+    let score: &[u8] = b"cannot read a.sco\n";
+    let file: &[u8] = b"cannot write the sound file\n";
+    let none: &[u8] = b"";
     let cases = [
-        (0, 0, 1000, 0, 60, 5),
-        (0, 0, 1, 0, 60, 62),
-        (0, 0, 7, 0, 60, 13),
-        (1, 0, 1000, 3, 0, 0),
-        (2, 0, 1000, 3, 0, 0),
-        (3, 0, 1000, 3, 0, 0),
-        (4, 0, 1000, 3, 0, 0),
-        (5, 0, 1000, 3, 0, 0),
-        (6, 0, 1000, 3, 0, 0),
-        (7, 0, 1000, 0, 60, 5),
-        (0, 1, 1000, 7, 0, 1),
-        (0, 2, 1000, 7, 0, 2),
-        (0, 3, 1000, 7, 44, 3),
-        (0, 4, 1000, 7, 52, 4),
-        (0, 5, 1000, 7, 60, 5),
-        (0, 6, 1000, 0, 60, 5),
+        (0, 0, 1000, 0, none, 60, 5),
+        (0, 0, 1, 0, none, 60, 62),
+        (0, 0, 7, 0, none, 60, 13),
+        (1, 0, 1000, 3, orchestra, 0, 0),
+        (2, 0, 1000, 3, orchestra, 0, 0),
+        (3, 0, 1000, 3, orchestra, 0, 0),
+        (4, 0, 1000, 3, score, 0, 0),
+        (5, 0, 1000, 3, score, 0, 0),
+        (6, 0, 1000, 3, score, 0, 0),
+        (7, 0, 1000, 0, none, 60, 5),
+        (0, 1, 1000, 7, file, 0, 1),
+        (0, 2, 1000, 7, file, 0, 2),
+        (0, 3, 1000, 7, file, 44, 3),
+        (0, 4, 1000, 7, file, 52, 4),
+        (0, 5, 1000, 7, file, 60, 5),
+        (0, 6, 1000, 0, none, 60, 5),
     ];
     let alloc = rt.alloc();
-    for (shelf_call, sink_call, most, status, bytes, calls) in cases {
+    for (shelf_call, sink_call, most, status, line, bytes, calls) in cases {
         let files = files_of(alloc, FIELD_4, ONE_NOTE)?;
         let mut shelf = MemShelf::new(alloc, files, failing(alloc, shelf_call)?);
         let mut wav = MemSink::new(alloc, failing(alloc, sink_call)?, most.max(1));
-        let ended = run(&rt, &["a.orc", "a.sco"], &mut shelf, &mut wav)?;
+        let mut talk = MemSink::new(alloc, Calls::new(alloc), 1000);
+        let ended = run(&rt, &["a.orc", "a.sco"], &mut shelf, &mut wav, &mut talk)?;
         assert_eq!(rt; ended.number(), status, "at {shelf_call} and {sink_call}");
+        assert_eq!(rt; talk.taken(), line, "at {shelf_call} and {sink_call}");
         let taken = wav.taken();
         assert_eq!(rt; taken.len(), bytes, "at {shelf_call} and {sink_call}");
         assert!(rt; ONE_NOTE_WAV.starts_with(taken));
@@ -195,13 +258,25 @@ fn one_note(rt: HostRuntime) -> Result<(), Fail> {
     let mut shelf = MemShelf::new(alloc, files, Calls::new(alloc));
     for _ in 0..2 {
         let mut wav = MemSink::new(alloc, Calls::new(alloc), 1000);
-        let ended = run(&rt, &["a.orc", "a.sco"], &mut shelf, &mut wav)?;
+        let ended = run(
+            &rt,
+            &["a.orc", "a.sco"],
+            &mut shelf,
+            &mut wav,
+            &mut SureSink::new(),
+        )?;
         assert_eq!(rt; ended, Status::Ok);
         assert_eq!(rt; wav.taken(), ONE_NOTE_WAV);
     }
     let mut shelf = SureShelf::new(files_of(alloc, FIELD_4, ONE_NOTE)?);
     assert_eq!(rt;
-        run(&rt, &["a.orc", "a.sco"], &mut shelf, &mut SureSink::new())?,
+        run(
+            &rt,
+            &["a.orc", "a.sco"],
+            &mut shelf,
+            &mut SureSink::new(),
+            &mut SureSink::new()
+        )?,
         Status::Ok
     );
     Ok(())
@@ -209,97 +284,122 @@ fn one_note(rt: HostRuntime) -> Result<(), Fail> {
 
 #[test]
 fn texts(rt: HostRuntime) -> Result<(), Fail> {
-    let alloc = rt.alloc();
-    for (orchestra, score, status, bytes) in TEXTS {
-        let mut shelf = MemShelf::new(alloc, files_of(alloc, orchestra, score)?, Calls::new(alloc));
-        let mut wav = MemSink::new(alloc, Calls::new(alloc), 1000);
-        let ended = run(&rt, &["a.orc", "a.sco"], &mut shelf, &mut wav)?;
-        assert_eq!(rt; ended.number(), *status, "at {orchestra:?} and {score:?}");
-        assert_eq!(rt; wav.taken(), *bytes, "at {orchestra:?} and {score:?}");
+    for (orchestra, score, status, line, runs) in TEXTS {
+        let (ended, talk, wav) = played(&rt, orchestra, score)?;
+        assert_eq!(rt; ended, *status, "at {orchestra:?} and {score:?}");
+        assert_eq!(rt; talk.taken(), *line, "at {orchestra:?} and {score:?}");
         assert_eq!(rt; wav.moves().is_empty(), *status != 0);
+        if *status == 0 {
+            assert!(rt;
+                has_runs(wav.taken(), runs),
+                "at {orchestra:?} and {score:?}"
+            );
+        }
     }
+    Ok(())
+}
 
-    // a text of 8,193 bytes is too long
-    let mut spaces = Vec::new(alloc);
-    for _ in 0..8193 {
-        spaces.push(b' ')?;
+#[test]
+fn notes_at_a_time(rt: HostRuntime) -> Result<(), Fail> {
+    let mut score = Vec::new(rt.alloc());
+    for (notes, status) in [(512, 0), (1, 6)] {
+        for _ in 0..notes {
+            score.extend_from_slice(b"i1 0 1 1\n")?;
+        }
+        let (ended, talk, wav) = played(&rt, FIELD_4, &score)?;
+        assert_eq!(rt; ended, status);
+        if status == 0 {
+            assert!(rt; has_runs(wav.taken(), &[(512, 8)]));
+        } else {
+            assert_eq!(rt; talk.taken(), b"limit L5 passed at line 513\n".as_slice());
+        }
     }
-    let mut shelf = MemShelf::new(alloc, files_of(alloc, FIELD_4, &spaces)?, Calls::new(alloc));
-    let mut wav = MemSink::new(alloc, Calls::new(alloc), 1000);
-    assert_eq!(rt;
-        run(&rt, &["a.orc", "a.sco"], &mut shelf, &mut wav)?,
-        Status::NotBuilt
-    );
-
-    // two notes of 30,000 are too loud together
-    let mut shelf = MemShelf::new(
-        alloc,
-        files_of(alloc, FIELD_4, b"i1 0 1 30000\ni1 0 1 30000\n")?,
-        Calls::new(alloc),
-    );
-    let mut wav = MemSink::new(alloc, Calls::new(alloc), 1000);
-    assert_eq!(rt;
-        run(&rt, &["a.orc", "a.sco"], &mut shelf, &mut wav)?,
-        Status::Ok
-    );
-    assert!(rt;
-        wav.taken().ends_with(b"\xff\x7f\xff\x7f\xff\x7f\xff\x7f\xff\x7f\xff\x7f\xff\x7f\xff\x7f")
-    );
     Ok(())
 }
 
 #[test]
 fn words(rt: HostRuntime) -> Result<(), Fail> {
-    let cases: &[(&[&str], u8)] = &[
-        (&["a.orc", "a.sco"], 0),
-        (&[], 2),
-        (&["a.orc"], 2),
-        (&["a.orc", "a.sco", "b.sco"], 2),
-        (&["-n", "a.sco"], 2),
-        (&["a.orc", "--"], 2),
-        (&["", "a.sco"], 2),
-        (&["-", "a.sco"], 3),
-        (&["a.orc", "row1.sco"], 3),
-        (&["row1.orc", "a.sco"], 3),
+    let usage: &[u8] = b"usage: csplay ORC SCO\n";
+    let cases: &[(&[&str], u8, &[u8])] = &[
+        (&["a.orc", "a.sco"], 0, b""),
+        (&[], 2, usage),
+        (&["a.orc"], 2, usage),
+        (&["a.orc", "a.sco", "b.sco"], 2, usage),
+        (&["-n", "a.sco"], 2, usage),
+        (&["a.orc", "--"], 2, usage),
+        (&["", "a.sco"], 2, usage),
+        (&["-", "a.sco"], 3, b"cannot read -\n"),
+        (&["a.orc", "row1.sco"], 3, b"cannot read row1.sco\n"),
+        (&["row1.orc", "row1.sco"], 3, b"cannot read row1.orc\n"),
     ];
     let alloc = rt.alloc();
-    for (words, status) in cases {
-        let mut shelf = MemShelf::new(
-            alloc,
-            files_of(alloc, FIELD_4, ONE_NOTE)?,
-            Calls::new(alloc),
-        );
+    for (words, status, line) in cases {
+        let files = files_of(alloc, FIELD_4, ONE_NOTE)?;
+        let mut shelf = MemShelf::new(alloc, files, Calls::new(alloc));
         let mut wav = MemSink::new(alloc, Calls::new(alloc), 1000);
         let mut talk = MemSink::new(alloc, Calls::new(alloc), 1000);
-        let ended = csplay_on(
-            &rt,
-            &words_of(alloc, words)?,
-            &mut shelf,
-            &mut wav,
-            &mut talk,
-        )?;
+        let ended = run(&rt, words, &mut shelf, &mut wav, &mut talk)?;
         assert_eq!(rt; ended.number(), *status, "at {words:?}");
+        assert_eq!(rt; talk.taken(), *line, "at {words:?}");
         assert_eq!(rt; wav.moves().is_empty(), *status != 0);
-        assert!(rt; talk.moves().is_empty());
         assert_eq!(rt; shelf.moves().is_empty(), *status == 2);
     }
     Ok(())
 }
 
+fn blanks(alloc: Global, count: usize) -> Result<Vec<u8>, AllocError> {
+    vec![in alloc; b' '; count]
+}
+
+// A text of the greatest length, and one byte more. Behind an orchestra that is too long the score isn't begun.
 #[test]
-fn a_hundred_notes(rt: HostRuntime) -> Result<(), Fail> {
+fn long_texts(rt: HostRuntime) -> Result<(), Fail> {
     let alloc = rt.alloc();
-    let mut score = Vec::new(alloc);
-    for (lines, status) in [(100, 0), (1, 10)] {
-        for _ in 0..lines {
-            score.extend_from_slice(b"i1 0 1 1\n")?;
+    let cases: &[(usize, usize, u8, &[u8], usize)] = &[
+        (1_048_576, 0, 10, b"not built yet\n", 5),
+        (1_048_577, 0, 6, b"limit L1 passed at line 0\n", 2),
+        (0, 4_194_304, 0, b"", 6),
+        (0, 4_194_305, 6, b"limit L2 passed at line 0\n", 5),
+    ];
+    for (orchestra, score, status, line, calls) in cases {
+        let mut text = blanks(alloc, *orchestra)?;
+        if text.is_empty() {
+            text.extend_from_slice(FIELD_4)?;
         }
-        let mut shelf = MemShelf::new(alloc, files_of(alloc, FIELD_4, &score)?, Calls::new(alloc));
-        let mut wav = MemSink::new(alloc, Calls::new(alloc), 1000);
-        assert_eq!(rt;
-            run(&rt, &["a.orc", "a.sco"], &mut shelf, &mut wav)?.number(),
-            status
-        );
+        let files = files_of(alloc, &text, &blanks(alloc, *score)?)?;
+        let mut shelf = MemShelf::new(alloc, files, Calls::new(alloc));
+        let mut talk = MemSink::new(alloc, Calls::new(alloc), 1000);
+        let ended = run(
+            &rt,
+            &["a.orc", "a.sco"],
+            &mut shelf,
+            &mut SureSink::new(),
+            &mut talk,
+        )?;
+        assert_eq!(rt; ended.number(), *status);
+        assert_eq!(rt; talk.taken(), *line);
+        assert_eq!(rt; shelf.moves().len(), *calls);
+    }
+    Ok(())
+}
+
+// A line that fails at its first byte, or at its second, changes nothing else.
+#[test]
+fn failing_line(rt: HostRuntime) -> Result<(), Fail> {
+    let alloc = rt.alloc();
+    for (failing_call, said) in [(1, 0), (2, 1), (4, 3)] {
+        let mut shelf = SureShelf::new(files_of(alloc, b"", ONE_NOTE)?);
+        let mut talk = MemSink::new(alloc, failing(alloc, failing_call)?, 1);
+        let ended = run(
+            &rt,
+            &["a.orc", "a.sco"],
+            &mut shelf,
+            &mut SureSink::new(),
+            &mut talk,
+        )?;
+        assert_eq!(rt; ended, Status::NotBuilt);
+        assert_eq!(rt; talk.taken().len(), said);
+        assert!(rt; b"not built yet\n".starts_with(talk.taken()));
     }
     Ok(())
 }

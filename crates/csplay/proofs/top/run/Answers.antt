@@ -1,21 +1,30 @@
-use Rattle.csplay.specs.Piece.{HasPiece, NeedsMore}
-use Rattle.csplay.proofs.Pieces.{has_other, needs_piece, at_names}
+use Rattle.std.proofs.Common.{[], refl, rules}
+use Rattle.csplay.specs.declared.status.Status.TheVariants.{ShelfFault, SinkFault}
+use Rattle.csplay.proofs.Runs.{unread_run, refused_run, ok_run, sink_run, ended}
 use Rattle.csplay.proofs.top.run.Goals as goal
 
-pub returns-in-Err-NotBuilt-clause-complete : goal.returns-in-Err-NotBuilt-clause-complete
-returns-in-Err-NotBuilt-clause-complete g c has _ _ =
-    absurd (has_other _ c.in-Some.orc.now c.in-Some.sco.now
-    (at_names (HasPiece (g.F.Shelf.tells c.args.shelf.now).files) _ _ _ c.in-Some.ensures has)
-    (c.load.ensures.not_built (cc)))
+pub returns-in-Err-Unread : goal.returns-in-Err-Unread
+returns-in-Err-Unread g c =
+    ended _ _ _ _ _ ShelfFault _ _ _ _ _ _ c.told-in-Err-Unread.ensures.status
+    (unread_run _ _ _ _ _ _ _ _ _ c.in-Some.orc.now c.in-Some.sco.now c.in-Err-Unread.name.now c.in-Some.ensures
+    (rw c.in-Err-Unread.field-0-is at c.in-Err-Unread.ensures.stop) c.load.ensures.shelf
+    (rw c.in-Err-Unread.name-is at c.told-in-Err-Unread.ensures.line))
 
-pub returns-in-Ok-perform-clause-refused : goal.returns-in-Ok-perform-clause-refused
-returns-in-Ok-perform-clause-refused g c needs _ =
-    absurd (needs_piece _ c.in-Some.orc.now c.in-Some.sco.now _ _
-    (at_names (NeedsMore (g.F.Shelf.tells c.args.shelf.now).files) _ _ _ c.in-Some.ensures needs)
-    c.in-Ok.ensures.piece)
+pub returns-in-Err-Refused : goal.returns-in-Err-Refused
+returns-in-Err-Refused g c =
+    ended _ _ _ _ _ c.in-Err-Refused.refusal _ _ _ _ _ _ (rw c.in-Err-Refused.refusal-is at c.told-in-Err-Refused.ensures.status)
+    (refused_run _ _ _ _ c.in-Err-Refused.refusal _ _ _ _ _ c.in-Some.orc.now c.in-Some.sco.now _ c.in-Some.ensures
+    (rw c.in-Err-Refused.field-0-is at c.in-Err-Refused.ensures.stop) c.load.ensures.shelf
+    (rw c.in-Err-Refused.refusal-is at c.told-in-Err-Refused.ensures.line))
 
-pub returns-in-Err-Sink-clause-refused : goal.returns-in-Err-Sink-clause-refused
-returns-in-Err-Sink-clause-refused g c needs _ =
-    absurd (needs_piece _ c.in-Some.orc.now c.in-Some.sco.now _ _
-    (at_names (NeedsMore (g.F.Shelf.tells c.args.shelf.now).files) _ _ _ c.in-Some.ensures needs)
-    c.in-Ok.ensures.piece)
+pub returns-in-Ok-perform : goal.returns-in-Ok-perform
+returns-in-Ok-perform g c =
+    ok_run _ _ _ _ _ _ _ _ _ _ c.in-Some.orc.now c.in-Some.sco.now c.in-Ok.piece.orchestra c.in-Ok.piece.plot c.in-Some.ensures
+    c.in-Ok.ensures.piece c.load.ensures.shelf c.in-Ok-perform.ensures.played refl
+
+pub returns-in-Err-Sink : goal.returns-in-Err-Sink
+returns-in-Err-Sink g c =
+    ended _ _ _ _ _ SinkFault _ _ _ _ _ _ c.told-in-Err-Sink.ensures.status
+    (sink_run _ _ _ _ _ _ _ _ _ _ c.in-Some.orc.now c.in-Some.sco.now [] c.in-Ok.piece.orchestra c.in-Ok.piece.plot c.in-Some.ensures
+    c.in-Ok.ensures.piece c.load.ensures.shelf (c.in-Err-Sink.ensures.sink (search rules)) (c.in-Err-Sink.ensures.part (search rules))
+    c.told-in-Err-Sink.ensures.line)
