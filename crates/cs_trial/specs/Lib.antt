@@ -1,3 +1,4 @@
 pub mod Adder
 pub mod Mini
 pub mod MiniFrame
+pub mod Playing

@@ -1,0 +1,28 @@
+-- Two seats that play a cycle, call by call.
+use Rattle.std.specs.Prelude.{◌≡◌, [], ◌∷◌, true, false}
+use Rattle.cs_board.specs.Board.{view, IsSeatOf, IsIdle, IsClaimed, HasRun}
+use Rattle.cs_board.specs.declared.board.Board.{Board}
+use Rattle.cs_cells.specs.Meaning.{Meaning}
+use Rattle.cs_rule.specs.declared.view.View.{View}
+use Rattle.cs_trial.specs.declared.players.Phase.{Phase}
+use Rattle.cs_trial.specs.declared.players.Phase.TheVariants.{Free, Claimed, Ran, Over}
+use Rattle.cs_trial.specs.declared.players.Players.{Players}
+
+module _ {J : Type 0} (M : Meaning J) where
+  -- what the seat may do next
+  abbrev pub Stands : Phase → View J → Type 0
+  Stands Free v = IsIdle v
+  Stands (Claimed note) v = IsClaimed M v
+  Stands Ran v = HasRun M v
+  Stands Over v = IsIdle v × (v.owes ≡ [])
+
+  -- the second seat was split off the first, and nothing else was
+  pub record ArePlaying (board : Board J) (p : Players J) : Type 0 where
+    pub first : IsSeatOf M board p.first
+    pub second : IsSeatOf M board p.second
+    pub here : Stands p.here (view p.first)
+    pub there : Stands p.there (view p.second)
+    pub leads : (view p.first).first ≡ true
+    pub out : (view p.first).out ≡ 0 ∷ []
+    pub follows : (view p.second).first ≡ false
+    pub number : (view p.second).number ≡ 0

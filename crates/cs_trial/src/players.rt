@@ -1,0 +1,174 @@
+// One seat or two that play a cycle, call by call.
+ghost use Rattle.std.specs.Prelude.{◌≡◌, [], ◌∷◌, true, false};
+ghost use Rattle.cs_board.specs.Board.{plan, view, IsSeatOf, IsIdle, SamePlace};
+ghost use Rattle.cs_rule.specs.Views.{opening_view};
+ghost use Rattle.cs_trial.specs.Playing.{Stands, ArePlaying};
+ghost use Rattle.cs_trial.specs.declared.players.Phase.TheVariants as phase_is;
+
+use cs_base::Steps;
+use cs_board::{Board, BoardSeat, Receipt};
+use cs_cells::Job;
+use std::sync::Wait;
+
+/// How far a seat is: it may claim, it has claimed this note, its note has run, or its last claim answered None.
+#[derive(Clone, Copy, Debug, PartialEq, Eq)]
+pub enum Phase {
+    Free,
+    Claimed(u32),
+    Ran,
+    Over,
+}
+
+/// The first seat and one that was split off it.
+pub struct Players<J> {
+    pub first: BoardSeat<J>,
+    pub second: BoardSeat<J>,
+    pub here: Phase,
+    pub there: Phase,
+}
+
+/// A claim.
+fn claimed<J: Job>(board: &Board<J>, seat: &mut BoardSeat<J>) -> Phase
+    requires seat { IsSeatOf J.means board.now seat.old }
+    requires idle { IsIdle (view seat.old) }
+    ensures seat { IsSeatOf J.means board.now seat.new }
+    ensures stands { Stands J.means result (view seat.new) }
+    ensures same { SamePlace (view seat.old) (view seat.new) }
+{
+    match board.claim(seat, &mut Steps::new()) {
+        Some(note) => Phase::Claimed(note),
+        None => Phase::Over,
+    }
+}
+
+/// The seat's next call.
+pub fn step<J: Job>(board: &Board<J>, seat: &mut BoardSeat<J>, phase: Phase) -> Phase
+    requires seat { IsSeatOf J.means board.now seat.old }
+    requires stands { Stands J.means phase (view seat.old) }
+    ensures seat { IsSeatOf J.means board.now seat.new }
+    ensures stands { Stands J.means result (view seat.new) }
+    ensures same { SamePlace (view seat.old) (view seat.new) }
+{
+    match phase {
+        Phase::Free => claimed(board, seat),
+        Phase::Claimed(_) => {
+            board.run(seat);
+            Phase::Ran
+        }
+        Phase::Ran => {
+            board.finish(seat);
+            Phase::Free
+        }
+        Phase::Over => claimed(board, seat),
+    }
+}
+
+impl<J: Job> Players<J> {
+    /// Two seats of a board at the opening.
+    pub fn seated(board: &Board<J>, mut first: BoardSeat<J>) -> Players<J>
+        requires seat { IsSeatOf J.means board.now first }
+        requires opens { view first ≡ opening_view (plan board.now) }
+        ensures { ArePlaying J.means board.now result }
+    {
+        let second = board.split(&mut first);
+        Players {
+            first,
+            second,
+            here: Phase::Free,
+            there: Phase::Free,
+        }
+    }
+
+    /// The next call of one of the two.
+    pub fn turn(&mut self, board: &Board<J>, second: bool)
+        requires { ArePlaying J.means board.now self.old }
+        ensures { ArePlaying J.means board.now self.new }
+    {
+        if second {
+            self.there = step(board, &mut self.second, self.there);
+        } else {
+            self.here = step(board, &mut self.first, self.here);
+        }
+    }
+
+    /// How far one of the two is.
+    pub fn phase(&self, second: bool) -> Phase {
+        if second { self.there } else { self.here }
+    }
+
+    /// The end, once both last claims answered None.
+    pub fn ended(self, board: Board<J>) -> Receipt<J>
+        requires playing { ArePlaying J.means board self }
+        requires here { self.here ≡ phase_is.Over }
+        requires there { self.there ≡ phase_is.Over }
+    {
+        let Players {
+            mut first,
+            second,
+            here: _,
+            there: _,
+        } = self;
+        board.join(&mut first, second);
+        board.close(first)
+    }
+}
+
+/// Both seats play to the end. The lowest twelve bits of `order` say whose call comes next, 1 for the second seat;
+/// afterwards they take turns.
+pub fn play_two<J: Job, R: Wait>(
+    rt: &R,
+    board: Board<J>,
+    seat: BoardSeat<J>,
+    order: u32,
+) -> Receipt<J>
+    requires seat { IsSeatOf J.means board seat }
+    requires opens { view seat ≡ opening_view (plan board) }
+{
+    let mut players = Players::seated(&board, seat);
+    let mut left = order;
+    for _ in 0..12 {
+        players.turn(&board, left % 2 == 1);
+        left /= 2;
+    }
+    play_out(rt, board, players)
+}
+
+/// Both seats take turns to the end.
+pub fn play_out<J: Job, R: Wait>(rt: &R, board: Board<J>, mut players: Players<J>) -> Receipt<J>
+    requires { ArePlaying J.means board players }
+{
+    for _ in rt.forever() {
+        players.turn(&board, false);
+        players.turn(&board, true);
+        if players.here == Phase::Over && players.there == Phase::Over {
+            return players.ended(board);
+        }
+    }
+    unreachable!()
+}
+
+/// One seat plays to the end. `log` gets each note with what its run answered, as far as there is memory; the number
+/// of tries comes back with the receipt.
+pub fn play_alone<J: Job, R: Wait>(
+    rt: &R,
+    board: Board<J>,
+    mut seat: BoardSeat<J>,
+    log: &mut Vec<(u32, u64)>,
+) -> (Receipt<J>, u64)
+    requires seat { IsSeatOf J.means board seat }
+    requires opens { view seat ≡ opening_view (plan board) }
+{
+    let mut tries: u64 = 0;
+    for _ in rt.forever() {
+        let mut steps = Steps::new();
+        let claim = board.claim(&mut seat, &mut steps);
+        tries = tries.saturating_add(steps.count);
+        let Some(note) = claim else {
+            return (board.close(seat), tries);
+        };
+        let turns = board.run(&mut seat);
+        board.finish(&mut seat);
+        let _told = log.push((note, turns));
+    }
+    unreachable!()
+}

@@ -1,0 +1,208 @@
+// Random small cycles of fixed seeds, and whether a crew plays them as the fold does.
+ghost use Rattle.std.specs.Prelude.{◌≡◌, ◌<◌, ◌≤◌, length, All, IfOk, IfSome};
+ghost use Rattle.cs_cells.specs.Areas.{word_count};
+
+use crate::boards::{after, crewed};
+use crate::fixtures::{areas_of, play};
+use crate::mini::{Mini, Op};
+use cs_base::Places;
+use cs_board::Loaded;
+use cs_cells::{Area, Footprint, Layout};
+use cs_edge::OpenGate;
+use std::alloc::{AllocError, Global};
+use std::sync::Wait;
+use std::thread::Threads;
+
+/// Numbers of a fixed row for each seed.
+#[derive(Drop)]
+pub struct Dice {
+    state: u64,
+}
+
+impl Dice {
+    pub fn new(seed: u64) -> Dice {
+        Dice { state: seed }
+    }
+
+    /// A number below `sides`.
+    pub fn roll(&mut self, sides: u32) -> u32
+        requires { 0 < sides }
+        ensures { result < sides }
+    {
+        self.state = self
+            .state
+            .wrapping_mul(6_364_136_223_846_793_005)
+            .wrapping_add(1_442_695_040_888_963_407);
+        (self.state / 0x1_0000_0000 % u64::from(sides)) as u32
+    }
+}
+
+/// What a note of the small machine is made of.
+#[derive(Drop)]
+pub struct Part {
+    pub foot: Footprint,
+    pub ops: Vec<Op>,
+}
+
+fn draw_foot(alloc: Global, dice: &mut Dice, areas: usize) -> Result<Footprint, AllocError> {
+    let mut uses = Places::new(alloc);
+    let mut writes = Places::new(alloc);
+    for place in 0..areas.min(8) as u32 {
+        let side = dice.roll(4);
+        if side < 2 {
+            uses.push(place)?;
+        }
+        if side == 0 {
+            writes.push(place)?;
+        }
+    }
+    Ok(Footprint { uses, writes })
+}
+
+/// The address of a cell of one of these places.
+fn draw_addr(dice: &mut Dice, areas: &[Area], places: &[u32]) -> Option<u32> {
+    let count = u32::try_from(places.len()).ok()?;
+    if count == 0 {
+        return None;
+    }
+    let place = places.get(dice.roll(count) as usize)?;
+    let area = areas.get(*place as usize)?;
+    if area.length == 0 {
+        return None;
+    }
+    area.first.checked_add(dice.roll(area.length))
+}
+
+fn draw_op(dice: &mut Dice, areas: &[Area], foot: &Footprint) -> Op {
+    let register = dice.roll(2);
+    match dice.roll(3) {
+        0 => match draw_addr(dice, areas, foot.uses.as_slice()) {
+            Some(addr) => Op::Read(register, addr),
+            None => Op::Add(register, 1),
+        },
+        1 => match draw_addr(dice, areas, foot.writes.as_slice()) {
+            Some(addr) => Op::Write(addr, register),
+            None => Op::Add(register, 2),
+        },
+        _ => Op::Add(register, i64::from(dice.roll(100))),
+    }
+}
+
+fn draw_part(alloc: Global, dice: &mut Dice, areas: &[Area]) -> Result<Part, AllocError> {
+    let foot = draw_foot(alloc, dice, areas.len())?;
+    let mut ops = Vec::new(alloc);
+    for _ in 0..dice.roll(12) {
+        ops.push(draw_op(dice, areas, &foot))?;
+    }
+    Ok(Part { foot, ops })
+}
+
+fn draw_numbers(
+    alloc: Global,
+    dice: &mut Dice,
+    count: u32,
+    sides: u32,
+) -> Result<Vec<u32>, AllocError>
+    requires { 0 < sides }
+{
+    let mut numbers = Vec::new(alloc);
+    for _ in 0..count {
+        numbers.push(1 + dice.roll(sides))?;
+    }
+    Ok(numbers)
+}
+
+/// The notes of these parts, each with two registers.
+pub fn minis<'t>(
+    alloc: Global,
+    areas: &'t [Area],
+    parts: &'t [Part],
+) -> Result<Option<Vec<Mini<'t>>>, AllocError>
+    ensures { IfOk result (λ o. IfSome o (λ v. All (λ j. j.areas ≡ areas.now) v.items)) }
+{
+    let mut notes = Vec::new(alloc);
+    for part in parts {
+        let regs = Vec::from_array(alloc, [0, 0])?;
+        let Some(note) = Mini::new(areas, &part.foot, part.ops.as_slice(), regs) else {
+            return Ok(None);
+        };
+        notes.push(note)?;
+    }
+    Ok(Some(notes))
+}
+
+fn are_alike(notes: &[Mini<'_>], others: &[Mini<'_>]) -> bool {
+    for (note, other) in notes.iter().zip(others) {
+        if note.regs() != other.regs() {
+            return false;
+        }
+    }
+    notes.len() == others.len()
+}
+
+/// Whether so many workers leave the words and the notes that the fold leaves.
+fn agrees<R: Threads + Wait + Sync>(
+    rt: &R,
+    alloc: Global,
+    workers: u32,
+    layout: &Layout,
+    areas: &[Area],
+    parts: &[Part],
+    opening: &[u64],
+) -> Result<bool, AllocError>
+    requires workers { (1 ≤ workers) × (workers ≤ 32) }
+    requires areas { layout.now ≡ areas.now }
+    requires words { length opening.now ≡ word_count layout.now }
+{
+    let Some(jobs) = minis(alloc, areas, parts)? else {
+        return Ok(false);
+    };
+    let Some(mut fold) = minis(alloc, areas, parts)? else {
+        return Ok(false);
+    };
+    let mut words = Vec::from_slice(alloc, opening)?;
+    play(layout, fold.as_mut_slice(), &mut words);
+    let loaded = Loaded {
+        words: Vec::from_slice(alloc, opening)?,
+        jobs,
+    };
+    let played = after(crewed(rt, alloc, workers, layout, loaded, &OpenGate::new()));
+    let Some(played) = played else {
+        return Ok(false);
+    };
+    Ok(played.words.as_slice() == words.as_slice() && are_alike(&played.jobs, &fold))
+}
+
+/// Whether crews of 1, 2, 3, 8 and 32 workers leave what the fold leaves, in the cycle of this seed.
+pub fn plays_as_fold<R: Threads + Wait + Sync>(
+    rt: &R,
+    alloc: Global,
+    seed: u64,
+) -> Result<bool, AllocError> {
+    let mut dice = Dice::new(seed);
+    let count = 1 + dice.roll(6);
+    let lengths = draw_numbers(alloc, &mut dice, count, 4)?;
+    let Some(areas) = areas_of(alloc, lengths.as_slice())? else {
+        return Ok(false);
+    };
+    let Ok(layout) = Layout::build(alloc, areas.as_slice()) else {
+        return Ok(false);
+    };
+    let mut parts = Vec::new(alloc);
+    for _ in 0..dice.roll(16) {
+        parts.push(draw_part(alloc, &mut dice, areas.as_slice())?)?;
+    }
+    let mut opening = Vec::new(alloc);
+    for _ in 0..layout.words() {
+        opening.push(u64::from(dice.roll(1_000)))?;
+    }
+    if opening.len() != layout.words() as usize {
+        return Ok(false);
+    }
+    for workers in [1, 2, 3, 8, 32] {
+        if !agrees(rt, alloc, workers, &layout, &areas, &parts, &opening)? {
+            return Ok(false);
+        }
+    }
+    Ok(true)
+}
