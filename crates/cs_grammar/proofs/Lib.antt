@@ -1,0 +1,15 @@
+pub mod Gives
+pub mod SoFar
+pub mod HeadingRules
+pub mod Names
+pub mod OneExpr
+pub mod OneList
+pub mod OneOrc
+pub mod OneStmt
+pub mod OrcRules
+pub mod Rows
+pub mod Rules
+pub mod Shorter
+pub mod Sizes
+pub mod Steps
+pub mod StmtRules

@@ -1,0 +1,313 @@
+-- Every text has one reading as a statement, as statements, as arms.
+use Rattle.std.proofs.Common.{◌≡◌, ◌<◌, ◌≤◌, ◌+◌, ◌*◌, ◌∙◌, ℕ, zero, suc, Bool, true, false, List, [], ◌∷◌, length, Ok, Err, if◌then◌else◌, refl, arith, sym, ap}
+use Rattle.cs_base.specs.declared.fault.OrcKind.TheVariants as orc
+use Rattle.cs_ir.specs.declared.catalogue.Opcode.{Opcode}
+use Rattle.cs_ir.specs.declared.catalogue.Opcode.TheVariants as opcode
+use Rattle.cs_grammar.specs.declared.symbol.Keyword.{Keyword}
+use Rattle.cs_grammar.specs.declared.symbol.Keyword.TheVariants as key
+use Rattle.cs_grammar.specs.declared.symbol.Kind.{Kind}
+use Rattle.cs_grammar.specs.declared.symbol.Kind.TheVariants as kind
+use Rattle.cs_grammar.specs.declared.expr.Level.TheVariants as level
+use Rattle.cs_grammar.specs.declared.stmt.LineForm.{LineForm}
+use Rattle.cs_grammar.specs.declared.stmt.LineForm.TheVariants as form
+use Rattle.cs_grammar.specs.Symbols.{Symbol}
+use Rattle.cs_grammar.specs.Tree.{Expression, Statement, set, add_to, call, choose, Block, no_stmt, andthen, Arms, otherwise, arm}
+use Rattle.cs_grammar.specs.Reading.{next, after, Left, Reading, left, mapped, both, three, skip, is_comma, is_then, is_elseif, is_else, is_endif, Scope, deeper, fault, misfit, through, ended}
+use Rattle.cs_grammar.specs.Parts.{is_variable}
+use Rattle.cs_grammar.specs.Lines.{line_form, misplaced_fault, no_target, target, targets, operation, operation_of, is_own, is_other_text, is_outside}
+use Rattle.cs_grammar.specs.Grammar.{ends_block, ReadsStmt, stmt_set, stmt_add, stmt_results, stmt_bare, stmt_if, stmt_beyond, stmt_misplaced, ReadsBlock, block_stop, block_end, block_more, ReadsArms, arm_more, ReadsMore, more_stop, more_elseif, more_else, more_endif}
+use Rattle.cs_grammar.proofs.Sizes.{size, skip_size, mapped_size, both_size, three_size, through_size, ended_size, choice_size}
+use Rattle.cs_grammar.proofs.OneExpr.{the_expr, reads_expr, expr_size, expr_is}
+use Rattle.cs_grammar.proofs.OneList.{the_args, reads_args, args_size, args_is}
+
+-- ---- sizes of the parts of a line
+
+pub target_less : (s : Scope) (ts : List Symbol) → size (left (target s ts)) ≤ length ts
+target_less s [] = omega arith
+target_less s (t ∷ ts) = choice_size (is_variable s t) (Ok (t.text, ts)) (Err (misfit s (no_target t.kind) (t ∷ ts))) (suc (length ts)) (omega arith) (omega arith)
+
+pub targets_less : (s : Scope) (ts : List Symbol) → size (left (targets s ts)) ≤ length ts
+targets_less s [] = omega arith
+targets_less s (t ∷ []) = omega (arith, target_less s (t ∷ []), mapped_size {B = List (List ℕ)} (λ n. n ∷ []) (target s (t ∷ [])))
+targets_less s (t ∷ c ∷ us) =
+    choice_size (is_comma c.kind) (both {C = List (List ℕ)} ◌∷◌ (target s (t ∷ c ∷ us)) (targets s us)) (mapped {B = List (List ℕ)} (λ n. n ∷ []) (target s (t ∷ c ∷ us))) (suc (suc (length us))) (omega (arith, targets_less s us, both_size {C = List (List ℕ)} ◌∷◌ (target s (t ∷ c ∷ us)) (targets s us))) (omega (arith, target_less s (t ∷ c ∷ us), mapped_size {B = List (List ℕ)} (λ n. n ∷ []) (target s (t ∷ c ∷ us))))
+
+abbrev plain : Scope → Symbol → List Symbol → Bool → Reading (List ℕ)
+plain s t ts own = if own then Err (fault (t ∷ ts) orc.Recursion) else Ok (t.text, ts)
+
+plain_less : (s : Scope) (t : Symbol) (ts : List Symbol) (own : Bool) → size (left (plain s t ts own)) ≤ suc (length ts)
+plain_less s t ts true = omega arith
+plain_less s t ts false = omega arith
+
+operation_opcode : (s : Scope) (t : Symbol) (ts : List Symbol) (o : Opcode) → size (left (operation_of s (t ∷ ts) (kind.Opcode o))) ≤ suc (length ts)
+operation_opcode s t ts opcode.Zakinit = choice_size (is_outside s.place) (Ok (t.text, ts)) (Err (fault (t ∷ ts) orc.Unexpected)) (suc (length ts)) (omega arith) (omega arith)
+operation_opcode s t ts opcode.EventI = choice_size (is_other_text (next ts)) (Err (fault ts orc.NotInProfile)) (Ok (t.text, ts)) (suc (length ts)) (omega arith) (omega arith)
+operation_opcode s t ts _ = plain_less s t ts (is_own s t.text s.place)
+
+operation_keyword : (s : Scope) (t : Symbol) (ts : List Symbol) (k : Keyword) → size (left (operation_of s (t ∷ ts) (kind.Keyword k))) ≤ suc (length ts)
+operation_keyword s t ts key.Xin = omega arith
+operation_keyword s t ts _ = omega arith
+
+operation_by : (s : Scope) (t : Symbol) (ts : List Symbol) (k : Kind) → size (left (operation_of s (t ∷ ts) k)) ≤ suc (length ts)
+operation_by s t ts (kind.Opcode o) = operation_opcode s t ts o
+operation_by s t ts (kind.Keyword k) = operation_keyword s t ts k
+operation_by s t ts (kind.Header h) = plain_less s t ts (is_own s t.text s.place)
+operation_by s t ts (kind.Func f) = plain_less s t ts (is_own s t.text s.place)
+operation_by s t ts (kind.Field n) = plain_less s t ts (is_own s t.text s.place)
+operation_by s t ts kind.Name = plain_less s t ts (is_own s t.text s.place)
+operation_by s t ts kind.Word = plain_less s t ts (is_own s t.text s.place)
+operation_by s t ts _ = omega arith
+
+pub operation_less : (s : Scope) (ts : List Symbol) → size (left (operation s (Ok ts))) ≤ length ts
+operation_less s [] = omega arith
+operation_less s (t ∷ ts) = operation_by s t ts t.kind
+
+pub operation_size : (s : Scope) (st : Left) → size (left (operation s st)) ≤ size st
+operation_size s (Err f) = omega arith
+operation_size s (Ok ts) = omega (arith, operation_less s ts)
+
+-- ---- the function
+
+pub data Ask : Type 0 where
+  stmt : Scope → List Symbol → Ask
+  block : Scope → Left → Ask
+  arms : Scope → Left → Ask
+  more : Scope → Left → Ask
+
+abbrev pub Answer : Ask → Type 0
+Answer (stmt s ts) = Reading Statement
+Answer (block s st) = Reading Block
+Answer (arms s st) = Reading Arms
+Answer (more s st) = Reading Arms
+
+abbrev Answers : Type 0
+Answers = (a : Ask) → Answer a
+
+abbrev value : Scope → List Symbol → Reading Expression
+value s ts = the_expr s level.Expr (skip (left (target s ts)))
+
+abbrev stmt_by : Answers → Scope → List Symbol → LineForm → Reading Statement
+stmt_by R s ts form.Assignment = ended s (both (set (next ts).line) (target s ts) (value s ts))
+stmt_by R s ts form.Addition = ended s (both (add_to (next ts).line) (target s ts) (value s ts))
+stmt_by R s ts form.Results = ended s (three (call (next ts).line) (targets s ts) (operation s (left (targets s ts))) (the_args s (left (operation s (left (targets s ts))))))
+stmt_by R s ts form.Bare = ended s (both (call (next ts).line []) (operation s (Ok ts)) (the_args s (left (operation s (Ok ts)))))
+stmt_by R s ts form.Conditional = ended s (mapped (choose (next ts).line) (R (arms (deeper s) (Ok (after ts)))))
+stmt_by R s ts form.Beyond = Err (fault ts orc.NotInProfile)
+stmt_by R s ts form.Misplaced = Err (misplaced_fault s ts (next ts).kind)
+
+abbrev block_by : Answers → Scope → List Symbol → Bool → Reading Block
+block_by R s ts true = Ok (no_stmt, ts)
+block_by R s ts false = both andthen (R (stmt s ts)) (R (block s (left (R (stmt s ts)))))
+
+abbrev line_of : Scope → Reading Expression → Left
+line_of s c = left (ended s (through s is_then c))
+
+abbrev arms_by : Answers → Scope → Reading Expression → Reading Arms
+arms_by R s c = three arm c (R (block s (line_of s c))) (R (more s (left (R (block s (line_of s c))))))
+
+abbrev else_line : Scope → List Symbol → Left
+else_line s ts = left (ended s (Ok (no_stmt, after ts)))
+
+abbrev more_by : Answers → Scope → List Symbol → Bool → Bool → Reading Arms
+more_by R s ts true b = R (arms s (Ok (after ts)))
+more_by R s ts false true = through s is_endif (mapped otherwise (R (block s (else_line s ts))))
+more_by R s ts false false = through s is_endif (Ok (otherwise no_stmt, ts))
+
+abbrev block_step : Answers → Scope → Left → Reading Block
+block_step R s (Ok ts) = block_by R s ts (ends_block s (next ts).kind)
+block_step R s (Err f) = Err f
+
+abbrev more_step : Answers → Scope → Left → Reading Arms
+more_step R s (Ok ts) = more_by R s ts (is_elseif (next ts).kind) (is_else (next ts).kind)
+more_step R s (Err f) = Err f
+
+abbrev step : Answers → Answers
+step R (stmt s ts) = stmt_by R s ts (line_form s ts)
+step R (block s st) = block_step R s st
+step R (arms s st) = arms_by R s (the_expr s level.Expr st)
+step R (more s st) = more_step R s st
+
+abbrev pub lost : (a : Ask) → Answer a
+lost (stmt s ts) = Err (record { line = 0; kind = orc.Unexpected })
+lost (block s st) = Err (record { line = 0; kind = orc.Unexpected })
+lost (arms s st) = Err (record { line = 0; kind = orc.Unexpected })
+lost (more s st) = Err (record { line = 0; kind = orc.Unexpected })
+
+pub run : ℕ → Answers
+run zero a = lost a
+run (suc n) a = step (run n) a
+
+pub record Settles (a : Ask) (o : Answer a) : Type 0 where
+  pub steps : ℕ
+  pub ends : (n : ℕ) → steps ≤ n → run n a ≡ o
+
+settle : {a : Ask} {o : Answer a} (k : ℕ) → ((m : ℕ) → k ≤ m → step (run m) a ≡ o) → Settles a o
+unfolding run
+settle {a} {o} k f = record { steps = suc k; ends = by }
+  where
+    by : (n : ℕ) → suc k ≤ n → run n a ≡ o
+    by zero h = absurd (omega arith)
+    by (suc m) h = f m (omega arith)
+
+mutual
+  stmt_settles : {s : Scope} {ts : List Symbol} {o : Reading Statement} → ReadsStmt s ts o → Settles (stmt s ts) o
+  stmt_settles {s} {ts} (stmt_set e h) = settle 0 (λ m le. ap (stmt_by (run m) s ts) e ∙ ap (λ x. ended s (both (set (next ts).line) (target s ts) x)) (expr_is h))
+  stmt_settles {s} {ts} (stmt_add e h) = settle 0 (λ m le. ap (stmt_by (run m) s ts) e ∙ ap (λ x. ended s (both (add_to (next ts).line) (target s ts) x)) (expr_is h))
+  stmt_settles {s} {ts} (stmt_results e h) = settle 0 (λ m le. ap (stmt_by (run m) s ts) e ∙ ap (λ x. ended s (three (call (next ts).line) (targets s ts) (operation s (left (targets s ts))) x)) (args_is h))
+  stmt_settles {s} {ts} (stmt_bare e h) = settle 0 (λ m le. ap (stmt_by (run m) s ts) e ∙ ap (λ x. ended s (both (call (next ts).line []) (operation s (Ok ts)) x)) (args_is h))
+  stmt_settles {s} {ts} (stmt_if e h) =
+      let i = arms_settles h in
+      settle i.steps (λ m le. ap (stmt_by (run m) s ts) e ∙ ap (λ x. ended s (mapped (choose (next ts).line) x)) (i.ends m le))
+  stmt_settles {s} {ts} (stmt_beyond e) = settle 0 (λ m le. ap (stmt_by (run m) s ts) e)
+  stmt_settles {s} {ts} (stmt_misplaced e) = settle 0 (λ m le. ap (stmt_by (run m) s ts) e)
+
+  block_settles : {s : Scope} {st : Left} {o : Reading Block} → ReadsBlock s st o → Settles (block s st) o
+  block_settles block_stop = settle 0 (λ m le. refl)
+  block_settles {s} (block_end {ts = ts} e) = settle 0 (λ m le. ap (block_by (run m) s ts) e)
+  block_settles {s} (block_more {ts = ts} {o = o} e h k) =
+      let i = stmt_settles h in
+      let j = block_settles k in
+      settle (i.steps + j.steps) (λ m le. ap (block_by (run m) s ts) e ∙ ap (λ x. both andthen x (run m (block s (left x)))) (i.ends m (omega arith)) ∙ ap (both andthen o) (j.ends m (omega arith)))
+
+  arms_settles : {s : Scope} {st : Left} {o : Reading Arms} → ReadsArms s st o → Settles (arms s st) o
+  arms_settles {s} {st} (arm_more {c = c} {body = body} h k g) =
+      let i = block_settles k in
+      let j = more_settles g in
+      settle (i.steps + j.steps) (λ m le. ap (arms_by (run m) s) (expr_is h) ∙ ap (λ x. three arm c x (run m (more s (left x)))) (i.ends m (omega arith)) ∙ ap (three arm c body) (j.ends m (omega arith)))
+
+  more_settles : {s : Scope} {st : Left} {o : Reading Arms} → ReadsMore s st o → Settles (more s st) o
+  more_settles more_stop = settle 0 (λ m le. refl)
+  more_settles {s} (more_elseif {ts = ts} e h) =
+      let i = arms_settles h in
+      settle i.steps (λ m le. ap (λ b. more_by (run m) s ts b (is_else (next ts).kind)) e ∙ i.ends m le)
+  more_settles {s} (more_else {ts = ts} e f h) =
+      let i = block_settles h in
+      settle i.steps (λ m le. ap (λ b. more_by (run m) s ts b (is_else (next ts).kind)) e ∙ ap (more_by (run m) s ts false) f ∙ ap (λ x. through s is_endif (mapped otherwise x)) (i.ends m le))
+  more_settles {s} (more_endif {ts = ts} e f) =
+      settle 0 (λ m le. ap (λ b. more_by (run m) s ts b (is_else (next ts).kind)) e ∙ ap (more_by (run m) s ts false) f)
+
+pub same_stmt : {s : Scope} {ts : List Symbol} {o p : Reading Statement} → ReadsStmt s ts o → ReadsStmt s ts p → o ≡ p
+same_stmt h k =
+    let i = stmt_settles h in
+    let j = stmt_settles k in
+    sym (i.ends (i.steps + j.steps) (omega arith)) ∙ j.ends (i.steps + j.steps) (omega arith)
+
+pub same_block : {s : Scope} {st : Left} {o p : Reading Block} → ReadsBlock s st o → ReadsBlock s st p → o ≡ p
+same_block h k =
+    let i = block_settles h in
+    let j = block_settles k in
+    sym (i.ends (i.steps + j.steps) (omega arith)) ∙ j.ends (i.steps + j.steps) (omega arith)
+
+-- ---- one reading at least
+
+abbrev weight : Ask → ℕ
+weight (stmt s ts) = 8 * (length ts + 1) + 1
+weight (block s st) = 8 * size st + 2
+weight (arms s st) = 8 * size st + 4
+weight (more s st) = 8 * size st + 1
+
+abbrev Right : (a : Ask) → Answer a → Type 0
+Right (stmt s ts) o = ReadsStmt s ts o × (size (left o) ≤ length ts)
+Right (block s st) o = ReadsBlock s st o × (size (left o) ≤ size st)
+Right (arms s st) o = ReadsArms s st o × (size (left o) ≤ size st)
+Right (more s st) o = ReadsMore s st o × (size (left o) ≤ size st)
+
+module _ (R : Answers) (n : ℕ) (ih : (b : Ask) → weight b < n → Right b (R b)) where
+  sound_stmt : (s : Scope) (ts : List Symbol) → 8 * (length ts + 1) + 1 ≤ n → (f : LineForm) → line_form s ts ≡ f → Right (stmt s ts) (stmt_by R s ts f)
+  sound_stmt s ts w form.Assignment e =
+      let v = value s ts in
+      let o = both (set (next ts).line) (target s ts) v in
+      (stmt_set e (reads_expr s level.Expr (skip (left (target s ts)))), omega (arith, ended_size s o, both_size (set (next ts).line) (target s ts) v, expr_size s level.Expr (skip (left (target s ts))), skip_size (left (target s ts)), target_less s ts))
+  sound_stmt s ts w form.Addition e =
+      let v = value s ts in
+      let o = both (add_to (next ts).line) (target s ts) v in
+      (stmt_add e (reads_expr s level.Expr (skip (left (target s ts)))), omega (arith, ended_size s o, both_size (add_to (next ts).line) (target s ts) v, expr_size s level.Expr (skip (left (target s ts))), skip_size (left (target s ts)), target_less s ts))
+  sound_stmt s ts w form.Results e =
+      let p = operation s (left (targets s ts)) in
+      let a = the_args s (left p) in
+      let o = three (call (next ts).line) (targets s ts) p a in
+      (stmt_results e (reads_args s (left p)), omega (arith, ended_size s o, three_size (call (next ts).line) (targets s ts) p a, args_size s (left p), operation_size s (left (targets s ts)), targets_less s ts))
+  sound_stmt s ts w form.Bare e =
+      let p = operation s (Ok ts) in
+      let a = the_args s (left p) in
+      let o = both (call (next ts).line []) p a in
+      (stmt_bare e (reads_args s (left p)), omega (arith, ended_size s o, both_size (call (next ts).line []) p a, args_size s (left p), operation_less s ts))
+  sound_stmt s ts w form.Beyond e = (stmt_beyond e, omega arith)
+  sound_stmt s ts w form.Misplaced e = (stmt_misplaced e, omega arith)
+  sound_stmt s [] w form.Conditional e = cc
+  sound_stmt s (t ∷ ts) w form.Conditional e =
+      let h = ih (arms (deeper s) (Ok ts)) (omega arith) in
+      let o = mapped (choose t.line) (R (arms (deeper s) (Ok ts))) in
+      (stmt_if e h.0, omega (arith, h.1, mapped_size (choose t.line) (R (arms (deeper s) (Ok ts))), ended_size s o))
+
+  sound_block : (s : Scope) (ts : List Symbol) → 8 * (length ts + 1) + 2 ≤ n → (b : Bool) → ends_block s (next ts).kind ≡ b → Right (block s (Ok ts)) (block_by R s ts b)
+  sound_block s ts w true e = (block_end e, omega arith)
+  sound_block s ts w false e =
+      let h = ih (stmt s ts) (omega arith) in
+      let o = R (stmt s ts) in
+      let k = ih (block s (left o)) (omega (arith, h.1)) in
+      (block_more e h.0 k.0, omega (arith, h.1, k.1, both_size andthen o (R (block s (left o)))))
+
+  sound_more : (s : Scope) (ts : List Symbol) → 8 * (length ts + 1) + 1 ≤ n → (a b : Bool) → is_elseif (next ts).kind ≡ a → is_else (next ts).kind ≡ b → Right (more s (Ok ts)) (more_by R s ts a b)
+  sound_more s [] w true b e f = cc
+  sound_more s (t ∷ ts) w true b e f =
+      let h = ih (arms s (Ok ts)) (omega arith) in
+      (more_elseif e h.0, omega (arith, h.1))
+  sound_more s [] w false true e f = cc
+  sound_more s (t ∷ ts) w false true e f =
+      let st = else_line s (t ∷ ts) in
+      let small : size st ≤ length ts + 1 = ended_size s (Ok (no_stmt, ts)) in
+      let h = ih (block s st) (omega (arith, small)) in
+      let o = mapped otherwise (R (block s st)) in
+      (more_else e f h.0, omega (arith, h.1, small, mapped_size otherwise (R (block s st)), through_size s is_endif o))
+  sound_more s ts w false false e f = (more_endif e f, through_size s is_endif (Ok (otherwise no_stmt, ts)))
+
+  sound_arms : (s : Scope) (st : Left) → 8 * size st + 4 ≤ n → Right (arms s st) (arms_by R s (the_expr s level.Expr st))
+  sound_arms s st w =
+      let c = the_expr s level.Expr st in
+      let small : size (line_of s c) ≤ size st = omega (arith, ended_size s (through s is_then c), through_size s is_then c, expr_size s level.Expr st) in
+      let h = ih (block s (line_of s c)) (omega (arith, small)) in
+      let body = R (block s (line_of s c)) in
+      let k = ih (more s (left body)) (omega (arith, small, h.1)) in
+      (arm_more (reads_expr s level.Expr st) h.0 k.0, omega (arith, small, h.1, k.1, three_size arm c body (R (more s (left body)))))
+
+  sound_step : (a : Ask) → weight a ≤ n → Right a (step R a)
+  sound_step (stmt s ts) w = sound_stmt s ts w (line_form s ts) refl
+  sound_step (block s (Err f)) w = (block_stop, omega arith)
+  sound_step (block s (Ok ts)) w = sound_block s ts w (ends_block s (next ts).kind) refl
+  sound_step (arms s st) w = sound_arms s st w
+  sound_step (more s (Err f)) w = (more_stop, omega arith)
+  sound_step (more s (Ok ts)) w = sound_more s ts w (is_elseif (next ts).kind) (is_else (next ts).kind) refl refl
+
+sound : (n : ℕ) (a : Ask) → weight a < n → Right a (run n a)
+unfolding run
+sound zero a h = absurd (omega arith)
+sound (suc n) a h = sound_step (run n) n (λ b k. sound n b k) a (omega arith)
+
+pub the_stmt : Scope → List Symbol → Reading Statement
+the_stmt s ts = run (suc (weight (stmt s ts))) (stmt s ts)
+
+pub reads_stmt : (s : Scope) (ts : List Symbol) → ReadsStmt s ts (the_stmt s ts)
+unfolding the_stmt
+reads_stmt s ts = (sound (suc (weight (stmt s ts))) (stmt s ts) (omega arith)).0
+
+pub stmt_less : (s : Scope) (ts : List Symbol) → size (left (the_stmt s ts)) ≤ length ts
+unfolding the_stmt
+stmt_less s ts = (sound (suc (weight (stmt s ts))) (stmt s ts) (omega arith)).1
+
+pub stmt_is : {s : Scope} {ts : List Symbol} {o : Reading Statement} → ReadsStmt s ts o → the_stmt s ts ≡ o
+stmt_is {s} {ts} h = same_stmt (reads_stmt s ts) h
+
+pub the_block : Scope → Left → Reading Block
+the_block s st = run (suc (weight (block s st))) (block s st)
+
+pub reads_block : (s : Scope) (st : Left) → ReadsBlock s st (the_block s st)
+unfolding the_block
+reads_block s st = (sound (suc (weight (block s st))) (block s st) (omega arith)).0
+
+pub block_size : (s : Scope) (st : Left) → size (left (the_block s st)) ≤ size st
+unfolding the_block
+block_size s st = (sound (suc (weight (block s st))) (block s st) (omega arith)).1
+
+pub block_is : {s : Scope} {st : Left} {o : Reading Block} → ReadsBlock s st o → the_block s st ≡ o
+block_is {s} {st} h = same_block (reads_block s st) h

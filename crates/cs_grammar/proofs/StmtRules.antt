@@ -1,0 +1,244 @@
+-- The rules of statements, as the parser meets them.
+use Rattle.std.proofs.Common.{◌≡◌, ◌∙◌, ◌≤◌, ◌<◌, ◌++◌, ℕ, true, false, List, [], ◌∷◌, length, map, Result, Ok, Err, refl, arith, sym, ap, subst}
+use Rattle.cs_base.specs.declared.fault.Or.{Or}
+use Rattle.cs_base.specs.declared.fault.Or.TheVariants as or
+use Rattle.cs_base.specs.declared.fault.OrcFault.{OrcFault}
+use Rattle.cs_grammar.specs.declared.expr.Level.TheVariants as at
+use Rattle.cs_grammar.specs.declared.stmt.LineForm.TheVariants as form
+use Rattle.cs_grammar.specs.declared.tree.OrcStmt.{OrcStmt}
+use Rattle.std.specs.Global.{Vec}
+use Rattle.cs_grammar.specs.declared.tree.Arg.{Arg}
+use Rattle.cs_grammar.specs.declared.tree.Arm.{Arm, out-Arm}
+use Rattle.cs_grammar.specs.Symbols.{Symbol}
+use Rattle.cs_grammar.specs.Tree.{Expression, Argument, Statement, set, add_to, call, Block, no_stmt, andthen, Arms, otherwise, arm, expression, argument, statement, block, arms}
+use Rattle.cs_grammar.specs.Reading.{next, after, Left, Reading, left, mapped, both, three, skip, is_then, is_elseif, is_else, is_endif, Scope, through, ended}
+use Rattle.cs_grammar.specs.Lines.{line_form, target, targets, operation}
+use Rattle.cs_grammar.specs.Answers.{Gives, past, line_past, IsArm}
+use Rattle.cs_grammar.specs.Grammar.{ends_block, ReadsExpr, ReadsArgs, ReadsStmt, stmt_set, stmt_add, stmt_results, stmt_bare, ReadsBlock, block_stop, block_end, block_more, ReadsArms, arm_more, ReadsMore, more_stop, more_elseif, more_else, more_endif}
+use Rattle.cs_grammar.proofs.Gives.{through_is, ended_is, valued, left_valued}
+use Rattle.cs_grammar.proofs.OneStmt.{stmt_less, stmt_is, same_block}
+use Rattle.cs_grammar.proofs.Sizes.{size}
+
+-- ---- what a call gives, as the grammar sees it
+
+abbrev pub args_in : Vec Arg → List Argument
+args_in v = map argument v.items
+
+abbrev pub stmts_in : Vec OrcStmt → Block
+stmts_in v = block v.items
+
+abbrev pub arm_in : Arm → Expression × Block
+arm_in a = (expression (out-Arm a).cond, block (out-Arm a).body.items)
+
+abbrev pub else_in : Vec OrcStmt → Arms
+else_in v = otherwise (block v.items)
+
+abbrev pub chain_in : (Vec Arm × Vec OrcStmt) → Arms
+chain_in p = arms (block p.1.items) p.0.items
+
+-- ---- lines
+
+module _ (s : Scope) (ts : List Symbol) where
+  pub set_is : (n : Reading (List ℕ)) (e : Reading Expression) → line_form s ts ≡ form.Assignment → target s ts ≡ n → ReadsExpr s at.Expr (skip (left n)) e → ReadsStmt s ts (ended s (both (set (next ts).line) n e))
+  set_is n e f t h =
+      subst (λ o. ReadsStmt s ts (ended s (both (set (next ts).line) o e))) t (stmt_set f (subst (λ o. ReadsExpr s at.Expr (skip (left o)) e) (sym t) h))
+
+  pub add_is : (n : Reading (List ℕ)) (e : Reading Expression) → line_form s ts ≡ form.Addition → target s ts ≡ n → ReadsExpr s at.Expr (skip (left n)) e → ReadsStmt s ts (ended s (both (add_to (next ts).line) n e))
+  add_is n e f t h =
+      subst (λ o. ReadsStmt s ts (ended s (both (add_to (next ts).line) o e))) t (stmt_add f (subst (λ o. ReadsExpr s at.Expr (skip (left o)) e) (sym t) h))
+
+  abbrev ResultsRead : Reading (List Argument) → Reading (List (List ℕ)) → Reading (List ℕ) → Type 0
+  ResultsRead args n p = ReadsArgs s (left p) args → ReadsStmt s ts (ended s (three (call (next ts).line) n p args))
+
+  pub results_is : (n : Reading (List (List ℕ))) (p : Reading (List ℕ)) (args : Reading (List Argument)) → line_form s ts ≡ form.Results → targets s ts ≡ n → operation s (left n) ≡ p → ReadsArgs s (left p) args → ReadsStmt s ts (ended s (three (call (next ts).line) n p args))
+  results_is n p args f t o h =
+      let start : ResultsRead args (targets s ts) (operation s (left (targets s ts))) = stmt_results f in
+      let middle : ResultsRead args n (operation s (left n)) = subst (λ x. ResultsRead args x (operation s (left x))) t start in
+      subst (λ x. ResultsRead args n x) o middle h
+
+  abbrev BareRead : Reading (List Argument) → Reading (List ℕ) → Type 0
+  BareRead args p = ReadsArgs s (left p) args → ReadsStmt s ts (ended s (both (call (next ts).line []) p args))
+
+  pub bare_is : (p : Reading (List ℕ)) (args : Reading (List Argument)) → line_form s ts ≡ form.Bare → operation s (Ok ts) ≡ p → ReadsArgs s (left p) args → ReadsStmt s ts (ended s (both (call (next ts).line []) p args))
+  bare_is p args f o h =
+      let start : BareRead args (operation s (Ok ts)) = stmt_bare f in
+      subst (λ x. BareRead args x) o start h
+
+  pub line_is : (x : Statement) (mid : List Symbol) (st : Left) → ReadsStmt s ts (ended s (Ok (x, mid))) → line_past s (next mid).kind mid ≡ st → ReadsStmt s ts (valued x st)
+  line_is x mid st h e = subst (ReadsStmt s ts) (ended_is s x mid st e) h
+
+  -- a statement takes one symbol at least
+  pub stmt_shorter : (x : Statement) (rest : List Symbol) → ReadsStmt s ts (Ok (x, rest)) → length rest < length ts
+  stmt_shorter x rest h =
+      let is : size (Ok rest) ≤ length ts = subst (λ o. size (left o) ≤ length ts) (stmt_is h) (stmt_less s ts) in
+      omega (arith, is)
+
+-- ---- blocks
+
+-- statements in front of a block
+abbrev pub with_all : List OrcStmt → Block → Block
+with_all [] b = b
+with_all (x ∷ xs) b = andthen (statement x) (with_all xs b)
+
+with_all_more : (xs : List OrcStmt) (x : OrcStmt) (b : Block) → with_all (xs ++ x ∷ []) b ≡ with_all xs (andthen (statement x) b)
+with_all_more [] x b = refl
+with_all_more (y ∷ xs) x b = ap (andthen (statement y)) (with_all_more xs x b)
+
+with_all_none : (xs : List OrcStmt) → with_all xs no_stmt ≡ block xs
+with_all_none [] = refl
+with_all_none (x ∷ xs) = ap (andthen (statement x)) (with_all_none xs)
+
+-- however the statements from here on are read, so is the whole, with the statements so far in front
+abbrev pub BlockSoFar : Scope → List Symbol → List OrcStmt → List Symbol → Type 0
+BlockSoFar s old xs now = (out : Reading Block) → ReadsBlock s (Ok now) out → ReadsBlock s (Ok old) (mapped (with_all xs) out)
+
+pub block_begun : (s : Scope) (old : List Symbol) → BlockSoFar s old [] old
+block_begun s old (Ok (b, ts)) h = h
+block_begun s old (Err f) h = h
+
+grown : (xs : List OrcStmt) (x : OrcStmt) (mid : List Symbol) (out : Reading Block) → mapped (with_all xs) (both andthen (Ok (statement x, mid)) out) ≡ mapped (with_all (xs ++ x ∷ [])) out
+grown xs x mid (Ok (b, ts)) = ap (λ y. Ok (y, ts)) (sym (with_all_more xs x b))
+grown xs x mid (Err f) = refl
+
+pub block_grown : (s : Scope) (old mid now : List Symbol) (xs : List OrcStmt) (x : OrcStmt) → BlockSoFar s old xs mid → ends_block s (next mid).kind ≡ false → ReadsStmt s mid (Ok (statement x, now)) → BlockSoFar s old (xs ++ x ∷ []) now
+block_grown s old mid now xs x h e k out g =
+    subst (ReadsBlock s (Ok old)) (grown xs x now out) (h (both andthen (Ok (statement x, now)) out) (block_more e k g))
+
+pub block_fails : (s : Scope) (old mid : List Symbol) (xs : List OrcStmt) (f : OrcFault) → BlockSoFar s old xs mid → ends_block s (next mid).kind ≡ false → ReadsStmt s mid (Err f) → ReadsBlock s (Ok old) (Err f)
+block_fails s old mid xs f h e k = h (Err f) (block_more e k block_stop)
+
+pub block_done : (s : Scope) (old now : List Symbol) (xs : List OrcStmt) → BlockSoFar s old xs now → ends_block s (next now).kind ≡ true → ReadsBlock s (Ok old) (Ok (block xs, now))
+block_done s old now xs h e =
+    subst (λ b. ReadsBlock s (Ok old) (Ok (b, now))) (with_all_none xs) (h (Ok (no_stmt, now)) (block_end e))
+
+-- ---- arms
+
+-- arms in front of a chain
+abbrev pub cond_of : Arm → Expression
+cond_of a = expression (out-Arm a).cond
+
+abbrev pub body_of : Arm → Block
+body_of a = block (out-Arm a).body.items
+
+abbrev pub chained : List Arm → Arms → Arms
+chained [] r = r
+chained (a ∷ xs) r = arm (cond_of a) (body_of a) (chained xs r)
+
+chained_more : (xs : List Arm) (a : Arm) (r : Arms) → chained (xs ++ a ∷ []) r ≡ chained xs (arm (cond_of a) (body_of a) r)
+chained_more [] a r = refl
+chained_more (y ∷ xs) a r = ap (arm (cond_of y) (body_of y)) (chained_more xs a r)
+
+chained_last : (xs : List Arm) (b : Block) → chained xs (otherwise b) ≡ arms b xs
+chained_last [] b = refl
+chained_last (y ∷ xs) b = ap (arm (cond_of y) (body_of y)) (chained_last xs b)
+
+abbrev pub ArmsSoFar : Scope → List Symbol → List Arm → List Symbol → Type 0
+ArmsSoFar s old xs now = (out : Reading Arms) → ReadsMore s (Ok now) out → ReadsArms s (Ok old) (mapped (chained xs) out)
+
+three_is : (c : Expression) (b : Block) (m n : List Symbol) (out : Reading Arms) → three arm (Ok (c, m)) (Ok (b, n)) out ≡ mapped (arm c b) out
+three_is c b m n (Ok (r, ts)) = refl
+three_is c b m n (Err f) = refl
+
+-- an arm that is read, and what follows it
+arm_read : (s : Scope) (ts now : List Symbol) (c : Expression) (b : Block) (out : Reading Arms) → IsArm s ts (Ok ((c, b), now)) → ReadsMore s (Ok now) out → ReadsArms s (Ok ts) (mapped (arm c b) out)
+arm_read s ts now c b out (Err f, y, h, k, e) g = cc
+arm_read s ts now c b out (Ok (c2, m), Err f, h, k, e) g = cc
+arm_read s ts now c b out (Ok (c2, m), Ok (b2, n), h, k, e) g =
+    let same_c : c2 ≡ c = ap (λ o. cond_in o) (sym e) in
+    let same_b : b2 ≡ b = ap (λ o. body_in o) (sym e) in
+    let same_n : n ≡ now = ap (λ o. rest_in o) (sym e) in
+    subst (λ x. ReadsArms s (Ok ts) (mapped (arm x b) out)) same_c (subst (λ y. ReadsArms s (Ok ts) (mapped (arm c2 y) out)) same_b (subst (ReadsArms s (Ok ts)) (three_is c2 b2 m n out) (arm_more h k (subst (λ x. ReadsMore s (Ok x) out) (sym same_n) g))))
+  where
+    cond_in : Reading (Expression × Block) → Expression
+    cond_in (Ok (p, r)) = p.0
+    cond_in (Err f) = c
+
+    body_in : Reading (Expression × Block) → Block
+    body_in (Ok (p, r)) = p.1
+    body_in (Err f) = b
+
+    rest_in : Reading (Expression × Block) → List Symbol
+    rest_in (Ok (p, r)) = r
+    rest_in (Err f) = now
+
+arm_unread : (s : Scope) (ts : List Symbol) (f : OrcFault) → IsArm s ts (Err f) → ReadsArms s (Ok ts) (Err f)
+arm_unread s ts f (Err g, y, h, k, e) =
+    let same : g ≡ f = cc in
+    let z : y ≡ Err g = same_block k block_stop in
+    subst (λ x. ReadsArms s (Ok ts) (Err x)) same (arm_more h k (subst (λ w. ReadsMore s (left w) (Err g)) (sym z) more_stop))
+arm_unread s ts f (Ok (c2, m), Err g, h, k, e) =
+    let same : g ≡ f = cc in
+    subst (λ x. ReadsArms s (Ok ts) (Err x)) same (arm_more h k more_stop)
+arm_unread s ts f (Ok (c2, m), Ok (b2, n), h, k, e) = cc
+
+chain_grown : (xs : List Arm) (a : Arm) (out : Reading Arms) → mapped (chained xs) (mapped (arm (cond_of a) (body_of a)) out) ≡ mapped (chained (xs ++ a ∷ [])) out
+chain_grown xs a (Ok (r, ts)) = ap (λ y. Ok (y, ts)) (sym (chained_more xs a r))
+chain_grown xs a (Err f) = refl
+
+pub arms_begun : (s : Scope) (old now : List Symbol) (a : Arm) → IsArm s old (Ok ((cond_of a, body_of a), now)) → ArmsSoFar s old (a ∷ []) now
+arms_begun s old now a h out g = subst (ReadsArms s (Ok old)) (chain_grown [] a out) (idle (arm_read s old now (cond_of a) (body_of a) out h g))
+  where
+    idle : ReadsArms s (Ok old) (mapped (arm (cond_of a) (body_of a)) out) → ReadsArms s (Ok old) (mapped (chained []) (mapped (arm (cond_of a) (body_of a)) out))
+    idle k = subst (ReadsArms s (Ok old)) (sym (unchained (mapped (arm (cond_of a) (body_of a)) out))) k
+      where
+        unchained : (o : Reading Arms) → mapped (chained []) o ≡ o
+        unchained (Ok (r, ts)) = refl
+        unchained (Err f) = refl
+
+pub arms_unbegun : (s : Scope) (old : List Symbol) (f : OrcFault) → IsArm s old (Err f) → ReadsArms s (Ok old) (Err f)
+arms_unbegun s old f h = arm_unread s old f h
+
+pub arms_grown : (s : Scope) (old mid now : List Symbol) (xs : List Arm) (a : Arm) → ArmsSoFar s old xs mid → is_elseif (next mid).kind ≡ true → IsArm s (after mid) (Ok ((cond_of a, body_of a), now)) → ArmsSoFar s old (xs ++ a ∷ []) now
+arms_grown s old mid now xs a h e k out g =
+    subst (ReadsArms s (Ok old)) (chain_grown xs a out) (h (mapped (arm (cond_of a) (body_of a)) out) (more_elseif e (arm_read s (after mid) now (cond_of a) (body_of a) out k g)))
+
+pub arms_fail : (s : Scope) (old mid : List Symbol) (xs : List Arm) (f : OrcFault) → ArmsSoFar s old xs mid → is_elseif (next mid).kind ≡ true → IsArm s (after mid) (Err f) → ReadsArms s (Ok old) (Err f)
+arms_fail s old mid xs f h e k = h (Err f) (more_elseif e (arm_unread s (after mid) f k))
+
+pub arms_done : (s : Scope) (old mid now : List Symbol) (xs : List Arm) (b : Block) → ArmsSoFar s old xs mid → ReadsMore s (Ok mid) (Ok (otherwise b, now)) → ReadsArms s (Ok old) (Ok (arms b xs, now))
+arms_done s old mid now xs b h k = subst (λ r. ReadsArms s (Ok old) (Ok (r, now))) (chained_last xs b) (h (Ok (otherwise b, now)) k)
+
+-- ---- the parts of an arm
+
+arm_line : (s : Scope) (c : Expression) (us vs : List Symbol) (st : Left) → past s is_then us ≡ Ok vs → line_past s (next vs).kind vs ≡ st → left (ended s (through s is_then (Ok (c, us)))) ≡ st
+arm_line s c us vs st e g = ap (λ o. left (ended s o)) (through_is s is_then c us (Ok vs) e) ∙ ap left (ended_is s c vs st g) ∙ left_valued c st
+
+module _ {s : Scope} {ts : List Symbol} where
+  pub arm_no_cond : (f : OrcFault) → ReadsExpr s at.Expr (Ok ts) (Err f) → IsArm s ts (Err f)
+  arm_no_cond f h = (Err f, Err f, h, block_stop, refl)
+
+  pub arm_no_then : (c : Expression) (us : List Symbol) (f : OrcFault) → ReadsExpr s at.Expr (Ok ts) (Ok (c, us)) → past s is_then us ≡ Err f → IsArm s ts (Err f)
+  arm_no_then c us f h e =
+      (Ok (c, us), Err f, h, subst (λ st. ReadsBlock s st (Err f)) (sym (ap (λ o. left (ended s o)) (through_is s is_then c us (Err f) e))) block_stop, refl)
+
+  pub arm_no_line : (c : Expression) (us vs : List Symbol) (f : OrcFault) → ReadsExpr s at.Expr (Ok ts) (Ok (c, us)) → past s is_then us ≡ Ok vs → line_past s (next vs).kind vs ≡ Err f → IsArm s ts (Err f)
+  arm_no_line c us vs f h e g = (Ok (c, us), Err f, h, subst (λ st. ReadsBlock s st (Err f)) (sym (arm_line s c us vs (Err f) e g)) block_stop, refl)
+
+  pub arm_is : (c : Expression) (us vs ws : List Symbol) (b : Reading Block) → ReadsExpr s at.Expr (Ok ts) (Ok (c, us)) → past s is_then us ≡ Ok vs → line_past s (next vs).kind vs ≡ Ok ws → ReadsBlock s (Ok ws) b → IsArm s ts (both (λ x y. (x, y)) (Ok (c, us)) b)
+  arm_is c us vs ws b h e g k = (Ok (c, us), b, h, subst (λ st. ReadsBlock s st b) (sym (arm_line s c us vs (Ok ws) e g)) k, refl)
+
+-- ---- after the arms
+
+else_line : (s : Scope) (ts : List Symbol) (st : Left) → line_past s (next (after ts)).kind (after ts) ≡ st → left (ended s (Ok (no_stmt, after ts))) ≡ st
+else_line s ts st g = ap left (ended_is s no_stmt (after ts) st g) ∙ left_valued no_stmt st
+
+module _ {s : Scope} {ts : List Symbol} (i : is_elseif (next ts).kind ≡ false) where
+  pub endif_is : (st : Left) → is_else (next ts).kind ≡ false → past s is_endif ts ≡ st → ReadsMore s (Ok ts) (valued (otherwise no_stmt) st)
+  endif_is st e p = subst (ReadsMore s (Ok ts)) (through_is s is_endif (otherwise no_stmt) ts st p) (more_endif i e)
+
+  pub else_no_line : (f : OrcFault) → is_else (next ts).kind ≡ true → line_past s (next (after ts)).kind (after ts) ≡ Err f → ReadsMore s (Ok ts) (Err f)
+  else_no_line f e g = more_else i e (subst (λ st. ReadsBlock s st (Err f)) (sym (else_line s ts (Err f) g)) block_stop)
+
+  pub else_no_block : (us : List Symbol) (f : OrcFault) → is_else (next ts).kind ≡ true → line_past s (next (after ts)).kind (after ts) ≡ Ok us → ReadsBlock s (Ok us) (Err f) → ReadsMore s (Ok ts) (Err f)
+  else_no_block us f e g k = more_else i e (subst (λ st. ReadsBlock s st (Err f)) (sym (else_line s ts (Ok us) g)) k)
+
+  pub else_is : (us vs : List Symbol) (b : Block) (st : Left) → is_else (next ts).kind ≡ true → line_past s (next (after ts)).kind (after ts) ≡ Ok us → ReadsBlock s (Ok us) (Ok (b, vs)) → past s is_endif vs ≡ st → ReadsMore s (Ok ts) (valued (otherwise b) st)
+  else_is us vs b st e g k p =
+      subst (ReadsMore s (Ok ts)) (through_is s is_endif (otherwise b) vs st p) (more_else i e (subst (λ x. ReadsBlock s x (Ok (b, vs))) (sym (else_line s ts (Ok us) g)) k))
+
+-- ---- one reading seen as another
+
+pub weaker : {T A : Type 0} (see : T → A) (r : Result T (Or OrcFault)) (rest : List Symbol) (P Q : Reading A → Type 0) → ((o : Reading A) → P o → Q o) → Gives see r rest P → Gives see r rest Q
+weaker see (Ok x) rest P Q k h = k (Ok (see x, rest)) h
+weaker see (Err (or.Fault f)) rest P Q k h = k (Err f) h
+weaker see (Err or.OutOfMemory) rest P Q k h = tt

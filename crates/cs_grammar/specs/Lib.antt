@@ -1,0 +1,11 @@
+pub mod Answers
+pub mod Grammar
+pub mod Headings
+pub mod Inputs
+pub mod Lines
+pub mod Orchestra
+pub mod Parts
+pub mod Reading
+pub mod Symbols
+pub mod Tree
+pub mod Words

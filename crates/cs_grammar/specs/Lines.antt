@@ -1,0 +1,150 @@
+use Rattle.std.specs.Prelude.{ℕ, ℤ, pos, Bool, true, false, List, [], ◌∷◌, ◌++◌, ◌/◌, ◌%◌, ◌&&◌, ◌==◌, not, codes, Option, Some, None, Ok, Err, if◌then◌else◌, nat_le, nat_lt}
+use Rattle.std.specs.Str.{bytes_eq}
+use Rattle.cs_base.specs.declared.fault.OrcFault.{OrcFault}
+use Rattle.cs_base.specs.declared.fault.OrcKind.{OrcKind}
+use Rattle.cs_base.specs.declared.fault.OrcKind.TheVariants as orc
+use Rattle.cs_ir.specs.declared.catalogue.Opcode.TheVariants as opcode
+use Rattle.cs_grammar.specs.declared.tree.HeadName.{HeadName}
+use Rattle.cs_grammar.specs.declared.tree.HeadLine.{HeadLine}
+use Rattle.cs_grammar.specs.declared.symbol.Keyword.TheVariants as key
+use Rattle.cs_grammar.specs.declared.symbol.Kind.{Kind}
+use Rattle.cs_grammar.specs.declared.symbol.Kind.TheVariants as kind
+use Rattle.cs_grammar.specs.declared.scope.Place.{Place}
+use Rattle.cs_grammar.specs.declared.scope.Place.TheVariants as place
+use Rattle.cs_grammar.specs.declared.stmt.LineForm.{LineForm}
+use Rattle.cs_grammar.specs.declared.stmt.LineForm.TheVariants as form
+use Rattle.cs_grammar.specs.Symbols.{Symbol}
+use Rattle.cs_grammar.specs.Reading.{next, after, Left, Reading, mapped, both, Scope, has, has_number, is_comma, is_text, is_word, fault, misfit, ended}
+use Rattle.cs_grammar.specs.Parts.{is_variable}
+
+-- an opcode of the catalogue, or one that is defined
+abbrev pub is_opcode : Scope → Symbol → Kind → Bool
+is_opcode s t (kind.Opcode o) = true
+is_opcode s t (kind.Field k) = has s.defined t.text
+is_opcode s t kind.Name = has s.defined t.text
+is_opcode s t kind.Word = has s.defined t.text
+is_opcode s t _ = false
+
+-- a line that begins with a word, no keyword: by what follows it, and whether it is an opcode
+abbrev pub word_form : Kind → Bool → LineForm
+word_form kind.Colon _ = form.Beyond
+word_form kind.Equals _ = form.Assignment
+word_form kind.PlusEquals _ = form.Addition
+word_form kind.Comma _ = form.Results
+word_form _ true = form.Bare
+word_form k false = if is_word k then form.Results else form.Bare
+
+abbrev pub line_form_of : Scope → Kind → LineForm → LineForm
+line_form_of s (kind.Keyword key.If) by_word = if nat_lt s.depth 100 then form.Conditional else form.Beyond
+line_form_of s (kind.Keyword _) by_word = form.Misplaced
+line_form_of s k by_word = if is_word k then by_word else form.Misplaced
+
+-- A label, and an `if` inside 100 others, are beyond the profile. A keyword other than `if`, and what is no word, is misplaced.
+abbrev pub line_form : Scope → List Symbol → LineForm
+line_form s ts =
+    line_form_of s (next ts).kind (word_form (next (after ts)).kind (is_opcode s (next ts) (next ts).kind))
+
+-- `xin` and `xout` in a definition, at the head of a line or at an opcode's place
+abbrev pub x_kind : Place → OrcKind
+x_kind place.Definition = orc.XinXout
+x_kind _ = orc.Unexpected
+
+-- a fault at the head of a line that can't begin so
+abbrev pub misplaced_fault : Scope → List Symbol → Kind → OrcFault
+misplaced_fault s ts (kind.Keyword key.Xin) = fault ts (x_kind s.place)
+misplaced_fault s ts (kind.Keyword key.Xout) = fault ts (x_kind s.place)
+misplaced_fault s ts _ = misfit s orc.Unexpected ts
+
+-- what may not take a value: fields and header names are unexpected, other words outside the profile
+abbrev pub no_target : Kind → OrcKind
+no_target (kind.Field k) = orc.Unexpected
+no_target (kind.Header h) = orc.Unexpected
+no_target k = if is_word k then orc.NotInProfile else orc.Unexpected
+
+-- the variable that takes a value
+abbrev pub target : Scope → List Symbol → Reading (List ℕ)
+target s ts =
+    if is_variable s (next ts) then Ok ((next ts).text, after ts) else Err (misfit s (no_target (next ts).kind) ts)
+
+-- the variables that take the results of a call
+abbrev pub targets : Scope → List Symbol → Reading (List (List ℕ))
+targets s [] = Err (misfit s orc.Unexpected [])
+targets s (t ∷ []) = mapped (λ n. n ∷ []) (target s (t ∷ []))
+targets s (t ∷ c ∷ us) =
+    if is_comma c.kind then both ◌∷◌ (target s (t ∷ c ∷ us)) (targets s us)
+    else mapped (λ n. n ∷ []) (target s (t ∷ c ∷ us))
+
+-- the name of the definition that a line stands in
+abbrev pub is_own : Scope → List ℕ → Place → Bool
+is_own s name place.Definition = bytes_eq s.own name
+is_own s name _ = false
+
+abbrev pub is_outside : Place → Bool
+is_outside place.Outside = true
+is_outside _ = false
+
+-- a text after `event_i` is `"i"`
+abbrev pub is_other_text : Symbol → Bool
+is_other_text t = is_text t.kind && not (bytes_eq t.text (codes "i"))
+
+-- an opcode's name, which isn't that of the definition around
+abbrev pub called : Scope → List Symbol → Reading (List ℕ)
+called s ts =
+    if is_own s (next ts).text s.place then Err (fault ts orc.Recursion) else Ok ((next ts).text, after ts)
+
+-- the opcode of a call, by what its symbol is
+abbrev pub operation_of : Scope → List Symbol → Kind → Reading (List ℕ)
+operation_of s ts (kind.Opcode opcode.Zakinit) =
+    if is_outside s.place then Ok ((next ts).text, after ts) else Err (fault ts orc.Unexpected)
+operation_of s ts (kind.Opcode opcode.EventI) =
+    if is_other_text (next (after ts)) then Err (fault (after ts) orc.NotInProfile) else Ok ((next ts).text, after ts)
+operation_of s ts (kind.Keyword key.Xin) = Err (fault ts (x_kind s.place))
+operation_of s ts (kind.Keyword k) = Err (misfit s orc.Unexpected ts)
+operation_of s ts kind.Foreign = Err (misfit s orc.Unexpected ts)
+operation_of s ts k =
+    if is_word k then called s ts else Err (misfit s orc.Unexpected ts)
+
+-- The opcode of a call: `zakinit` stands outside alone, a definition doesn't call itself.
+abbrev pub operation : Scope → Left → Reading (List ℕ)
+operation s (Ok ts) = operation_of s ts (next ts).kind
+operation s (Err f) = Err f
+
+-- a header line: its name, `=`, a number
+abbrev pub header_of : Scope → HeadName → ℕ → List Symbol → Kind → Reading HeadLine
+header_of s h line ts (kind.Number v) = ended s (Ok (record { line = line; name = h; value = v }, after ts))
+header_of s h line ts _ = Err (misfit s orc.Unexpected ts)
+
+abbrev pub header_line : Scope → HeadName → List Symbol → Reading HeadLine
+header_line s h ts = header_of s h (next ts).line (after (after ts)) (next (after (after ts))).kind
+
+-- ---- instruments
+
+-- the whole number from 1 to 32,767 that a value is
+abbrev pub instrument_number : ℤ → Option ℕ
+instrument_number (pos raw) =
+    if raw % 65536 == 0 && nat_le 1 (raw / 65536) && nat_le (raw / 65536) 32767 then Some (raw / 65536) else None
+instrument_number _ = None
+
+abbrev pub fresh : List ℕ → List Symbol → Option ℕ → Reading ℕ
+fresh given ts None = Err (fault ts orc.InstrNumber)
+fresh given ts (Some n) = if has_number given n then Err (fault ts orc.InstrTwice) else Ok (n, after ts)
+
+-- an instrument's number that no instrument before has
+abbrev pub number_at : Scope → List ℕ → List Symbol → Kind → Reading ℕ
+number_at s given ts (kind.Number v) = fresh given ts (instrument_number v)
+number_at s given ts k = Err (misfit s (if is_word k then orc.NotInProfile else orc.Unexpected) ts)
+
+abbrev pub one_number : Scope → List ℕ → List Symbol → Reading ℕ
+one_number s given ts = number_at s given ts (next ts).kind
+
+-- the numbers of an instrument; the number before is given for the next
+abbrev pub more_numbers : Reading ℕ → (ℕ → Reading (List ℕ)) → Reading (List ℕ)
+more_numbers (Ok (n, ts)) more = mapped (λ ns. n ∷ ns) (more n)
+more_numbers (Err f) more = Err f
+
+abbrev pub numbers : Scope → List ℕ → List Symbol → Reading (List ℕ)
+numbers s given [] = Err (misfit s orc.Unexpected [])
+numbers s given (t ∷ []) = mapped (λ n. n ∷ []) (one_number s given (t ∷ []))
+numbers s given (t ∷ c ∷ us) =
+    if is_comma c.kind then more_numbers (one_number s given (t ∷ c ∷ us)) (λ n. numbers s (given ++ n ∷ []) us)
+    else mapped (λ n. n ∷ []) (one_number s given (t ∷ c ∷ us))

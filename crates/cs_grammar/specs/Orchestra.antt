@@ -1,0 +1,106 @@
+use Rattle.std.specs.Prelude.{ℕ, Bool, true, false, List, [], ◌∷◌, ◌++◌, ◌≡◌, Ok, Err}
+use Rattle.cs_base.specs.declared.fault.OrcFault.{OrcFault}
+use Rattle.cs_base.specs.declared.fault.OrcKind.{OrcKind}
+use Rattle.cs_base.specs.declared.resource.Rate.{Rate}
+use Rattle.cs_lex.specs.declared.token.Token.{Token}
+use Rattle.cs_grammar.specs.declared.tree.HeadName.{HeadName}
+use Rattle.cs_grammar.specs.declared.tree.HeadLine.{HeadLine}
+use Rattle.cs_grammar.specs.declared.symbol.Kind.{Kind}
+use Rattle.cs_grammar.specs.declared.symbol.Kind.TheVariants as kind
+use Rattle.cs_grammar.specs.declared.symbol.Keyword.TheVariants as key
+use Rattle.cs_grammar.specs.declared.orc.ItemForm.{ItemForm}
+use Rattle.cs_grammar.specs.declared.orc.ItemForm.TheVariants as item
+use Rattle.cs_grammar.specs.Symbols.{Symbol, symbols}
+use Rattle.cs_grammar.specs.Tree.{Argument, Statement, Block, no_stmt, andthen, Instrument, Definition, Orchestra}
+use Rattle.cs_grammar.specs.Reading.{next, after, Left, Reading, left, both, three, is_equals, is_endin, is_endop, is_xout, Scope, outside, in_instrument, in_definition, through, ended}
+use Rattle.cs_grammar.specs.Lines.{header_line, numbers}
+use Rattle.cs_grammar.specs.Headings.{Heading, heading, inputs, results_of, no_results}
+use Rattle.cs_grammar.specs.Grammar.{ReadsList, ReadsStmt, ReadsBlock}
+
+abbrev pub instrument_of : ℕ → List ℕ → Block → Instrument
+instrument_of line ns body = record { line = line; numbers = ns; body = body }
+
+-- instr: the opcodes that are defined, and the numbers that were given, before it
+pub data ReadsInstr (defined : List (List ℕ)) (given : List ℕ) : List Symbol → Reading Instrument → Type 0 where
+  instr : {ts : List Symbol} {body : Reading Block} → ReadsBlock (in_instrument defined) (left (ended (in_instrument defined) (numbers (in_instrument defined) given (after ts)))) body → ReadsInstr defined given ts (ended (outside defined) (through (in_instrument defined) is_endin (both (instrument_of (next ts).line) (numbers (in_instrument defined) given (after ts)) body)))
+
+-- [ "xout" args NewLine ], up to "endop"
+pub data ReadsResult (s : Scope) (outs : List Rate) : Left → Reading (List Argument) → Type 0 where
+  result_stop : {f : OrcFault} → ReadsResult s outs (Err f) (Err f)
+  result_none : {ts : List Symbol} → is_xout (next ts).kind ≡ false → ReadsResult s outs (Ok ts) (no_results outs ts)
+  result_given : {ts : List Symbol} {args : Reading (List Argument)} → is_xout (next ts).kind ≡ true → ReadsList s (Ok (after ts)) args → ReadsResult s outs (Ok ts) (results_of s (next ts).line outs (ended s args))
+
+abbrev pub definition_of : Heading → List (List ℕ) → Block → List Argument → Definition
+definition_of h names body result = record {
+  line = h.line;
+  name = h.name;
+  outs = h.outs;
+  ins = h.ins;
+  names = names;
+  body = body;
+  result = result;
+}
+
+abbrev pub own_scope : List (List ℕ) → Heading → Scope
+own_scope defined h = in_definition h.name defined
+
+-- udo: a definition may call what is defined before it
+pub data ReadsDefinition (defined : List (List ℕ)) : List Symbol → Reading Definition → Type 0 where
+  no_heading : {ts : List Symbol} {f : OrcFault} → heading (in_definition [] defined) (next ts).line (after ts) ≡ Err f → ReadsDefinition defined ts (Err f)
+  udo : {ts us : List Symbol} {h : Heading} {body : Reading Block} {result : Reading (List Argument)} → heading (in_definition [] defined) (next ts).line (after ts) ≡ Ok (h, us) → ReadsBlock (own_scope defined h) (left (inputs (own_scope defined h) h us)) body → ReadsResult (own_scope defined h) h.outs (left body) result → ReadsDefinition defined ts (ended (outside defined) (through (own_scope defined h) is_endop (three (definition_of h) (inputs (own_scope defined h) h us) body result)))
+
+-- what stands outside instruments and definitions
+abbrev pub item_form_of : Kind → Bool → ItemForm
+item_form_of kind.End _ = item.End
+item_form_of (kind.Header h) true = item.Header h
+item_form_of (kind.Keyword key.Instr) _ = item.Instr
+item_form_of (kind.Keyword key.Opcode) _ = item.Opcode
+item_form_of _ _ = item.Statement
+
+abbrev pub item_form : List Symbol → ItemForm
+item_form ts = item_form_of (next ts).kind (is_equals (next (after ts)).kind)
+
+abbrev pub nothing : Orchestra
+nothing = record { head = []; opcodes = []; zero = no_stmt; instrs = [] }
+
+abbrev pub with_header : HeadLine → Orchestra → Orchestra
+with_header h o = record { head = h ∷ o.head; opcodes = o.opcodes; zero = o.zero; instrs = o.instrs }
+
+abbrev pub with_instr : Instrument → Orchestra → Orchestra
+with_instr i o = record { head = o.head; opcodes = o.opcodes; zero = o.zero; instrs = i ∷ o.instrs }
+
+abbrev pub with_definition : Definition → Orchestra → Orchestra
+with_definition d o = record { head = o.head; opcodes = d ∷ o.opcodes; zero = o.zero; instrs = o.instrs }
+
+abbrev pub with_stmt : Statement → Orchestra → Orchestra
+with_stmt x o = record { head = o.head; opcodes = o.opcodes; zero = andthen x o.zero; instrs = o.instrs }
+
+-- the opcodes that are defined, and the numbers that are given, after an item
+abbrev pub defined_by : List (List ℕ) → Reading Definition → List (List ℕ)
+defined_by defined (Ok (d, ts)) = defined ++ d.name ∷ []
+defined_by defined (Err f) = defined
+
+abbrev pub given_by : List ℕ → Reading Instrument → List ℕ
+given_by given (Ok (i, ts)) = given ++ i.numbers
+given_by given (Err f) = given
+
+-- orc
+pub data ReadsOrc : List (List ℕ) → List ℕ → Left → Reading Orchestra → Type 0 where
+  orc_stop : {d : List (List ℕ)} {g : List ℕ} {f : OrcFault} → ReadsOrc d g (Err f) (Err f)
+  orc_end : {d : List (List ℕ)} {g : List ℕ} {ts : List Symbol} → item_form ts ≡ item.End → ReadsOrc d g (Ok ts) (Ok (nothing, ts))
+  orc_header : {d : List (List ℕ)} {g : List ℕ} {ts : List Symbol} {h : HeadName} {out : Reading Orchestra} → item_form ts ≡ item.Header h → ReadsOrc d g (left (header_line (outside d) h ts)) out → ReadsOrc d g (Ok ts) (both with_header (header_line (outside d) h ts) out)
+  orc_instr : {d : List (List ℕ)} {g : List ℕ} {ts : List Symbol} {o : Reading Instrument} {out : Reading Orchestra} → item_form ts ≡ item.Instr → ReadsInstr d g ts o → ReadsOrc d (given_by g o) (left o) out → ReadsOrc d g (Ok ts) (both with_instr o out)
+  orc_udo : {d : List (List ℕ)} {g : List ℕ} {ts : List Symbol} {o : Reading Definition} {out : Reading Orchestra} → item_form ts ≡ item.Opcode → ReadsDefinition d ts o → ReadsOrc (defined_by d o) g (left o) out → ReadsOrc d g (Ok ts) (both with_definition o out)
+  orc_stmt : {d : List (List ℕ)} {g : List ℕ} {ts : List Symbol} {o : Reading Statement} {out : Reading Orchestra} → item_form ts ≡ item.Statement → ReadsStmt (outside d) ts o → ReadsOrc d g (left o) out → ReadsOrc d g (Ok ts) (both with_stmt o out)
+
+-- the reading of a text's tokens, from the first to End
+abbrev pub Parses : List ℕ → List Token → Reading Orchestra → Type 0
+Parses source tokens out = ReadsOrc [] [] (Ok (symbols source tokens)) out
+
+-- the tree of a text's tokens
+abbrev pub Tree : List ℕ → List Token → Orchestra → Type 0
+Tree source tokens orc = (rest : List Symbol) × Parses source tokens (Ok (orc, rest))
+
+-- the first fault of a text's tokens
+abbrev pub ParseFault : List ℕ → List Token → ℕ → OrcKind → Type 0
+ParseFault source tokens line kind = Parses source tokens (Err (record { line = line; kind = kind }))

@@ -1,0 +1,103 @@
+use Rattle.std.specs.Prelude.{ℕ, Bool, true, false, List, ◌&&◌, not, Option, Some, None, Ok, Err, if◌then◌else◌}
+use Rattle.cs_base.specs.declared.fault.OrcFault.{OrcFault}
+use Rattle.cs_base.specs.declared.fault.OrcKind.TheVariants as orc
+use Rattle.cs_grammar.specs.declared.tree.BinOp.{BinOp}
+use Rattle.cs_grammar.specs.declared.tree.BinOp.TheVariants as op
+use Rattle.cs_grammar.specs.declared.symbol.Kind.{Kind}
+use Rattle.cs_grammar.specs.declared.symbol.Kind.TheVariants as kind
+use Rattle.cs_grammar.specs.declared.expr.PartForm.{PartForm}
+use Rattle.cs_grammar.specs.declared.expr.PartForm.TheVariants as part
+use Rattle.cs_grammar.specs.declared.expr.Level.{Level}
+use Rattle.cs_grammar.specs.declared.expr.Level.TheVariants as level
+use Rattle.cs_grammar.specs.Symbols.{Symbol}
+use Rattle.cs_grammar.specs.Tree.{Expression, number, var, field, head}
+use Rattle.cs_grammar.specs.Reading.{next, after, Left, Reading, Scope, has, is_open, is_word, misfit}
+
+-- the next tighter level; a fact is the tightest
+abbrev pub tighter : Level → Option Level
+tighter level.Expr = Some level.And
+tighter level.And = Some level.Cmp
+tighter level.Cmp = Some level.Sum
+tighter level.Sum = Some level.Term
+tighter level.Term = Some level.Fact
+tighter level.Fact = None
+
+-- how many levels are tighter
+abbrev pub rank : Level → ℕ
+rank level.Expr = 5
+rank level.And = 4
+rank level.Cmp = 3
+rank level.Sum = 2
+rank level.Term = 1
+rank level.Fact = 0
+
+-- the operators of a level
+abbrev pub is_at : Level → BinOp → Bool
+is_at level.Expr op.Or = true
+is_at level.And op.And = true
+is_at level.Cmp op.Less = true
+is_at level.Cmp op.Greater = true
+is_at level.Cmp op.LessEqual = true
+is_at level.Cmp op.GreaterEqual = true
+is_at level.Cmp op.Equal = true
+is_at level.Cmp op.NotEqual = true
+is_at level.Sum op.Add = true
+is_at level.Sum op.Sub = true
+is_at level.Term op.Mul = true
+is_at level.Term op.Div = true
+is_at level.Term op.Rem = true
+is_at _ _ = false
+
+-- whether more operators of the level may follow: a comparison stands alone
+abbrev pub repeats : Level → Bool
+repeats level.Cmp = false
+repeats _ = true
+
+abbrev pub operator_of : Level → Kind → Option BinOp
+operator_of l (kind.Operator o) = if is_at l o then Some o else None
+operator_of l _ = None
+
+-- the operator of a level that is next
+abbrev pub operator : Level → Left → Option BinOp
+operator l (Ok ts) = operator_of l (next ts).kind
+operator l (Err f) = None
+
+abbrev pub is_name_kind : Kind → Bool
+is_name_kind kind.Name = true
+is_name_kind _ = false
+
+-- a variable: a name that no definition has taken for its opcode
+abbrev pub is_variable : Scope → Symbol → Bool
+is_variable s t = is_name_kind t.kind && not (has s.defined t.text)
+
+-- a word alone, or a number, as an expression
+abbrev pub single : Scope → Symbol → Kind → Option Expression
+single s t (kind.Number v) = Some (number v)
+single s t (kind.Field k) = Some (field k)
+single s t (kind.Header h) = Some (head h)
+single s t kind.Name = if has s.defined t.text then None else Some (var t.text)
+single s t _ = None
+
+-- a fault at the place of a part of an expression: a word is outside the profile there
+abbrev pub no_part : Scope → List Symbol → OrcFault
+no_part s ts = misfit s (if is_word (next ts).kind then orc.NotInProfile else orc.Unexpected) ts
+
+abbrev pub single_or : {A : Type 0} → Option A → List Symbol → OrcFault → Reading A
+single_or (Some e) rest f = Ok (e, rest)
+single_or None rest f = Err f
+
+-- a part of one symbol: no word before a bracket
+abbrev pub atom : Scope → List Symbol → Reading Expression
+atom s ts =
+    if is_word (next ts).kind && is_open (next (after ts)).kind then Err (no_part s ts)
+    else single_or (single s (next ts) (next ts).kind) (after ts) (no_part s ts)
+
+-- how a part of an expression begins
+abbrev pub part_form_of : Kind → Bool → PartForm
+part_form_of (kind.Operator op.Sub) _ = part.Minus
+part_form_of kind.Open _ = part.Bracket
+part_form_of (kind.Func f) true = part.Function f
+part_form_of _ _ = part.Alone
+
+abbrev pub part_form : List Symbol → PartForm
+part_form ts = part_form_of (next ts).kind (is_open (next (after ts)).kind)

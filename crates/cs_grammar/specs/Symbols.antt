@@ -1,0 +1,57 @@
+use Rattle.std.specs.Prelude.{ℕ, List, [], ◌∷◌, ◌+◌, ◌-◌, if◌then◌else◌, nat_le, slice_range, length}
+use Rattle.cs_lex.specs.declared.token.Mark.{Mark}
+use Rattle.cs_lex.specs.declared.token.Mark.TheVariants as mark
+use Rattle.cs_lex.specs.declared.token.Token.{Token}
+use Rattle.cs_grammar.specs.declared.symbol.Kind.{Kind}
+use Rattle.cs_grammar.specs.declared.symbol.Kind.TheVariants as kind
+use Rattle.cs_grammar.specs.Words.{kind_of_word, kind_of_sign}
+
+-- a token as the grammar sees it
+pub record Symbol : Type 0 where
+  pub kind : Kind
+  pub text : List ℕ
+  pub line : ℕ
+
+-- what a token of at most 1,000 a line is
+abbrev pub kind_of_mark : Mark → List ℕ → Kind
+kind_of_mark mark.Word bytes = kind_of_word bytes
+kind_of_mark (mark.Number value) bytes = kind.Number value
+kind_of_mark mark.Text bytes = kind.Text
+kind_of_mark mark.Sign bytes = kind_of_sign bytes
+kind_of_mark mark.NewLine bytes = kind.NewLine
+kind_of_mark mark.End bytes = kind.End
+
+-- A token past the 1,000th of its line is beyond the profile. NewLine and End don't count.
+abbrev pub kind_after : ℕ → Mark → List ℕ → Kind
+kind_after place mark.NewLine bytes = kind.NewLine
+kind_after place mark.End bytes = kind.End
+kind_after place m bytes = if nat_le 1000 place then kind.Beyond else kind_of_mark m bytes
+
+abbrev pub bytes_of : List ℕ → Token → List ℕ
+bytes_of source t = slice_range source t.from t.to
+
+-- a text without its quotation marks; other tokens whole
+abbrev pub unquoted : Mark → List ℕ → List ℕ
+unquoted mark.Text bytes = slice_range bytes 1 (length bytes - 1)
+unquoted _ bytes = bytes
+
+-- a token that stands after so many others of its line
+abbrev pub symbol : List ℕ → ℕ → Token → Symbol
+symbol source place t = record {
+  kind = kind_after place t.mark (bytes_of source t);
+  text = unquoted t.mark (bytes_of source t);
+  line = t.line;
+}
+
+-- the place of what follows in its line
+abbrev pub counted : ℕ → Mark → ℕ
+counted place mark.NewLine = 0
+counted place _ = place + 1
+
+abbrev pub symbols_from : List ℕ → ℕ → List Token → List Symbol
+symbols_from source place [] = []
+symbols_from source place (t ∷ ts) = symbol source place t ∷ symbols_from source (counted place t.mark) ts
+
+-- the tokens of a text, as the grammar sees them
+abbrev pub symbols : List ℕ → List Token → List Symbol
+symbols source tokens = symbols_from source 0 tokens

@@ -1,0 +1,294 @@
+// Expressions: levels of operators, and the parts between them.
+ghost use Rattle.std.specs.Prelude.{◌≡◌, ◌≤◌, List, Ok, Some, IfOk, IfErr, length, true};
+ghost use Rattle.cs_base.specs.declared.fault.Or.TheVariants as or;
+ghost use Rattle.cs_base.specs.declared.fault.OrcKind.TheVariants as orc;
+ghost use Rattle.cs_grammar.specs.declared.expr.Level.TheVariants as at;
+ghost use Rattle.cs_grammar.specs.declared.expr.PartForm.TheVariants as part;
+ghost use Rattle.cs_grammar.specs.Tree.{expression, neg, pair, pick, apply};
+ghost use Rattle.cs_grammar.specs.Symbols.{Symbol};
+ghost use Rattle.cs_grammar.specs.Reading.{next, after, is_word, is_question};
+ghost use Rattle.cs_grammar.specs.Parts.{tighter, is_at, repeats, operator_of, part_form, part_form_of, no_part, atom};
+ghost use Rattle.cs_grammar.specs.Answers.{Gives};
+ghost use Rattle.cs_grammar.specs.Grammar.{ReadsExpr};
+
+use crate::parser::{Expected, Parser};
+use crate::scope::Scope;
+use crate::symbol::Kind;
+use crate::tree::{BinOp, Expr, Func};
+use cs_base::{Or, OrcFault, OrcKind};
+
+/// The levels of an expression, the loosest first.
+#[derive(Clone, Copy, Debug, PartialEq, Eq)]
+pub enum Level {
+    Expr,
+    And,
+    Cmp,
+    Sum,
+    Term,
+    Fact,
+}
+
+impl Level {
+    fn tighter(self) -> Option<Level>
+        ensures { result ≡ tighter self }
+    {
+        match self {
+            Level::Expr => Some(Level::And),
+            Level::And => Some(Level::Cmp),
+            Level::Cmp => Some(Level::Sum),
+            Level::Sum => Some(Level::Term),
+            Level::Term => Some(Level::Fact),
+            Level::Fact => None,
+        }
+    }
+
+    fn has(self, op: BinOp) -> bool
+        ensures { result ≡ is_at self op }
+    {
+        match op {
+            BinOp::Or => matches!(self, Level::Expr),
+            BinOp::And => matches!(self, Level::And),
+            BinOp::Less
+            | BinOp::Greater
+            | BinOp::LessEqual
+            | BinOp::GreaterEqual
+            | BinOp::Equal
+            | BinOp::NotEqual => matches!(self, Level::Cmp),
+            BinOp::Add | BinOp::Sub => matches!(self, Level::Sum),
+            BinOp::Mul | BinOp::Div | BinOp::Rem => matches!(self, Level::Term),
+        }
+    }
+
+    /// A comparison stands alone; other operators of a level may follow one another.
+    fn repeats(self) -> bool
+        ensures { result ≡ repeats self }
+    {
+        !matches!(self, Level::Cmp)
+    }
+
+    fn operator(self, kind: Kind) -> Option<BinOp>
+        ensures { result ≡ operator_of self kind }
+    {
+        match kind {
+            Kind::Operator(op) if self.has(op) => Some(op),
+            _ => None,
+        }
+    }
+}
+
+/// How a part of an expression begins.
+#[derive(Clone, Copy, Debug, PartialEq, Eq)]
+pub enum PartForm {
+    Minus,
+    Bracket,
+    Function(Func),
+    Alone,
+}
+
+impl PartForm {
+    fn of(kind: Kind, opens: bool) -> PartForm
+        ensures { result ≡ part_form_of kind opens }
+    {
+        match kind {
+            Kind::Operator(BinOp::Sub) => PartForm::Minus,
+            Kind::Open => PartForm::Bracket,
+            Kind::Func(func) if opens => PartForm::Function(func),
+            _ => PartForm::Alone,
+        }
+    }
+}
+
+impl Kind {
+    /// Whether the symbol is a word, a keyword too.
+    pub fn is_word(self) -> bool
+        ensures { result ≡ is_word self }
+    {
+        match self {
+            Kind::Keyword(_)
+            | Kind::Header(_)
+            | Kind::Func(_)
+            | Kind::Field(_)
+            | Kind::Opcode(_)
+            | Kind::Foreign
+            | Kind::Name
+            | Kind::Word => true,
+            _ => false,
+        }
+    }
+}
+
+impl<'s> Parser<'s> {
+    fn part_form(&self) -> PartForm
+        ensures { result ≡ part_form self.now }
+    {
+        PartForm::of(self.kind(), matches!(self.second(), Kind::Open))
+    }
+
+    pub fn no_part(&self, scope: &Scope) -> Or<OrcFault>
+        ensures { result ≡ or.Fault (no_part scope.now self.now) }
+    {
+        if self.kind().is_word() {
+            self.misfit(scope, OrcKind::NotInProfile)
+        } else {
+            self.misfit(scope, OrcKind::Unexpected)
+        }
+    }
+
+    fn atom(&mut self, scope: &Scope) -> Result<Expr, Or<OrcFault>>
+        ensures reads { Gives expression result self.new (λ o. o ≡ atom scope.now self.old) }
+        ensures goes { length self.new ≤ length self.old }
+    {
+        if self.kind().is_word() && matches!(self.second(), Kind::Open) {
+            return Err(self.no_part(scope));
+        }
+        let part = match self.kind() {
+            Kind::Number(value) => Expr::Number(value),
+            Kind::Field(number) => Expr::Field(number),
+            Kind::Header(name) => Expr::Head(name),
+            Kind::Name if !scope.is_defined(self.text()) => Expr::Var(self.name()?),
+            _ => return Err(self.no_part(scope)),
+        };
+        self.skip();
+        Ok(part)
+    }
+
+    /// Reads an expression of a level.
+    #[cycle(expr)]
+    pub fn expr(&mut self, scope: &Scope, level: Level) -> Result<Expr, Or<OrcFault>>
+        ensures reads { Gives expression result self.new (ReadsExpr scope.now level (Ok self.old)) }
+        ensures goes { length self.new ≤ length self.old }
+    {
+        match level.tighter() {
+            Some(inner) => self.operands(scope, level, inner),
+            None => self.fact(scope, level),
+        }
+    }
+
+    // Operands of the next tighter level, with operators of the level between them, grouped to the left.
+    #[cycle(expr)]
+    fn operands(&mut self, scope: &Scope, level: Level, inner: Level) -> Result<Expr, Or<OrcFault>>
+        requires { tighter level ≡ Some inner }
+        ensures reads { Gives expression result self.new (ReadsExpr scope.now level (Ok self.old)) }
+        ensures goes { length self.new ≤ length self.old }
+    {
+        let mut left = self.expr(scope, inner)?;
+        while let Some(op) = level.operator(self.kind()) {
+            self.skip();
+            let right = self.expr(scope, inner)?;
+            left = self.pair(op, left, right)?;
+            if !level.repeats() {
+                return Ok(left);
+            }
+        }
+        Ok(left)
+    }
+
+    fn pair(&self, op: BinOp, left: Expr, right: Expr) -> Result<Expr, Or<OrcFault>>
+        ensures value { IfOk result (λ e. expression e ≡ pair op (expression left) (expression right)) }
+        ensures memory { IfErr result (λ e. e ≡ or.OutOfMemory) }
+    {
+        Ok(Expr::Pair(
+            op,
+            Box::new(self.alloc(), left)?,
+            Box::new(self.alloc(), right)?,
+        ))
+    }
+
+    fn negated(&self, part: Expr) -> Result<Expr, Or<OrcFault>>
+        ensures value { IfOk result (λ e. expression e ≡ neg (expression part)) }
+        ensures memory { IfErr result (λ e. e ≡ or.OutOfMemory) }
+    {
+        Ok(Expr::Neg(Box::new(self.alloc(), part)?))
+    }
+
+    fn applied(&self, func: Func, argument: Expr) -> Result<Expr, Or<OrcFault>>
+        ensures value { IfOk result (λ e. expression e ≡ apply func (expression argument)) }
+        ensures memory { IfErr result (λ e. e ≡ or.OutOfMemory) }
+    {
+        Ok(Expr::Call(func, Box::new(self.alloc(), argument)?))
+    }
+
+    fn picked(&self, cond: Expr, yes: Expr, no: Expr) -> Result<Expr, Or<OrcFault>>
+        ensures value { IfOk result (λ e. expression e
+            ≡ pick (expression cond) (expression yes) (expression no)) }
+        ensures memory { IfErr result (λ e. e ≡ or.OutOfMemory) }
+    {
+        let alloc = self.alloc();
+        Ok(Expr::Pick(
+            Box::new(alloc, cond)?,
+            Box::new(alloc, yes)?,
+            Box::new(alloc, no)?,
+        ))
+    }
+
+    #[cycle(expr)]
+    fn fact(&mut self, scope: &Scope, level: Level) -> Result<Expr, Or<OrcFault>>
+        requires { level ≡ at.Fact }
+        ensures reads { Gives expression result self.new (ReadsExpr scope.now at.Fact (Ok self.old)) }
+        ensures goes { length self.new ≤ length self.old }
+    {
+        match self.part_form() {
+            PartForm::Minus => self.negation(scope),
+            PartForm::Bracket => self.bracket(scope),
+            PartForm::Function(func) => self.function(scope, func),
+            PartForm::Alone => self.atom(scope),
+        }
+    }
+
+    #[cycle(expr)]
+    fn negation(&mut self, scope: &Scope) -> Result<Expr, Or<OrcFault>>
+        requires { part_form self.old ≡ part.Minus }
+        ensures reads { Gives expression result self.new (ReadsExpr scope.now at.Fact (Ok self.old)) }
+        ensures goes { length self.new ≤ length self.old }
+    {
+        self.skip();
+        let part = self.expr(scope, Level::Fact)?;
+        self.negated(part)
+    }
+
+    #[cycle(expr)]
+    fn function(&mut self, scope: &Scope, func: Func) -> Result<Expr, Or<OrcFault>>
+        requires { part_form self.old ≡ part.Function func }
+        ensures reads { Gives expression result self.new (ReadsExpr scope.now at.Fact (Ok self.old)) }
+        ensures goes { length self.new ≤ length self.old }
+    {
+        self.skip();
+        self.skip();
+        let argument = self.expr(scope, Level::Expr)?;
+        self.pass(scope, Expected::Close)?;
+        self.applied(func, argument)
+    }
+
+    // An expression in brackets, or a choice.
+    #[cycle(expr)]
+    fn bracket(&mut self, scope: &Scope) -> Result<Expr, Or<OrcFault>>
+        requires { part_form self.old ≡ part.Bracket }
+        ensures reads { Gives expression result self.new (ReadsExpr scope.now at.Fact (Ok self.old)) }
+        ensures goes { length self.new ≤ length self.old }
+    {
+        self.skip();
+        let first = self.expr(scope, Level::Expr)?;
+        if self.next_is(Expected::Question) {
+            return self.choice(scope, first);
+        }
+        self.pass(scope, Expected::Close)?;
+        Ok(first)
+    }
+
+    // What follows the condition of a choice.
+    #[cycle(expr)]
+    fn choice(&mut self, scope: &Scope, cond: Expr) -> Result<Expr, Or<OrcFault>>
+        requires { is_question (next self.old).kind ≡ true }
+        ensures reads { Gives expression result self.new (λ o. (ts : List Symbol) → part_form ts ≡ part.Bracket
+            → ReadsExpr scope.now at.Expr (Ok (after ts)) (Ok (expression cond, self.old))
+            → ReadsExpr scope.now at.Fact (Ok ts) o) }
+        ensures goes { length self.new ≤ length self.old }
+    {
+        self.skip();
+        let yes = self.expr(scope, Level::Expr)?;
+        self.pass(scope, Expected::Colon)?;
+        let no = self.expr(scope, Level::Expr)?;
+        self.pass(scope, Expected::Close)?;
+        self.picked(cond, yes, no)
+    }
+}

@@ -1,0 +1,18 @@
+// What holds of the grammar, for every list of tokens: a call that does nothing, whose contract is the laws.
+ghost use Rattle.std.specs.Prelude.{◌≡◌, ◌⊎◌, ℕ, List};
+ghost use Rattle.cs_base.specs.declared.fault.OrcKind.{OrcKind};
+ghost use Rattle.cs_lex.specs.declared.token.Token.{Token};
+ghost use Rattle.cs_grammar.specs.Tree.{Orchestra};
+ghost use Rattle.cs_grammar.specs.Orchestra.{Tree, ParseFault};
+
+/// The tokens of every text have either one tree or one first fault.
+pub fn one_reading()
+    ensures some { (source : List ℕ) (tokens : List Token)
+        → ((orc : Orchestra) × Tree source tokens orc) ⊎ ((line : ℕ) × (kind : OrcKind) × ParseFault source tokens line kind) }
+    ensures one_tree { (source : List ℕ) (tokens : List Token) (o p : Orchestra)
+        → Tree source tokens o → Tree source tokens p → o ≡ p }
+    ensures one_fault { (source : List ℕ) (tokens : List Token) (l m : ℕ) (j k : OrcKind)
+        → ParseFault source tokens l j → ParseFault source tokens m k → (l ≡ m) × (j ≡ k) }
+    ensures not_both { (source : List ℕ) (tokens : List Token) (o : Orchestra) (l : ℕ) (k : OrcKind)
+        → Tree source tokens o → ParseFault source tokens l k → ⊥ }
+{}

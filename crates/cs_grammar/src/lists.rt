@@ -1,0 +1,175 @@
+// Lists in a line: the variables that take results, the opcode, the arguments.
+ghost use Rattle.std.specs.Prelude.{◌≡◌, ◌≤◌, Ok, length, map};
+ghost use Rattle.cs_grammar.specs.Tree.{argument};
+ghost use Rattle.cs_grammar.specs.Reading.{next, after, ends_line};
+ghost use Rattle.cs_grammar.specs.Lines.{no_target, target, targets, operation, called, is_other_text};
+ghost use Rattle.cs_grammar.specs.Parts.{is_variable};
+ghost use Rattle.cs_grammar.specs.Answers.{Gives};
+ghost use Rattle.cs_grammar.specs.Grammar.{ReadsArg, ReadsList, ReadsArgs};
+ghost use Rattle.cs_grammar.specs.declared.symbol.Kind.TheVariants as kind;
+ghost use Rattle.cs_ir.specs.declared.catalogue.Opcode.TheVariants as opcode;
+
+use crate::expr::Level;
+use crate::parser::{Expected, Parser};
+use crate::scope::{Place, Scope};
+use crate::symbol::{Keyword, Kind};
+use crate::tree::{Arg, Args};
+use cs_base::{Name, Names, Or, OrcFault, OrcKind};
+use cs_ir::Opcode;
+
+impl Kind {
+    // The kind of fault of a symbol that can take no value.
+    fn no_target(self) -> OrcKind
+        ensures { result ≡ no_target self }
+    {
+        match self {
+            Kind::Field(_) | Kind::Header(_) => OrcKind::Unexpected,
+            _ if self.is_word() => OrcKind::NotInProfile,
+            _ => OrcKind::Unexpected,
+        }
+    }
+
+    fn ends_line(self) -> bool
+        ensures { result ≡ ends_line self }
+    {
+        matches!(self, Kind::NewLine | Kind::End)
+    }
+}
+
+impl<'s> Parser<'s> {
+    // Whether the next symbol is a variable: a name that no definition has taken for its opcode.
+    pub fn at_variable(&self, scope: &Scope) -> bool
+        ensures { result ≡ is_variable scope.now (next self.now) }
+    {
+        matches!(self.kind(), Kind::Name) && !scope.is_defined(self.text())
+    }
+
+    // Takes the next symbol's bytes as a name.
+    fn take_name(&mut self) -> Result<Name, Or<OrcFault>>
+        ensures reads { Gives (λ n. n) result self.new (λ o. o ≡ Ok ((next self.old).text, after self.old)) }
+        ensures goes { length self.new ≤ length self.old }
+    {
+        let name = self.name()?;
+        self.skip();
+        Ok(name)
+    }
+
+    /// Reads a variable that takes a value.
+    pub fn target(&mut self, scope: &Scope) -> Result<Name, Or<OrcFault>>
+        ensures reads { Gives (λ n. n) result self.new (λ o. o ≡ target scope.now self.old) }
+        ensures goes { length self.new ≤ length self.old }
+    {
+        if self.at_variable(scope) {
+            self.take_name()
+        } else {
+            Err(self.misfit(scope, self.kind().no_target()))
+        }
+    }
+
+    /// Reads the variables that take the results of a call.
+    pub fn targets(&mut self, scope: &Scope) -> Result<Names, Or<OrcFault>>
+        ensures reads { Gives (λ ns. ns) result self.new (λ o. o ≡ targets scope.now self.old) }
+        ensures goes { length self.new ≤ length self.old }
+    {
+        let mut names = Names::new(self.alloc());
+        names.push(self.target(scope)?)?;
+        while self.next_is(Expected::Comma) {
+            self.skip();
+            names.push(self.target(scope)?)?;
+        }
+        Ok(names)
+    }
+
+    // Whether a text other than `"i"` comes after the next symbol.
+    fn at_other_text(&self) -> bool
+        ensures { result ≡ is_other_text (next self.now) }
+    {
+        self.next_is(Expected::Text) && self.text() != b"i".as_slice()
+    }
+
+    /// Reads the opcode of a call.
+    pub fn operation(&mut self, scope: &Scope) -> Result<Name, Or<OrcFault>>
+        ensures reads { Gives (λ n. n) result self.new (λ o. o ≡ operation scope.now (Ok self.old)) }
+        ensures goes { length self.new ≤ length self.old }
+    {
+        match self.kind() {
+            Kind::Opcode(Opcode::Zakinit) => self.space(scope),
+            Kind::Opcode(Opcode::EventI) => self.event(scope),
+            Kind::Keyword(Keyword::Xin) => Err(self.fault(scope.x_kind())),
+            Kind::Keyword(_) | Kind::Foreign => Err(self.misfit(scope, OrcKind::Unexpected)),
+            kind if kind.is_word() => self.called(scope),
+            _ => Err(self.misfit(scope, OrcKind::Unexpected)),
+        }
+    }
+
+    // `zakinit` stands outside instruments and definitions alone.
+    fn space(&mut self, scope: &Scope) -> Result<Name, Or<OrcFault>>
+        requires { (next self.old).kind ≡ kind.Opcode opcode.Zakinit }
+        ensures reads { Gives (λ n. n) result self.new (λ o. o ≡ operation scope.now (Ok self.old)) }
+        ensures goes { length self.new ≤ length self.old }
+    {
+        if matches!(scope.place(), Place::Outside) {
+            self.take_name()
+        } else {
+            Err(self.fault(OrcKind::Unexpected))
+        }
+    }
+
+    fn event(&mut self, scope: &Scope) -> Result<Name, Or<OrcFault>>
+        requires { (next self.old).kind ≡ kind.Opcode opcode.EventI }
+        ensures reads { Gives (λ n. n) result self.new (λ o. o ≡ operation scope.now (Ok self.old)) }
+        ensures goes { length self.new ≤ length self.old }
+    {
+        let name = self.take_name()?;
+        if self.at_other_text() {
+            return Err(self.fault(OrcKind::NotInProfile));
+        }
+        Ok(name)
+    }
+
+    fn called(&mut self, scope: &Scope) -> Result<Name, Or<OrcFault>>
+        ensures reads { Gives (λ n. n) result self.new (λ o. o ≡ called scope.now self.old) }
+        ensures goes { length self.new ≤ length self.old }
+    {
+        if scope.is_own(self.text()) {
+            Err(self.fault(OrcKind::Recursion))
+        } else {
+            self.take_name()
+        }
+    }
+
+    fn argument(&mut self, scope: &Scope) -> Result<Arg, Or<OrcFault>>
+        ensures reads { Gives argument result self.new (ReadsArg scope.now self.old) }
+        ensures goes { length self.new ≤ length self.old }
+    {
+        if self.next_is(Expected::Text) {
+            return Ok(Arg::Text(self.take_name()?));
+        }
+        Ok(Arg::Value(self.expr(scope, Level::Expr)?))
+    }
+
+    /// Reads arguments, one at least.
+    pub fn list(&mut self, scope: &Scope) -> Result<Args, Or<OrcFault>>
+        ensures reads { Gives (λ v. map argument v.items) result self.new (ReadsList scope.now (Ok self.old)) }
+        ensures goes { length self.new ≤ length self.old }
+    {
+        let mut args = Vec::new(self.alloc());
+        args.push(self.argument(scope)?)?;
+        while self.next_is(Expected::Comma) {
+            self.skip();
+            args.push(self.argument(scope)?)?;
+        }
+        Ok(args)
+    }
+
+    /// Reads the arguments up to the end of the line, or none.
+    pub fn arguments(&mut self, scope: &Scope) -> Result<Args, Or<OrcFault>>
+        ensures reads { Gives (λ v. map argument v.items) result self.new (ReadsArgs scope.now (Ok self.old)) }
+        ensures goes { length self.new ≤ length self.old }
+    {
+        if self.kind().ends_line() {
+            return Ok(Vec::new(self.alloc()));
+        }
+        self.list(scope)
+    }
+}

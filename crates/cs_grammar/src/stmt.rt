@@ -1,0 +1,256 @@
+// Statements, and the ones in an `if`.
+ghost use Rattle.std.specs.Prelude.{◌≡◌, ◌≢◌, ◌≤◌, ◌<◌, Ok, length, false};
+ghost use Rattle.cs_base.specs.declared.fault.Or.TheVariants as or;
+ghost use Rattle.cs_grammar.specs.declared.stmt.LineForm.TheVariants as form;
+ghost use Rattle.cs_grammar.specs.declared.tree.Arm.{out-Arm};
+ghost use Rattle.cs_grammar.specs.Tree.{expression, of_what, statement, block, arms, otherwise};
+ghost use Rattle.cs_grammar.specs.Reading.{next, is_elseif, ended};
+ghost use Rattle.cs_grammar.specs.Lines.{is_opcode, word_form, line_form, misplaced_fault};
+ghost use Rattle.cs_grammar.specs.Answers.{Gives, IsArm};
+ghost use Rattle.cs_grammar.specs.Grammar.{ends_block, ReadsStmt, ReadsBlock, ReadsArms, ReadsMore};
+
+use crate::expr::Level;
+use crate::parser::{Expected, Parser};
+use crate::scope::{Place, Scope};
+use crate::symbol::{Keyword, Kind};
+use crate::tree::{Arm, Arms, OrcStmt, StmtWhat, Stmts};
+use cs_base::{Names, Or, OrcFault, OrcKind};
+
+/// How a line is read: by its first word and the symbol after it.
+#[derive(Clone, Copy, Debug, PartialEq, Eq)]
+pub enum LineForm {
+    /// `name = ..`
+    Assignment,
+    /// `name += ..`
+    Addition,
+    /// Results, then an opcode.
+    Results,
+    /// An opcode without results.
+    Bare,
+    /// `if`
+    Conditional,
+    /// A label, or an `if` inside 100 others.
+    Beyond,
+    /// What begins no statement.
+    Misplaced,
+}
+
+impl LineForm {
+    // The form of a line that begins with a word: by what follows, and whether the word is an opcode.
+    fn of_word(second: Kind, opcode: bool) -> LineForm
+        ensures form { result ≡ word_form second opcode }
+        ensures other { result ≢ form.Conditional }
+    {
+        match second {
+            Kind::Colon => LineForm::Beyond,
+            Kind::Equals => LineForm::Assignment,
+            Kind::PlusEquals => LineForm::Addition,
+            Kind::Comma => LineForm::Results,
+            _ if opcode => LineForm::Bare,
+            kind if kind.is_word() => LineForm::Results,
+            _ => LineForm::Bare,
+        }
+    }
+}
+
+impl<'s> Parser<'s> {
+    fn at_opcode(&self, scope: &Scope) -> bool
+        ensures { result ≡ is_opcode scope.now (next self.now) (next self.now).kind }
+    {
+        match self.kind() {
+            Kind::Opcode(_) => true,
+            Kind::Field(_) | Kind::Name | Kind::Word => scope.is_defined(self.text()),
+            _ => false,
+        }
+    }
+
+    fn line_form(&self, scope: &Scope) -> LineForm
+        ensures form { result ≡ line_form scope.now self.now }
+        ensures shallow { result ≡ form.Conditional → scope.now.depth < 100 }
+    {
+        match self.kind() {
+            Kind::Keyword(Keyword::If) => scope.if_form(),
+            Kind::Keyword(_) => LineForm::Misplaced,
+            kind if kind.is_word() => LineForm::of_word(self.second(), self.at_opcode(scope)),
+            _ => LineForm::Misplaced,
+        }
+    }
+
+    fn misplaced(&self, scope: &Scope) -> Or<OrcFault>
+        ensures { result ≡ or.Fault (misplaced_fault scope.now self.now (next self.now).kind) }
+    {
+        match self.kind() {
+            Kind::Keyword(Keyword::Xin | Keyword::Xout) => self.fault(scope.x_kind()),
+            _ => self.misfit(scope, OrcKind::Unexpected),
+        }
+    }
+
+    // Whether the next symbol ends the statements of an `if`, an instrument or a definition.
+    fn at_end_of_block(&self, scope: &Scope) -> bool
+        ensures { result ≡ ends_block scope.now (next self.now).kind }
+    {
+        if scope.depth() > 0 {
+            return matches!(
+                self.kind(),
+                Kind::Keyword(Keyword::Elseif | Keyword::Else | Keyword::Endif)
+            );
+        }
+        match scope.place() {
+            Place::Outside => false,
+            Place::Instrument => self.next_is(Expected::Endin),
+            Place::Definition => matches!(
+                self.kind(),
+                Kind::Keyword(Keyword::Endop | Keyword::Xout)
+            ),
+        }
+    }
+
+    /// Reads a statement with the end of its line.
+    #[cycle(stmt)]
+    pub fn stmt(&mut self, scope: &Scope) -> Result<OrcStmt, Or<OrcFault>>
+        ensures reads { Gives statement result self.new (ReadsStmt scope.now self.old) }
+        ensures goes { length self.new ≤ length self.old }
+    {
+        let line = self.line();
+        let what = self.what(scope)?;
+        self.end_line(scope)?;
+        Ok(OrcStmt { line, what })
+    }
+
+    #[cycle(stmt)]
+    fn what(&mut self, scope: &Scope) -> Result<StmtWhat, Or<OrcFault>>
+        ensures reads { Gives (of_what (next self.old).line) result self.new
+            (λ o. ReadsStmt scope.now self.old (ended scope.now o)) }
+        ensures goes { length self.new ≤ length self.old }
+    {
+        match self.line_form(scope) {
+            LineForm::Assignment => self.set(scope),
+            LineForm::Addition => self.add_to(scope),
+            LineForm::Results => self.call_with_results(scope),
+            LineForm::Bare => self.bare_call(scope),
+            LineForm::Conditional => self.conditional(scope),
+            LineForm::Beyond => Err(self.fault(OrcKind::NotInProfile)),
+            LineForm::Misplaced => Err(self.misplaced(scope)),
+        }
+    }
+
+    fn set(&mut self, scope: &Scope) -> Result<StmtWhat, Or<OrcFault>>
+        requires { line_form scope.now self.old ≡ form.Assignment }
+        ensures reads { Gives (of_what (next self.old).line) result self.new
+            (λ o. ReadsStmt scope.now self.old (ended scope.now o)) }
+        ensures goes { length self.new ≤ length self.old }
+    {
+        let name = self.target(scope)?;
+        self.skip();
+        let value = self.expr(scope, Level::Expr)?;
+        Ok(StmtWhat::Set(name, value))
+    }
+
+    fn add_to(&mut self, scope: &Scope) -> Result<StmtWhat, Or<OrcFault>>
+        requires { line_form scope.now self.old ≡ form.Addition }
+        ensures reads { Gives (of_what (next self.old).line) result self.new
+            (λ o. ReadsStmt scope.now self.old (ended scope.now o)) }
+        ensures goes { length self.new ≤ length self.old }
+    {
+        let name = self.target(scope)?;
+        self.skip();
+        let value = self.expr(scope, Level::Expr)?;
+        Ok(StmtWhat::AddTo(name, value))
+    }
+
+    fn call_with_results(&mut self, scope: &Scope) -> Result<StmtWhat, Or<OrcFault>>
+        requires { line_form scope.now self.old ≡ form.Results }
+        ensures reads { Gives (of_what (next self.old).line) result self.new
+            (λ o. ReadsStmt scope.now self.old (ended scope.now o)) }
+        ensures goes { length self.new ≤ length self.old }
+    {
+        let results = self.targets(scope)?;
+        let opcode = self.operation(scope)?;
+        let args = self.arguments(scope)?;
+        Ok(StmtWhat::Call(results, opcode, args))
+    }
+
+    fn bare_call(&mut self, scope: &Scope) -> Result<StmtWhat, Or<OrcFault>>
+        requires { line_form scope.now self.old ≡ form.Bare }
+        ensures reads { Gives (of_what (next self.old).line) result self.new
+            (λ o. ReadsStmt scope.now self.old (ended scope.now o)) }
+        ensures goes { length self.new ≤ length self.old }
+    {
+        let opcode = self.operation(scope)?;
+        let args = self.arguments(scope)?;
+        Ok(StmtWhat::Call(Names::new(self.alloc()), opcode, args))
+    }
+
+    #[cycle(stmt)]
+    fn conditional(&mut self, scope: &Scope) -> Result<StmtWhat, Or<OrcFault>>
+        requires form { line_form scope.now self.old ≡ form.Conditional }
+        requires shallow { scope.now.depth < 100 }
+        ensures reads { Gives (of_what (next self.old).line) result self.new
+            (λ o. ReadsStmt scope.now self.old (ended scope.now o)) }
+        ensures goes { length self.new ≤ length self.old }
+    {
+        self.skip();
+        let (chain, els) = self.arms(&scope.deeper())?;
+        Ok(StmtWhat::Choose(chain, els))
+    }
+
+    /// Reads statements, up to what ends them.
+    #[cycle(stmt)]
+    pub fn block(&mut self, scope: &Scope) -> Result<Stmts, Or<OrcFault>>
+        ensures reads { Gives (λ v. block v.items) result self.new (ReadsBlock scope.now (Ok self.old)) }
+        ensures goes { length self.new ≤ length self.old }
+    {
+        let mut stmts = Vec::new(self.alloc());
+        while !self.at_end_of_block(scope) {
+            stmts.push(self.stmt(scope)?)?;
+        }
+        Ok(stmts)
+    }
+
+    // The arms after `if`, and the statements after `else`, with `endif`.
+    #[cycle(stmt)]
+    fn arms(&mut self, scope: &Scope) -> Result<(Arms, Stmts), Or<OrcFault>>
+        ensures reads { Gives (λ p. arms (block p.1.items) p.0.items) result self.new (ReadsArms scope.now (Ok self.old)) }
+        ensures goes { length self.new ≤ length self.old }
+    {
+        let mut chain = Vec::new(self.alloc());
+        chain.push(self.arm(scope)?)?;
+        while self.next_is(Expected::Elseif) {
+            self.skip();
+            chain.push(self.arm(scope)?)?;
+        }
+        let els = self.otherwise(scope)?;
+        Ok((chain, els))
+    }
+
+    // An arm, behind `if` or `elseif`.
+    #[cycle(stmt)]
+    fn arm(&mut self, scope: &Scope) -> Result<Arm, Or<OrcFault>>
+        ensures reads { Gives (λ a. (expression (out-Arm a).cond, block (out-Arm a).body.items)) result self.new (IsArm scope.now self.old) }
+        ensures goes { length self.new ≤ length self.old }
+    {
+        let cond = self.expr(scope, Level::Expr)?;
+        self.pass(scope, Expected::Then)?;
+        self.end_line(scope)?;
+        let body = self.block(scope)?;
+        Ok(Arm { cond, body })
+    }
+
+    // The statements after `else`, if it is next, and `endif`.
+    #[cycle(stmt)]
+    fn otherwise(&mut self, scope: &Scope) -> Result<Stmts, Or<OrcFault>>
+        requires { is_elseif (next self.old).kind ≡ false }
+        ensures reads { Gives (λ v. otherwise (block v.items)) result self.new (ReadsMore scope.now (Ok self.old)) }
+        ensures goes { length self.new ≤ length self.old }
+    {
+        if !self.next_is(Expected::Else) {
+            self.pass(scope, Expected::Endif)?;
+            return Ok(Vec::new(self.alloc()));
+        }
+        self.skip();
+        self.end_line(scope)?;
+        let stmts = self.block(scope)?;
+        self.pass(scope, Expected::Endif)?;
+        Ok(stmts)
+    }
+}

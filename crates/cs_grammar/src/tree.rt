@@ -1,0 +1,143 @@
+// The tree of an orchestra: what the layers above read in place of tokens.
+use cs_base::{Name, Names, Num, Numbers, Rates};
+
+/// What a header line sets, and what an expression may read.
+#[derive(Clone, Copy, Debug, PartialEq, Eq)]
+pub enum HeadName {
+    Sr,
+    Kr,
+    Ksmps,
+    Nchnls,
+    Dbfs,
+}
+
+/// An operator between two expressions.
+#[derive(Clone, Copy, Debug, PartialEq, Eq)]
+pub enum BinOp {
+    Or,
+    And,
+    Less,
+    Greater,
+    LessEqual,
+    GreaterEqual,
+    Equal,
+    NotEqual,
+    Add,
+    Sub,
+    Mul,
+    Div,
+    Rem,
+}
+
+/// A function that an expression may call.
+#[derive(Clone, Copy, Debug, PartialEq, Eq)]
+pub enum Func {
+    Int,
+    Frac,
+    Abs,
+    Floor,
+    Cpspch,
+    I,
+}
+
+/// An expression. Brackets leave no trace: `(1)` is the number 1.
+#[derive(Debug, Drop)]
+pub enum Expr {
+    /// A literal without a sign.
+    Number(Num),
+    Var(Name),
+    /// `p1` to `p100`, by its number.
+    Field(u32),
+    Head(HeadName),
+    Neg(Box<Expr>),
+    Pair(BinOp, Box<Expr>, Box<Expr>),
+    /// Condition, value where it holds, value where it doesn't.
+    Pick(Box<Expr>, Box<Expr>, Box<Expr>),
+    Call(Func, Box<Expr>),
+}
+
+/// An argument of a call.
+#[derive(Debug, Drop)]
+pub enum Arg {
+    Value(Expr),
+    /// A quoted text, without its quotation marks.
+    Text(Name),
+}
+
+pub type Args = Vec<Arg>;
+
+/// A statement, with the line of its first token.
+#[derive(Debug, Drop)]
+#[cycle(stmt)]
+pub struct OrcStmt {
+    pub line: u32,
+    pub what: StmtWhat,
+}
+
+pub type Stmts = Vec<OrcStmt>;
+
+/// What a statement does.
+#[derive(Debug, Drop)]
+#[cycle(stmt)]
+pub enum StmtWhat {
+    /// `name = expression`
+    Set(Name, Expr),
+    /// `name += expression`
+    AddTo(Name, Expr),
+    /// Results, opcode, arguments.
+    Call(Names, Name, Args),
+    /// The arms of `if` and `elseif`, and the statements after `else`.
+    Choose(Arms, Stmts),
+}
+
+/// A condition, and the statements that run where it is the first that holds.
+#[derive(Debug, Drop)]
+#[cycle(stmt)]
+pub struct Arm {
+    pub cond: Expr,
+    pub body: Vec<OrcStmt>,
+}
+
+pub type Arms = Vec<Arm>;
+
+/// A header line, as `sr = 48000`.
+#[derive(Clone, Copy, Debug, PartialEq, Eq)]
+pub struct HeadLine {
+    pub line: u32,
+    pub name: HeadName,
+    pub value: Num,
+}
+
+/// An instrument, with the line of its `instr`.
+#[derive(Debug, Drop)]
+pub struct Instr {
+    pub line: u32,
+    /// Each from 1 to 32,767, and in no other instrument.
+    pub numbers: Numbers,
+    pub body: Stmts,
+}
+
+/// A defined opcode, with the line of its `opcode`.
+#[derive(Debug, Drop)]
+pub struct Udo {
+    pub line: u32,
+    pub name: Name,
+    /// The rates of the results.
+    pub outs: Rates,
+    /// The rates of the inputs.
+    pub ins: Rates,
+    /// The local names that take the inputs.
+    pub names: Names,
+    pub body: Stmts,
+    /// What `xout` gives: as many expressions as there are results.
+    pub result: Args,
+}
+
+/// An orchestra: its header lines, defined opcodes, statements outside both, and instruments, each in the order of the text.
+#[derive(Debug, Drop)]
+pub struct Orc {
+    pub head: Vec<HeadLine>,
+    pub opcodes: Vec<Udo>,
+    pub zero: Stmts,
+    pub instrs: Vec<Instr>,
+}
