@@ -1,6 +1,7 @@
 pub mod Clock
 pub mod Counts
 pub mod Events
+pub mod Held
 pub mod Limits
 pub mod Line
 pub mod Order

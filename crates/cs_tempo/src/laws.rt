@@ -1,5 +1,5 @@
 // What holds of the definitions for every score: calls that do nothing, whose contracts are the laws.
-ghost use Rattle.std.specs.Prelude.{◌≡◌, ◌≤◌, ◌+◌, ◌*◌, ◌/◌, ◌^◌, ℕ, List, None, pos, ◌+ℤ◌, ◌-ℤ◌, ◌*ℤ◌};
+ghost use Rattle.std.specs.Prelude.{◌≡◌, ◌≤◌, ◌+◌, ◌*◌, ◌/◌, ◌^◌, ℕ, List, ◌∷◌, length, None, ℤ, pos, ◌+ℤ◌, ◌-ℤ◌, ◌*ℤ◌};
 ghost use Rattle.std.specs.List.{All};
 ghost use Rattle.std.specs.List.Sorted.{IsNonDecreasingBy};
 ghost use Rattle.cs_base.specs.Numbers.{floor_div};
@@ -8,6 +8,9 @@ ghost use Rattle.cs_score.specs.Ranges.{IsInRange};
 ghost use Rattle.cs_score.specs.declared.statement.TempoPoint.{TempoPoint};
 ghost use Rattle.cs_score.specs.declared.statement.ScoreStmt.{ScoreStmt};
 ghost use Rattle.cs_tempo.specs.Time.{IsTempo, ramp_time, time_of, cycle_of};
+ghost use Rattle.cs_score.specs.declared.statement.ScoreWhat.TheVariants as ScoreWhat;
+ghost use Rattle.cs_tempo.specs.Pairing.{stop_after};
+ghost use Rattle.cs_tempo.specs.Held.{ending_stop};
 ghost use Rattle.cs_tempo.specs.Plot.{plot_of};
 ghost use Rattle.cs_tempo.specs.Limits.{cycles_in, limit_of};
 
@@ -26,6 +29,14 @@ pub fn ramps_are_rounded_down()
     ensures { (first last span x : ℕ) → 1000000 ≤ first → 1000000 ≤ last → 1 ≤ span → x ≤ span
         → pos (ramp_time first last span x) ≡ pos (first * x / 1000000)
         +ℤ floor_div ((pos last -ℤ pos first) *ℤ pos (x * x)) (pos (2 * span * 1000000)) }
+{}
+
+/// A stop ends the first held note of its instrument that sounds: a held note's stop is the first one before
+/// which it is the first that sounds.
+pub fn stops_end_the_first()
+    ensures { (h : ScoreStmt) (n at : ℕ) (given : ℤ) (more : List ℤ) (earlier later : List ScoreStmt)
+        → h.what ≡ ScoreWhat.Hold n at given more
+        → ending_stop n (length earlier) (h ∷ earlier) later ≡ stop_after n earlier later }
 {}
 
 /// The events of a plot stand in the order of their cycles, and each note ends within the plot; the plot

@@ -22,7 +22,7 @@ mod section;
 mod tests;
 mod time;
 
-pub use laws::{plots_are_in_order, ramps_are_rounded_down, time_never_falls};
+pub use laws::{plots_are_in_order, ramps_are_rounded_down, stops_end_the_first, time_never_falls};
 pub use plot::{Event, EventAct, Events, Plot};
 pub use scheduling::schedule;
 pub use time::{beat_time, cycle_of};

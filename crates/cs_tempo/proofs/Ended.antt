@@ -1,0 +1,129 @@
+-- The stop that ends a held note: by the notes that sound, and by counting.
+use Rattle.std.proofs.Common.{◌≡◌, ℕ, zero, suc, ◌<◌, Bool, true, false, cond, ◌==◌, ◌&&◌, List, [], ◌∷◌, ◌++◌, length, drop, Option, Some, None, slice_get, ℤ, arith, refl, ap, ◌∙◌, ⊎_elim, append_assoc}
+use Rattle.std.proofs.lemmas.Bool.{cases_Bool}
+use Rattle.std.proofs.lemmas.Bool.Decides.{nat_tests}
+use Rattle.std.proofs.lemmas.List.{length_push}
+use Rattle.cs_score.specs.declared.statement.ScoreWhat.{ScoreWhat}
+use Rattle.cs_score.specs.declared.statement.ScoreWhat.TheVariants.{Note, Hold, Stop, Table, Extend, Tempo, Section}
+use Rattle.cs_score.specs.declared.statement.ScoreStmt.{ScoreStmt}
+use Rattle.cs_tempo.specs.Pairing.{sounding_after, sounding, own_stop, stops_of, stop_after}
+use Rattle.cs_tempo.specs.Held.{held_after, held, ends_here, or_later, ending_stop}
+use Rattle.cs_tempo.proofs.Sorting.{Each, each_more}
+
+-- one more turn changes places and number alike
+one_more : (n place : ℕ) (w : ScoreWhat) (h : List ℕ) → length (held_after n place w h) ≡ sounding_after n w (length h)
+one_more n place (Hold instr at given more) h =
+    ⊎_elim (λ t. rw t (length_push h place)) (λ f. rw f refl) (cases_Bool (n == instr))
+one_more n place (Stop instr at) [] = ⊎_elim (λ t. rw t refl) (λ f. rw f refl) (cases_Bool (n == instr))
+one_more n place (Stop instr at) (p ∷ h) = ⊎_elim (λ t. rw t (omega arith)) (λ f. rw f refl) (cases_Bool (n == instr))
+one_more n place (Note instr at len more) h = refl
+one_more n place (Table number at size gen args) h = refl
+one_more n place (Extend at) h = refl
+one_more n place (Tempo points) h = refl
+one_more n place Section h = refl
+
+-- as many places as notes
+held_counted : (n : ℕ) (earlier : List ScoreStmt) → length (held n earlier) ≡ sounding n earlier
+unfolding held sounding
+held_counted n [] = refl
+held_counted n (s ∷ earlier) = one_more n (length earlier) s.what (held n earlier) ∙ ap (sounding_after n s.what) (held_counted n earlier)
+
+push_each : (P : ℕ → Type 0) (xs : List ℕ) (x : ℕ) → Each P xs → P x → Each P (xs ++ x ∷ [])
+push_each P [] x e p = (p, tt)
+push_each P (y ∷ ys) x e p = (e.0, push_each P ys x e.1 p)
+
+drop_one : (P : ℕ → Type 0) (xs : List ℕ) → Each P xs → Each P (drop 1 xs)
+drop_one P [] e = tt
+drop_one P (x ∷ xs) e = e.1
+
+lower_after : (n k : ℕ) (w : ScoreWhat) (h : List ℕ) → Each (λ p. p < k) h → Each (λ p. p < suc k) (held_after n k w h)
+lower_after n k (Hold instr at given more) h e =
+    let up = each_more (λ p. p < k) (λ p. p < suc k) h (λ p l. omega arith) e in
+    ⊎_elim (λ t. rw t (push_each (λ p. p < suc k) h k up (omega arith))) (λ f. rw f up) (cases_Bool (n == instr))
+lower_after n k (Stop instr at) h e =
+    let up = each_more (λ p. p < k) (λ p. p < suc k) h (λ p l. omega arith) e in
+    ⊎_elim (λ t. rw t (drop_one (λ p. p < suc k) h up)) (λ f. rw f up) (cases_Bool (n == instr))
+lower_after n k (Note instr at len more) h e = each_more (λ p. p < k) (λ p. p < suc k) h (λ p l. omega arith) e
+lower_after n k (Table number at size gen args) h e = each_more (λ p. p < k) (λ p. p < suc k) h (λ p l. omega arith) e
+lower_after n k (Extend at) h e = each_more (λ p. p < k) (λ p. p < suc k) h (λ p l. omega arith) e
+lower_after n k (Tempo points) h e = each_more (λ p. p < k) (λ p. p < suc k) h (λ p l. omega arith) e
+lower_after n k Section h e = each_more (λ p. p < k) (λ p. p < suc k) h (λ p l. omega arith) e
+
+-- every place is that of an earlier turn
+held_lower : (n : ℕ) (earlier : List ScoreStmt) → Each (λ p. p < length earlier) (held n earlier)
+unfolding held
+held_lower n [] = tt
+held_lower n (s ∷ earlier) = lower_after n (length earlier) s.what (held n earlier) (held_lower n earlier)
+
+none_there : (xs : List ℕ) (k : ℕ) → xs ≡ [] → None ≡ slice_get xs k
+none_there [] zero e = refl
+none_there [] (suc k) e = refl
+none_there (x ∷ xs) k e = absurd (cc)
+
+ended : (b c : Bool) (at : ℕ) (rest : Option ℕ) (later : List ℕ) → b ≡ true → c ≡ true →
+    or_later (cond (b && c) (Some at) None) rest ≡ slice_get (cond b (at ∷ []) [] ++ later) 0
+ended true true at rest later p q = refl
+ended true false at rest later p q = absurd (cc)
+ended false c at rest later p q = absurd (cc)
+
+sounds_on : (b c : Bool) (at k : ℕ) (rest : Option ℕ) (later : List ℕ) → b ≡ true → c ≡ false → rest ≡ slice_get later k →
+    or_later (cond (b && c) (Some at) None) rest ≡ slice_get (cond b (at ∷ []) [] ++ later) (suc k)
+sounds_on true true at k rest later p q h = absurd (cc)
+sounds_on true false at k rest later p q h = h
+sounds_on false c at k rest later p q h = absurd (cc)
+
+another : (b c : Bool) (at k : ℕ) (rest : Option ℕ) (later : List ℕ) → b ≡ false → rest ≡ slice_get later k →
+    or_later (cond (b && c) (Some at) None) rest ≡ slice_get (cond b (at ∷ []) [] ++ later) k
+another true c at k rest later p h = absurd (cc)
+another false c at k rest later p h = h
+
+apart : (a place : ℕ) → a < place → (place == a) ≡ false
+apart a place h = grind (arith, nat_tests)
+
+-- one turn: the stop ends the note, or it sounds on with those before it that still sound
+module _ (n place : ℕ) where
+  step : (k : ℕ) (w : ScoreWhat) (ahead behind : List ℕ) (rest : Option ℕ) (later : List ℕ) → Each (λ p. p < place) ahead →
+      ((front back : List ℕ) → held_after n k w (ahead ++ place ∷ behind) ≡ front ++ place ∷ back → Each (λ p. p < place) front → rest ≡ slice_get later (length front)) →
+      or_later (ends_here n place (ahead ++ place ∷ behind) w) rest ≡ slice_get (own_stop n w ++ later) (length ahead)
+  step k (Hold instr at given more) ahead behind rest later low go =
+      ⊎_elim
+      (λ t. go ahead (behind ++ k ∷ []) (rw t (append_assoc ahead (place ∷ behind) (k ∷ []))) low)
+      (λ f. go ahead behind (rw f refl) low)
+      (cases_Bool (n == instr))
+  step k (Stop instr at) [] behind rest later low go =
+      ⊎_elim
+      (λ t. ended (n == instr) (place == place) at rest later t (grind (arith, nat_tests)))
+      (λ f. another (n == instr) (place == place) at 0 rest later f (go [] behind (rw f refl) low))
+      (cases_Bool (n == instr))
+  step k (Stop instr at) (a ∷ ahead) behind rest later low go =
+      ⊎_elim
+      (λ t. sounds_on (n == instr) (place == a) at (length ahead) rest later t (apart a place low.0) (go ahead behind (rw t refl) low.1))
+      (λ f. another (n == instr) (place == a) at (suc (length ahead)) rest later f (go (a ∷ ahead) behind (rw f refl) low))
+      (cases_Bool (n == instr))
+  step k (Note instr at len more) ahead behind rest later low go = go ahead behind refl low
+  step k (Table number at size gen args) ahead behind rest later low go = go ahead behind refl low
+  step k (Extend at) ahead behind rest later low go = go ahead behind refl low
+  step k (Tempo points) ahead behind rest later low go = go ahead behind refl low
+  step k Section ahead behind rest later low go = go ahead behind refl low
+
+  counted : (ahead behind : List ℕ) (earlier later : List ScoreStmt) → held n earlier ≡ ahead ++ place ∷ behind → Each (λ p. p < place) ahead →
+      ending_stop n place earlier later ≡ slice_get (stops_of n later) (length ahead)
+  unfolding ending_stop stops_of held
+  counted ahead behind earlier [] e low = none_there [] (length ahead) refl
+  counted ahead behind earlier (s ∷ later) e low =
+      ap (λ h. or_later (ends_here n place h s.what) (ending_stop n place (s ∷ earlier) later)) e
+      ∙ step (length earlier) s.what ahead behind (ending_stop n place (s ∷ earlier) later) (stops_of n later) low
+      (λ front back e' low'. counted front back (s ∷ earlier) later (ap (held_after n (length earlier) s.what) e ∙ e') low')
+
+held_now : (n at : ℕ) (given : ℤ) (more : List ℤ) (k : ℕ) (h : List ℕ) → held_after n k (Hold n at given more) h ≡ h ++ k ∷ []
+held_now n at given more k h = let same : (n == n) ≡ true = grind (arith, nat_tests) in rw same refl
+
+-- the stop that ends a held note, where it starts as the last that sounds
+pub first_ended : (h : ScoreStmt) (n at : ℕ) (given : ℤ) (more : List ℤ) (earlier later : List ScoreStmt) → h.what ≡ Hold n at given more →
+    ending_stop n (length earlier) (h ∷ earlier) later ≡ stop_after n earlier later
+unfolding held
+first_ended h n at given more earlier later e =
+    counted n (length earlier) (held n earlier) [] (h ∷ earlier) later
+    (ap (λ w. held_after n (length earlier) w (held n earlier)) e ∙ held_now n at given more (length earlier) (held n earlier))
+    (held_lower n earlier)
+    ∙ ap (slice_get (stops_of n later)) (held_counted n earlier)
