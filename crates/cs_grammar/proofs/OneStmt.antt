@@ -11,11 +11,11 @@ use Rattle.cs_grammar.specs.declared.expr.Level.TheVariants as level
 use Rattle.cs_grammar.specs.declared.stmt.LineForm.{LineForm}
 use Rattle.cs_grammar.specs.declared.stmt.LineForm.TheVariants as form
 use Rattle.cs_grammar.specs.Symbols.{Symbol}
-use Rattle.cs_grammar.specs.Tree.{Expression, Statement, set, add_to, call, choose, Block, no_stmt, andthen, Arms, otherwise, arm}
+use Rattle.cs_grammar.specs.Tree.{Expression, Statement, call, choose, Block, no_stmt, andthen, Arms, otherwise, arm}
 use Rattle.cs_grammar.specs.Reading.{next, after, Left, Reading, left, mapped, both, three, skip, is_comma, is_then, is_elseif, is_else, is_endif, Scope, deeper, fault, misfit, through, ended}
 use Rattle.cs_grammar.specs.Parts.{is_variable}
 use Rattle.cs_grammar.specs.Lines.{line_form, misplaced_fault, no_target, target, targets, operation, operation_of, is_own, is_other_text, is_outside}
-use Rattle.cs_grammar.specs.Grammar.{ends_block, ReadsStmt, stmt_set, stmt_add, stmt_results, stmt_bare, stmt_if, stmt_beyond, stmt_misplaced, ReadsBlock, block_stop, block_end, block_more, ReadsArms, arm_more, ReadsMore, more_stop, more_elseif, more_else, more_endif}
+use Rattle.cs_grammar.specs.Grammar.{ends_block, assign, ReadsStmt, stmt_assign, stmt_results, stmt_bare, stmt_if, stmt_beyond, stmt_misplaced, ReadsBlock, block_stop, block_end, block_more, ReadsArms, arm_more, ReadsMore, more_stop, more_elseif, more_else, more_endif}
 use Rattle.cs_grammar.proofs.Sizes.{size, skip_size, mapped_size, both_size, three_size, through_size, ended_size, choice_size}
 use Rattle.cs_grammar.proofs.OneExpr.{the_expr, reads_expr, expr_size, expr_is}
 use Rattle.cs_grammar.proofs.OneList.{the_args, reads_args, args_size, args_is}
@@ -87,8 +87,7 @@ abbrev value : Scope → List Symbol → Reading Expression
 value s ts = the_expr s level.Expr (skip (left (target s ts)))
 
 abbrev stmt_by : Answers → Scope → List Symbol → LineForm → Reading Statement
-stmt_by R s ts form.Assignment = ended s (both (set (next ts).line) (target s ts) (value s ts))
-stmt_by R s ts form.Addition = ended s (both (add_to (next ts).line) (target s ts) (value s ts))
+stmt_by R s ts form.Assignment = ended s (both (assign (next ts).line (next (after ts)).kind) (target s ts) (value s ts))
 stmt_by R s ts form.Results = ended s (three (call (next ts).line) (targets s ts) (operation s (left (targets s ts))) (the_args s (left (operation s (left (targets s ts))))))
 stmt_by R s ts form.Bare = ended s (both (call (next ts).line []) (operation s (Ok ts)) (the_args s (left (operation s (Ok ts)))))
 stmt_by R s ts form.Conditional = ended s (mapped (choose (next ts).line) (R (arms (deeper s) (Ok (after ts)))))
@@ -151,8 +150,7 @@ settle {a} {o} k f = record { steps = suc k; ends = by }
 
 mutual
   stmt_settles : {s : Scope} {ts : List Symbol} {o : Reading Statement} → ReadsStmt s ts o → Settles (stmt s ts) o
-  stmt_settles {s} {ts} (stmt_set e h) = settle 0 (λ m le. ap (stmt_by (run m) s ts) e ∙ ap (λ x. ended s (both (set (next ts).line) (target s ts) x)) (expr_is h))
-  stmt_settles {s} {ts} (stmt_add e h) = settle 0 (λ m le. ap (stmt_by (run m) s ts) e ∙ ap (λ x. ended s (both (add_to (next ts).line) (target s ts) x)) (expr_is h))
+  stmt_settles {s} {ts} (stmt_assign e h) = settle 0 (λ m le. ap (stmt_by (run m) s ts) e ∙ ap (λ x. ended s (both (assign (next ts).line (next (after ts)).kind) (target s ts) x)) (expr_is h))
   stmt_settles {s} {ts} (stmt_results e h) = settle 0 (λ m le. ap (stmt_by (run m) s ts) e ∙ ap (λ x. ended s (three (call (next ts).line) (targets s ts) (operation s (left (targets s ts))) x)) (args_is h))
   stmt_settles {s} {ts} (stmt_bare e h) = settle 0 (λ m le. ap (stmt_by (run m) s ts) e ∙ ap (λ x. ended s (both (call (next ts).line []) (operation s (Ok ts)) x)) (args_is h))
   stmt_settles {s} {ts} (stmt_if e h) =
@@ -216,12 +214,9 @@ module _ (R : Answers) (n : ℕ) (ih : (b : Ask) → weight b < n → Right b (R
   sound_stmt : (s : Scope) (ts : List Symbol) → 8 * (length ts + 1) + 1 ≤ n → (f : LineForm) → line_form s ts ≡ f → Right (stmt s ts) (stmt_by R s ts f)
   sound_stmt s ts w form.Assignment e =
       let v = value s ts in
-      let o = both (set (next ts).line) (target s ts) v in
-      (stmt_set e (reads_expr s level.Expr (skip (left (target s ts)))), omega (arith, ended_size s o, both_size (set (next ts).line) (target s ts) v, expr_size s level.Expr (skip (left (target s ts))), skip_size (left (target s ts)), target_less s ts))
-  sound_stmt s ts w form.Addition e =
-      let v = value s ts in
-      let o = both (add_to (next ts).line) (target s ts) v in
-      (stmt_add e (reads_expr s level.Expr (skip (left (target s ts)))), omega (arith, ended_size s o, both_size (add_to (next ts).line) (target s ts) v, expr_size s level.Expr (skip (left (target s ts))), skip_size (left (target s ts)), target_less s ts))
+      let made = assign (next ts).line (next (after ts)).kind in
+      let o = both made (target s ts) v in
+      (stmt_assign e (reads_expr s level.Expr (skip (left (target s ts)))), omega (arith, ended_size s o, both_size made (target s ts) v, expr_size s level.Expr (skip (left (target s ts))), skip_size (left (target s ts)), target_less s ts))
   sound_stmt s ts w form.Results e =
       let p = operation s (left (targets s ts)) in
       let a = the_args s (left p) in

@@ -1,5 +1,5 @@
 -- The rules of expressions, as the parser meets them: with what a call has left in place of what the rule says is left.
-use Rattle.std.proofs.Common.{◌≡◌, ◌∙◌, Bool, true, false, List, Result, Ok, Err, Option, Some, None, refl, sym, subst}
+use Rattle.std.proofs.Common.{◌≡◌, ◌∙◌, ◌≤◌, ◌+◌, ◌-◌, ℕ, zero, suc, Bool, true, false, List, Result, Ok, Err, Option, Some, None, refl, arith, sym, ap, subst}
 use Rattle.cs_base.specs.declared.fault.Or.{Or}
 use Rattle.cs_base.specs.declared.fault.Or.TheVariants as or
 use Rattle.cs_base.specs.declared.fault.OrcFault.{OrcFault}
@@ -11,7 +11,7 @@ use Rattle.cs_grammar.specs.declared.expr.PartForm.TheVariants as part
 use Rattle.cs_grammar.specs.Symbols.{Symbol}
 use Rattle.cs_grammar.specs.Tree.{Expression, pick, apply}
 use Rattle.cs_grammar.specs.Reading.{next, after, Left, Reading, left, is_close, is_question, is_colon, Scope, through}
-use Rattle.cs_grammar.specs.Parts.{tighter, repeats, operator_of, part_form, atom}
+use Rattle.cs_grammar.specs.Parts.{tighter, rank, repeats, operator_of, part_form, atom}
 use Rattle.cs_grammar.specs.Answers.{Gives, past}
 use Rattle.cs_grammar.specs.Grammar.{ReadsExpr, ReadsTail, binary, expr_stop, no_more, one_more, one_alone, fact_call, fact_group, fact_pick, fact_alone}
 use Rattle.cs_grammar.proofs.Gives.{left_through, through_is}
@@ -62,6 +62,57 @@ module _ {s : Scope} {ts : List Symbol} (c : Expression) (us : List Symbol) (m :
   pub pick_reads : (y n : Expression) (vs ws xs rest : List Symbol) → ReadsExpr s at.Expr (Ok (after us)) (Ok (y, vs)) → past s is_colon vs ≡ Ok ws → ReadsExpr s at.Expr (Ok ws) (Ok (n, xs)) → past s is_close xs ≡ Ok rest → ReadsExpr s at.Fact (Ok ts) (Ok (pick c y n, rest))
   pick_reads y n vs ws xs rest k e g p =
       subst (ReadsExpr s at.Fact (Ok ts)) (through_is s is_close (pick c y n) xs (Ok rest) p) (fact_pick m h q k (after_colon s y vs (Ok ws) (Ok (n, xs)) e g))
+
+-- ---- levels
+
+up : {s : Scope} {st : Left} {f : OrcFault} {l m : Level} → tighter l ≡ Some m → ReadsExpr s m st (Err f) → ReadsExpr s l st (Err f)
+up e h = binary e h (no_more refl)
+
+abbrev level_of : ℕ → Level
+level_of zero = at.Fact
+level_of (suc zero) = at.Term
+level_of (suc (suc zero)) = at.Sum
+level_of (suc (suc (suc zero))) = at.Cmp
+level_of (suc (suc (suc (suc zero)))) = at.And
+level_of _ = at.Expr
+
+of_rank : (l : Level) → level_of (rank l) ≡ l
+of_rank at.Fact = refl
+of_rank at.Term = refl
+of_rank at.Sum = refl
+of_rank at.Cmp = refl
+of_rank at.And = refl
+of_rank at.Expr = refl
+
+risen : {s : Scope} {st : Left} {f : OrcFault} (n : ℕ) (l m : Level) → rank l ≡ n + rank m → ReadsExpr s m st (Err f) → ReadsExpr s l st (Err f)
+risen {s} {st} {f} zero l m e h =
+    let same : rank m ≡ rank l = omega (arith, e) in
+    subst (λ x. ReadsExpr s x st (Err f)) (sym (of_rank m) ∙ ap level_of same ∙ of_rank l) h
+risen (suc n) at.Fact m e h = absurd (omega (arith, e))
+risen (suc n) at.Term m e h = up refl (risen n at.Fact m (omega (arith, e)) h)
+risen (suc n) at.Sum m e h = up refl (risen n at.Term m (omega (arith, e)) h)
+risen (suc n) at.Cmp m e h = up refl (risen n at.Sum m (omega (arith, e)) h)
+risen (suc n) at.And m e h = up refl (risen n at.Cmp m (omega (arith, e)) h)
+risen (suc n) at.Expr m e h = up refl (risen n at.And m (omega (arith, e)) h)
+
+-- a fault at a level is one at each looser level
+pub raised : {s : Scope} {st : Left} {f : OrcFault} (l m : Level) → rank m ≤ rank l → ReadsExpr s m st (Err f) → ReadsExpr s l st (Err f)
+raised l m w h = risen (rank l - rank m) l m (omega (arith, w)) h
+
+abbrev above : Option Level → ℕ
+above (Some m) = rank m + 1
+above None = 0
+
+above_is : (l : Level) → above (tighter l) ≡ rank l
+above_is at.Fact = refl
+above_is at.Term = refl
+above_is at.Sum = refl
+above_is at.Cmp = refl
+above_is at.And = refl
+above_is at.Expr = refl
+
+pub rank_up : (l m : Level) → tighter l ≡ Some m → rank l ≡ rank m + 1
+rank_up l m e = sym (above_is l) ∙ ap above e
 
 -- ---- operators
 

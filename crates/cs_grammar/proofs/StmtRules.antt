@@ -10,11 +10,11 @@ use Rattle.std.specs.Global.{Vec}
 use Rattle.cs_grammar.specs.declared.tree.Arg.{Arg}
 use Rattle.cs_grammar.specs.declared.tree.Arm.{Arm, out-Arm}
 use Rattle.cs_grammar.specs.Symbols.{Symbol}
-use Rattle.cs_grammar.specs.Tree.{Expression, Argument, Statement, set, add_to, call, Block, no_stmt, andthen, Arms, otherwise, arm, expression, argument, statement, block, arms}
+use Rattle.cs_grammar.specs.Tree.{Expression, Argument, Statement, call, Block, no_stmt, andthen, Arms, otherwise, arm, expression, argument, statement, block, arms}
 use Rattle.cs_grammar.specs.Reading.{next, after, Left, Reading, left, mapped, both, three, skip, is_then, is_elseif, is_else, is_endif, Scope, through, ended}
 use Rattle.cs_grammar.specs.Lines.{line_form, target, targets, operation}
 use Rattle.cs_grammar.specs.Answers.{Gives, past, line_past, IsArm}
-use Rattle.cs_grammar.specs.Grammar.{ends_block, ReadsExpr, ReadsArgs, ReadsStmt, stmt_set, stmt_add, stmt_results, stmt_bare, ReadsBlock, block_stop, block_end, block_more, ReadsArms, arm_more, ReadsMore, more_stop, more_elseif, more_else, more_endif}
+use Rattle.cs_grammar.specs.Grammar.{ends_block, ReadsExpr, ReadsArgs, assign, ReadsStmt, stmt_assign, stmt_results, stmt_bare, ReadsBlock, block_stop, block_end, block_more, ReadsArms, arm_more, ReadsMore, more_stop, more_elseif, more_else, more_endif}
 use Rattle.cs_grammar.proofs.Gives.{through_is, ended_is, valued, left_valued}
 use Rattle.cs_grammar.proofs.OneStmt.{stmt_less, stmt_is, same_block}
 use Rattle.cs_grammar.proofs.Sizes.{size}
@@ -39,13 +39,9 @@ chain_in p = arms (block p.1.items) p.0.items
 -- ---- lines
 
 module _ (s : Scope) (ts : List Symbol) where
-  pub set_is : (n : Reading (List ℕ)) (e : Reading Expression) → line_form s ts ≡ form.Assignment → target s ts ≡ n → ReadsExpr s at.Expr (skip (left n)) e → ReadsStmt s ts (ended s (both (set (next ts).line) n e))
-  set_is n e f t h =
-      subst (λ o. ReadsStmt s ts (ended s (both (set (next ts).line) o e))) t (stmt_set f (subst (λ o. ReadsExpr s at.Expr (skip (left o)) e) (sym t) h))
-
-  pub add_is : (n : Reading (List ℕ)) (e : Reading Expression) → line_form s ts ≡ form.Addition → target s ts ≡ n → ReadsExpr s at.Expr (skip (left n)) e → ReadsStmt s ts (ended s (both (add_to (next ts).line) n e))
-  add_is n e f t h =
-      subst (λ o. ReadsStmt s ts (ended s (both (add_to (next ts).line) o e))) t (stmt_add f (subst (λ o. ReadsExpr s at.Expr (skip (left o)) e) (sym t) h))
+  pub assign_is : (n : Reading (List ℕ)) (e : Reading Expression) → line_form s ts ≡ form.Assignment → target s ts ≡ n → ReadsExpr s at.Expr (skip (left n)) e → ReadsStmt s ts (ended s (both (assign (next ts).line (next (after ts)).kind) n e))
+  assign_is n e f t h =
+      subst (λ o. ReadsStmt s ts (ended s (both (assign (next ts).line (next (after ts)).kind) o e))) t (stmt_assign f (subst (λ o. ReadsExpr s at.Expr (skip (left o)) e) (sym t) h))
 
   abbrev ResultsRead : Reading (List Argument) → Reading (List (List ℕ)) → Reading (List ℕ) → Type 0
   ResultsRead args n p = ReadsArgs s (left p) args → ReadsStmt s ts (ended s (three (call (next ts).line) n p args))

@@ -9,8 +9,9 @@ use Rattle.cs_grammar.specs.declared.symbol.Keyword.TheVariants as key
 use Rattle.cs_grammar.specs.declared.parser.Expected.{Expected}
 use Rattle.cs_grammar.specs.declared.parser.Expected.TheVariants as expected
 use Rattle.cs_grammar.specs.declared.expr.Level.TheVariants as level
-use Rattle.cs_grammar.specs.Tree.{Expression, Block, no_stmt, andthen, Orchestra}
-use Rattle.cs_grammar.specs.Grammar.{ReadsExpr, ReadsBlock}
+use Rattle.cs_grammar.specs.declared.tree.StmtWhat.{StmtWhat}
+use Rattle.cs_grammar.specs.Tree.{Expression, of_what, Block, no_stmt, andthen, Orchestra}
+use Rattle.cs_grammar.specs.Grammar.{ReadsExpr, ReadsStmt, ReadsBlock}
 use Rattle.cs_grammar.specs.Orchestra.{ReadsOrc}
 use Rattle.cs_grammar.specs.Symbols.{Symbol}
 use Rattle.cs_grammar.specs.Reading.{next, after, Left, Reading, left, both, mapped, through, ended, Scope, fault, misfit, is_close, is_colon, is_comma, is_question, is_text, is_then, is_elseif, is_else, is_endif, is_endin, is_endop, is_xin, is_xout}
@@ -54,6 +55,10 @@ matches expected.Endin k = is_endin k
 matches expected.Endop k = is_endop k
 matches expected.Xin k = is_xin k
 matches expected.Xout k = is_xout k
+
+-- a statement, without the end of its line, which begins at these symbols
+abbrev pub GivesLine : Scope → List Symbol → Result StmtWhat (Or OrcFault) → List Symbol → Type 0
+GivesLine s ts result rest = Gives (of_what (next ts).line) result rest (λ o. ReadsStmt s ts (ended s o))
 
 -- an arm: its condition, and its statements
 abbrev pub IsArm : Scope → List Symbol → Reading (Expression × Block) → Type 0

@@ -29,7 +29,7 @@ is_opcode s t _ = false
 abbrev pub word_form : Kind → Bool → LineForm
 word_form kind.Colon _ = form.Beyond
 word_form kind.Equals _ = form.Assignment
-word_form kind.PlusEquals _ = form.Addition
+word_form kind.PlusEquals _ = form.Assignment
 word_form kind.Comma _ = form.Results
 word_form _ true = form.Bare
 word_form k false = if is_word k then form.Results else form.Bare

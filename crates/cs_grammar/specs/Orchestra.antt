@@ -22,13 +22,18 @@ instrument_of line ns body = record { line = line; numbers = ns; body = body }
 
 -- instr: the opcodes that are defined, and the numbers that were given, before it
 pub data ReadsInstr (defined : List (List ℕ)) (given : List ℕ) : List Symbol → Reading Instrument → Type 0 where
-  instr : {ts : List Symbol} {body : Reading Block} → ReadsBlock (in_instrument defined) (left (ended (in_instrument defined) (numbers (in_instrument defined) given (after ts)))) body → ReadsInstr defined given ts (ended (outside defined) (through (in_instrument defined) is_endin (both (instrument_of (next ts).line) (numbers (in_instrument defined) given (after ts)) body)))
+  instr : {ts : List Symbol} {body : Reading Block}
+      → ReadsBlock (in_instrument defined) (left (ended (in_instrument defined) (numbers (in_instrument defined) given (after ts)))) body
+      → ReadsInstr defined given ts (ended (outside defined) (through (in_instrument defined) is_endin (both (instrument_of (next ts).line) (numbers (in_instrument defined) given (after ts)) body)))
 
 -- [ "xout" args NewLine ], up to "endop"
 pub data ReadsResult (s : Scope) (outs : List Rate) : Left → Reading (List Argument) → Type 0 where
   result_stop : {f : OrcFault} → ReadsResult s outs (Err f) (Err f)
-  result_none : {ts : List Symbol} → is_xout (next ts).kind ≡ false → ReadsResult s outs (Ok ts) (no_results outs ts)
-  result_given : {ts : List Symbol} {args : Reading (List Argument)} → is_xout (next ts).kind ≡ true → ReadsList s (Ok (after ts)) args → ReadsResult s outs (Ok ts) (results_of s (next ts).line outs (ended s args))
+  result_none : {ts : List Symbol} → is_xout (next ts).kind ≡ false
+      → ReadsResult s outs (Ok ts) (no_results outs ts)
+  result_given : {ts : List Symbol} {args : Reading (List Argument)} → is_xout (next ts).kind ≡ true
+      → ReadsList s (Ok (after ts)) args
+      → ReadsResult s outs (Ok ts) (results_of s (next ts).line outs (ended s args))
 
 abbrev pub definition_of : Heading → List (List ℕ) → Block → List Argument → Definition
 definition_of h names body result = record {
@@ -46,8 +51,14 @@ own_scope defined h = in_definition h.name defined
 
 -- udo: a definition may call what is defined before it
 pub data ReadsDefinition (defined : List (List ℕ)) : List Symbol → Reading Definition → Type 0 where
-  no_heading : {ts : List Symbol} {f : OrcFault} → heading (in_definition [] defined) (next ts).line (after ts) ≡ Err f → ReadsDefinition defined ts (Err f)
-  udo : {ts us : List Symbol} {h : Heading} {body : Reading Block} {result : Reading (List Argument)} → heading (in_definition [] defined) (next ts).line (after ts) ≡ Ok (h, us) → ReadsBlock (own_scope defined h) (left (inputs (own_scope defined h) h us)) body → ReadsResult (own_scope defined h) h.outs (left body) result → ReadsDefinition defined ts (ended (outside defined) (through (own_scope defined h) is_endop (three (definition_of h) (inputs (own_scope defined h) h us) body result)))
+  no_heading : {ts : List Symbol} {f : OrcFault}
+      → heading (in_definition [] defined) (next ts).line (after ts) ≡ Err f
+      → ReadsDefinition defined ts (Err f)
+  udo : {ts us : List Symbol} {h : Heading} {body : Reading Block} {result : Reading (List Argument)}
+      → heading (in_definition [] defined) (next ts).line (after ts) ≡ Ok (h, us)
+      → ReadsBlock (own_scope defined h) (left (inputs (own_scope defined h) h us)) body
+      → ReadsResult (own_scope defined h) h.outs (left body) result
+      → ReadsDefinition defined ts (ended (outside defined) (through (own_scope defined h) is_endop (three (definition_of h) (inputs (own_scope defined h) h us) body result)))
 
 -- what stands outside instruments and definitions
 abbrev pub item_form_of : Kind → Bool → ItemForm
@@ -87,11 +98,20 @@ given_by given (Err f) = given
 -- orc
 pub data ReadsOrc : List (List ℕ) → List ℕ → Left → Reading Orchestra → Type 0 where
   orc_stop : {d : List (List ℕ)} {g : List ℕ} {f : OrcFault} → ReadsOrc d g (Err f) (Err f)
-  orc_end : {d : List (List ℕ)} {g : List ℕ} {ts : List Symbol} → item_form ts ≡ item.End → ReadsOrc d g (Ok ts) (Ok (nothing, ts))
-  orc_header : {d : List (List ℕ)} {g : List ℕ} {ts : List Symbol} {h : HeadName} {out : Reading Orchestra} → item_form ts ≡ item.Header h → ReadsOrc d g (left (header_line (outside d) h ts)) out → ReadsOrc d g (Ok ts) (both with_header (header_line (outside d) h ts) out)
-  orc_instr : {d : List (List ℕ)} {g : List ℕ} {ts : List Symbol} {o : Reading Instrument} {out : Reading Orchestra} → item_form ts ≡ item.Instr → ReadsInstr d g ts o → ReadsOrc d (given_by g o) (left o) out → ReadsOrc d g (Ok ts) (both with_instr o out)
-  orc_udo : {d : List (List ℕ)} {g : List ℕ} {ts : List Symbol} {o : Reading Definition} {out : Reading Orchestra} → item_form ts ≡ item.Opcode → ReadsDefinition d ts o → ReadsOrc (defined_by d o) g (left o) out → ReadsOrc d g (Ok ts) (both with_definition o out)
-  orc_stmt : {d : List (List ℕ)} {g : List ℕ} {ts : List Symbol} {o : Reading Statement} {out : Reading Orchestra} → item_form ts ≡ item.Statement → ReadsStmt (outside d) ts o → ReadsOrc d g (left o) out → ReadsOrc d g (Ok ts) (both with_stmt o out)
+  orc_end : {d : List (List ℕ)} {g : List ℕ} {ts : List Symbol} → item_form ts ≡ item.End
+      → ReadsOrc d g (Ok ts) (Ok (nothing, ts))
+  orc_header : {d : List (List ℕ)} {g : List ℕ} {ts : List Symbol} {h : HeadName} {out : Reading Orchestra}
+      → item_form ts ≡ item.Header h → ReadsOrc d g (left (header_line (outside d) h ts)) out
+      → ReadsOrc d g (Ok ts) (both with_header (header_line (outside d) h ts) out)
+  orc_instr : {d : List (List ℕ)} {g : List ℕ} {ts : List Symbol} {o : Reading Instrument} {out : Reading Orchestra}
+      → item_form ts ≡ item.Instr → ReadsInstr d g ts o → ReadsOrc d (given_by g o) (left o) out
+      → ReadsOrc d g (Ok ts) (both with_instr o out)
+  orc_udo : {d : List (List ℕ)} {g : List ℕ} {ts : List Symbol} {o : Reading Definition} {out : Reading Orchestra}
+      → item_form ts ≡ item.Opcode → ReadsDefinition d ts o → ReadsOrc (defined_by d o) g (left o) out
+      → ReadsOrc d g (Ok ts) (both with_definition o out)
+  orc_stmt : {d : List (List ℕ)} {g : List ℕ} {ts : List Symbol} {o : Reading Statement} {out : Reading Orchestra}
+      → item_form ts ≡ item.Statement → ReadsStmt (outside d) ts o → ReadsOrc d g (left o) out
+      → ReadsOrc d g (Ok ts) (both with_stmt o out)
 
 -- the reading of a text's tokens, from the first to End
 abbrev pub Parses : List ℕ → List Token → Reading Orchestra → Type 0

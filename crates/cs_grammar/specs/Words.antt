@@ -1,5 +1,7 @@
-use Rattle.std.specs.Prelude.{ℕ, Bool, false, List, [], ◌∷◌, ◌+◌, ◌-◌, ◌*◌, ◌&&◌, ◌||◌, ◌==◌, codes, Option, Some, None, if◌then◌else◌, nat_le, map}
+use Rattle.std.specs.Prelude.{ℕ, Bool, false, List, [], ◌∷◌, ◌+◌, ◌-◌, ◌*◌, ◌&&◌, ◌||◌, ◌==◌, codes, Option, Some, None, if◌then◌else◌, nat_le}
 use Rattle.std.specs.Str.{bytes_eq}
+use Rattle.std.specs.List.{list_any}
+use Rattle.std.specs.Borrow.{Bor}
 use Rattle.std.specs.Char.{is_ascii_digit}
 use Rattle.cs_ir.specs.declared.catalogue.OpInfo.{OpInfo}
 use Rattle.cs_ir.specs.Catalogue.{named, opcodes}
@@ -7,7 +9,6 @@ use Rattle.cs_grammar.specs.declared.tree.HeadName.TheVariants as head
 use Rattle.cs_grammar.specs.declared.tree.BinOp.TheVariants as op
 use Rattle.cs_grammar.specs.declared.tree.Func.TheVariants as func
 use Rattle.cs_grammar.specs.declared.symbol.Keyword.TheVariants as key
-use Rattle.cs_grammar.specs.declared.words.Row.{Row as CodeRow}
 use Rattle.cs_grammar.specs.declared.symbol.Kind.{Kind}
 use Rattle.cs_grammar.specs.declared.symbol.Kind.TheVariants as kind
 
@@ -20,9 +21,9 @@ abbrev pub row : List ℕ → Kind → Row
 row spelling k = record { spelling = spelling; kind = k }
 
 -- the rows of a table in the code
-abbrev pub rows : List CodeRow → List Row
+abbrev pub rows : List (Bor (List ℕ) × Kind) → List Row
 rows [] = []
-rows (r ∷ rs) = row r.spelling.now r.kind ∷ rows rs
+rows ((spelling, k) ∷ rs) = row spelling.now k ∷ rows rs
 
 -- what the first row with this spelling says, or else something else
 abbrev pub looked_up : List Row → List ℕ → Kind → Kind
@@ -71,8 +72,8 @@ foreign_words =
     codes "exp" ∷ codes "log" ∷ codes "sin" ∷ codes "cos" ∷ codes "tan" ∷ codes "pow" ∷
     []
 
-abbrev pub foreign : List Row
-foreign = map (λ w. row w kind.Foreign) foreign_words
+abbrev pub is_foreign : List ℕ → Bool
+is_foreign bytes = list_any (bytes_eq bytes) foreign_words
 
 -- a letter for a rate
 abbrev pub is_rate_letter : ℕ → Bool
@@ -104,7 +105,8 @@ name_or_word bytes = if is_name bytes then kind.Name else kind.Word
 -- a word that is no keyword, value or opcode: foreign, a field, a name, or any other
 abbrev pub plain_word : List ℕ → Kind
 plain_word bytes =
-    looked_up foreign bytes (if field_of bytes == 0 then name_or_word bytes else kind.Field (field_of bytes))
+    if is_foreign bytes then kind.Foreign
+    else (if field_of bytes == 0 then name_or_word bytes else kind.Field (field_of bytes))
 
 -- an opcode of the catalogue, or else a plain word
 abbrev pub opcode_or : Option OpInfo → List ℕ → Kind

@@ -1,5 +1,5 @@
 // Expressions: levels of operators, and the parts between them.
-ghost use Rattle.std.specs.Prelude.{◌≡◌, ◌≤◌, List, Ok, Some, IfOk, IfErr, length, true};
+ghost use Rattle.std.specs.Prelude.{◌≡◌, ◌≤◌, List, Ok, Some, None, IfOk, IfErr, IfSome, length, true};
 ghost use Rattle.cs_base.specs.declared.fault.Or.TheVariants as or;
 ghost use Rattle.cs_base.specs.declared.fault.OrcKind.TheVariants as orc;
 ghost use Rattle.cs_grammar.specs.declared.expr.Level.TheVariants as at;
@@ -7,9 +7,9 @@ ghost use Rattle.cs_grammar.specs.declared.expr.PartForm.TheVariants as part;
 ghost use Rattle.cs_grammar.specs.Tree.{expression, neg, pair, pick, apply};
 ghost use Rattle.cs_grammar.specs.Symbols.{Symbol};
 ghost use Rattle.cs_grammar.specs.Reading.{next, after, is_word, is_question};
-ghost use Rattle.cs_grammar.specs.Parts.{tighter, is_at, repeats, operator_of, part_form, part_form_of, no_part, atom};
+ghost use Rattle.cs_grammar.specs.Parts.{tighter, rank, is_at, repeats, operator_of, part_form, part_form_of, no_part, atom};
 ghost use Rattle.cs_grammar.specs.Answers.{Gives};
-ghost use Rattle.cs_grammar.specs.Grammar.{ReadsExpr};
+ghost use Rattle.cs_grammar.specs.Grammar.{ReadsExpr, ReadsTail};
 
 use crate::parser::{Expected, Parser};
 use crate::scope::Scope;
@@ -29,16 +29,22 @@ pub enum Level {
 }
 
 impl Level {
-    fn tighter(self) -> Option<Level>
-        ensures { result ≡ tighter self }
+    // The next looser level, up to a last one.
+    fn looser(self, last: Level) -> Option<Level>
+        requires { rank self ≤ rank last }
+        ensures next { IfSome result (λ l. (tighter l ≡ Some self) × (rank l ≤ rank last)) }
+        ensures end { result ≡ None → self ≡ last }
     {
+        if self == last {
+            return None;
+        }
         match self {
-            Level::Expr => Some(Level::And),
-            Level::And => Some(Level::Cmp),
-            Level::Cmp => Some(Level::Sum),
-            Level::Sum => Some(Level::Term),
-            Level::Term => Some(Level::Fact),
-            Level::Fact => None,
+            Level::Expr => None,
+            Level::And => Some(Level::Expr),
+            Level::Cmp => Some(Level::And),
+            Level::Sum => Some(Level::Cmp),
+            Level::Term => Some(Level::Sum),
+            Level::Fact => Some(Level::Term),
         }
     }
 
@@ -152,26 +158,36 @@ impl<'s> Parser<'s> {
         Ok(part)
     }
 
-    /// Reads an expression of a level.
+    /// Reads an expression of a level: a part, and then the operators of each level up to it, the tightest first. So a
+    /// bracket takes the stack of one call of `expr`, and not of one for each level.
     #[cycle(expr)]
     pub fn expr(&mut self, scope: &Scope, level: Level) -> Result<Expr, Or<OrcFault>>
         ensures reads { Gives expression result self.new (ReadsExpr scope.now level (Ok self.old)) }
         ensures goes { length self.new ≤ length self.old }
     {
-        match level.tighter() {
-            Some(inner) => self.operands(scope, level, inner),
-            None => self.fact(scope, level),
+        let mut value = self.fact(scope)?;
+        let mut inner = Level::Fact;
+        while let Some(outer) = inner.looser(level) {
+            value = self.operators(scope, outer, inner, value)?;
+            inner = outer;
         }
+        Ok(value)
     }
 
-    // Operands of the next tighter level, with operators of the level between them, grouped to the left.
+    // The operators of a level behind its first operand, with their right sides; they group to the left.
     #[cycle(expr)]
-    fn operands(&mut self, scope: &Scope, level: Level, inner: Level) -> Result<Expr, Or<OrcFault>>
+    fn operators(
+        &mut self,
+        scope: &Scope,
+        level: Level,
+        inner: Level,
+        first: Expr,
+    ) -> Result<Expr, Or<OrcFault>>
         requires { tighter level ≡ Some inner }
-        ensures reads { Gives expression result self.new (ReadsExpr scope.now level (Ok self.old)) }
+        ensures reads { Gives expression result self.new (ReadsTail scope.now level (Ok (expression first, self.old))) }
         ensures goes { length self.new ≤ length self.old }
     {
-        let mut left = self.expr(scope, inner)?;
+        let mut left = first;
         while let Some(op) = level.operator(self.kind()) {
             self.skip();
             let right = self.expr(scope, inner)?;
@@ -222,8 +238,7 @@ impl<'s> Parser<'s> {
     }
 
     #[cycle(expr)]
-    fn fact(&mut self, scope: &Scope, level: Level) -> Result<Expr, Or<OrcFault>>
-        requires { level ≡ at.Fact }
+    fn fact(&mut self, scope: &Scope) -> Result<Expr, Or<OrcFault>>
         ensures reads { Gives expression result self.new (ReadsExpr scope.now at.Fact (Ok self.old)) }
         ensures goes { length self.new ≤ length self.old }
     {
@@ -242,7 +257,7 @@ impl<'s> Parser<'s> {
         ensures goes { length self.new ≤ length self.old }
     {
         self.skip();
-        let part = self.expr(scope, Level::Fact)?;
+        let part = self.fact(scope)?;
         self.negated(part)
     }
 

@@ -1,28 +1,26 @@
 // Statements, and the ones in an `if`.
-ghost use Rattle.std.specs.Prelude.{◌≡◌, ◌≢◌, ◌≤◌, ◌<◌, Ok, length, false};
+ghost use Rattle.std.specs.Prelude.{◌≡◌, ◌≢◌, ◌≤◌, ◌<◌, ℕ, Ok, length, false};
 ghost use Rattle.cs_base.specs.declared.fault.Or.TheVariants as or;
 ghost use Rattle.cs_grammar.specs.declared.stmt.LineForm.TheVariants as form;
 ghost use Rattle.cs_grammar.specs.declared.tree.Arm.{out-Arm};
 ghost use Rattle.cs_grammar.specs.Tree.{expression, of_what, statement, block, arms, otherwise};
-ghost use Rattle.cs_grammar.specs.Reading.{next, is_elseif, ended};
+ghost use Rattle.cs_grammar.specs.Reading.{next, is_elseif};
 ghost use Rattle.cs_grammar.specs.Lines.{is_opcode, word_form, line_form, misplaced_fault};
-ghost use Rattle.cs_grammar.specs.Answers.{Gives, IsArm};
-ghost use Rattle.cs_grammar.specs.Grammar.{ends_block, ReadsStmt, ReadsBlock, ReadsArms, ReadsMore};
+ghost use Rattle.cs_grammar.specs.Answers.{Gives, GivesLine, IsArm};
+ghost use Rattle.cs_grammar.specs.Grammar.{assign, ends_block, ReadsStmt, ReadsBlock, ReadsArms, ReadsMore};
 
 use crate::expr::Level;
 use crate::parser::{Expected, Parser};
 use crate::scope::{Place, Scope};
 use crate::symbol::{Keyword, Kind};
-use crate::tree::{Arm, Arms, OrcStmt, StmtWhat, Stmts};
-use cs_base::{Names, Or, OrcFault, OrcKind};
+use crate::tree::{Arm, Arms, Expr, OrcStmt, StmtWhat, Stmts};
+use cs_base::{Name, Names, Or, OrcFault, OrcKind};
 
 /// How a line is read: by its first word and the symbol after it.
 #[derive(Clone, Copy, Debug, PartialEq, Eq)]
 pub enum LineForm {
-    /// `name = ..`
+    /// `name = ..` or `name += ..`
     Assignment,
-    /// `name += ..`
-    Addition,
     /// Results, then an opcode.
     Results,
     /// An opcode without results.
@@ -43,13 +41,22 @@ impl LineForm {
     {
         match second {
             Kind::Colon => LineForm::Beyond,
-            Kind::Equals => LineForm::Assignment,
-            Kind::PlusEquals => LineForm::Addition,
+            Kind::Equals | Kind::PlusEquals => LineForm::Assignment,
             Kind::Comma => LineForm::Results,
             _ if opcode => LineForm::Bare,
             kind if kind.is_word() => LineForm::Results,
             _ => LineForm::Bare,
         }
+    }
+}
+
+// What `name = ..` or `name += ..` does, by its sign.
+fn assigned(sign: Kind, name: Name, value: Expr) -> StmtWhat
+    ensures { (line : ℕ) → of_what line result ≡ assign line sign name (expression value) }
+{
+    match sign {
+        Kind::PlusEquals => StmtWhat::AddTo(name, value),
+        _ => StmtWhat::Set(name, value),
     }
 }
 
@@ -119,13 +126,11 @@ impl<'s> Parser<'s> {
 
     #[cycle(stmt)]
     fn what(&mut self, scope: &Scope) -> Result<StmtWhat, Or<OrcFault>>
-        ensures reads { Gives (of_what (next self.old).line) result self.new
-            (λ o. ReadsStmt scope.now self.old (ended scope.now o)) }
+        ensures reads { GivesLine scope.now self.old result self.new }
         ensures goes { length self.new ≤ length self.old }
     {
         match self.line_form(scope) {
-            LineForm::Assignment => self.set(scope),
-            LineForm::Addition => self.add_to(scope),
+            LineForm::Assignment => self.assignment(scope),
             LineForm::Results => self.call_with_results(scope),
             LineForm::Bare => self.bare_call(scope),
             LineForm::Conditional => self.conditional(scope),
@@ -134,34 +139,21 @@ impl<'s> Parser<'s> {
         }
     }
 
-    fn set(&mut self, scope: &Scope) -> Result<StmtWhat, Or<OrcFault>>
+    fn assignment(&mut self, scope: &Scope) -> Result<StmtWhat, Or<OrcFault>>
         requires { line_form scope.now self.old ≡ form.Assignment }
-        ensures reads { Gives (of_what (next self.old).line) result self.new
-            (λ o. ReadsStmt scope.now self.old (ended scope.now o)) }
+        ensures reads { GivesLine scope.now self.old result self.new }
         ensures goes { length self.new ≤ length self.old }
     {
+        let sign = self.second();
         let name = self.target(scope)?;
         self.skip();
         let value = self.expr(scope, Level::Expr)?;
-        Ok(StmtWhat::Set(name, value))
-    }
-
-    fn add_to(&mut self, scope: &Scope) -> Result<StmtWhat, Or<OrcFault>>
-        requires { line_form scope.now self.old ≡ form.Addition }
-        ensures reads { Gives (of_what (next self.old).line) result self.new
-            (λ o. ReadsStmt scope.now self.old (ended scope.now o)) }
-        ensures goes { length self.new ≤ length self.old }
-    {
-        let name = self.target(scope)?;
-        self.skip();
-        let value = self.expr(scope, Level::Expr)?;
-        Ok(StmtWhat::AddTo(name, value))
+        Ok(assigned(sign, name, value))
     }
 
     fn call_with_results(&mut self, scope: &Scope) -> Result<StmtWhat, Or<OrcFault>>
         requires { line_form scope.now self.old ≡ form.Results }
-        ensures reads { Gives (of_what (next self.old).line) result self.new
-            (λ o. ReadsStmt scope.now self.old (ended scope.now o)) }
+        ensures reads { GivesLine scope.now self.old result self.new }
         ensures goes { length self.new ≤ length self.old }
     {
         let results = self.targets(scope)?;
@@ -172,8 +164,7 @@ impl<'s> Parser<'s> {
 
     fn bare_call(&mut self, scope: &Scope) -> Result<StmtWhat, Or<OrcFault>>
         requires { line_form scope.now self.old ≡ form.Bare }
-        ensures reads { Gives (of_what (next self.old).line) result self.new
-            (λ o. ReadsStmt scope.now self.old (ended scope.now o)) }
+        ensures reads { GivesLine scope.now self.old result self.new }
         ensures goes { length self.new ≤ length self.old }
     {
         let opcode = self.operation(scope)?;
@@ -185,8 +176,7 @@ impl<'s> Parser<'s> {
     fn conditional(&mut self, scope: &Scope) -> Result<StmtWhat, Or<OrcFault>>
         requires form { line_form scope.now self.old ≡ form.Conditional }
         requires shallow { scope.now.depth < 100 }
-        ensures reads { Gives (of_what (next self.old).line) result self.new
-            (λ o. ReadsStmt scope.now self.old (ended scope.now o)) }
+        ensures reads { GivesLine scope.now self.old result self.new }
         ensures goes { length self.new ≤ length self.old }
     {
         self.skip();

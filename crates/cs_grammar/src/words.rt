@@ -1,206 +1,75 @@
 // Which word and which sign is what.
 ghost use Rattle.std.specs.Prelude.{◌≡◌, List, ℕ};
+ghost use Rattle.std.specs.List.{list_any};
 ghost use Rattle.std.specs.Str.{bytes_eq};
-ghost use Rattle.cs_grammar.specs.Words.{keywords, values, signs, operators, foreign, name_or_word, looked_up, is_rate_letter, is_name, is_leading, field_of, plain_word, kind_of_word, kind_of_sign, rows};
+ghost use Rattle.cs_grammar.specs.Words.{keywords, values, signs, operators, is_foreign, name_or_word, looked_up, is_rate_letter, is_name, is_leading, field_of, plain_word, kind_of_word, kind_of_sign, rows};
 
 use crate::symbol::{Keyword, Kind};
 use crate::tree::{BinOp, Func, HeadName};
 use cs_ir::find_opcode;
 
-/// A spelling, and what it stands for.
-#[derive(Clone, Copy)]
-struct Row {
-    spelling: &'static str,
-    kind: Kind,
-}
-
-impl Row {
-    fn spells(&self, bytes: &[u8]) -> bool
-        ensures { result ≡ bytes_eq bytes.now self.now.spelling.now }
-    {
-        bytes == self.spelling.as_bytes()
-    }
-}
-
-const KEYWORDS: [Row; 11] = [
-    Row {
-        spelling: "instr",
-        kind: Kind::Keyword(Keyword::Instr),
-    },
-    Row {
-        spelling: "endin",
-        kind: Kind::Keyword(Keyword::Endin),
-    },
-    Row {
-        spelling: "if",
-        kind: Kind::Keyword(Keyword::If),
-    },
-    Row {
-        spelling: "then",
-        kind: Kind::Keyword(Keyword::Then),
-    },
-    Row {
-        spelling: "elseif",
-        kind: Kind::Keyword(Keyword::Elseif),
-    },
-    Row {
-        spelling: "else",
-        kind: Kind::Keyword(Keyword::Else),
-    },
-    Row {
-        spelling: "endif",
-        kind: Kind::Keyword(Keyword::Endif),
-    },
-    Row {
-        spelling: "opcode",
-        kind: Kind::Keyword(Keyword::Opcode),
-    },
-    Row {
-        spelling: "endop",
-        kind: Kind::Keyword(Keyword::Endop),
-    },
-    Row {
-        spelling: "xin",
-        kind: Kind::Keyword(Keyword::Xin),
-    },
-    Row {
-        spelling: "xout",
-        kind: Kind::Keyword(Keyword::Xout),
-    },
+/// Keywords, by their spelling.
+const KEYWORDS: [(&str, Kind); 11] = [
+    ("instr", Kind::Keyword(Keyword::Instr)),
+    ("endin", Kind::Keyword(Keyword::Endin)),
+    ("if", Kind::Keyword(Keyword::If)),
+    ("then", Kind::Keyword(Keyword::Then)),
+    ("elseif", Kind::Keyword(Keyword::Elseif)),
+    ("else", Kind::Keyword(Keyword::Else)),
+    ("endif", Kind::Keyword(Keyword::Endif)),
+    ("opcode", Kind::Keyword(Keyword::Opcode)),
+    ("endop", Kind::Keyword(Keyword::Endop)),
+    ("xin", Kind::Keyword(Keyword::Xin)),
+    ("xout", Kind::Keyword(Keyword::Xout)),
 ];
 
 /// Header names and functions.
-const VALUES: [Row; 11] = [
-    Row {
-        spelling: "sr",
-        kind: Kind::Header(HeadName::Sr),
-    },
-    Row {
-        spelling: "kr",
-        kind: Kind::Header(HeadName::Kr),
-    },
-    Row {
-        spelling: "ksmps",
-        kind: Kind::Header(HeadName::Ksmps),
-    },
-    Row {
-        spelling: "nchnls",
-        kind: Kind::Header(HeadName::Nchnls),
-    },
-    Row {
-        spelling: "0dbfs",
-        kind: Kind::Header(HeadName::Dbfs),
-    },
-    Row {
-        spelling: "int",
-        kind: Kind::Func(Func::Int),
-    },
-    Row {
-        spelling: "frac",
-        kind: Kind::Func(Func::Frac),
-    },
-    Row {
-        spelling: "abs",
-        kind: Kind::Func(Func::Abs),
-    },
-    Row {
-        spelling: "floor",
-        kind: Kind::Func(Func::Floor),
-    },
-    Row {
-        spelling: "cpspch",
-        kind: Kind::Func(Func::Cpspch),
-    },
-    Row {
-        spelling: "i",
-        kind: Kind::Func(Func::I),
-    },
+const VALUES: [(&str, Kind); 11] = [
+    ("sr", Kind::Header(HeadName::Sr)),
+    ("kr", Kind::Header(HeadName::Kr)),
+    ("ksmps", Kind::Header(HeadName::Ksmps)),
+    ("nchnls", Kind::Header(HeadName::Nchnls)),
+    ("0dbfs", Kind::Header(HeadName::Dbfs)),
+    ("int", Kind::Func(Func::Int)),
+    ("frac", Kind::Func(Func::Frac)),
+    ("abs", Kind::Func(Func::Abs)),
+    ("floor", Kind::Func(Func::Floor)),
+    ("cpspch", Kind::Func(Func::Cpspch)),
+    ("i", Kind::Func(Func::I)),
 ];
 
-const SIGNS: [Row; 7] = [
-    Row {
-        spelling: "(",
-        kind: Kind::Open,
-    },
-    Row {
-        spelling: ")",
-        kind: Kind::Close,
-    },
-    Row {
-        spelling: ",",
-        kind: Kind::Comma,
-    },
-    Row {
-        spelling: "=",
-        kind: Kind::Equals,
-    },
-    Row {
-        spelling: "+=",
-        kind: Kind::PlusEquals,
-    },
-    Row {
-        spelling: "?",
-        kind: Kind::Question,
-    },
-    Row {
-        spelling: ":",
-        kind: Kind::Colon,
-    },
+const SIGNS: [(&str, Kind); 7] = [
+    ("(", Kind::Open),
+    (")", Kind::Close),
+    (",", Kind::Comma),
+    ("=", Kind::Equals),
+    ("+=", Kind::PlusEquals),
+    ("?", Kind::Question),
+    (":", Kind::Colon),
 ];
 
-const OPERATORS: [Row; 13] = [
-    Row {
-        spelling: "||",
-        kind: Kind::Operator(BinOp::Or),
-    },
-    Row {
-        spelling: "&&",
-        kind: Kind::Operator(BinOp::And),
-    },
-    Row {
-        spelling: "<",
-        kind: Kind::Operator(BinOp::Less),
-    },
-    Row {
-        spelling: ">",
-        kind: Kind::Operator(BinOp::Greater),
-    },
-    Row {
-        spelling: "<=",
-        kind: Kind::Operator(BinOp::LessEqual),
-    },
-    Row {
-        spelling: ">=",
-        kind: Kind::Operator(BinOp::GreaterEqual),
-    },
-    Row {
-        spelling: "==",
-        kind: Kind::Operator(BinOp::Equal),
-    },
-    Row {
-        spelling: "!=",
-        kind: Kind::Operator(BinOp::NotEqual),
-    },
-    Row {
-        spelling: "+",
-        kind: Kind::Operator(BinOp::Add),
-    },
-    Row {
-        spelling: "-",
-        kind: Kind::Operator(BinOp::Sub),
-    },
-    Row {
-        spelling: "*",
-        kind: Kind::Operator(BinOp::Mul),
-    },
-    Row {
-        spelling: "/",
-        kind: Kind::Operator(BinOp::Div),
-    },
-    Row {
-        spelling: "%",
-        kind: Kind::Operator(BinOp::Rem),
-    },
+const OPERATORS: [(&str, Kind); 13] = [
+    ("||", Kind::Operator(BinOp::Or)),
+    ("&&", Kind::Operator(BinOp::And)),
+    ("<", Kind::Operator(BinOp::Less)),
+    (">", Kind::Operator(BinOp::Greater)),
+    ("<=", Kind::Operator(BinOp::LessEqual)),
+    (">=", Kind::Operator(BinOp::GreaterEqual)),
+    ("==", Kind::Operator(BinOp::Equal)),
+    ("!=", Kind::Operator(BinOp::NotEqual)),
+    ("+", Kind::Operator(BinOp::Add)),
+    ("-", Kind::Operator(BinOp::Sub)),
+    ("*", Kind::Operator(BinOp::Mul)),
+    ("/", Kind::Operator(BinOp::Div)),
+    ("%", Kind::Operator(BinOp::Rem)),
+];
+
+/// The words of Csound that the profile leaves out.
+const FOREIGN: [&str; 41] = [
+    "goto", "igoto", "kgoto", "cigoto", "ckgoto", "cngoto", "timout", "reinit", "rigoto",
+    "rireturn", "while", "until", "do", "od", "fi", "ithen", "kthen", "turnoff2", "event", "ftgen",
+    "tone", "atone", "reson", "areson", "comb", "alpass", "expseg", "expon", "rand", "randi",
+    "randh", "ampdb", "ampdbfs", "dbamp", "sqrt", "exp", "log", "sin", "cos", "tan", "pow",
 ];
 
 /// What a word is.
@@ -245,194 +114,28 @@ fn operator_or(sign: &[u8], other: Kind) -> Kind
     looked_up(&OPERATORS, sign, other)
 }
 
-// The first row with the spelling, or else the other.
-fn looked_up(table: &[Row], bytes: &[u8], other: Kind) -> Kind
+// What the first row with the spelling says, or else the other.
+fn looked_up(table: &[(&str, Kind)], bytes: &[u8], other: Kind) -> Kind
     ensures { result ≡ looked_up (rows table.now) bytes.now other }
 {
-    for row in table {
-        if row.spells(bytes) {
-            return row.kind;
+    for (spelling, kind) in table {
+        if bytes == spelling.as_bytes() {
+            return *kind;
         }
     }
     other
 }
 
-/// The words of Csound that the profile leaves out.
-const FOREIGN: [Row; 41] = [
-    Row {
-        spelling: "goto",
-        kind: Kind::Foreign,
-    },
-    Row {
-        spelling: "igoto",
-        kind: Kind::Foreign,
-    },
-    Row {
-        spelling: "kgoto",
-        kind: Kind::Foreign,
-    },
-    Row {
-        spelling: "cigoto",
-        kind: Kind::Foreign,
-    },
-    Row {
-        spelling: "ckgoto",
-        kind: Kind::Foreign,
-    },
-    Row {
-        spelling: "cngoto",
-        kind: Kind::Foreign,
-    },
-    Row {
-        spelling: "timout",
-        kind: Kind::Foreign,
-    },
-    Row {
-        spelling: "reinit",
-        kind: Kind::Foreign,
-    },
-    Row {
-        spelling: "rigoto",
-        kind: Kind::Foreign,
-    },
-    Row {
-        spelling: "rireturn",
-        kind: Kind::Foreign,
-    },
-    Row {
-        spelling: "while",
-        kind: Kind::Foreign,
-    },
-    Row {
-        spelling: "until",
-        kind: Kind::Foreign,
-    },
-    Row {
-        spelling: "do",
-        kind: Kind::Foreign,
-    },
-    Row {
-        spelling: "od",
-        kind: Kind::Foreign,
-    },
-    Row {
-        spelling: "fi",
-        kind: Kind::Foreign,
-    },
-    Row {
-        spelling: "ithen",
-        kind: Kind::Foreign,
-    },
-    Row {
-        spelling: "kthen",
-        kind: Kind::Foreign,
-    },
-    Row {
-        spelling: "turnoff2",
-        kind: Kind::Foreign,
-    },
-    Row {
-        spelling: "event",
-        kind: Kind::Foreign,
-    },
-    Row {
-        spelling: "ftgen",
-        kind: Kind::Foreign,
-    },
-    Row {
-        spelling: "tone",
-        kind: Kind::Foreign,
-    },
-    Row {
-        spelling: "atone",
-        kind: Kind::Foreign,
-    },
-    Row {
-        spelling: "reson",
-        kind: Kind::Foreign,
-    },
-    Row {
-        spelling: "areson",
-        kind: Kind::Foreign,
-    },
-    Row {
-        spelling: "comb",
-        kind: Kind::Foreign,
-    },
-    Row {
-        spelling: "alpass",
-        kind: Kind::Foreign,
-    },
-    Row {
-        spelling: "expseg",
-        kind: Kind::Foreign,
-    },
-    Row {
-        spelling: "expon",
-        kind: Kind::Foreign,
-    },
-    Row {
-        spelling: "rand",
-        kind: Kind::Foreign,
-    },
-    Row {
-        spelling: "randi",
-        kind: Kind::Foreign,
-    },
-    Row {
-        spelling: "randh",
-        kind: Kind::Foreign,
-    },
-    Row {
-        spelling: "ampdb",
-        kind: Kind::Foreign,
-    },
-    Row {
-        spelling: "ampdbfs",
-        kind: Kind::Foreign,
-    },
-    Row {
-        spelling: "dbamp",
-        kind: Kind::Foreign,
-    },
-    Row {
-        spelling: "sqrt",
-        kind: Kind::Foreign,
-    },
-    Row {
-        spelling: "exp",
-        kind: Kind::Foreign,
-    },
-    Row {
-        spelling: "log",
-        kind: Kind::Foreign,
-    },
-    Row {
-        spelling: "sin",
-        kind: Kind::Foreign,
-    },
-    Row {
-        spelling: "cos",
-        kind: Kind::Foreign,
-    },
-    Row {
-        spelling: "tan",
-        kind: Kind::Foreign,
-    },
-    Row {
-        spelling: "pow",
-        kind: Kind::Foreign,
-    },
-];
-
 fn plain_word(word: &[u8]) -> Kind
     ensures { result ≡ plain_word word.now }
 {
-    let other = match field_of(word) {
+    if is_foreign(word) {
+        return Kind::Foreign;
+    }
+    match field_of(word) {
         0 => name_or_word(word),
         number => Kind::Field(number),
-    };
-    foreign_or(word, other)
+    }
 }
 
 fn name_or_word(word: &[u8]) -> Kind
@@ -445,10 +148,16 @@ fn name_or_word(word: &[u8]) -> Kind
     }
 }
 
-fn foreign_or(word: &[u8], other: Kind) -> Kind
-    ensures { result ≡ looked_up foreign word.now other }
+fn is_foreign(word: &[u8]) -> bool
+    ensures { result ≡ is_foreign word.now }
 {
-    looked_up(&FOREIGN, word, other)
+    is_listed(&FOREIGN, word)
+}
+
+fn is_listed(words: &[&str], word: &[u8]) -> bool
+    ensures { result ≡ list_any (λ listed. bytes_eq word.now listed.now) words.now }
+{
+    words.iter().any(|listed| word == listed.as_bytes())
 }
 
 /// The number of a field, `p1` to `p100`, or 0.

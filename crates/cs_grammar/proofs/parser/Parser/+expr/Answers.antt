@@ -1,11 +1,12 @@
 use Rattle.std.proofs.Common.{◌≡◌, ◌∙◌, Ok, Err, Some, None, sym, refl, ap, subst, arith, length}
+use Rattle.cs_grammar.specs.declared.expr.Level.TheVariants as at
 use Rattle.cs_grammar.specs.Reading.{next}
 use Rattle.cs_grammar.specs.Parts.{operator_of}
 use Rattle.cs_grammar.proofs.Sizes.{after_size}
 use Rattle.cs_grammar.specs.Tree.{expression}
 use Rattle.cs_grammar.specs.Grammar.{ReadsTail, binary, no_more, one_more, one_alone, fact_neg, fact_call, fact_group}
 use Rattle.cs_grammar.proofs.Gives.{failed, unpassed, made}
-use Rattle.cs_grammar.proofs.Rules.{group_fails, group_reads, call_fails, call_reads, pick_fails_yes, pick_fails_colon, pick_fails_no, pick_fails_close, pick_reads, right_fails, alone, none_of}
+use Rattle.cs_grammar.proofs.Rules.{group_fails, group_reads, call_fails, call_reads, pick_fails_yes, pick_fails_colon, pick_fails_no, pick_fails_close, pick_reads, right_fails, alone, none_of, raised}
 use Rattle.cs_grammar.proofs.parser.Parser.+expr.Goals as goal
 
 pub negation-returns-in_err-part-clause-reads : goal.negation-returns-in_err-part-clause-reads
@@ -64,35 +65,47 @@ pub fact-returns-in-Alone-clause-reads : goal.fact-returns-in-Alone-clause-reads
 fact-returns-in-Alone-clause-reads t c =
     alone expression c.atom.result c.atom.new.self c.args.self.now c.args.scope.now (sym c.in-Alone.ensures) c.atom.ensures.reads
 
-pub operands-returns-in_err-left-clause-reads : goal.operands-returns-in_err-left-clause-reads
-operands-returns-in_err-left-clause-reads t c =
-    failed expression expression _ _ _ _ _ _ c.from_residual.ensures.1 c.in_err-left.ensures.reads (λ f h. binary c.requires h (no_more refl))
+pub expr-returns-in_err-value-clause-reads : goal.expr-returns-in_err-value-clause-reads
+expr-returns-in_err-value-clause-reads t c =
+    failed expression expression _ _ _ _ _ _ c.from_residual.ensures.1 c.in_err-value.ensures.reads (λ f h. raised c.args.level at.Fact (omega arith) h)
 
-pub operands-loop-op-init : goal.operands-loop-op-init
-operands-loop-op-init t c = record {
-  reads = λ out k. binary c.requires c.in_ok-left.ensures.reads k;
-  goes = c.in_ok-left.ensures.goes;
+pub expr-loop-outer-init : goal.expr-loop-outer-init
+expr-loop-outer-init t c = record {
+  reads = c.in_ok-value.ensures.reads;
+  goes = c.in_ok-value.ensures.goes;
+  within = omega arith;
 }
 
-pub operands-returns-in_err-right-clause-reads : goal.operands-returns-in_err-right-clause-reads
-operands-returns-in_err-right-clause-reads t c =
-    let op : operator_of c.args.level (next c.loop-op.self).kind ≡ Some c.in-Some.op = cc in
-    failed expression expression _ _ _ _ _ _ c.from_residual-in_err-right.ensures.1 c.in_err-right.ensures.reads (λ f h. c.loop-op.invariant.reads (Err f) (right_fails (expression c.loop-op.left) f op c.requires (rw c.skip.ensures at h)))
+pub expr-returns-in_err-value-2-clause-reads : goal.expr-returns-in_err-value-2-clause-reads
+expr-returns-in_err-value-2-clause-reads t c =
+    failed expression expression _ _ _ _ _ _ c.from_residual-in_err-value-2.ensures.1 c.in_err-value-2.ensures.reads (λ f h. raised c.args.level c.in-Some.outer c.in-Some.ensures.next.1 (binary c.in-Some.ensures.next.0 c.loop-outer.invariant.reads h))
 
-pub operands-returns-then-not-repeats-clause-reads : goal.operands-returns-then-not-repeats-clause-reads
-operands-returns-then-not-repeats-clause-reads t c =
-    let op : operator_of c.args.level (next c.loop-op.self).kind ≡ Some c.in-Some.op = cc in
-    c.loop-op.invariant.reads (Ok (expression c.in_ok-left-2.left, c.expr-in-Some.new.self)) (subst (λ v. ReadsTail c.args.scope.now c.args.level (Ok (expression c.loop-op.left, c.loop-op.self)) (Ok (v, c.expr-in-Some.new.self))) (sym c.in_ok-left-2.ensures.value) (one_alone op (sym c.if-not-repeats.ensures) c.requires (rw c.skip.ensures at c.in_ok-right.ensures.reads)))
+pub expr-loop-outer-preserved : goal.expr-loop-outer-preserved
+expr-loop-outer-preserved t c = record {
+  reads = binary c.in-Some.ensures.next.0 c.loop-outer.invariant.reads c.in_ok-value-2.ensures.reads;
+  goes = omega (arith, c.in_ok-value-2.ensures.goes, c.loop-outer.invariant.goes);
+  within = c.in-Some.ensures.next.1;
+}
 
-pub operands-loop-op-preserved : goal.operands-loop-op-preserved
-operands-loop-op-preserved t c =
+pub operators-returns-in_err-right-clause-reads : goal.operators-returns-in_err-right-clause-reads
+operators-returns-in_err-right-clause-reads t c =
+    let op : operator_of c.args.level (next c.loop-op.self).kind ≡ Some c.in-Some.op = cc in
+    failed expression expression _ _ _ _ _ _ c.from_residual.ensures.1 c.in_err-right.ensures.reads (λ f h. c.loop-op.invariant.reads (Err f) (right_fails (expression c.loop-op.left) f op c.requires (rw c.skip.ensures at h)))
+
+pub operators-returns-then-not-repeats-clause-reads : goal.operators-returns-then-not-repeats-clause-reads
+operators-returns-then-not-repeats-clause-reads t c =
+    let op : operator_of c.args.level (next c.loop-op.self).kind ≡ Some c.in-Some.op = cc in
+    c.loop-op.invariant.reads (Ok (expression c.in_ok-left.left, c.expr.new.self)) (subst (λ v. ReadsTail c.args.scope.now c.args.level (Ok (expression c.loop-op.left, c.loop-op.self)) (Ok (v, c.expr.new.self))) (sym c.in_ok-left.ensures.value) (one_alone op (sym c.if-not-repeats.ensures) c.requires (rw c.skip.ensures at c.in_ok-right.ensures.reads)))
+
+pub operators-loop-op-preserved : goal.operators-loop-op-preserved
+operators-loop-op-preserved t c =
     let op : operator_of c.args.level (next c.loop-op.self).kind ≡ Some c.in-Some.op = cc in
     record {
-      reads = λ out k. c.loop-op.invariant.reads out (one_more op (sym c.if-not-repeats.ensures) c.requires (rw c.skip.ensures at c.in_ok-right.ensures.reads) (subst (λ v. ReadsTail c.args.scope.now c.args.level (Ok (v, c.expr-in-Some.new.self)) out) c.in_ok-left-2.ensures.value k));
+      reads = λ out k. c.loop-op.invariant.reads out (one_more op (sym c.if-not-repeats.ensures) c.requires (rw c.skip.ensures at c.in_ok-right.ensures.reads) (subst (λ v. ReadsTail c.args.scope.now c.args.level (Ok (v, c.expr.new.self)) out) c.in_ok-left.ensures.value k));
       goes = omega (arith, c.in_ok-right.ensures.goes, c.loop-op.invariant.goes, ap length c.skip.ensures, after_size c.loop-op.self);
     }
 
-pub operands-returns-clause-reads : goal.operands-returns-clause-reads
-operands-returns-clause-reads t c =
+pub operators-returns-clause-reads : goal.operators-returns-clause-reads
+operators-returns-clause-reads t c =
     let none : operator_of c.args.level (next c.loop-op.self).kind ≡ None = (ap (operator_of c.args.level) (sym c.kind.ensures) ∙ sym c.operator.ensures ∙ none_of c.operator.result c.in_default.not-Some) in
     c.loop-op.invariant.reads (Ok (expression c.loop-op.left, c.loop-op.self)) (no_more none)

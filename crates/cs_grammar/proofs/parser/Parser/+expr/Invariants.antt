@@ -1,4 +1,4 @@
-use Rattle.std.proofs.Common.{◌+◌, ◌*◌, ◌≤◌, length, Ok}
+use Rattle.std.proofs.Common.{◌+◌, ◌*◌, ◌-◌, ◌≤◌, length, Ok}
 use Rattle.cs_grammar.specs.Tree.{Expression, expression}
 use Rattle.cs_grammar.specs.Reading.{Reading}
 use Rattle.cs_grammar.specs.Parts.{rank}
@@ -9,8 +9,8 @@ use Rattle.cs_grammar.proofs.parser.Parser.+expr.Given as goal
 abbrev pub decreases-expr : goal.decreases-expr
 decreases-expr l = 16 * length l.self.now + (2 * rank l.level + 2)
 
-abbrev pub decreases-operands : goal.decreases-operands
-decreases-operands l = 16 * length l.self.now + (2 * rank l.level + 1)
+abbrev pub decreases-operators : goal.decreases-operators
+decreases-operators l = 16 * length l.self.now + (2 * rank l.level + 1)
 
 abbrev pub decreases-fact : goal.decreases-fact
 decreases-fact l = 16 * length l.self.now + 1
@@ -27,12 +27,23 @@ decreases-bracket l = 16 * length l.self.now
 abbrev pub decreases-choice : goal.decreases-choice
 decreases-choice l = 16 * length l.self.now
 
--- however the operators from here on are read, so is the whole
-abbrev pub invariant-operands-loop-op : goal.invariant-operands-loop-op
-invariant-operands-loop-op l = record {
-  reads : (out : Reading Expression) → ReadsTail l.scope l.level (Ok (expression l.left, l.self)) out → ReadsExpr l.scope l.level (Ok l.fn.self) out;
+-- what is read so far, at a level up to the one that is asked for
+abbrev pub invariant-expr-loop-outer : goal.invariant-expr-loop-outer
+invariant-expr-loop-outer l = record {
+  reads : ReadsExpr l.scope l.inner (Ok l.fn.self) (Ok (expression l.value, l.self));
+  goes : length l.self ≤ length l.fn.self;
+  within : rank l.inner ≤ rank l.level;
+}
+
+abbrev pub decreases-expr-loop-outer : goal.decreases-expr-loop-outer
+decreases-expr-loop-outer l = rank l.level - rank l.inner
+
+-- however the operators from here on are read, so are they all
+abbrev pub invariant-operators-loop-op : goal.invariant-operators-loop-op
+invariant-operators-loop-op l = record {
+  reads : (out : Reading Expression) → ReadsTail l.scope l.level (Ok (expression l.left, l.self)) out → ReadsTail l.scope l.level (Ok (expression l.fn.first, l.fn.self)) out;
   goes : length l.self ≤ length l.fn.self;
 }
 
-abbrev pub decreases-operands-loop-op : goal.decreases-operands-loop-op
-decreases-operands-loop-op l = length l.self
+abbrev pub decreases-operators-loop-op : goal.decreases-operators-loop-op
+decreases-operators-loop-op l = length l.self
