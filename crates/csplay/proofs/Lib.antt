@@ -1,9 +1,6 @@
 pub mod Frames
-pub mod Lines
-pub mod Numerals
 pub mod Played
 pub mod Readings
-pub mod Spelled
 pub mod Saying
 pub mod Voices
 pub mod Refusals
@@ -13,3 +10,4 @@ pub mod Loads
 pub mod Orchestras
 pub mod Firsts
 pub mod Runs
+pub mod SixLines

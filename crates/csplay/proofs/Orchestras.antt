@@ -1,54 +1,110 @@
 -- What holds of the orchestra of a text, and of its refusal.
-use Rattle.std.proofs.Common.{◌≡◌, ◌≤◌, ◌<◌, ◌^◌, ℕ, List, [], ◌∷◌, ◌++◌, codes, refl, sym, ap, ◌∙◌, inl, inr, arith}
+use Rattle.std.proofs.Common.{◌≡◌, ℕ, ◌*◌, ℤ, pos, List, [], ◌∷◌, refl, sym, ap, subst, ◌∙◌, inl, inr, arith}
+use Rattle.cs_base.specs.declared.fault.OrcFault.{OrcFault}
+use Rattle.cs_base.specs.declared.fault.OrcKind.{OrcKind}
+use Rattle.cs_lex.specs.declared.token.Token.{Token}
+use Rattle.cs_lex.proofs.Cuts as lexing
+use Rattle.cs_grammar.specs.declared.tree.HeadName.{HeadName}
+use Rattle.cs_grammar.specs.declared.tree.HeadName.TheVariants.{Sr, Ksmps}
+use Rattle.cs_grammar.specs.declared.tree.HeadLine.{HeadLine}
+use Rattle.cs_grammar.specs.Tree as tree
+use Rattle.cs_grammar.specs.Orchestra.{Tree, ParseFault}
+use Rattle.cs_grammar.proofs.OneOrc as parsing
 use Rattle.csplay.specs.declared.orchestra.Orchestra.{Orchestra}
 use Rattle.csplay.specs.declared.status.Status.{Status}
+use Rattle.csplay.specs.declared.status.Status.TheVariants.{OrcRefused}
 use Rattle.csplay.specs.Status.{IsRefusal}
-use Rattle.csplay.specs.Orchestra.{IsOrchestra, HasOrchestra, HasLines, OrchestraRefusal, orchestra_text}
-use Rattle.csplay.proofs.Lines.{EndsLine, EndsLine-orchestra, two_feeds}
-use Rattle.csplay.proofs.Spelled.{one_field, line_ends, behind_sr, behind_ksmps, behind_field, orchestra_text-fields}
-use Rattle.csplay.specs.Orchestra.OrchestraRefusal.{not_built}
+use Rattle.csplay.specs.Orchestra.{IsOrchestra, HasRates, IsInstrument, IsSixLines, HasTree, HasOrchestra, HasFault, OrchestraRefusal}
+use Rattle.csplay.specs.Orchestra.HasFault.{of_tokens, of_grammar}
+use Rattle.csplay.specs.Orchestra.OrchestraRefusal.{of_text, not_built}
 
 pub in_range : (text : List ℕ) (o : Orchestra) → HasOrchestra text o → IsOrchestra o
-in_range text o has = has.in_range
+in_range text o has = has.six_lines.in_range
 
 pub refuses : (text : List ℕ) (s : Status) → OrchestraRefusal text s → IsRefusal s
-refuses text s (not_built none) = tt
+refuses text s (of_text fault h) = tt
+refuses text s (not_built t h none) = tt
+
+-- a text has one tree
+one_tree : (text : List ℕ) (t u : tree.Orchestra) → HasTree text t → HasTree text u → t ≡ u
+one_tree text t u h k =
+    let P : List Token → Type 0 = λ l. Tree text l t in
+    parsing.one_tree text k.tokens t u (subst P (lexing.one_list text h.tokens k.tokens h.lexed k.lexed) h.parsed) k.parsed
+
+same_fault : (f g : OrcFault) → (f.line ≡ g.line) × (f.kind ≡ g.kind) → f ≡ g
+same_fault f g e = same_parts f.line g.line f.kind g.kind e.0 e.1
+  where
+    same_parts : (l m : ℕ) (j k : OrcKind) → l ≡ m → j ≡ k → ◌≡◌ {A = OrcFault} (record { line = l; kind = j }) (record { line = m; kind = k })
+    same_parts l m j k p q = cc
+
+-- a text has a tree or a fault, and not both
+tree_no_fault : (text : List ℕ) (t : tree.Orchestra) (f : OrcFault) → HasTree text t → HasFault text f → ⊥
+tree_no_fault text t f h (of_tokens k) = lexing.not_both text h.tokens f.line f.kind h.lexed k
+tree_no_fault text t f h (of_grammar tokens l k) =
+    let P : List Token → Type 0 = λ ts. Tree text ts t in
+    parsing.not_both text tokens t f.line f.kind (subst P (lexing.one_list text h.tokens tokens h.lexed l) h.parsed) k
+
+-- a text has one first fault
+one_fault : (text : List ℕ) (f g : OrcFault) → HasFault text f → HasFault text g → f ≡ g
+one_fault text f g (of_tokens h) (of_tokens k) = same_fault f g (lexing.one_fault text f.line g.line f.kind g.kind h k)
+one_fault text f g (of_tokens h) (of_grammar tokens l k) = absurd (lexing.not_both text tokens f.line f.kind l h)
+one_fault text f g (of_grammar tokens l k) (of_tokens h) = absurd (lexing.not_both text tokens g.line g.kind l h)
+one_fault text f g (of_grammar tokens l h) (of_grammar tokens' l' k) =
+    let P : List Token → Type 0 = λ ts. ParseFault text ts f.line f.kind in
+    same_fault f g (parsing.one_fault text tokens' f.line g.line f.kind g.kind
+    (subst P (lexing.one_list text tokens tokens' l l') h) k)
 
 pub not_both : (text : List ℕ) (o : Orchestra) (s : Status) → HasOrchestra text o → OrchestraRefusal text s → ⊥
-not_both text o s has (not_built none) = none o has
+not_both text o s has (of_text fault h) = tree_no_fault text has.read fault has.read_is h
+not_both text o s has (not_built t h none) =
+    none o (subst (λ (u : tree.Orchestra). IsSixLines u o) (one_tree text has.read t has.read_is h) has.six_lines)
 
 pub one_refusal : (text : List ℕ) (s t : Status) → OrchestraRefusal text s → OrchestraRefusal text t → s ≡ t
-one_refusal text s t (not_built none) (not_built none') = refl
+one_refusal text s t (of_text f h) (of_text g k) = ap (λ (x : OrcFault). OrcRefused x) (one_fault text f g h k)
+one_refusal text s t (of_text f h) (not_built u has none) = absurd (tree_no_fault text u f has h)
+one_refusal text s t (not_built u has none) (of_text f h) = absurd (tree_no_fault text u f has h)
+one_refusal text s t (not_built u has none) (not_built u' has' none') = refl
 
--- the lines of one orchestra, and no others, are those of a text
-one_text : (text a b : List ℕ) → EndsLine a → EndsLine b → HasLines text a → HasLines text b → a ≡ b
-one_text text a b p q (inl e) (inl h) = sym e ∙ h
-one_text text a b p q (inr e) (inr h) = sym e ∙ h
-one_text text a b p q (inl e) (inr h) =
-    absurd (two_feeds b (p.front ++ p.last ∷ []) (inr q) (sym h ∙ ap (λ (l : List ℕ). l ++ 10 ∷ []) (e ∙ p.text_is)))
-one_text text a b p q (inr e) (inl h) =
-    absurd (two_feeds a (q.front ++ q.last ∷ []) (inr p) (sym e ∙ ap (λ (l : List ℕ). l ++ 10 ∷ []) (h ∙ q.text_is)))
+-- A TREE is one orchestra
 
-small : (n most : ℕ) → n ≤ most → most < 2 ^ 64 → n < 2 ^ 64
-small n most h k = omega arith
+same_value : (z : ℤ) (m n : ℕ) → z ≡ pos (65536 * m) → z ≡ pos (65536 * n) → m ≡ n
+same_value z m n e h = let same : 65536 * m ≡ 65536 * n = cc in omega (arith, same)
+
+no_two_names : (h : HeadLine) → h.name ≡ Sr → h.name ≡ Ksmps → ⊥
+no_two_names h e k = let same : ◌≡◌ {A = HeadName} Sr Ksmps = sym e ∙ k in cc
+
+same_rates : (head : List HeadLine) (a b c d : ℕ) → HasRates head a b → HasRates head c d → (a ≡ c) × (b ≡ d)
+same_rates [] a b c d h k = absurd h
+same_rates (x ∷ []) a b c d h k = absurd h
+same_rates (x ∷ y ∷ []) a b c d (inl h) (inl k) = (same_value x.value a c h.0.1 k.0.1, same_value y.value b d h.1.1 k.1.1)
+same_rates (x ∷ y ∷ []) a b c d (inl h) (inr k) = absurd (no_two_names x h.0.0 k.0.0)
+same_rates (x ∷ y ∷ []) a b c d (inr h) (inl k) = absurd (no_two_names x k.0.0 h.0.0)
+same_rates (x ∷ y ∷ []) a b c d (inr h) (inr k) = (same_value y.value a c h.1.1 k.1.1, same_value x.value b d h.0.1 k.0.1)
+same_rates (x ∷ y ∷ z ∷ more) a b c d h k = absurd h
+
+-- the field of an instrument's first statement
+first_field : tree.Block → ℕ
+first_field (tree.andthen (tree.set l n (tree.field k)) rest) = k
+first_field _ = 0
+
+first_body : List tree.Instrument → tree.Block
+first_body [] = tree.no_stmt
+first_body (i ∷ more) = i.body
+
+same_field : (instrs : List tree.Instrument) (m n : ℕ) → IsInstrument instrs m → IsInstrument instrs n → m ≡ n
+unfolding first_field first_body
+same_field instrs m n h k = ap (λ (l : List tree.Instrument). first_field (first_body l)) (sym h.3 ∙ k.3)
 
 same_numbers : (a b c x y z : ℕ) → a ≡ x → b ≡ y → c ≡ z
     → ◌≡◌ {A = Orchestra} (record { sr = a; ksmps = b; field = c }) (record { sr = x; ksmps = y; field = z })
 same_numbers a b c x y z e f g = cc
 
-one_of_text : (o p : Orchestra) → IsOrchestra o → IsOrchestra p → orchestra_text o ≡ orchestra_text p → o ≡ p
-one_of_text o p i j e =
-    let sr = one_field (codes "sr = ") (orchestra_text o) (behind_sr o) (behind_sr p) o.sr p.sr (small o.sr 48000 i.sr.1 (omega arith))
-    (small p.sr 48000 j.sr.1 (omega arith)) line_ends line_ends (orchestra_text-fields o) (e ∙ orchestra_text-fields p) in
-    let ksmps = one_field (codes "\nksmps = ") (behind_sr o) (behind_ksmps o) (behind_ksmps p) o.ksmps p.ksmps (small o.ksmps 64 i.ksmps.1 (omega arith))
-    (small p.ksmps 64 j.ksmps.1 (omega arith)) line_ends line_ends refl sr.1 in
-    let field = one_field (codes "\ninstr 1\na1 = p") (behind_ksmps o) behind_field behind_field o.field p.field (small o.field 9 i.field.1 (omega arith))
-    (small p.field 9 j.field.1 (omega arith)) line_ends line_ends refl ksmps.1 in
-    let a : o.sr ≡ p.sr = sr.0 in
-    let b : o.ksmps ≡ p.ksmps = ksmps.0 in
-    let c : o.field ≡ p.field = field.0 in
-    same_numbers o.sr o.ksmps o.field p.sr p.ksmps p.field a b c
+one_of_tree : (t : tree.Orchestra) (o p : Orchestra) → IsSixLines t o → IsSixLines t p → o ≡ p
+one_of_tree t o p h k =
+    let rates = same_rates t.head o.sr o.ksmps p.sr p.ksmps h.rates k.rates in
+    same_numbers o.sr o.ksmps o.field p.sr p.ksmps p.field rates.0 rates.1 (same_field t.instrs o.field p.field h.instrument k.instrument)
 
 pub one_orchestra : (text : List ℕ) (o p : Orchestra) → HasOrchestra text o → HasOrchestra text p → o ≡ p
 one_orchestra text o p has has' =
-    one_of_text o p has.in_range has'.in_range (one_text text (orchestra_text o) (orchestra_text p) (EndsLine-orchestra o) (EndsLine-orchestra p) has.lines has'.lines)
+    one_of_tree has'.read o p (subst (λ (u : tree.Orchestra). IsSixLines u o) (one_tree text has.read has'.read has.read_is has'.read_is) has.six_lines)
+    has'.six_lines

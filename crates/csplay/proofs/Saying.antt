@@ -11,8 +11,7 @@ use Rattle.cs_edge.proofs.Chains.{follows_on, grown_on}
 use Rattle.std.specs.Fmt.{decimal}
 use Rattle.cs_base.specs.declared.fault.LimitHit.{LimitHit}
 use Rattle.csplay.specs.declared.status.Status.{Status}
-use Rattle.csplay.specs.Orchestra.{joined}
-use Rattle.csplay.specs.Talk.{Says, fault_line, limit_line, line_of}
+use Rattle.csplay.specs.Talk.{joined, Says, fault_line, limit_line, line_of}
 
 taken_twice : (xs ys : List ℕ) (a b c : Held) → TakenMore xs a b → TakenMore ys b c → TakenMore (xs ++ ys) a c
 taken_twice xs ys a b c p q =

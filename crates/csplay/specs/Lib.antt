@@ -5,7 +5,6 @@ pub mod Orchestra
 pub mod Reading
 pub mod Refusal
 pub mod Run
-pub mod Scan
 pub mod Sound
 pub mod Stage
 pub mod Status

@@ -1,9 +1,16 @@
-use Rattle.std.specs.Prelude.{◌≡◌, ◌≢◌, ◌≤◌, ℕ, ◌⊎◌, List, [], ◌∷◌, ◌++◌, length, codes, pos}
-use Rattle.std.specs.Fmt.{decimal}
+use Rattle.std.specs.Prelude.{◌≡◌, ◌≤◌, ℕ, ◌*◌, ◌⊎◌, List, [], ◌∷◌, codes, pos}
 use Rattle.cs_base.specs.declared.head.Head.{Head}
+use Rattle.cs_base.specs.declared.fault.OrcFault.{OrcFault}
+use Rattle.cs_lex.specs.declared.token.Token.{Token}
+use Rattle.cs_lex.specs.Lexed.{Lexed, LexFault}
+use Rattle.cs_grammar.specs.declared.tree.HeadName.{HeadName}
+use Rattle.cs_grammar.specs.declared.tree.HeadName.TheVariants.{Sr, Ksmps}
+use Rattle.cs_grammar.specs.declared.tree.HeadLine.{HeadLine}
+use Rattle.cs_grammar.specs.Tree as tree
+use Rattle.cs_grammar.specs.Orchestra.{Tree, ParseFault}
 use Rattle.csplay.specs.declared.orchestra.Orchestra.{Orchestra}
 use Rattle.csplay.specs.declared.status.Status.{Status}
-use Rattle.csplay.specs.declared.status.Status.TheVariants.{NotBuilt}
+use Rattle.csplay.specs.declared.status.Status.TheVariants.{OrcRefused, NotBuilt}
 
 -- an orchestra's numbers are in range
 pub record IsOrchestra (o : Orchestra) : Type 0 where
@@ -18,39 +25,58 @@ pub record IsHeadOf (o : Orchestra) (head : Head) : Type 0 where
   pub nchnls : head.nchnls ≡ 1
   pub dbfs : head.dbfs ≡ pos 2147483648
 
--- one text after another
-abbrev pub joined : List (List ℕ) → List ℕ
-joined [] = []
-joined (text ∷ texts) = text ++ joined texts
+-- a header line that sets this name to this whole number
+abbrev pub Sets : HeadLine → HeadName → ℕ → Type 0
+Sets h name number = (h.name ≡ name) × (h.value ≡ pos (65536 * number))
 
--- the six lines of an orchestra
-unfoldable pub orchestra_text : Orchestra → List ℕ
-orchestra_text o =
-    joined (codes "sr = " ∷ decimal o.sr ∷ codes "\nksmps = " ∷ decimal o.ksmps
-    ∷ codes "\ninstr 1\na1 = p" ∷ decimal o.field ∷ codes "\nout a1\nendin\n" ∷ [])
+-- frames a second and frames a control cycle that the six lines may have
+abbrev pub AreRates : ℕ → ℕ → Type 0
+AreRates sr ksmps = (1 ≤ sr) × (sr ≤ 48000) × (1 ≤ ksmps) × (ksmps ≤ 64)
 
--- a text of these lines, of which the last may lack its line feed
-abbrev pub HasLines : List ℕ → List ℕ → Type 0
-HasLines text lines = (text ≡ lines) ⊎ (text ++ 10 ∷ [] ≡ lines)
+-- the two header lines `sr` and `ksmps`, in either order
+abbrev pub HasRates : List HeadLine → ℕ → ℕ → Type 0
+HasRates (a ∷ b ∷ []) sr ksmps = (Sets a Sr sr × Sets b Ksmps ksmps) ⊎ (Sets a Ksmps ksmps × Sets b Sr sr)
+HasRates lines sr ksmps = ⊥
 
--- a longer text is not of the form
-abbrev pub most_bytes : ℕ
-most_bytes = 8192
+-- the body of the instrument: `a1` is the field, and goes out
+abbrev pub body_of : ℕ → ℕ → ℕ → tree.Block
+body_of field line line' =
+    tree.andthen (tree.set line (codes "a1") (tree.field field))
+    (tree.andthen (tree.call line' [] (codes "out") (tree.value (tree.var (codes "a1")) ∷ [])) tree.no_stmt)
 
--- the text is this orchestra
-pub record HasOrchestra (text : List ℕ) (o : Orchestra) : Type 0 where
-  pub short : length text ≤ most_bytes
+-- one instrument, with the number 1 and that body
+abbrev pub IsInstrument : List tree.Instrument → ℕ → Type 0
+IsInstrument instrs field = (l m n : ℕ)
+    × (instrs ≡ record { line = l; numbers = 1 ∷ []; body = body_of field m n } ∷ [])
+
+-- The tree of the six-line orchestra: two header lines, one instrument, and nothing else.
+pub record IsSixLines (t : tree.Orchestra) (o : Orchestra) : Type 0 where
   pub in_range : IsOrchestra o
-  pub lines : HasLines text (orchestra_text o)
+  pub rates : HasRates t.head o.sr o.ksmps
+  pub no_opcodes : t.opcodes ≡ []
+  pub nothing_outside : t.zero ≡ tree.no_stmt
+  pub instrument : IsInstrument t.instrs o.field
 
--- why a text that isn't too long has no orchestra
+-- a text has this tree
+pub record HasTree (text : List ℕ) (t : tree.Orchestra) : Type 0 where
+  pub tokens : List Token
+  pub lexed : Lexed text tokens
+  pub parsed : Tree text tokens t
+
+-- a text is this orchestra: its tree is that of the six lines
+pub record HasOrchestra (text : List ℕ) (o : Orchestra) : Type 0 where
+  pub read : tree.Orchestra
+  pub read_is : HasTree text read
+  pub six_lines : IsSixLines read o
+
+-- a text has this first fault: of its tokens, or where it has tokens of the grammar
+pub data HasFault (text : List ℕ) (fault : OrcFault) : Type 0 where
+  of_tokens : LexFault text fault.line fault.kind → HasFault text fault
+  of_grammar : (tokens : List Token) → Lexed text tokens → ParseFault text tokens fault.line fault.kind
+      → HasFault text fault
+
+-- why a text that isn't too long has no orchestra: it has a fault, or a tree that isn't that of the six lines
 pub data OrchestraRefusal (text : List ℕ) : Status → Type 0 where
-  -- it isn't of the six lines
-  not_built : ((o : Orchestra) → ¬ (HasOrchestra text o)) → OrchestraRefusal text NotBuilt
-
--- the text with a line feed behind a last line that lacks it
-pub record Completes (text whole : List ℕ) : Type 0 where
-  pub same :
-      ((whole ≡ text) × ((text ≡ []) ⊎ ((front : List ℕ) × (text ≡ front ++ 10 ∷ []))))
-      ⊎ ((whole ≡ text ++ 10 ∷ [])
-      × ((front : List ℕ) × (last : ℕ) × (last ≢ 10) × (text ≡ front ++ last ∷ [])))
+  of_text : (fault : OrcFault) → HasFault text fault → OrchestraRefusal text (OrcRefused fault)
+  not_built : (t : tree.Orchestra) → HasTree text t → ((o : Orchestra) → ¬ (IsSixLines t o))
+      → OrchestraRefusal text NotBuilt

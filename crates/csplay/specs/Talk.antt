@@ -1,12 +1,16 @@
 -- What the program says of its end.
-use Rattle.std.specs.Prelude.{ℕ, ◌⊎◌, List, [], ◌∷◌, codes, decimal}
+use Rattle.std.specs.Prelude.{ℕ, ◌⊎◌, List, [], ◌∷◌, ◌++◌, codes, decimal}
 use Rattle.cs_base.specs.declared.fault.LimitHit.{LimitHit}
 use Rattle.cs_base.specs.Faults.{orc_kind_number, orc_kind_name, score_kind_number, score_kind_name}
 use Rattle.cs_edge.specs.Told.{Rose, IsFront}
 use Rattle.cs_edge.specs.Moves.{SinkTold, WroteMore}
-use Rattle.csplay.specs.Orchestra.{joined}
 use Rattle.csplay.specs.declared.status.Status.{Status}
 use Rattle.csplay.specs.declared.status.Status.TheVariants.{Ok, Usage, ShelfFault, OrcRefused, ScoreRefused, Limit, SinkFault, OutOfMemory, NotBuilt}
+
+-- one text after another
+abbrev pub joined : List (List ℕ) → List ℕ
+joined [] = []
+joined (text ∷ texts) = text ++ joined texts
 
 -- the line of a text's first fault: which text, where, and the kind by its number and its name
 unfoldable pub fault_line : List ℕ → ℕ → ℕ → List ℕ → List ℕ

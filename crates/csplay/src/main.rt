@@ -2,10 +2,10 @@
 //!
 //! The one contract is that of `csplay`, the record `IsRun`: a run that ends Ok has written exactly the WAV of the mix
 //! that the two texts mean, and every other status has its stated cause, its line on talk, and leaves what it says.
-//! What is built is the whole score, and for an orchestra the form of six lines; `orchestra`, `scan`, `stage` and `play`
-//! go when the whole language is performed, and nothing above `piece` and `perform` notices.
+//! What is built is the whole score, and of the orchestras that the grammar accepts the six-line one; `orchestra`,
+//! `stage` and `play` go when the whole language is performed, and nothing above `piece` and `perform` notices.
 //!
-//! In reading order: `words` (two names), `status`, `talk` (its line), `orchestra` and `scan` (what an orchestra says),
+//! In reading order: `words` (two names), `status`, `talk` (its line), `orchestra` (what an orchestra says),
 //! `piece` (what two texts mean), `read` (a text of a shelf), `load` (both texts), `stage` (the notes that sound),
 //! `blocks`, `play` (the file, cycle by cycle), `perform`, `top` (the whole run), and `main`, which makes the objects of
 //! the edge.
@@ -18,7 +18,6 @@ mod perform;
 mod piece;
 mod play;
 mod read;
-mod scan;
 mod stage;
 mod status;
 mod talk;

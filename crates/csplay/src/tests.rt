@@ -5,6 +5,7 @@ use cs_base::{Bytes, Text};
 use cs_edge::{
     Calls, Files, MemShelf, MemSink, NamedBytes, OpenGate, Shelf, Sink, SureShelf, SureSink,
 };
+use itoa::Buffer;
 use std::alloc::{AllocError, Global};
 use std::sync::Wait;
 use std::test::Fail;
@@ -21,6 +22,13 @@ const ONE_NOTE_WAV: &[u8] =
 
 /// Orchestra and score; the status, the line, and the runs of equal samples where there is a sound file.
 const TEXTS: &[(&[u8], &[u8], u8, &[u8], &[(i16, usize)])] = &[
+    (
+        b"; \xff\nksmps = 4\n\nsr=8.0 /* a second */\n\tinstr 1\na1=p4\nout a1\nendin",
+        ONE_NOTE,
+        0,
+        b"",
+        &[(100, 8)],
+    ),
     (FIELD_4, b"", 0, b"", &[]),
     (FIELD_4, b"e", 0, b"", &[]),
     (FIELD_4, b"i1 0 0 9", 0, b"", &[]),
@@ -105,19 +113,68 @@ const TEXTS: &[(&[u8], &[u8], u8, &[u8], &[(i16, usize)])] = &[
         b"limit L8 passed at line 0\n",
         &[],
     ),
-    (b"", b"x", 10, b"not built yet\n", &[]),
+];
+
+/// What is right by the grammar and isn't built yet.
+const NOT_BUILT: &[u8] = b"not built yet\n";
+
+/// Orchestras, and the line that each gets with the score `x`, which breaks a rule itself.
+const ORCHESTRAS: &[(&[u8], &[u8])] = &[
+    (b"", NOT_BUILT),
+    (b"x", NOT_BUILT),
     (
-        b"sr = 48001\nksmps = 4\ninstr 1\na1 = p4\nout a1\nendin\n",
-        b"",
-        10,
-        b"not built yet\n",
-        &[],
+        b"sr = 48001\nksmps = 4\ninstr 1\na1 = p4\nout a1\nendin",
+        NOT_BUILT,
     ),
     (
-        b"sr = 8\nksmps = 4\ninstr 1\na1 = p10\nout a1\nendin\n",
-        b"",
-        10,
-        b"not built yet\n",
+        b"sr = 8\nksmps = 4\ninstr 1\na1 = p10\nout a1\nendin",
+        NOT_BUILT,
+    ),
+    (
+        b"sr = 8\nksmps = 4\ninstr 1\nk1 = p4\nout a1\nendin",
+        NOT_BUILT,
+    ),
+    (b"a1 = \xe9", b"orchestra line 1: 1 BadByte\n"),
+    (b"a1 = @x", b"orchestra line 1: 2 BadToken\n"),
+    (b"a1 = 2x", b"orchestra line 1: 3 BadNumber\n"),
+    (b"/* no end", b"orchestra line 1: 4 OpenComment\n"),
+    (b"instr 0\na1 = @x", b"orchestra line 2: 2 BadToken\n"),
+    (
+        b"instr 1\na1 = 1 +\nendin",
+        b"orchestra line 2: 5 Unexpected\n",
+    ),
+    (b"instr 1\na1 = p4", b"orchestra line 2: 6 MissingEndin\n"),
+    (b"instr 1\ninstr 2", b"orchestra line 2: 7 NestedInstr\n"),
+    (b"instr 0\nendin", b"orchestra line 1: 8 InstrNumber\n"),
+    (b"instr 1, 1\nendin", b"orchestra line 1: 9 InstrTwice\n"),
+    (
+        b"instr 1\nif 1 == 1 then\nendin",
+        b"orchestra line 3: 10 MissingEndif\n",
+    ),
+    (b"a1 = $x", b"orchestra line 1: 11 NotInProfile\n"),
+    (
+        b"opcode F, k, k\nk1 xin\nk2 F k1",
+        b"orchestra line 3: 20 Recursion\n",
+    ),
+    (
+        b"opcode F, 0, 0\nendop\nopcode F, 0, 0",
+        b"orchestra line 3: 21 OpcodeTwice\n",
+    ),
+    (b"opcode F, k, k\nk1 = 1", b"orchestra line 1: 22 XinXout\n"),
+    (b"opcode F, 0, 0", b"orchestra line 1: 23 MissingEndop\n"),
+];
+
+/// A statement and how many times it stands; the line of the limit that is passed, or the runs of equal samples.
+const COUNTS: &[(&[u8], u32, &[u8], &[(i16, usize)])] = &[
+    (b"i1 0 1 1\n", 512, b"", &[(512, 8)]),
+    (b"i1 0 1 1\n", 513, b"limit L5 passed at line 513\n", &[]),
+    (b"f# 0 4 2\n", 300, b"", &[]),
+    (b"f# 0 4 2\n", 301, b"limit L6 passed at line 301\n", &[]),
+    (b"f 0 1\n", 100_000, b"", &[(0, 8)]),
+    (
+        b"f 0 1\n",
+        100_001,
+        b"limit L7 passed at line 100001\n",
         &[],
     ),
 ];
@@ -300,19 +357,47 @@ fn texts(rt: HostRuntime) -> Result<(), Fail> {
 }
 
 #[test]
-fn notes_at_a_time(rt: HostRuntime) -> Result<(), Fail> {
-    let mut score = Vec::new(rt.alloc());
-    for (notes, status) in [(512, 0), (1, 6)] {
-        for _ in 0..notes {
-            score.extend_from_slice(b"i1 0 1 1\n")?;
+fn orchestras(rt: HostRuntime) -> Result<(), Fail> {
+    for (orchestra, line) in ORCHESTRAS {
+        let (ended, talk, wav) = played(&rt, orchestra, b"x")?;
+        assert_eq!(rt;
+            ended,
+            if *line == NOT_BUILT { 10 } else { 4 },
+            "at {orchestra:?}"
+        );
+        assert_eq!(rt; talk.taken(), *line, "at {orchestra:?}");
+        assert!(rt; wav.moves().is_empty());
+    }
+    Ok(())
+}
+
+/// A score of so many equal statements, in which `#` stands for the statement's number.
+fn repeated(alloc: Global, statement: &[u8], count: u32) -> Result<Vec<u8>, AllocError> {
+    let mut score = Vec::new(alloc);
+    for number in 1..=count {
+        for byte in statement {
+            if *byte == b'#' {
+                score.extend_from_slice(Buffer::new().format(number).as_bytes())?;
+            } else {
+                score.push(*byte)?;
+            }
         }
+    }
+    Ok(score)
+}
+
+#[test]
+fn counts(rt: HostRuntime) -> Result<(), Fail> {
+    for (statement, count, line, runs) in COUNTS {
+        let score = repeated(rt.alloc(), statement, *count)?;
         let (ended, talk, wav) = played(&rt, FIELD_4, &score)?;
-        assert_eq!(rt; ended, status);
-        if status == 0 {
-            assert!(rt; has_runs(wav.taken(), &[(512, 8)]));
-        } else {
-            assert_eq!(rt; talk.taken(), b"limit L5 passed at line 513\n".as_slice());
-        }
+        assert_eq!(rt;
+            ended,
+            if line.is_empty() { 0 } else { 6 },
+            "at {count} times {statement:?}"
+        );
+        assert_eq!(rt; talk.taken(), *line);
+        assert_eq!(rt; has_runs(wav.taken(), runs), line.is_empty());
     }
     Ok(())
 }

@@ -1,12 +1,16 @@
 use Rattle.std.proofs.Common.{arith}
 use Rattle.cs_base.specs.declared.fault.Or.TheVariants as or
 use Rattle.csplay.specs.declared.status.Status.TheVariants.{ScoreRefused, Limit}
-use Rattle.csplay.specs.Refusal.{FirstRefusal, most_of_score}
+use Rattle.csplay.specs.Refusal.{FirstRefusal, most_of_orchestra, most_of_score}
 use Rattle.csplay.specs.Refusal.FirstRefusal.{long_score, of_orchestra, of_score, of_limit}
 use Rattle.csplay.proofs.Limits.{playable}
 use Rattle.csplay.proofs.Orchestras.{in_range}
 use Rattle.csplay.proofs.Refusals.{refused_as, are_short, error_as}
 use Rattle.csplay.proofs.piece.piece_of.Goals as goal
+
+pub orchestra_of-requires : goal.orchestra_of-requires
+unfolding most_of_orchestra
+orchestra_of-requires c = c.requires
 
 pub returns-then-score-gt-MOST_OF_SCORE-clause-refused : goal.returns-then-score-gt-MOST_OF_SCORE-clause-refused
 unfolding most_of_score
