@@ -1,5 +1,5 @@
 // A board for jobs whose footprints are in order.
-ghost use Rattle.std.specs.Prelude.{◌≡◌, ◌<◌, ◌≤◌, ℕ, length, map, true, All, Some, IsSome, IfSome, IfOk, IfErr};
+ghost use Rattle.std.specs.Prelude.{◌≡◌, ◌<◌, ℕ, length, map, true, All, IsSome, IfSome, IfOk, IfErr};
 ghost use Rattle.std.specs.List.{Contains};
 ghost use Rattle.std.specs.List.Sorted.{IsStrictlyIncreasing};
 ghost use Rattle.cs_board.specs.Board.{plan, view, IsSeatOf};
@@ -9,14 +9,10 @@ ghost use Rattle.cs_rule.specs.Plans.{IsFootprint};
 ghost use Rattle.cs_rule.specs.Views.{opening_view};
 
 use cs_base::Items;
-use cs_board::{Board, BoardSeat, Loaded, Receipt, Tally};
+use cs_board::{Board, BoardSeat, Loaded};
 use cs_cells::{Feet, Footprint, Job, Layout};
-use cs_crew::run_cycle;
-use cs_edge::Gate;
 use cs_graph::Graph;
 use std::alloc::{AllocError, Global};
-use std::sync::Wait;
-use std::thread::Threads;
 
 /// The board of the jobs and its first seat. Where there is no memory for it, where there are more than 512 jobs, or
 /// where a footprint isn't in order, the jobs come back.
@@ -36,39 +32,9 @@ pub fn opened<J: Job>(
     Board::new(alloc, &graph, layout, loaded)
 }
 
-/// The cycle of the jobs, run by so many workers. Where there is no memory for it, where there are more than 512 jobs,
-/// or where a footprint isn't in order, the jobs come back.
-pub fn crewed<J: Job + Send, G: Gate + Sync, R: Threads + Wait + Sync>(
-    rt: &R,
-    alloc: Global,
-    workers: u32,
-    layout: &Layout,
-    loaded: Loaded<J>,
-    gate: &G,
-) -> Result<Receipt<J>, Loaded<J>>
-    requires workers { (1 ≤ workers) × (workers ≤ 32) }
-    requires words { length loaded.0 ≡ word_count layout.now }
-    requires areas { All (λ j. J.means.areas j ≡ layout.now) loaded.1 }
-{
-    let Some(graph) = graph_of(alloc, layout, &loaded.jobs) else {
-        return Err(loaded);
-    };
-    run_cycle(rt, alloc, workers, 0, &graph, layout, loaded, gate)
-}
-
-/// What a cycle left, or None where it wasn't run.
-pub fn after<J: Job + Drop>(played: Result<Receipt<J>, Loaded<J>>) -> Option<Loaded<J>>
-    ensures { IfOk played (λ r. result ≡ Some r) }
-{
-    match played {
-        Ok(receipt) => Some(Tally::new().add(receipt)),
-        Err(_) => None,
-    }
-}
-
 /// The graph of the jobs' footprints. None where there is no memory for it, where there are more than 512 jobs, or
 /// where a footprint isn't in order.
-fn graph_of<J: Job>(alloc: Global, layout: &Layout, jobs: &[J]) -> Option<Graph>
+pub fn graph_of<J: Job>(alloc: Global, layout: &Layout, jobs: &[J]) -> Option<Graph>
     ensures notes { IfSome result (λ g. length g.levels ≡ length jobs.now) }
     ensures fit { IfSome result (λ g. IsFit (map J.means.foot jobs.now) g.edges) }
     ensures orderly { IsSome result → All (λ j. IsFootprint (length layout.now) (J.means.foot j)) jobs.now }

@@ -1,11 +1,15 @@
 // What a trial is set up with: areas of given lengths, and jobs on them.
-ghost use Rattle.std.specs.Prelude.{◌≡◌, All, IfOk, IfSome, vec_len};
+ghost use Rattle.std.specs.Prelude.{◌≡◌, All, IfOk, IfSome, length, vec_len};
 ghost use Rattle.cs_cells.specs.Areas.{IsLaid, word_count};
 
 use crate::AddOne;
 use cs_base::{Places, Res};
+use cs_board::Loaded;
 use cs_cells::{Area, Footprint, Job, Layout, PlainBank, run_all};
 use std::alloc::{AllocError, Global};
+
+/// The places of the resources that a note uses, and of those that it writes.
+pub type Foot<'a> = (&'a [u32], &'a [u32]);
 
 fn places(alloc: Global, of: &[u32]) -> Result<Places, AllocError> {
     let mut list = Places::new(alloc);
@@ -43,11 +47,33 @@ pub fn areas_of(alloc: Global, lengths: &[u32]) -> Result<Option<Vec<Area>>, All
     Ok(Some(areas))
 }
 
+/// Areas of these lengths, and their layout. None where there is no memory, or where they pass a limit.
+pub fn laid(alloc: Global, lengths: &[u32]) -> Option<(Vec<Area>, Layout)>
+    ensures { IfSome result (λ l. l.1 ≡ l.0.items) }
+{
+    let Ok(Some(areas)) = areas_of(alloc, lengths) else {
+        return None;
+    };
+    let Ok(layout) = Layout::build(alloc, areas.as_slice()) else {
+        return None;
+    };
+    Some((areas, layout))
+}
+
+/// For each of these places a footprint that uses and writes it alone.
+pub fn single<'t>(alloc: Global, places: &'t [u32]) -> Result<Vec<Foot<'t>>, AllocError> {
+    let mut feet: Vec<Foot<'t>> = Vec::new(alloc);
+    for place in places.chunks(1) {
+        feet.push((place, place))?;
+    }
+    Ok(feet)
+}
+
 /// Jobs that add 1, each with the places that it uses and those that it writes.
 pub fn adders<'t>(
     alloc: Global,
     areas: &'t [Area],
-    feet: &[(&[u32], &[u32])],
+    feet: &[Foot],
 ) -> Result<Option<Vec<AddOne<'t>>>, AllocError>
     ensures { IfOk result (λ o. IfSome o (λ v. All (λ j. j.areas ≡ areas.now) v.items)) }
 {
@@ -59,6 +85,39 @@ pub fn adders<'t>(
         jobs.push(job)?;
     }
     Ok(Some(jobs))
+}
+
+/// Jobs that add 1, one for each footprint, and the words before them. None where there is no memory, or where there
+/// are not as many words as the layout's.
+pub fn adding<'t>(
+    alloc: Global,
+    areas: &'t [Area],
+    layout: &Layout,
+    feet: &[Foot],
+    before: &[u64],
+) -> Option<Loaded<AddOne<'t>>>
+    requires { layout.now ≡ areas.now }
+    ensures words { IfSome result (λ l. length l.0 ≡ word_count layout.now) }
+    ensures areas { IfSome result (λ l. All (λ j. j.areas ≡ layout.now) l.1) }
+{
+    let words = words_of(alloc, layout, before)?;
+    let Ok(Some(jobs)) = adders(alloc, areas, feet) else {
+        return None;
+    };
+    Some(Loaded { words, jobs })
+}
+
+/// A copy of these words. None where there is no memory, or where there are not as many as the layout's.
+pub fn words_of(alloc: Global, layout: &Layout, before: &[u64]) -> Option<Vec<u64>>
+    ensures { IfSome result (λ v. length v.items ≡ word_count layout.now) }
+{
+    if before.len() != layout.words() as usize {
+        return None;
+    }
+    let Ok(words) = Vec::from_slice(alloc, before) else {
+        return None;
+    };
+    Some(words)
 }
 
 /// Runs the jobs in order over the words, which are as many as the layout's.

@@ -1,30 +1,32 @@
-//! Small jobs on which the dispatch is tried, and its tests with them. Nothing of the product stands on this
-//! crate. In reading order: `add_one`, `mini`, `counted`, `fixtures`,
-//! `boards`, `players`, `gates`, `random`, and the tests.
+//! Small jobs on which cells and dispatch are tried, what a trial is set up with, and the trials of the board.
+//! Nothing of the product stands on this crate.
+//!
+//! The one contract: jobs of two kinds meet `Job` of cs_cells, one that adds 1 to each cell that it writes
+//! (`AddOne`) and one with registers and shared code (`Mini`), and `opened` gives any jobs a board.
+//!
+//! Which graphs and orders the tests try may change without anyone above noticing. In reading order: `covers`,
+//! `add_one`, `mini`, `parts`, `fixtures`, `boards`, `players`; then the tests: `tests` (cells), `board_tests` (the
+//! rows of a board), `order_tests` (small graphs by every order of two seats' calls).
 #![tactic(auto)]
 
 mod add_one;
 mod boards;
-mod counted;
 mod covers;
 mod fixtures;
-mod gates;
 mod mini;
+mod parts;
 mod players;
-mod random;
 
 pub use add_one::AddOne;
-pub use boards::{after, crewed, opened};
-pub use counted::{Counted, counting_jobs};
-pub use fixtures::{adders, areas_of, foot, play};
-pub use gates::{Meeting, Watcher};
+pub use boards::{graph_of, opened};
+pub use fixtures::{Foot, adders, adding, areas_of, foot, laid, play, single, words_of};
 pub use mini::{Mini, Op};
+pub use parts::{Part, minis};
 pub use players::{Phase, Players, play_alone, play_out, play_two, step};
-pub use random::{Dice, Part, minis, plays_as_fold};
 
 #[cfg(test)]
 mod board_tests;
 #[cfg(test)]
-mod crew_tests;
+mod order_tests;
 #[cfg(test)]
 mod tests;

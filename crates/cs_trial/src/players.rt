@@ -91,6 +91,17 @@ impl<J: Job> Players<J> {
         }
     }
 
+    /// The next call of one of the two. Where it finds no note to claim, the other's follows.
+    pub fn turn_or_pass(&mut self, board: &Board<J>, second: bool)
+        requires { ArePlaying J.means board.now self.old }
+        ensures { ArePlaying J.means board.now self.new }
+    {
+        self.turn(board, second);
+        if self.phase(second) == Phase::Over {
+            self.turn(board, !second);
+        }
+    }
+
     /// How far one of the two is.
     pub fn phase(&self, second: bool) -> Phase {
         if second { self.there } else { self.here }
@@ -114,7 +125,8 @@ impl<J: Job> Players<J> {
 }
 
 /// Both seats play to the end. The lowest twelve bits of `order` say whose call comes next, 1 for the second seat;
-/// afterwards they take turns.
+/// a seat that finds no note to claim passes on to the other. So twelve bits say each order of the calls of four notes,
+/// of which each is claimed, run and finished.
 pub fn play_two<J: Job, R: Wait>(
     rt: &R,
     board: Board<J>,
@@ -127,7 +139,7 @@ pub fn play_two<J: Job, R: Wait>(
     let mut players = Players::seated(&board, seat);
     let mut left = order;
     for _ in 0..12 {
-        players.turn(&board, left % 2 == 1);
+        players.turn_or_pass(&board, left % 2 == 1);
         left /= 2;
     }
     play_out(rt, board, players)

@@ -1,44 +1,47 @@
 // The promises that no clause can make: that calls succeed, and that the laws say what is meant.
-use crate::{Mini, Op, adders, areas_of, foot, play};
+use crate::{Op, Part, adders, areas_of, foot, laid, minis, play, words_of};
 use cs_base::{Or, Res};
 use cs_cells::{Job, Layout};
+use std::alloc::{AllocError, Global};
 use std::test::Fail;
+
+/// The words and the resources of a layout, and the places of its first resource and of its 4,096th.
+type Laying = (u32, u32, Option<u32>, Option<u32>);
+
+// The layout of so many areas of this length, or the limit by which they are refused.
+fn lay(alloc: Global, count: usize, length: u32) -> Result<Result<Laying, u8>, AllocError> {
+    let lengths: Vec<u32> = vec![in alloc; length; count]?;
+    let Some(areas) = areas_of(alloc, lengths.as_slice())? else {
+        return Ok(Err(0));
+    };
+    match Layout::build(alloc, areas.as_slice()) {
+        Ok(layout) => Ok(Ok((
+            layout.words(),
+            layout.len(),
+            layout.find(Res::Gk(0)),
+            layout.find(Res::Gk(4_095)),
+        ))),
+        Err(Or::Fault(hit)) => Ok(Err(hit.limit)),
+        Err(Or::OutOfMemory) => Err(AllocError),
+    }
+}
 
 #[test]
 fn layouts_find_and_refuse(rt: HostRuntime) -> Result<(), Fail> {
-    let alloc = rt.alloc();
-    for (count, length, refused) in [
-        (0, 1, None),
-        (1, 65_536, None),
-        (1, 65_537, Some(9)),
-        (4_096, 16, None),
-        (4_096, 17, Some(9)),
-        (4_097, 1, Some(11)),
-        (4_097, 17, Some(11)),
+    for (count, length, want) in [
+        (0, 1, Ok((0, 0, None, None))),
+        (1, 65_536, Ok((65_536, 1, Some(0), None))),
+        (1, 65_537, Err(9)),
+        (4_096, 16, Ok((65_536, 4_096, Some(0), Some(4_095)))),
+        (4_096, 17, Err(9)),
+        (4_097, 1, Err(11)),
+        (4_097, 17, Err(11)),
     ] {
-        let lengths: Vec<u32> = vec![in alloc; length; count]?;
-        let areas = areas_of(alloc, lengths.as_slice())?.expect(&rt, "areas");
-        match Layout::build(alloc, areas.as_slice()) {
-            Ok(layout) => {
-                assert_eq!(rt; refused, None, "{count} of {length}");
-                assert_eq!(rt; u64::from(layout.words()), count as u64 * u64::from(length));
-                assert_eq!(rt; layout.len() as usize, count);
-                assert_eq!(rt;
-                    layout.find(Res::Gk(0)),
-                    if count == 0 { None } else { Some(0) }
-                );
-                assert_eq!(rt;
-                    layout.find(Res::Gk(4_095)),
-                    if count < 4_096 { None } else { Some(4_095) }
-                );
-                assert_eq!(rt; layout.find(Res::Ga(0)), None);
-            }
-            Err(Or::Fault(hit)) => {
-                assert_eq!(rt; Some(hit.limit), refused, "{count} of {length}");
-                assert_eq!(rt; hit.line, 0);
-            }
-            Err(Or::OutOfMemory) => assert!(rt; false, "no memory"),
-        }
+        assert_eq!(rt;
+            lay(rt.alloc(), count, length)?,
+            want,
+            "{count} of {length}"
+        );
     }
     Ok(())
 }
@@ -47,24 +50,18 @@ fn layouts_find_and_refuse(rt: HostRuntime) -> Result<(), Fail> {
 #[test]
 fn jobs_add_in_order(rt: HostRuntime) -> Result<(), Fail> {
     let alloc = rt.alloc();
-    let areas = areas_of(alloc, &[1, 2, 2])?.expect(&rt, "areas");
-    let layout = Layout::build(alloc, areas.as_slice()).expect(&rt, "layout");
+    let (areas, layout) = laid(alloc, &[1, 2, 2]).expect(&rt, "a layout");
     let feet: [(&[u32], &[u32]); 3] = [(&[0], &[0]), (&[0, 1], &[0]), (&[0, 2], &[0, 2])];
-    let mut jobs = adders(alloc, areas.as_slice(), &feet)?.expect(&rt, "jobs");
-    let mut words: Vec<u64> = Vec::from_array(alloc, [5, 0, 0, 7, u64::MAX])?;
-    assert_eq!(rt; words.len(), layout.words() as usize);
+    let before = [5, 0, 0, 7, u64::MAX];
+    let mut jobs = adders(alloc, &areas, &feet)?.expect(&rt, "jobs");
+    let mut words = words_of(alloc, &layout, &before).expect(&rt, "words");
     play(&layout, jobs.as_mut_slice(), &mut words);
     assert_eq!(rt; words.as_slice(), [8, 0, 0, 8, 0].as_slice());
     Ok(())
 }
 
-// The second note reads what the first wrote, and keeps it in a register.
-#[test]
-fn notes_keep_registers(rt: HostRuntime) -> Result<(), Fail> {
-    let alloc = rt.alloc();
-    let areas = areas_of(alloc, &[1, 1])?.expect(&rt, "areas");
-    let layout = Layout::build(alloc, areas.as_slice()).expect(&rt, "layout");
-    let both = foot(alloc, &[0, 1], &[0, 1])?;
+// A note that adds 10 to the first cell and takes 1 from the second.
+fn up_and_down(alloc: Global) -> Result<Part, AllocError> {
     let code = [
         Op::Read(0, 0),
         Op::Add(0, 10),
@@ -73,30 +70,25 @@ fn notes_keep_registers(rt: HostRuntime) -> Result<(), Fail> {
         Op::Add(1, -1),
         Op::Write(1, 1),
     ];
-    let first = Mini::new(
-        areas.as_slice(),
-        &both,
-        &code,
-        Vec::from_array(alloc, [0, 0])?,
-    )
-    .expect(&rt, "first");
-    let second = Mini::new(
-        areas.as_slice(),
-        &both,
-        &code,
-        Vec::from_array(alloc, [3, 3])?,
-    )
-    .expect(&rt, "second");
-    let mut jobs = Vec::new(alloc);
-    jobs.push(first)?;
-    jobs.push(second)?;
-    let mut words: Vec<u64> = Vec::from_array(alloc, [1, 0])?;
-    assert_eq!(rt; words.len(), layout.words() as usize);
+    Ok(Part {
+        foot: foot(alloc, &[0, 1], &[0, 1])?,
+        ops: Vec::from_array(alloc, code)?,
+    })
+}
+
+// The second note reads what the first wrote, and keeps it in a register.
+#[test]
+fn notes_keep_registers(rt: HostRuntime) -> Result<(), Fail> {
+    let alloc = rt.alloc();
+    let (areas, layout) = laid(alloc, &[1, 1]).expect(&rt, "a layout");
+    let parts = Vec::from_array(alloc, [up_and_down(alloc)?, up_and_down(alloc)?])?;
+    let mut jobs = minis(alloc, &areas, &parts)?.expect(&rt, "notes");
+    let mut words = words_of(alloc, &layout, &[1, 0]).expect(&rt, "words");
     play(&layout, jobs.as_mut_slice(), &mut words);
     assert_eq!(rt; words.as_slice(), [21, u64::MAX - 1].as_slice());
-    assert_eq!(rt; jobs.len(), 2);
-    assert_eq!(rt; jobs[0].regs(), [11, -1].as_slice());
-    assert_eq!(rt; jobs[1].regs(), [21, -2].as_slice());
-    assert_eq!(rt; jobs[1].footprint().uses.len(), 2);
+    for (note, regs) in jobs.iter().zip([[11, -1], [21, -2]]) {
+        assert_eq!(rt; note.regs(), regs.as_slice());
+        assert_eq!(rt; note.footprint().uses.len(), 2);
+    }
     Ok(())
 }

@@ -1,4 +1,3 @@
-use Rattle.std.proofs.Common.{◌≡◌}
 use Rattle.cs_trial.specs.Adder.{adding}
 use Rattle.cs_trial.specs.Playing.{ArePlaying}
 use Rattle.cs_trial.proofs.board_tests.play_calls.Given as goal

@@ -1,4 +1,4 @@
-use Rattle.std.proofs.Common.{◌≡◌, ◌<◌, subst, arith, ℕ, length, get_or}
+use Rattle.std.proofs.Common.{◌<◌, subst, arith, length, get_or}
 use Rattle.std.specs.List.{Contains}
 use Rattle.std.proofs.lemmas.List.{get_or_default}
 use Rattle.cs_trial.proofs.Firsts.{one_more}

@@ -1,4 +1,4 @@
-use Rattle.std.proofs.Common.{◌≡◌, ◌<◌, ◌≤◌, ℕ, get_or}
+use Rattle.std.proofs.Common.{◌<◌, ◌≤◌, ℕ, get_or}
 use Rattle.std.specs.List.{Contains}
 use Rattle.cs_trial.proofs.boards.are_among.Given as goal
 

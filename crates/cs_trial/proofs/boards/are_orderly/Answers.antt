@@ -1,4 +1,4 @@
-use Rattle.std.proofs.Common.{◌≡◌, ◌<◌, subst, sym, ap, ◌∙◌, arith, ℕ}
+use Rattle.std.proofs.Common.{subst, arith}
 use Rattle.cs_rule.specs.Plans.{IsFootprint}
 use Rattle.cs_trial.proofs.Firsts.{one_more}
 use Rattle.cs_trial.proofs.boards.are_orderly.Goals as goal

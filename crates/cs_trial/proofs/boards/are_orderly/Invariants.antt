@@ -1,4 +1,4 @@
-use Rattle.std.proofs.Common.{◌≡◌, ◌<◌, ◌≤◌, ℕ, get_or}
+use Rattle.std.proofs.Common.{◌<◌, ◌≤◌, ℕ, get_or}
 use Rattle.cs_rule.specs.Plans.{IsFootprint}
 use Rattle.cs_trial.proofs.boards.are_orderly.Given as goal
 

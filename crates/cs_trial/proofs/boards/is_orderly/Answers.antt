@@ -1,4 +1,4 @@
-use Rattle.std.proofs.Common.{◌≡◌, ◌<◌, subst, sym, ℕ}
+use Rattle.std.proofs.Common.{◌<◌, subst, sym, ℕ}
 use Rattle.std.specs.List.{Contains}
 use Rattle.std.specs.List.Sorted.{IsStrictlyIncreasing}
 use Rattle.cs_trial.proofs.boards.is_orderly.Goals as goal

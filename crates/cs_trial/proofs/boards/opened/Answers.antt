@@ -1,4 +1,4 @@
-use Rattle.std.proofs.Common.{◌≡◌, length, refl, subst, ap, ◌∙◌}
+use Rattle.std.proofs.Common.{length, refl, subst, ap, ◌∙◌}
 use Rattle.std.specs.List.{All}
 use Rattle.cs_rule.specs.Plans.{IsFootprint}
 use Rattle.cs_trial.proofs.boards.opened.Goals as goal

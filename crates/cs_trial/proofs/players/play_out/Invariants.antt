@@ -1,4 +1,3 @@
-use Rattle.std.proofs.Common.{◌≡◌}
 use Rattle.cs_trial.specs.Playing.{ArePlaying}
 use Rattle.cs_trial.proofs.players.play_out.Given as goal
 

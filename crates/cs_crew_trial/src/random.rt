@@ -1,14 +1,13 @@
 // Random small cycles of fixed seeds, and whether a crew plays them as the fold does.
-ghost use Rattle.std.specs.Prelude.{◌≡◌, ◌<◌, ◌≤◌, length, All, IfOk, IfSome};
+ghost use Rattle.std.specs.Prelude.{◌≡◌, ◌<◌, ◌≤◌, length};
 ghost use Rattle.cs_cells.specs.Areas.{word_count};
 
-use crate::boards::{after, crewed};
-use crate::fixtures::{areas_of, play};
-use crate::mini::{Mini, Op};
+use crate::crews::{after, crewed};
 use cs_base::Places;
 use cs_board::Loaded;
 use cs_cells::{Area, Footprint, Layout};
 use cs_edge::OpenGate;
+use cs_trial::{Mini, Op, Part, laid, minis, play};
 use std::alloc::{AllocError, Global};
 use std::sync::Wait;
 use std::thread::Threads;
@@ -35,13 +34,6 @@ impl Dice {
             .wrapping_add(1_442_695_040_888_963_407);
         (self.state / 0x1_0000_0000 % u64::from(sides)) as u32
     }
-}
-
-/// What a note of the small machine is made of.
-#[derive(Drop)]
-pub struct Part {
-    pub foot: Footprint,
-    pub ops: Vec<Op>,
 }
 
 fn draw_foot(alloc: Global, dice: &mut Dice, areas: usize) -> Result<Footprint, AllocError> {
@@ -112,25 +104,6 @@ fn draw_numbers(
     Ok(numbers)
 }
 
-/// The notes of these parts, each with two registers.
-pub fn minis<'t>(
-    alloc: Global,
-    areas: &'t [Area],
-    parts: &'t [Part],
-) -> Result<Option<Vec<Mini<'t>>>, AllocError>
-    ensures { IfOk result (λ o. IfSome o (λ v. All (λ j. j.areas ≡ areas.now) v.items)) }
-{
-    let mut notes = Vec::new(alloc);
-    for part in parts {
-        let regs = Vec::from_array(alloc, [0, 0])?;
-        let Some(note) = Mini::new(areas, &part.foot, part.ops.as_slice(), regs) else {
-            return Ok(None);
-        };
-        notes.push(note)?;
-    }
-    Ok(Some(notes))
-}
-
 fn are_alike(notes: &[Mini<'_>], others: &[Mini<'_>]) -> bool {
     for (note, other) in notes.iter().zip(others) {
         if note.regs() != other.regs() {
@@ -182,10 +155,7 @@ pub fn plays_as_fold<R: Threads + Wait + Sync>(
     let mut dice = Dice::new(seed);
     let count = 1 + dice.roll(6);
     let lengths = draw_numbers(alloc, &mut dice, count, 4)?;
-    let Some(areas) = areas_of(alloc, lengths.as_slice())? else {
-        return Ok(false);
-    };
-    let Ok(layout) = Layout::build(alloc, areas.as_slice()) else {
+    let Some((areas, layout)) = laid(alloc, lengths.as_slice()) else {
         return Ok(false);
     };
     let mut parts = Vec::new(alloc);

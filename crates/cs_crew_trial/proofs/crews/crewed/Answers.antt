@@ -1,7 +1,7 @@
 use Rattle.std.proofs.Common.{length, refl, subst, ap, ◌∙◌}
 use Rattle.std.specs.List.{All}
 use Rattle.cs_rule.specs.Plans.{IsFootprint}
-use Rattle.cs_trial.proofs.boards.crewed.Goals as goal
+use Rattle.cs_crew_trial.proofs.crews.crewed.Goals as goal
 
 pub run_cycle-requires-clause-footprints : goal.run_cycle-requires-clause-footprints
 run_cycle-requires-clause-footprints g c lives outlive =

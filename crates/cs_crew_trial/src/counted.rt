@@ -1,8 +1,8 @@
 // A job whose runs can be counted from outside.
 ghost use Rattle.std.specs.Prelude.{◌≡◌, All, IfOk, IfSome};
 
-use crate::{AddOne, foot};
 use cs_cells::{Area, Bank, Footprint, Job};
+use cs_trial::{AddOne, foot};
 use std::alloc::{AllocError, Global};
 use std::marker::Model;
 use std::sync::atomic::{AtomicU64, Ordering};

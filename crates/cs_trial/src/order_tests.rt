@@ -1,0 +1,137 @@
+// All small graphs, by every order of the calls of two seats: each leaves what the serial run leaves.
+ghost use Rattle.std.specs.Prelude.{◌≡◌};
+
+use crate::{Op, Part, foot, laid, minis, opened, play_two, words_of};
+use cs_board::{Loaded, Tally};
+use cs_cells::{Area, Layout};
+use std::alloc::{AllocError, Global};
+use std::sync::Wait;
+use std::test::Fail;
+
+/// The pairs of four notes, each with the place of its own resource, where the second waits for the first.
+const PAIRS: [(u32, u32, u32); 6] = [
+    (0, 0, 1),
+    (1, 0, 2),
+    (2, 1, 2),
+    (3, 0, 3),
+    (4, 1, 3),
+    (5, 2, 3),
+];
+
+// The resources of the pairs that the note is in, and its own one behind those of all pairs.
+fn places_of(alloc: Global, note: u32, pairs: u32) -> Result<Vec<u32>, AllocError> {
+    let mut places = Vec::new(alloc);
+    let mut left = pairs;
+    for (place, p, t) in PAIRS {
+        if left % 2 == 1 && (p == note || t == note) {
+            places.push(place)?;
+        }
+        left /= 2;
+    }
+    places.push(6 + note % 4)?;
+    Ok(places)
+}
+
+// The note writes its number, from 1, into each of its resources.
+fn part_of(alloc: Global, note: u32, pairs: u32) -> Result<Part, AllocError> {
+    let places = places_of(alloc, note, pairs)?;
+    let mut ops = Vec::new(alloc);
+    ops.push(Op::Add(0, i64::from(note) + 1))?;
+    for place in &places {
+        ops.push(Op::Write(*place, 0))?;
+    }
+    Ok(Part {
+        foot: foot(alloc, &places, &places)?,
+        ops,
+    })
+}
+
+fn parts_of(alloc: Global, notes: u32, pairs: u32) -> Result<Vec<Part>, AllocError> {
+    let mut parts = Vec::new(alloc);
+    for note in 0..notes {
+        parts.push(part_of(alloc, note, pairs)?)?;
+    }
+    Ok(parts)
+}
+
+// What the serial run leaves: the later note's number in each pair's resource, and each note's in its own.
+fn serial_words(alloc: Global, notes: u32, pairs: u32) -> Result<Vec<u64>, AllocError> {
+    let mut words = Vec::new(alloc);
+    let mut left = pairs;
+    for (_, _, later) in PAIRS {
+        words.push(if left % 2 == 1 {
+            u64::from(later) + 1
+        } else {
+            0
+        })?;
+        left /= 2;
+    }
+    for note in 0..4 {
+        words.push(if note < notes { u64::from(note) + 1 } else { 0 })?;
+    }
+    Ok(words)
+}
+
+// What the notes leave by one order of calls.
+fn play_small<R: Wait>(
+    rt: &R,
+    alloc: Global,
+    layout: &Layout,
+    areas: &[Area],
+    parts: &[Part],
+    order: u32,
+) -> Option<Vec<u64>>
+    requires { layout.now ≡ areas.now }
+{
+    let Ok(Some(jobs)) = minis(alloc, areas, parts) else {
+        return None;
+    };
+    let words = words_of(alloc, layout, &[0; 10])?;
+    let Ok((board, seat)) = opened(alloc, layout, Loaded { words, jobs }) else {
+        return None;
+    };
+    let receipt = play_two(rt, board, seat, order);
+    let Loaded { words, jobs } = Tally::new().add(receipt);
+    drop(jobs);
+    Some(words)
+}
+
+// Whether each of these orders of calls leaves what the serial run leaves.
+fn is_serial<R: Wait>(
+    rt: &R,
+    alloc: Global,
+    notes: u32,
+    pairs: u32,
+    orders: u32,
+) -> Result<bool, AllocError> {
+    let Some((areas, layout)) = laid(alloc, &[1; 10]) else {
+        return Ok(false);
+    };
+    let parts = parts_of(alloc, notes, pairs)?;
+    let serial = serial_words(alloc, notes, pairs)?;
+    for order in 0..orders {
+        let played = play_small(rt, alloc, &layout, &areas, &parts, order);
+        if !matches!(&played, Some(words) if words.as_slice() == serial.as_slice()) {
+            return Ok(false);
+        }
+    }
+    Ok(true)
+}
+
+// All graphs of up to four notes, by every order of the claims, runs and finishes that the notes need.
+#[test]
+fn small_graphs_by_every_order(rt: HostRuntime) -> Result<(), Fail> {
+    for (notes, graphs, orders) in [
+        (0, 1, 1),
+        (1, 1, 8),
+        (2, 2, 64),
+        (3, 8, 512),
+        (4, 64, 4_096),
+    ] {
+        for pairs in 0..graphs {
+            let right = is_serial(&rt, rt.alloc(), notes, pairs, orders)?;
+            assert!(rt; right, "{notes} notes, pairs {pairs}");
+        }
+    }
+    Ok(())
+}
