@@ -1,9 +1,10 @@
-i1 0 1 16384
-i1 2 1 16384
-i1 4 1 16384
-i1 6 1 16384
-i1 8 1 16384
-i1 10 1 16384
-i1 12 1 16384
-i1 14 1 16384
+; a note of one second every two: the level changes at each second
+i1  0 1 16384
+i1 ^+2 . .
+i1 ^+2 . .
+i1 ^+2 . .
+i1 ^+2 . .
+i1 ^+2 . .
+i1 ^+2 . .
+i1 ^+2 . .
 e
