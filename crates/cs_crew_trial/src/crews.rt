@@ -11,6 +11,9 @@ use std::alloc::Global;
 use std::sync::Wait;
 use std::thread::Threads;
 
+/// The number of the control cycle that is played.
+pub const CYCLE: u32 = 7;
+
 /// The cycle of the jobs, run by so many workers. Where there is no memory for it, where there are more than 512 jobs,
 /// or where a footprint isn't in order, the jobs come back.
 pub fn crewed<J: Job + Send, G: Gate + Sync, R: Threads + Wait + Sync>(
@@ -28,7 +31,7 @@ pub fn crewed<J: Job + Send, G: Gate + Sync, R: Threads + Wait + Sync>(
     let Some(graph) = graph_of(alloc, layout, &loaded.jobs) else {
         return Err(loaded);
     };
-    run_cycle(rt, alloc, workers, 0, &graph, layout, loaded, gate)
+    run_cycle(rt, alloc, workers, CYCLE, &graph, layout, loaded, gate)
 }
 
 /// What a cycle left, or None where it wasn't run.

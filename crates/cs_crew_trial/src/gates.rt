@@ -1,4 +1,5 @@
 // Gates that tell what the workers did.
+use crate::crews::CYCLE;
 use cs_edge::Gate;
 use std::sync::atomic::{AtomicU64, Ordering};
 
@@ -38,7 +39,8 @@ impl Gate for Meeting {
     }
 }
 
-/// Counts calls, and those that came when another number of notes had run than there are before the note.
+/// Counts calls, and marks one that has another cycle's number, or that came when another number of notes had run than
+/// there are before the note.
 #[derive(Drop)]
 pub struct Watcher<'t> {
     runs: &'t AtomicU64,
@@ -68,7 +70,7 @@ impl<'t> Gate for Watcher<'t> {
     fn before(&self, cycle: u32, note: u32) {
         let before = self.calls.fetch_add(1, Ordering::SeqCst);
         let ran = self.runs.load(Ordering::SeqCst);
-        if cycle != 0 || before != u64::from(note) || ran != u64::from(note) {
+        if cycle != CYCLE || before != u64::from(note) || ran != u64::from(note) {
             self.astray.store(1, Ordering::SeqCst);
         }
     }

@@ -15,7 +15,7 @@ mod gates;
 mod random;
 
 pub use counted::{Counted, counting_jobs};
-pub use crews::{add_by_crew, after, crewed};
+pub use crews::{CYCLE, add_by_crew, after, crewed};
 pub use gates::{Meeting, Watcher};
 pub use random::{Dice, plays_as_fold};
 
