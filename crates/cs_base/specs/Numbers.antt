@@ -1,4 +1,4 @@
-use Rattle.std.specs.Prelude.{ℤ, pos, negsuc, ◌≤ℤ◌, ◌+ℤ◌, ◌-ℤ◌, ◌*ℤ◌, neg_ℤ, suc, if◌then◌else◌, unsigned_abs}
+use Rattle.std.specs.Prelude.{ℤ, List, [], ◌∷◌, pos, negsuc, ◌≤ℤ◌, ◌+ℤ◌, ◌-ℤ◌, ◌*ℤ◌, neg_ℤ, suc, if◌then◌else◌, unsigned_abs}
 use Rattle.std.specs.Int.{int_max, int_min, int_div_euclid, is_positive, is_negative}
 use Rattle.std.specs.Ordering.{int_eq}
 
@@ -26,6 +26,11 @@ one = pos 65536
 abbrev pub floor_div : ℤ → ℤ → ℤ
 floor_div n (pos d) = int_div_euclid n (pos d)
 floor_div n (negsuc d) = int_div_euclid (neg_ℤ n) (pos (suc d))
+
+-- the sum of whole numbers, without bounds
+abbrev pub total : List ℤ → ℤ
+total [] = pos 0
+total (z ∷ zs) = z +ℤ total zs
 
 -- x + y
 abbrev pub sum_of : ℤ → ℤ → ℤ

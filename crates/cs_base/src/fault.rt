@@ -213,11 +213,3 @@ pub struct ScoreFault {
     pub line: u32,
     pub kind: ScoreKind,
 }
-
-/// A stated limit that was passed, by its number, and the line that passes it: 0 where no place in a text does.
-#[derive(Clone, Copy, Debug, PartialEq, Eq, Error)]
-#[error("limit L{limit} passed at line {line}")]
-pub struct LimitHit {
-    pub limit: u8,
-    pub line: u32,
-}

@@ -1,11 +1,16 @@
 // What holds of the arithmetic for all numbers, said once for every caller: calls that do nothing, whose contracts are the laws.
-ghost use Rattle.std.specs.Prelude.{◌≡◌, ℤ, pos, neg_ℤ, ◌+ℤ◌, ◌-ℤ◌, ◌*ℤ◌, ◌≤ℤ◌, ◌<ℤ◌, ℕ, List, Some};
+ghost use Rattle.std.specs.Prelude.{◌≡◌, ◌↔◌, ◌⊎◌, true, ℤ, pos, neg_ℤ, ◌+ℤ◌, ◌-ℤ◌, ◌*ℤ◌, ◌≤ℤ◌, ◌<ℤ◌, ℕ, List, Some, None, codes};
+ghost use Rattle.std.specs.List.{list_all};
 ghost use Rattle.std.specs.Cmp.{IsTotalOrder};
 ghost use Rattle.std.specs.Ordering.{int_cmp};
 ghost use Rattle.std.specs.declared.cmp.Ordering.TheVariants.{Equal};
 ghost use Rattle.cs_base.specs.declared.decimal.Decimal.{Decimal};
-ghost use Rattle.cs_base.specs.Numbers.{IsRaw, clamp, one, floor_div, sum_of, difference_of, product_of, quotient_of, remainder_of, floor_of, int_of, frac_of, abs_of};
+ghost use Rattle.cs_base.specs.Numbers.{IsRaw, clamp, least, one, floor_div, sum_of, difference_of, product_of, quotient_of, remainder_of, floor_of, int_of, frac_of, abs_of};
 ghost use Rattle.cs_base.specs.Decimals.{decimal_of, raw_of_decimal};
+ghost use Rattle.cs_base.specs.Comments.{comment_len, is_open_comment};
+ghost use Rattle.cs_base.specs.Rates.{same_rate, same_res, within, faster, fastest};
+ghost use Rattle.cs_base.specs.declared.resource.Rate.{Rate};
+ghost use Rattle.cs_base.specs.declared.resource.Res.{Res};
 
 /// Every result lies in the range of numbers, and a value of the range is its own `clamp`.
 pub fn results_in_range()
@@ -48,4 +53,35 @@ pub fn parts_of_a_number()
 pub fn order_is_total()
     ensures total { IsTotalOrder int_cmp }
     ensures equal { (x y : ℤ) → int_cmp x y ≡ Equal → x ≡ y }
+{}
+
+/// `within` orders the rates, `faster` is the greater of two in that order, and `fastest` the greatest of some.
+pub fn rates_are_ordered()
+    ensures once { (r s : Rate) → within r s ≡ true → within s r ≡ true → r ≡ s }
+    ensures chain { (r s t : Rate) → within r s ≡ true → within s t ≡ true → within r t ≡ true }
+    ensures either { (r s : Rate) → (within r s ≡ true) ⊎ (within s r ≡ true) }
+    ensures one_of_two { (r s : Rate) → (faster r s ≡ r) ⊎ (faster r s ≡ s) }
+    ensures above_two { (r s : Rate) → (within r (faster r s) ≡ true) × (within s (faster r s) ≡ true) }
+    ensures above_all { (rs : List Rate) → list_all (λ r. within r (fastest rs)) rs ≡ true }
+    ensures least { (rs : List Rate) (s : Rate)
+        → list_all (λ r. within r s) rs ≡ true → within (fastest rs) s ≡ true }
+{}
+
+/// The tests for the same rate and the same resource answer yes exactly where the two are equal.
+pub fn sameness_is_equality()
+    ensures rate { (r s : Rate) → (same_rate r s ≡ true) ↔ (r ≡ s) }
+    ensures resource { (r s : Res) → (same_res r s ≡ true) ↔ (r ≡ s) }
+{}
+
+/// The examples of docs/MEANING.md and docs/LANGUAGE.md, computed by the definitions: a number n is `n *ℤ one`.
+pub fn worked_examples()
+    ensures third { quotient_of (neg_ℤ one) (pos 3 *ℤ one) ≡ neg_ℤ (pos 21846) }
+    ensures left { remainder_of (neg_ℤ one) (pos 3 *ℤ one) ≡ pos 2 *ℤ one }
+    ensures by_zero { quotient_of (neg_ℤ one) (pos 0) ≡ least }
+    ensures half { decimal_of (codes ".5") ≡ Some (record { whole = 0; billionths = 500000000 }) }
+    ensures ninth { decimal_of (codes "1.0000000019") ≡ Some (record { whole = 1; billionths = 1 }) }
+    ensures power { decimal_of (codes "1e3") ≡ None }
+    ensures closed { comment_len (codes "/* a */ b") ≡ 7 }
+    ensures to_line_feed { comment_len (codes "// a\nb") ≡ 4 }
+    ensures left_open { (is_open_comment (codes "/*/") ≡ true) × (comment_len (codes "/*/") ≡ 3) }
 {}

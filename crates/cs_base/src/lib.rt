@@ -1,29 +1,44 @@
-//! The bottom layer: numbers, faults with their lines, and the small types that every other crate shares.
+//! The bottom layer: what every other crate shares, each thing said once for code and definitions.
 //!
 //! Its one contract: all arithmetic of the profile is `Num`'s, and each call is its row over whole numbers without
-//! bounds, then `clamp`; no crate above computes with 65,536ths by itself. How `Num` computes, and how a decimal is
-//! read, may be changed without anyone above noticing; the definitions in specs/ may not.
+//! bounds, then `clamp`; a limit, a blank, a comment and the order of rates are what specs/ says they are. How `Num`
+//! computes, and how a decimal or a comment is read, may be changed without anyone above noticing; the definitions in
+//! specs/ may not.
 //!
-//! To be read in this order: `number` (arithmetic), `laws` (what holds of it, proved once for all callers),
-//! `decimal` (numbers as a text writes them), `fault` (what a text is refused for), `head`, `resource`, `items`
-//! (the one list type), `text`, `steps`.
+//! To be read in this order: `number` (arithmetic), `laws` (what holds of the definitions, and worked examples),
+//! `decimal` (numbers as a text writes them), `lines` and `comments` (what both languages have between their words),
+//! `fault` and `limit` (what a text is refused for), `head`, `resource` (rates, and what notes share), `items` (the
+//! one list type), `text`, `steps`.
 #![tactic(auto)]
 
+mod comments;
 mod decimal;
 mod fault;
 mod head;
 mod items;
 mod laws;
+mod limit;
+mod lines;
 mod number;
 mod resource;
 mod steps;
 mod text;
 
+pub use comments::{begins_comment, comment_len, is_open_comment};
 pub use decimal::{Decimal, read_decimal};
-pub use fault::{LimitHit, Or, OrcFault, OrcKind, OutOfMemory, ScoreFault, ScoreKind};
+pub use fault::{Or, OrcFault, OrcKind, OutOfMemory, ScoreFault, ScoreKind};
 pub use head::Head;
 pub use items::{Bytes, Items, Name, Names, Numbers, Nums, Places, Rates};
-pub use laws::{division_rounds_down, order_is_total, parts_of_a_number, results_in_range};
+pub use laws::{
+    division_rounds_down, order_is_total, parts_of_a_number, rates_are_ordered, results_in_range,
+    sameness_is_equality, worked_examples,
+};
+pub use limit::{
+    Limit, LimitHit, MOST_DELAY_SAMPLES, MOST_EVENTS, MOST_INSTRUMENTS, MOST_NOTES,
+    MOST_ORCHESTRA_BYTES, MOST_RESOURCES, MOST_SCORE_BYTES, MOST_STATEMENTS, MOST_TABLES,
+    MOST_WAV_BYTES, MOST_WORDS,
+};
+pub use lines::{feeds, is_blank, line_len};
 pub use number::Num;
 pub use resource::{Rate, Res};
 pub use steps::Steps;

@@ -1,5 +1,5 @@
 // A number of the profile is a whole count of 65,536ths; nothing anywhere is floating point.
-ghost use Rattle.std.specs.Prelude.{◌≡◌, ◌≢◌, ◌<◌, ◌^◌, pos, ◌+ℤ◌, ◌-ℤ◌, ◌*ℤ◌, ◌≤ℤ◌, neg_ℤ, unsigned_abs};
+ghost use Rattle.std.specs.Prelude.{◌≡◌, ◌≢◌, ◌<◌, ◌^◌, pos, ◌+ℤ◌, ◌-ℤ◌, ◌*ℤ◌, ◌≤ℤ◌, ◌<ℤ◌, neg_ℤ, unsigned_abs, IsTrue, ◌↔◌};
 ghost use Rattle.std.specs.Int.{int_div_euclid};
 ghost use Rattle.std.specs.Ordering.{int_cmp};
 ghost use Rattle.cs_base.specs.Numbers.{IsRaw, clamp, one, floor_div, sum_of, difference_of, product_of, quotient_by_zero, quotient_of, remainder_of, floor_of, int_of, frac_of, abs_of};
@@ -42,6 +42,27 @@ impl Num {
         }
     }
 
+    /// The number of so many 65,536ths, which lie in range.
+    pub fn exact(raw: i64) -> Num
+        requires { IsRaw raw }
+        ensures { result ≡ raw }
+    {
+        Num { raw }
+    }
+
+    /// The number of so many 65,536ths in 128 bits, brought into range.
+    pub fn of_wide(raw: i128) -> Num
+        ensures { result ≡ clamp raw }
+    {
+        if raw > GREATEST as i128 {
+            return Num { raw: GREATEST };
+        }
+        if raw < LEAST as i128 {
+            return Num { raw: LEAST };
+        }
+        Num { raw: raw as i64 }
+    }
+
     /// A whole number, brought into range.
     pub fn of_whole(n: i64) -> Num
         ensures { result ≡ clamp (n *ℤ pos 65536) }
@@ -75,7 +96,12 @@ impl Num {
     pub fn mul(self, other: Num) -> Num
         ensures { result ≡ product_of self other }
     {
-        narrowed(floored(times(self.raw, other.raw), ONE))
+        // Both arms are the same text: in the first the compiler knows that the product fits into 64 bits.
+        if is_short(self.raw) && is_short(other.raw) {
+            Num::of_wide(floored(times(self.raw, other.raw), ONE))
+        } else {
+            Num::of_wide(floored(times(self.raw, other.raw), ONE))
+        }
     }
 
     /// The quotient, rounded down and brought into range. By 0 it is the greatest number where `self` is above 0,
@@ -88,7 +114,7 @@ impl Num {
                 raw: by_zero(self.raw),
             }
         } else {
-            narrowed(floored(times(self.raw, ONE), other.raw))
+            Num::of_wide(floored(times(self.raw, ONE), other.raw))
         }
     }
 
@@ -149,6 +175,13 @@ impl Num {
     }
 }
 
+// Whether a value fits into 32 bits.
+fn is_short(x: i64) -> bool
+    ensures { IsTrue result ↔ ((neg_ℤ (pos (2 ^ 31)) ≤ℤ x) × (x <ℤ pos (2 ^ 31))) }
+{
+    i32::MIN as i64 <= x && x <= i32::MAX as i64
+}
+
 // The exact product.
 fn times(x: i64, y: i64) -> i128
     ensures { result ≡ x *ℤ y }
@@ -168,19 +201,6 @@ fn floored(n: i128, d: i64) -> i128
     } else {
         (-n).div_euclid(-d)
     }
-}
-
-// An exact value, brought into range.
-fn narrowed(exact: i128) -> Num
-    ensures { result ≡ clamp exact }
-{
-    if exact > GREATEST as i128 {
-        return Num { raw: GREATEST };
-    }
-    if exact < LEAST as i128 {
-        return Num { raw: LEAST };
-    }
-    Num { raw: exact as i64 }
 }
 
 // The quotient by 0.
@@ -224,59 +244,4 @@ fn whole_below(x: i64) -> i64
     ensures { result ≡ floor_of x }
 {
     x.div_euclid(ONE) * ONE
-}
-
-#[cfg(test)]
-mod tests {
-    use super::*;
-
-    #[test]
-    fn arithmetic(rt: HostRuntime) {
-        let whole = |n: i64| Num::of_whole(n);
-        let least = Num::of_raw(i64::MIN);
-        let greatest = Num::of_raw(i64::MAX);
-        let half_below = Num::of_raw(-98_304);
-        for (got, raw, what) in [
-            (whole(1).div(whole(0)), 140_737_488_355_327, "1 / 0"),
-            (whole(-1).div(whole(0)), -140_737_488_355_328, "-1 / 0"),
-            (whole(0).div(whole(0)), 0, "0 / 0"),
-            (
-                greatest.mul(greatest),
-                140_737_488_355_327,
-                "the greatest times itself",
-            ),
-            (
-                Num::of_raw(-1).mul(Num::of_raw(1)),
-                -1,
-                "a product is rounded down",
-            ),
-            (whole(-1).rem(whole(3)), 131_072, "-1 rem 3"),
-            (whole(1).rem(whole(-3)), -131_072, "1 rem -3"),
-            (whole(5).rem(whole(0)), 0, "5 rem 0"),
-            (whole(-1).div(whole(3)), -21_846, "-1 / 3"),
-            (whole(1).div(whole(-3)), -21_846, "1 / -3"),
-            (half_below.floor(), -131_072, "floor of -1.5"),
-            (half_below.int(), -65_536, "int of -1.5"),
-            (half_below.frac(), -32_768, "frac of -1.5"),
-            (
-                least.abs(),
-                140_737_488_355_327,
-                "the least without its sign",
-            ),
-            (least.int(), -140_737_488_355_328, "int of the least"),
-            (
-                greatest.add(Num::of_raw(1)),
-                140_737_488_355_327,
-                "a sum past the greatest",
-            ),
-            (
-                least.sub(Num::of_raw(1)),
-                -140_737_488_355_328,
-                "a difference past the least",
-            ),
-        ] {
-            assert_eq!(rt; got.raw(), raw, "{what}");
-        }
-        assert_eq!(rt; least.compare(greatest), Ordering::Less);
-    }
 }

@@ -1,9 +1,56 @@
+ghost use Rattle.std.specs.Prelude.{◌≡◌};
+ghost use Rattle.cs_base.specs.Rates.{how_often, same_rate, within, faster, fastest, res_kind, res_number, same_res};
+
 /// How often a value changes: once a note, once a control cycle, or once a frame.
 #[derive(Clone, Copy, Debug, PartialEq, Eq)]
 pub enum Rate {
     Init,
     Control,
     Audio,
+}
+
+impl Rate {
+    /// Whether the two are the same rate.
+    pub fn same(self, other: Rate) -> bool
+        ensures { result ≡ same_rate self other }
+    {
+        self.how_often() == other.how_often()
+    }
+
+    /// Whether a value of this rate changes no more often than one of the other.
+    pub fn within(self, other: Rate) -> bool
+        ensures { result ≡ within self other }
+    {
+        self.how_often() <= other.how_often()
+    }
+
+    /// The rate of the two that changes more often.
+    pub fn faster(self, other: Rate) -> Rate
+        ensures { result ≡ faster self other }
+    {
+        if self.within(other) { other } else { self }
+    }
+
+    /// The fastest of some rates; of none it is Init.
+    pub fn fastest(rates: &[Rate]) -> Rate
+        ensures { result ≡ fastest rates.now }
+    {
+        let mut fastest = Rate::Init;
+        for rate in rates {
+            fastest = fastest.faster(*rate);
+        }
+        fastest
+    }
+
+    fn how_often(self) -> u8
+        ensures { result ≡ how_often self }
+    {
+        match self {
+            Rate::Init => 0,
+            Rate::Control => 1,
+            Rate::Audio => 2,
+        }
+    }
 }
 
 /// What notes share. The number of a variable or a channel is its place in first-seen order, that of a zak
@@ -18,4 +65,45 @@ pub enum Res {
     Control(u32),
     Sound(u32),
     Table(u32),
+}
+
+impl Res {
+    /// Whether the two are the same resource.
+    pub fn same(self, other: Res) -> bool
+        ensures { result ≡ same_res self other }
+    {
+        self.kind() == other.kind() && self.number() == other.number()
+    }
+
+    /// Its kind: 0 to 7 in the order above.
+    pub fn kind(self) -> u8
+        ensures { result ≡ res_kind self }
+    {
+        match self {
+            Res::Gi(_) => 0,
+            Res::Gk(_) => 1,
+            Res::Ga(_) => 2,
+            Res::ZakK(_) => 3,
+            Res::ZakA(_) => 4,
+            Res::Control(_) => 5,
+            Res::Sound(_) => 6,
+            Res::Table(_) => 7,
+        }
+    }
+
+    /// Its number among those of its kind.
+    pub fn number(self) -> u32
+        ensures { result ≡ res_number self }
+    {
+        match self {
+            Res::Gi(n) => n,
+            Res::Gk(n) => n,
+            Res::Ga(n) => n,
+            Res::ZakK(n) => n,
+            Res::ZakA(n) => n,
+            Res::Control(n) => n,
+            Res::Sound(n) => n,
+            Res::Table(n) => n,
+        }
+    }
 }

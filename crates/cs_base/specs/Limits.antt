@@ -1,0 +1,76 @@
+-- The stated limits of the profile, by name: what each lets be at most, and its number.
+use Rattle.std.specs.Prelude.{ℕ}
+use Rattle.cs_base.specs.declared.limit.Limit.{Limit}
+use Rattle.cs_base.specs.declared.limit.Limit.TheVariants as limit
+
+-- bytes of an orchestra
+abbrev pub most_orchestra_bytes : ℕ
+most_orchestra_bytes = 1048576
+
+-- bytes of a score
+abbrev pub most_score_bytes : ℕ
+most_score_bytes = 4194304
+
+-- different instrument numbers of an orchestra
+abbrev pub most_instruments : ℕ
+most_instruments = 200
+
+-- statements of one instrument, those in its `if`s counted too
+abbrev pub most_statements : ℕ
+most_statements = 2000
+
+-- notes that are active in one control cycle
+abbrev pub most_notes : ℕ
+most_notes = 512
+
+-- different table numbers of a score
+abbrev pub most_tables : ℕ
+most_tables = 300
+
+-- `i` and `f` statements of a score, stops and `f 0` among them
+abbrev pub most_events : ℕ
+most_events = 100000
+
+-- bytes of the samples of a sound file
+abbrev pub most_wav_bytes : ℕ
+most_wav_bytes = 2147483648
+
+-- words of all shared resources together
+abbrev pub most_words : ℕ
+most_words = 65536
+
+-- samples of all delay lines of one note
+abbrev pub most_delay_samples : ℕ
+most_delay_samples = 262144
+
+-- shared resources
+abbrev pub most_resources : ℕ
+most_resources = 4096
+
+-- the number of a limit, as a refusal prints it
+abbrev pub limit_number : Limit → ℕ
+limit_number limit.OrchestraBytes = 1
+limit_number limit.ScoreBytes = 2
+limit_number limit.Instruments = 3
+limit_number limit.Statements = 4
+limit_number limit.Notes = 5
+limit_number limit.Tables = 6
+limit_number limit.Events = 7
+limit_number limit.WavBytes = 8
+limit_number limit.Words = 9
+limit_number limit.DelaySamples = 10
+limit_number limit.Resources = 11
+
+-- what a limit lets be at most
+abbrev pub most_of : Limit → ℕ
+most_of limit.OrchestraBytes = most_orchestra_bytes
+most_of limit.ScoreBytes = most_score_bytes
+most_of limit.Instruments = most_instruments
+most_of limit.Statements = most_statements
+most_of limit.Notes = most_notes
+most_of limit.Tables = most_tables
+most_of limit.Events = most_events
+most_of limit.WavBytes = most_wav_bytes
+most_of limit.Words = most_words
+most_of limit.DelaySamples = most_delay_samples
+most_of limit.Resources = most_resources

@@ -1,0 +1,53 @@
+-- How rates stand to each other, and when two resources are the same.
+use Rattle.std.specs.Prelude.{ℕ, Bool, List, [], ◌∷◌, ◌&&◌, ◌==◌, nat_le, if◌then◌else◌}
+use Rattle.cs_base.specs.declared.resource.Rate.{Rate}
+use Rattle.cs_base.specs.declared.resource.Rate.TheVariants as rate
+use Rattle.cs_base.specs.declared.resource.Res.{Res}
+use Rattle.cs_base.specs.declared.resource.Res.TheVariants as res
+
+-- the rates in order: once a note, once a control cycle, once a frame
+abbrev pub how_often : Rate → ℕ
+how_often rate.Init = 0
+how_often rate.Control = 1
+how_often rate.Audio = 2
+
+abbrev pub same_rate : Rate → Rate → Bool
+same_rate r s = how_often r == how_often s
+
+-- whether a value of the first rate changes no more often than one of the second
+abbrev pub within : Rate → Rate → Bool
+within r s = nat_le (how_often r) (how_often s)
+
+-- the rate of the two that changes more often
+abbrev pub faster : Rate → Rate → Rate
+faster r s = if within r s then s else r
+
+-- the fastest of some rates; of none it is Init
+abbrev pub fastest : List Rate → Rate
+fastest [] = rate.Init
+fastest (r ∷ rs) = faster r (fastest rs)
+
+-- the kinds of resources
+abbrev pub res_kind : Res → ℕ
+res_kind (res.Gi n) = 0
+res_kind (res.Gk n) = 1
+res_kind (res.Ga n) = 2
+res_kind (res.ZakK n) = 3
+res_kind (res.ZakA n) = 4
+res_kind (res.Control n) = 5
+res_kind (res.Sound n) = 6
+res_kind (res.Table n) = 7
+
+-- the number of a resource among those of its kind
+abbrev pub res_number : Res → ℕ
+res_number (res.Gi n) = n
+res_number (res.Gk n) = n
+res_number (res.Ga n) = n
+res_number (res.ZakK n) = n
+res_number (res.ZakA n) = n
+res_number (res.Control n) = n
+res_number (res.Sound n) = n
+res_number (res.Table n) = n
+
+abbrev pub same_res : Res → Res → Bool
+same_res r s = res_kind r == res_kind s && res_number r == res_number s

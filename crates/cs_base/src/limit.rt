@@ -1,0 +1,92 @@
+// The stated limits of the profile: their numbers, and what each lets be.
+ghost use Rattle.std.specs.Prelude.{◌≡◌};
+ghost use Rattle.cs_base.specs.Limits.{limit_number, most_of};
+
+use thiserror::Error;
+
+/// Bytes of an orchestra.
+pub const MOST_ORCHESTRA_BYTES: usize = 1_048_576;
+/// Bytes of a score.
+pub const MOST_SCORE_BYTES: usize = 4_194_304;
+/// Different instrument numbers of an orchestra.
+pub const MOST_INSTRUMENTS: usize = 200;
+/// Statements of one instrument, those in its `if`s counted too.
+pub const MOST_STATEMENTS: usize = 2_000;
+/// Notes that are active in one control cycle.
+pub const MOST_NOTES: usize = 512;
+/// Different table numbers of a score.
+pub const MOST_TABLES: usize = 300;
+/// `i` and `f` statements of a score, stops and `f 0` among them.
+pub const MOST_EVENTS: usize = 100_000;
+/// Bytes of the samples of a sound file.
+pub const MOST_WAV_BYTES: u64 = 2_147_483_648;
+/// Words of all shared resources together: one a variable, a channel or a zak place, one a point of a table.
+pub const MOST_WORDS: usize = 65_536;
+/// Samples of all delay lines of one note.
+pub const MOST_DELAY_SAMPLES: usize = 262_144;
+/// Shared resources.
+pub const MOST_RESOURCES: usize = 4_096;
+
+/// A stated limit, in the order of their numbers. It is passed where what it counts is more than its greatest number.
+#[derive(Clone, Copy, Debug, PartialEq, Eq)]
+pub enum Limit {
+    OrchestraBytes,
+    ScoreBytes,
+    Instruments,
+    Statements,
+    Notes,
+    Tables,
+    Events,
+    WavBytes,
+    Words,
+    DelaySamples,
+    Resources,
+}
+
+impl Limit {
+    /// The limit's number, from 1 to 11, as a refusal prints it.
+    pub fn number(self) -> u8
+        ensures { result ≡ limit_number self }
+    {
+        match self {
+            Limit::OrchestraBytes => 1,
+            Limit::ScoreBytes => 2,
+            Limit::Instruments => 3,
+            Limit::Statements => 4,
+            Limit::Notes => 5,
+            Limit::Tables => 6,
+            Limit::Events => 7,
+            Limit::WavBytes => 8,
+            Limit::Words => 9,
+            Limit::DelaySamples => 10,
+            Limit::Resources => 11,
+        }
+    }
+
+    /// The greatest number that it lets be.
+    pub fn most(self) -> u64
+        ensures { result ≡ most_of self }
+    {
+        match self {
+            Limit::OrchestraBytes => MOST_ORCHESTRA_BYTES as u64,
+            Limit::ScoreBytes => MOST_SCORE_BYTES as u64,
+            Limit::Instruments => MOST_INSTRUMENTS as u64,
+            Limit::Statements => MOST_STATEMENTS as u64,
+            Limit::Notes => MOST_NOTES as u64,
+            Limit::Tables => MOST_TABLES as u64,
+            Limit::Events => MOST_EVENTS as u64,
+            Limit::WavBytes => MOST_WAV_BYTES,
+            Limit::Words => MOST_WORDS as u64,
+            Limit::DelaySamples => MOST_DELAY_SAMPLES as u64,
+            Limit::Resources => MOST_RESOURCES as u64,
+        }
+    }
+}
+
+/// A limit that was passed, and the line that passes it: 0 where no place in a text does.
+#[derive(Clone, Copy, Debug, PartialEq, Eq, Error)]
+#[error("limit {limit:?} passed at line {line}")]
+pub struct LimitHit {
+    pub limit: Limit,
+    pub line: u32,
+}
