@@ -1,6 +1,0 @@
-use Rattle.std.proofs.Common.{◌≡◌, drop}
-use Rattle.cs_ir.specs.Catalogue.{named}
-use Rattle.cs_ir.proofs.catalogue.first_named.Given as goal
-
-abbrev pub invariant-loop-id : goal.invariant-loop-id
-invariant-loop-id l = named l.name (drop l.id-index l.among) ≡ named l.name l.among

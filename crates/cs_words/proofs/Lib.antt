@@ -1,0 +1,4 @@
+pub mod Apart
+pub mod Different
+pub mod Fields
+pub mod Places

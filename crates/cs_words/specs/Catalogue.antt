@@ -1,0 +1,183 @@
+use Rattle.std.specs.Prelude.{ℕ, Bool, true, List, [], ◌∷◌, ◌-◌, ◌%◌, ◌&&◌, ◌==◌, codes, length, nat_le, slice_get, Option, Some, None, if◌then◌else◌}
+use Rattle.std.specs.Str.{bytes_eq}
+use Rattle.std.specs.Option.{unwrap_or}
+use Rattle.cs_base.specs.declared.resource.Rate.{Rate}
+use Rattle.cs_base.specs.declared.resource.Rate.TheVariants as rate
+use Rattle.cs_words.specs.declared.catalogue.Opcode.{Opcode}
+use Rattle.cs_words.specs.declared.catalogue.Opcode.TheVariants as op
+use Rattle.cs_words.specs.declared.catalogue.Letter.{Letter}
+use Rattle.cs_words.specs.declared.catalogue.Letter.TheVariants as letter
+use Rattle.cs_words.specs.declared.catalogue.More.{More}
+use Rattle.cs_words.specs.declared.catalogue.More.TheVariants as more
+use Rattle.cs_words.specs.declared.catalogue.Space.TheVariants as space
+use Rattle.cs_words.specs.declared.catalogue.Shape.{Shape}
+use Rattle.cs_words.specs.declared.catalogue.Shape.TheVariants as shape
+
+-- what the catalogue says of an opcode: its name, the rates that its result may have (none: it has no result), the
+-- letters of the arguments that must be given, what may follow them, and how it is performed
+pub record Row : Type 0 where
+  pub name : List ℕ
+  pub results : List Rate
+  pub fixed : List Letter
+  pub more : More
+  pub shape : Shape
+
+abbrev pub row : List ℕ → List Rate → List Letter → More → Shape → Row
+row name results fixed further how =
+    record { name = name; results = results; fixed = fixed; more = further; shape = how }
+
+-- the results of the catalogue: none, or one of these rates
+abbrev none : List Rate
+none = []
+
+abbrev r_k : List Rate
+r_k = rate.Control ∷ []
+
+abbrev r_a : List Rate
+r_a = rate.Audio ∷ []
+
+abbrev r_ka : List Rate
+r_ka = rate.Control ∷ rate.Audio ∷ []
+
+abbrev r_ika : List Rate
+r_ika = rate.Init ∷ rate.Control ∷ rate.Audio ∷ []
+
+-- the letters of the catalogue
+abbrev i : Letter
+i = letter.Init
+
+abbrev f : Letter
+f = letter.Table
+
+abbrev k : Letter
+k = letter.Control
+
+abbrev p : Letter
+p = letter.Place
+
+abbrev a : Letter
+a = letter.Audio
+
+abbrev x : Letter
+x = letter.Held
+
+abbrev v : Letter
+v = letter.Any
+
+abbrev s : Letter
+s = letter.Text
+
+-- the catalogue
+abbrev pub row_of : Opcode → Row
+row_of op.Init = row (codes "init") r_ika (i ∷ []) more.Nothing shape.Init
+row_of op.Oscil = row (codes "oscil") r_ka (x ∷ x ∷ f ∷ []) (more.Perhaps i) shape.Unit
+row_of op.Oscili = row (codes "oscili") r_ka (x ∷ x ∷ f ∷ []) (more.Perhaps i) shape.Unit
+row_of op.Phasor = row (codes "phasor") r_ka (x ∷ []) (more.Perhaps i) shape.Unit
+row_of op.Line = row (codes "line") r_ka (i ∷ i ∷ i ∷ []) more.Nothing shape.Unit
+row_of op.Linseg = row (codes "linseg") r_ka (i ∷ i ∷ i ∷ []) (more.Pairs i i) shape.Unit
+row_of op.Linen = row (codes "linen") r_ka (x ∷ i ∷ i ∷ i ∷ []) more.Nothing shape.Unit
+row_of op.Delay = row (codes "delay") r_a (a ∷ i ∷ []) more.Nothing shape.Unit
+row_of op.Biquad = row (codes "biquad") r_a (a ∷ k ∷ k ∷ k ∷ k ∷ k ∷ k ∷ []) more.Nothing shape.Unit
+row_of op.Table = row (codes "table") r_ika (x ∷ f ∷ []) more.Nothing shape.Unit
+row_of op.Tablei = row (codes "tablei") r_ika (x ∷ f ∷ []) more.Nothing shape.Unit
+row_of op.Tablew = row (codes "tablew") none (v ∷ v ∷ f ∷ []) more.Nothing shape.Store
+row_of op.Integ = row (codes "integ") r_ka (x ∷ []) more.Nothing shape.Unit
+row_of op.Diff = row (codes "diff") r_ka (x ∷ []) more.Nothing shape.Unit
+row_of op.Samphold = row (codes "samphold") r_ka (x ∷ x ∷ []) more.Nothing shape.Unit
+row_of op.Limit = row (codes "limit") r_ika (x ∷ k ∷ k ∷ []) more.Nothing shape.Unit
+row_of op.Interp = row (codes "interp") r_a (k ∷ []) more.Nothing shape.Unit
+row_of op.Downsamp = row (codes "downsamp") r_k (a ∷ []) more.Nothing shape.Unit
+row_of op.Out = row (codes "out") none (a ∷ []) (more.Each a) shape.Out
+row_of op.Outs = row (codes "outs") none (a ∷ a ∷ []) more.Nothing shape.Out
+row_of op.Outch = row (codes "outch") none (k ∷ a ∷ []) (more.Pairs k a) shape.OutAt
+row_of op.Turnoff = row (codes "turnoff") none [] more.Nothing shape.Turnoff
+row_of op.Zakinit = row (codes "zakinit") none (i ∷ i ∷ []) more.Nothing shape.ZakInit
+row_of op.Zkr = row (codes "zkr") r_k (p ∷ []) more.Nothing (shape.ZakGet space.Control)
+row_of op.Zar = row (codes "zar") r_a (p ∷ []) more.Nothing (shape.ZakGet space.Audio)
+row_of op.Zkw = row (codes "zkw") none (k ∷ p ∷ []) more.Nothing (shape.ZakPut space.Control)
+row_of op.Zaw = row (codes "zaw") none (a ∷ p ∷ []) more.Nothing (shape.ZakPut space.Audio)
+row_of op.Zawm = row (codes "zawm") none (a ∷ p ∷ []) more.Nothing shape.ZakMix
+row_of op.Zkcl = row (codes "zkcl") none (p ∷ p ∷ []) more.Nothing (shape.ZakClear space.Control)
+row_of op.Zacl = row (codes "zacl") none (p ∷ p ∷ []) more.Nothing (shape.ZakClear space.Audio)
+row_of op.Chnget = row (codes "chnget") r_ika (s ∷ []) more.Nothing shape.ChannelGet
+row_of op.Chnset = row (codes "chnset") none (v ∷ s ∷ []) more.Nothing shape.ChannelPut
+row_of op.Chnmix = row (codes "chnmix") none (a ∷ s ∷ []) more.Nothing shape.ChannelMix
+row_of op.Chnclear = row (codes "chnclear") none (s ∷ []) more.Nothing shape.ChannelClear
+row_of op.Schedule = row (codes "schedule") none (i ∷ i ∷ i ∷ []) (more.Each i) shape.Ask
+row_of op.EventI = row (codes "event_i") none (s ∷ i ∷ i ∷ i ∷ []) (more.Each i) shape.Ask
+
+-- every opcode, once
+abbrev pub opcodes : List Opcode
+opcodes =
+    op.Init ∷
+    op.Oscil ∷
+    op.Oscili ∷
+    op.Phasor ∷
+    op.Line ∷
+    op.Linseg ∷
+    op.Linen ∷
+    op.Delay ∷
+    op.Biquad ∷
+    op.Table ∷
+    op.Tablei ∷
+    op.Tablew ∷
+    op.Integ ∷
+    op.Diff ∷
+    op.Samphold ∷
+    op.Limit ∷
+    op.Interp ∷
+    op.Downsamp ∷
+    op.Out ∷
+    op.Outs ∷
+    op.Outch ∷
+    op.Turnoff ∷
+    op.Zakinit ∷
+    op.Zkr ∷
+    op.Zar ∷
+    op.Zkw ∷
+    op.Zaw ∷
+    op.Zawm ∷
+    op.Zkcl ∷
+    op.Zacl ∷
+    op.Chnget ∷
+    op.Chnset ∷
+    op.Chnmix ∷
+    op.Chnclear ∷
+    op.Schedule ∷
+    op.EventI ∷
+    []
+
+-- the first of these opcodes that has the name
+abbrev pub named : List ℕ → List Opcode → Option Opcode
+named name [] = None
+named name (id ∷ ids) = if bytes_eq name (row_of id).name then Some id else named name ids
+
+-- the opcode of a name
+unfoldable pub catalogued : List ℕ → Option Opcode
+catalogued name = named name opcodes
+
+-- the letter of an argument after those that must be given, counted from 0
+abbrev pub further : More → ℕ → Letter
+further more.Nothing n = letter.Any
+further (more.Perhaps l) n = l
+further (more.Each l) n = l
+further (more.Pairs l m) n = if n % 2 == 0 then l else m
+
+-- the letter of an argument, counted from 0
+abbrev pub letter_at : Row → ℕ → Letter
+letter_at r n = unwrap_or (slice_get r.fixed n) (further r.more (n - length r.fixed))
+
+-- whether so many arguments may follow those that must be given
+abbrev pub may_follow : More → ℕ → Bool
+may_follow more.Nothing n = n == 0
+may_follow (more.Perhaps l) n = nat_le n 1
+may_follow (more.Each l) n = true
+may_follow (more.Pairs l m) n = n % 2 == 0
+
+-- whether an opcode takes so many arguments
+abbrev pub takes_count : Row → ℕ → Bool
+takes_count r n = nat_le (length r.fixed) n && may_follow r.more (n - length r.fixed)
+
+-- how many results an opcode has: one, or none
+abbrev pub result_count : Row → ℕ
+result_count r = if length r.results == 0 then 0 else 1

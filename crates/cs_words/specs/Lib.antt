@@ -1,0 +1,7 @@
+pub mod inner
+pub mod Catalogue
+pub mod NameSets
+pub mod Names
+pub mod Signs
+pub mod Tables
+pub mod Words

@@ -1,0 +1,116 @@
+use Rattle.std.specs.Prelude.{ℕ, Bool, List, [], ◌∷◌, ◌+◌, ◌-◌, ◌*◌, ◌&&◌, ◌==◌, codes, Option, Some, None, if◌then◌else◌, nat_le}
+use Rattle.std.specs.Str.{bytes_eq, byte}
+use Rattle.std.specs.List.{list_any}
+use Rattle.std.specs.Char.{is_ascii_digit}
+use Rattle.cs_words.specs.Catalogue.{catalogued}
+use Rattle.cs_words.specs.Names.{is_name}
+use Rattle.cs_words.specs.Tables.{looked_up}
+use Rattle.cs_words.specs.declared.catalogue.Opcode.{Opcode}
+use Rattle.cs_words.specs.declared.word.Keyword.{Keyword}
+use Rattle.cs_words.specs.declared.word.Keyword.TheVariants as key
+use Rattle.cs_words.specs.declared.word.HeadName.{HeadName}
+use Rattle.cs_words.specs.declared.word.HeadName.TheVariants as head
+use Rattle.cs_words.specs.declared.word.Func.{Func}
+use Rattle.cs_words.specs.declared.word.Func.TheVariants as func
+use Rattle.cs_words.specs.declared.word.Word.{Word}
+use Rattle.cs_words.specs.declared.word.Word.TheVariants as word
+
+-- words that no variable and no opcode may be called
+abbrev pub keywords : List (List ℕ × Keyword)
+keywords =
+    (codes "instr", key.Instr) ∷
+    (codes "endin", key.Endin) ∷
+    (codes "if", key.If) ∷
+    (codes "then", key.Then) ∷
+    (codes "elseif", key.Elseif) ∷
+    (codes "else", key.Else) ∷
+    (codes "endif", key.Endif) ∷
+    (codes "opcode", key.Opcode) ∷
+    (codes "endop", key.Endop) ∷
+    (codes "xin", key.Xin) ∷
+    (codes "xout", key.Xout) ∷
+    []
+
+-- what a header line sets
+abbrev pub headers : List (List ℕ × HeadName)
+headers =
+    (codes "sr", head.Sr) ∷
+    (codes "kr", head.Kr) ∷
+    (codes "ksmps", head.Ksmps) ∷
+    (codes "nchnls", head.Nchnls) ∷
+    (codes "0dbfs", head.Dbfs) ∷
+    []
+
+-- functions that an expression may call
+abbrev pub functions : List (List ℕ × Func)
+functions =
+    (codes "int", func.Int) ∷
+    (codes "frac", func.Frac) ∷
+    (codes "abs", func.Abs) ∷
+    (codes "floor", func.Floor) ∷
+    (codes "cpspch", func.Cpspch) ∷
+    (codes "i", func.I) ∷
+    []
+
+-- words of Csound that the profile leaves out
+abbrev pub foreign_words : List (List ℕ)
+foreign_words =
+    codes "goto" ∷ codes "igoto" ∷ codes "kgoto" ∷ codes "cigoto" ∷ codes "ckgoto" ∷ codes "cngoto" ∷ codes "timout" ∷
+    codes "reinit" ∷ codes "rigoto" ∷ codes "rireturn" ∷ codes "while" ∷ codes "until" ∷ codes "do" ∷ codes "od" ∷
+    codes "fi" ∷ codes "ithen" ∷ codes "kthen" ∷ codes "turnoff2" ∷ codes "event" ∷ codes "ftgen" ∷ codes "tone" ∷
+    codes "atone" ∷ codes "reson" ∷ codes "areson" ∷ codes "comb" ∷ codes "alpass" ∷ codes "expseg" ∷ codes "expon" ∷
+    codes "rand" ∷ codes "randi" ∷ codes "randh" ∷ codes "ampdb" ∷ codes "ampdbfs" ∷ codes "dbamp" ∷ codes "sqrt" ∷
+    codes "exp" ∷ codes "log" ∷ codes "sin" ∷ codes "cos" ∷ codes "tan" ∷ codes "pow" ∷
+    []
+
+unfoldable pub keyword_of : List ℕ → Option Keyword
+keyword_of bytes = looked_up keywords bytes
+
+unfoldable pub header_of : List ℕ → Option HeadName
+header_of bytes = looked_up headers bytes
+
+unfoldable pub func_of : List ℕ → Option Func
+func_of bytes = looked_up functions bytes
+
+unfoldable pub is_foreign : List ℕ → Bool
+is_foreign bytes = list_any (bytes_eq bytes) foreign_words
+
+-- a digit that isn't 0
+abbrev pub is_leading : ℕ → Bool
+is_leading b = nat_le (byte "1") b && nat_le b (byte "9")
+
+-- the number that a digit stands for
+abbrev pub digit : ℕ → ℕ
+digit b = b - byte "0"
+
+-- the number of a field: `p` and a number from 1 to 100 without leading zeros
+unfoldable pub field_of : List ℕ → Option ℕ
+field_of [] = None
+field_of (p ∷ []) = None
+field_of (p ∷ b ∷ []) = if p == byte "p" && is_leading b then Some (digit b) else None
+field_of (p ∷ b ∷ c ∷ []) =
+    if p == byte "p" && is_leading b && is_ascii_digit c then Some (digit b * 10 + digit c) else None
+field_of (p ∷ b ∷ c ∷ d ∷ []) = if bytes_eq (p ∷ b ∷ c ∷ d ∷ []) (codes "p100") then Some 100 else None
+field_of (p ∷ b ∷ c ∷ d ∷ e ∷ rest) = None
+
+-- a field, or else a name or any other word
+abbrev pub field_or : Option ℕ → List ℕ → Word
+field_or (Some k) bytes = word.Field k
+field_or None bytes = if is_name bytes then word.Name else word.Other
+
+-- a word that no table has: foreign, a field, a name, or any other
+abbrev pub plain_word : List ℕ → Word
+plain_word bytes = if is_foreign bytes then word.Foreign else field_or (field_of bytes) bytes
+
+-- the first of what the tables say of a word, or else what is left
+abbrev pub first_of : Option Keyword → Option HeadName → Option Func → Option Opcode → Word → Word
+first_of (Some k) h f o left = word.Keyword k
+first_of None (Some h) f o left = word.Header h
+first_of None None (Some f) o left = word.Func f
+first_of None None None (Some o) left = word.Opcode o
+first_of None None None None left = left
+
+-- what a word is
+unfoldable pub word_of : List ℕ → Word
+word_of bytes =
+    first_of (keyword_of bytes) (header_of bytes) (func_of bytes) (catalogued bytes) (plain_word bytes)

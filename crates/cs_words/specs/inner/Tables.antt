@@ -1,0 +1,7 @@
+use Rattle.std.specs.Prelude.{ℕ, List, [], ◌∷◌}
+use Rattle.std.specs.Borrow.{Bor}
+
+-- the rows of a table in the code
+abbrev pub rows : {A : Type 0} → List (Bor (List ℕ) × A) → List (List ℕ × A)
+rows [] = []
+rows ((spelling, meaning) ∷ rest) = (spelling.now, meaning) ∷ rows rest

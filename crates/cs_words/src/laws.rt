@@ -1,0 +1,48 @@
+// What holds of the tables: calls that do nothing, whose contracts are the laws.
+ghost use Rattle.std.specs.Prelude.{◌≡◌, ◌≤◌, ℕ, List, length, true, false, slice_get, Some};
+ghost use Rattle.std.specs.List.{All};
+ghost use Rattle.cs_words.specs.Catalogue.{row_of, catalogued};
+ghost use Rattle.cs_words.specs.NameSets.{has, place_of, seen};
+ghost use Rattle.cs_words.specs.Names.{is_name};
+ghost use Rattle.cs_words.specs.Signs.{operators, plain_signs, sign_of};
+ghost use Rattle.cs_words.specs.Words.{keywords, headers, functions, foreign_words, word_of};
+ghost use Rattle.cs_words.specs.declared.catalogue.Opcode.{Opcode};
+ghost use Rattle.cs_words.specs.declared.sign.Sign.TheVariants as sign;
+ghost use Rattle.cs_words.specs.declared.word.Word.TheVariants as word;
+
+/// Each row of each table is found as itself, so that no word is in two tables, or twice in one.
+pub fn words_are_apart()
+    ensures opcodes { (o : Opcode) → word_of (row_of o).name ≡ word.Opcode o }
+    ensures catalogue { (o : Opcode) → catalogued (row_of o).name ≡ Some o }
+    ensures names { (o p : Opcode) → (row_of o).name ≡ (row_of p).name → o ≡ p }
+    ensures found { (name : List ℕ) (o : Opcode) → catalogued name ≡ Some o → (row_of o).name ≡ name }
+    ensures keywords { All (λ r. word_of r.0 ≡ word.Keyword r.1) keywords }
+    ensures headers { All (λ r. word_of r.0 ≡ word.Header r.1) headers }
+    ensures functions { All (λ r. word_of r.0 ≡ word.Func r.1) functions }
+    ensures foreign { All (λ w. word_of w ≡ word.Foreign) foreign_words }
+    ensures operators { All (λ r. sign_of r.0 ≡ sign.Operator r.1) operators }
+    ensures signs { All (λ r. sign_of r.0 ≡ r.1) plain_signs }
+{}
+
+/// What is read as a name begins like a variable, and a field's number is from 1 to 100.
+pub fn names_are_letters_of_rates()
+    ensures name { (w : List ℕ) → word_of w ≡ word.Name → is_name w ≡ true }
+    ensures field { (w : List ℕ) (k : ℕ) → word_of w ≡ word.Field k → (1 ≤ k) × (k ≤ 100) }
+{}
+
+/// A name's place finds it again, no two names have one place, and a name that is seen later moves no other.
+pub fn names_have_places()
+    ensures found { (names : List (List ℕ)) (n : List ℕ)
+        → has names n ≡ true → slice_get names (place_of names n) ≡ Some n }
+    ensures apart { (names : List (List ℕ)) (m n : List ℕ)
+        → has names m ≡ true → has names n ≡ true → place_of names m ≡ place_of names n → m ≡ n }
+    ensures unseen { (names : List (List ℕ)) (n : List ℕ)
+        → has names n ≡ false → place_of names n ≡ length names }
+    ensures new { (names : List (List ℕ)) (n : List ℕ)
+        → has names n ≡ false → place_of (seen names n) n ≡ length names }
+    ensures there { (names : List (List ℕ)) (n : List ℕ) → has (seen names n) n ≡ true }
+    ensures stays { (names : List (List ℕ)) (m n : List ℕ)
+        → has names m ≡ true → has (seen names n) m ≡ true }
+    ensures kept { (names : List (List ℕ)) (m n : List ℕ)
+        → has names m ≡ true → place_of (seen names n) m ≡ place_of names m }
+{}

@@ -1,0 +1,89 @@
+// Which sign is what.
+ghost use Rattle.std.specs.Prelude.{◌≡◌};
+ghost use Rattle.cs_words.specs.Signs.{sign_of, plain_sign, operator_of};
+
+use crate::table::looked_up;
+
+/// An operator between two expressions.
+#[derive(Clone, Copy, Debug, PartialEq, Eq)]
+pub enum BinOp {
+    Or,
+    And,
+    Less,
+    Greater,
+    LessEqual,
+    GreaterEqual,
+    Equal,
+    NotEqual,
+    Add,
+    Sub,
+    Mul,
+    Div,
+    Rem,
+}
+
+/// What a sign is.
+#[derive(Clone, Copy, Debug, PartialEq, Eq)]
+pub enum Sign {
+    Open,
+    Close,
+    Comma,
+    Equals,
+    PlusEquals,
+    Question,
+    Colon,
+    Operator(BinOp),
+    /// A sign outside the profile.
+    Beyond,
+}
+
+const SIGNS: [(&str, Sign); 7] = [
+    ("(", Sign::Open),
+    (")", Sign::Close),
+    (",", Sign::Comma),
+    ("=", Sign::Equals),
+    ("+=", Sign::PlusEquals),
+    ("?", Sign::Question),
+    (":", Sign::Colon),
+];
+
+const OPERATORS: [(&str, BinOp); 13] = [
+    ("||", BinOp::Or),
+    ("&&", BinOp::And),
+    ("<", BinOp::Less),
+    (">", BinOp::Greater),
+    ("<=", BinOp::LessEqual),
+    (">=", BinOp::GreaterEqual),
+    ("==", BinOp::Equal),
+    ("!=", BinOp::NotEqual),
+    ("+", BinOp::Add),
+    ("-", BinOp::Sub),
+    ("*", BinOp::Mul),
+    ("/", BinOp::Div),
+    ("%", BinOp::Rem),
+];
+
+/// What a sign is.
+#[tactic(auto, unfolding(crate::specs::Signs::sign_of))]
+pub fn sign_of(sign: &[u8]) -> Sign
+    ensures { result ≡ sign_of sign.now }
+{
+    if let Some(operator) = operator_of(sign) {
+        return Sign::Operator(operator);
+    }
+    plain_sign(sign).unwrap_or(Sign::Beyond)
+}
+
+#[tactic(auto, unfolding(crate::specs::Signs::operator_of))]
+fn operator_of(sign: &[u8]) -> Option<BinOp>
+    ensures { result ≡ operator_of sign.now }
+{
+    looked_up(&OPERATORS, sign)
+}
+
+#[tactic(auto, unfolding(crate::specs::Signs::plain_sign))]
+fn plain_sign(sign: &[u8]) -> Option<Sign>
+    ensures { result ≡ plain_sign sign.now }
+{
+    looked_up(&SIGNS, sign)
+}

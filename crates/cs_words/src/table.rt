@@ -1,0 +1,16 @@
+// A table of spellings, and how a row of it is found.
+ghost use Rattle.std.specs.Prelude.{◌≡◌};
+ghost use Rattle.cs_words.specs.Tables.{looked_up};
+ghost use Rattle.cs_words.specs.inner.Tables.{rows};
+
+/// What the first row with this spelling stands for.
+pub fn looked_up<T: Copy>(table: &[(&str, T)], bytes: &[u8]) -> Option<T>
+    ensures { result ≡ looked_up (rows table.now) bytes.now }
+{
+    for (spelling, meaning) in table {
+        if bytes == spelling.as_bytes() {
+            return Some(*meaning);
+        }
+    }
+    None
+}
