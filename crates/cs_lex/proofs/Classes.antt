@@ -4,9 +4,10 @@ use Rattle.std.specs.Char.{is_ascii_digit}
 use Rattle.std.proofs.lemmas.Bool.Decides.{nat_tests}
 use Rattle.cs_lex.specs.declared.class.Class.{Class}
 use Rattle.cs_lex.specs.declared.class.Class.TheVariants as class
-use Rattle.cs_lex.specs.Bytes.{is_blank, is_feed, is_quote, is_letter, is_allowed, is_short_sign}
+use Rattle.cs_base.specs.Lines.{is_blank, is_feed}
+use Rattle.cs_lex.specs.Bytes.{is_quote, is_letter, is_allowed, is_short_sign}
 use Rattle.cs_lex.specs.Rows.{is_stray}
-use Rattle.cs_lex.specs.Front.{class_of}
+use Rattle.cs_lex.specs.inner.Front.{class_of}
 
 -- what a byte of each class is
 abbrev pub Means : Class → ℕ → Type 0

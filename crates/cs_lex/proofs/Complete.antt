@@ -1,5 +1,5 @@
 -- A span of a row's form is what the reader finds there, and a fault is the fault that it finds.
-use Rattle.std.proofs.Common.{◌≡◌, ◌≢◌, ◌+◌, ◌<◌, ℕ, suc, Bool, true, false, ◌&&◌, ◌||◌, ◌==◌, not, List, [], ◌∷◌, ◌++◌, length, drop, take, arith, ap, sym, ◌∙◌, codes, refl, subst, inl, inr, ◌⊎◌, Option, Some, None, Result, Ok, Err, nat_lt, nat_le, ℤ, if◌then◌else◌}
+use Rattle.std.proofs.Common.{◌≡◌, ◌≢◌, ◌+◌, ◌<◌, ℕ, suc, Bool, true, false, ◌&&◌, ◌||◌, ◌==◌, not, List, [], ◌∷◌, ◌++◌, length, drop, take, arith, ap, sym, ◌∙◌, codes, refl, subst, inl, inr, ◌⊎◌, Option, Some, None, Result, Ok, Err, nat_le, ℤ, if◌then◌else◌}
 use Rattle.std.proofs.Math.Seq.{take-append-add}
 use Rattle.cs_base.specs.declared.decimal.Decimal.{Decimal}
 use Rattle.cs_base.specs.Numbers.{clamp}
@@ -19,10 +19,16 @@ use Rattle.cs_lex.specs.declared.token.Mark.TheVariants as mark
 use Rattle.cs_lex.specs.declared.front.Front.{Front}
 use Rattle.cs_lex.specs.declared.class.Class.{Class}
 use Rattle.cs_lex.specs.declared.class.Class.TheVariants as class
-use Rattle.cs_lex.specs.Bytes.{is_blank, is_feed, is_quote, is_letter, is_word_byte, is_allowed, is_line_byte, is_quotable, is_text_byte, begins, begins_with, is_sign, is_short_sign, is_long_sign}
-use Rattle.cs_lex.specs.Front.{front_of, by_class, class_of, run, line_comment_front, close_of, sign_front, numeral_len, number_of, number_front}
-use Rattle.cs_lex.specs.Rows.{Fits, IsFault, Longest, NoneCloses, is_line_comment, is_word, begins_comment, IsBlockComment, IsJoin, IsSign, IsText, IsLoneBackslash, IsOpenComment, HasBadByte, IsBadByte, IsOpenText, IsNumber, IsBadNumber, IsFullScale, IsStray, is_stray}
-use Rattle.cs_lex.proofs.Text.{by_test, front_is, front_tests, run_is, run_past, close_none, close_here, list_all_weaken, list_all_cut, and_false, longest_once, equals, split, after_run, first_is}
+use Rattle.cs_base.specs.Lines.{is_blank, is_feed, begins, begins_with}
+use Rattle.cs_lex.specs.Bytes.{is_quote, is_letter, is_word_byte, is_allowed, is_quotable, is_text_byte, is_sign, is_short_sign, is_long_sign}
+use Rattle.cs_lex.specs.inner.Front.{front_of, by_class, class_of, run, gap, comment_front, sign_front, numeral_len, number_of, number_front}
+use Rattle.cs_lex.specs.Rows.{Fits, IsFault, Longest, is_word, IsComment, IsJoin, IsSign, IsText, IsLoneBackslash, HasBadByte, IsBadByte, IsOpenText, IsNumber, IsBadNumber, IsFullScale, IsStray, is_stray}
+use Rattle.cs_lex.proofs.Text.{run_is, run_past, list_all_weaken, list_all_cut, longest_once, equals, split, after_run, first_is}
+use Rattle.std.proofs.Math.Bool.{and-false}
+use Rattle.cs_base.specs.Comments.{begins_block_comment, begins_comment, is_open_comment, comment_len}
+use Rattle.cs_base.proofs.Tests.{by_test}
+use Rattle.cs_base.proofs.Texts.{front_is}
+use Rattle.cs_lex.proofs.Comments.{open_begins}
 use Rattle.cs_lex.proofs.Classes.{Means, class_means}
 use Rattle.cs_lex.proofs.Numerals.{NumeralFront, digit_front_is, point_front_is, numeral_first}
 use Rattle.cs_lex.proofs.Sound.{full_scale_is, full_scale_yes, two_bytes}
@@ -87,10 +93,6 @@ sign_from class.Bad h = cc
 or_right : (a b : Bool) → a ≡ false → (a || b) ≡ true → b ≡ true
 or_right false b h k = k
 or_right true b h k = cc
-
-or_parts : (a b : Bool) → (a || b) ≡ false → (a ≡ false) × (b ≡ false)
-or_parts true b h = cc
-or_parts false b h = (refl, h)
 
 or_last : (a b : Bool) → b ≡ true → (a || b) ≡ true
 or_last true b h = refl
@@ -177,34 +179,32 @@ all_and_one p xs c h k = list_all-append p xs (c ∷ []) ∙ and_from (list_all 
 blank_found : (b : ℕ) (after : List ℕ) → is_blank b ≡ true → Finds None (b ∷ []) after
 blank_found b after h = by_first class.Blank b after (blank_class b h)
 
-begins_more : (front span more : List ℕ) → begins_with front span ≡ true → begins_with front (span ++ more) ≡ true
-begins_more front span more h =
-    front_tests front (span ++ more) (drop (length front) span ++ more) (ap (λ t. t ++ more) (front_is front span h) ∙ append_assoc front (drop (length front) span) more)
-
-comment_begins : (span : List ℕ) → (begins_with (codes ";") span || begins_with (codes "//") span) ≡ true → (more : List ℕ) → (begins_with (codes ";") (span ++ more) || begins_with (codes "//") (span ++ more)) ≡ true
-comment_begins span h more = by_test (begins_with (codes ";") span)
-    (λ e. let on = begins_more (codes ";") span more e in rw on)
-    (λ n. or_last (begins_with (codes ";") (span ++ more)) (begins_with (codes "//") (span ++ more)) (begins_more (codes "//") span more (or_right _ _ n h)))
-
 run_of_span : (p : ℕ → Bool) (span after : List ℕ) → list_all p span ≡ true → begins p after ≡ false → (m : Option Mark) → found m (run p (span ++ after)) ≡ found m (length span)
 run_of_span p span after h k m = ap (found m) (run_is p span after h k)
 
-comment_front : (text : List ℕ) → (begins_with (codes ";") text || begins_with (codes "//") text) ≡ true → front_of text ≡ line_comment_front text
-comment_front text h = by_test (begins_with (codes ";") text)
+comment_is : (text : List ℕ) → begins_comment text ≡ true → front_of text ≡ comment_front text
+comment_is text h = by_test (begins_with (codes ";") text)
     (λ e. by_semicolon text (drop 1 text) (front_is (codes ";") text e))
-    (λ n. by_slashes text (drop 2 text) (front_is (codes "//") text (or_right _ _ n h)))
+    (λ n. by_test (begins_with (codes "//") text)
+    (λ e. by_slash text (47 ∷ drop 2 text) (front_is (codes "//") text e) h)
+    (λ m. by_slash text (42 ∷ drop 2 text) (front_is (codes "/*") text (last (begins_with (codes ";") text) (begins_with (codes "//") text) (begins_block_comment text) n m h)) h))
   where
-    by_semicolon : (text rest : List ℕ) → text ≡ codes ";" ++ rest → front_of text ≡ line_comment_front text
-    by_semicolon text rest e = subst (λ t. front_of t ≡ line_comment_front t) (sym e) refl
+    by_semicolon : (text rest : List ℕ) → text ≡ 59 ∷ rest → front_of text ≡ comment_front text
+    by_semicolon text rest e = subst (λ t. front_of t ≡ comment_front t) (sym e) refl
 
-    by_slashes : (text rest : List ℕ) → text ≡ codes "//" ++ rest → front_of text ≡ line_comment_front text
-    by_slashes text rest e = subst (λ t. front_of t ≡ line_comment_front t) (sym e) refl
+    by_slash : (text rest : List ℕ) → text ≡ 47 ∷ rest → begins_comment text ≡ true → front_of text ≡ comment_front text
+    by_slash text rest e = subst (λ t. begins_comment t ≡ true → front_of t ≡ comment_front t) (sym e)
+        (λ k. ap (λ b. if b then comment_front (47 ∷ rest) else sign_front (47 ∷ rest)) k)
 
-line_comment_found : (span after : List ℕ) → Longest is_line_comment span after → Finds None span after
-line_comment_found span after h =
-    let both = and_parts (begins_with (codes ";") span || begins_with (codes "//") span) (list_all is_line_byte span) h.fits in
-    let ends = ends_run is_line_byte is_line_comment span after h (λ c e. and_from _ (list_all is_line_byte (span ++ c ∷ [])) (comment_begins span both.0 (c ∷ [])) (all_and_one is_line_byte span c both.1 e)) in
-    comment_front (span ++ after) (comment_begins span both.0 after) ∙ run_of_span is_line_byte span after both.1 ends None
+    last : (a b c : Bool) → a ≡ false → b ≡ false → ((a || b) || c) ≡ true → c ≡ true
+    last false false c n m h = h
+    last true b c n m h = absurd (false≢true (sym n))
+    last false true c n m h = absurd (false≢true (sym m))
+
+comment_found : (span after : List ℕ) → IsComment span after → Finds None span after
+comment_found span after h =
+    let text = span ++ after in
+    comment_is text h.begun ∙ ap (λ b. if b then Err orc.OpenComment else gap (comment_len text)) h.ended ∙ ap (found None) (sym h.len)
 
 word_found : (span after : List ℕ) → Longest is_word span after → Finds (Some mark.Word) span after
 word_found [] after h = absurd (false≢true h.fits)
@@ -217,31 +217,6 @@ full_scale_found : (after : List ℕ) → begins is_word_byte after ≡ false �
 full_scale_found after h =
     let is = full_scale_is (codes "0dbfs" ++ after) (record { after = after; whole = refl; ends = h }) in
     rw is
-
-close_is : (body after : List ℕ) → NoneCloses (body ++ (codes "*/" ++ after)) (length body) → close_of (body ++ (codes "*/" ++ after)) ≡ length body
-close_is body after h =
-    let text = body ++ (codes "*/" ++ after) in
-    let here : begins_with (codes "*/") (drop (length body) text) ≡ true = front_tests (codes "*/") (drop (length body) text) after (drop_at body (codes "*/" ++ after) (length body) refl) in
-    let long = length-append body (codes "*/" ++ after) in
-    by_test (nat_lt (close_of text) (length body))
-    (λ early. absurd (false≢true (sym (h (close_of text) (grind (arith, nat_tests))) ∙ close_here text (within text body _ early long))))
-    (λ late. by_test (nat_lt (length body) (close_of text))
-    (λ past. absurd (false≢true (sym (close_none text (length body) (grind (arith, nat_tests))) ∙ here)))
-    (λ not_past. grind (arith, nat_tests)))
-  where
-    within : (text body : List ℕ) (n : ℕ) → nat_lt (close_of text) (length body) ≡ true → length text ≡ length body + n → close_of text < length text
-    within text body n h e = grind (arith, nat_tests)
-
-block_found : (span after : List ℕ) → IsBlockComment span after → Finds None span after
-block_found span after h =
-    let text : span ++ after ≡ 47 ∷ 42 ∷ (h.body ++ (codes "*/" ++ after)) = ap (λ t. t ++ after) h.whole ∙ ap (λ t. 47 ∷ 42 ∷ t) (append_assoc h.body (codes "*/") after) in
-    let place = close_is h.body after h.next in
-    let long : length span ≡ length h.body + 4 = ap length h.whole ∙ (let e = length-append h.body (codes "*/") in omega arith) in
-    let there : nat_lt (length h.body) (length (h.body ++ (codes "*/" ++ after))) ≡ true = before_end h.body after in
-    ap front_of text ∙ (rw (place, there) (ap (found None) (sym long)))
-  where
-    before_end : (body after : List ℕ) → nat_lt (length body) (length (body ++ (codes "*/" ++ after))) ≡ true
-    before_end body after = let e = length-append body (codes "*/" ++ after) in grind (arith, nat_tests)
 
 join_found : (span after : List ℕ) → IsJoin span → Finds None span after
 join_found span after h =
@@ -282,8 +257,7 @@ sign_found (a ∷ []) after h = by_test (a == 47)
 
     slash_found : (after : List ℕ) → begins_comment (47 ∷ after) ≡ false → ((c : ℕ) (r : List ℕ) → after ≡ c ∷ r → is_long_sign 47 c ≡ false) → Finds (Some mark.Sign) (47 ∷ []) after
     slash_found after h s =
-        let parts = or_parts _ (begins_with (codes "/*") (47 ∷ after)) h in
-        rw (parts.0, parts.1) (one 47 after s)
+        ap (λ b. if b then comment_front (47 ∷ after) else sign_front (47 ∷ after)) h ∙ one 47 after s
 sign_found (a ∷ b ∷ []) after h =
     let begun = long_sign_begins a b h.longest.fits in
     by_first class.Sign a (b ∷ after) begun.2 ∙ two a b after h.longest.fits
@@ -340,8 +314,8 @@ pub fits_found : (m : Option Mark) (span after : List ℕ) → Fits m span after
 fits_found None span after h = elim h [
   | inl x ↦ subst (λ t. Finds None t after) (sym x.2) (blank_found x.0 after x.1)
   | inr x ↦ elim x [
-    | inl x ↦ line_comment_found span after x
-    | inr x ↦ elim x [ inl x ↦ block_found span after x | inr x ↦ join_found span after x ]
+    | inl x ↦ comment_found span after x
+    | inr x ↦ join_found span after x
   ]
 ]
 fits_found (Some mark.Word) span after h = elim h [
@@ -427,12 +401,11 @@ bad_number_found text h =
     too_great : (span : List ℕ) → greatest_whole < whole_part span → decimal_of span ≡ None
     too_great span h =
         let not_le : nat_le (whole_part span) greatest_whole ≡ false = grind (arith, nat_tests) in
-        rw not_le (ap (λ b. if b then Some (record { whole = whole_part span; billionths = billionths_part span }) else None) (and_false (is_numeral span)))
+        rw not_le (ap (λ b. if b then Some (record { whole = whole_part span; billionths = billionths_part span }) else None) (and-false (is_numeral span)))
 
-open_comment_found : (text : List ℕ) → IsOpenComment text → front_of text ≡ Err orc.OpenComment
-open_comment_found text h = ap front_of h.whole ∙ by_test (nat_lt (close_of h.body) (length h.body))
-    (λ e. absurd (false≢true (sym (h.never (close_of h.body) (grind (arith, nat_tests))) ∙ close_here h.body (grind (arith, nat_tests)))))
-    (λ n. rw n)
+open_comment_found : (text : List ℕ) → is_open_comment text ≡ true → front_of text ≡ Err orc.OpenComment
+open_comment_found text h =
+    comment_is text (open_begins text h) ∙ ap (λ b. if b then Err orc.OpenComment else gap (comment_len text)) h
 
 pub fault_found : (text : List ℕ) (k : OrcKind) → IsFault text k → front_of text ≡ Err k
 fault_found text orc.BadByte h = elim h [ inl x ↦ bad_byte_found text x | inr x ↦ has_bad_byte_found text x ]

@@ -9,8 +9,9 @@ use Rattle.cs_lex.specs.declared.token.Mark.{Mark}
 use Rattle.cs_lex.specs.declared.token.Token.{Token}
 use Rattle.cs_lex.specs.declared.front.Front.{Front}
 use Rattle.cs_lex.specs.Rows.{Fits, IsFault}
-use Rattle.cs_lex.specs.Front.{front_of}
-use Rattle.cs_lex.specs.Lexed.{Piece, text_of, AllFit, Lexed, LexFault, tokens_after, merged, end_of, line_after}
+use Rattle.cs_lex.specs.inner.Front.{front_of}
+use Rattle.cs_base.specs.Lines.{line_after}
+use Rattle.cs_lex.specs.Lexed.{Piece, text_of, AllFit, Lexed, LexFault, tokens_after, merged, end_of}
 use Rattle.cs_lex.proofs.Sound.{Starts, Right, front_right}
 use Rattle.cs_lex.proofs.Complete.{found, fits_found, fault_found}
 
@@ -149,5 +150,5 @@ not_both source ts l k (ps, cp, tp) (qs, s, cq, g, lq) =
       | inr x ↦ elim x [ inl x ↦ no_cons 92 x.rest x.whole | inr x ↦ no_cons 34 (x.body ++ x.after) x.whole ]
     ]
     nothing orc.BadNumber f = no_numeral f.span f.after f.whole f.numeral.longest.fits
-    nothing orc.OpenComment f = no_cons 47 (42 ∷ f.body) f.whole
+    nothing orc.OpenComment f = false≢true f
     nothing _ f = f

@@ -6,3 +6,5 @@ pub mod Reading
 pub mod Sound
 pub mod Spans
 pub mod Text
+pub mod Comments
+pub mod Computed

@@ -7,10 +7,12 @@ use Rattle.std.proofs.lemmas.Bool.Decides.{nat_tests}
 use Rattle.std.proofs.lemmas.List.{append_assoc, length-append, append-nil, drop_at, take_at, take_all, drop_all, nil_from_length}
 use Rattle.std.proofs.Math.Seq.{take-append-add}
 use Rattle.cs_base.specs.Decimals.{is_point, before_point, after_point, is_numeral}
-use Rattle.cs_lex.specs.Bytes.{begins}
-use Rattle.cs_lex.specs.Front.{run, numeral_len}
+use Rattle.cs_base.specs.Lines.{begins}
+use Rattle.cs_lex.specs.inner.Front.{run, numeral_len}
 use Rattle.cs_lex.specs.Rows.{Longest}
-use Rattle.cs_lex.proofs.Text.{by_test, split, after_run, list_all_cut, and_false, longest_to, first_is, equals}
+use Rattle.std.proofs.Math.Bool.{and-false}
+use Rattle.cs_base.proofs.Tests.{by_test}
+use Rattle.cs_lex.proofs.Text.{split, after_run, list_all_cut, longest_to, first_is, equals}
 
 digit_is_no_point : (b : ℕ) → is_ascii_digit b ≡ true → is_point b ≡ false
 digit_is_no_point b h = grind (arith, nat_tests)
@@ -47,7 +49,7 @@ before_point_goes_on ds c more h point =
     ap (λ k. take k (ds ++ c ∷ more)) (before_digits ds (c ∷ more) h ∙ ap (λ k. length ds + k) next) ∙ take-append-add ds (c ∷ more) (suc n)
 
 middle_false : (a b c : Bool) → b ≡ false → (a && b && c) ≡ false
-middle_false a b c h = rw h (ap (λ t. t && c) (and_false a))
+middle_false a b c h = rw h (ap (λ t. t && c) (and-false a))
 
 -- a text that goes on with a byte that is neither digit nor point is no decimal
 pub digits_cut : (ds : List ℕ) (c : ℕ) (more : List ℕ) → list_all is_ascii_digit ds ≡ true → is_ascii_digit c ≡ false → is_point c ≡ false → is_numeral (ds ++ c ∷ more) ≡ false
@@ -55,7 +57,7 @@ digits_cut ds c more h digit point = middle_false _ _ _
     (ap (list_all is_ascii_digit) (before_point_goes_on ds c more h point) ∙ list_all_cut is_ascii_digit ds c (take (position_or_len is_point more) more) digit)
 
 last_false : (a b : Bool) → b ≡ false → (a && b) ≡ false
-last_false a b h = rw h (and_false a)
+last_false a b h = rw h (and-false a)
 
 pub parts_cut : (ds es : List ℕ) (c : ℕ) (more : List ℕ) → list_all is_ascii_digit ds ≡ true → is_ascii_digit c ≡ false → is_numeral (ds ++ 46 ∷ (es ++ c ∷ more)) ≡ false
 parts_cut ds es c more h digit = last_false _ _

@@ -1,19 +1,18 @@
 -- One pass over a text: what has been read, and one piece more.
 use Rattle.std.proofs.Common.{◌≡◌, ◌+◌, ◌-◌, ◌<◌, ◌≤◌, ℕ, Bool, true, ◌&&◌, List, [], ◌∷◌, ◌++◌, length, drop, take, arith, ap, sym, ◌∙◌, refl, subst, Option, Some, None, Result, Ok, Err, IfOk, if◌then◌else◌, count_by}
 use Rattle.std.proofs.lemmas.List.{append_assoc, length-append, append-nil, length-drop, length-take, take_rest, take_at, drop_at, drop_all, drop-drop}
-use Rattle.std.proofs.lemmas.List.Sums.{count_by-le-length, sum_by-append}
+use Rattle.std.proofs.lemmas.List.Sums.{count_by-le-length}
+use Rattle.cs_base.proofs.Texts.{count_by-append}
 use Rattle.cs_lex.specs.declared.token.Mark.{Mark}
 use Rattle.cs_lex.specs.declared.token.Token.{Token}
-use Rattle.cs_lex.specs.Bytes.{is_feed}
+use Rattle.cs_base.specs.Lines.{is_feed}
 use Rattle.cs_base.specs.declared.fault.OrcKind.{OrcKind}
 use Rattle.cs_lex.specs.Rows.{Fits, IsFault}
-use Rattle.cs_lex.specs.Lexed.{Piece, text_of, AllFit, Lexed, LexFault, tokens_after, token_of, token_at, merged, is_newline, end_of, line_after}
+use Rattle.cs_base.specs.Lines.{line_after}
+use Rattle.cs_lex.specs.Lexed.{Piece, text_of, AllFit, Lexed, LexFault, tokens_after, token_of, token_at, merged, is_newline, end_of}
 use Rattle.cs_lex.specs.declared.front.Front.{Front}
-use Rattle.cs_lex.specs.Front.{front_of, told, fed_by}
+use Rattle.cs_lex.specs.inner.Front.{front_of, given, fed_by}
 use Rattle.cs_lex.proofs.Sound.{Starts, Right, front_right}
-
-count_by-append : (p : ℕ → Bool) (xs ys : List ℕ) → count_by p (xs ++ ys) ≡ count_by p xs + count_by p ys
-count_by-append p xs ys = sum_by-append (λ x. if p x then 1 else 0) xs ys
 
 abbrev pub fed_after : Bool → List Token → Bool
 fed_after fed [] = fed
@@ -101,6 +100,9 @@ read_token source at line fed tokens m n feeds t r s f is =
     token_is : (m : Mark) (a b c d e f : ℕ) → a ≡ b → c ≡ d → e ≡ f → made m a c e ≡ made m b d f
     token_is m a b c d e f p q r = ap (λ x. made m x c e) p ∙ ap (λ x. made m b x e) q ∙ ap (λ x. made m b d x) r
 
+pub at_line : (source : List ℕ) (at line line' : ℕ) (fed : Bool) (tokens : List Token) → line' ≡ line → Read source at line fed tokens → Read source at line' fed tokens
+at_line source at line line' fed tokens e r = subst (λ x. Read source at x fed tokens) (sym e) r
+
 -- the line is at most one more than the bytes before it
 pub line_small : (source : List ℕ) (at line : ℕ) (fed : Bool) (tokens : List Token) → Read source at line fed tokens → line ≤ at + 1
 line_small source at line fed tokens r = omega (arith, r.line_is, r.place, count_by-le-length is_feed (text_of r.pieces))
@@ -150,14 +152,14 @@ fed_is source at n feeds e = e ∙ ap (λ k. count_by is_feed (take k (drop at s
 pub next_within : (source : List ℕ) (at n : ℕ) → at < length source → n ≤ length (take (length source - at) (drop at source)) → at + n ≤ length source
 next_within source at n l h = omega (arith, length-take (length source - at) (drop at source))
 
-read_any : (source : List ℕ) (at line : ℕ) (fed : Bool) (tokens : List Token) (m : Option Mark) (n feeds : ℕ) (fed' : Bool) (tokens' : List Token) → Read source at line fed tokens → Starts (drop at source) m n → feeds ≡ count_by is_feed (take n (drop at source)) → fed' ≡ fed_by fed m → tokens' ≡ tokens ++ merged fed (told m at (at + n) line) → Read source (at + n) (line + feeds) fed' tokens'
+read_any : (source : List ℕ) (at line : ℕ) (fed : Bool) (tokens : List Token) (m : Option Mark) (n feeds : ℕ) (fed' : Bool) (tokens' : List Token) → Read source at line fed tokens → Starts (drop at source) m n → feeds ≡ count_by is_feed (take n (drop at source)) → fed' ≡ fed_by fed m → tokens' ≡ tokens ++ merged fed (given m at (at + n) line) → Read source (at + n) (line + feeds) fed' tokens'
 read_any source at line fed tokens None n feeds fed' tokens' r s g now more =
     subst (λ b. Read source (at + n) (line + feeds) b tokens') (sym now) (subst (λ ts. Read source (at + n) (line + feeds) fed ts) (sym (more ∙ append-nil tokens)) (read_gap source at line fed tokens n feeds r s g))
 read_any source at line fed tokens (Some m) n feeds fed' tokens' r s g now more =
     let t : Token = made m at (at + n) line in
     subst (λ b. Read source (at + n) (line + feeds) b tokens') (sym now) (subst (λ ts. Read source (at + n) (line + feeds) (is_newline t) ts) (sym more) (read_token source at line fed tokens m n feeds t r s g refl))
 
-pub next_piece : (source : List ℕ) (at line : ℕ) (fed : Bool) (tokens : List Token) (f : Front) (feeds : ℕ) (fed' : Bool) (tokens' : List Token) → at < length source → Read source at line fed tokens → Ok f ≡ front_of (take (length source - at) (drop at source)) → feeds ≡ count_by is_feed (take (at + f.len - at) (drop at source)) → fed' ≡ fed_by fed f.mark → tokens' ≡ tokens ++ merged fed (told f.mark at (at + f.len) line) → Read source (at + f.len) (line + feeds) fed' tokens'
+pub next_piece : (source : List ℕ) (at line : ℕ) (fed : Bool) (tokens : List Token) (f : Front) (feeds : ℕ) (fed' : Bool) (tokens' : List Token) → at < length source → Read source at line fed tokens → Ok f ≡ front_of (take (length source - at) (drop at source)) → feeds ≡ count_by is_feed (take (at + f.len - at) (drop at source)) → fed' ≡ fed_by fed f.mark → tokens' ≡ tokens ++ merged fed (given f.mark at (at + f.len) line) → Read source (at + f.len) (line + feeds) fed' tokens'
 next_piece source at line fed tokens f feeds fed' tokens' l r e g now more =
     read_any source at line fed tokens f.mark f.len feeds fed' tokens' r (starts source at f l (rest_is source at f e)) (fed_is source at f.len feeds g) now more
 

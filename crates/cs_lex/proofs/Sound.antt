@@ -1,5 +1,5 @@
 -- What the reader finds at the front of a text is of its row's form, or a fault.
-use Rattle.std.proofs.Common.{◌≡◌, ◌≢◌, ◌+◌, ◌<◌, ℕ, Bool, true, false, ◌&&◌, ◌||◌, ◌==◌, not, List, [], ◌∷◌, ◌++◌, length, drop, take, arith, ap, sym, ◌∙◌, codes, refl, subst, inl, inr, ◌⊎◌, Option, Some, None, Result, MatchResult, nat_lt, nat_le, nat_eq}
+use Rattle.std.proofs.Common.{if◌then◌else◌, Err, ◌≡◌, ◌≢◌, ◌+◌, ◌<◌, ℕ, Bool, true, false, ◌&&◌, ◌==◌, not, List, [], ◌∷◌, ◌++◌, length, drop, take, arith, ap, sym, ◌∙◌, codes, refl, subst, inl, inr, ◌⊎◌, Option, Some, None, Result, MatchResult, nat_lt, nat_le, nat_eq}
 use Rattle.std.specs.Option.{IsSomeAnd}
 use Rattle.cs_base.specs.declared.decimal.Decimal.{Decimal}
 use Rattle.cs_base.specs.Decimals.{decimal_of, raw_of_decimal, is_numeral, whole_part, billionths_part, greatest_whole}
@@ -15,10 +15,17 @@ use Rattle.cs_lex.specs.declared.token.Mark.TheVariants as mark
 use Rattle.cs_lex.specs.declared.front.Front.{Front}
 use Rattle.cs_lex.specs.declared.class.Class.{Class}
 use Rattle.cs_lex.specs.declared.class.Class.TheVariants as class
-use Rattle.cs_lex.specs.Bytes.{is_blank, is_feed, is_quote, is_letter, is_word_byte, is_allowed, is_line_byte, is_quotable, begins, begins_with, is_sign, is_short_sign, is_long_sign}
-use Rattle.cs_lex.specs.Front.{front_of, by_class, class_of, run, gap, token, line_comment_front, close_of, block_comment_front, sign_front, slash_front, joined_front, word_front, text_front, numeral_len, number_front, digit_front, point_front}
-use Rattle.cs_lex.specs.Rows.{Fits, IsFault, is_line_comment, is_word, begins_comment, HasBadByte, IsNumeral, IsFullScale}
-use Rattle.cs_lex.proofs.Text.{Split, split, longer, longest_to, list_all_cut, by_test, and_false, front_is, front_tests, close_here, close_none, after_run, take_run, run_is, first_is, equals, where_fails, list_all_both, list_all_front}
+use Rattle.cs_base.specs.Lines.{is_blank, is_feed, begins, begins_with}
+use Rattle.cs_lex.specs.Bytes.{is_quote, is_letter, is_word_byte, is_allowed, is_quotable, is_sign, is_short_sign, is_long_sign}
+use Rattle.cs_lex.specs.inner.Front.{front_of, by_class, class_of, run, gap, token, comment_front, sign_front, slash_front, joined_front, word_front, text_front, numeral_len, number_front, digit_front, point_front}
+use Rattle.cs_lex.specs.Rows.{Fits, IsFault, is_word, HasBadByte, IsNumeral, IsFullScale}
+use Rattle.cs_base.specs.declared.fault.OrcKind.TheVariants as orc
+use Rattle.cs_base.specs.Comments.{begins_comment, is_open_comment, comment_len}
+use Rattle.cs_base.proofs.Tests.{by_test}
+use Rattle.cs_base.proofs.Texts.{front_is, front_tests}
+use Rattle.cs_lex.proofs.Comments.{comment_within, comment_some}
+use Rattle.std.proofs.Math.Bool.{and-false}
+use Rattle.cs_lex.proofs.Text.{Split, split, longer, longest_to, list_all_cut, after_run, take_run, run_is, first_is, equals, where_fails, list_all_both, list_all_front}
 use Rattle.std.proofs.lemmas.Bool.{and_parts, and_from, false≢true}
 use Rattle.std.proofs.lemmas.Bool.Decides.{nat_tests}
 use Rattle.std.proofs.lemmas.List.{take-append-drop, length-take-le, append_assoc, length-append, drop_at, take_at}
@@ -53,7 +60,7 @@ letter_in_word : (b : ℕ) → is_letter b ≡ true → is_word_byte b ≡ true
 letter_in_word b h = rw h
 
 word_cut : (xs : List ℕ) (c : ℕ) (more : List ℕ) → is_word_byte c ≡ false → is_word (xs ++ c ∷ more) ≡ false
-word_cut xs c more h = ap (λ t. begins is_letter (xs ++ c ∷ more) && t) (list_all_cut is_word_byte xs c more h) ∙ and_false (begins is_letter (xs ++ c ∷ more))
+word_cut xs c more h = ap (λ t. begins is_letter (xs ++ c ∷ more) && t) (list_all_cut is_word_byte xs c more h) ∙ and-false (begins is_letter (xs ++ c ∷ more))
 
 word_right : (b : ℕ) (rest : List ℕ) → is_letter b ≡ true → Right (b ∷ rest) (word_front (b ∷ rest))
 word_right b rest h =
@@ -61,49 +68,26 @@ word_right b rest h =
     let fits = longest_to is_word_byte is_word s.front s.after (and_from (is_letter b) (list_all is_word_byte s.front) h s.all) s.ends (word_cut s.front) in
     run_starts is_word_byte (b ∷ rest) (Some mark.Word) s (omega arith) (inl fits)
 
-line_comment_cut : (xs : List ℕ) (c : ℕ) (more : List ℕ) → is_line_byte c ≡ false → is_line_comment (xs ++ c ∷ more) ≡ false
-line_comment_cut xs c more h = ap (λ t. (begins_with (codes ";") (xs ++ c ∷ more) || begins_with (codes "//") (xs ++ c ∷ more)) && t) (list_all_cut is_line_byte xs c more h) ∙ and_false _
-
-semicolon_right : (rest : List ℕ) → Right (59 ∷ rest) (line_comment_front (59 ∷ rest))
-semicolon_right rest =
-    let s = longer is_line_byte 59 rest refl (split is_line_byte rest) in
-    let fits = longest_to is_line_byte is_line_comment s.front s.after s.all s.ends (line_comment_cut s.front) in
-    run_starts is_line_byte (59 ∷ rest) None s (omega arith) (inr (inl fits))
-
-slashes_right : (rest : List ℕ) → Right (47 ∷ 47 ∷ rest) (line_comment_front (47 ∷ 47 ∷ rest))
-slashes_right rest =
-    let s = longer is_line_byte 47 (47 ∷ rest) refl (longer is_line_byte 47 rest refl (split is_line_byte rest)) in
-    let fits = longest_to is_line_byte is_line_comment s.front s.after s.all s.ends (line_comment_cut s.front) in
-    run_starts is_line_byte (47 ∷ 47 ∷ rest) None s (omega arith) (inr (inl fits))
-
-block_closes : (body : List ℕ) → close_of body < length body → Starts (47 ∷ 42 ∷ body) None (close_of body + 4)
-block_closes body l =
-    let k = close_of body in
-    let inside = take k body in
-    let after = drop 2 (drop k body) in
-    let close : drop k body ≡ codes "*/" ++ after = front_is (codes "*/") (drop k body) (close_here body l) in
-    let whole : body ≡ inside ++ (codes "*/" ++ after) = sym (take-append-drop k body) ∙ ap (λ t. inside ++ t) close in
-    let long : length inside ≡ k = length-take-le k body (omega arith) in
-    record {
-      span = 47 ∷ 42 ∷ (inside ++ codes "*/");
-      after = after;
-      whole = ap (λ t. 47 ∷ 42 ∷ t) (whole ∙ sym (append_assoc inside (codes "*/") after));
-      len = omega (arith, long, length-append inside (codes "*/"));
-      some = omega arith;
-      fits = inr (inr (inl (record {
-        body = inside;
-        whole = refl;
-        next = λ j h. subst (λ t. begins_with (codes "*/") (drop j t) ≡ false) whole (close_none body j (omega (arith, long)));
-      })));
-    }
-
-block_right : (body : List ℕ) → Right (47 ∷ 42 ∷ body) (block_comment_front body)
-block_right body = by_test (nat_lt (close_of body) (length body))
-    (λ h. rw h (block_closes body (grind (arith, nat_tests))))
-    (λ h. rw h (record { body = body; whole = refl; never = λ k l. close_none body k (not_below body k l h) }))
+comment_right : (text : List ℕ) → begins_comment text ≡ true → Right text (comment_front text)
+comment_right text h = by (is_open_comment text) refl
   where
-    not_below : (body : List ℕ) (k : ℕ) → k < length body → nat_lt (close_of body) (length body) ≡ false → k < close_of body
-    not_below body k l h = grind (arith, nat_tests)
+    whole : take (comment_len text) text ++ drop (comment_len text) text ≡ text
+    whole = take-append-drop (comment_len text) text
+
+    by : (b : Bool) → is_open_comment text ≡ b → Right text (if b then Err orc.OpenComment else gap (comment_len text))
+    by true e = e
+    by false e = record {
+      span = take (comment_len text) text;
+      after = drop (comment_len text) text;
+      whole = sym whole;
+      len = sym (length-take-le (comment_len text) text (comment_within text));
+      some = comment_some text h;
+      fits = inr (inl (record {
+        begun = ap begins_comment whole ∙ h;
+        ended = ap is_open_comment whole ∙ e;
+        len = length-take-le (comment_len text) text (comment_within text) ∙ ap comment_len (sym whole);
+      }));
+    }
 
 sign_one : (b : ℕ) (rest : List ℕ) → is_short_sign b ≡ true → begins_comment (b ∷ rest) ≡ false → ((c : ℕ) (r : List ℕ) → rest ≡ c ∷ r → is_long_sign b c ≡ false) → Starts (b ∷ rest) (Some mark.Sign) 1
 sign_one b rest h comment short = one_byte (Some mark.Sign) b rest (record {
@@ -160,7 +144,7 @@ joined_right rest =
           whole = ap (λ t. 92 ∷ t) (s.whole ∙ ap (λ t. s.front ++ t) after ∙ sym (append_assoc s.front (10 ∷ []) r));
           len = omega (arith, s.len, length-append s.front (10 ∷ []));
           some = omega arith;
-          fits = inr (inr (inr (record { blanks = s.front; whole = refl; blank = s.all })));
+          fits = inr (inr (record { blanks = s.front; whole = refl; blank = s.all }));
         }
 
     lone : (rest blanks after : List ℕ) → list_all is_blank blanks ≡ true → rest ≡ blanks ++ 10 ∷ after → begins is_feed (drop (run is_blank rest) rest) ≡ false → ⊥
@@ -296,17 +280,11 @@ point_right rest = by_test (begins is_ascii_digit rest)
     no_scale f = false≢true (sym (ap (begins (λ b. b == 46)) f.whole))
 
 slash_right : (rest : List ℕ) → Right (47 ∷ rest) (slash_front (47 ∷ rest))
-slash_right rest = by_test (begins_with (codes "//") (47 ∷ rest))
-    (λ h. rw h (double rest (front_is (codes "//") (47 ∷ rest) h)))
-    (λ none. by_test (begins_with (codes "/*") (47 ∷ rest))
-    (λ h. rw (none, h) (star rest (front_is (codes "/*") (47 ∷ rest) h)))
-    (λ other. rw (none, other) (sign_right 47 rest refl (rw (none, other)))))
+slash_right rest = by (begins_comment (47 ∷ rest)) refl
   where
-    double : (rest : List ℕ) → 47 ∷ rest ≡ codes "//" ++ drop 2 (47 ∷ rest) → Right (47 ∷ rest) (line_comment_front (47 ∷ rest))
-    double rest e = subst (λ t. Right t (line_comment_front t)) (sym e) (slashes_right (drop 2 (47 ∷ rest)))
-
-    star : (rest : List ℕ) → 47 ∷ rest ≡ codes "/*" ++ drop 2 (47 ∷ rest) → Right (47 ∷ rest) (block_comment_front (drop 2 (47 ∷ rest)))
-    star rest e = subst (λ t. Right t (block_comment_front (drop 2 (47 ∷ rest)))) (sym e) (block_right (drop 2 (47 ∷ rest)))
+    by : (b : Bool) → begins_comment (47 ∷ rest) ≡ b → Right (47 ∷ rest) (if b then comment_front (47 ∷ rest) else sign_front (47 ∷ rest))
+    by true e = comment_right (47 ∷ rest) e
+    by false e = sign_right 47 rest refl e
 
 differs : (a b : ℕ) → b ≢ a → nat_eq a b ≡ false
 differs a b h = grind (arith, nat_tests)
@@ -326,7 +304,7 @@ front_right b rest = by (class_of b) b rest (class_means b)
     by class.Quote b rest h = subst (λ x. Right (x ∷ rest) (text_front rest)) (sym h) (text_right rest)
     by class.Point b rest h = subst (λ x. Right (x ∷ rest) (point_front (x ∷ rest))) (sym h) (point_right rest)
     by class.Slash b rest h = subst (λ x. Right (x ∷ rest) (slash_front (x ∷ rest))) (sym h) (slash_right rest)
-    by class.Semicolon b rest h = subst (λ x. Right (x ∷ rest) (line_comment_front (x ∷ rest))) (sym h) (semicolon_right rest)
+    by class.Semicolon b rest h = subst (λ x. Right (x ∷ rest) (comment_front (x ∷ rest))) (sym h) (comment_right (59 ∷ rest) refl)
     by class.Backslash b rest h = subst (λ x. Right (x ∷ rest) (joined_front rest)) (sym h) (joined_right rest)
     by class.Sign b rest h = sign_right b rest h.0 (no_comment b rest h.1 h.2)
     by class.Stray b rest h = inl (record { byte = b; rest = rest; whole = refl; stray = inl h })

@@ -1,19 +1,15 @@
--- Fronts of a text: runs, splits, and the first place of `*/`.
-use Rattle.std.proofs.Common.{◌≡◌, ◌≢◌, ◌+◌, ◌<◌, ◌≤◌, ℕ, zero, suc, Bool, true, false, ◌&&◌, List, [], ◌∷◌, ◌++◌, length, drop, take, get_or, arith, ap, sym, ◌∙◌, codes, refl, inl, inr, nat_eq, ◌==◌}
+-- Fronts of a text: runs, splits, and the longest span of a form.
+use Rattle.std.proofs.Common.{◌≡◌, ◌≢◌, ◌+◌, ◌≤◌, ℕ, Bool, true, false, ◌&&◌, List, [], ◌∷◌, ◌++◌, length, drop, take, arith, ap, sym, ◌∙◌, refl, inl, inr, ◌==◌}
 use Rattle.std.specs.List.{list_all}
 use Rattle.std.proofs.lemmas.Bool.{and_parts, and_from, false≢true}
-use Rattle.std.proofs.lemmas.Bool.Decides.{leb_tells, nat_tests, Decides-eqb}
-use Rattle.std.proofs.lemmas.Slice.Eq.{starts_is}
-use Rattle.std.proofs.lemmas.List.{drop_more, drop_at, take_at, append-nil}
+use Rattle.std.proofs.lemmas.Bool.Decides.{leb_tells, nat_tests}
+use Rattle.std.proofs.lemmas.List.{drop_at, take_at, append-nil}
 use Rattle.std.proofs.lemmas.List.Folds.{list_all-append}
-use Rattle.cs_lex.specs.Bytes.{begins, begins_with}
-use Rattle.cs_lex.specs.Front.{close_of, run}
-use Rattle.cs_lex.specs.Rows.{Longest, NoneCloses}
-
--- what a test may be, with the fact
-pub by_test : {P : Type 0} (b : Bool) → (b ≡ true → P) → (b ≡ false → P) → P
-by_test true f g = f refl
-by_test false f g = g refl
+use Rattle.cs_base.specs.Lines.{begins}
+use Rattle.std.proofs.Math.Bool.{and-false}
+use Rattle.cs_base.proofs.Tests.{by_test}
+use Rattle.cs_lex.specs.inner.Front.{run}
+use Rattle.cs_lex.specs.Rows.{Longest}
 
 -- a text is a run and what ends it
 pub record Split (p : ℕ → Bool) (text : List ℕ) : Type 0 where
@@ -66,20 +62,6 @@ no_run p (y ∷ ys) h = rw h refl
 pub run_is : (p : ℕ → Bool) (xs ys : List ℕ) → list_all p xs ≡ true → begins p ys ≡ false → run p (xs ++ ys) ≡ length xs
 run_is p xs ys h k = run_past p xs ys h ∙ ap (λ n. length xs + n) (no_run p ys k) ∙ (let e : length xs + 0 ≡ length xs = omega arith in e)
 
-pub front_is : (front text : List ℕ) → begins_with front text ≡ true → text ≡ front ++ drop (length front) text
-front_is front text h = (starts_is {E = nat_eq} Decides-eqb text front (begins_with front text) refl).0 h
-
-pub front_tests : (front text after : List ℕ) → text ≡ front ++ after → begins_with front text ≡ true
-front_tests front text after e = (starts_is {E = nat_eq} Decides-eqb text front (begins_with front text) refl).1 after e
-
-close_of_cons : (b : ℕ) (rest : List ℕ) → begins_with (codes "*/") (b ∷ rest) ≡ false → close_of (b ∷ rest) ≡ 1 + close_of rest
-close_of_cons b rest h = rw h
-
-pub close_of_next : (body : List ℕ) (at : ℕ) → at < length body → begins_with (codes "*/") (drop at body) ≡ false → close_of (drop at body) ≡ 1 + close_of (drop (at + 1) body)
-close_of_next body at l h =
-    let split = drop_more body at 0 l in
-    ap close_of split ∙ close_of_cons (get_or body at 0) (drop (at + 1) body) (sym (ap (begins_with (codes "*/")) split) ∙ h)
-
 -- ---- the longest span of a form
 
 -- where a byte of a kind that the form excludes follows, no longer span has the form
@@ -93,12 +75,8 @@ longest_to p form span after fits ends cut = record {
     stop [] rest some h = absurd (some refl)
     stop (c ∷ more) rest some h = cut c more h
 
-pub and_false : (b : Bool) → (b && false) ≡ false
-and_false true = refl
-and_false false = refl
-
 pub list_all_cut : (p : ℕ → Bool) (xs : List ℕ) (c : ℕ) (more : List ℕ) → p c ≡ false → list_all p (xs ++ c ∷ more) ≡ false
-list_all_cut p xs c more h = list_all-append p xs (c ∷ more) ∙ (rw h (and_false (list_all p xs)))
+list_all_cut p xs c more h = list_all-append p xs (c ∷ more) ∙ (rw h (and-false (list_all p xs)))
 
 -- two ways to split one text: where the first front is no longer, the second is it and more
 pub split_more : (a b c d : List ℕ) → a ++ b ≡ c ++ d → length a ≤ length c → (more : List ℕ) × (c ≡ a ++ more) × (b ≡ more ++ d)
@@ -120,34 +98,6 @@ longest_once form a b c d h k e = by_order (length a) (length c)
     meet : (a b c d : List ℕ) → Longest form a b → Longest form c d → (more : List ℕ) × (c ≡ a ++ more) × (b ≡ more ++ d) → a ≡ c
     meet a b c d h k ([], e, f) = sym (e ∙ append-nil a)
     meet a b c d h k (x ∷ more, e, f) = absurd (false≢true (sym (h.stops (x ∷ more) d (λ n. cc) f) ∙ (ap form (sym e) ∙ k.fits)))
-
--- ---- the first place of `*/`
-
-one_more : (n : ℕ) → 1 + n ≡ suc n
-one_more n = omega arith
-
-close_none_cons : (b : ℕ) (rest : List ℕ) → begins_with (codes "*/") (b ∷ rest) ≡ false → NoneCloses rest (close_of rest) → NoneCloses (b ∷ rest) (close_of (b ∷ rest))
-close_none_cons b rest h before zero l = h
-close_none_cons b rest h before (suc k) l =
-    let is = close_of_cons b rest h in
-    before k (omega arith)
-
-close_at_once : (b : ℕ) (rest : List ℕ) → begins_with (codes "*/") (b ∷ rest) ≡ true → close_of (b ∷ rest) ≡ 0
-close_at_once b rest h = rw h
-
-pub close_none : (body : List ℕ) → NoneCloses body (close_of body)
-close_none [] = λ k l. absurd (omega arith)
-close_none (b ∷ rest) = by_test (begins_with (codes "*/") (b ∷ rest))
-    (λ h. λ k l. let is = close_at_once b rest h in absurd (omega arith))
-    (λ h. close_none_cons b rest h (close_none rest))
-
-pub close_here : (body : List ℕ) → close_of body < length body → begins_with (codes "*/") (drop (close_of body) body) ≡ true
-close_here [] l = absurd (omega arith)
-close_here (b ∷ rest) l = by_test (begins_with (codes "*/") (b ∷ rest))
-    (λ h. ap (λ n. begins_with (codes "*/") (drop n (b ∷ rest))) (close_at_once b rest h) ∙ h)
-    (λ h.
-    let is = close_of_cons b rest h ∙ one_more (close_of rest) in
-    ap (λ n. begins_with (codes "*/") (drop n (b ∷ rest))) is ∙ close_here rest (omega (arith, is)))
 
 -- ---- bytes
 

@@ -1,9 +1,9 @@
-use Rattle.std.specs.Prelude.{ℕ, Bool, true, false, List, [], ◌∷◌, ◌++◌, ◌≡◌, ◌+◌, ◌-◌, ◌&&◌, length, max, Option, Some, None, if◌then◌else◌, count_by, slice_index}
+use Rattle.std.specs.Prelude.{ℕ, Bool, true, false, List, [], ◌∷◌, ◌++◌, ◌≡◌, ◌≢◌, ◌<◌, ◌≤◌, ◌+◌, ◌-◌, ◌&&◌, length, max, Option, Some, None, if◌then◌else◌, count_by, slice_index}
 use Rattle.cs_base.specs.declared.fault.OrcKind.{OrcKind}
 use Rattle.cs_lex.specs.declared.token.Mark.{Mark}
 use Rattle.cs_lex.specs.declared.token.Mark.TheVariants as mark
 use Rattle.cs_lex.specs.declared.token.Token.{Token}
-use Rattle.cs_lex.specs.Bytes.{is_feed}
+use Rattle.cs_base.specs.Lines.{is_feed, line_after}
 use Rattle.cs_lex.specs.Rows.{Fits, IsFault}
 
 -- a piece of the text: a token by its mark, or what stands between tokens
@@ -25,10 +25,6 @@ AllFit (p ∷ ps) rest = Fits p.mark p.span (text_of ps ++ rest) × AllFit ps re
 pub record IsCut (source : List ℕ) (pieces : List Piece) (rest : List ℕ) : Type 0 where
   pub whole : source ≡ text_of pieces ++ rest
   pub fit : AllFit pieces rest
-
--- the line of what stands after a text: one more than its line feeds
-abbrev pub line_after : List ℕ → ℕ
-line_after before = count_by is_feed before + 1
 
 -- the token of a span that stands after a text
 abbrev pub token_at : Mark → List ℕ → List ℕ → Token
@@ -75,3 +71,11 @@ Lexed source tokens =
 abbrev pub LexFault : List ℕ → ℕ → OrcKind → Type 0
 LexFault source line kind =
     (pieces : List Piece) × (rest : List ℕ) × IsCut source pieces rest × IsFault rest kind × (line ≡ line_after (text_of pieces))
+
+-- a token that stands before another: it ends where the other begins or before, and on no later line
+abbrev pub Precedes : Token → Token → Type 0
+Precedes t u = (t.to ≤ u.from) × (t.line ≤ u.line)
+
+-- after a NewLine all tokens but End stand on later lines
+abbrev pub IsEndedBy : Token → Token → Type 0
+IsEndedBy t u = t.mark ≡ mark.NewLine → u.mark ≢ mark.End → t.line < u.line

@@ -1,4 +1,4 @@
 pub mod Bytes
-pub mod Front
 pub mod Lexed
 pub mod Rows
+pub mod inner

@@ -1,4 +1,4 @@
-use Rattle.std.specs.Prelude.{ℕ, Bool, true, false, List, [], ◌∷◌, ◌++◌, ◌≡◌, ◌≢◌, ◌<◌, ◌⊎◌, ◌&&◌, ◌||◌, ◌==◌, not, length, drop, codes, Option, Some, None, ℤ}
+use Rattle.std.specs.Prelude.{ℕ, Bool, true, false, List, [], ◌∷◌, ◌++◌, ◌≡◌, ◌≢◌, ◌<◌, ◌⊎◌, ◌&&◌, ◌||◌, ◌==◌, not, length, codes, Option, Some, None, ℤ}
 use Rattle.std.specs.Option.{IsSomeAnd}
 use Rattle.std.specs.List.{list_all}
 use Rattle.std.specs.Char.{is_ascii_digit}
@@ -7,32 +7,26 @@ use Rattle.cs_base.specs.declared.fault.OrcKind.{OrcKind}
 use Rattle.cs_base.specs.declared.fault.OrcKind.TheVariants as orc
 use Rattle.cs_lex.specs.declared.token.Mark.{Mark}
 use Rattle.cs_lex.specs.declared.token.Mark.TheVariants as mark
-use Rattle.cs_lex.specs.Bytes.{is_blank, is_feed, is_quote, is_letter, is_word_byte, is_allowed, is_line_byte, is_quotable, is_text_byte, begins, begins_with, is_sign, is_short_sign}
+use Rattle.std.specs.Str.{byte as char}
+use Rattle.cs_base.specs.Comments.{begins_comment, is_open_comment, comment_len}
+use Rattle.cs_base.specs.Lines.{is_blank, is_feed, begins}
+use Rattle.cs_lex.specs.Bytes.{is_quote, is_letter, is_word_byte, is_allowed, is_quotable, is_text_byte, is_sign, is_short_sign}
 
 -- a span that has the form, where no longer span from its first byte has it
 pub record Longest (form : List ℕ → Bool) (span after : List ℕ) : Type 0 where
   pub fits : form span ≡ true
   pub stops : (more rest : List ℕ) → more ≢ [] → after ≡ more ++ rest → form (span ++ more) ≡ false
 
--- `;` or `//`, and what follows in the same line
-abbrev pub is_line_comment : List ℕ → Bool
-is_line_comment span =
-    (begins_with (codes ";") span || begins_with (codes "//") span) && list_all is_line_byte span
-
--- at no place of a text before this one does `*/` stand
-abbrev pub NoneCloses : List ℕ → ℕ → Type 0
-NoneCloses text place = (k : ℕ) → k < place → begins_with (codes "*/") (drop k text) ≡ false
-
--- `/*` to the next `*/`
-pub record IsBlockComment (span after : List ℕ) : Type 0 where
-  pub body : List ℕ
-  pub whole : span ≡ codes "/*" ++ (body ++ codes "*/")
-  pub next : NoneCloses (body ++ (codes "*/" ++ after)) (length body)
+-- a comment that has its end: it has as many bytes as the text that begins with it says
+pub record IsComment (span after : List ℕ) : Type 0 where
+  pub begun : begins_comment (span ++ after) ≡ true
+  pub ended : is_open_comment (span ++ after) ≡ false
+  pub len : length span ≡ comment_len (span ++ after)
 
 -- a `\` and blanks up to a line feed
 pub record IsJoin (span : List ℕ) : Type 0 where
   pub blanks : List ℕ
-  pub whole : span ≡ 92 ∷ (blanks ++ 10 ∷ [])
+  pub whole : span ≡ codes "\\" ++ (blanks ++ codes "\n")
   pub blank : list_all is_blank blanks ≡ true
 
 -- a letter or `_`, then letters, digits and `_`
@@ -56,11 +50,6 @@ pub record IsNumber (value : ℤ) (span after : List ℕ) : Type 0 where
   pub ends : begins is_letter after ≡ false
   pub value_is : IsSomeAnd (decimal_of span) (λ d. value ≡ raw_of_decimal d)
 
--- a text begins with a comment
-abbrev pub begins_comment : List ℕ → Bool
-begins_comment text =
-    begins_with (codes ";") text || begins_with (codes "//") text || begins_with (codes "/*") text
-
 -- a sign that begins no comment
 pub record IsSign (span after : List ℕ) : Type 0 where
   pub longest : Longest is_sign span after
@@ -69,19 +58,19 @@ pub record IsSign (span after : List ℕ) : Type 0 where
 -- a quotation mark, bytes of one line, and the next quotation mark
 pub record IsText (span : List ℕ) : Type 0 where
   pub body : List ℕ
-  pub whole : span ≡ 34 ∷ (body ++ 34 ∷ [])
+  pub whole : span ≡ codes "\"" ++ (body ++ codes "\"")
   pub plain : list_all is_text_byte body ≡ true
 
 -- the rows: what a span is, with what follows it. `None` stands between tokens, and each line feed is a NewLine here
 abbrev pub Fits : Option Mark → List ℕ → List ℕ → Type 0
 Fits None span after =
-    ((b : ℕ) × (is_blank b ≡ true) × (span ≡ b ∷ [])) ⊎ Longest is_line_comment span after ⊎ IsBlockComment span after ⊎ IsJoin span
+    ((b : ℕ) × (is_blank b ≡ true) × (span ≡ b ∷ [])) ⊎ IsComment span after ⊎ IsJoin span
 Fits (Some mark.Word) span after =
     Longest is_word span after ⊎ ((span ≡ codes "0dbfs") × (begins is_word_byte after ≡ false))
 Fits (Some (mark.Number value)) span after = IsNumber value span after
 Fits (Some mark.Text) span after = IsText span
 Fits (Some mark.Sign) span after = IsSign span after
-Fits (Some mark.NewLine) span after = span ≡ 10 ∷ []
+Fits (Some mark.NewLine) span after = span ≡ codes "\n"
 Fits (Some mark.End) span after = ⊥
 
 -- a byte that may not stand here
@@ -96,7 +85,7 @@ pub record HasBadByte (text : List ℕ) : Type 0 where
   pub body : List ℕ
   pub byte : ℕ
   pub rest : List ℕ
-  pub whole : text ≡ 34 ∷ (body ++ byte ∷ rest)
+  pub whole : text ≡ codes "\"" ++ (body ++ byte ∷ rest)
   pub within : list_all is_quotable body ≡ true
   pub bad : is_allowed byte ≡ false
 
@@ -104,27 +93,27 @@ pub record HasBadByte (text : List ℕ) : Type 0 where
 pub record IsOpenText (text : List ℕ) : Type 0 where
   pub body : List ℕ
   pub after : List ℕ
-  pub whole : text ≡ 34 ∷ (body ++ after)
+  pub whole : text ≡ codes "\"" ++ (body ++ after)
   pub plain : list_all is_text_byte body ≡ true
   pub ends : (after ≡ []) ⊎ (begins is_feed after ≡ true)
 
 -- a `\` that joins no line
 pub record IsLoneBackslash (text : List ℕ) : Type 0 where
   pub rest : List ℕ
-  pub whole : text ≡ 92 ∷ rest
-  pub joins_not : (blanks after : List ℕ) → list_all is_blank blanks ≡ true → rest ≢ blanks ++ 10 ∷ after
+  pub whole : text ≡ codes "\\" ++ rest
+  pub joins_not : (blanks after : List ℕ) → list_all is_blank blanks ≡ true → rest ≢ blanks ++ (codes "\n" ++ after)
 
 -- a byte that begins no token, comment or blank: of the allowed ones these are ' and @ and `
 abbrev pub is_stray : ℕ → Bool
 is_stray b =
-    is_allowed b && not (is_letter b || is_ascii_digit b || is_blank b || is_feed b || is_quote b || b == 46 || b == 59 || b == 92 || is_short_sign b)
+    is_allowed b && not (is_letter b || is_ascii_digit b || is_blank b || is_feed b || is_quote b || b == char "." || b == char ";" || b == char "\\" || is_short_sign b)
 
 -- such a byte, or a point without a digit after it
 pub record IsStray (text : List ℕ) : Type 0 where
   pub byte : ℕ
   pub rest : List ℕ
   pub whole : text ≡ byte ∷ rest
-  pub stray : (is_stray byte ≡ true) ⊎ ((byte ≡ 46) × (begins is_ascii_digit rest ≡ false))
+  pub stray : (is_stray byte ≡ true) ⊎ ((byte ≡ char ".") × (begins is_ascii_digit rest ≡ false))
 
 -- a number directly before a letter or `_`, or with too great a whole part
 pub record IsBadNumber (text : List ℕ) : Type 0 where
@@ -134,16 +123,10 @@ pub record IsBadNumber (text : List ℕ) : Type 0 where
   pub numeral : IsNumeral span after
   pub wrong : (begins is_letter after ≡ true) ⊎ (greatest_whole < whole_part span)
 
--- `/*` without `*/`
-pub record IsOpenComment (text : List ℕ) : Type 0 where
-  pub body : List ℕ
-  pub whole : text ≡ codes "/*" ++ body
-  pub never : NoneCloses body (length body)
-
 -- the faults that a text may begin with
 abbrev pub IsFault : List ℕ → OrcKind → Type 0
 IsFault text orc.BadByte = IsBadByte text ⊎ HasBadByte text
 IsFault text orc.BadToken = IsStray text ⊎ IsLoneBackslash text ⊎ IsOpenText text
 IsFault text orc.BadNumber = IsBadNumber text
-IsFault text orc.OpenComment = IsOpenComment text
+IsFault text orc.OpenComment = is_open_comment text ≡ true
 IsFault text _ = ⊥

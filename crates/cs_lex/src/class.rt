@@ -1,11 +1,13 @@
 // What a byte may be, and what it may begin.
 ghost use Rattle.std.specs.Prelude.{◌≡◌, ◌==◌, codes};
 ghost use Rattle.std.specs.List.{list_any};
-ghost use Rattle.cs_lex.specs.Bytes.{is_blank, is_feed, is_quote, is_letter, is_word_byte, is_allowed, is_short_sign, is_long_sign};
-ghost use Rattle.cs_lex.specs.Front.{class_of};
+ghost use Rattle.cs_lex.specs.Bytes.{is_letter, is_word_byte, is_allowed, is_short_sign, is_long_sign};
+ghost use Rattle.cs_lex.specs.inner.Front.{class_of};
+
+use cs_base::is_blank;
 
 /// What the first byte of a piece says of it.
-#[derive(Clone, Copy, Debug, PartialEq, Eq)]
+#[derive(Clone, Copy)]
 pub enum Class {
     Letter,
     Digit,
@@ -51,12 +53,6 @@ impl Class {
             Class::Bad
         }
     }
-}
-
-pub fn is_blank(byte: u8) -> bool
-    ensures { result ≡ is_blank byte }
-{
-    byte == b' ' || byte == b'\t' || byte == b'\r'
 }
 
 pub fn is_letter(byte: u8) -> bool

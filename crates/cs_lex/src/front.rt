@@ -2,15 +2,16 @@
 ghost use Rattle.std.specs.Prelude.{◌≡◌, ◌<◌, ◌≤◌, ◌||◌, ◌==◌, length, not, drop, IfOk, List, ℕ};
 ghost use Rattle.std.specs.List.{list_all};
 ghost use Rattle.std.specs.Char.{is_ascii_digit};
-ghost use Rattle.cs_lex.specs.Bytes.{is_blank, is_line_byte, is_quote, is_letter, is_word_byte, is_allowed, begins, begins_with};
-ghost use Rattle.cs_lex.specs.Front.{front_of, run, close_of, line_comment_front, block_comment_front, sign_front, slash_front, joined_front, word_front, quoted_len, text_front, numeral_len, number_front, digit_front, point_front};
+ghost use Rattle.cs_base.specs.Lines.{is_blank, begins, begins_with};
+ghost use Rattle.cs_lex.specs.Bytes.{is_letter, is_word_byte, is_allowed};
+ghost use Rattle.cs_lex.specs.inner.Front.{front_of, run, comment_front, sign_front, slash_front, joined_front, word_front, quoted_len, text_front, numeral_len, number_front, digit_front, point_front};
 
 use crate::Mark;
-use crate::class::{Class, is_allowed, is_blank, is_letter, is_long_sign, is_word_byte};
-use cs_base::{OrcKind, read_decimal};
+use crate::class::{Class, is_allowed, is_letter, is_long_sign, is_word_byte};
+use cs_base::{OrcKind, begins_comment, comment_len, is_blank, is_open_comment, read_decimal};
 
 /// A piece of a text: a token by its mark, or what stands between tokens; and how many bytes it has.
-#[derive(Clone, Copy, Debug, PartialEq, Eq)]
+#[derive(Clone, Copy)]
 pub struct Front {
     pub mark: Option<Mark>,
     pub len: usize,
@@ -54,7 +55,7 @@ fn by_first_byte(text: &[u8]) -> Result<Front, OrcKind>
         Class::Quote => quoted(&text[1..]),
         Class::Point => after_point(text),
         Class::Slash => after_slash(text),
-        Class::Semicolon => Ok(line_comment(text)),
+        Class::Semicolon => comment(text),
         Class::Backslash => joined(&text[1..]),
         Class::Sign => Ok(sign(text)),
         Class::Stray => Err(OrcKind::BadToken),
@@ -132,45 +133,20 @@ fn after_slash(text: &[u8]) -> Result<Front, OrcKind>
     requires { 0 < length text.now }
     ensures { result ≡ slash_front text.now }
 {
-    if begins_with(text, b"//") {
-        Ok(line_comment(text))
-    } else if begins_with(text, b"/*") {
-        block_comment(&text[2..])
+    if begins_comment(text) {
+        comment(text)
     } else {
         Ok(sign(text))
     }
 }
 
-fn line_comment(text: &[u8]) -> Front
-    ensures { line_comment_front text.now ≡ Ok result }
+fn comment(text: &[u8]) -> Result<Front, OrcKind>
+    ensures { result ≡ comment_front text.now }
 {
-    Front::gap(line_len(text))
-}
-
-// `body` stands after `/*`.
-fn block_comment(body: &[u8]) -> Result<Front, OrcKind>
-    ensures { result ≡ block_comment_front body.now }
-{
-    let close = close_of(body);
-    if close < body.len() {
-        Ok(Front::gap(close + 4))
-    } else {
-        Err(OrcKind::OpenComment)
+    if is_open_comment(text) {
+        return Err(OrcKind::OpenComment);
     }
-}
-
-// The place of the first `*/`, or the length where there is none.
-fn close_of(body: &[u8]) -> usize
-    ensures { result ≡ close_of body.now }
-{
-    let mut at = 0;
-    while at < body.len() {
-        if begins_with(&body[at..], b"*/") {
-            return at;
-        }
-        at += 1;
-    }
-    at
+    Ok(Front::gap(comment_len(text)))
 }
 
 // `rest` stands after a `\`.
@@ -228,12 +204,6 @@ fn blanks_len(text: &[u8]) -> usize
     ensures { result ≡ run is_blank text.now }
 {
     text.iter().take_while(|byte| is_blank(**byte)).count()
-}
-
-fn line_len(text: &[u8]) -> usize
-    ensures { result ≡ run is_line_byte text.now }
-{
-    text.iter().take_while(|byte| **byte != b'\n').count()
 }
 
 // The bytes before the next quotation mark, line feed or end.

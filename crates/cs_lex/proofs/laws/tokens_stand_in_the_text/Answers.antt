@@ -1,10 +1,5 @@
-use Rattle.std.proofs.Common.{true, []}
-use Rattle.cs_lex.specs.Lexed.{tokens_after, merged}
-use Rattle.cs_lex.proofs.Spans.{within}
+use Rattle.cs_lex.proofs.Spans.{within, end_alone, ascending, new_lines}
 use Rattle.cs_lex.proofs.laws.tokens_stand_in_the_text.Goals as goal
 
 pub returns : goal.returns
-returns c = record {
-  within = within;
-  last = λ source ts h. (merged true (tokens_after [] h.0), h.2);
-}
+returns c = record { within = within; last = end_alone; ascending = ascending; new_lines = new_lines }

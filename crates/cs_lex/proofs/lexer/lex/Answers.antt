@@ -1,10 +1,10 @@
-use Rattle.std.proofs.Common.{◌≡◌, subst, List, Result, Err}
+use Rattle.std.proofs.Common.{◌≡◌, refl, subst, List, Result, Err}
 use Rattle.cs_base.specs.declared.fault.Or.{Or}
 use Rattle.cs_base.specs.declared.fault.OrcFault.{OrcFault}
 use Rattle.cs_base.specs.declared.fault.Or.TheVariants as or
 use Rattle.cs_lex.specs.declared.token.Token.{Token}
 use Rattle.cs_lex.specs.Lexed.{LexFault}
-use Rattle.cs_lex.proofs.Reading.{next_within, next_piece, next_fault}
+use Rattle.cs_lex.proofs.Reading.{at_line, next_within, next_piece, next_fault}
 use Rattle.cs_lex.proofs.lexer.lex.Goals as goal
 
 abbrev refused : OrcFault → Result (List Token) (Or OrcFault)
@@ -18,7 +18,8 @@ loop-at-preserved c =
     let source = c.args.source.now in
     record {
       within = next_within source c.loop-at.at c.in-Ok.piece.len c.loop-at-test.true c.in-Ok.ensures.within.1;
-      read = next_piece source c.loop-at.at c.loop-at.line c.loop-at.fed c.loop-at.tokens c.in-Ok.piece c.feeds-line.result _ _ c.loop-at-test.true c.loop-at.invariant.read c.in-Ok.ensures.value c.feeds-line.ensures c.in_ok-fed.ensures.fed c.in_ok-fed.ensures.tokens;
+      read = at_line source _ _ _ _ _ c.line_past-line.ensures
+          (next_piece source c.loop-at.at c.loop-at.line c.loop-at.fed c.loop-at.tokens c.in-Ok.piece _ _ _ c.loop-at-test.true c.loop-at.invariant.read c.in-Ok.ensures.value refl c.in_ok-fed.ensures.fed c.in_ok-fed.ensures.tokens);
     }
 
 pub returns-in-Err-clause-fault : goal.returns-in-Err-clause-fault

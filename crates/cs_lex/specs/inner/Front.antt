@@ -14,16 +14,19 @@ use Rattle.cs_lex.specs.Lexed.{is_newline_mark}
 use Rattle.cs_lex.specs.declared.front.Front.{Front}
 use Rattle.cs_lex.specs.declared.class.Class.{Class}
 use Rattle.cs_lex.specs.declared.class.Class.TheVariants as class
-use Rattle.cs_lex.specs.Bytes.{is_blank, is_feed, is_quote, is_letter, is_word_byte, is_allowed, is_line_byte, is_quotable, begins, begins_with, is_short_sign, is_long_sign}
+use Rattle.std.specs.Str.{byte}
+use Rattle.cs_base.specs.Comments.{begins_comment, is_open_comment, comment_len}
+use Rattle.cs_base.specs.Lines.{is_blank, is_feed, begins, begins_with}
+use Rattle.cs_lex.specs.Bytes.{is_quote, is_letter, is_word_byte, is_allowed, is_quotable, is_short_sign, is_long_sign}
 
 -- what a first byte may begin
 abbrev pub class_of : ℕ → Class
 class_of b =
     if is_letter b then class.Letter else (if is_ascii_digit b then class.Digit else (
     if is_blank b then class.Blank else (if is_feed b then class.LineFeed else (
-    if is_quote b then class.Quote else (if b == 46 then class.Point else (
-    if b == 47 then class.Slash else (if b == 59 then class.Semicolon else (
-    if b == 92 then class.Backslash else (if is_short_sign b then class.Sign else (
+    if is_quote b then class.Quote else (if b == byte "." then class.Point else (
+    if b == byte "/" then class.Slash else (if b == byte ";" then class.Semicolon else (
+    if b == byte "\\" then class.Backslash else (if is_short_sign b then class.Sign else (
     if is_allowed b then class.Stray else class.Bad))))))))))
 
 -- how many bytes at the front are of a kind
@@ -36,26 +39,16 @@ gap n = Ok (record { mark = None; len = n })
 abbrev pub token : Mark → ℕ → Result Front OrcKind
 token m n = Ok (record { mark = Some m; len = n })
 
-abbrev pub line_comment_front : List ℕ → Result Front OrcKind
-line_comment_front text = gap (run is_line_byte text)
-
--- the place of the first `*/`, or the length where there is none
-abbrev pub close_of : List ℕ → ℕ
-close_of [] = 0
-close_of (b ∷ rest) = if begins_with (codes "*/") (b ∷ rest) then 0 else 1 + close_of rest
-
-abbrev pub block_comment_front : List ℕ → Result Front OrcKind
-block_comment_front body =
-    if nat_lt (close_of body) (length body) then gap (close_of body + 4) else Err orc.OpenComment
+-- a comment, or the fault that it has no end
+abbrev pub comment_front : List ℕ → Result Front OrcKind
+comment_front text = if is_open_comment text then Err orc.OpenComment else gap (comment_len text)
 
 abbrev pub sign_front : List ℕ → Result Front OrcKind
 sign_front text =
     if nat_lt 1 (length text) && is_long_sign (slice_index text 0) (slice_index text 1) then token mark.Sign 2 else token mark.Sign 1
 
 abbrev pub slash_front : List ℕ → Result Front OrcKind
-slash_front text =
-    if begins_with (codes "//") text then line_comment_front text
-    else (if begins_with (codes "/*") text then block_comment_front (drop 2 text) else sign_front text)
+slash_front text = if begins_comment text then comment_front text else sign_front text
 
 abbrev pub joined_front : List ℕ → Result Front OrcKind
 joined_front rest =
@@ -77,7 +70,7 @@ text_front rest =
 abbrev pub numeral_len : List ℕ → ℕ
 numeral_len text =
     let whole = run is_ascii_digit text in
-    if begins (λ b. b == 46) (drop whole text) then whole + 1 + run is_ascii_digit (drop (whole + 1) text) else whole
+    if begins (λ b. b == byte ".") (drop whole text) then whole + 1 + run is_ascii_digit (drop (whole + 1) text) else whole
 
 abbrev pub number_of : Option Decimal → ℕ → Result Front OrcKind
 number_of None n = Err orc.BadNumber
@@ -104,7 +97,7 @@ by_class class.LineFeed text = token mark.NewLine 1
 by_class class.Quote text = text_front (drop 1 text)
 by_class class.Point text = point_front text
 by_class class.Slash text = slash_front text
-by_class class.Semicolon text = line_comment_front text
+by_class class.Semicolon text = comment_front text
 by_class class.Backslash text = joined_front (drop 1 text)
 by_class class.Sign text = sign_front text
 by_class class.Stray text = Err orc.BadToken
@@ -115,9 +108,9 @@ abbrev pub front_of : List ℕ → Result Front OrcKind
 front_of text = by_class (class_of (slice_index text 0)) text
 
 -- the tokens that a piece gives, and whether a line feed, or nothing, stands before what follows it
-abbrev pub told : Option Mark → ℕ → ℕ → ℕ → List Token
-told None at to line = []
-told (Some m) at to line = record { mark = m; from = at; to = to; line = line } ∷ []
+abbrev pub given : Option Mark → ℕ → ℕ → ℕ → List Token
+given None at to line = []
+given (Some m) at to line = record { mark = m; from = at; to = to; line = line } ∷ []
 
 abbrev pub fed_by : Bool → Option Mark → Bool
 fed_by fed None = fed
