@@ -1,27 +1,54 @@
 -- The line of `opcode`, the names of `xin` and the results of `xout`, as the parser meets them.
-use Rattle.std.proofs.Common.{◌≡◌, ◌≢◌, ◌∙◌, ◌≤◌, ◌-◌, ◌++◌, ◌&&◌, ℕ, zero, suc, true, false, List, [], ◌∷◌, Ok, Err, if◌then◌else◌, refl, arith, ap}
+use Rattle.std.proofs.Common.{◌≡◌, ◌≢◌, ◌∙◌, ◌≤◌, ◌-◌, ◌++◌, ◌&&◌, ℕ, Bool, zero, suc, true, false, List, [], ◌∷◌, Ok, Err, if◌then◌else◌, refl, arith, ap, sym}
 use Rattle.cs_base.specs.declared.fault.OrcKind.TheVariants as orc
 use Rattle.cs_base.specs.declared.resource.Rate.{Rate}
-use Rattle.cs_grammar.specs.declared.symbol.Keyword.{Keyword}
-use Rattle.cs_grammar.specs.declared.symbol.Keyword.TheVariants as key
-use Rattle.cs_grammar.specs.declared.symbol.Kind.{Kind}
-use Rattle.cs_grammar.specs.declared.symbol.Kind.TheVariants as kind
+use Rattle.cs_grammar.proofs.Gives.{left_through, ended_is, ended_mapped, valued}
+use Rattle.cs_grammar.specs.declared.symbol.Expected.TheVariants as expected
+use Rattle.cs_grammar.specs.Headings.{Heading, heading, heading_of, new_name, types}
+use Rattle.cs_grammar.specs.Orchestra.{behind_xout}
+use Rattle.cs_grammar.specs.Reading.{Left, Reading, Scope, after, both, ended, left, mapped, next, next_is, three, through}
 use Rattle.cs_grammar.specs.Symbols.{Symbol}
 use Rattle.cs_grammar.specs.Tree.{Argument}
-use Rattle.cs_grammar.specs.Reading.{next, after, Left, Reading, left, three, is_comma, Scope, through, ended}
-use Rattle.cs_grammar.specs.Headings.{heading, heading_of, name_of, types, last_line, results_of, is_input, is_none, are_inputs, words, at_xin}
-use Rattle.cs_grammar.specs.Inputs.{first_fits, after_first, are_results}
-use Rattle.cs_grammar.specs.Answers.{past, line_past, last_left}
-use Rattle.cs_grammar.proofs.Gives.{left_through, ended_is, valued}
+use Rattle.cs_grammar.specs.inner.Answers.{last_left, line_past, past, signature}
+use Rattle.cs_grammar.specs.inner.Takes.{after_first, are_inputs, are_results, at_xin, first_fits, is_input, is_none, last_line, results_of, words}
 
-pub heading_at : (s : Scope) (line : ℕ) (ts : List Symbol) (n : List ℕ) (us vs : List Symbol) (o : List Rate) (ws : List Symbol) (st : Left) (i : Reading (List Rate)) → name_of s ts (next ts).kind ≡ Ok (n, us) → past s is_comma us ≡ Ok vs → types s (Ok vs) ≡ Ok (o, ws) → past s is_comma ws ≡ st → types s st ≡ i → heading s line ts ≡ ended s (three (heading_of line) (Ok (n, us)) (Ok (o, ws)) i)
-heading_at s line ts n us vs o ws st i a b c d e =
-    ap (λ x. ended s (three (heading_of line) x (types s (left (through s is_comma x))) (types s (left (through s is_comma (types s (left (through s is_comma x)))))))) a
-    ∙ ap (λ x. ended s (three (heading_of line) (Ok (n, us)) x (types s (left (through s is_comma x))))) (ap (types s) (left_through s is_comma n us ∙ b) ∙ c)
-    ∙ ap (λ x. ended s (three (heading_of line) (Ok (n, us)) (Ok (o, ws)) x)) (ap (types s) (left_through s is_comma o ws ∙ d) ∙ e)
+-- ---- the line of `opcode`
 
-pub heading_line : (s : Scope) (line : ℕ) (ts : List Symbol) (n : List ℕ) (us vs : List Symbol) (o : List Rate) (ws xs ys : List Symbol) (i : List Rate) (st : Left) → name_of s ts (next ts).kind ≡ Ok (n, us) → past s is_comma us ≡ Ok vs → types s (Ok vs) ≡ Ok (o, ws) → past s is_comma ws ≡ Ok xs → types s (Ok xs) ≡ Ok (i, ys) → line_past s (next ys).kind ys ≡ st → heading s line ts ≡ valued (heading_of line n o i) st
-heading_line s line ts n us vs o ws xs ys i st a b c d e f = heading_at s line ts n us vs o ws (Ok xs) (Ok (i, ys)) a b c d e ∙ ended_is s (heading_of line n o i) ys st f
+abbrev with_types : ℕ → List ℕ → List Rate × List Rate → Heading
+with_types line n p = heading_of line n p.0 p.1
+
+typed : (line : ℕ) (n : List ℕ) (us : List Symbol) (o i : Reading (List Rate))
+    → three (heading_of line) (Ok (n, us)) o i ≡ mapped (with_types line n) (both (λ x y. (x, y)) o i)
+typed line n us (Err f) i = refl
+typed line n us (Ok (o, vs)) (Err f) = refl
+typed line n us (Ok (o, vs)) (Ok (i, ws)) = refl
+
+pub heading_is : (s : Scope) (line : ℕ) (ts : List Symbol) (n : List ℕ) (us vs : List Symbol) (o : Reading (List Rate × List Rate))
+    → new_name s ts ≡ Ok (n, us) → past s expected.Comma us ≡ Ok vs → o ≡ signature s vs → mapped (with_types line n) o ≡ heading s line ts
+heading_is s line ts n us vs o a b e =
+    let outs : Reading (List Rate) = types s (Ok vs) in
+    let ins : Reading (List Rate) = types s (left (through s expected.Comma outs)) in
+    ap (mapped (with_types line n)) e ∙ sym (ended_mapped s (with_types line n) (both (λ x y. (x, y)) outs ins))
+    ∙ ap (ended s) (sym (typed line n us outs ins))
+    ∙ ap (λ x. ended s (three (heading_of line) (Ok (n, us)) (types s x) (types s (left (through s expected.Comma (types s x))))))
+    (sym (left_through s expected.Comma n us ∙ b))
+    ∙ ap (λ x. ended s (three (heading_of line) x (types s (left (through s expected.Comma x)))
+    (types s (left (through s expected.Comma (types s (left (through s expected.Comma x)))))))) (sym a)
+
+-- its results and inputs, part by part
+
+pub signature_at : (s : Scope) (ts : List Symbol) (o : List Rate) (ws : List Symbol) (st : Left) (i : Reading (List Rate)) → types s (Ok ts) ≡ Ok (o, ws)
+    → past s expected.Comma ws ≡ st → types s st ≡ i → ended s (both (λ x y. (x, y)) (Ok (o, ws)) i) ≡ signature s ts
+signature_at s ts o ws st i c d e =
+    let way : Reading (List Rate) → Reading (List Rate) → Reading (List Rate × List Rate) = (λ x y. ended s (both (λ v w. (v, w)) x y)) in
+    sym (ap (λ x. way x (types s (left (through s expected.Comma x)))) c
+    ∙ ap (λ x. way (Ok (o, ws)) x) (ap (types s) (left_through s expected.Comma o ws ∙ d) ∙ e))
+
+pub signature_line : (s : Scope) (ts : List Symbol) (o : List Rate) (ws xs ys : List Symbol) (i : List Rate) (st : Left) → types s (Ok ts) ≡ Ok (o, ws)
+    → past s expected.Comma ws ≡ Ok xs → types s (Ok xs) ≡ Ok (i, ys) → line_past s (next ys).kind ys ≡ st → valued (o, i) st ≡ signature s ts
+signature_line s ts o ws xs ys i st c d e f =
+    let both_of : List Rate × List Rate = (o, i) in
+    sym (ended_is s both_of ys st f) ∙ signature_at s ts o ws (Ok xs) (Ok (i, ys)) c d e
 
 -- ---- so many words before `xin`, one by one
 
@@ -35,10 +62,13 @@ at_xin_more zero ts h k = absurd (omega arith)
 at_xin_more (suc zero) ts h k = absurd (k refl)
 at_xin_more (suc (suc n)) ts h k = ap (λ m. at_xin m (after (after ts))) (let e : suc n ≡ suc (suc n) - 1 = omega arith in e)
 
-pub are_inputs_step : (s : Scope) (before : List (List ℕ)) (ins : List Rate) (n : ℕ) (ts : List Symbol) → 1 ≤ n → are_inputs s before ins n ts ≡ (first_fits s before ins (next ts) && are_inputs s (before ++ (next ts).text ∷ []) (after_first ins) (n - 1) (after (after ts)))
+pub are_inputs_step : (s : Scope) (before : List (List ℕ)) (ins : List Rate) (n : ℕ) (ts : List Symbol) → 1 ≤ n
+    → are_inputs s before ins n ts ≡ (first_fits s before ins (next ts) && are_inputs s (before ++ (next ts).text ∷ []) (after_first ins) (n - 1)
+    (after (after ts)))
 are_inputs_step s before ins zero ts h = absurd (omega arith)
 are_inputs_step s before [] (suc n) ts h = refl
-are_inputs_step s before (r ∷ rs) (suc n) ts h = ap (λ m. is_input s before r (next ts) && are_inputs s (before ++ (next ts).text ∷ []) rs m (after (after ts))) (let e : n ≡ suc n - 1 = omega arith in e)
+are_inputs_step s before (r ∷ rs) (suc n) ts h = ap (λ m. is_input s before r (next ts) && are_inputs s (before ++ (next ts).text ∷ []) rs m
+    (after (after ts))) (let e : n ≡ suc n - 1 = omega arith in e)
 
 pub are_inputs_zero : (s : Scope) (before : List (List ℕ)) (ins : List Rate) (ts : List Symbol) → are_inputs s before ins 0 ts ≡ is_none ins
 are_inputs_zero s before [] ts = refl
@@ -46,25 +76,31 @@ are_inputs_zero s before (r ∷ rs) ts = refl
 
 -- ---- the results
 
-last_valued : {A : Type 0} (s : Scope) (a : A) (ts : List Symbol) (k : Kind) → last_line s a ts k ≡ valued a (last_left s ts k)
-last_valued s a ts kind.End = refl
-last_valued s a ts (kind.Keyword k) = by k
-  where
-    by : (k : Keyword) → last_line s a ts (kind.Keyword k) ≡ valued a (last_left s ts (kind.Keyword k))
-    by key.Endop = refl
-    by _ = refl
-last_valued s a ts _ = refl
+abbrev ok_of : {A : Type 0} → A → List Symbol → Reading A
+ok_of a ts = Ok (a, ts)
 
-pub judged_is : (s : Scope) (line : ℕ) (outs : List Rate) (args : List Argument) (ts : List Symbol) (st : Left) → are_results args outs ≡ true → last_left s ts (next ts).kind ≡ st → results_of s line outs (Ok (args, ts)) ≡ valued args st
-judged_is s line outs args ts st e l =
-    ap (λ b. if b then last_line s args ts (next ts).kind else Err (record { line = line; kind = orc.XinXout })) e ∙ last_valued s args ts (next ts).kind ∙ ap (valued args) l
+last_by : {A : Type 0} (s : Scope) (a : A) (ts : List Symbol) (b : Bool) → (if b then ok_of a ts else Err (behind_xout s ts)) ≡ valued a
+    (if b then Ok ts else Err (behind_xout s ts))
+last_by s a ts true = refl
+last_by s a ts false = refl
 
-pub unfit_is : (s : Scope) (line : ℕ) (outs : List Rate) (args : List Argument) (ts : List Symbol) → are_results args outs ≡ false → results_of s line outs (Ok (args, ts)) ≡ Err (record { line = line; kind = orc.XinXout })
-unfit_is s line outs args ts e =
-    ap (λ b. if b then last_line s args ts (next ts).kind else Err (record { line = line; kind = orc.XinXout })) e
+abbrev by_number : Scope → ℕ → List Argument → List Symbol → Bool → Reading (List Argument)
+by_number s line args ts b = if b then last_line s args ts else Err (record { line = line; kind = orc.XinXout })
+
+pub judged_is : (s : Scope) (line : ℕ) (outs : List Rate) (args : List Argument) (ts : List Symbol) (st : Left) → are_results args outs ≡ true
+    → last_left s ts ≡ st
+    → results_of s line outs (Ok (args, ts)) ≡ valued args st
+judged_is s line outs args ts st e l = ap (by_number s line args ts) e ∙ last_by s args ts (next_is expected.Endop ts) ∙ ap (valued args) l
+
+pub unfit_is : (s : Scope) (line : ℕ) (outs : List Rate) (args : List Argument) (ts : List Symbol) → are_results args outs ≡ false
+    → results_of s line outs (Ok (args, ts)) ≡ Err (record { line = line; kind = orc.XinXout })
+unfit_is s line outs args ts e = ap (by_number s line args ts) e
 
 -- ---- the first of the inputs, where it is the last
 
-pub last_input : (s : Scope) (before : List (List ℕ)) (ins : List Rate) (n : ℕ) (ts : List Symbol) → n ≡ 1 → first_fits s before ins (next ts) ≡ true → are_inputs s before ins n ts ≡ is_none (after_first ins)
+pub last_input : (s : Scope) (before : List (List ℕ)) (ins : List Rate) (n : ℕ) (ts : List Symbol) → n ≡ 1 → first_fits s before ins (next ts) ≡ true
+    → are_inputs s before ins n ts ≡ is_none (after_first ins)
 last_input s before ins n ts e f =
-    ap (λ m. are_inputs s before ins m ts) e ∙ are_inputs_step s before ins 1 ts (omega arith) ∙ ap (λ b. b && are_inputs s (before ++ (next ts).text ∷ []) (after_first ins) 0 (after (after ts))) f ∙ are_inputs_zero s (before ++ (next ts).text ∷ []) (after_first ins) (after (after ts))
+    ap (λ m. are_inputs s before ins m ts) e ∙ are_inputs_step s before ins 1 ts (omega arith)
+    ∙ ap (λ b. b && are_inputs s (before ++ (next ts).text ∷ []) (after_first ins) 0 (after (after ts))) f
+    ∙ are_inputs_zero s (before ++ (next ts).text ∷ []) (after_first ins) (after (after ts))

@@ -1,36 +1,30 @@
 -- Every text has one reading as a statement, as statements, as arms.
-use Rattle.std.proofs.Common.{◌≡◌, ◌<◌, ◌≤◌, ◌+◌, ◌*◌, ◌∙◌, ℕ, zero, suc, Bool, true, false, List, [], ◌∷◌, length, Ok, Err, if◌then◌else◌, refl, arith, sym, ap}
+use Rattle.std.proofs.Common.{◌≡◌, ◌<◌, ◌≤◌, ◌+◌, ◌*◌, ◌∙◌, ℕ, zero, suc, Bool, true, false, List, [], ◌∷◌, length, Ok, Err, if◌then◌else◌, refl, arith, sym}
+use Rattle.std.proofs.Common.{ap}
 use Rattle.cs_base.specs.declared.fault.OrcKind.TheVariants as orc
-use Rattle.cs_ir.specs.declared.catalogue.Opcode.{Opcode}
-use Rattle.cs_ir.specs.declared.catalogue.Opcode.TheVariants as opcode
-use Rattle.cs_grammar.specs.declared.symbol.Keyword.{Keyword}
-use Rattle.cs_grammar.specs.declared.symbol.Keyword.TheVariants as key
+use Rattle.cs_words.specs.declared.catalogue.Opcode.{Opcode}
+use Rattle.cs_words.specs.declared.catalogue.Opcode.TheVariants as opcode
 use Rattle.cs_grammar.specs.declared.symbol.Kind.{Kind}
 use Rattle.cs_grammar.specs.declared.symbol.Kind.TheVariants as kind
 use Rattle.cs_grammar.specs.declared.expr.Level.TheVariants as level
 use Rattle.cs_grammar.specs.declared.stmt.LineForm.{LineForm}
 use Rattle.cs_grammar.specs.declared.stmt.LineForm.TheVariants as form
-use Rattle.cs_grammar.specs.Symbols.{Symbol}
-use Rattle.cs_grammar.specs.Tree.{Expression, Statement, call, choose, Block, no_stmt, andthen, Arms, otherwise, arm}
-use Rattle.cs_grammar.specs.Reading.{next, after, Left, Reading, left, mapped, both, three, skip, is_comma, is_then, is_elseif, is_else, is_endif, Scope, deeper, fault, misfit, through, ended}
-use Rattle.cs_grammar.specs.Parts.{is_variable}
-use Rattle.cs_grammar.specs.Lines.{line_form, misplaced_fault, no_target, target, targets, operation, operation_of, is_own, is_other_text, is_outside}
-use Rattle.cs_grammar.specs.Grammar.{ends_block, assign, ReadsStmt, stmt_assign, stmt_results, stmt_bare, stmt_if, stmt_beyond, stmt_misplaced, ReadsBlock, block_stop, block_end, block_more, ReadsArms, arm_more, ReadsMore, more_stop, more_elseif, more_else, more_endif}
 use Rattle.cs_grammar.proofs.Sizes.{size, skip_size, mapped_size, both_size, three_size, through_size, ended_size, choice_size}
 use Rattle.cs_grammar.proofs.OneExpr.{the_expr, reads_expr, expr_size, expr_is}
+use Rattle.cs_grammar.proofs.OneRow.{target_less, targets_less, reads_targets, targets_are}
 use Rattle.cs_grammar.proofs.OneList.{the_args, reads_args, args_size, args_is}
+use Rattle.cs_grammar.specs.declared.symbol.Expected.TheVariants as expected
+use Rattle.cs_words.specs.declared.word.Word.{Word}
+use Rattle.cs_words.specs.declared.word.Word.TheVariants as word
+use Rattle.cs_grammar.specs.Grammar.{ReadsArms, ReadsBlock, ReadsMore, ReadsStmt, arm_more, assign, block_end, block_more, block_stop, ends_block, more_else}
+use Rattle.cs_grammar.specs.Grammar.{more_elseif, more_endif, more_stop, stmt_assign, stmt_bare, stmt_beyond, stmt_if, stmt_misplaced, stmt_results}
+use Rattle.cs_grammar.specs.Lines.{is_other_text, is_outside, is_own, line_form, operation, operation_of, target}
+use Rattle.cs_grammar.specs.Reading.{Left, Reading, Scope, after, both, deeper, ended, fault, left, mapped, misfit, next, next_is, skip, three, through}
+use Rattle.cs_grammar.specs.Symbols.{Symbol}
+use Rattle.cs_grammar.specs.Tree.{Arms, Block, Expression, Statement, andthen, arm, call, choose, no_stmt, otherwise}
+use Rattle.cs_grammar.specs.inner.Rows.{targets}
 
 -- ---- sizes of the parts of a line
-
-pub target_less : (s : Scope) (ts : List Symbol) → size (left (target s ts)) ≤ length ts
-target_less s [] = omega arith
-target_less s (t ∷ ts) = choice_size (is_variable s t) (Ok (t.text, ts)) (Err (misfit s (no_target t.kind) (t ∷ ts))) (suc (length ts)) (omega arith) (omega arith)
-
-pub targets_less : (s : Scope) (ts : List Symbol) → size (left (targets s ts)) ≤ length ts
-targets_less s [] = omega arith
-targets_less s (t ∷ []) = omega (arith, target_less s (t ∷ []), mapped_size {B = List (List ℕ)} (λ n. n ∷ []) (target s (t ∷ [])))
-targets_less s (t ∷ c ∷ us) =
-    choice_size (is_comma c.kind) (both {C = List (List ℕ)} ◌∷◌ (target s (t ∷ c ∷ us)) (targets s us)) (mapped {B = List (List ℕ)} (λ n. n ∷ []) (target s (t ∷ c ∷ us))) (suc (suc (length us))) (omega (arith, targets_less s us, both_size {C = List (List ℕ)} ◌∷◌ (target s (t ∷ c ∷ us)) (targets s us))) (omega (arith, target_less s (t ∷ c ∷ us), mapped_size {B = List (List ℕ)} (λ n. n ∷ []) (target s (t ∷ c ∷ us))))
 
 abbrev plain : Scope → Symbol → List Symbol → Bool → Reading (List ℕ)
 plain s t ts own = if own then Err (fault (t ∷ ts) orc.Recursion) else Ok (t.text, ts)
@@ -39,23 +33,26 @@ plain_less : (s : Scope) (t : Symbol) (ts : List Symbol) (own : Bool) → size (
 plain_less s t ts true = omega arith
 plain_less s t ts false = omega arith
 
-operation_opcode : (s : Scope) (t : Symbol) (ts : List Symbol) (o : Opcode) → size (left (operation_of s (t ∷ ts) (kind.Opcode o))) ≤ suc (length ts)
-operation_opcode s t ts opcode.Zakinit = choice_size (is_outside s.place) (Ok (t.text, ts)) (Err (fault (t ∷ ts) orc.Unexpected)) (suc (length ts)) (omega arith) (omega arith)
-operation_opcode s t ts opcode.EventI = choice_size (is_other_text (next ts)) (Err (fault ts orc.NotInProfile)) (Ok (t.text, ts)) (suc (length ts)) (omega arith) (omega arith)
+operation_opcode : (s : Scope) (t : Symbol) (ts : List Symbol) (o : Opcode) → size (left (operation_of s (t ∷ ts) (kind.Word (word.Opcode o)))) ≤ suc
+    (length ts)
+operation_opcode s t ts opcode.Zakinit = choice_size (is_outside s.place) (Ok (t.text, ts)) (Err (fault (t ∷ ts) orc.Unexpected)) (suc (length ts))
+    (omega arith) (omega arith)
+operation_opcode s t ts opcode.EventI = choice_size (is_other_text (next ts)) (Err (fault ts orc.NotInProfile)) (Ok (t.text, ts)) (suc (length ts))
+    (omega arith) (omega arith)
 operation_opcode s t ts _ = plain_less s t ts (is_own s t.text s.place)
 
-operation_keyword : (s : Scope) (t : Symbol) (ts : List Symbol) (k : Keyword) → size (left (operation_of s (t ∷ ts) (kind.Keyword k))) ≤ suc (length ts)
-operation_keyword s t ts key.Xin = omega arith
-operation_keyword s t ts _ = omega arith
+operation_word : (s : Scope) (t : Symbol) (ts : List Symbol) (w : Word) → size (left (operation_of s (t ∷ ts) (kind.Word w))) ≤ suc (length ts)
+operation_word s t ts (word.Opcode o) = operation_opcode s t ts o
+operation_word s t ts (word.Keyword k) = omega arith
+operation_word s t ts word.Foreign = omega arith
+operation_word s t ts (word.Header h) = plain_less s t ts (is_own s t.text s.place)
+operation_word s t ts (word.Func f) = plain_less s t ts (is_own s t.text s.place)
+operation_word s t ts (word.Field n) = plain_less s t ts (is_own s t.text s.place)
+operation_word s t ts word.Name = plain_less s t ts (is_own s t.text s.place)
+operation_word s t ts word.Other = plain_less s t ts (is_own s t.text s.place)
 
 operation_by : (s : Scope) (t : Symbol) (ts : List Symbol) (k : Kind) → size (left (operation_of s (t ∷ ts) k)) ≤ suc (length ts)
-operation_by s t ts (kind.Opcode o) = operation_opcode s t ts o
-operation_by s t ts (kind.Keyword k) = operation_keyword s t ts k
-operation_by s t ts (kind.Header h) = plain_less s t ts (is_own s t.text s.place)
-operation_by s t ts (kind.Func f) = plain_less s t ts (is_own s t.text s.place)
-operation_by s t ts (kind.Field n) = plain_less s t ts (is_own s t.text s.place)
-operation_by s t ts kind.Name = plain_less s t ts (is_own s t.text s.place)
-operation_by s t ts kind.Word = plain_less s t ts (is_own s t.text s.place)
+operation_by s t ts (kind.Word w) = operation_word s t ts w
 operation_by s t ts _ = omega arith
 
 pub operation_less : (s : Scope) (ts : List Symbol) → size (left (operation s (Ok ts))) ≤ length ts
@@ -88,18 +85,19 @@ value s ts = the_expr s level.Expr (skip (left (target s ts)))
 
 abbrev stmt_by : Answers → Scope → List Symbol → LineForm → Reading Statement
 stmt_by R s ts form.Assignment = ended s (both (assign (next ts).line (next (after ts)).kind) (target s ts) (value s ts))
-stmt_by R s ts form.Results = ended s (three (call (next ts).line) (targets s ts) (operation s (left (targets s ts))) (the_args s (left (operation s (left (targets s ts))))))
+stmt_by R s ts form.Results = ended s (three (call (next ts).line) (targets s ts) (operation s (left (targets s ts)))
+    (the_args s (left (operation s (left (targets s ts))))))
 stmt_by R s ts form.Bare = ended s (both (call (next ts).line []) (operation s (Ok ts)) (the_args s (left (operation s (Ok ts)))))
 stmt_by R s ts form.Conditional = ended s (mapped (choose (next ts).line) (R (arms (deeper s) (Ok (after ts)))))
 stmt_by R s ts form.Beyond = Err (fault ts orc.NotInProfile)
-stmt_by R s ts form.Misplaced = Err (misplaced_fault s ts (next ts).kind)
+stmt_by R s ts form.Misplaced = Err (misfit s orc.Unexpected ts)
 
 abbrev block_by : Answers → Scope → List Symbol → Bool → Reading Block
 block_by R s ts true = Ok (no_stmt, ts)
 block_by R s ts false = both andthen (R (stmt s ts)) (R (block s (left (R (stmt s ts)))))
 
 abbrev line_of : Scope → Reading Expression → Left
-line_of s c = left (ended s (through s is_then c))
+line_of s c = left (ended s (through s expected.Then c))
 
 abbrev arms_by : Answers → Scope → Reading Expression → Reading Arms
 arms_by R s c = three arm c (R (block s (line_of s c))) (R (more s (left (R (block s (line_of s c))))))
@@ -109,15 +107,15 @@ else_line s ts = left (ended s (Ok (no_stmt, after ts)))
 
 abbrev more_by : Answers → Scope → List Symbol → Bool → Bool → Reading Arms
 more_by R s ts true b = R (arms s (Ok (after ts)))
-more_by R s ts false true = through s is_endif (mapped otherwise (R (block s (else_line s ts))))
-more_by R s ts false false = through s is_endif (Ok (otherwise no_stmt, ts))
+more_by R s ts false true = through s expected.Endif (mapped otherwise (R (block s (else_line s ts))))
+more_by R s ts false false = through s expected.Endif (Ok (otherwise no_stmt, ts))
 
 abbrev block_step : Answers → Scope → Left → Reading Block
 block_step R s (Ok ts) = block_by R s ts (ends_block s (next ts).kind)
 block_step R s (Err f) = Err f
 
 abbrev more_step : Answers → Scope → Left → Reading Arms
-more_step R s (Ok ts) = more_by R s ts (is_elseif (next ts).kind) (is_else (next ts).kind)
+more_step R s (Ok ts) = more_by R s ts (next_is expected.Elseif ts) (next_is expected.Else ts)
 more_step R s (Err f) = Err f
 
 abbrev step : Answers → Answers
@@ -150,9 +148,14 @@ settle {a} {o} k f = record { steps = suc k; ends = by }
 
 mutual
   stmt_settles : {s : Scope} {ts : List Symbol} {o : Reading Statement} → ReadsStmt s ts o → Settles (stmt s ts) o
-  stmt_settles {s} {ts} (stmt_assign e h) = settle 0 (λ m le. ap (stmt_by (run m) s ts) e ∙ ap (λ x. ended s (both (assign (next ts).line (next (after ts)).kind) (target s ts) x)) (expr_is h))
-  stmt_settles {s} {ts} (stmt_results e h) = settle 0 (λ m le. ap (stmt_by (run m) s ts) e ∙ ap (λ x. ended s (three (call (next ts).line) (targets s ts) (operation s (left (targets s ts))) x)) (args_is h))
-  stmt_settles {s} {ts} (stmt_bare e h) = settle 0 (λ m le. ap (stmt_by (run m) s ts) e ∙ ap (λ x. ended s (both (call (next ts).line []) (operation s (Ok ts)) x)) (args_is h))
+  stmt_settles {s} {ts} (stmt_assign e h) = settle 0 (λ m le. ap (stmt_by (run m) s ts) e ∙ ap
+      (λ x. ended s (both (assign (next ts).line (next (after ts)).kind) (target s ts) x)) (expr_is h))
+  stmt_settles {s} {ts} (stmt_results {names = names} e n h) = settle 0 (λ m le.
+      ap (stmt_by (run m) s ts) e
+      ∙ ap (λ y. ended s (three (call (next ts).line) y (operation s (left y)) (the_args s (left (operation s (left y)))))) (targets_are n)
+      ∙ ap (λ x. ended s (three (call (next ts).line) names (operation s (left names)) x)) (args_is h))
+  stmt_settles {s} {ts} (stmt_bare e h) = settle 0 (λ m le. ap (stmt_by (run m) s ts) e ∙ ap
+      (λ x. ended s (both (call (next ts).line []) (operation s (Ok ts)) x)) (args_is h))
   stmt_settles {s} {ts} (stmt_if e h) =
       let i = arms_settles h in
       settle i.steps (λ m le. ap (stmt_by (run m) s ts) e ∙ ap (λ x. ended s (mapped (choose (next ts).line) x)) (i.ends m le))
@@ -165,24 +168,27 @@ mutual
   block_settles {s} (block_more {ts = ts} {o = o} e h k) =
       let i = stmt_settles h in
       let j = block_settles k in
-      settle (i.steps + j.steps) (λ m le. ap (block_by (run m) s ts) e ∙ ap (λ x. both andthen x (run m (block s (left x)))) (i.ends m (omega arith)) ∙ ap (both andthen o) (j.ends m (omega arith)))
+      settle (i.steps + j.steps) (λ m le. ap (block_by (run m) s ts) e ∙ ap (λ x. both andthen x (run m (block s (left x)))) (i.ends m (omega arith))
+      ∙ ap (both andthen o) (j.ends m (omega arith)))
 
   arms_settles : {s : Scope} {st : Left} {o : Reading Arms} → ReadsArms s st o → Settles (arms s st) o
   arms_settles {s} {st} (arm_more {c = c} {body = body} h k g) =
       let i = block_settles k in
       let j = more_settles g in
-      settle (i.steps + j.steps) (λ m le. ap (arms_by (run m) s) (expr_is h) ∙ ap (λ x. three arm c x (run m (more s (left x)))) (i.ends m (omega arith)) ∙ ap (three arm c body) (j.ends m (omega arith)))
+      settle (i.steps + j.steps) (λ m le. ap (arms_by (run m) s) (expr_is h) ∙ ap (λ x. three arm c x (run m (more s (left x)))) (i.ends m (omega arith))
+      ∙ ap (three arm c body) (j.ends m (omega arith)))
 
   more_settles : {s : Scope} {st : Left} {o : Reading Arms} → ReadsMore s st o → Settles (more s st) o
   more_settles more_stop = settle 0 (λ m le. refl)
   more_settles {s} (more_elseif {ts = ts} e h) =
       let i = arms_settles h in
-      settle i.steps (λ m le. ap (λ b. more_by (run m) s ts b (is_else (next ts).kind)) e ∙ i.ends m le)
+      settle i.steps (λ m le. ap (λ b. more_by (run m) s ts b (next_is expected.Else ts)) e ∙ i.ends m le)
   more_settles {s} (more_else {ts = ts} e f h) =
       let i = block_settles h in
-      settle i.steps (λ m le. ap (λ b. more_by (run m) s ts b (is_else (next ts).kind)) e ∙ ap (more_by (run m) s ts false) f ∙ ap (λ x. through s is_endif (mapped otherwise x)) (i.ends m le))
+      settle i.steps (λ m le. ap (λ b. more_by (run m) s ts b (next_is expected.Else ts)) e ∙ ap (more_by (run m) s ts false) f
+      ∙ ap (λ x. through s expected.Endif (mapped otherwise x)) (i.ends m le))
   more_settles {s} (more_endif {ts = ts} e f) =
-      settle 0 (λ m le. ap (λ b. more_by (run m) s ts b (is_else (next ts).kind)) e ∙ ap (more_by (run m) s ts false) f)
+      settle 0 (λ m le. ap (λ b. more_by (run m) s ts b (next_is expected.Else ts)) e ∙ ap (more_by (run m) s ts false) f)
 
 pub same_stmt : {s : Scope} {ts : List Symbol} {o p : Reading Statement} → ReadsStmt s ts o → ReadsStmt s ts p → o ≡ p
 same_stmt h k =
@@ -215,13 +221,32 @@ module _ (R : Answers) (n : ℕ) (ih : (b : Ask) → weight b < n → Right b (R
   sound_stmt s ts w form.Assignment e =
       let v = value s ts in
       let made = assign (next ts).line (next (after ts)).kind in
-      let o = both made (target s ts) v in
-      (stmt_assign e (reads_expr s level.Expr (skip (left (target s ts)))), omega (arith, ended_size s o, both_size made (target s ts) v, expr_size s level.Expr (skip (left (target s ts))), skip_size (left (target s ts)), target_less s ts))
+      let o = both made (target s ts) v in (
+        stmt_assign e (reads_expr s level.Expr (skip (left (target s ts)))),
+        omega (
+          arith,
+          ended_size s o,
+          both_size made (target s ts) v,
+          expr_size s
+              level.Expr (skip (left (target s ts))),
+          skip_size (left (target s ts)),
+          target_less s ts,
+        ),
+      )
   sound_stmt s ts w form.Results e =
       let p = operation s (left (targets s ts)) in
       let a = the_args s (left p) in
-      let o = three (call (next ts).line) (targets s ts) p a in
-      (stmt_results e (reads_args s (left p)), omega (arith, ended_size s o, three_size (call (next ts).line) (targets s ts) p a, args_size s (left p), operation_size s (left (targets s ts)), targets_less s ts))
+      let o = three (call (next ts).line) (targets s ts) p a in (
+        stmt_results e (reads_targets s ts) (reads_args s (left p)),
+        omega (
+          arith,
+          ended_size s o,
+          three_size (call (next ts).line) (targets s ts) p a,
+          args_size s (left p),
+          operation_size s (left (targets s ts)),
+          targets_less s ts,
+        ),
+      )
   sound_stmt s ts w form.Bare e =
       let p = operation s (Ok ts) in
       let a = the_args s (left p) in
@@ -235,7 +260,8 @@ module _ (R : Answers) (n : ℕ) (ih : (b : Ask) → weight b < n → Right b (R
       let o = mapped (choose t.line) (R (arms (deeper s) (Ok ts))) in
       (stmt_if e h.0, omega (arith, h.1, mapped_size (choose t.line) (R (arms (deeper s) (Ok ts))), ended_size s o))
 
-  sound_block : (s : Scope) (ts : List Symbol) → 8 * (length ts + 1) + 2 ≤ n → (b : Bool) → ends_block s (next ts).kind ≡ b → Right (block s (Ok ts)) (block_by R s ts b)
+  sound_block : (s : Scope) (ts : List Symbol) → 8 * (length ts + 1) + 2 ≤ n → (b : Bool) → ends_block s (next ts).kind ≡ b
+      → Right (block s (Ok ts)) (block_by R s ts b)
   sound_block s ts w true e = (block_end e, omega arith)
   sound_block s ts w false e =
       let h = ih (stmt s ts) (omega arith) in
@@ -243,7 +269,8 @@ module _ (R : Answers) (n : ℕ) (ih : (b : Ask) → weight b < n → Right b (R
       let k = ih (block s (left o)) (omega (arith, h.1)) in
       (block_more e h.0 k.0, omega (arith, h.1, k.1, both_size andthen o (R (block s (left o)))))
 
-  sound_more : (s : Scope) (ts : List Symbol) → 8 * (length ts + 1) + 1 ≤ n → (a b : Bool) → is_elseif (next ts).kind ≡ a → is_else (next ts).kind ≡ b → Right (more s (Ok ts)) (more_by R s ts a b)
+  sound_more : (s : Scope) (ts : List Symbol) → 8 * (length ts + 1) + 1 ≤ n → (a b : Bool) → next_is expected.Elseif ts ≡ a → next_is expected.Else ts ≡ b
+      → Right (more s (Ok ts)) (more_by R s ts a b)
   sound_more s [] w true b e f = cc
   sound_more s (t ∷ ts) w true b e f =
       let h = ih (arms s (Ok ts)) (omega arith) in
@@ -254,13 +281,19 @@ module _ (R : Answers) (n : ℕ) (ih : (b : Ask) → weight b < n → Right b (R
       let small : size st ≤ length ts + 1 = ended_size s (Ok (no_stmt, ts)) in
       let h = ih (block s st) (omega (arith, small)) in
       let o = mapped otherwise (R (block s st)) in
-      (more_else e f h.0, omega (arith, h.1, small, mapped_size otherwise (R (block s st)), through_size s is_endif o))
-  sound_more s ts w false false e f = (more_endif e f, through_size s is_endif (Ok (otherwise no_stmt, ts)))
+      (more_else e f h.0, omega (arith, h.1, small, mapped_size otherwise (R (block s st)), through_size s expected.Endif o))
+  sound_more s ts w false false e f = (more_endif e f, through_size s expected.Endif (Ok (otherwise no_stmt, ts)))
 
   sound_arms : (s : Scope) (st : Left) → 8 * size st + 4 ≤ n → Right (arms s st) (arms_by R s (the_expr s level.Expr st))
   sound_arms s st w =
       let c = the_expr s level.Expr st in
-      let small : size (line_of s c) ≤ size st = omega (arith, ended_size s (through s is_then c), through_size s is_then c, expr_size s level.Expr st) in
+      let small : size (line_of s c) ≤ size st = omega (
+        arith,
+        ended_size s (through s expected.Then c),
+        through_size s expected.Then c,
+        expr_size s
+            level.Expr st,
+      ) in
       let h = ih (block s (line_of s c)) (omega (arith, small)) in
       let body = R (block s (line_of s c)) in
       let k = ih (more s (left body)) (omega (arith, small, h.1)) in
@@ -272,7 +305,7 @@ module _ (R : Answers) (n : ℕ) (ih : (b : Ask) → weight b < n → Right b (R
   sound_step (block s (Ok ts)) w = sound_block s ts w (ends_block s (next ts).kind) refl
   sound_step (arms s st) w = sound_arms s st w
   sound_step (more s (Err f)) w = (more_stop, omega arith)
-  sound_step (more s (Ok ts)) w = sound_more s ts w (is_elseif (next ts).kind) (is_else (next ts).kind) refl refl
+  sound_step (more s (Ok ts)) w = sound_more s ts w (next_is expected.Elseif ts) (next_is expected.Else ts) refl refl
 
 sound : (n : ℕ) (a : Ask) → weight a < n → Right a (run n a)
 unfolding run

@@ -1,5 +1,5 @@
 -- The rules of instruments, definitions and orchestras, as the parser meets them.
-use Rattle.std.proofs.Common.{◌≡◌, ◌∙◌, ◌++◌, ℕ, Bool, List, [], ◌∷◌, map, Result, Ok, Err, refl, sym, ap, subst}
+use Rattle.std.proofs.Common.{◌≡◌, ◌∙◌, ◌++◌, ℕ, List, [], ◌∷◌, map, Result, Ok, Err, refl, sym, ap, subst}
 use Rattle.std.proofs.lemmas.List.{append_assoc, append-nil}
 use Rattle.std.specs.Result.{IsErrAnd, IfOk}
 use Rattle.std.specs.Borrow.{Bor}
@@ -7,48 +7,65 @@ use Rattle.cs_base.specs.declared.fault.Or.{Or}
 use Rattle.cs_base.specs.declared.fault.Or.TheVariants as or
 use Rattle.cs_base.specs.declared.fault.OrcFault.{OrcFault}
 use Rattle.cs_grammar.specs.declared.orc.ItemForm.TheVariants as item
-use Rattle.cs_grammar.specs.declared.tree.HeadName.{HeadName}
+use Rattle.cs_words.specs.declared.word.HeadName.{HeadName}
 use Rattle.cs_grammar.specs.declared.tree.HeadLine.{HeadLine}
 use Rattle.cs_grammar.specs.declared.tree.OrcStmt.{OrcStmt}
 use Rattle.cs_grammar.specs.declared.tree.Instr.{Instr}
 use Rattle.cs_grammar.specs.declared.tree.Udo.{Udo}
 use Rattle.cs_grammar.specs.declared.tree.Orc.{Orc}
-use Rattle.cs_grammar.specs.declared.symbol.Kind.{Kind}
+use Rattle.cs_grammar.proofs.OneRow.{reads_numbers}
+use Rattle.cs_grammar.proofs.OneXin.{reads_inputs}
+use Rattle.cs_grammar.proofs.Gives.{Same, both_mapped, closing_mapped, line_keeps, through_is, ended_is, valued}
+use Rattle.cs_grammar.specs.declared.symbol.Expected.TheVariants as expected
+use Rattle.cs_grammar.specs.declared.symbol.Expected.{Expected}
+use Rattle.cs_grammar.specs.Grammar.{ReadsBlock, ReadsStmt, block_stop}
+use Rattle.cs_grammar.specs.Headings.{Heading, heading}
+use Rattle.cs_grammar.specs.Lines.{header_line}
+use Rattle.cs_grammar.specs.Orchestra.{ReadsDefinition, ReadsInstr, ReadsOrc, ReadsResult, definition_of, instr, instrument_of, item_form, no_heading}
+use Rattle.cs_grammar.specs.Orchestra.{nothing, orc_end, orc_header, orc_instr, orc_stmt, orc_stop, orc_udo, own_scope, result_stop, udo, with_definition}
+use Rattle.cs_grammar.specs.Orchestra.{with_header, with_instr, with_stmt}
+use Rattle.cs_grammar.specs.Reading.{Left, Reading, Scope, after, both, ended, in_definition, in_instrument, left, mapped, next, outside, three, through}
 use Rattle.cs_grammar.specs.Symbols.{Symbol}
-use Rattle.cs_grammar.specs.Tree.{Argument, Statement, Block, no_stmt, andthen, Instrument, Definition, Orchestra, statement, block, instrument, definition, orchestra}
-use Rattle.cs_grammar.specs.Reading.{next, after, Left, Reading, left, mapped, both, three, is_endin, is_endop, Scope, outside, in_instrument, in_definition, through, ended}
-use Rattle.cs_grammar.specs.Lines.{header_line, numbers}
-use Rattle.cs_grammar.specs.Headings.{Heading, heading, inputs}
-use Rattle.cs_grammar.specs.Answers.{Gives, ReadsOn, past, line_past, joins, joined, OrcSoFar}
-use Rattle.cs_grammar.specs.Grammar.{ReadsStmt, ReadsBlock, block_stop}
-use Rattle.cs_grammar.specs.Orchestra.{instrument_of, ReadsInstr, instr, ReadsResult, result_stop, definition_of, own_scope, ReadsDefinition, no_heading, udo, item_form, nothing, with_header, with_instr, with_definition, with_stmt, ReadsOrc, orc_stop, orc_end, orc_header, orc_instr, orc_udo, orc_stmt}
-use Rattle.cs_grammar.proofs.Gives.{Same, through_is, ended_is, valued, left_valued}
+use Rattle.cs_grammar.specs.Tree.{Argument, Block, Definition, Instrument, Orchestra, Statement, andthen, block, definition, instrument, joins, no_stmt}
+use Rattle.cs_grammar.specs.Tree.{orchestra, statement}
+use Rattle.cs_grammar.specs.inner.Answers.{Gives, IsInside, IsInstrBody, IsLines, OrcSoFar, Parts, ReadsOn, joined, line_past, of_inside, past}
+use Rattle.cs_grammar.specs.inner.Rows.{numbers}
+use Rattle.cs_grammar.specs.inner.Takes.{inputs}
 
 -- ---- instruments and definitions
 
 module _ (d : List (List ℕ)) (g : List ℕ) (ts : List Symbol) where
   abbrev InstrRead : Reading Block → Reading (List ℕ) → Type 0
-  InstrRead body n = ReadsBlock (in_instrument d) (left (ended (in_instrument d) n)) body → ReadsInstr d g ts (ended (outside d) (through (in_instrument d) is_endin (both (instrument_of (next ts).line) n body)))
+  InstrRead body n = ReadsBlock (in_instrument d) (left (ended (in_instrument d) n)) body → ReadsInstr d g ts
+      (ended (outside d) (through (in_instrument d) expected.Endin (both (instrument_of (next ts).line) n body)))
 
-  pub instr_is : (n : Reading (List ℕ)) (body : Reading Block) → numbers (in_instrument d) g (after ts) ≡ n → ReadsBlock (in_instrument d) (left (ended (in_instrument d) n)) body → ReadsInstr d g ts (ended (outside d) (through (in_instrument d) is_endin (both (instrument_of (next ts).line) n body)))
+  pub instr_is : (n : Reading (List ℕ)) (body : Reading Block) → numbers (in_instrument d) g (after ts) ≡ n
+      → ReadsBlock (in_instrument d) (left (ended (in_instrument d) n)) body → ReadsInstr d g ts
+      (ended (outside d) (through (in_instrument d) expected.Endin (both (instrument_of (next ts).line) n body)))
   instr_is n body e k =
-      let start : InstrRead body (numbers (in_instrument d) g (after ts)) = instr in
+      let start : InstrRead body (numbers (in_instrument d) g (after ts)) = instr (reads_numbers (in_instrument d) g (after ts)) in
       subst (InstrRead body) e start k
 
 abbrev DefinitionRead : List (List ℕ) → List Symbol → Heading → Reading Block → Reading (List Argument) → Reading (List (List ℕ)) → Type 0
 DefinitionRead d ts h body result n =
-    ReadsBlock (own_scope d h) (left n) body → ReadsResult (own_scope d h) h.outs (left body) result → ReadsDefinition d ts (ended (outside d) (through (own_scope d h) is_endop (three (definition_of h) n body result)))
+    ReadsBlock (own_scope d h) (left n) body → ReadsResult (own_scope d h) h.outs (left body) result
+    → ReadsDefinition d ts (ended (outside d) (through (own_scope d h) expected.Endop (three (definition_of h) n body result)))
 
-pub udo_is : (d : List (List ℕ)) (ts us : List Symbol) (h : Heading) (n : Reading (List (List ℕ))) (body : Reading Block) (result : Reading (List Argument)) → heading (in_definition [] d) (next ts).line (after ts) ≡ Ok (h, us) → inputs (own_scope d h) h us ≡ n → ReadsBlock (own_scope d h) (left n) body → ReadsResult (own_scope d h) h.outs (left body) result → ReadsDefinition d ts (ended (outside d) (through (own_scope d h) is_endop (three (definition_of h) n body result)))
+pub udo_is : (d : List (List ℕ)) (ts us : List Symbol) (h : Heading) (n : Reading (List (List ℕ))) (body : Reading Block) (result : Reading (List Argument))
+    → heading (in_definition [] d) (next ts).line (after ts) ≡ Ok (h, us) → inputs (own_scope d h) h us ≡ n → ReadsBlock (own_scope d h) (left n) body
+    → ReadsResult (own_scope d h) h.outs (left body) result → ReadsDefinition d ts (ended (outside d)
+    (through (own_scope d h) expected.Endop (three (definition_of h) n body result)))
 udo_is d ts us h n body result e i k r =
-    let start : DefinitionRead d ts h body result (inputs (own_scope d h) h us) = udo e in
+    let start : DefinitionRead d ts h body result (inputs (own_scope d h) h us) = udo e (reads_inputs (own_scope d h) h us) in
     subst (DefinitionRead d ts h body result) i start k r
 
 -- a part that is read, a symbol that must come next, and the end of the line
-pub closed : {A : Type 0} (s t : Scope) (a : A) (mid now : List Symbol) (st : Left) (p : Kind → Bool) → past s p mid ≡ Ok now → line_past t (next now).kind now ≡ st → ended t (through s p (Ok (a, mid))) ≡ valued a st
+pub closed : {A : Type 0} (s t : Scope) (a : A) (mid now : List Symbol) (st : Left) (p : Expected) → past s p mid ≡ Ok now
+    → line_past t (next now).kind now ≡ st → ended t (through s p (Ok (a, mid))) ≡ valued a st
 closed s t a mid now st p e l = ap (ended t) (through_is s p a mid (Ok now) e) ∙ ended_is t a now st l
 
-pub unclosed : {A : Type 0} (s t : Scope) (a : A) (mid : List Symbol) (f : OrcFault) (p : Kind → Bool) → past s p mid ≡ Err f → ended t (through s p (Ok (a, mid))) ≡ Err f
+pub unclosed : {A : Type 0} (s t : Scope) (a : A) (mid : List Symbol) (f : OrcFault) (p : Expected) → past s p mid ≡ Err f
+    → ended t (through s p (Ok (a, mid))) ≡ Err f
 unclosed s t a mid f p e = ap (ended t) (through_is s p a mid (Err f) e)
 
 -- ---- orchestras
@@ -69,13 +86,16 @@ pub orc_begun : (ts : List Symbol) → OrcSoFar ts nothing [] [] ts
 orc_begun ts (Ok (o, rest)) h = h
 orc_begun ts (Err f) h = h
 
-pub orc_done : (first now : List Symbol) (o : Orchestra) (d : List (List ℕ)) (g : List ℕ) → OrcSoFar first o d g now → item_form now ≡ item.End → ReadsOrc [] [] (Ok first) (Ok (joined o nothing, now))
+pub orc_done : (first now : List Symbol) (o : Orchestra) (d : List (List ℕ)) (g : List ℕ) → OrcSoFar first o d g now → item_form now ≡ item.End
+    → ReadsOrc [] [] (Ok first) (Ok (joined o nothing, now))
 orc_done first now o d g h e = h (Ok (nothing, now)) (orc_end e)
 
-pub orc_fails : (first : List Symbol) (old : List Symbol) (o : Orchestra) (d : List (List ℕ)) (g : List ℕ) (f : OrcFault) → OrcSoFar first o d g old → ReadsOrc d g (Ok old) (Err f) → ReadsOrc [] [] (Ok first) (Err f)
+pub orc_fails : (first : List Symbol) (old : List Symbol) (o : Orchestra) (d : List (List ℕ)) (g : List ℕ) (f : OrcFault) → OrcSoFar first o d g old
+    → ReadsOrc d g (Ok old) (Err f) → ReadsOrc [] [] (Ok first) (Err f)
 orc_fails first old o d g f h k = h (Err f) k
 
-added : {X : Type 0} (add : X → Orchestra → Orchestra) (x : X) (o p : Orchestra) (mid : List Symbol) → ((q : Orchestra) → joined o (add x q) ≡ joined p q) → (out : Reading Orchestra) → mapped (joined o) (both add (Ok (x, mid)) out) ≡ mapped (joined p) out
+added : {X : Type 0} (add : X → Orchestra → Orchestra) (x : X) (o p : Orchestra) (mid : List Symbol) → ((q : Orchestra) → joined o (add x q) ≡ joined p q)
+    → (out : Reading Orchestra) → mapped (joined o) (both add (Ok (x, mid)) out) ≡ mapped (joined p) out
 added add x o p mid e (Ok (q, ts)) = ap (λ r. Ok (r, ts)) (e q)
 added add x o p mid e (Err f) = refl
 
@@ -84,26 +104,33 @@ module _ (first old : List Symbol) (d : List (List ℕ)) (g : List ℕ) (o : Orc
   header_fails h f e k =
       s (Err f) (subst (λ r. ReadsOrc d g (Ok old) (both with_header r (Err f))) k (orc_header e (subst (λ r. ReadsOrc d g (left r) (Err f)) (sym k) orc_stop)))
 
-  pub header_added : (h : HeadName) (x : HeadLine) (now : List Symbol) (p : Orchestra) → item_form old ≡ item.Header h → header_line (outside d) h old ≡ Ok (x, now) → ((q : Orchestra) → joined o (with_header x q) ≡ joined p q) → OrcSoFar first p d g now
+  pub header_added : (h : HeadName) (x : HeadLine) (now : List Symbol) (p : Orchestra) → item_form old ≡ item.Header h
+      → header_line (outside d) h old ≡ Ok (x, now) → ((q : Orchestra) → joined o (with_header x q) ≡ joined p q) → OrcSoFar first p d g now
   header_added h x now p e k j out r =
-      subst (ReadsOrc [] [] (Ok first)) (added with_header x o p now j out) (s (both with_header (Ok (x, now)) out) (subst (λ y. ReadsOrc d g (Ok old) (both with_header y out)) k (orc_header e (subst (λ y. ReadsOrc d g (left y) out) (sym k) r))))
+      subst (ReadsOrc [] [] (Ok first)) (added with_header x o p now j out) (s (both with_header (Ok (x, now)) out)
+      (subst (λ y. ReadsOrc d g (Ok old) (both with_header y out)) k (orc_header e (subst (λ y. ReadsOrc d g (left y) out) (sym k) r))))
 
   pub instr_fails : (f : OrcFault) → item_form old ≡ item.Instr → ReadsInstr d g old (Err f) → ReadsOrc [] [] (Ok first) (Err f)
   instr_fails f e k = s (Err f) (orc_instr e k orc_stop)
 
-  pub instr_added : (x : Instrument) (now : List Symbol) (p : Orchestra) → item_form old ≡ item.Instr → ReadsInstr d g old (Ok (x, now)) → ((q : Orchestra) → joined o (with_instr x q) ≡ joined p q) → OrcSoFar first p d (g ++ x.numbers) now
-  instr_added x now p e k j out r = subst (ReadsOrc [] [] (Ok first)) (added with_instr x o p now j out) (s (both with_instr (Ok (x, now)) out) (orc_instr e k r))
+  pub instr_added : (x : Instrument) (now : List Symbol) (p : Orchestra) → item_form old ≡ item.Instr → ReadsInstr d g old (Ok (x, now))
+      → ((q : Orchestra) → joined o (with_instr x q) ≡ joined p q) → OrcSoFar first p d (g ++ x.numbers) now
+  instr_added x now p e k j out r = subst (ReadsOrc [] [] (Ok first)) (added with_instr x o p now j out)
+      (s (both with_instr (Ok (x, now)) out) (orc_instr e k r))
 
   pub definition_fails : (f : OrcFault) → item_form old ≡ item.Opcode → ReadsDefinition d old (Err f) → ReadsOrc [] [] (Ok first) (Err f)
   definition_fails f e k = s (Err f) (orc_udo e k orc_stop)
 
-  pub definition_added : (x : Definition) (now : List Symbol) (p : Orchestra) → item_form old ≡ item.Opcode → ReadsDefinition d old (Ok (x, now)) → ((q : Orchestra) → joined o (with_definition x q) ≡ joined p q) → OrcSoFar first p (d ++ x.name ∷ []) g now
-  definition_added x now p e k j out r = subst (ReadsOrc [] [] (Ok first)) (added with_definition x o p now j out) (s (both with_definition (Ok (x, now)) out) (orc_udo e k r))
+  pub definition_added : (x : Definition) (now : List Symbol) (p : Orchestra) → item_form old ≡ item.Opcode → ReadsDefinition d old (Ok (x, now))
+      → ((q : Orchestra) → joined o (with_definition x q) ≡ joined p q) → OrcSoFar first p (d ++ x.name ∷ []) g now
+  definition_added x now p e k j out r = subst (ReadsOrc [] [] (Ok first)) (added with_definition x o p now j out)
+      (s (both with_definition (Ok (x, now)) out) (orc_udo e k r))
 
   pub stmt_fails : (f : OrcFault) → item_form old ≡ item.Statement → ReadsStmt (outside d) old (Err f) → ReadsOrc [] [] (Ok first) (Err f)
   stmt_fails f e k = s (Err f) (orc_stmt e k orc_stop)
 
-  pub stmt_added : (x : Statement) (now : List Symbol) (p : Orchestra) → item_form old ≡ item.Statement → ReadsStmt (outside d) old (Ok (x, now)) → ((q : Orchestra) → joined o (with_stmt x q) ≡ joined p q) → OrcSoFar first p d g now
+  pub stmt_added : (x : Statement) (now : List Symbol) (p : Orchestra) → item_form old ≡ item.Statement → ReadsStmt (outside d) old (Ok (x, now))
+      → ((q : Orchestra) → joined o (with_stmt x q) ≡ joined p q) → OrcSoFar first p d g now
   stmt_added x now p e k j out r = subst (ReadsOrc [] [] (Ok first)) (added with_stmt x o p now j out) (s (both with_stmt (Ok (x, now)) out) (orc_stmt e k r))
 
 -- ---- an orchestra with one part more at an end
@@ -111,101 +138,135 @@ module _ (first old : List Symbol) (d : List (List ℕ)) (g : List ℕ) (o : Orc
 abbrev orchestra_of : List HeadLine → List Definition → Block → List Instrument → Orchestra
 orchestra_of h u z i = record { head = h; opcodes = u; zero = z; instrs = i }
 
-pub head_pushed : (h : List HeadLine) (x : HeadLine) (u : List Definition) (z : Block) (i : List Instrument) (q : Orchestra) → joined (orchestra_of h u z i) (with_header x q) ≡ joined (orchestra_of (h ++ x ∷ []) u z i) q
+pub head_pushed : (h : List HeadLine) (x : HeadLine) (u : List Definition) (z : Block) (i : List Instrument) (q : Orchestra)
+    → joined (orchestra_of h u z i) (with_header x q) ≡ joined (orchestra_of (h ++ x ∷ []) u z i) q
 head_pushed h x u z i q = ap (λ k. orchestra_of k (u ++ q.opcodes) (joins z q.zero) (i ++ q.instrs)) (sym (append_assoc h (x ∷ []) q.head))
 
-pub instr_pushed : (h : List HeadLine) (u : List Definition) (z : Block) (i : List Instr) (x : Instr) (q : Orchestra) → joined (orchestra_of h u z (map instrument i)) (with_instr (instrument x) q) ≡ joined (orchestra_of h u z (map instrument (i ++ x ∷ []))) q
+pub instr_pushed : (h : List HeadLine) (u : List Definition) (z : Block) (i : List Instr) (x : Instr) (q : Orchestra)
+    → joined (orchestra_of h u z (map instrument i)) (with_instr (instrument x) q) ≡ joined (orchestra_of h u z (map instrument (i ++ x ∷ []))) q
 instr_pushed h u z i x q = ap (λ k. orchestra_of (h ++ q.head) (u ++ q.opcodes) (joins z q.zero) k) (sym (map_more instrument i x q.instrs))
 
-pub definition_pushed : (h : List HeadLine) (u : List Udo) (x : Udo) (z : Block) (i : List Instrument) (q : Orchestra) → joined (orchestra_of h (map definition u) z i) (with_definition (definition x) q) ≡ joined (orchestra_of h (map definition (u ++ x ∷ [])) z i) q
+pub definition_pushed : (h : List HeadLine) (u : List Udo) (x : Udo) (z : Block) (i : List Instrument) (q : Orchestra)
+    → joined (orchestra_of h (map definition u) z i) (with_definition (definition x) q) ≡ joined (orchestra_of h (map definition (u ++ x ∷ [])) z i) q
 definition_pushed h u x z i q = ap (λ k. orchestra_of (h ++ q.head) k (joins z q.zero) (i ++ q.instrs)) (sym (map_more definition u x q.opcodes))
 
-pub stmt_pushed : (h : List HeadLine) (u : List Definition) (z : List OrcStmt) (x : OrcStmt) (i : List Instrument) (q : Orchestra) → joined (orchestra_of h u (block z) i) (with_stmt (statement x) q) ≡ joined (orchestra_of h u (block (z ++ x ∷ [])) i) q
+pub stmt_pushed : (h : List HeadLine) (u : List Definition) (z : List OrcStmt) (x : OrcStmt) (i : List Instrument) (q : Orchestra)
+    → joined (orchestra_of h u (block z) i) (with_stmt (statement x) q) ≡ joined (orchestra_of h u (block (z ++ x ∷ [])) i) q
 stmt_pushed h u z x i q = ap (λ k. orchestra_of (h ++ q.head) (u ++ q.opcodes) k (i ++ q.instrs)) (sym (joins_more z x q.zero))
 
 all_joined : (h : List HeadLine) (u : List Definition) (z : Block) (i : List Instrument) → joined (orchestra_of h u z i) nothing ≡ orchestra_of h u z i
 all_joined h u z i =
-    ap (λ k. orchestra_of k (u ++ []) (joins z no_stmt) (i ++ [])) (append-nil h) ∙ ap (λ k. orchestra_of h k (joins z no_stmt) (i ++ [])) (append-nil u) ∙ ap (λ k. orchestra_of h u k (i ++ [])) (joins_none z) ∙ ap (λ k. orchestra_of h u z k) (append-nil i)
+    ap (λ k. orchestra_of k (u ++ []) (joins z no_stmt) (i ++ [])) (append-nil h) ∙ ap (λ k. orchestra_of h k (joins z no_stmt) (i ++ [])) (append-nil u)
+    ∙ ap (λ k. orchestra_of h u k (i ++ [])) (joins_none z) ∙ ap (λ k. orchestra_of h u z k) (append-nil i)
 
-pub orc_whole : (first now : List Symbol) (h : List HeadLine) (u : List Definition) (z : Block) (i : List Instrument) (d : List (List ℕ)) (g : List ℕ) → OrcSoFar first (orchestra_of h u z i) d g now → item_form now ≡ item.End → ReadsOrc [] [] (Ok first) (Ok (orchestra_of h u z i, now))
+orc_whole : (first now : List Symbol) (h : List HeadLine) (u : List Definition) (z : Block) (i : List Instrument) (d : List (List ℕ)) (g : List ℕ)
+    → OrcSoFar first (orchestra_of h u z i) d g now → item_form now ≡ item.End → ReadsOrc [] [] (Ok first) (Ok (orchestra_of h u z i, now))
 orc_whole first now h u z i d g s e =
     subst (λ o. ReadsOrc [] [] (Ok first) (Ok (o, now))) (all_joined h u z i) (orc_done first now (orchestra_of h u z i) d g s e)
 
+pub orc_read : (first now : List Symbol) (o : Orchestra) (d : List (List ℕ)) (g : List ℕ) → OrcSoFar first o d g now → item_form now ≡ item.End
+    → ReadsOrc [] [] (Ok first) (Ok (o, now))
+orc_read first now o d g s e = orc_whole first now o.head o.opcodes o.zero o.instrs d g s e
+
 -- ---- the exits of a `?`, in a call that reads on
 
-pub failed_on : {T U A : Type 0} (see : T → A) (r : Result U (Or OrcFault)) (e : Or OrcFault) (rest first : List Symbol) (P : Reading A → Type 0) (so_far : Type 0) → IsErrAnd r (Same e) → Gives see (Err e) rest P → ((f : OrcFault) → P (Err f) → ReadsOrc [] [] (Ok first) (Err f)) → ReadsOn r first so_far
+pub failed_on : {T U A : Type 0} (see : T → A) (r : Result U (Or OrcFault)) (e : Or OrcFault) (rest first : List Symbol) (P : Reading A → Type 0)
+    (so_far : Type 0) → IsErrAnd r (Same e) → Gives see (Err e) rest P → ((f : OrcFault) → P (Err f) → ReadsOrc [] [] (Ok first) (Err f))
+    → ReadsOn r first so_far
 failed_on see (Ok x) e rest first P so_far i h k = elim i [ ]
 failed_on {U = U} see (Err (or.Fault g)) (or.Fault f) rest first P so_far i h k = subst (λ y. ReadsOn {T = U} (Err y) first so_far) (sym i) (k f h)
 failed_on see (Err or.OutOfMemory) e rest first P so_far i h k = tt
 failed_on see (Err (or.Fault g)) or.OutOfMemory rest first P so_far i h k = cc
 
--- ---- an instrument, part by part: s is the scope in it, out the one after it
+-- ---- an instrument, part by part
 
-module _ (d : List (List ℕ)) (g : List ℕ) (ts us : List Symbol) (s out : Scope) (is : s ≡ in_instrument d) (out_is : out ≡ outside d) (skipped : us ≡ after ts) where
-  numbers_eq : (o : Reading (List ℕ)) → o ≡ numbers s g us → numbers (in_instrument d) g (after ts) ≡ o
-  numbers_eq o e = sym (e ∙ ap (λ x. numbers x g us) is ∙ ap (numbers (in_instrument d) g) skipped)
+pub instr_body_is : {s : Scope} (d : List (List ℕ)) {ts : List Symbol} (b : Block) (mid now : List Symbol) (st : Left) → ReadsBlock s (Ok ts) (Ok (b, mid))
+    → past s expected.Endin mid ≡ Ok now → line_past (outside d) (next now).kind now ≡ st → IsInstrBody s d ts (valued b st)
+instr_body_is {s} d b mid now st k p l = (Ok (b, mid), k, sym (closed s (outside d) b mid now st expected.Endin p l))
 
-  line_eq : (ns : List ℕ) (mid : List Symbol) (st : Left) → line_past s (next mid).kind mid ≡ st → left (ended (in_instrument d) (Ok (ns, mid))) ≡ st
-  line_eq ns mid st p = ap left (ended_is (in_instrument d) ns mid st (subst (λ x. line_past x (next mid).kind mid ≡ st) is p)) ∙ left_valued ns st
+pub instr_body_open : {s : Scope} (d : List (List ℕ)) {ts : List Symbol} (b : Block) (mid : List Symbol) (f : OrcFault) → ReadsBlock s (Ok ts) (Ok (b, mid))
+    → past s expected.Endin mid ≡ Err f → IsInstrBody s d ts (Err f)
+instr_body_open {s} d b mid f k p = (Ok (b, mid), k, sym (unclosed s (outside d) b mid f expected.Endin p))
 
-  body_eq : (ns : List ℕ) (mid : List Symbol) (st : Left) (b : Reading Block) → line_past s (next mid).kind mid ≡ st → ReadsBlock s st b → ReadsBlock (in_instrument d) (left (ended (in_instrument d) (Ok (ns, mid)))) b
-  body_eq ns mid st b p k = subst (λ x. ReadsBlock (in_instrument d) x b) (sym (line_eq ns mid st p)) (subst (λ x. ReadsBlock x st b) is k)
+module _ (d : List (List ℕ)) (g : List ℕ) (ts : List Symbol) where
+  abbrev all_numbers : Reading (List ℕ)
+  all_numbers = numbers (in_instrument d) g (after ts)
 
-  pub instr_no_numbers : (f : OrcFault) → Err f ≡ numbers s g us → ReadsInstr d g ts (Err f)
-  instr_no_numbers f e = instr_is d g ts (Err f) (Err f) (numbers_eq (Err f) e) block_stop
+  no_line_of : (n : Reading (List ℕ)) (f : OrcFault) → all_numbers ≡ n → Err f ≡ ended (in_instrument d) n → ReadsInstr d g ts (Err f)
+  no_line_of (Err h) f e l = let same : h ≡ f = cc in subst (λ x. ReadsInstr d g ts (Err x)) same (instr_is d g ts (Err h) (Err h) e block_stop)
+  no_line_of (Ok (ns, mid)) f e l =
+      instr_is d g ts (Ok (ns, mid)) (Err f) e (subst (λ x. ReadsBlock (in_instrument d) (left x) (Err f)) l block_stop)
 
-  pub instr_no_line : (ns : List ℕ) (mid : List Symbol) (f : OrcFault) → Ok (ns, mid) ≡ numbers s g us → line_past s (next mid).kind mid ≡ Err f → ReadsInstr d g ts (Err f)
-  instr_no_line ns mid f e p = instr_is d g ts (Ok (ns, mid)) (Err f) (numbers_eq (Ok (ns, mid)) e) (body_eq ns mid (Err f) (Err f) p block_stop)
+  pub instr_no_line : (f : OrcFault) → Err f ≡ ended (in_instrument d) all_numbers → ReadsInstr d g ts (Err f)
+  instr_no_line f l = no_line_of all_numbers f refl l
 
-  pub instr_no_body : (ns : List ℕ) (mid vs : List Symbol) (f : OrcFault) → Ok (ns, mid) ≡ numbers s g us → line_past s (next mid).kind mid ≡ Ok vs → ReadsBlock s (Ok vs) (Err f) → ReadsInstr d g ts (Err f)
-  instr_no_body ns mid vs f e p k = instr_is d g ts (Ok (ns, mid)) (Err f) (numbers_eq (Ok (ns, mid)) e) (body_eq ns mid (Ok vs) (Err f) p k)
+  with_line : (n : Reading (List ℕ)) (ns : List ℕ) (us : List Symbol) (o : Reading Block) → all_numbers ≡ n → Ok (ns, us) ≡ ended (in_instrument d) n
+      → IsInstrBody (in_instrument d) d us o → ReadsInstr d g ts (mapped (instrument_of (next ts).line ns) o)
+  with_line (Err h) ns us o e l k = cc
+  with_line (Ok (ms, mid)) ns us o e l (b, k, i) =
+      let same : ms ≡ ns = sym (line_keeps (in_instrument d) ns ms us mid l) in
+      let way : Reading Block → Reading Instrument = (λ x. mapped (instrument_of (next ts).line ms) x) in
+      let end : ended (outside d) (through (in_instrument d) expected.Endin (both (instrument_of (next ts).line) (Ok (ms, mid)) b)) ≡ way o =
+      (ap (λ x. ended (outside d) (through (in_instrument d) expected.Endin x)) (both_mapped (instrument_of (next ts).line) ms mid b)
+      ∙ closing_mapped (in_instrument d) (outside d) expected.Endin (instrument_of (next ts).line ms) b ∙ ap way (sym i)) in
+      subst (λ x. ReadsInstr d g ts (mapped (instrument_of (next ts).line x) o)) same (subst (ReadsInstr d g ts) end
+      (instr_is d g ts (Ok (ms, mid)) b e (subst (λ st. ReadsBlock (in_instrument d) st b) (ap left l) k)))
 
-  pub instr_no_end : (ns : List ℕ) (mid vs ws : List Symbol) (b : Block) (f : OrcFault) → Ok (ns, mid) ≡ numbers s g us → line_past s (next mid).kind mid ≡ Ok vs → ReadsBlock s (Ok vs) (Ok (b, ws)) → past s is_endin ws ≡ Err f → ReadsInstr d g ts (Err f)
-  instr_no_end ns mid vs ws b f e p k q =
-      subst (ReadsInstr d g ts) (unclosed (in_instrument d) (outside d) (instrument_of (next ts).line ns b) ws f is_endin (subst (λ x. past x is_endin ws ≡ Err f) is q)) (instr_is d g ts (Ok (ns, mid)) (Ok (b, ws)) (numbers_eq (Ok (ns, mid)) e) (body_eq ns mid (Ok vs) (Ok (b, ws)) p k))
+  pub instr_reads : (ns : List ℕ) (us : List Symbol) (o : Reading Block) → Ok (ns, us) ≡ ended (in_instrument d) all_numbers
+      → IsInstrBody (in_instrument d) d us o → ReadsInstr d g ts (mapped (instrument_of (next ts).line ns) o)
+  instr_reads ns us o l k = with_line all_numbers ns us o refl l k
 
-  pub instr_reads : (ns : List ℕ) (mid vs ws xs : List Symbol) (b : Block) (st : Left) → Ok (ns, mid) ≡ numbers s g us → line_past s (next mid).kind mid ≡ Ok vs → ReadsBlock s (Ok vs) (Ok (b, ws)) → past s is_endin ws ≡ Ok xs → line_past out (next xs).kind xs ≡ st → ReadsInstr d g ts (valued (instrument_of (next ts).line ns b) st)
-  instr_reads ns mid vs ws xs b st e p k q r =
-      subst (ReadsInstr d g ts) (closed (in_instrument d) (outside d) (instrument_of (next ts).line ns b) ws xs st is_endin (subst (λ x. past x is_endin ws ≡ Ok xs) is q) (subst (λ x. line_past x (next xs).kind xs ≡ st) out_is r)) (instr_is d g ts (Ok (ns, mid)) (Ok (b, ws)) (numbers_eq (Ok (ns, mid)) e) (body_eq ns mid (Ok vs) (Ok (b, ws)) p k))
+-- ---- a definition, part by part: top is the scope of its first line
 
--- ---- a definition, part by part: top is the scope of its first line, s the one in it, out the one after it
-
-pub no_definition : (d : List (List ℕ)) (ts : List Symbol) (top : Scope) (f : OrcFault) → top ≡ in_definition [] d → Err f ≡ heading top (next ts).line (after ts) → ReadsDefinition d ts (Err f)
+pub no_definition : (d : List (List ℕ)) (ts : List Symbol) (top : Scope) (f : OrcFault) → top ≡ in_definition [] d
+    → Err f ≡ heading top (next ts).line (after ts) → ReadsDefinition d ts (Err f)
 no_definition d ts top f is e = no_heading (sym (e ∙ ap (λ x. heading x (next ts).line (after ts)) is))
 
-module _ (d : List (List ℕ)) (ts us : List Symbol) (h : Heading) (top s out : Scope) (top_is : top ≡ in_definition [] d) (is : s ≡ own_scope d h) (out_is : out ≡ outside d) (he : Ok (h, us) ≡ heading top (next ts).line (after ts)) where
-  heading_eq : heading (in_definition [] d) (next ts).line (after ts) ≡ Ok (h, us)
-  heading_eq = sym (he ∙ ap (λ x. heading x (next ts).line (after ts)) top_is)
+pub heading_read : (d : List (List ℕ)) (ts us : List Symbol) (h : Heading) (top : Scope) → top ≡ in_definition [] d
+    → Ok (h, us) ≡ heading top (next ts).line (after ts) → heading (in_definition [] d) (next ts).line (after ts) ≡ Ok (h, us)
+heading_read d ts us h top is e = sym (e ∙ ap (λ x. heading x (next ts).line (after ts)) is)
 
-  inputs_eq : (o : Reading (List (List ℕ))) → o ≡ inputs s h us → inputs (own_scope d h) h us ≡ o
-  inputs_eq o e = sym (e ∙ ap (λ x. inputs x h us) is)
+module _ {s : Scope} (h : Heading) (ts : List Symbol) where
+  pub inside_no_names : (f : OrcFault) → Err f ≡ inputs s h ts → IsInside s h ts (Err f)
+  inside_no_names f e = (Err f, Err f, Err f, sym e, block_stop, result_stop, refl)
 
-  own_block : (st : Left) (b : Reading Block) → ReadsBlock s st b → ReadsBlock (own_scope d h) st b
-  own_block st b k = subst (λ x. ReadsBlock x st b) is k
+  pub inside_no_body : (n : List (List ℕ)) (us : List Symbol) (f : OrcFault) → Ok (n, us) ≡ inputs s h ts → ReadsBlock s (Ok us) (Err f)
+      → IsInside s h ts (Err f)
+  inside_no_body n us f e k = (Ok (n, us), Err f, Err f, sym e, k, result_stop, refl)
 
-  own_result : (st : Left) (r : Reading (List Argument)) → ReadsResult s h.outs st r → ReadsResult (own_scope d h) h.outs st r
-  own_result st r k = subst (λ x. ReadsResult x h.outs st r) is k
+  pub inside_is : (n : List (List ℕ)) (us vs : List Symbol) (b : Block) (r : Reading (List Argument)) → Ok (n, us) ≡ inputs s h ts
+      → ReadsBlock s (Ok us) (Ok (b, vs)) → ReadsResult s h.outs (Ok vs) r → IsInside s h ts (both (λ y z. (n, y, z)) (Ok (b, vs)) r)
+  inside_is n us vs b r e k i = (Ok (n, us), Ok (b, vs), r, sym e, k, i, refl)
 
-  pub definition_no_inputs : (f : OrcFault) → Err f ≡ inputs s h us → ReadsDefinition d ts (Err f)
-  definition_no_inputs f e = udo_is d ts us h (Err f) (Err f) (Err f) heading_eq (inputs_eq (Err f) e) block_stop result_stop
+module _ {s : Scope} (d : List (List ℕ)) (h : Heading) (ts : List Symbol) where
+  pub lines_fail : (f : OrcFault) → IsInside s h ts (Err f) → IsLines s d h ts (Err f)
+  lines_fail f k = (Err f, k, refl)
 
-  pub definition_no_body : (n : List (List ℕ)) (vs : List Symbol) (f : OrcFault) → Ok (n, vs) ≡ inputs s h us → ReadsBlock s (Ok vs) (Err f) → ReadsDefinition d ts (Err f)
-  definition_no_body n vs f e k = udo_is d ts us h (Ok (n, vs)) (Err f) (Err f) heading_eq (inputs_eq (Ok (n, vs)) e) (own_block (Ok vs) (Err f) k) result_stop
+  pub lines_open : (p : Parts) (mid : List Symbol) (f : OrcFault) → IsInside s h ts (Ok (p, mid)) → past s expected.Endop mid ≡ Err f → IsLines s d h ts (Err f)
+  lines_open p mid f k q = (Ok (p, mid), k, sym (unclosed s (outside d) p mid f expected.Endop q))
 
-  pub definition_no_result : (n : List (List ℕ)) (vs ws : List Symbol) (b : Block) (f : OrcFault) → Ok (n, vs) ≡ inputs s h us → ReadsBlock s (Ok vs) (Ok (b, ws)) → ReadsResult s h.outs (Ok ws) (Err f) → ReadsDefinition d ts (Err f)
-  definition_no_result n vs ws b f e k r = udo_is d ts us h (Ok (n, vs)) (Ok (b, ws)) (Err f) heading_eq (inputs_eq (Ok (n, vs)) e) (own_block (Ok vs) (Ok (b, ws)) k) (own_result (Ok ws) (Err f) r)
+  pub lines_are : (p : Parts) (mid now : List Symbol) (st : Left) → IsInside s h ts (Ok (p, mid)) → past s expected.Endop mid ≡ Ok now
+      → line_past (outside d) (next now).kind now ≡ st → IsLines s d h ts (valued p st)
+  lines_are p mid now st k q l = (Ok (p, mid), k, sym (closed s (outside d) p mid now st expected.Endop q l))
 
-  pub definition_no_end : (n : List (List ℕ)) (vs ws xs : List Symbol) (b : Block) (a : List Argument) (f : OrcFault) → Ok (n, vs) ≡ inputs s h us → ReadsBlock s (Ok vs) (Ok (b, ws)) → ReadsResult s h.outs (Ok ws) (Ok (a, xs)) → past s is_endop xs ≡ Err f → ReadsDefinition d ts (Err f)
-  definition_no_end n vs ws xs b a f e k r q =
-      subst (ReadsDefinition d ts) (unclosed (own_scope d h) (outside d) (definition_of h n b a) xs f is_endop (subst (λ x. past x is_endop xs ≡ Err f) is q)) (udo_is d ts us h (Ok (n, vs)) (Ok (b, ws)) (Ok (a, xs)) heading_eq (inputs_eq (Ok (n, vs)) e) (own_block (Ok vs) (Ok (b, ws)) k) (own_result (Ok ws) (Ok (a, xs)) r))
+three_inside : (h : Heading) (n : Reading (List (List ℕ))) (b : Reading Block) (r : Reading (List Argument))
+    → three (definition_of h) n b r ≡ mapped (of_inside h) (three (λ x y z. (x, y, z)) n b r)
+three_inside h (Err f) b r = refl
+three_inside h (Ok (n, us)) (Err f) r = refl
+three_inside h (Ok (n, us)) (Ok (b, vs)) (Err f) = refl
+three_inside h (Ok (n, us)) (Ok (b, vs)) (Ok (r, ws)) = refl
 
-  pub definition_reads : (n : List (List ℕ)) (vs ws xs ys : List Symbol) (b : Block) (a : List Argument) (st : Left) → Ok (n, vs) ≡ inputs s h us → ReadsBlock s (Ok vs) (Ok (b, ws)) → ReadsResult s h.outs (Ok ws) (Ok (a, xs)) → past s is_endop xs ≡ Ok ys → line_past out (next ys).kind ys ≡ st → ReadsDefinition d ts (valued (definition_of h n b a) st)
-  definition_reads n vs ws xs ys b a st e k r q l =
-      subst (ReadsDefinition d ts) (closed (own_scope d h) (outside d) (definition_of h n b a) xs ys st is_endop (subst (λ x. past x is_endop xs ≡ Ok ys) is q) (subst (λ x. line_past x (next ys).kind ys ≡ st) out_is l)) (udo_is d ts us h (Ok (n, vs)) (Ok (b, ws)) (Ok (a, xs)) heading_eq (inputs_eq (Ok (n, vs)) e) (own_block (Ok vs) (Ok (b, ws)) k) (own_result (Ok ws) (Ok (a, xs)) r))
+pub definition_reads : (d : List (List ℕ)) (ts us : List Symbol) (h : Heading) (o : Reading Parts)
+    → heading (in_definition [] d) (next ts).line (after ts) ≡ Ok (h, us) → IsLines (own_scope d h) d h us o → ReadsDefinition d ts (mapped (of_inside h) o)
+definition_reads d ts us h o e (p, (n, b, r, i, k, j, w), l) =
+    let s : Scope = own_scope d h in
+    subst (ReadsDefinition d ts) (ap (λ x. ended (outside d) (through s expected.Endop x)) (three_inside h n b r ∙ ap (mapped (of_inside h)) (sym w))
+    ∙ closing_mapped s (outside d) expected.Endop (of_inside h) p ∙ ap (mapped (of_inside h)) (sym l)) (udo_is d ts us h n b r e i k j)
 
 -- ---- what parse answers
 
-pub orc_tree : (r : Result Orc (Or OrcFault)) (rest first : List Symbol) → Gives orchestra r rest (ReadsOrc [] [] (Ok first)) → IfOk r (λ o. (left_over : List Symbol) × ReadsOrc [] [] (Ok first) (Ok (orchestra o, left_over)))
+pub orc_tree : (r : Result Orc (Or OrcFault)) (rest first : List Symbol) → Gives orchestra r rest (ReadsOrc [] [] (Ok first))
+    → IfOk r (λ o. (left_over : List Symbol) × ReadsOrc [] [] (Ok first) (Ok (orchestra o, left_over)))
 orc_tree (Ok o) rest first h = (rest, h)
 orc_tree (Err (or.Fault f)) rest first h = tt
 orc_tree (Err or.OutOfMemory) rest first h = tt
@@ -214,7 +275,8 @@ abbrev fault_of : OrcFault → Result Orc (Or OrcFault) → OrcFault
 fault_of f (Err (or.Fault g)) = g
 fault_of f _ = f
 
-pub orc_fault : (r : Result Orc (Or OrcFault)) (rest first : List Symbol) → Gives orchestra r rest (ReadsOrc [] [] (Ok first)) → (f : OrcFault) → r ≡ Err (or.Fault f) → ReadsOrc [] [] (Ok first) (Err f)
+pub orc_fault : (r : Result Orc (Or OrcFault)) (rest first : List Symbol) → Gives orchestra r rest (ReadsOrc [] [] (Ok first)) → (f : OrcFault)
+    → r ≡ Err (or.Fault f) → ReadsOrc [] [] (Ok first) (Err f)
 orc_fault (Ok o) rest first h f e = cc
 orc_fault (Err (or.Fault g)) rest first h f e = subst (λ x. ReadsOrc [] [] (Ok first) (Err x)) (ap (fault_of f) e) h
 orc_fault (Err or.OutOfMemory) rest first h f e = cc
@@ -222,8 +284,17 @@ orc_fault (Err or.OutOfMemory) rest first h f e = cc
 abbrev pub udo_in : Udo × Bor (List ℕ) → Definition
 udo_in p = definition p.0
 
-pub failed_orc : (U : Type 0) (r : Result Orc (Or OrcFault)) (e : Or OrcFault) (rest first : List Symbol) (so_far : Type 0) → IsErrAnd r (Same e) → ReadsOn {T = U} (Err e) first so_far → Gives orchestra r rest (ReadsOrc [] [] (Ok first))
+pub failed_orc : (U : Type 0) (r : Result Orc (Or OrcFault)) (e : Or OrcFault) (rest first : List Symbol) (so_far : Type 0) → IsErrAnd r (Same e)
+    → ReadsOn {T = U} (Err e) first so_far → Gives orchestra r rest (ReadsOrc [] [] (Ok first))
 failed_orc U (Ok x) e rest first so_far i h = elim i [ ]
 failed_orc U (Err (or.Fault g)) (or.Fault f) rest first so_far i h = subst (λ y. Gives orchestra (Err y) rest (ReadsOrc [] [] (Ok first))) (sym i) h
 failed_orc U (Err or.OutOfMemory) e rest first so_far i h = tt
 failed_orc U (Err (or.Fault g)) or.OutOfMemory rest first so_far i h = cc
+
+-- the same exit, in a call that reads on
+pub failed_items : (T U : Type 0) (r : Result U (Or OrcFault)) (e : Or OrcFault) (first : List Symbol) (P Q : Type 0) → IsErrAnd r (Same e)
+    → ReadsOn {T = T} (Err e) first P → ReadsOn r first Q
+failed_items T U (Ok x) e first P Q i h = elim i [ ]
+failed_items T U (Err (or.Fault g)) (or.Fault f) first P Q i h = subst (λ y. ReadsOn {T = U} (Err y) first Q) (sym i) h
+failed_items T U (Err or.OutOfMemory) e first P Q i h = tt
+failed_items T U (Err (or.Fault g)) or.OutOfMemory first P Q i h = cc

@@ -3,32 +3,42 @@ use Rattle.std.proofs.Common.{◌≡◌, ◌∙◌, ◌≤◌, ◌+◌, ◌-◌,
 use Rattle.cs_base.specs.declared.fault.Or.{Or}
 use Rattle.cs_base.specs.declared.fault.Or.TheVariants as or
 use Rattle.cs_base.specs.declared.fault.OrcFault.{OrcFault}
-use Rattle.cs_grammar.specs.declared.tree.BinOp.{BinOp}
-use Rattle.cs_grammar.specs.declared.tree.Func.{Func}
+use Rattle.cs_words.specs.declared.sign.BinOp.{BinOp}
+use Rattle.cs_words.specs.declared.word.Func.{Func}
 use Rattle.cs_grammar.specs.declared.expr.Level.{Level}
 use Rattle.cs_grammar.specs.declared.expr.Level.TheVariants as at
 use Rattle.cs_grammar.specs.declared.expr.PartForm.TheVariants as part
+use Rattle.cs_grammar.proofs.Gives.{both_mapped, left_through, through_is, through_keeps, through_mapped, valued}
+use Rattle.cs_grammar.specs.declared.symbol.Expected.{Expected}
+use Rattle.cs_grammar.specs.declared.symbol.Expected.TheVariants as expected
+use Rattle.cs_grammar.specs.Grammar.{ReadsExpr, ReadsTail, binary, expr_stop, fact_alone, fact_call, fact_group, fact_pick, no_more, one_alone, one_more}
+use Rattle.cs_grammar.specs.Parts.{atom, operator_of, part_form, rank, repeats, tighter}
+use Rattle.cs_grammar.specs.Reading.{Left, Reading, Scope, after, left, mapped, next, next_is, three, through}
 use Rattle.cs_grammar.specs.Symbols.{Symbol}
-use Rattle.cs_grammar.specs.Tree.{Expression, pick, apply}
-use Rattle.cs_grammar.specs.Reading.{next, after, Left, Reading, left, is_close, is_question, is_colon, Scope, through}
-use Rattle.cs_grammar.specs.Parts.{tighter, rank, repeats, operator_of, part_form, atom}
-use Rattle.cs_grammar.specs.Answers.{Gives, past}
-use Rattle.cs_grammar.specs.Grammar.{ReadsExpr, ReadsTail, binary, expr_stop, no_more, one_more, one_alone, fact_call, fact_group, fact_pick, fact_alone}
-use Rattle.cs_grammar.proofs.Gives.{left_through, through_is}
+use Rattle.cs_grammar.specs.Tree.{Expression, apply, pick}
+use Rattle.cs_grammar.specs.inner.Answers.{Gives, IsClosed, past}
 
 -- ---- brackets
 
-pub group_fails : {s : Scope} {ts : List Symbol} (e : Expression) (mid : List Symbol) (f : OrcFault) → part_form ts ≡ part.Bracket → ReadsExpr s at.Expr (Ok (after ts)) (Ok (e, mid)) → is_question (next mid).kind ≡ false → past s is_close mid ≡ Err f → ReadsExpr s at.Fact (Ok ts) (Err f)
-group_fails {s} {ts} e mid f m h q p = subst (ReadsExpr s at.Fact (Ok ts)) (through_is s is_close e mid (Err f) p) (fact_group m h q)
+pub group_fails : {s : Scope} {ts : List Symbol} (e : Expression) (mid : List Symbol) (f : OrcFault) → part_form ts ≡ part.Bracket
+    → ReadsExpr s at.Expr (Ok (after ts)) (Ok (e, mid)) → next_is expected.Question mid ≡ false → past s expected.Close mid ≡ Err f
+    → ReadsExpr s at.Fact (Ok ts) (Err f)
+group_fails {s} {ts} e mid f m h q p = subst (ReadsExpr s at.Fact (Ok ts)) (through_is s expected.Close e mid (Err f) p) (fact_group m h q)
 
-pub group_reads : {s : Scope} {ts : List Symbol} (e : Expression) (mid rest : List Symbol) → part_form ts ≡ part.Bracket → ReadsExpr s at.Expr (Ok (after ts)) (Ok (e, mid)) → is_question (next mid).kind ≡ false → past s is_close mid ≡ Ok rest → ReadsExpr s at.Fact (Ok ts) (Ok (e, rest))
-group_reads {s} {ts} e mid rest m h q p = subst (ReadsExpr s at.Fact (Ok ts)) (through_is s is_close e mid (Ok rest) p) (fact_group m h q)
+pub group_reads : {s : Scope} {ts : List Symbol} (e : Expression) (mid rest : List Symbol) → part_form ts ≡ part.Bracket
+    → ReadsExpr s at.Expr (Ok (after ts)) (Ok (e, mid)) → next_is expected.Question mid ≡ false → past s expected.Close mid ≡ Ok rest
+    → ReadsExpr s at.Fact (Ok ts) (Ok (e, rest))
+group_reads {s} {ts} e mid rest m h q p = subst (ReadsExpr s at.Fact (Ok ts)) (through_is s expected.Close e mid (Ok rest) p) (fact_group m h q)
 
-pub call_fails : {s : Scope} {ts : List Symbol} (g : Func) (e : Expression) (mid : List Symbol) (f : OrcFault) → part_form ts ≡ part.Function g → ReadsExpr s at.Expr (Ok (after (after ts))) (Ok (e, mid)) → past s is_close mid ≡ Err f → ReadsExpr s at.Fact (Ok ts) (Err f)
-call_fails {s} {ts} g e mid f m h p = subst (ReadsExpr s at.Fact (Ok ts)) (through_is s is_close (apply g e) mid (Err f) p) (fact_call m h)
+-- an expression, and the symbol that must follow it
+pub closed_is : {s : Scope} {ts : List Symbol} (end : Expected) (e : Expression) (mid : List Symbol) (st : Left)
+    → ReadsExpr s at.Expr (Ok ts) (Ok (e, mid)) → past s end mid ≡ st → IsClosed s end ts (valued e st)
+closed_is {s} {ts} end e mid st h p = (Ok (e, mid), h, sym (through_is s end e mid st p))
 
-pub call_reads : {s : Scope} {ts : List Symbol} (g : Func) (e : Expression) (mid rest : List Symbol) → part_form ts ≡ part.Function g → ReadsExpr s at.Expr (Ok (after (after ts))) (Ok (e, mid)) → past s is_close mid ≡ Ok rest → ReadsExpr s at.Fact (Ok ts) (Ok (apply g e, rest))
-call_reads {s} {ts} g e mid rest m h p = subst (ReadsExpr s at.Fact (Ok ts)) (through_is s is_close (apply g e) mid (Ok rest) p) (fact_call m h)
+pub call_is : {s : Scope} {ts : List Symbol} (g : Func) (o : Reading Expression) → part_form ts ≡ part.Function g
+    → IsClosed s expected.Close (after (after ts)) o → ReadsExpr s at.Fact (Ok ts) (mapped (apply g) o)
+call_is {s} {ts} g o m (b, k, e) =
+    subst (ReadsExpr s at.Fact (Ok ts)) (through_mapped s expected.Close (apply g) b ∙ ap (mapped (apply g)) (sym e)) (fact_call m k)
 
 -- ---- a fault is the reading of every level
 
@@ -38,30 +48,34 @@ stops at.Term = binary refl expr_stop (no_more refl)
 stops at.Sum = binary refl (binary refl expr_stop (no_more refl)) (no_more refl)
 stops at.Cmp = binary refl (binary refl (binary refl expr_stop (no_more refl)) (no_more refl)) (no_more refl)
 stops at.And = binary refl (binary refl (binary refl (binary refl expr_stop (no_more refl)) (no_more refl)) (no_more refl)) (no_more refl)
-stops at.Expr = binary refl (binary refl (binary refl (binary refl (binary refl expr_stop (no_more refl)) (no_more refl)) (no_more refl)) (no_more refl)) (no_more refl)
+stops at.Expr = binary refl (binary refl (binary refl (binary refl (binary refl expr_stop (no_more refl)) (no_more refl)) (no_more refl)) (no_more refl))
+    (no_more refl)
 
-after_colon : (s : Scope) (y : Expression) (vs : List Symbol) (st : Left) (b : Reading Expression) → past s is_colon vs ≡ st → ReadsExpr s at.Expr st b → ReadsExpr s at.Expr (left (through s is_colon (Ok (y, vs)))) b
-after_colon s y vs st b e k = subst (λ x. ReadsExpr s at.Expr x b) (sym (left_through s is_colon y vs ∙ e)) k
+after_colon : (s : Scope) (y : Expression) (vs : List Symbol) (st : Left) (b : Reading Expression) → past s expected.Colon vs ≡ st → ReadsExpr s at.Expr st b
+    → ReadsExpr s at.Expr (left (through s expected.Colon (Ok (y, vs)))) b
+after_colon s y vs st b e k = subst (λ x. ReadsExpr s at.Expr x b) (sym (left_through s expected.Colon y vs ∙ e)) k
+
+picked_through : (s : Scope) (c y : Expression) (us vs : List Symbol) (b : Reading Expression)
+    → through s expected.Close (three pick (Ok (c, us)) (Ok (y, vs)) b) ≡ mapped (pick c y) (through s expected.Close b)
+picked_through s c y us vs b = ap (through s expected.Close) (both_mapped (pick c) y vs b) ∙ through_mapped s expected.Close (pick c y) b
 
 -- ---- a choice: after its condition c, which leaves us, comes `?`
 
-module _ {s : Scope} {ts : List Symbol} (c : Expression) (us : List Symbol) (m : part_form ts ≡ part.Bracket) (h : ReadsExpr s at.Expr (Ok (after ts)) (Ok (c, us))) (q : is_question (next us).kind ≡ true) where
-  pub pick_fails_yes : (f : OrcFault) → ReadsExpr s at.Expr (Ok (after us)) (Err f) → ReadsExpr s at.Fact (Ok ts) (Err f)
-  pick_fails_yes f k = fact_pick m h q k (stops at.Expr)
+module _ {s : Scope} {ts : List Symbol} (c : Expression) (us : List Symbol) (m : part_form ts ≡ part.Bracket)
+    (h : ReadsExpr s at.Expr (Ok (after ts)) (Ok (c, us))) (q : next_is expected.Question us ≡ true) where
+  pub pick_unmet : (f : OrcFault) → IsClosed s expected.Colon (after us) (Err f) → ReadsExpr s at.Fact (Ok ts) (Err f)
+  pick_unmet f (Err g, k, e) = fact_pick m h q (subst (ReadsExpr s at.Expr (Ok (after us))) (sym e) k) (stops at.Expr)
+  pick_unmet f (Ok (y, vs), k, e) =
+      fact_pick m h q k (after_colon s y vs (Err f) (Err f) (sym (left_through s expected.Colon y vs) ∙ ap left (sym e)) (stops at.Expr))
 
-  pub pick_fails_colon : (y : Expression) (vs : List Symbol) (f : OrcFault) → ReadsExpr s at.Expr (Ok (after us)) (Ok (y, vs)) → past s is_colon vs ≡ Err f → ReadsExpr s at.Fact (Ok ts) (Err f)
-  pick_fails_colon y vs f k e = fact_pick m h q k (after_colon s y vs (Err f) (Err f) e (stops at.Expr))
-
-  pub pick_fails_no : (y : Expression) (vs ws : List Symbol) (f : OrcFault) → ReadsExpr s at.Expr (Ok (after us)) (Ok (y, vs)) → past s is_colon vs ≡ Ok ws → ReadsExpr s at.Expr (Ok ws) (Err f) → ReadsExpr s at.Fact (Ok ts) (Err f)
-  pick_fails_no y vs ws f k e g = fact_pick m h q k (after_colon s y vs (Ok ws) (Err f) e g)
-
-  pub pick_fails_close : (y n : Expression) (vs ws xs : List Symbol) (f : OrcFault) → ReadsExpr s at.Expr (Ok (after us)) (Ok (y, vs)) → past s is_colon vs ≡ Ok ws → ReadsExpr s at.Expr (Ok ws) (Ok (n, xs)) → past s is_close xs ≡ Err f → ReadsExpr s at.Fact (Ok ts) (Err f)
-  pick_fails_close y n vs ws xs f k e g p =
-      subst (ReadsExpr s at.Fact (Ok ts)) (through_is s is_close (pick c y n) xs (Err f) p) (fact_pick m h q k (after_colon s y vs (Ok ws) (Ok (n, xs)) e g))
-
-  pub pick_reads : (y n : Expression) (vs ws xs rest : List Symbol) → ReadsExpr s at.Expr (Ok (after us)) (Ok (y, vs)) → past s is_colon vs ≡ Ok ws → ReadsExpr s at.Expr (Ok ws) (Ok (n, xs)) → past s is_close xs ≡ Ok rest → ReadsExpr s at.Fact (Ok ts) (Ok (pick c y n, rest))
-  pick_reads y n vs ws xs rest k e g p =
-      subst (ReadsExpr s at.Fact (Ok ts)) (through_is s is_close (pick c y n) xs (Ok rest) p) (fact_pick m h q k (after_colon s y vs (Ok ws) (Ok (n, xs)) e g))
+  pub pick_is : (y : Expression) (ws : List Symbol) (o : Reading Expression) → IsClosed s expected.Colon (after us) (Ok (y, ws))
+      → IsClosed s expected.Close ws o → ReadsExpr s at.Fact (Ok ts) (mapped (pick c y) o)
+  pick_is y ws o (Err g, k, e) j = cc
+  pick_is y ws o (Ok (z, vs), k, e) (b, i, d) =
+      let same : z ≡ y = sym (through_keeps s expected.Colon y z ws vs e) in
+      subst (λ x. ReadsExpr s at.Fact (Ok ts) (mapped (pick c x) o)) same
+      (subst (ReadsExpr s at.Fact (Ok ts)) (picked_through s c z us vs b ∙ ap (mapped (pick c z)) (sym d))
+      (fact_pick m h q k (after_colon s z vs (Ok ws) b (sym (left_through s expected.Colon z vs) ∙ ap left (sym e)) i)))
 
 -- ---- levels
 
@@ -116,7 +130,8 @@ rank_up l m e = sym (above_is l) ∙ ap above e
 
 -- ---- operators
 
-pub right_fails : {s : Scope} {l m : Level} {op : BinOp} {us : List Symbol} (a : Expression) (f : OrcFault) → operator_of l (next us).kind ≡ Some op → tighter l ≡ Some m → ReadsExpr s m (Ok (after us)) (Err f) → ReadsTail s l (Ok (a, us)) (Err f)
+pub right_fails : {s : Scope} {l m : Level} {op : BinOp} {us : List Symbol} (a : Expression) (f : OrcFault) → operator_of l (next us).kind ≡ Some op
+    → tighter l ≡ Some m → ReadsExpr s m (Ok (after us)) (Err f) → ReadsTail s l (Ok (a, us)) (Err f)
 right_fails {s} {l} {us = us} a f e t h = by (repeats l) refl
   where
     by : (b : Bool) → repeats l ≡ b → ReadsTail s l (Ok (a, us)) (Err f)
@@ -125,7 +140,8 @@ right_fails {s} {l} {us = us} a f e t h = by (repeats l) refl
 
 -- ---- a part of one symbol
 
-pub alone : {T : Type 0} (see : T → Expression) (r : Result T (Or OrcFault)) (rest ts : List Symbol) (s : Scope) → part_form ts ≡ part.Alone → Gives see r rest (λ o. o ≡ atom s ts) → Gives see r rest (ReadsExpr s at.Fact (Ok ts))
+pub alone : {T : Type 0} (see : T → Expression) (r : Result T (Or OrcFault)) (rest ts : List Symbol) (s : Scope) → part_form ts ≡ part.Alone
+    → Gives see r rest (λ o. o ≡ atom s ts) → Gives see r rest (ReadsExpr s at.Fact (Ok ts))
 alone see (Ok x) rest ts s m h = subst (ReadsExpr s at.Fact (Ok ts)) (sym h) (fact_alone m)
 alone see (Err (or.Fault f)) rest ts s m h = subst (ReadsExpr s at.Fact (Ok ts)) (sym h) (fact_alone m)
 alone see (Err or.OutOfMemory) rest ts s m h = tt

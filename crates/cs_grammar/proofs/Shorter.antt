@@ -1,28 +1,31 @@
 -- What stands outside instruments and definitions takes one symbol at least.
 use Rattle.std.proofs.Common.{◌≡◌, ◌<◌, ◌≤◌, ℕ, List, length, Ok, arith, subst, sym}
-use Rattle.cs_grammar.specs.declared.tree.HeadName.{HeadName}
+use Rattle.cs_words.specs.declared.word.HeadName.{HeadName}
 use Rattle.cs_grammar.specs.declared.tree.HeadLine.{HeadLine}
-use Rattle.cs_grammar.specs.Symbols.{Symbol}
-use Rattle.cs_grammar.specs.Tree.{Statement, Instrument, Definition}
-use Rattle.cs_grammar.specs.Reading.{left, Scope}
-use Rattle.cs_grammar.specs.Lines.{header_line}
-use Rattle.cs_grammar.specs.Grammar.{ReadsStmt}
-use Rattle.cs_grammar.specs.Orchestra.{ReadsInstr, ReadsDefinition}
 use Rattle.cs_grammar.proofs.Sizes.{size}
 use Rattle.cs_grammar.proofs.OneStmt.{stmt_less, stmt_is}
 use Rattle.cs_grammar.proofs.OneOrc.{header_less, instr_less, instr_is, definition_less, definition_is}
+use Rattle.cs_grammar.specs.Grammar.{ReadsStmt}
+use Rattle.cs_grammar.specs.Lines.{header_line}
+use Rattle.cs_grammar.specs.Orchestra.{ReadsDefinition, ReadsInstr}
+use Rattle.cs_grammar.specs.Reading.{Scope, left}
+use Rattle.cs_grammar.specs.Symbols.{Symbol}
+use Rattle.cs_grammar.specs.Tree.{Definition, Instrument, Statement}
 
-pub header_shorter : (s : Scope) (h : HeadName) (ts : List Symbol) (x : HeadLine) (rest : List Symbol) → Ok (x, rest) ≡ header_line s h ts → length rest < length ts
+pub header_shorter : (s : Scope) (h : HeadName) (ts : List Symbol) (x : HeadLine) (rest : List Symbol) → Ok (x, rest) ≡ header_line s h ts
+    → length rest < length ts
 header_shorter s h ts x rest e =
     let k : size (Ok rest) ≤ length ts = subst (λ o. size (left o) ≤ length ts) (sym e) (header_less s h ts) in
     omega (arith, k)
 
-pub instr_shorter : (d : List (List ℕ)) (g : List ℕ) (ts : List Symbol) (x : Instrument) (rest : List Symbol) → ReadsInstr d g ts (Ok (x, rest)) → length rest < length ts
+pub instr_shorter : (d : List (List ℕ)) (g : List ℕ) (ts : List Symbol) (x : Instrument) (rest : List Symbol) → ReadsInstr d g ts (Ok (x, rest))
+    → length rest < length ts
 instr_shorter d g ts x rest h =
     let k : size (Ok rest) ≤ length ts = subst (λ o. size (left o) ≤ length ts) (instr_is h) (instr_less d g ts) in
     omega (arith, k)
 
-pub definition_shorter : (d : List (List ℕ)) (ts : List Symbol) (x : Definition) (rest : List Symbol) → ReadsDefinition d ts (Ok (x, rest)) → length rest < length ts
+pub definition_shorter : (d : List (List ℕ)) (ts : List Symbol) (x : Definition) (rest : List Symbol) → ReadsDefinition d ts (Ok (x, rest))
+    → length rest < length ts
 definition_shorter d ts x rest h =
     let k : size (Ok rest) ≤ length ts = subst (λ o. size (left o) ≤ length ts) (definition_is h) (definition_less d ts) in
     omega (arith, k)

@@ -3,8 +3,9 @@ use Rattle.std.proofs.Common.{◌≡◌, ◌<◌, ◌≤◌, ◌+◌, ◌⊎◌,
 use Rattle.cs_base.specs.declared.fault.OrcKind.TheVariants as orc
 use Rattle.cs_grammar.specs.declared.symbol.Kind.{Kind}
 use Rattle.cs_grammar.specs.declared.symbol.Kind.TheVariants as kind
+use Rattle.cs_grammar.specs.declared.symbol.Expected.{Expected}
+use Rattle.cs_grammar.specs.Reading.{Left, Reading, Scope, after, both, ended, left, line_end, mapped, misfit, next, next_is, skip, three, through}
 use Rattle.cs_grammar.specs.Symbols.{Symbol}
-use Rattle.cs_grammar.specs.Reading.{next, after, Left, Reading, left, mapped, both, three, skip, Scope, misfit, through, ended, line_end}
 
 abbrev pub size : Left → ℕ
 size (Ok ts) = length ts + 1
@@ -39,9 +40,10 @@ pub choice_size : {A : Type 0} (b : Bool) (x y : Reading A) (k : ℕ) → size (
 choice_size true x y k h i = h
 choice_size false x y k h i = i
 
-pub through_size : {A : Type 0} (s : Scope) (p : Kind → Bool) (o : Reading A) → size (left (through s p o)) ≤ size (left o)
+pub through_size : {A : Type 0} (s : Scope) (p : Expected) (o : Reading A) → size (left (through s p o)) ≤ size (left o)
 through_size s p (Err f) = omega arith
-through_size s p (Ok (a, ts)) = choice_size (p (next ts).kind) (Ok (a, after ts)) (Err (misfit s orc.Unexpected ts)) (length ts + 1) (omega (arith, after_size ts)) (omega arith)
+through_size s p (Ok (a, ts)) = choice_size (next_is p ts) (Ok (a, after ts)) (Err (misfit s orc.Unexpected ts)) (length ts + 1)
+    (omega (arith, after_size ts)) (omega arith)
 
 line_end_size : {A : Type 0} (s : Scope) (a : A) (k : Kind) (ts : List Symbol) → size (left (line_end s a k ts)) ≤ length ts + 1
 line_end_size s a kind.NewLine ts = omega (arith, after_size ts)

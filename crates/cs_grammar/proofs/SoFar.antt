@@ -3,15 +3,19 @@ use Rattle.std.proofs.Common.{◌≡◌, ◌∙◌, ◌++◌, ℕ, Bool, true, f
 use Rattle.std.proofs.lemmas.List.{append_assoc, append-nil}
 use Rattle.cs_base.specs.declared.fault.OrcFault.{OrcFault}
 use Rattle.cs_base.specs.declared.fault.OrcKind.TheVariants as orc
-use Rattle.cs_grammar.specs.Symbols.{Symbol}
+use Rattle.cs_grammar.specs.declared.lists.Role.{Role}
 use Rattle.cs_grammar.specs.declared.tree.Arg.{Arg}
-use Rattle.cs_grammar.specs.Tree.{Argument, argument}
-use Rattle.cs_grammar.specs.Reading.{next, after, Reading, mapped, both, has_number, is_comma, misfit, fault, Scope}
-use Rattle.cs_grammar.specs.Lines.{no_target, target, targets, instrument_number, fresh, number_at, one_number, more_numbers, numbers}
-use Rattle.cs_grammar.specs.Parts.{is_variable}
 use Rattle.cs_grammar.specs.declared.symbol.Kind.{Kind}
 use Rattle.cs_grammar.specs.declared.symbol.Kind.TheVariants as kind
+use Rattle.cs_grammar.specs.declared.symbol.Expected.TheVariants as expected
 use Rattle.cs_grammar.specs.Grammar.{ReadsArg, ReadsList, list_last, list_more}
+use Rattle.cs_grammar.specs.Kinds.{is}
+use Rattle.cs_grammar.specs.Lines.{fresh, instrument_number, no_target, number_at, one_number, target}
+use Rattle.cs_grammar.specs.Parts.{is_variable}
+use Rattle.cs_grammar.specs.Reading.{Reading, Scope, after, both, fault, has_number, mapped, misfit, next_is}
+use Rattle.cs_grammar.specs.Symbols.{Symbol}
+use Rattle.cs_grammar.specs.Tree.{Argument, argument}
+use Rattle.cs_grammar.specs.inner.Rows.{numbers, numbers_behind, targets}
 
 -- ---- a list with more in front
 
@@ -25,9 +29,9 @@ prefixed_more xs x (Ok (ys, ts)) = ap (λ zs. Ok (zs, ts)) (sym (append_assoc xs
 -- ---- targets
 
 -- what follows a target: a comma and more of them, or no more
-abbrev pub more_targets : Scope → List Symbol → Bool → Reading (List (List ℕ))
-more_targets s ts true = targets s (after ts)
-more_targets s ts false = Ok ([], ts)
+abbrev pub targets_behind : Scope → List Symbol → Bool → Reading (List (List ℕ))
+targets_behind s ts true = targets s (after ts)
+targets_behind s ts false = Ok ([], ts)
 
 abbrev rest_of : {A : Type 0} → Reading A → List Symbol
 rest_of (Ok (a, ts)) = ts
@@ -50,68 +54,81 @@ both_first : {A : Type 0} (x : A) (mid : List Symbol) (o : Reading (List A)) →
 both_first x mid (Ok (ys, ts)) = refl
 both_first x mid (Err f) = refl
 
-targets_by : (s : Scope) (n : List ℕ) (t c : Symbol) (us : List Symbol) (b : Bool) → target s (t ∷ c ∷ us) ≡ Ok (n, c ∷ us) → (if b then both ◌∷◌ (target s (t ∷ c ∷ us)) (targets s us) else mapped (λ n. n ∷ []) (target s (t ∷ c ∷ us))) ≡ mapped (λ ns. n ∷ ns) (more_targets s (c ∷ us) b)
+targets_by : (s : Scope) (n : List ℕ) (t c : Symbol) (us : List Symbol) (b : Bool) → target s (t ∷ c ∷ us) ≡ Ok (n, c ∷ us)
+    → (if b then both ◌∷◌ (target s (t ∷ c ∷ us)) (targets s us) else mapped (λ n. n ∷ []) (target s (t ∷ c ∷ us))) ≡ mapped (λ ns. n ∷ ns)
+    (targets_behind s (c ∷ us) b)
 targets_by s n t c us true e = ap (λ o. both ◌∷◌ o (targets s us)) e ∙ both_first n (c ∷ us) (targets s us)
 targets_by s n t c us false e = ap (mapped (λ n. n ∷ [])) e
 
-pub targets_step : (s : Scope) (ts r : List Symbol) (n : List ℕ) → target s ts ≡ Ok (n, r) → targets s ts ≡ mapped (λ ns. n ∷ ns) (more_targets s r (is_comma (next r).kind))
+pub targets_step : (s : Scope) (ts r : List Symbol) (n : List ℕ) → target s ts ≡ Ok (n, r) → targets s ts ≡ mapped (λ ns. n ∷ ns)
+    (targets_behind s r (next_is expected.Comma r))
 targets_step s [] r n e = cc
 targets_step s (t ∷ []) r n e =
-    let is = target_rest s t [] r n e in
-    subst (λ x. targets s (t ∷ []) ≡ mapped (λ ns. n ∷ ns) (more_targets s x (is_comma (next x).kind))) is (ap (mapped (λ n. n ∷ [])) (e ∙ ap (λ x. Ok (n, x)) (sym is)))
+    let same = target_rest s t [] r n e in
+    subst (λ x. targets s (t ∷ []) ≡ mapped (λ ns. n ∷ ns) (targets_behind s x (next_is expected.Comma x))) same
+    (ap (mapped (λ n. n ∷ [])) (e ∙ ap (λ x. Ok (n, x)) (sym same)))
 targets_step s (t ∷ c ∷ us) r n e =
-    let is = target_rest s t (c ∷ us) r n e in
-    subst (λ x. targets s (t ∷ c ∷ us) ≡ mapped (λ ns. n ∷ ns) (more_targets s x (is_comma (next x).kind))) is (targets_by s n t c us (is_comma c.kind) (e ∙ ap (λ x. Ok (n, x)) (sym is)))
+    let same = target_rest s t (c ∷ us) r n e in
+    subst (λ x. targets s (t ∷ c ∷ us) ≡ mapped (λ ns. n ∷ ns) (targets_behind s x (next_is expected.Comma x))) same
+    (targets_by s n t c us (is expected.Comma c.kind) (e ∙ ap (λ x. Ok (n, x)) (sym same)))
 
-targets_err : (s : Scope) (ts : List Symbol) (f : OrcFault) (b : Bool) → target s ts ≡ Err f → (if b then both ◌∷◌ (target s ts) (targets s (after (after ts))) else mapped (λ n. n ∷ []) (target s ts)) ≡ Err f
+targets_err : (s : Scope) (ts : List Symbol) (f : OrcFault) (b : Bool) → target s ts ≡ Err f
+    → (if b then both ◌∷◌ (target s ts) (targets s (after (after ts))) else mapped (λ n. n ∷ []) (target s ts)) ≡ Err f
 targets_err s ts f true e = ap (λ o. both ◌∷◌ o (targets s (after (after ts)))) e
 targets_err s ts f false e = ap (mapped (λ n. n ∷ [])) e
 
 pub targets_fail : (s : Scope) (ts : List Symbol) (f : OrcFault) → target s ts ≡ Err f → targets s ts ≡ Err f
 targets_fail s [] f e = ap (mapped (λ n. n ∷ [])) e
 targets_fail s (t ∷ []) f e = ap (mapped (λ n. n ∷ [])) e
-targets_fail s (t ∷ c ∷ us) f e = targets_err s (t ∷ c ∷ us) f (is_comma c.kind) e
+targets_fail s (t ∷ c ∷ us) f e = targets_err s (t ∷ c ∷ us) f (is expected.Comma c.kind) e
 
 -- the names that were read so far, and what follows them
 abbrev pub TargetsSoFar : Scope → List Symbol → List (List ℕ) → List Symbol → Type 0
-TargetsSoFar s old ns now = targets s old ≡ prefixed ns (more_targets s now (is_comma (next now).kind))
+TargetsSoFar s old ns now = targets s old ≡ prefixed ns (targets_behind s now (next_is expected.Comma now))
 
 pub targets_begun : (s : Scope) (old now : List Symbol) (n : List ℕ) → target s old ≡ Ok (n, now) → TargetsSoFar s old (n ∷ []) now
 targets_begun s old now n e = targets_step s old now n e
 
-pub targets_more : (s : Scope) (old mid now : List Symbol) (ns : List (List ℕ)) (n : List ℕ) → TargetsSoFar s old ns mid → is_comma (next mid).kind ≡ true → target s (after mid) ≡ Ok (n, now) → TargetsSoFar s old (ns ++ n ∷ []) now
+pub targets_more : (s : Scope) (old mid now : List Symbol) (ns : List (List ℕ)) (n : List ℕ) → TargetsSoFar s old ns mid → next_is expected.Comma mid ≡ true
+    → target s (after mid) ≡ Ok (n, now) → TargetsSoFar s old (ns ++ n ∷ []) now
 targets_more s old mid now ns n h c e =
-    h ∙ ap (λ b. prefixed ns (more_targets s mid b)) c ∙ ap (prefixed ns) (targets_step s (after mid) now n e) ∙ prefixed_more ns n (more_targets s now (is_comma (next now).kind))
+    h ∙ ap (λ b. prefixed ns (targets_behind s mid b)) c ∙ ap (prefixed ns) (targets_step s (after mid) now n e)
+    ∙ prefixed_more ns n (targets_behind s now (next_is expected.Comma now))
 
-pub targets_more_fail : (s : Scope) (old mid : List Symbol) (ns : List (List ℕ)) (f : OrcFault) → TargetsSoFar s old ns mid → is_comma (next mid).kind ≡ true → target s (after mid) ≡ Err f → targets s old ≡ Err f
-targets_more_fail s old mid ns f h c e = h ∙ ap (λ b. prefixed ns (more_targets s mid b)) c ∙ ap (prefixed ns) (targets_fail s (after mid) f e)
+pub targets_more_fail : (s : Scope) (old mid : List Symbol) (ns : List (List ℕ)) (f : OrcFault) → TargetsSoFar s old ns mid
+    → next_is expected.Comma mid ≡ true → target s (after mid) ≡ Err f → targets s old ≡ Err f
+targets_more_fail s old mid ns f h c e = h ∙ ap (λ b. prefixed ns (targets_behind s mid b)) c ∙ ap (prefixed ns) (targets_fail s (after mid) f e)
 
-pub targets_done : (s : Scope) (old now : List Symbol) (ns : List (List ℕ)) → TargetsSoFar s old ns now → is_comma (next now).kind ≡ false → targets s old ≡ Ok (ns, now)
-targets_done s old now ns h c = h ∙ ap (λ b. prefixed ns (more_targets s now b)) c ∙ ap (λ x. Ok (x, now)) (append-nil ns)
+pub targets_done : (s : Scope) (old now : List Symbol) (ns : List (List ℕ)) → TargetsSoFar s old ns now → next_is expected.Comma now ≡ false
+    → targets s old ≡ Ok (ns, now)
+targets_done s old now ns h c = h ∙ ap (λ b. prefixed ns (targets_behind s now b)) c ∙ ap (λ x. Ok (x, now)) (append-nil ns)
 
 -- ---- arguments
 
-pub record ListSoFar (s : Scope) (old : List Symbol) (xs : List Argument) (now : List Symbol) : Type 0 where
-  pub more : is_comma (next now).kind ≡ true → (out : Reading (List Argument)) → ReadsList s (Ok (after now)) out → ReadsList s (Ok old) (prefixed xs out)
-  pub last : is_comma (next now).kind ≡ false → ReadsList s (Ok old) (Ok (xs, now))
+pub record ListSoFar (s : Scope) (r : Role) (old : List Symbol) (xs : List Argument) (now : List Symbol) : Type 0 where
+  pub more : next_is expected.Comma now ≡ true → (out : Reading (List Argument)) → ReadsList s r (Ok (after now)) out → ReadsList s r (Ok old) (prefixed xs out)
+  pub last : next_is expected.Comma now ≡ false → ReadsList s r (Ok old) (Ok (xs, now))
 
-pub list_begun : (s : Scope) (old now : List Symbol) (x : Argument) → ReadsArg s old (Ok (x, now)) → ListSoFar s old (x ∷ []) now
-list_begun s old now x h = record {
-  more = λ c out k. subst (ReadsList s (Ok old)) (both_first x now out) (list_more h c k);
+pub list_begun : (s : Scope) (r : Role) (old now : List Symbol) (x : Argument) → ReadsArg s r old (Ok (x, now)) → ListSoFar s r old (x ∷ []) now
+list_begun s r old now x h = record {
+  more = λ c out k. subst (ReadsList s r (Ok old)) (both_first x now out) (list_more h c k);
   last = λ c. list_last h c;
 }
 
-pub list_grown : (s : Scope) (old mid now : List Symbol) (xs : List Argument) (x : Argument) → ListSoFar s old xs mid → is_comma (next mid).kind ≡ true → ReadsArg s (after mid) (Ok (x, now)) → ListSoFar s old (xs ++ x ∷ []) now
-list_grown s old mid now xs x l c h = record {
-  more = λ d out k. subst (ReadsList s (Ok old)) (ap (prefixed xs) (both_first x now out) ∙ prefixed_more xs x out) (l.more c (both ◌∷◌ (Ok (x, now)) out) (list_more h d k));
+pub list_grown : (s : Scope) (r : Role) (old mid now : List Symbol) (xs : List Argument) (x : Argument) → ListSoFar s r old xs mid
+    → next_is expected.Comma mid ≡ true → ReadsArg s r (after mid) (Ok (x, now)) → ListSoFar s r old (xs ++ x ∷ []) now
+list_grown s r old mid now xs x l c h = record {
+  more = λ d out k. subst (ReadsList s r (Ok old)) (ap (prefixed xs) (both_first x now out) ∙ prefixed_more xs x out)
+      (l.more c (both ◌∷◌ (Ok (x, now)) out) (list_more h d k));
   last = λ d. l.more c (Ok (x ∷ [], now)) (list_last h d);
 }
 
-pub list_fails : (s : Scope) (ts : List Symbol) (f : OrcFault) → ReadsArg s ts (Err f) → ReadsList s (Ok ts) (Err f)
-list_fails s ts f h = list_last h refl
+pub list_fails : (s : Scope) (r : Role) (ts : List Symbol) (f : OrcFault) → ReadsArg s r ts (Err f) → ReadsList s r (Ok ts) (Err f)
+list_fails s r ts f h = list_last h refl
 
-pub list_grown_fails : (s : Scope) (old mid : List Symbol) (xs : List Argument) (f : OrcFault) → ListSoFar s old xs mid → is_comma (next mid).kind ≡ true → ReadsArg s (after mid) (Err f) → ReadsList s (Ok old) (Err f)
-list_grown_fails s old mid xs f l c h = l.more c (Err f) (list_last h refl)
+pub list_grown_fails : (s : Scope) (r : Role) (old mid : List Symbol) (xs : List Argument) (f : OrcFault) → ListSoFar s r old xs mid
+    → next_is expected.Comma mid ≡ true → ReadsArg s r (after mid) (Err f) → ReadsList s r (Ok old) (Err f)
+list_grown_fails s r old mid xs f l c h = l.more c (Err f) (list_last h refl)
 
 -- ---- numbers
 
@@ -132,43 +149,55 @@ number_rest : (s : Scope) (given : List ℕ) (t : Symbol) (ts r : List Symbol) (
 number_rest s given t ts r n (kind.Number v) e = fresh_rest given t ts r (instrument_number v) n e
 number_rest s given t ts r n _ e = cc
 
-numbers_by : (s : Scope) (given : List ℕ) (n : ℕ) (t c : Symbol) (us : List Symbol) (b : Bool) → one_number s given (t ∷ c ∷ us) ≡ Ok (n, c ∷ us) → (if b then more_numbers (one_number s given (t ∷ c ∷ us)) (λ n. numbers s (given ++ n ∷ []) us) else mapped (λ n. n ∷ []) (one_number s given (t ∷ c ∷ us))) ≡ mapped (λ ns. n ∷ ns) (rest_numbers s (given ++ n ∷ []) (c ∷ us) b)
-numbers_by s given n t c us true e = ap (λ o. more_numbers o (λ n. numbers s (given ++ n ∷ []) us)) e
+numbers_by : (s : Scope) (given : List ℕ) (n : ℕ) (t c : Symbol) (us : List Symbol) (b : Bool) → one_number s given (t ∷ c ∷ us) ≡ Ok (n, c ∷ us)
+    → (if b then numbers_behind (one_number s given (t ∷ c ∷ us)) (λ n. numbers s (given ++ n ∷ []) us) else mapped (λ n. n ∷ [])
+    (one_number s given (t ∷ c ∷ us))) ≡ mapped (λ ns. n ∷ ns) (rest_numbers s (given ++ n ∷ []) (c ∷ us) b)
+numbers_by s given n t c us true e = ap (λ o. numbers_behind o (λ n. numbers s (given ++ n ∷ []) us)) e
 numbers_by s given n t c us false e = ap (mapped (λ n. n ∷ [])) e
 
-numbers_step : (s : Scope) (given : List ℕ) (ts r : List Symbol) (n : ℕ) → one_number s given ts ≡ Ok (n, r) → numbers s given ts ≡ mapped (λ ns. n ∷ ns) (rest_numbers s (given ++ n ∷ []) r (is_comma (next r).kind))
+numbers_step : (s : Scope) (given : List ℕ) (ts r : List Symbol) (n : ℕ) → one_number s given ts ≡ Ok (n, r)
+    → numbers s given ts ≡ mapped (λ ns. n ∷ ns) (rest_numbers s (given ++ n ∷ []) r (next_is expected.Comma r))
 numbers_step s given [] r n e = cc
 numbers_step s given (t ∷ []) r n e =
-    let is = number_rest s given t [] r n t.kind e in
-    subst (λ x. numbers s given (t ∷ []) ≡ mapped (λ ns. n ∷ ns) (rest_numbers s (given ++ n ∷ []) x (is_comma (next x).kind))) is (ap (mapped (λ n. n ∷ [])) (e ∙ ap (λ x. Ok (n, x)) (sym is)))
+    let same = number_rest s given t [] r n t.kind e in
+    subst (λ x. numbers s given (t ∷ []) ≡ mapped (λ ns. n ∷ ns) (rest_numbers s (given ++ n ∷ []) x (next_is expected.Comma x))) same
+    (ap (mapped (λ n. n ∷ [])) (e ∙ ap (λ x. Ok (n, x)) (sym same)))
 numbers_step s given (t ∷ c ∷ us) r n e =
-    let is = number_rest s given t (c ∷ us) r n t.kind e in
-    subst (λ x. numbers s given (t ∷ c ∷ us) ≡ mapped (λ ns. n ∷ ns) (rest_numbers s (given ++ n ∷ []) x (is_comma (next x).kind))) is (numbers_by s given n t c us (is_comma c.kind) (e ∙ ap (λ x. Ok (n, x)) (sym is)))
+    let same = number_rest s given t (c ∷ us) r n t.kind e in
+    subst (λ x. numbers s given (t ∷ c ∷ us) ≡ mapped (λ ns. n ∷ ns) (rest_numbers s (given ++ n ∷ []) x (next_is expected.Comma x))) same
+    (numbers_by s given n t c us (is expected.Comma c.kind) (e ∙ ap (λ x. Ok (n, x)) (sym same)))
 
-numbers_err : (s : Scope) (given : List ℕ) (ts us : List Symbol) (f : OrcFault) (b : Bool) → one_number s given ts ≡ Err f → (if b then more_numbers (one_number s given ts) (λ n. numbers s (given ++ n ∷ []) us) else mapped (λ n. n ∷ []) (one_number s given ts)) ≡ Err f
-numbers_err s given ts us f true e = ap (λ o. more_numbers o (λ n. numbers s (given ++ n ∷ []) us)) e
+numbers_err : (s : Scope) (given : List ℕ) (ts us : List Symbol) (f : OrcFault) (b : Bool) → one_number s given ts ≡ Err f
+    → (if b then numbers_behind (one_number s given ts) (λ n. numbers s (given ++ n ∷ []) us) else mapped (λ n. n ∷ []) (one_number s given ts)) ≡ Err f
+numbers_err s given ts us f true e = ap (λ o. numbers_behind o (λ n. numbers s (given ++ n ∷ []) us)) e
 numbers_err s given ts us f false e = ap (mapped (λ n. n ∷ [])) e
 
 pub numbers_fail : (s : Scope) (given : List ℕ) (ts : List Symbol) (f : OrcFault) → one_number s given ts ≡ Err f → numbers s given ts ≡ Err f
 numbers_fail s given [] f e = ap (mapped (λ n. n ∷ [])) e
 numbers_fail s given (t ∷ []) f e = ap (mapped (λ n. n ∷ [])) e
-numbers_fail s given (t ∷ c ∷ us) f e = numbers_err s given (t ∷ c ∷ us) us f (is_comma c.kind) e
+numbers_fail s given (t ∷ c ∷ us) f e = numbers_err s given (t ∷ c ∷ us) us f (is expected.Comma c.kind) e
 
 -- the numbers that were read so far, all of them given now, and what follows them
 abbrev pub NumbersSoFar : Scope → List ℕ → List Symbol → List ℕ → List ℕ → List Symbol → Type 0
-NumbersSoFar s first old ns given now = numbers s first old ≡ prefixed ns (rest_numbers s given now (is_comma (next now).kind))
+NumbersSoFar s first old ns given now = numbers s first old ≡ prefixed ns (rest_numbers s given now (next_is expected.Comma now))
 
-pub numbers_begun : (s : Scope) (first : List ℕ) (old now : List Symbol) (n : ℕ) → one_number s first old ≡ Ok (n, now) → NumbersSoFar s first old (n ∷ []) (first ++ n ∷ []) now
+pub numbers_begun : (s : Scope) (first : List ℕ) (old now : List Symbol) (n : ℕ) → one_number s first old ≡ Ok (n, now)
+    → NumbersSoFar s first old (n ∷ []) (first ++ n ∷ []) now
 numbers_begun s first old now n e = numbers_step s first old now n e
 
-pub numbers_more : (s : Scope) (first given : List ℕ) (old mid now : List Symbol) (ns : List ℕ) (n : ℕ) → NumbersSoFar s first old ns given mid → is_comma (next mid).kind ≡ true → one_number s given (after mid) ≡ Ok (n, now) → NumbersSoFar s first old (ns ++ n ∷ []) (given ++ n ∷ []) now
+pub numbers_more : (s : Scope) (first given : List ℕ) (old mid now : List Symbol) (ns : List ℕ) (n : ℕ) → NumbersSoFar s first old ns given mid
+    → next_is expected.Comma mid ≡ true → one_number s given (after mid) ≡ Ok (n, now) → NumbersSoFar s first old (ns ++ n ∷ []) (given ++ n ∷ []) now
 numbers_more s first given old mid now ns n h c e =
-    h ∙ ap (λ b. prefixed ns (rest_numbers s given mid b)) c ∙ ap (prefixed ns) (numbers_step s given (after mid) now n e) ∙ prefixed_more ns n (rest_numbers s (given ++ n ∷ []) now (is_comma (next now).kind))
+    h ∙ ap (λ b. prefixed ns (rest_numbers s given mid b)) c ∙ ap (prefixed ns) (numbers_step s given (after mid) now n e)
+    ∙ prefixed_more ns n (rest_numbers s (given ++ n ∷ []) now (next_is expected.Comma now))
 
-pub numbers_more_fail : (s : Scope) (first given : List ℕ) (old mid : List Symbol) (ns : List ℕ) (f : OrcFault) → NumbersSoFar s first old ns given mid → is_comma (next mid).kind ≡ true → one_number s given (after mid) ≡ Err f → numbers s first old ≡ Err f
-numbers_more_fail s first given old mid ns f h c e = h ∙ ap (λ b. prefixed ns (rest_numbers s given mid b)) c ∙ ap (prefixed ns) (numbers_fail s given (after mid) f e)
+pub numbers_more_fail : (s : Scope) (first given : List ℕ) (old mid : List Symbol) (ns : List ℕ) (f : OrcFault) → NumbersSoFar s first old ns given mid
+    → next_is expected.Comma mid ≡ true → one_number s given (after mid) ≡ Err f → numbers s first old ≡ Err f
+numbers_more_fail s first given old mid ns f h c e = h ∙ ap (λ b. prefixed ns (rest_numbers s given mid b)) c
+    ∙ ap (prefixed ns) (numbers_fail s given (after mid) f e)
 
-pub numbers_done : (s : Scope) (first given : List ℕ) (old now : List Symbol) (ns : List ℕ) → NumbersSoFar s first old ns given now → is_comma (next now).kind ≡ false → numbers s first old ≡ Ok (ns, now)
+pub numbers_done : (s : Scope) (first given : List ℕ) (old now : List Symbol) (ns : List ℕ) → NumbersSoFar s first old ns given now
+    → next_is expected.Comma now ≡ false → numbers s first old ≡ Ok (ns, now)
 numbers_done s first given old now ns h c = h ∙ ap (λ b. prefixed ns (rest_numbers s given now b)) c ∙ ap (λ x. Ok (x, now)) (append-nil ns)
 
 -- ---- lists in the code's tree
@@ -177,6 +206,7 @@ map_snoc : (xs : List Arg) (x : Arg) → map argument (xs ++ x ∷ []) ≡ map a
 map_snoc [] x = refl
 map_snoc (y ∷ xs) x = ap (λ zs. argument y ∷ zs) (map_snoc xs x)
 
-pub args_grown : (s : Scope) (old mid now : List Symbol) (xs : List Arg) (x : Arg) → ListSoFar s old (map argument xs) mid → is_comma (next mid).kind ≡ true → ReadsArg s (after mid) (Ok (argument x, now)) → ListSoFar s old (map argument (xs ++ x ∷ [])) now
-args_grown s old mid now xs x l c h =
-    subst (λ zs. ListSoFar s old zs now) (sym (map_snoc xs x)) (list_grown s old mid now (map argument xs) (argument x) l c h)
+pub args_grown : (s : Scope) (r : Role) (old mid now : List Symbol) (xs : List Arg) (x : Arg) → ListSoFar s r old (map argument xs) mid
+    → next_is expected.Comma mid ≡ true → ReadsArg s r (after mid) (Ok (argument x, now)) → ListSoFar s r old (map argument (xs ++ x ∷ [])) now
+args_grown s r old mid now xs x l c h =
+    subst (λ zs. ListSoFar s r old zs now) (sym (map_snoc xs x)) (list_grown s r old mid now (map argument xs) (argument x) l c h)

@@ -1,8 +1,8 @@
 -- Steps of the parser over lists of symbols.
 use Rattle.std.proofs.Common.{◌≡◌, ◌+◌, ◌∙◌, ℕ, List, [], ◌∷◌, drop, refl, sym}
 use Rattle.std.proofs.lemmas.List.{drop-drop}
-use Rattle.cs_grammar.specs.Symbols.{Symbol}
 use Rattle.cs_grammar.specs.Reading.{after}
+use Rattle.cs_grammar.specs.Symbols.{Symbol}
 
 drop_one : (ts : List Symbol) → drop 1 ts ≡ after ts
 drop_one [] = refl

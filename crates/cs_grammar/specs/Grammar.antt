@@ -1,10 +1,14 @@
 use Rattle.std.specs.Prelude.{ℕ, Bool, true, false, List, [], ◌∷◌, ◌≡◌, ◌||◌, nat_lt, if◌then◌else◌, Some, None, Ok, Err}
 use Rattle.cs_base.specs.declared.fault.OrcFault.{OrcFault}
 use Rattle.cs_base.specs.declared.fault.OrcKind.TheVariants as orc
-use Rattle.cs_grammar.specs.declared.tree.BinOp.{BinOp}
-use Rattle.cs_grammar.specs.declared.tree.Func.{Func}
+use Rattle.cs_words.specs.declared.sign.BinOp.{BinOp}
+use Rattle.cs_words.specs.declared.sign.Sign.TheVariants as sign
+use Rattle.cs_words.specs.declared.word.Func.{Func}
 use Rattle.cs_grammar.specs.declared.symbol.Kind.{Kind}
 use Rattle.cs_grammar.specs.declared.symbol.Kind.TheVariants as kind
+use Rattle.cs_grammar.specs.declared.symbol.Expected.TheVariants as expected
+use Rattle.cs_grammar.specs.declared.lists.Role.{Role}
+use Rattle.cs_grammar.specs.declared.lists.Role.TheVariants as role
 use Rattle.cs_grammar.specs.declared.scope.Place.{Place}
 use Rattle.cs_grammar.specs.declared.scope.Place.TheVariants as place
 use Rattle.cs_grammar.specs.declared.expr.Level.{Level}
@@ -12,10 +16,12 @@ use Rattle.cs_grammar.specs.declared.expr.Level.TheVariants as level
 use Rattle.cs_grammar.specs.declared.expr.PartForm.TheVariants as part
 use Rattle.cs_grammar.specs.declared.stmt.LineForm.TheVariants as form
 use Rattle.cs_grammar.specs.Symbols.{Symbol}
-use Rattle.cs_grammar.specs.Tree.{Expression, neg, pair, pick, apply, Argument, value, text, Statement, set, add_to, call, choose, Block, no_stmt, andthen, Arms, otherwise, arm}
-use Rattle.cs_grammar.specs.Reading.{next, after, Left, Reading, left, mapped, both, three, skip, meets, is_comma, is_close, is_question, is_colon, is_text, is_then, is_elseif, is_else, is_endif, is_endin, is_endop, is_xout, ends_line, Scope, deeper, fault, through, ended}
+use Rattle.cs_grammar.specs.Tree.{Expression, neg, pair, pick, apply, Argument, value, text, Statement, set, add_to, call, choose, Block, no_stmt, andthen}
+use Rattle.cs_grammar.specs.Tree.{Arms, otherwise, arm}
+use Rattle.cs_grammar.specs.Reading.{next, after, Left, Reading, left, mapped, both, three, skip, next_is, meets, Scope, deeper, fault, misfit, through, ended}
+use Rattle.cs_grammar.specs.Kinds.{is, ends_line}
 use Rattle.cs_grammar.specs.Parts.{tighter, repeats, operator, part_form, atom}
-use Rattle.cs_grammar.specs.Lines.{line_form, misplaced_fault, target, targets, operation}
+use Rattle.cs_grammar.specs.Lines.{line_form, target, ReadsTargets, operation}
 
 -- The grammar, by its cases. Each relation is between what is left of a text and the reading of it: the tree and what
 -- is then left, or the first fault. Each rule is one case; a fault ends the reading of every part that would follow.
@@ -30,14 +36,14 @@ mutual
         → ReadsExpr s level.Fact (Ok (after ts)) o → ReadsExpr s level.Fact (Ok ts) (mapped neg o)
     fact_call : {ts : List Symbol} {f : Func} {o : Reading Expression} → part_form ts ≡ part.Function f
         → ReadsExpr s level.Expr (Ok (after (after ts))) o
-        → ReadsExpr s level.Fact (Ok ts) (through s is_close (mapped (apply f) o))
+        → ReadsExpr s level.Fact (Ok ts) (through s expected.Close (mapped (apply f) o))
     fact_group : {ts : List Symbol} {o : Reading Expression} → part_form ts ≡ part.Bracket
-        → ReadsExpr s level.Expr (Ok (after ts)) o → meets is_question (left o) ≡ false
-        → ReadsExpr s level.Fact (Ok ts) (through s is_close o)
+        → ReadsExpr s level.Expr (Ok (after ts)) o → meets expected.Question (left o) ≡ false
+        → ReadsExpr s level.Fact (Ok ts) (through s expected.Close o)
     fact_pick : {ts : List Symbol} {c a b : Reading Expression} → part_form ts ≡ part.Bracket
-        → ReadsExpr s level.Expr (Ok (after ts)) c → meets is_question (left c) ≡ true
-        → ReadsExpr s level.Expr (skip (left c)) a → ReadsExpr s level.Expr (left (through s is_colon a)) b
-        → ReadsExpr s level.Fact (Ok ts) (through s is_close (three pick c a b))
+        → ReadsExpr s level.Expr (Ok (after ts)) c → meets expected.Question (left c) ≡ true
+        → ReadsExpr s level.Expr (skip (left c)) a → ReadsExpr s level.Expr (left (through s expected.Colon a)) b
+        → ReadsExpr s level.Fact (Ok ts) (through s expected.Close (three pick c a b))
     fact_alone : {ts : List Symbol} → part_form ts ≡ part.Alone → ReadsExpr s level.Fact (Ok ts) (atom s ts)
 
   -- the operators of a level, and their right sides, grouped to the left
@@ -50,41 +56,44 @@ mutual
         → repeats l ≡ false → tighter l ≡ Some m → ReadsExpr s m (skip (left o)) b
         → ReadsTail s l o (both (pair op) o b)
 
--- arg
-pub data ReadsArg (s : Scope) : List Symbol → Reading Argument → Type 0 where
-  arg_text : {ts : List Symbol} → is_text (next ts).kind ≡ true
-      → ReadsArg s ts (Ok (text (next ts).text, after ts))
-  arg_value : {ts : List Symbol} {o : Reading Expression} → is_text (next ts).kind ≡ false
-      → ReadsExpr s level.Expr (Ok ts) o → ReadsArg s ts (mapped value o)
+-- arg: no text may be a result of a definition
+pub data ReadsArg (s : Scope) : Role → List Symbol → Reading Argument → Type 0 where
+  arg_text : {ts : List Symbol} → next_is expected.Text ts ≡ true
+      → ReadsArg s role.Argument ts (Ok (text (next ts).text, after ts))
+  text_result : {ts : List Symbol} → next_is expected.Text ts ≡ true
+      → ReadsArg s role.Result ts (Err (fault ts orc.XinXout))
+  arg_value : {r : Role} {ts : List Symbol} {o : Reading Expression} → next_is expected.Text ts ≡ false
+      → ReadsExpr s level.Expr (Ok ts) o → ReadsArg s r ts (mapped value o)
 
 -- args
-pub data ReadsList (s : Scope) : Left → Reading (List Argument) → Type 0 where
-  list_stop : {f : OrcFault} → ReadsList s (Err f) (Err f)
-  list_last : {ts : List Symbol} {o : Reading Argument} → ReadsArg s ts o → meets is_comma (left o) ≡ false
-      → ReadsList s (Ok ts) (mapped (λ a. a ∷ []) o)
-  list_more : {ts : List Symbol} {o : Reading Argument} {out : Reading (List Argument)} → ReadsArg s ts o
-      → meets is_comma (left o) ≡ true → ReadsList s (skip (left o)) out
-      → ReadsList s (Ok ts) (both ◌∷◌ o out)
+pub data ReadsList (s : Scope) (r : Role) : Left → Reading (List Argument) → Type 0 where
+  list_stop : {f : OrcFault} → ReadsList s r (Err f) (Err f)
+  list_last : {ts : List Symbol} {o : Reading Argument} → ReadsArg s r ts o → meets expected.Comma (left o) ≡ false
+      → ReadsList s r (Ok ts) (mapped (λ a. a ∷ []) o)
+  list_more : {ts : List Symbol} {o : Reading Argument} {out : Reading (List Argument)} → ReadsArg s r ts o
+      → meets expected.Comma (left o) ≡ true → ReadsList s r (skip (left o)) out
+      → ReadsList s r (Ok ts) (both ◌∷◌ o out)
 
 -- [ args ], up to the end of the line
 pub data ReadsArgs (s : Scope) : Left → Reading (List Argument) → Type 0 where
   args_stop : {f : OrcFault} → ReadsArgs s (Err f) (Err f)
   args_none : {ts : List Symbol} → ends_line (next ts).kind ≡ true → ReadsArgs s (Ok ts) (Ok ([], ts))
   args_some : {ts : List Symbol} {out : Reading (List Argument)} → ends_line (next ts).kind ≡ false
-      → ReadsList s (Ok ts) out → ReadsArgs s (Ok ts) out
+      → ReadsList s role.Argument (Ok ts) out → ReadsArgs s (Ok ts) out
 
 -- what ends the statements of an `if`, an instrument or a definition
 abbrev pub ends_part : Place → Kind → Bool
 ends_part place.Outside k = false
-ends_part place.Instrument k = is_endin k
-ends_part place.Definition k = is_endop k || is_xout k
+ends_part place.Instrument k = is expected.Endin k
+ends_part place.Definition k = is expected.Endop k || is expected.Xout k
 
 abbrev pub ends_block : Scope → Kind → Bool
-ends_block s k = if nat_lt 0 s.depth then is_elseif k || is_else k || is_endif k else ends_part s.place k
+ends_block s k =
+    if nat_lt 0 s.depth then is expected.Elseif k || is expected.Else k || is expected.Endif k else ends_part s.place k
 
 -- `name = expr`, or `name += expr`, by its sign
 abbrev pub assign : ℕ → Kind → List ℕ → Expression → Statement
-assign line kind.PlusEquals name e = add_to line name e
+assign line (kind.Sign sign.PlusEquals) name e = add_to line name e
 assign line _ name e = set line name e
 
 -- stmt, and the statements and arms in it
@@ -93,9 +102,9 @@ mutual
     stmt_assign : {s : Scope} {ts : List Symbol} {e : Reading Expression} → line_form s ts ≡ form.Assignment
         → ReadsExpr s level.Expr (skip (left (target s ts))) e
         → ReadsStmt s ts (ended s (both (assign (next ts).line (next (after ts)).kind) (target s ts) e))
-    stmt_results : {s : Scope} {ts : List Symbol} {args : Reading (List Argument)}
-        → line_form s ts ≡ form.Results → ReadsArgs s (left (operation s (left (targets s ts)))) args
-        → ReadsStmt s ts (ended s (three (call (next ts).line) (targets s ts) (operation s (left (targets s ts))) args))
+    stmt_results : {s : Scope} {ts : List Symbol} {names : Reading (List (List ℕ))} {args : Reading (List Argument)}
+        → line_form s ts ≡ form.Results → ReadsTargets s ts names → ReadsArgs s (left (operation s (left names))) args
+        → ReadsStmt s ts (ended s (three (call (next ts).line) names (operation s (left names)) args))
     stmt_bare : {s : Scope} {ts : List Symbol} {args : Reading (List Argument)} → line_form s ts ≡ form.Bare
         → ReadsArgs s (left (operation s (Ok ts))) args
         → ReadsStmt s ts (ended s (both (call (next ts).line []) (operation s (Ok ts)) args))
@@ -105,7 +114,7 @@ mutual
     stmt_beyond : {s : Scope} {ts : List Symbol} → line_form s ts ≡ form.Beyond
         → ReadsStmt s ts (Err (fault ts orc.NotInProfile))
     stmt_misplaced : {s : Scope} {ts : List Symbol} → line_form s ts ≡ form.Misplaced
-        → ReadsStmt s ts (Err (misplaced_fault s ts (next ts).kind))
+        → ReadsStmt s ts (Err (misfit s orc.Unexpected ts))
 
   -- { stmt }
   pub data ReadsBlock : Scope → Left → Reading Block → Type 0 where
@@ -119,17 +128,17 @@ mutual
   -- after `if` or `elseif`: expr "then" NewLine { stmt }, and what follows
   pub data ReadsArms : Scope → Left → Reading Arms → Type 0 where
     arm_more : {s : Scope} {st : Left} {c : Reading Expression} {body : Reading Block} {rest : Reading Arms}
-        → ReadsExpr s level.Expr st c → ReadsBlock s (left (ended s (through s is_then c))) body
+        → ReadsExpr s level.Expr st c → ReadsBlock s (left (ended s (through s expected.Then c))) body
         → ReadsMore s (left body) rest → ReadsArms s st (three arm c body rest)
 
   -- { "elseif" .. } [ "else" NewLine { stmt } ] "endif"
   pub data ReadsMore : Scope → Left → Reading Arms → Type 0 where
     more_stop : {s : Scope} {f : OrcFault} → ReadsMore s (Err f) (Err f)
-    more_elseif : {s : Scope} {ts : List Symbol} {out : Reading Arms} → is_elseif (next ts).kind ≡ true
+    more_elseif : {s : Scope} {ts : List Symbol} {out : Reading Arms} → next_is expected.Elseif ts ≡ true
         → ReadsArms s (Ok (after ts)) out → ReadsMore s (Ok ts) out
-    more_else : {s : Scope} {ts : List Symbol} {body : Reading Block} → is_elseif (next ts).kind ≡ false
-        → is_else (next ts).kind ≡ true → ReadsBlock s (left (ended s (Ok (no_stmt, after ts)))) body
-        → ReadsMore s (Ok ts) (through s is_endif (mapped otherwise body))
-    more_endif : {s : Scope} {ts : List Symbol} → is_elseif (next ts).kind ≡ false
-        → is_else (next ts).kind ≡ false
-        → ReadsMore s (Ok ts) (through s is_endif (Ok (otherwise no_stmt, ts)))
+    more_else : {s : Scope} {ts : List Symbol} {body : Reading Block} → next_is expected.Elseif ts ≡ false
+        → next_is expected.Else ts ≡ true → ReadsBlock s (left (ended s (Ok (no_stmt, after ts)))) body
+        → ReadsMore s (Ok ts) (through s expected.Endif (mapped otherwise body))
+    more_endif : {s : Scope} {ts : List Symbol} → next_is expected.Elseif ts ≡ false
+        → next_is expected.Else ts ≡ false
+        → ReadsMore s (Ok ts) (through s expected.Endif (Ok (otherwise no_stmt, ts)))

@@ -1,20 +1,51 @@
-use Rattle.std.specs.Prelude.{ℕ, Bool, false, List, [], ◌∷◌, ◌==◌, ◌&&◌, length}
-use Rattle.std.specs.List.{list_all}
+use Rattle.std.specs.Prelude.{ℕ, Bool, true, false, List, [], ◌∷◌, ◌≡◌, ◌≢◌, ◌&&◌, not, map, Ok, Err}
+use Rattle.std.specs.List.{All, AllPairs}
+use Rattle.cs_base.specs.declared.fault.OrcKind.TheVariants as orc
 use Rattle.cs_base.specs.declared.resource.Rate.{Rate}
+use Rattle.cs_words.specs.Names.{is_global, name_rate}
+use Rattle.cs_grammar.specs.declared.symbol.Expected.TheVariants as expected
 use Rattle.cs_grammar.specs.Symbols.{Symbol}
-use Rattle.cs_grammar.specs.Tree.{Argument}
-use Rattle.cs_grammar.specs.Reading.{Scope}
-use Rattle.cs_grammar.specs.Headings.{is_input, is_value}
+use Rattle.cs_grammar.specs.Kinds.{is, is_plain}
+use Rattle.cs_grammar.specs.Reading.{after, Reading, next_is, Scope, fault, ended}
+use Rattle.cs_grammar.specs.Parts.{is_variable, is_opcode}
+use Rattle.cs_grammar.specs.Headings.{Heading}
 
--- whether a symbol is the name of the first of these inputs, after others
-abbrev pub first_fits : Scope → List (List ℕ) → List Rate → Symbol → Bool
-first_fits s before [] t = false
-first_fits s before (r ∷ rs) t = is_input s before r t
+-- a word of the profile that is neither a keyword nor an opcode, one defined before among them
+abbrev pub is_free : Scope → Symbol → Bool
+is_free s t = is_plain t.kind && not (is_opcode s t t.kind)
 
-abbrev pub after_first : List Rate → List Rate
-after_first [] = []
-after_first (r ∷ rs) = rs
+-- A line of `xin`: free words with commas between them, and then `xin`. Its words, and what stands from `xin` on.
+pub data XinLine (s : Scope) : List Symbol → List Symbol → List Symbol → Type 0 where
+  one_word : {t : Symbol} {xin : List Symbol} → is_free s t ≡ true → next_is expected.Xin xin ≡ true
+      → XinLine s (t ∷ xin) (t ∷ []) xin
+  more_words : {t comma : Symbol} {ts words xin : List Symbol} → is_free s t ≡ true → is expected.Comma comma.kind ≡ true
+      → XinLine s ts words xin → XinLine s (t ∷ comma ∷ ts) (t ∷ words) xin
 
--- one value for each result
-abbrev pub are_results : List Argument → List Rate → Bool
-are_results args outs = length args == length outs && list_all is_value args
+-- a variable that each call has for itself
+abbrev pub is_local : Scope → Symbol → Bool
+is_local s t = is_variable s t && not (is_global t.text)
+
+abbrev pub texts : List Symbol → List (List ℕ)
+texts ts = map (λ t. t.text) ts
+
+-- none stands twice
+abbrev pub AreDifferent : {A : Type 0} → List A → Type 0
+AreDifferent xs = AllPairs (λ x y. x ≢ y) xs
+
+-- words that name the inputs: different local variables, one for each letter, of its rate
+pub record NameInputs (s : Scope) (ins : List Rate) (words : List Symbol) : Type 0 where
+  pub local : All (λ t. is_local s t ≡ true) words
+  pub rates : map name_rate (texts words) ≡ ins
+  pub different : AreDifferent (texts words)
+
+-- The first line of a definition: the names that take its inputs.
+pub data ReadsInputs (s : Scope) (h : Heading) (ts : List Symbol) : Reading (List (List ℕ)) → Type 0 where
+  named : {words xin : List Symbol} → XinLine s ts words xin → NameInputs s h.ins words
+      → ReadsInputs s h ts (ended s (Ok (texts words, after xin)))
+  misnamed : {words xin : List Symbol} → XinLine s ts words xin → (NameInputs s h.ins words → ⊥)
+      → ReadsInputs s h ts (Err (fault xin orc.XinXout))
+  xin_alone : next_is expected.Xin ts ≡ true → ReadsInputs s h ts (Err (fault ts orc.XinXout))
+  no_inputs : next_is expected.Xin ts ≡ false → ((words xin : List Symbol) → XinLine s ts words xin → ⊥) → h.ins ≡ []
+      → ReadsInputs s h ts (Ok ([], ts))
+  xin_missing : next_is expected.Xin ts ≡ false → ((words xin : List Symbol) → XinLine s ts words xin → ⊥) → h.ins ≢ []
+      → ReadsInputs s h ts (Err (record { line = h.line; kind = orc.XinXout }))

@@ -1,11 +1,12 @@
-pub mod Answers
 pub mod Grammar
 pub mod Headings
 pub mod Inputs
+pub mod Kinds
 pub mod Lines
 pub mod Orchestra
 pub mod Parts
 pub mod Reading
 pub mod Symbols
 pub mod Tree
-pub mod Words
+pub mod WellFormed
+pub mod inner

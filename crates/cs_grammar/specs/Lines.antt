@@ -1,42 +1,39 @@
-use Rattle.std.specs.Prelude.{ℕ, ℤ, pos, Bool, true, false, List, [], ◌∷◌, ◌++◌, ◌/◌, ◌%◌, ◌&&◌, ◌==◌, not, codes, Option, Some, None, Ok, Err, if◌then◌else◌, nat_le, nat_lt}
+use Rattle.std.specs.Prelude.{ℕ, ℤ, pos, Bool, true, false, List, [], ◌∷◌, ◌++◌, ◌≡◌, ◌/◌, ◌%◌, ◌&&◌, ◌==◌, not, codes, Option, Some, None, Ok, Err}
+use Rattle.std.specs.Prelude.{if◌then◌else◌, nat_le, nat_lt}
 use Rattle.std.specs.Str.{bytes_eq}
 use Rattle.cs_base.specs.declared.fault.OrcFault.{OrcFault}
 use Rattle.cs_base.specs.declared.fault.OrcKind.{OrcKind}
 use Rattle.cs_base.specs.declared.fault.OrcKind.TheVariants as orc
-use Rattle.cs_ir.specs.declared.catalogue.Opcode.TheVariants as opcode
-use Rattle.cs_grammar.specs.declared.tree.HeadName.{HeadName}
+use Rattle.cs_words.specs.declared.catalogue.Opcode.TheVariants as opcode
+use Rattle.cs_words.specs.declared.word.HeadName.{HeadName}
+use Rattle.cs_words.specs.declared.word.Keyword.TheVariants as key
+use Rattle.cs_words.specs.declared.word.Word.TheVariants as word
+use Rattle.cs_words.specs.declared.sign.Sign.TheVariants as sign
 use Rattle.cs_grammar.specs.declared.tree.HeadLine.{HeadLine}
-use Rattle.cs_grammar.specs.declared.symbol.Keyword.TheVariants as key
 use Rattle.cs_grammar.specs.declared.symbol.Kind.{Kind}
 use Rattle.cs_grammar.specs.declared.symbol.Kind.TheVariants as kind
+use Rattle.cs_grammar.specs.declared.symbol.Expected.TheVariants as expected
 use Rattle.cs_grammar.specs.declared.scope.Place.{Place}
 use Rattle.cs_grammar.specs.declared.scope.Place.TheVariants as place
 use Rattle.cs_grammar.specs.declared.stmt.LineForm.{LineForm}
 use Rattle.cs_grammar.specs.declared.stmt.LineForm.TheVariants as form
 use Rattle.cs_grammar.specs.Symbols.{Symbol}
-use Rattle.cs_grammar.specs.Reading.{next, after, Left, Reading, mapped, both, Scope, has, has_number, is_comma, is_text, is_word, fault, misfit, ended}
-use Rattle.cs_grammar.specs.Parts.{is_variable}
-
--- an opcode of the catalogue, or one that is defined
-abbrev pub is_opcode : Scope → Symbol → Kind → Bool
-is_opcode s t (kind.Opcode o) = true
-is_opcode s t (kind.Field k) = has s.defined t.text
-is_opcode s t kind.Name = has s.defined t.text
-is_opcode s t kind.Word = has s.defined t.text
-is_opcode s t _ = false
+use Rattle.cs_grammar.specs.Kinds.{is, is_word}
+use Rattle.cs_grammar.specs.Reading.{next, after, Left, Reading, mapped, next_is, Scope, has_number, fault, misfit, ended}
+use Rattle.cs_grammar.specs.Parts.{is_variable, is_opcode}
 
 -- a line that begins with a word, no keyword: by what follows it, and whether it is an opcode
 abbrev pub word_form : Kind → Bool → LineForm
-word_form kind.Colon _ = form.Beyond
-word_form kind.Equals _ = form.Assignment
-word_form kind.PlusEquals _ = form.Assignment
-word_form kind.Comma _ = form.Results
+word_form (kind.Sign sign.Colon) _ = form.Beyond
+word_form (kind.Sign sign.Equals) _ = form.Assignment
+word_form (kind.Sign sign.PlusEquals) _ = form.Assignment
+word_form (kind.Sign sign.Comma) _ = form.Results
 word_form _ true = form.Bare
 word_form k false = if is_word k then form.Results else form.Bare
 
 abbrev pub line_form_of : Scope → Kind → LineForm → LineForm
-line_form_of s (kind.Keyword key.If) by_word = if nat_lt s.depth 100 then form.Conditional else form.Beyond
-line_form_of s (kind.Keyword _) by_word = form.Misplaced
+line_form_of s (kind.Word (word.Keyword key.If)) by_word = if nat_lt s.depth 100 then form.Conditional else form.Beyond
+line_form_of s (kind.Word (word.Keyword _)) by_word = form.Misplaced
 line_form_of s k by_word = if is_word k then by_word else form.Misplaced
 
 -- A label, and an `if` inside 100 others, are beyond the profile. A keyword other than `if`, and what is no word, is misplaced.
@@ -44,21 +41,10 @@ abbrev pub line_form : Scope → List Symbol → LineForm
 line_form s ts =
     line_form_of s (next ts).kind (word_form (next (after ts)).kind (is_opcode s (next ts) (next ts).kind))
 
--- `xin` and `xout` in a definition, at the head of a line or at an opcode's place
-abbrev pub x_kind : Place → OrcKind
-x_kind place.Definition = orc.XinXout
-x_kind _ = orc.Unexpected
-
--- a fault at the head of a line that can't begin so
-abbrev pub misplaced_fault : Scope → List Symbol → Kind → OrcFault
-misplaced_fault s ts (kind.Keyword key.Xin) = fault ts (x_kind s.place)
-misplaced_fault s ts (kind.Keyword key.Xout) = fault ts (x_kind s.place)
-misplaced_fault s ts _ = misfit s orc.Unexpected ts
-
 -- what may not take a value: fields and header names are unexpected, other words outside the profile
 abbrev pub no_target : Kind → OrcKind
-no_target (kind.Field k) = orc.Unexpected
-no_target (kind.Header h) = orc.Unexpected
+no_target (kind.Word (word.Field k)) = orc.Unexpected
+no_target (kind.Word (word.Header h)) = orc.Unexpected
 no_target k = if is_word k then orc.NotInProfile else orc.Unexpected
 
 -- the variable that takes a value
@@ -66,13 +52,13 @@ abbrev pub target : Scope → List Symbol → Reading (List ℕ)
 target s ts =
     if is_variable s (next ts) then Ok ((next ts).text, after ts) else Err (misfit s (no_target (next ts).kind) ts)
 
--- the variables that take the results of a call
-abbrev pub targets : Scope → List Symbol → Reading (List (List ℕ))
-targets s [] = Err (misfit s orc.Unexpected [])
-targets s (t ∷ []) = mapped (λ n. n ∷ []) (target s (t ∷ []))
-targets s (t ∷ c ∷ us) =
-    if is_comma c.kind then both ◌∷◌ (target s (t ∷ c ∷ us)) (targets s us)
-    else mapped (λ n. n ∷ []) (target s (t ∷ c ∷ us))
+-- name { "," name }: the variables that take the results of a call
+pub data ReadsTargets (s : Scope) : List Symbol → Reading (List (List ℕ)) → Type 0 where
+  no_target_there : {ts : List Symbol} {f : OrcFault} → target s ts ≡ Err f → ReadsTargets s ts (Err f)
+  last_target : {ts us : List Symbol} {n : List ℕ} → target s ts ≡ Ok (n, us) → next_is expected.Comma us ≡ false
+      → ReadsTargets s ts (Ok (n ∷ [], us))
+  more_targets : {ts us : List Symbol} {n : List ℕ} {out : Reading (List (List ℕ))} → target s ts ≡ Ok (n, us)
+      → next_is expected.Comma us ≡ true → ReadsTargets s (after us) out → ReadsTargets s ts (mapped (λ ns. n ∷ ns) out)
 
 -- the name of the definition that a line stands in
 abbrev pub is_own : Scope → List ℕ → Place → Bool
@@ -85,7 +71,7 @@ is_outside _ = false
 
 -- a text after `event_i` is `"i"`
 abbrev pub is_other_text : Symbol → Bool
-is_other_text t = is_text t.kind && not (bytes_eq t.text (codes "i"))
+is_other_text t = is expected.Text t.kind && not (bytes_eq t.text (codes "i"))
 
 -- an opcode's name, which isn't that of the definition around
 abbrev pub called : Scope → List Symbol → Reading (List ℕ)
@@ -94,13 +80,12 @@ called s ts =
 
 -- the opcode of a call, by what its symbol is
 abbrev pub operation_of : Scope → List Symbol → Kind → Reading (List ℕ)
-operation_of s ts (kind.Opcode opcode.Zakinit) =
+operation_of s ts (kind.Word (word.Opcode opcode.Zakinit)) =
     if is_outside s.place then Ok ((next ts).text, after ts) else Err (fault ts orc.Unexpected)
-operation_of s ts (kind.Opcode opcode.EventI) =
+operation_of s ts (kind.Word (word.Opcode opcode.EventI)) =
     if is_other_text (next (after ts)) then Err (fault (after ts) orc.NotInProfile) else Ok ((next ts).text, after ts)
-operation_of s ts (kind.Keyword key.Xin) = Err (fault ts (x_kind s.place))
-operation_of s ts (kind.Keyword k) = Err (misfit s orc.Unexpected ts)
-operation_of s ts kind.Foreign = Err (misfit s orc.Unexpected ts)
+operation_of s ts (kind.Word (word.Keyword k)) = Err (misfit s orc.Unexpected ts)
+operation_of s ts (kind.Word word.Foreign) = Err (misfit s orc.Unexpected ts)
 operation_of s ts k =
     if is_word k then called s ts else Err (misfit s orc.Unexpected ts)
 
@@ -125,26 +110,25 @@ instrument_number (pos raw) =
     if raw % 65536 == 0 && nat_le 1 (raw / 65536) && nat_le (raw / 65536) 32767 then Some (raw / 65536) else None
 instrument_number _ = None
 
+-- a number that no instrument has yet
 abbrev pub fresh : List ℕ → List Symbol → Option ℕ → Reading ℕ
 fresh given ts None = Err (fault ts orc.InstrNumber)
 fresh given ts (Some n) = if has_number given n then Err (fault ts orc.InstrTwice) else Ok (n, after ts)
 
--- an instrument's number that no instrument before has
 abbrev pub number_at : Scope → List ℕ → List Symbol → Kind → Reading ℕ
 number_at s given ts (kind.Number v) = fresh given ts (instrument_number v)
 number_at s given ts k = Err (misfit s (if is_word k then orc.NotInProfile else orc.Unexpected) ts)
 
+-- an instrument's number, where others are given
 abbrev pub one_number : Scope → List ℕ → List Symbol → Reading ℕ
 one_number s given ts = number_at s given ts (next ts).kind
 
--- the numbers of an instrument; the number before is given for the next
-abbrev pub more_numbers : Reading ℕ → (ℕ → Reading (List ℕ)) → Reading (List ℕ)
-more_numbers (Ok (n, ts)) more = mapped (λ ns. n ∷ ns) (more n)
-more_numbers (Err f) more = Err f
-
-abbrev pub numbers : Scope → List ℕ → List Symbol → Reading (List ℕ)
-numbers s given [] = Err (misfit s orc.Unexpected [])
-numbers s given (t ∷ []) = mapped (λ n. n ∷ []) (one_number s given (t ∷ []))
-numbers s given (t ∷ c ∷ us) =
-    if is_comma c.kind then more_numbers (one_number s given (t ∷ c ∷ us)) (λ n. numbers s (given ++ n ∷ []) us)
-    else mapped (λ n. n ∷ []) (one_number s given (t ∷ c ∷ us))
+-- Number { "," Number }: those before in the line are given too
+pub data ReadsNumbers (s : Scope) : List ℕ → List Symbol → Reading (List ℕ) → Type 0 where
+  no_number : {given : List ℕ} {ts : List Symbol} {f : OrcFault} → one_number s given ts ≡ Err f
+      → ReadsNumbers s given ts (Err f)
+  last_number : {given : List ℕ} {ts us : List Symbol} {n : ℕ} → one_number s given ts ≡ Ok (n, us)
+      → next_is expected.Comma us ≡ false → ReadsNumbers s given ts (Ok (n ∷ [], us))
+  more_numbers : {given : List ℕ} {ts us : List Symbol} {n : ℕ} {out : Reading (List ℕ)}
+      → one_number s given ts ≡ Ok (n, us) → next_is expected.Comma us ≡ true
+      → ReadsNumbers s (given ++ n ∷ []) (after us) out → ReadsNumbers s given ts (mapped (λ ns. n ∷ ns) out)

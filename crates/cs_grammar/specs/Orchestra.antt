@@ -1,20 +1,26 @@
-use Rattle.std.specs.Prelude.{ℕ, Bool, true, false, List, [], ◌∷◌, ◌++◌, ◌≡◌, Ok, Err}
+use Rattle.std.specs.Prelude.{ℕ, Bool, true, false, List, [], ◌∷◌, ◌++◌, ◌≡◌, ◌≢◌, length, Ok, Err, if◌then◌else◌}
 use Rattle.cs_base.specs.declared.fault.OrcFault.{OrcFault}
 use Rattle.cs_base.specs.declared.fault.OrcKind.{OrcKind}
+use Rattle.cs_base.specs.declared.fault.OrcKind.TheVariants as orc
 use Rattle.cs_base.specs.declared.resource.Rate.{Rate}
 use Rattle.cs_lex.specs.declared.token.Token.{Token}
-use Rattle.cs_grammar.specs.declared.tree.HeadName.{HeadName}
+use Rattle.cs_words.specs.declared.word.HeadName.{HeadName}
 use Rattle.cs_grammar.specs.declared.tree.HeadLine.{HeadLine}
 use Rattle.cs_grammar.specs.declared.symbol.Kind.{Kind}
 use Rattle.cs_grammar.specs.declared.symbol.Kind.TheVariants as kind
-use Rattle.cs_grammar.specs.declared.symbol.Keyword.TheVariants as key
+use Rattle.cs_words.specs.declared.word.Keyword.TheVariants as key
+use Rattle.cs_words.specs.declared.word.Word.TheVariants as word
+use Rattle.cs_grammar.specs.declared.symbol.Expected.TheVariants as expected
+use Rattle.cs_grammar.specs.declared.lists.Role.TheVariants as role
 use Rattle.cs_grammar.specs.declared.orc.ItemForm.{ItemForm}
 use Rattle.cs_grammar.specs.declared.orc.ItemForm.TheVariants as item
 use Rattle.cs_grammar.specs.Symbols.{Symbol, symbols}
 use Rattle.cs_grammar.specs.Tree.{Argument, Statement, Block, no_stmt, andthen, Instrument, Definition, Orchestra}
-use Rattle.cs_grammar.specs.Reading.{next, after, Left, Reading, left, both, three, is_equals, is_endin, is_endop, is_xout, Scope, outside, in_instrument, in_definition, through, ended}
-use Rattle.cs_grammar.specs.Lines.{header_line, numbers}
-use Rattle.cs_grammar.specs.Headings.{Heading, heading, inputs, results_of, no_results}
+use Rattle.cs_grammar.specs.Reading.{next, after, Left, Reading, left, both, three, next_is, Scope, outside, in_instrument, in_definition, fault, misfit}
+use Rattle.cs_grammar.specs.Reading.{through, ended}
+use Rattle.cs_grammar.specs.Lines.{header_line, ReadsNumbers}
+use Rattle.cs_grammar.specs.Headings.{Heading, heading}
+use Rattle.cs_grammar.specs.Inputs.{ReadsInputs}
 use Rattle.cs_grammar.specs.Grammar.{ReadsList, ReadsStmt, ReadsBlock}
 
 abbrev pub instrument_of : ℕ → List ℕ → Block → Instrument
@@ -22,18 +28,33 @@ instrument_of line ns body = record { line = line; numbers = ns; body = body }
 
 -- instr: the opcodes that are defined, and the numbers that were given, before it
 pub data ReadsInstr (defined : List (List ℕ)) (given : List ℕ) : List Symbol → Reading Instrument → Type 0 where
-  instr : {ts : List Symbol} {body : Reading Block}
-      → ReadsBlock (in_instrument defined) (left (ended (in_instrument defined) (numbers (in_instrument defined) given (after ts)))) body
-      → ReadsInstr defined given ts (ended (outside defined) (through (in_instrument defined) is_endin (both (instrument_of (next ts).line) (numbers (in_instrument defined) given (after ts)) body)))
+  instr : {ts : List Symbol} {ns : Reading (List ℕ)} {body : Reading Block}
+      → ReadsNumbers (in_instrument defined) given (after ts) ns
+      → ReadsBlock (in_instrument defined) (left (ended (in_instrument defined) ns)) body
+      → ReadsInstr defined given ts (ended (outside defined) (through (in_instrument defined) expected.Endin (both (instrument_of (next ts).line) ns body)))
 
--- [ "xout" args NewLine ], up to "endop"
+-- what stands behind the line of `xout` in place of `endop`: the end of the text, or anything else
+abbrev pub behind_xout : Scope → List Symbol → OrcFault
+behind_xout s ts = if next_is expected.End ts then misfit s orc.Unexpected ts else fault ts orc.XinXout
+
+-- The line of `xout`: its values.
+pub data ReadsXout (s : Scope) (ts : List Symbol) : Reading (List Argument) → Type 0 where
+  xout : {values : Reading (List Argument)} → ReadsList s role.Result (Ok (after ts)) values → ReadsXout s ts (ended s values)
+
+-- What a definition gives, up to `endop`: one value for each result, in the last line.
 pub data ReadsResult (s : Scope) (outs : List Rate) : Left → Reading (List Argument) → Type 0 where
   result_stop : {f : OrcFault} → ReadsResult s outs (Err f) (Err f)
-  result_none : {ts : List Symbol} → is_xout (next ts).kind ≡ false
-      → ReadsResult s outs (Ok ts) (no_results outs ts)
-  result_given : {ts : List Symbol} {args : Reading (List Argument)} → is_xout (next ts).kind ≡ true
-      → ReadsList s (Ok (after ts)) args
-      → ReadsResult s outs (Ok ts) (results_of s (next ts).line outs (ended s args))
+  no_result : {ts : List Symbol} → next_is expected.Xout ts ≡ false → outs ≡ [] → ReadsResult s outs (Ok ts) (Ok ([], ts))
+  xout_missing : {ts : List Symbol} → next_is expected.Xout ts ≡ false → outs ≢ []
+      → ReadsResult s outs (Ok ts) (Err (fault ts orc.XinXout))
+  xout_broken : {ts : List Symbol} {f : OrcFault} → next_is expected.Xout ts ≡ true → ReadsXout s ts (Err f)
+      → ReadsResult s outs (Ok ts) (Err f)
+  xout_uneven : {ts us : List Symbol} {vs : List Argument} → next_is expected.Xout ts ≡ true → ReadsXout s ts (Ok (vs, us))
+      → length vs ≢ length outs → ReadsResult s outs (Ok ts) (Err (fault ts orc.XinXout))
+  xout_last : {ts us : List Symbol} {vs : List Argument} → next_is expected.Xout ts ≡ true → ReadsXout s ts (Ok (vs, us))
+      → length vs ≡ length outs → next_is expected.Endop us ≡ true → ReadsResult s outs (Ok ts) (Ok (vs, us))
+  xout_not_last : {ts us : List Symbol} {vs : List Argument} → next_is expected.Xout ts ≡ true → ReadsXout s ts (Ok (vs, us))
+      → length vs ≡ length outs → next_is expected.Endop us ≡ false → ReadsResult s outs (Ok ts) (Err (behind_xout s us))
 
 abbrev pub definition_of : Heading → List (List ℕ) → Block → List Argument → Definition
 definition_of h names body result = record {
@@ -54,22 +75,22 @@ pub data ReadsDefinition (defined : List (List ℕ)) : List Symbol → Reading D
   no_heading : {ts : List Symbol} {f : OrcFault}
       → heading (in_definition [] defined) (next ts).line (after ts) ≡ Err f
       → ReadsDefinition defined ts (Err f)
-  udo : {ts us : List Symbol} {h : Heading} {body : Reading Block} {result : Reading (List Argument)}
+  udo : {ts us : List Symbol} {h : Heading} {names : Reading (List (List ℕ))} {body : Reading Block} {result : Reading (List Argument)}
       → heading (in_definition [] defined) (next ts).line (after ts) ≡ Ok (h, us)
-      → ReadsBlock (own_scope defined h) (left (inputs (own_scope defined h) h us)) body
+      → ReadsInputs (own_scope defined h) h us names → ReadsBlock (own_scope defined h) (left names) body
       → ReadsResult (own_scope defined h) h.outs (left body) result
-      → ReadsDefinition defined ts (ended (outside defined) (through (own_scope defined h) is_endop (three (definition_of h) (inputs (own_scope defined h) h us) body result)))
+      → ReadsDefinition defined ts (ended (outside defined) (through (own_scope defined h) expected.Endop (three (definition_of h) names body result)))
 
 -- what stands outside instruments and definitions
 abbrev pub item_form_of : Kind → Bool → ItemForm
 item_form_of kind.End _ = item.End
-item_form_of (kind.Header h) true = item.Header h
-item_form_of (kind.Keyword key.Instr) _ = item.Instr
-item_form_of (kind.Keyword key.Opcode) _ = item.Opcode
+item_form_of (kind.Word (word.Header h)) true = item.Header h
+item_form_of (kind.Word (word.Keyword key.Instr)) _ = item.Instr
+item_form_of (kind.Word (word.Keyword key.Opcode)) _ = item.Opcode
 item_form_of _ _ = item.Statement
 
 abbrev pub item_form : List Symbol → ItemForm
-item_form ts = item_form_of (next ts).kind (is_equals (next (after ts)).kind)
+item_form ts = item_form_of (next ts).kind (next_is expected.Equals (after ts))
 
 abbrev pub nothing : Orchestra
 nothing = record { head = []; opcodes = []; zero = no_stmt; instrs = [] }

@@ -1,17 +1,22 @@
 use Rattle.std.specs.Prelude.{ℕ, Bool, true, false, List, ◌&&◌, not, Option, Some, None, Ok, Err, if◌then◌else◌}
 use Rattle.cs_base.specs.declared.fault.OrcFault.{OrcFault}
 use Rattle.cs_base.specs.declared.fault.OrcKind.TheVariants as orc
-use Rattle.cs_grammar.specs.declared.tree.BinOp.{BinOp}
-use Rattle.cs_grammar.specs.declared.tree.BinOp.TheVariants as op
+use Rattle.cs_words.specs.declared.sign.BinOp.{BinOp}
+use Rattle.cs_words.specs.declared.sign.BinOp.TheVariants as op
+use Rattle.cs_words.specs.declared.sign.Sign.TheVariants as sign
+use Rattle.cs_words.specs.declared.word.Word.TheVariants as word
 use Rattle.cs_grammar.specs.declared.symbol.Kind.{Kind}
 use Rattle.cs_grammar.specs.declared.symbol.Kind.TheVariants as kind
+use Rattle.cs_grammar.specs.declared.symbol.Expected.TheVariants as expected
+use Rattle.cs_grammar.specs.Kinds.{is_word, is_name_kind}
 use Rattle.cs_grammar.specs.declared.expr.PartForm.{PartForm}
 use Rattle.cs_grammar.specs.declared.expr.PartForm.TheVariants as part
 use Rattle.cs_grammar.specs.declared.expr.Level.{Level}
 use Rattle.cs_grammar.specs.declared.expr.Level.TheVariants as level
 use Rattle.cs_grammar.specs.Symbols.{Symbol}
 use Rattle.cs_grammar.specs.Tree.{Expression, number, var, field, head}
-use Rattle.cs_grammar.specs.Reading.{next, after, Left, Reading, Scope, has, is_open, is_word, misfit}
+use Rattle.cs_words.specs.NameSets.{has}
+use Rattle.cs_grammar.specs.Reading.{next, after, Left, Reading, Scope, next_is, misfit}
 
 -- the next tighter level; a fact is the tightest
 abbrev pub tighter : Level → Option Level
@@ -54,7 +59,7 @@ repeats level.Cmp = false
 repeats _ = true
 
 abbrev pub operator_of : Level → Kind → Option BinOp
-operator_of l (kind.Operator o) = if is_at l o then Some o else None
+operator_of l (kind.Sign (sign.Operator o)) = if is_at l o then Some o else None
 operator_of l _ = None
 
 -- the operator of a level that is next
@@ -62,20 +67,24 @@ abbrev pub operator : Level → Left → Option BinOp
 operator l (Ok ts) = operator_of l (next ts).kind
 operator l (Err f) = None
 
-abbrev pub is_name_kind : Kind → Bool
-is_name_kind kind.Name = true
-is_name_kind _ = false
-
 -- a variable: a name that no definition has taken for its opcode
 abbrev pub is_variable : Scope → Symbol → Bool
 is_variable s t = is_name_kind t.kind && not (has s.defined t.text)
 
+-- an opcode of the catalogue, or one that is defined
+abbrev pub is_opcode : Scope → Symbol → Kind → Bool
+is_opcode s t (kind.Word (word.Opcode o)) = true
+is_opcode s t (kind.Word (word.Field k)) = has s.defined t.text
+is_opcode s t (kind.Word word.Name) = has s.defined t.text
+is_opcode s t (kind.Word word.Other) = has s.defined t.text
+is_opcode s t _ = false
+
 -- a word alone, or a number, as an expression
 abbrev pub single : Scope → Symbol → Kind → Option Expression
 single s t (kind.Number v) = Some (number v)
-single s t (kind.Field k) = Some (field k)
-single s t (kind.Header h) = Some (head h)
-single s t kind.Name = if has s.defined t.text then None else Some (var t.text)
+single s t (kind.Word (word.Field k)) = Some (field k)
+single s t (kind.Word (word.Header h)) = Some (head h)
+single s t (kind.Word word.Name) = if has s.defined t.text then None else Some (var t.text)
 single s t _ = None
 
 -- a fault at the place of a part of an expression: a word is outside the profile there
@@ -86,18 +95,22 @@ abbrev pub single_or : {A : Type 0} → Option A → List Symbol → OrcFault �
 single_or (Some e) rest f = Ok (e, rest)
 single_or None rest f = Err f
 
+-- what a symbol is as an expression
+abbrev pub one_symbol : Scope → List Symbol → Reading Expression
+one_symbol s ts = single_or (single s (next ts) (next ts).kind) (after ts) (no_part s ts)
+
 -- a part of one symbol: no word before a bracket
 abbrev pub atom : Scope → List Symbol → Reading Expression
 atom s ts =
-    if is_word (next ts).kind && is_open (next (after ts)).kind then Err (no_part s ts)
-    else single_or (single s (next ts) (next ts).kind) (after ts) (no_part s ts)
+    if is_word (next ts).kind && next_is expected.Open (after ts) then Err (no_part s ts)
+    else one_symbol s ts
 
 -- how a part of an expression begins
 abbrev pub part_form_of : Kind → Bool → PartForm
-part_form_of (kind.Operator op.Sub) _ = part.Minus
-part_form_of kind.Open _ = part.Bracket
-part_form_of (kind.Func f) true = part.Function f
+part_form_of (kind.Sign (sign.Operator op.Sub)) _ = part.Minus
+part_form_of (kind.Sign sign.Open) _ = part.Bracket
+part_form_of (kind.Word (word.Func f)) true = part.Function f
 part_form_of _ _ = part.Alone
 
 abbrev pub part_form : List Symbol → PartForm
-part_form ts = part_form_of (next ts).kind (is_open (next (after ts)).kind)
+part_form ts = part_form_of (next ts).kind (next_is expected.Open (after ts))

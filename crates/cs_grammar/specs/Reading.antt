@@ -1,12 +1,16 @@
-use Rattle.std.specs.Prelude.{ℕ, Bool, true, false, List, [], ◌∷◌, ◌+◌, ◌==◌, Result, Ok, Err, if◌then◌else◌, nat_lt}
-use Rattle.std.specs.Str.{bytes_eq}
+use Rattle.std.specs.Prelude.{ℕ, Bool, false, List, [], ◌∷◌, ◌+◌, ◌==◌, Result, Ok, Err, if◌then◌else◌, nat_lt}
 use Rattle.std.specs.List.{list_any}
 use Rattle.cs_base.specs.declared.fault.OrcFault.{OrcFault}
 use Rattle.cs_base.specs.declared.fault.OrcKind.{OrcKind}
 use Rattle.cs_base.specs.declared.fault.OrcKind.TheVariants as orc
-use Rattle.cs_grammar.specs.declared.symbol.Keyword.TheVariants as key
+use Rattle.cs_words.specs.declared.word.Keyword.{Keyword}
+use Rattle.cs_words.specs.declared.word.Keyword.TheVariants as key
+use Rattle.cs_words.specs.declared.word.Word.TheVariants as word
+use Rattle.cs_words.specs.declared.sign.Sign.TheVariants as sign
 use Rattle.cs_grammar.specs.declared.symbol.Kind.{Kind}
 use Rattle.cs_grammar.specs.declared.symbol.Kind.TheVariants as kind
+use Rattle.cs_grammar.specs.declared.symbol.Expected.{Expected}
+use Rattle.cs_grammar.specs.Kinds.{is}
 use Rattle.cs_grammar.specs.declared.scope.Place.{Place}
 use Rattle.cs_grammar.specs.declared.scope.Place.TheVariants as place
 use Rattle.cs_grammar.specs.Symbols.{Symbol}
@@ -52,88 +56,13 @@ abbrev pub skip : Left → Left
 skip (Ok ts) = Ok (after ts)
 skip (Err f) = Err f
 
--- whether the next symbol is of a kind
-abbrev pub meets : (Kind → Bool) → Left → Bool
-meets p (Ok ts) = p (next ts).kind
-meets p (Err f) = false
+-- whether the next symbol is what is asked for
+abbrev pub next_is : Expected → List Symbol → Bool
+next_is e ts = is e (next ts).kind
 
-abbrev pub is_comma : Kind → Bool
-is_comma kind.Comma = true
-is_comma _ = false
-
-abbrev pub is_open : Kind → Bool
-is_open kind.Open = true
-is_open _ = false
-
-abbrev pub is_close : Kind → Bool
-is_close kind.Close = true
-is_close _ = false
-
-abbrev pub is_question : Kind → Bool
-is_question kind.Question = true
-is_question _ = false
-
-abbrev pub is_colon : Kind → Bool
-is_colon kind.Colon = true
-is_colon _ = false
-
-abbrev pub is_equals : Kind → Bool
-is_equals kind.Equals = true
-is_equals _ = false
-
-abbrev pub is_text : Kind → Bool
-is_text kind.Text = true
-is_text _ = false
-
-abbrev pub is_then : Kind → Bool
-is_then (kind.Keyword key.Then) = true
-is_then _ = false
-
-abbrev pub is_elseif : Kind → Bool
-is_elseif (kind.Keyword key.Elseif) = true
-is_elseif _ = false
-
-abbrev pub is_else : Kind → Bool
-is_else (kind.Keyword key.Else) = true
-is_else _ = false
-
-abbrev pub is_endif : Kind → Bool
-is_endif (kind.Keyword key.Endif) = true
-is_endif _ = false
-
-abbrev pub is_endin : Kind → Bool
-is_endin (kind.Keyword key.Endin) = true
-is_endin _ = false
-
-abbrev pub is_endop : Kind → Bool
-is_endop (kind.Keyword key.Endop) = true
-is_endop _ = false
-
-abbrev pub is_xin : Kind → Bool
-is_xin (kind.Keyword key.Xin) = true
-is_xin _ = false
-
-abbrev pub is_xout : Kind → Bool
-is_xout (kind.Keyword key.Xout) = true
-is_xout _ = false
-
--- NewLine, or End in its place
-abbrev pub ends_line : Kind → Bool
-ends_line kind.NewLine = true
-ends_line kind.End = true
-ends_line _ = false
-
--- a Word, keywords included
-abbrev pub is_word : Kind → Bool
-is_word (kind.Keyword k) = true
-is_word (kind.Header h) = true
-is_word (kind.Func f) = true
-is_word (kind.Field k) = true
-is_word (kind.Opcode o) = true
-is_word kind.Foreign = true
-is_word kind.Name = true
-is_word kind.Word = true
-is_word _ = false
+abbrev pub meets : Expected → Left → Bool
+meets e (Ok ts) = next_is e ts
+meets e (Err f) = false
 
 -- Where a part of a text stands: outside, in an instrument or in a definition; in how many `if`s; the name of the
 -- definition around it; the opcodes that were defined before.
@@ -156,11 +85,12 @@ in_definition own defined = record { place = place.Definition; depth = 0; own = 
 abbrev pub deeper : Scope → Scope
 deeper s = record { place = s.place; depth = s.depth + 1; own = s.own; defined = s.defined }
 
-abbrev pub has : List (List ℕ) → List ℕ → Bool
-has names name = list_any (bytes_eq name) names
-
 abbrev pub has_number : List ℕ → ℕ → Bool
 has_number ns n = list_any (λ m. n == m) ns
+
+-- inside an `if`, what ends the text or the part around lacks its `endif`
+abbrev pub early : Scope → OrcKind → OrcKind
+early s usual = if nat_lt 0 s.depth then orc.MissingEndif else usual
 
 -- The kind of fault where the text ends too early, by the place: what lacks its end.
 abbrev pub open_kind : Place → OrcKind
@@ -172,14 +102,26 @@ abbrev pub instr_kind : Place → OrcKind → OrcKind
 instr_kind place.Instrument usual = orc.NestedInstr
 instr_kind _ usual = usual
 
+-- from `opcode` to `endop`, an `xin` or `xout` that fits no rule is a fault of its own kind
+abbrev pub x_kind : Place → OrcKind → OrcKind
+x_kind place.Definition usual = orc.XinXout
+x_kind _ usual = usual
+
+abbrev pub keyword_kind : Scope → OrcKind → Keyword → OrcKind
+keyword_kind s usual key.Endin = early s usual
+keyword_kind s usual key.Endop = early s usual
+keyword_kind s usual key.Instr = instr_kind s.place usual
+keyword_kind s usual key.Xin = x_kind s.place usual
+keyword_kind s usual key.Xout = x_kind s.place usual
+keyword_kind s usual _ = usual
+
 -- The kind of fault of a symbol that fits no rule at its place, where another symbol there would have the usual kind.
 abbrev pub misfit_kind : Scope → OrcKind → Kind → OrcKind
 misfit_kind s usual kind.Beyond = orc.NotInProfile
-misfit_kind s usual kind.Foreign = orc.NotInProfile
-misfit_kind s usual kind.End = if nat_lt 0 s.depth then orc.MissingEndif else open_kind s.place
-misfit_kind s usual (kind.Keyword key.Endin) = if nat_lt 0 s.depth then orc.MissingEndif else usual
-misfit_kind s usual (kind.Keyword key.Endop) = if nat_lt 0 s.depth then orc.MissingEndif else usual
-misfit_kind s usual (kind.Keyword key.Instr) = instr_kind s.place usual
+misfit_kind s usual (kind.Sign sign.Beyond) = orc.NotInProfile
+misfit_kind s usual (kind.Word word.Foreign) = orc.NotInProfile
+misfit_kind s usual (kind.Word (word.Keyword k)) = keyword_kind s usual k
+misfit_kind s usual kind.End = early s (open_kind s.place)
 misfit_kind s usual _ = usual
 
 -- a fault at the next symbol
@@ -189,10 +131,10 @@ fault ts k = record { line = (next ts).line; kind = k }
 abbrev pub misfit : Scope → OrcKind → List Symbol → OrcFault
 misfit s usual ts = fault ts (misfit_kind s usual (next ts).kind)
 
--- what was read, and then a symbol of a kind
-abbrev pub through : {A : Type 0} → Scope → (Kind → Bool) → Reading A → Reading A
-through s p (Ok (a, ts)) = if p (next ts).kind then Ok (a, after ts) else Err (misfit s orc.Unexpected ts)
-through s p (Err f) = Err f
+-- what was read, and then the symbol that is asked for
+abbrev pub through : {A : Type 0} → Scope → Expected → Reading A → Reading A
+through s e (Ok (a, ts)) = if next_is e ts then Ok (a, after ts) else Err (misfit s orc.Unexpected ts)
+through s e (Err f) = Err f
 
 abbrev pub line_end : {A : Type 0} → Scope → A → Kind → List Symbol → Reading A
 line_end s a kind.NewLine ts = Ok (a, after ts)

@@ -4,7 +4,8 @@ use Rattle.cs_lex.specs.declared.token.Mark.TheVariants as mark
 use Rattle.cs_lex.specs.declared.token.Token.{Token}
 use Rattle.cs_grammar.specs.declared.symbol.Kind.{Kind}
 use Rattle.cs_grammar.specs.declared.symbol.Kind.TheVariants as kind
-use Rattle.cs_grammar.specs.Words.{kind_of_word, kind_of_sign}
+use Rattle.cs_words.specs.Words.{word_of}
+use Rattle.cs_words.specs.Signs.{sign_of}
 
 -- a token as the grammar sees it
 pub record Symbol : Type 0 where
@@ -14,14 +15,14 @@ pub record Symbol : Type 0 where
 
 -- what a token of at most 1,000 a line is
 abbrev pub kind_of_mark : Mark → List ℕ → Kind
-kind_of_mark mark.Word bytes = kind_of_word bytes
+kind_of_mark mark.Word bytes = kind.Word (word_of bytes)
 kind_of_mark (mark.Number value) bytes = kind.Number value
 kind_of_mark mark.Text bytes = kind.Text
-kind_of_mark mark.Sign bytes = kind_of_sign bytes
+kind_of_mark mark.Sign bytes = kind.Sign (sign_of bytes)
 kind_of_mark mark.NewLine bytes = kind.NewLine
 kind_of_mark mark.End bytes = kind.End
 
--- A token past the 1,000th of its line is beyond the profile. NewLine and End don't count.
+-- A token past the 1,000th of its line is beyond the profile, and no rule sees what it is. NewLine and End don't count.
 abbrev pub kind_after : ℕ → Mark → List ℕ → Kind
 kind_after place mark.NewLine bytes = kind.NewLine
 kind_after place mark.End bytes = kind.End

@@ -1,8 +1,8 @@
 use Rattle.std.specs.Prelude.{ℕ, ℤ, List, [], ◌∷◌, map}
 use Rattle.cs_base.specs.declared.resource.Rate.{Rate}
-use Rattle.cs_grammar.specs.declared.tree.HeadName.{HeadName}
-use Rattle.cs_grammar.specs.declared.tree.BinOp.{BinOp}
-use Rattle.cs_grammar.specs.declared.tree.Func.{Func}
+use Rattle.cs_words.specs.declared.word.HeadName.{HeadName}
+use Rattle.cs_words.specs.declared.sign.BinOp.{BinOp}
+use Rattle.cs_words.specs.declared.word.Func.{Func}
 use Rattle.cs_grammar.specs.declared.tree.Expr.{Expr}
 use Rattle.cs_grammar.specs.declared.tree.Expr.TheVariants.{Number, Var, Field, Head, Neg', Pair', Pick', Call'}
 use Rattle.cs_grammar.specs.declared.tree.Arg.{Arg}
@@ -108,6 +108,11 @@ statement s = of_what s.line s.what
 abbrev pub block : List OrcStmt → Block
 block [] = no_stmt
 block (s ∷ ss) = andthen (statement s) (block ss)
+
+-- statements, and then others
+abbrev pub joins : Block → Block → Block
+joins no_stmt b = b
+joins (andthen x rest) b = andthen x (joins rest b)
 
 -- arms of a list, and the statements after `else`
 abbrev pub arms : Block → List Arm → Arms

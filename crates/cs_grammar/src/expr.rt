@@ -1,24 +1,28 @@
 // Expressions: levels of operators, and the parts between them.
 ghost use Rattle.std.specs.Prelude.{◌≡◌, ◌≤◌, List, Ok, Some, None, IfOk, IfErr, IfSome, length, true};
+ghost use Rattle.std.specs.Box.{box_value};
 ghost use Rattle.cs_base.specs.declared.fault.Or.TheVariants as or;
 ghost use Rattle.cs_base.specs.declared.fault.OrcKind.TheVariants as orc;
 ghost use Rattle.cs_grammar.specs.declared.expr.Level.TheVariants as at;
 ghost use Rattle.cs_grammar.specs.declared.expr.PartForm.TheVariants as part;
 ghost use Rattle.cs_grammar.specs.Tree.{expression, neg, pair, pick, apply};
 ghost use Rattle.cs_grammar.specs.Symbols.{Symbol};
-ghost use Rattle.cs_grammar.specs.Reading.{next, after, is_word, is_question};
-ghost use Rattle.cs_grammar.specs.Parts.{tighter, rank, is_at, repeats, operator_of, part_form, part_form_of, no_part, atom};
-ghost use Rattle.cs_grammar.specs.Answers.{Gives};
+ghost use Rattle.cs_grammar.specs.declared.symbol.Expected.TheVariants as expected;
+ghost use Rattle.cs_grammar.specs.declared.symbol.Kind.TheVariants as kind;
+ghost use Rattle.cs_grammar.specs.Reading.{next, after, next_is};
+ghost use Rattle.cs_grammar.specs.Parts.{tighter, rank, is_at, repeats, operator_of, part_form, part_form_of, no_part, one_symbol, atom};
+ghost use Rattle.cs_grammar.specs.inner.Answers.{Gives, IsClosed};
 ghost use Rattle.cs_grammar.specs.Grammar.{ReadsExpr, ReadsTail};
 
-use crate::parser::{Expected, Parser};
+use crate::parser::Parser;
 use crate::scope::Scope;
-use crate::symbol::Kind;
-use crate::tree::{BinOp, Expr, Func};
+use crate::symbol::{Expected, Kind};
+use crate::tree::Expr;
 use cs_base::{Or, OrcFault, OrcKind};
+use cs_words::{BinOp, Func, Sign, Word};
 
 /// The levels of an expression, the loosest first.
-#[derive(Clone, Copy, Debug, PartialEq, Eq)]
+#[derive(Clone, Copy, PartialEq, Eq)]
 pub enum Level {
     Expr,
     And,
@@ -76,14 +80,14 @@ impl Level {
         ensures { result ≡ operator_of self kind }
     {
         match kind {
-            Kind::Operator(op) if self.has(op) => Some(op),
+            Kind::Sign(Sign::Operator(op)) if self.has(op) => Some(op),
             _ => None,
         }
     }
 }
 
 /// How a part of an expression begins.
-#[derive(Clone, Copy, Debug, PartialEq, Eq)]
+#[derive(Clone, Copy)]
 pub enum PartForm {
     Minus,
     Bracket,
@@ -96,29 +100,10 @@ impl PartForm {
         ensures { result ≡ part_form_of kind opens }
     {
         match kind {
-            Kind::Operator(BinOp::Sub) => PartForm::Minus,
-            Kind::Open => PartForm::Bracket,
-            Kind::Func(func) if opens => PartForm::Function(func),
+            Kind::Sign(Sign::Operator(BinOp::Sub)) => PartForm::Minus,
+            Kind::Sign(Sign::Open) => PartForm::Bracket,
+            Kind::Word(Word::Func(func)) if opens => PartForm::Function(func),
             _ => PartForm::Alone,
-        }
-    }
-}
-
-impl Kind {
-    /// Whether the symbol is a word, a keyword too.
-    pub fn is_word(self) -> bool
-        ensures { result ≡ is_word self }
-    {
-        match self {
-            Kind::Keyword(_)
-            | Kind::Header(_)
-            | Kind::Func(_)
-            | Kind::Field(_)
-            | Kind::Opcode(_)
-            | Kind::Foreign
-            | Kind::Name
-            | Kind::Word => true,
-            _ => false,
         }
     }
 }
@@ -127,7 +112,7 @@ impl<'s> Parser<'s> {
     fn part_form(&self) -> PartForm
         ensures { result ≡ part_form self.now }
     {
-        PartForm::of(self.kind(), matches!(self.second(), Kind::Open))
+        PartForm::of(self.kind(), self.second_is(Expected::Open))
     }
 
     pub fn no_part(&self, scope: &Scope) -> Or<OrcFault>
@@ -144,18 +129,37 @@ impl<'s> Parser<'s> {
         ensures reads { Gives expression result self.new (λ o. o ≡ atom scope.now self.old) }
         ensures goes { length self.new ≤ length self.old }
     {
-        if self.kind().is_word() && matches!(self.second(), Kind::Open) {
+        if self.kind().is_word() && self.second_is(Expected::Open) {
             return Err(self.no_part(scope));
         }
-        let part = match self.kind() {
-            Kind::Number(value) => Expr::Number(value),
-            Kind::Field(number) => Expr::Field(number),
-            Kind::Header(name) => Expr::Head(name),
-            Kind::Name if !scope.is_defined(self.text()) => Expr::Var(self.name()?),
-            _ => return Err(self.no_part(scope)),
-        };
+        let part = self.single(scope)?;
         self.skip();
         Ok(part)
+    }
+
+    // What the next symbol is as an expression.
+    fn single(&self, scope: &Scope) -> Result<Expr, Or<OrcFault>>
+        ensures { Gives expression result (after self.now)
+            (λ o. o ≡ one_symbol scope.now self.now) }
+    {
+        match self.kind() {
+            Kind::Number(value) => Ok(Expr::Number(value)),
+            Kind::Word(word) => self.word(scope, word),
+            _ => Err(self.no_part(scope)),
+        }
+    }
+
+    fn word(&self, scope: &Scope, word: Word) -> Result<Expr, Or<OrcFault>>
+        requires { (next self.now).kind ≡ kind.Word word }
+        ensures { Gives expression result (after self.now)
+            (λ o. o ≡ one_symbol scope.now self.now) }
+    {
+        match word {
+            Word::Field(number) => Ok(Expr::Field(number)),
+            Word::Header(name) => Ok(Expr::Head(name)),
+            Word::Name if !scope.is_defined(self.text()) => Ok(Expr::Var(self.name()?)),
+            _ => Err(self.no_part(scope)),
+        }
     }
 
     /// Reads an expression of a level: a part, and then the operators of each level up to it, the tightest first. So a
@@ -184,7 +188,8 @@ impl<'s> Parser<'s> {
         first: Expr,
     ) -> Result<Expr, Or<OrcFault>>
         requires { tighter level ≡ Some inner }
-        ensures reads { Gives expression result self.new (ReadsTail scope.now level (Ok (expression first, self.old))) }
+        ensures reads { Gives expression result self.new
+            (ReadsTail scope.now level (Ok (expression first, self.old))) }
         ensures goes { length self.new ≤ length self.old }
     {
         let mut left = first;
@@ -200,14 +205,21 @@ impl<'s> Parser<'s> {
     }
 
     fn pair(&self, op: BinOp, left: Expr, right: Expr) -> Result<Expr, Or<OrcFault>>
-        ensures value { IfOk result (λ e. expression e ≡ pair op (expression left) (expression right)) }
+        ensures value { IfOk result (λ e. expression e
+            ≡ pair op (expression left) (expression right)) }
         ensures memory { IfErr result (λ e. e ≡ or.OutOfMemory) }
     {
-        Ok(Expr::Pair(
-            op,
-            Box::new(self.alloc(), left)?,
-            Box::new(self.alloc(), right)?,
-        ))
+        let (left, right) = self.boxes(left, right)?;
+        Ok(Expr::Pair(op, left, right))
+    }
+
+    fn boxes(&self, left: Expr, right: Expr) -> Result<(Box<Expr>, Box<Expr>), Or<OrcFault>>
+        ensures left { IfOk result (λ p. box_value p.0 ≡ left) }
+        ensures right { IfOk result (λ p. box_value p.1 ≡ right) }
+        ensures memory { IfErr result (λ e. e ≡ or.OutOfMemory) }
+    {
+        let left = Box::new(self.alloc(), left)?;
+        Ok((left, Box::new(self.alloc(), right)?))
     }
 
     fn negated(&self, part: Expr) -> Result<Expr, Or<OrcFault>>
@@ -229,17 +241,14 @@ impl<'s> Parser<'s> {
             ≡ pick (expression cond) (expression yes) (expression no)) }
         ensures memory { IfErr result (λ e. e ≡ or.OutOfMemory) }
     {
-        let alloc = self.alloc();
-        Ok(Expr::Pick(
-            Box::new(alloc, cond)?,
-            Box::new(alloc, yes)?,
-            Box::new(alloc, no)?,
-        ))
+        let (yes, no) = self.boxes(yes, no)?;
+        Ok(Expr::Pick(Box::new(self.alloc(), cond)?, yes, no))
     }
 
     #[cycle(expr)]
     fn fact(&mut self, scope: &Scope) -> Result<Expr, Or<OrcFault>>
-        ensures reads { Gives expression result self.new (ReadsExpr scope.now at.Fact (Ok self.old)) }
+        ensures reads { Gives expression result self.new
+            (ReadsExpr scope.now at.Fact (Ok self.old)) }
         ensures goes { length self.new ≤ length self.old }
     {
         match self.part_form() {
@@ -253,7 +262,8 @@ impl<'s> Parser<'s> {
     #[cycle(expr)]
     fn negation(&mut self, scope: &Scope) -> Result<Expr, Or<OrcFault>>
         requires { part_form self.old ≡ part.Minus }
-        ensures reads { Gives expression result self.new (ReadsExpr scope.now at.Fact (Ok self.old)) }
+        ensures reads { Gives expression result self.new
+            (ReadsExpr scope.now at.Fact (Ok self.old)) }
         ensures goes { length self.new ≤ length self.old }
     {
         self.skip();
@@ -264,21 +274,33 @@ impl<'s> Parser<'s> {
     #[cycle(expr)]
     fn function(&mut self, scope: &Scope, func: Func) -> Result<Expr, Or<OrcFault>>
         requires { part_form self.old ≡ part.Function func }
-        ensures reads { Gives expression result self.new (ReadsExpr scope.now at.Fact (Ok self.old)) }
+        ensures reads { Gives expression result self.new
+            (ReadsExpr scope.now at.Fact (Ok self.old)) }
         ensures goes { length self.new ≤ length self.old }
     {
         self.skip();
         self.skip();
-        let argument = self.expr(scope, Level::Expr)?;
-        self.pass(scope, Expected::Close)?;
+        let argument = self.closed(scope, Expected::Close)?;
         self.applied(func, argument)
+    }
+
+    /// Reads an expression, and the symbol that must follow it.
+    #[cycle(expr)]
+    pub fn closed(&mut self, scope: &Scope, end: Expected) -> Result<Expr, Or<OrcFault>>
+        ensures reads { Gives expression result self.new (IsClosed scope.now end self.old) }
+        ensures goes { length self.new ≤ length self.old }
+    {
+        let part = self.expr(scope, Level::Expr)?;
+        self.pass(scope, end)?;
+        Ok(part)
     }
 
     // An expression in brackets, or a choice.
     #[cycle(expr)]
     fn bracket(&mut self, scope: &Scope) -> Result<Expr, Or<OrcFault>>
         requires { part_form self.old ≡ part.Bracket }
-        ensures reads { Gives expression result self.new (ReadsExpr scope.now at.Fact (Ok self.old)) }
+        ensures reads { Gives expression result self.new
+            (ReadsExpr scope.now at.Fact (Ok self.old)) }
         ensures goes { length self.new ≤ length self.old }
     {
         self.skip();
@@ -293,17 +315,15 @@ impl<'s> Parser<'s> {
     // What follows the condition of a choice.
     #[cycle(expr)]
     fn choice(&mut self, scope: &Scope, cond: Expr) -> Result<Expr, Or<OrcFault>>
-        requires { is_question (next self.old).kind ≡ true }
+        requires { next_is expected.Question self.old ≡ true }
         ensures reads { Gives expression result self.new (λ o. (ts : List Symbol) → part_form ts ≡ part.Bracket
             → ReadsExpr scope.now at.Expr (Ok (after ts)) (Ok (expression cond, self.old))
             → ReadsExpr scope.now at.Fact (Ok ts) o) }
         ensures goes { length self.new ≤ length self.old }
     {
         self.skip();
-        let yes = self.expr(scope, Level::Expr)?;
-        self.pass(scope, Expected::Colon)?;
-        let no = self.expr(scope, Level::Expr)?;
-        self.pass(scope, Expected::Close)?;
+        let yes = self.closed(scope, Expected::Colon)?;
+        let no = self.closed(scope, Expected::Close)?;
         self.picked(cond, yes, no)
     }
 }

@@ -2,8 +2,12 @@
 ghost use Rattle.std.specs.Prelude.{◌≡◌, ◌⊎◌, ℕ, List};
 ghost use Rattle.cs_base.specs.declared.fault.OrcKind.{OrcKind};
 ghost use Rattle.cs_lex.specs.declared.token.Token.{Token};
+ghost use Rattle.cs_lex.specs.Lexed.{Lexed};
 ghost use Rattle.cs_grammar.specs.Tree.{Orchestra};
 ghost use Rattle.cs_grammar.specs.Orchestra.{Tree, ParseFault};
+ghost use Rattle.cs_grammar.specs.WellFormed.{IsWellFormed, InOrder};
+
+use cs_lex::tokens_stand_in_the_text;
 
 /// The tokens of every text have either one tree or one first fault.
 pub fn one_reading()
@@ -16,3 +20,15 @@ pub fn one_reading()
     ensures not_both { (source : List ℕ) (tokens : List Token) (o : Orchestra) (l : ℕ) (k : OrcKind)
         → Tree source tokens o → ParseFault source tokens l k → ⊥ }
 {}
+
+/// What holds of every tree of a text: names, fields and numbers are in their ranges, nothing is called where it may not be, an
+/// `if` stands inside at most 99 others, and no instrument's number and no opcode's name is given twice. The lines of
+/// its parts ascend in the order of the text.
+pub fn trees_are_well_formed()
+    ensures well_formed { (source : List ℕ) (tokens : List Token) (orc : Orchestra)
+        → Lexed source tokens → Tree source tokens orc → IsWellFormed orc }
+    ensures in_order { (source : List ℕ) (tokens : List Token) (orc : Orchestra)
+        → Lexed source tokens → Tree source tokens orc → InOrder orc }
+{
+    tokens_stand_in_the_text();
+}

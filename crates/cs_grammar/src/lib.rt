@@ -5,13 +5,14 @@
 //! what is left of a text and its reading; `one_reading` says that there is exactly one. The tree is spoken of by a mirror
 //! without memory (specs/Tree). How the parser goes along the tokens may be changed without anyone above noticing.
 //!
-//! To be read in this order: `tree` (what comes out), `orc` (the whole, and instruments), `definition`, `stmt`, `lists`,
-//! `expr` (the rules), `laws` (every text has one reading), `parser` (the place that is reached), `scope` (where a line
-//! stands), `symbol` and `words` (what a token is).
+//! To be read in this order: `tree` (what comes out), `orc` (the whole, and instruments), `definition`, `heading`
+//! (its line of `opcode`), `xin` (its first line), `xout` (its last), `stmt`, `lists`, `expr` (the rules), `laws` (every text has one reading, and
+//! what holds of each tree), `parser` (the place that is reached), `scope` (where a line stands), `symbol` (what a token is).
 #![tactic(auto)]
 
 mod definition;
 mod expr;
+mod heading;
 mod laws;
 mod lists;
 mod orc;
@@ -19,14 +20,10 @@ mod parser;
 mod scope;
 mod stmt;
 mod symbol;
-#[cfg(test)]
-mod tests;
 mod tree;
-mod words;
+mod xin;
+mod xout;
 
-pub use laws::one_reading;
+pub use laws::{one_reading, trees_are_well_formed};
 pub use orc::parse;
-pub use tree::{
-    Arg, Args, Arm, Arms, BinOp, Expr, Func, HeadLine, HeadName, Instr, Orc, OrcStmt, StmtWhat,
-    Stmts, Udo,
-};
+pub use tree::{Arg, Args, Arm, Arms, Expr, HeadLine, Instr, Orc, OrcStmt, StmtWhat, Stmts, Udo};

@@ -1,21 +1,31 @@
 // Lists in a line: the variables that take results, the opcode, the arguments.
 ghost use Rattle.std.specs.Prelude.{◌≡◌, ◌≤◌, Ok, length, map};
 ghost use Rattle.cs_grammar.specs.Tree.{argument};
-ghost use Rattle.cs_grammar.specs.Reading.{next, after, ends_line};
-ghost use Rattle.cs_grammar.specs.Lines.{no_target, target, targets, operation, called, is_other_text};
-ghost use Rattle.cs_grammar.specs.Parts.{is_variable};
-ghost use Rattle.cs_grammar.specs.Answers.{Gives};
+ghost use Rattle.cs_grammar.specs.Reading.{next, after};
+ghost use Rattle.cs_grammar.specs.Lines.{no_target, target, operation, called, is_other_text};
+ghost use Rattle.cs_grammar.specs.Parts.{is_variable, is_opcode};
+ghost use Rattle.cs_grammar.specs.inner.Answers.{Gives};
+ghost use Rattle.cs_grammar.specs.inner.Rows.{targets, quoted};
 ghost use Rattle.cs_grammar.specs.Grammar.{ReadsArg, ReadsList, ReadsArgs};
 ghost use Rattle.cs_grammar.specs.declared.symbol.Kind.TheVariants as kind;
-ghost use Rattle.cs_ir.specs.declared.catalogue.Opcode.TheVariants as opcode;
+ghost use Rattle.cs_grammar.specs.declared.lists.Role.TheVariants as role;
+ghost use Rattle.cs_words.specs.declared.catalogue.Opcode.TheVariants as opcode;
+ghost use Rattle.cs_words.specs.declared.word.Word.TheVariants as word;
 
 use crate::expr::Level;
-use crate::parser::{Expected, Parser};
+use crate::parser::Parser;
 use crate::scope::{Place, Scope};
-use crate::symbol::{Keyword, Kind};
+use crate::symbol::{Expected, Kind};
 use crate::tree::{Arg, Args};
 use cs_base::{Name, Names, Or, OrcFault, OrcKind};
-use cs_ir::Opcode;
+use cs_words::{Opcode, Word};
+
+/// As what a value stands in a list: as an argument of a call, or as a result of a definition.
+#[derive(Clone, Copy)]
+pub enum Role {
+    Argument,
+    Result,
+}
 
 impl Kind {
     // The kind of fault of a symbol that can take no value.
@@ -23,16 +33,10 @@ impl Kind {
         ensures { result ≡ no_target self }
     {
         match self {
-            Kind::Field(_) | Kind::Header(_) => OrcKind::Unexpected,
+            Kind::Word(Word::Field(_) | Word::Header(_)) => OrcKind::Unexpected,
             _ if self.is_word() => OrcKind::NotInProfile,
             _ => OrcKind::Unexpected,
         }
-    }
-
-    fn ends_line(self) -> bool
-        ensures { result ≡ ends_line self }
-    {
-        matches!(self, Kind::NewLine | Kind::End)
     }
 }
 
@@ -41,12 +45,23 @@ impl<'s> Parser<'s> {
     pub fn at_variable(&self, scope: &Scope) -> bool
         ensures { result ≡ is_variable scope.now (next self.now) }
     {
-        matches!(self.kind(), Kind::Name) && !scope.is_defined(self.text())
+        matches!(self.kind(), Kind::Word(Word::Name)) && !scope.is_defined(self.text())
+    }
+
+    // Whether the next symbol is an opcode.
+    pub fn at_opcode(&self, scope: &Scope) -> bool
+        ensures { result ≡ is_opcode scope.now (next self.now) (next self.now).kind }
+    {
+        match self.rest() {
+            [] => false,
+            [next, ..] => scope.is_opcode(next),
+        }
     }
 
     // Takes the next symbol's bytes as a name.
     fn take_name(&mut self) -> Result<Name, Or<OrcFault>>
-        ensures reads { Gives (λ n. n) result self.new (λ o. o ≡ Ok ((next self.old).text, after self.old)) }
+        ensures reads { Gives (λ n. n) result self.new
+            (λ o. o ≡ Ok ((next self.old).text, after self.old)) }
         ensures goes { length self.new ≤ length self.old }
     {
         let name = self.name()?;
@@ -89,23 +104,26 @@ impl<'s> Parser<'s> {
 
     /// Reads the opcode of a call.
     pub fn operation(&mut self, scope: &Scope) -> Result<Name, Or<OrcFault>>
-        ensures reads { Gives (λ n. n) result self.new (λ o. o ≡ operation scope.now (Ok self.old)) }
+        ensures reads { Gives (λ n. n) result self.new
+            (λ o. o ≡ operation scope.now (Ok self.old)) }
         ensures goes { length self.new ≤ length self.old }
     {
         match self.kind() {
-            Kind::Opcode(Opcode::Zakinit) => self.space(scope),
-            Kind::Opcode(Opcode::EventI) => self.event(scope),
-            Kind::Keyword(Keyword::Xin) => Err(self.fault(scope.x_kind())),
-            Kind::Keyword(_) | Kind::Foreign => Err(self.misfit(scope, OrcKind::Unexpected)),
-            kind if kind.is_word() => self.called(scope),
+            Kind::Word(Word::Opcode(Opcode::Zakinit)) => self.space(scope),
+            Kind::Word(Word::Opcode(Opcode::EventI)) => self.event(scope),
+            Kind::Word(Word::Keyword(_) | Word::Foreign) => {
+                Err(self.misfit(scope, OrcKind::Unexpected))
+            }
+            Kind::Word(_) => self.called(scope),
             _ => Err(self.misfit(scope, OrcKind::Unexpected)),
         }
     }
 
     // `zakinit` stands outside instruments and definitions alone.
     fn space(&mut self, scope: &Scope) -> Result<Name, Or<OrcFault>>
-        requires { (next self.old).kind ≡ kind.Opcode opcode.Zakinit }
-        ensures reads { Gives (λ n. n) result self.new (λ o. o ≡ operation scope.now (Ok self.old)) }
+        requires { (next self.old).kind ≡ kind.Word (word.Opcode opcode.Zakinit) }
+        ensures reads { Gives (λ n. n) result self.new
+            (λ o. o ≡ operation scope.now (Ok self.old)) }
         ensures goes { length self.new ≤ length self.old }
     {
         if matches!(scope.place(), Place::Outside) {
@@ -116,8 +134,9 @@ impl<'s> Parser<'s> {
     }
 
     fn event(&mut self, scope: &Scope) -> Result<Name, Or<OrcFault>>
-        requires { (next self.old).kind ≡ kind.Opcode opcode.EventI }
-        ensures reads { Gives (λ n. n) result self.new (λ o. o ≡ operation scope.now (Ok self.old)) }
+        requires { (next self.old).kind ≡ kind.Word (word.Opcode opcode.EventI) }
+        ensures reads { Gives (λ n. n) result self.new
+            (λ o. o ≡ operation scope.now (Ok self.old)) }
         ensures goes { length self.new ≤ length self.old }
     {
         let name = self.take_name()?;
@@ -138,38 +157,51 @@ impl<'s> Parser<'s> {
         }
     }
 
-    fn argument(&mut self, scope: &Scope) -> Result<Arg, Or<OrcFault>>
-        ensures reads { Gives argument result self.new (ReadsArg scope.now self.old) }
+    fn argument(&mut self, scope: &Scope, role: Role) -> Result<Arg, Or<OrcFault>>
+        ensures reads { Gives argument result self.new (ReadsArg scope.now role self.old) }
         ensures goes { length self.new ≤ length self.old }
     {
         if self.next_is(Expected::Text) {
-            return Ok(Arg::Text(self.take_name()?));
+            return self.quoted(role);
         }
         Ok(Arg::Value(self.expr(scope, Level::Expr)?))
     }
 
-    /// Reads arguments, one at least.
-    pub fn list(&mut self, scope: &Scope) -> Result<Args, Or<OrcFault>>
-        ensures reads { Gives (λ v. map argument v.items) result self.new (ReadsList scope.now (Ok self.old)) }
+    // A text, which is no result of a definition.
+    fn quoted(&mut self, role: Role) -> Result<Arg, Or<OrcFault>>
+        ensures reads { Gives argument result self.new (λ o. o ≡ quoted role self.old) }
+        ensures goes { length self.new ≤ length self.old }
+    {
+        match role {
+            Role::Argument => Ok(Arg::Text(self.take_name()?)),
+            Role::Result => Err(self.fault(OrcKind::XinXout)),
+        }
+    }
+
+    /// Reads arguments or results, one at least.
+    pub fn list(&mut self, scope: &Scope, role: Role) -> Result<Args, Or<OrcFault>>
+        ensures reads { Gives (λ v. map argument v.items) result self.new
+            (ReadsList scope.now role (Ok self.old)) }
         ensures goes { length self.new ≤ length self.old }
     {
         let mut args = Vec::new(self.alloc());
-        args.push(self.argument(scope)?)?;
+        args.push(self.argument(scope, role)?)?;
         while self.next_is(Expected::Comma) {
             self.skip();
-            args.push(self.argument(scope)?)?;
+            args.push(self.argument(scope, role)?)?;
         }
         Ok(args)
     }
 
     /// Reads the arguments up to the end of the line, or none.
     pub fn arguments(&mut self, scope: &Scope) -> Result<Args, Or<OrcFault>>
-        ensures reads { Gives (λ v. map argument v.items) result self.new (ReadsArgs scope.now (Ok self.old)) }
+        ensures reads { Gives (λ v. map argument v.items) result self.new
+            (ReadsArgs scope.now (Ok self.old)) }
         ensures goes { length self.new ≤ length self.old }
     {
         if self.kind().ends_line() {
             return Ok(Vec::new(self.alloc()));
         }
-        self.list(scope)
+        self.list(scope, Role::Argument)
     }
 }

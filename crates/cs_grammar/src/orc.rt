@@ -5,21 +5,24 @@ ghost use Rattle.cs_base.specs.declared.fault.OrcFault.{OrcFault};
 ghost use Rattle.cs_lex.specs.Lexed.{Lexed};
 ghost use Rattle.cs_grammar.specs.declared.orc.ItemForm.TheVariants as item;
 ghost use Rattle.cs_grammar.specs.Symbols.{Symbol};
-ghost use Rattle.cs_grammar.specs.Tree.{instrument, orchestra};
-ghost use Rattle.cs_grammar.specs.Lines.{header_line, instrument_number, one_number, numbers};
-ghost use Rattle.cs_grammar.specs.Answers.{Gives, OrcSoFar, ReadsOn};
-ghost use Rattle.cs_grammar.specs.Orchestra.{item_form, item_form_of, ReadsInstr, ReadsOrc, Tree, ParseFault};
+ghost use Rattle.cs_grammar.specs.Tree.{block, instrument, orchestra};
+ghost use Rattle.cs_grammar.specs.Reading.{after, ended};
+ghost use Rattle.cs_grammar.specs.Lines.{header_line, instrument_number, one_number};
+ghost use Rattle.cs_grammar.specs.inner.Rows.{numbers};
+ghost use Rattle.cs_grammar.specs.inner.Answers.{Gives, IsInstrBody, OrcSoFar, ReadsOn};
+ghost use Rattle.cs_grammar.specs.Orchestra.{item_form, item_form_of, nothing, ReadsInstr, ReadsOrc, Tree, ParseFault};
 
-use crate::parser::{Expected, Parser};
-use crate::scope::{Defined, Given, Scope};
-use crate::symbol::{Keyword, Kind};
-use crate::tree::{HeadLine, HeadName, Instr, Orc};
+use crate::parser::Parser;
+use crate::scope::{Given, Scope};
+use crate::symbol::{Expected, Kind};
+use crate::tree::{HeadLine, Instr, Orc, Stmts};
 use cs_base::{Num, Numbers, Or, OrcFault, OrcKind};
 use cs_lex::{Tokens, tokens_stand_in_the_text};
+use cs_words::{HeadName, Keyword, NameSet, Word};
 use std::alloc::Global;
 
 /// What stands next outside instruments and definitions.
-#[derive(Clone, Copy, Debug, PartialEq, Eq)]
+#[derive(Clone, Copy)]
 pub enum ItemForm {
     Header(HeadName),
     Instr,
@@ -34,9 +37,9 @@ impl ItemForm {
     {
         match kind {
             Kind::End => ItemForm::End,
-            Kind::Header(name) if equals => ItemForm::Header(name),
-            Kind::Keyword(Keyword::Instr) => ItemForm::Instr,
-            Kind::Keyword(Keyword::Opcode) => ItemForm::Opcode,
+            Kind::Word(Word::Header(name)) if equals => ItemForm::Header(name),
+            Kind::Word(Word::Keyword(Keyword::Instr)) => ItemForm::Instr,
+            Kind::Word(Word::Keyword(Keyword::Opcode)) => ItemForm::Opcode,
             _ => ItemForm::Statement,
         }
     }
@@ -54,16 +57,29 @@ fn instrument_number(value: Num) -> Option<u32>
     }
 }
 
+// An orchestra of which nothing is read.
+fn empty(alloc: Global) -> Orc
+    ensures { orchestra result ≡ nothing }
+{
+    Orc {
+        head: Vec::new(alloc),
+        opcodes: Vec::new(alloc),
+        zero: Vec::new(alloc),
+        instrs: Vec::new(alloc),
+    }
+}
+
 impl<'s> Parser<'s> {
     fn item_form(&self) -> ItemForm
         ensures { result ≡ item_form self.now }
     {
-        ItemForm::of(self.kind(), matches!(self.second(), Kind::Equals))
+        ItemForm::of(self.kind(), self.second_is(Expected::Equals))
     }
 
     // Reads a header line: its name, `=`, a number.
     fn header_line(&mut self, scope: &Scope, name: HeadName) -> Result<HeadLine, Or<OrcFault>>
-        ensures reads { Gives (λ h. h) result self.new (λ o. o ≡ header_line scope.now name self.old) }
+        ensures reads { Gives (λ h. h) result self.new
+            (λ o. o ≡ header_line scope.now name self.old) }
         ensures goes { length self.new ≤ length self.old }
     {
         let line = self.line();
@@ -79,7 +95,8 @@ impl<'s> Parser<'s> {
 
     // Reads an instrument's number, which no instrument before has.
     fn number(&mut self, scope: &Scope, given: &mut Given) -> Result<u32, Or<OrcFault>>
-        ensures reads { Gives (λ n. n) result self.new (λ o. o ≡ one_number scope.now given.old self.old) }
+        ensures reads { Gives (λ n. n) result self.new
+            (λ o. o ≡ one_number scope.now given.old self.old) }
         ensures given { IfOk result (λ n. given.new ≡ given.old ++ n ∷ []) }
         ensures goes { length self.new ≤ length self.old }
     {
@@ -98,7 +115,8 @@ impl<'s> Parser<'s> {
     }
 
     fn numbers(&mut self, scope: &Scope, given: &mut Given) -> Result<Numbers, Or<OrcFault>>
-        ensures reads { Gives (λ ns. ns) result self.new (λ o. o ≡ numbers scope.now given.old self.old) }
+        ensures reads { Gives (λ ns. ns) result self.new
+            (λ o. o ≡ numbers scope.now given.old self.old) }
         ensures given { IfOk result (λ ns. given.new ≡ given.old ++ ns) }
         ensures goes { length self.new ≤ length self.old }
     {
@@ -112,19 +130,16 @@ impl<'s> Parser<'s> {
     }
 
     // Reads an instrument.
-    fn instr(&mut self, defined: &Defined<'s>, given: &mut Given) -> Result<Instr, Or<OrcFault>>
-        ensures reads { Gives instrument result self.new (ReadsInstr defined.now given.old self.old) }
+    fn instr(&mut self, defined: &NameSet<'s>, given: &mut Given) -> Result<Instr, Or<OrcFault>>
+        ensures reads { Gives instrument result self.new
+            (ReadsInstr defined.now given.old self.old) }
         ensures given { IfOk result (λ i. given.new ≡ given.old ++ i.numbers) }
         ensures goes { length self.new ≤ length self.old }
     {
         let line = self.line();
         let scope = Scope::in_instrument(defined);
-        self.skip();
-        let numbers = self.numbers(&scope, given)?;
-        self.end_line(&scope)?;
-        let body = self.block(&scope)?;
-        self.pass(&scope, Expected::Endin)?;
-        self.end_line(&Scope::outside(defined))?;
+        let numbers = self.instr_line(&scope, given)?;
+        let body = self.instr_body(&scope, defined)?;
         Ok(Instr {
             line,
             numbers,
@@ -132,12 +147,37 @@ impl<'s> Parser<'s> {
         })
     }
 
+    // Reads the line of `instr`.
+    fn instr_line(&mut self, scope: &Scope, given: &mut Given) -> Result<Numbers, Or<OrcFault>>
+        ensures reads { Gives (λ ns. ns) result self.new
+            (λ o. o ≡ ended scope.now (numbers scope.now given.old (after self.old))) }
+        ensures given { IfOk result (λ ns. given.new ≡ given.old ++ ns) }
+        ensures goes { length self.new ≤ length self.old }
+    {
+        self.skip();
+        let numbers = self.numbers(scope, given)?;
+        self.end_line(scope)?;
+        Ok(numbers)
+    }
+
+    // Reads the statements of an instrument, and the line of `endin`.
+    fn instr_body(&mut self, scope: &Scope, defined: &NameSet<'s>) -> Result<Stmts, Or<OrcFault>>
+        ensures reads { Gives (λ v. block v.items) result self.new
+            (IsInstrBody scope.now defined.now self.old) }
+        ensures goes { length self.new ≤ length self.old }
+    {
+        let body = self.block(scope)?;
+        self.pass(scope, Expected::Endin)?;
+        self.end_line(&Scope::outside(defined))?;
+        Ok(body)
+    }
+
     // Reads the header line that is next, into an orchestra.
     fn add_header(
         &mut self,
         name: HeadName,
         orc: &mut Orc,
-        defined: &Defined<'s>,
+        defined: &NameSet<'s>,
         given: &Given,
     ) -> Result<(), Or<OrcFault>>
         requires { item_form self.old ≡ item.Header name }
@@ -154,7 +194,7 @@ impl<'s> Parser<'s> {
     fn add_instr(
         &mut self,
         orc: &mut Orc,
-        defined: &Defined<'s>,
+        defined: &NameSet<'s>,
         given: &mut Given,
     ) -> Result<(), Or<OrcFault>>
         requires { item_form self.old ≡ item.Instr }
@@ -171,7 +211,7 @@ impl<'s> Parser<'s> {
     fn add_definition(
         &mut self,
         orc: &mut Orc,
-        defined: &mut Defined<'s>,
+        defined: &mut NameSet<'s>,
         given: &Given,
     ) -> Result<(), Or<OrcFault>>
         requires { item_form self.old ≡ item.Opcode }
@@ -189,7 +229,7 @@ impl<'s> Parser<'s> {
     fn add_stmt(
         &mut self,
         orc: &mut Orc,
-        defined: &Defined<'s>,
+        defined: &NameSet<'s>,
         given: &Given,
     ) -> Result<(), Or<OrcFault>>
         requires { item_form self.old ≡ item.Statement }
@@ -206,7 +246,7 @@ impl<'s> Parser<'s> {
     fn add_item(
         &mut self,
         orc: &mut Orc,
-        defined: &mut Defined<'s>,
+        defined: &mut NameSet<'s>,
         given: &mut Given,
     ) -> Result<(), Or<OrcFault>>
         requires { item_form self.old ≢ item.End }
@@ -228,18 +268,26 @@ impl<'s> Parser<'s> {
         ensures { Gives orchestra result self.new (ReadsOrc [] [] (Ok self.old)) }
     {
         let alloc = self.alloc();
-        let mut orc = Orc {
-            head: Vec::new(alloc),
-            opcodes: Vec::new(alloc),
-            zero: Vec::new(alloc),
-            instrs: Vec::new(alloc),
-        };
-        let mut defined = Defined::new(alloc);
-        let mut given = Given::new(alloc);
-        while !self.at_end() {
-            self.add_item(&mut orc, &mut defined, &mut given)?;
-        }
+        let mut orc = empty(alloc);
+        self.add_items(&mut orc, &mut NameSet::new(alloc), &mut Given::new(alloc))?;
         Ok(orc)
+    }
+
+    // Reads all that is left, into an orchestra.
+    fn add_items(
+        &mut self,
+        orc: &mut Orc,
+        defined: &mut NameSet<'s>,
+        given: &mut Given,
+    ) -> Result<(), Or<OrcFault>>
+        ensures reads { (first : List Symbol) → OrcSoFar first (orchestra orc.old) defined.old given.old self.old
+            → ReadsOn result first (OrcSoFar first (orchestra orc.new) defined.new given.new self.new) }
+        ensures end { IfOk result (λ _. item_form self.new ≡ item.End) }
+    {
+        while !self.at_end() {
+            self.add_item(orc, defined, given)?;
+        }
+        Ok(())
     }
 
     fn at_end(&self) -> bool

@@ -3,11 +3,11 @@ ghost use Rattle.std.specs.Prelude.{◌≡◌, ◌≤◌, IfOk, length};
 ghost use Rattle.std.specs.List.{All};
 ghost use Rattle.cs_base.specs.declared.fault.Or.TheVariants as or;
 ghost use Rattle.cs_grammar.specs.Symbols.{symbols};
-ghost use Rattle.cs_grammar.specs.Reading.{next, after, fault, misfit};
-ghost use Rattle.cs_grammar.specs.Answers.{Passes, matches, past, line_past};
+ghost use Rattle.cs_grammar.specs.Reading.{next, after, next_is, fault, misfit};
+ghost use Rattle.cs_grammar.specs.inner.Answers.{Passes, past, line_past};
 
-use crate::scope::{Place, Scope};
-use crate::symbol::{Keyword, Kind, Symbol, symbols};
+use crate::scope::Scope;
+use crate::symbol::{Expected, Kind, Symbol, symbols};
 use cs_base::{Items, Name, Or, OrcFault, OrcKind, OutOfMemory};
 use cs_lex::Token;
 use std::alloc::{AllocError, Global};
@@ -75,6 +75,13 @@ impl<'s> Parser<'s> {
         }
     }
 
+    /// Whether the symbol after the next is what is asked for.
+    pub fn second_is(&self, expected: Expected) -> bool
+        ensures { result ≡ next_is expected (after self.now) }
+    {
+        expected.is(self.second())
+    }
+
     pub fn text(&self) -> &'s [u8]
         ensures { result.now ≡ (next self.now).text }
     {
@@ -126,14 +133,14 @@ impl<'s> Parser<'s> {
     }
 
     pub fn next_is(&self, expected: Expected) -> bool
-        ensures { result ≡ matches expected (next self.now).kind }
+        ensures { result ≡ next_is expected self.now }
     {
-        expected.matches(self.kind())
+        expected.is(self.kind())
     }
 
     /// Takes a symbol that must come next.
     pub fn pass(&mut self, scope: &Scope, expected: Expected) -> Result<(), Or<OrcFault>>
-        ensures passes { Passes result self.new (past scope.now (matches expected) self.old) }
+        ensures passes { Passes result self.new (past scope.now expected self.old) }
         ensures goes { length self.new ≤ length self.old }
     {
         if self.next_is(expected) {
@@ -156,46 +163,6 @@ impl<'s> Parser<'s> {
             }
             Kind::End => Ok(()),
             _ => Err(self.misfit(scope, OrcKind::Unexpected)),
-        }
-    }
-}
-
-/// A kind of symbol that is asked for.
-#[derive(Clone, Copy, Debug, PartialEq, Eq)]
-pub enum Expected {
-    Close,
-    Colon,
-    Comma,
-    Question,
-    Text,
-    Then,
-    Elseif,
-    Else,
-    Endif,
-    Endin,
-    Endop,
-    Xin,
-    Xout,
-}
-
-impl Expected {
-    fn matches(self, kind: Kind) -> bool
-        ensures { result ≡ matches self kind }
-    {
-        match self {
-            Expected::Close => matches!(kind, Kind::Close),
-            Expected::Colon => matches!(kind, Kind::Colon),
-            Expected::Comma => matches!(kind, Kind::Comma),
-            Expected::Question => matches!(kind, Kind::Question),
-            Expected::Text => matches!(kind, Kind::Text),
-            Expected::Then => matches!(kind, Kind::Keyword(Keyword::Then)),
-            Expected::Elseif => matches!(kind, Kind::Keyword(Keyword::Elseif)),
-            Expected::Else => matches!(kind, Kind::Keyword(Keyword::Else)),
-            Expected::Endif => matches!(kind, Kind::Keyword(Keyword::Endif)),
-            Expected::Endin => matches!(kind, Kind::Keyword(Keyword::Endin)),
-            Expected::Endop => matches!(kind, Kind::Keyword(Keyword::Endop)),
-            Expected::Xin => matches!(kind, Kind::Keyword(Keyword::Xin)),
-            Expected::Xout => matches!(kind, Kind::Keyword(Keyword::Xout)),
         }
     }
 }

@@ -1,62 +1,23 @@
 // Where a line stands, and which opcodes are defined before it.
-ghost use Rattle.std.specs.Prelude.{◌≡◌, ◌++◌, ◌∷◌, [], ℕ, List, false, OnOk, ◌<◌, nat_lt, if◌then◌else◌};
-ghost use Rattle.cs_grammar.specs.Reading.{has, outside, in_instrument, in_definition, deeper, has_number, misfit_kind, open_kind, instr_kind};
-ghost use Rattle.cs_base.specs.declared.fault.OrcKind.TheVariants as orc;
-ghost use Rattle.cs_grammar.specs.Lines.{is_own, x_kind};
-ghost use Rattle.cs_grammar.specs.declared.stmt.LineForm.TheVariants as form;
+ghost use Rattle.std.specs.Prelude.{◌≡◌, ◌++◌, ◌∷◌, [], false, OnOk, ◌<◌};
+ghost use Rattle.cs_words.specs.NameSets.{has};
+ghost use Rattle.cs_grammar.specs.Reading.{outside, in_instrument, in_definition, deeper, has_number, misfit_kind, keyword_kind, early, open_kind, instr_kind, x_kind};
+ghost use Rattle.cs_grammar.specs.Parts.{is_opcode};
+ghost use Rattle.cs_grammar.specs.Lines.{is_own};
 
-use crate::stmt::LineForm;
-use crate::symbol::{Keyword, Kind};
+use crate::symbol::{Kind, Symbol};
 use cs_base::{OrcKind, OutOfMemory};
+use cs_words::{Keyword, NameSet, Sign, Word};
 use indexmap::IndexSet;
 use std::alloc::Global;
 use std::marker::Model;
 
 /// Where a line stands.
-#[derive(Clone, Copy, Debug, PartialEq, Eq)]
+#[derive(Clone, Copy)]
 pub enum Place {
     Outside,
     Instrument,
     Definition,
-}
-
-/// The names of the opcodes that are defined so far, in order.
-#[derive(Drop)]
-pub struct Defined<'s> {
-    names: IndexSet<&'s [u8]>,
-}
-
-impl<'s> Model for Defined<'s> {
-    ghost use Rattle.std.specs.Prelude.{ℕ, List, map};
-
-    ghost Value = { List (List ℕ) };
-
-    ghost view = { λ d. map (λ n. n.now) d.names.keys };
-}
-
-impl<'s> Defined<'s> {
-    pub fn new(alloc: Global) -> Defined<'s>
-        ensures { result ≡ [] }
-    {
-        Defined {
-            names: IndexSet::new(alloc),
-        }
-    }
-
-    pub fn has(&self, name: &[u8]) -> bool
-        ensures { result ≡ has self.now name.now }
-    {
-        self.names.contains(name)
-    }
-
-    /// Adds a name that isn't there.
-    pub fn add(&mut self, name: &'s [u8]) -> Result<(), OutOfMemory>
-        requires { has self.old name.now ≡ false }
-        ensures { OnOk result (self.new ≡ self.old ++ name.now ∷ []) }
-    {
-        self.names.insert(name)?;
-        Ok(())
-    }
 }
 
 /// The numbers that instruments have so far, in order.
@@ -105,7 +66,7 @@ pub struct Scope<'a, 's> {
     place: Place,
     depth: u32,
     own: &'a [u8],
-    defined: &'a Defined<'s>,
+    defined: &'a NameSet<'s>,
 }
 
 impl<'a, 's> Model for Scope<'a, 's> {
@@ -117,7 +78,7 @@ impl<'a, 's> Model for Scope<'a, 's> {
 }
 
 impl<'a, 's> Scope<'a, 's> {
-    pub fn outside(defined: &'a Defined<'s>) -> Scope<'a, 's>
+    pub fn outside(defined: &'a NameSet<'s>) -> Scope<'a, 's>
         ensures { result ≡ outside defined.now }
     {
         Scope {
@@ -128,7 +89,7 @@ impl<'a, 's> Scope<'a, 's> {
         }
     }
 
-    pub fn in_instrument(defined: &'a Defined<'s>) -> Scope<'a, 's>
+    pub fn in_instrument(defined: &'a NameSet<'s>) -> Scope<'a, 's>
         ensures { result ≡ in_instrument defined.now }
     {
         Scope {
@@ -139,7 +100,7 @@ impl<'a, 's> Scope<'a, 's> {
         }
     }
 
-    pub fn in_definition(own: &'a [u8], defined: &'a Defined<'s>) -> Scope<'a, 's>
+    pub fn in_definition(own: &'a [u8], defined: &'a NameSet<'s>) -> Scope<'a, 's>
         ensures { result ≡ in_definition own.now defined.now }
     {
         Scope {
@@ -189,39 +150,62 @@ impl<'a, 's> Scope<'a, 's> {
         self.defined.has(name)
     }
 
+    /// Whether a symbol is an opcode: of the catalogue, or defined.
+    pub fn is_opcode(&self, symbol: &Symbol) -> bool
+        ensures { result ≡ is_opcode self.now symbol.now symbol.now.kind }
+    {
+        match symbol.kind() {
+            Kind::Word(Word::Opcode(_)) => true,
+            Kind::Word(Word::Field(_) | Word::Name | Word::Other) => {
+                self.is_defined(symbol.text())
+            }
+            _ => false,
+        }
+    }
+
     /// The kind of fault of a symbol that fits no rule, where another would have the usual kind.
     pub fn misfit_kind(&self, usual: OrcKind, kind: Kind) -> OrcKind
         ensures { result ≡ misfit_kind self.now usual kind }
     {
         match kind {
-            Kind::Beyond | Kind::Foreign => OrcKind::NotInProfile,
-            Kind::End => self.open_kind(),
-            Kind::Keyword(Keyword::Endin | Keyword::Endop) => self.early_end(usual),
-            Kind::Keyword(Keyword::Instr) => self.instr_kind(usual),
+            Kind::Beyond | Kind::Sign(Sign::Beyond) | Kind::Word(Word::Foreign) => {
+                OrcKind::NotInProfile
+            }
+            Kind::Word(Word::Keyword(keyword)) => self.keyword_kind(usual, keyword),
+            Kind::End => self.early(self.open_kind()),
             _ => usual,
         }
     }
 
-    fn open_kind(&self) -> OrcKind
-        ensures { result ≡ (if nat_lt 0 self.now.depth then orc.MissingEndif else open_kind self.now.place) }
+    fn keyword_kind(&self, usual: OrcKind, keyword: Keyword) -> OrcKind
+        ensures { result ≡ keyword_kind self.now usual keyword }
     {
-        if self.depth > 0 {
-            return OrcKind::MissingEndif;
-        }
-        match self.place {
-            Place::Outside => OrcKind::Unexpected,
-            Place::Instrument => OrcKind::MissingEndin,
-            Place::Definition => OrcKind::MissingEndop,
+        match keyword {
+            Keyword::Endin | Keyword::Endop => self.early(usual),
+            Keyword::Instr => self.instr_kind(usual),
+            Keyword::Xin | Keyword::Xout => self.x_kind(usual),
+            _ => usual,
         }
     }
 
-    fn early_end(&self, usual: OrcKind) -> OrcKind
-        ensures { result ≡ (if nat_lt 0 self.now.depth then orc.MissingEndif else usual) }
+    // Inside an `if`, what ends the text or the part around lacks its `endif`.
+    fn early(&self, usual: OrcKind) -> OrcKind
+        ensures { result ≡ early self.now usual }
     {
         if self.depth > 0 {
             OrcKind::MissingEndif
         } else {
             usual
+        }
+    }
+
+    fn open_kind(&self) -> OrcKind
+        ensures { result ≡ open_kind self.now.place }
+    {
+        match self.place {
+            Place::Outside => OrcKind::Unexpected,
+            Place::Instrument => OrcKind::MissingEndin,
+            Place::Definition => OrcKind::MissingEndop,
         }
     }
 
@@ -234,25 +218,12 @@ impl<'a, 's> Scope<'a, 's> {
         }
     }
 
-    /// The kind of fault of an `xin` or `xout` that stands wrong.
-    pub fn x_kind(&self) -> OrcKind
-        ensures { result ≡ x_kind self.now.place }
+    fn x_kind(&self, usual: OrcKind) -> OrcKind
+        ensures { result ≡ x_kind self.now.place usual }
     {
         match self.place {
             Place::Definition => OrcKind::XinXout,
-            _ => OrcKind::Unexpected,
-        }
-    }
-
-    /// How a line that begins with `if` is read.
-    pub fn if_form(&self) -> LineForm
-        ensures form { result ≡ (if nat_lt self.now.depth 100 then form.Conditional else form.Beyond) }
-        ensures shallow { result ≡ form.Conditional → self.now.depth < 100 }
-    {
-        if self.depth < 100 {
-            LineForm::Conditional
-        } else {
-            LineForm::Beyond
+            _ => usual,
         }
     }
 }

@@ -1,23 +1,24 @@
 // Statements, and the ones in an `if`.
-ghost use Rattle.std.specs.Prelude.{◌≡◌, ◌≢◌, ◌≤◌, ◌<◌, ℕ, Ok, length, false};
-ghost use Rattle.cs_base.specs.declared.fault.Or.TheVariants as or;
+ghost use Rattle.std.specs.Prelude.{◌≡◌, ◌≢◌, ◌≤◌, ◌<◌, ℕ, Ok, length, false, nat_lt, if◌then◌else◌};
 ghost use Rattle.cs_grammar.specs.declared.stmt.LineForm.TheVariants as form;
 ghost use Rattle.cs_grammar.specs.declared.tree.Arm.{out-Arm};
 ghost use Rattle.cs_grammar.specs.Tree.{expression, of_what, statement, block, arms, otherwise};
-ghost use Rattle.cs_grammar.specs.Reading.{next, is_elseif};
-ghost use Rattle.cs_grammar.specs.Lines.{is_opcode, word_form, line_form, misplaced_fault};
-ghost use Rattle.cs_grammar.specs.Answers.{Gives, GivesLine, IsArm};
+ghost use Rattle.cs_grammar.specs.declared.symbol.Expected.TheVariants as expected;
+ghost use Rattle.cs_grammar.specs.Reading.{next, next_is};
+ghost use Rattle.cs_grammar.specs.Lines.{word_form, line_form};
+ghost use Rattle.cs_grammar.specs.inner.Answers.{Gives, GivesLine, IsArm, IsCondition};
 ghost use Rattle.cs_grammar.specs.Grammar.{assign, ends_block, ReadsStmt, ReadsBlock, ReadsArms, ReadsMore};
 
 use crate::expr::Level;
-use crate::parser::{Expected, Parser};
+use crate::parser::Parser;
 use crate::scope::{Place, Scope};
-use crate::symbol::{Keyword, Kind};
+use crate::symbol::{Expected, Kind};
 use crate::tree::{Arm, Arms, Expr, OrcStmt, StmtWhat, Stmts};
 use cs_base::{Name, Names, Or, OrcFault, OrcKind};
+use cs_words::{Keyword, Sign, Word};
 
 /// How a line is read: by its first word and the symbol after it.
-#[derive(Clone, Copy, Debug, PartialEq, Eq)]
+#[derive(Clone, Copy)]
 pub enum LineForm {
     /// `name = ..` or `name += ..`
     Assignment,
@@ -34,15 +35,27 @@ pub enum LineForm {
 }
 
 impl LineForm {
+    // The form of a line that begins with `if`.
+    fn of_if(scope: &Scope) -> LineForm
+        ensures form { result ≡ (if nat_lt scope.now.depth 100 then form.Conditional else form.Beyond) }
+        ensures shallow { result ≡ form.Conditional → scope.now.depth < 100 }
+    {
+        if scope.depth() < 100 {
+            LineForm::Conditional
+        } else {
+            LineForm::Beyond
+        }
+    }
+
     // The form of a line that begins with a word: by what follows, and whether the word is an opcode.
     fn of_word(second: Kind, opcode: bool) -> LineForm
         ensures form { result ≡ word_form second opcode }
         ensures other { result ≢ form.Conditional }
     {
         match second {
-            Kind::Colon => LineForm::Beyond,
-            Kind::Equals | Kind::PlusEquals => LineForm::Assignment,
-            Kind::Comma => LineForm::Results,
+            Kind::Sign(Sign::Colon) => LineForm::Beyond,
+            Kind::Sign(Sign::Equals | Sign::PlusEquals) => LineForm::Assignment,
+            Kind::Sign(Sign::Comma) => LineForm::Results,
             _ if opcode => LineForm::Bare,
             kind if kind.is_word() => LineForm::Results,
             _ => LineForm::Bare,
@@ -55,40 +68,21 @@ fn assigned(sign: Kind, name: Name, value: Expr) -> StmtWhat
     ensures { (line : ℕ) → of_what line result ≡ assign line sign name (expression value) }
 {
     match sign {
-        Kind::PlusEquals => StmtWhat::AddTo(name, value),
+        Kind::Sign(Sign::PlusEquals) => StmtWhat::AddTo(name, value),
         _ => StmtWhat::Set(name, value),
     }
 }
 
 impl<'s> Parser<'s> {
-    fn at_opcode(&self, scope: &Scope) -> bool
-        ensures { result ≡ is_opcode scope.now (next self.now) (next self.now).kind }
-    {
-        match self.kind() {
-            Kind::Opcode(_) => true,
-            Kind::Field(_) | Kind::Name | Kind::Word => scope.is_defined(self.text()),
-            _ => false,
-        }
-    }
-
     fn line_form(&self, scope: &Scope) -> LineForm
         ensures form { result ≡ line_form scope.now self.now }
         ensures shallow { result ≡ form.Conditional → scope.now.depth < 100 }
     {
         match self.kind() {
-            Kind::Keyword(Keyword::If) => scope.if_form(),
-            Kind::Keyword(_) => LineForm::Misplaced,
-            kind if kind.is_word() => LineForm::of_word(self.second(), self.at_opcode(scope)),
+            Kind::Word(Word::Keyword(Keyword::If)) => LineForm::of_if(scope),
+            Kind::Word(Word::Keyword(_)) => LineForm::Misplaced,
+            Kind::Word(_) => LineForm::of_word(self.second(), self.at_opcode(scope)),
             _ => LineForm::Misplaced,
-        }
-    }
-
-    fn misplaced(&self, scope: &Scope) -> Or<OrcFault>
-        ensures { result ≡ or.Fault (misplaced_fault scope.now self.now (next self.now).kind) }
-    {
-        match self.kind() {
-            Kind::Keyword(Keyword::Xin | Keyword::Xout) => self.fault(scope.x_kind()),
-            _ => self.misfit(scope, OrcKind::Unexpected),
         }
     }
 
@@ -99,7 +93,7 @@ impl<'s> Parser<'s> {
         if scope.depth() > 0 {
             return matches!(
                 self.kind(),
-                Kind::Keyword(Keyword::Elseif | Keyword::Else | Keyword::Endif)
+                Kind::Word(Word::Keyword(Keyword::Elseif | Keyword::Else | Keyword::Endif))
             );
         }
         match scope.place() {
@@ -107,7 +101,7 @@ impl<'s> Parser<'s> {
             Place::Instrument => self.next_is(Expected::Endin),
             Place::Definition => matches!(
                 self.kind(),
-                Kind::Keyword(Keyword::Endop | Keyword::Xout)
+                Kind::Word(Word::Keyword(Keyword::Endop | Keyword::Xout))
             ),
         }
     }
@@ -135,7 +129,7 @@ impl<'s> Parser<'s> {
             LineForm::Bare => self.bare_call(scope),
             LineForm::Conditional => self.conditional(scope),
             LineForm::Beyond => Err(self.fault(OrcKind::NotInProfile)),
-            LineForm::Misplaced => Err(self.misplaced(scope)),
+            LineForm::Misplaced => Err(self.misfit(scope, OrcKind::Unexpected)),
         }
     }
 
@@ -187,7 +181,8 @@ impl<'s> Parser<'s> {
     /// Reads statements, up to what ends them.
     #[cycle(stmt)]
     pub fn block(&mut self, scope: &Scope) -> Result<Stmts, Or<OrcFault>>
-        ensures reads { Gives (λ v. block v.items) result self.new (ReadsBlock scope.now (Ok self.old)) }
+        ensures reads { Gives (λ v. block v.items) result self.new
+            (ReadsBlock scope.now (Ok self.old)) }
         ensures goes { length self.new ≤ length self.old }
     {
         let mut stmts = Vec::new(self.alloc());
@@ -200,7 +195,8 @@ impl<'s> Parser<'s> {
     // The arms after `if`, and the statements after `else`, with `endif`.
     #[cycle(stmt)]
     fn arms(&mut self, scope: &Scope) -> Result<(Arms, Stmts), Or<OrcFault>>
-        ensures reads { Gives (λ p. arms (block p.1.items) p.0.items) result self.new (ReadsArms scope.now (Ok self.old)) }
+        ensures reads { Gives (λ p. arms (block p.1.items) p.0.items) result self.new
+            (ReadsArms scope.now (Ok self.old)) }
         ensures goes { length self.new ≤ length self.old }
     {
         let mut chain = Vec::new(self.alloc());
@@ -219,18 +215,27 @@ impl<'s> Parser<'s> {
         ensures reads { Gives (λ a. (expression (out-Arm a).cond, block (out-Arm a).body.items)) result self.new (IsArm scope.now self.old) }
         ensures goes { length self.new ≤ length self.old }
     {
-        let cond = self.expr(scope, Level::Expr)?;
-        self.pass(scope, Expected::Then)?;
-        self.end_line(scope)?;
+        let cond = self.condition(scope)?;
         let body = self.block(scope)?;
         Ok(Arm { cond, body })
+    }
+
+    // A condition, with `then` and the end of its line.
+    fn condition(&mut self, scope: &Scope) -> Result<Expr, Or<OrcFault>>
+        ensures reads { Gives expression result self.new (IsCondition scope.now self.old) }
+        ensures goes { length self.new ≤ length self.old }
+    {
+        let cond = self.closed(scope, Expected::Then)?;
+        self.end_line(scope)?;
+        Ok(cond)
     }
 
     // The statements after `else`, if it is next, and `endif`.
     #[cycle(stmt)]
     fn otherwise(&mut self, scope: &Scope) -> Result<Stmts, Or<OrcFault>>
-        requires { is_elseif (next self.old).kind ≡ false }
-        ensures reads { Gives (λ v. otherwise (block v.items)) result self.new (ReadsMore scope.now (Ok self.old)) }
+        requires { next_is expected.Elseif self.old ≡ false }
+        ensures reads { Gives (λ v. otherwise (block v.items)) result self.new
+            (ReadsMore scope.now (Ok self.old)) }
         ensures goes { length self.new ≤ length self.old }
     {
         if !self.next_is(Expected::Else) {

@@ -1,61 +1,98 @@
 // What a token is to the grammar.
 ghost use Rattle.std.specs.Prelude.{◌≡◌, ◌≤◌, ◌<◌, ◌^◌, IfOk, length};
 ghost use Rattle.std.specs.List.{All};
+ghost use Rattle.cs_grammar.specs.Kinds.{is, is_word, is_plain, ends_line};
 ghost use Rattle.cs_grammar.specs.Symbols.{symbols, kind_after, unquoted, counted};
 
-use crate::tree::{BinOp, Func, HeadName};
-use crate::words::{kind_of_sign, kind_of_word};
 use cs_base::{Num, OutOfMemory};
-use cs_ir::Opcode;
 use cs_lex::{Mark, Token};
+use cs_words::{Keyword, Sign, Word, sign_of, word_of};
 use std::alloc::Global;
 use std::marker::Model;
 
-/// The words that no variable and no opcode may be called.
-#[derive(Clone, Copy, Debug, PartialEq, Eq)]
-pub enum Keyword {
-    Instr,
-    Endin,
-    If,
-    Then,
-    Elseif,
-    Else,
-    Endif,
-    Opcode,
-    Endop,
-    Xin,
-    Xout,
-}
-
 /// What a symbol is.
-#[derive(Clone, Copy, Debug, PartialEq, Eq)]
+#[derive(Clone, Copy)]
 pub enum Kind {
-    Keyword(Keyword),
-    Header(HeadName),
-    Func(Func),
-    /// `p1` to `p100`.
-    Field(u32),
-    Opcode(Opcode),
-    /// A word that begins like a variable: with i, k, a, gi, gk or ga.
-    Name,
-    /// A word of Csound that the profile leaves out.
-    Foreign,
-    /// Any other word.
-    Word,
+    Word(Word),
     Number(Num),
     Text,
-    Operator(BinOp),
+    Sign(Sign),
+    /// A token past the 1,000th of its line, whatever it is.
+    Beyond,
+    NewLine,
+    End,
+}
+
+impl Kind {
+    /// Whether the symbol is a word, a keyword too.
+    pub fn is_word(self) -> bool
+        ensures { result ≡ is_word self }
+    {
+        matches!(self, Kind::Word(_))
+    }
+
+    /// A word of the profile that is no keyword.
+    pub fn is_plain(self) -> bool
+        ensures { result ≡ is_plain self }
+    {
+        match self {
+            Kind::Word(Word::Keyword(_) | Word::Foreign) => false,
+            _ => self.is_word(),
+        }
+    }
+
+    pub fn ends_line(self) -> bool
+        ensures { result ≡ ends_line self }
+    {
+        matches!(self, Kind::NewLine | Kind::End)
+    }
+}
+
+/// What may be asked for of a symbol.
+#[derive(Clone, Copy)]
+pub enum Expected {
     Open,
     Close,
     Comma,
     Equals,
-    PlusEquals,
     Question,
     Colon,
-    /// A sign outside the profile, or a token past the 1,000th of its line.
-    Beyond,
-    NewLine,
+    Text,
+    Then,
+    Elseif,
+    Else,
+    Endif,
+    Endin,
+    Endop,
+    Xin,
+    Xout,
     End,
+}
+
+impl Expected {
+    /// Whether a symbol of this kind is what is asked for.
+    pub fn is(self, kind: Kind) -> bool
+        ensures { result ≡ is self kind }
+    {
+        match self {
+            Expected::Open => matches!(kind, Kind::Sign(Sign::Open)),
+            Expected::Close => matches!(kind, Kind::Sign(Sign::Close)),
+            Expected::Comma => matches!(kind, Kind::Sign(Sign::Comma)),
+            Expected::Equals => matches!(kind, Kind::Sign(Sign::Equals)),
+            Expected::Question => matches!(kind, Kind::Sign(Sign::Question)),
+            Expected::Colon => matches!(kind, Kind::Sign(Sign::Colon)),
+            Expected::Text => matches!(kind, Kind::Text),
+            Expected::Then => matches!(kind, Kind::Word(Word::Keyword(Keyword::Then))),
+            Expected::Elseif => matches!(kind, Kind::Word(Word::Keyword(Keyword::Elseif))),
+            Expected::Else => matches!(kind, Kind::Word(Word::Keyword(Keyword::Else))),
+            Expected::Endif => matches!(kind, Kind::Word(Word::Keyword(Keyword::Endif))),
+            Expected::Endin => matches!(kind, Kind::Word(Word::Keyword(Keyword::Endin))),
+            Expected::Endop => matches!(kind, Kind::Word(Word::Keyword(Keyword::Endop))),
+            Expected::Xin => matches!(kind, Kind::Word(Word::Keyword(Keyword::Xin))),
+            Expected::Xout => matches!(kind, Kind::Word(Word::Keyword(Keyword::Xout))),
+            Expected::End => matches!(kind, Kind::End),
+        }
+    }
 }
 
 /// A token as the grammar sees it: what it is, its bytes (those of a text without its quotation marks), and its line.
@@ -102,10 +139,10 @@ fn kind_after(place: usize, mark: Mark, bytes: &[u8]) -> Kind
         Mark::NewLine => Kind::NewLine,
         Mark::End => Kind::End,
         _ if place >= 1_000 => Kind::Beyond,
-        Mark::Word => kind_of_word(bytes),
+        Mark::Word => Kind::Word(word_of(bytes)),
         Mark::Number(value) => Kind::Number(value),
         Mark::Text => Kind::Text,
-        Mark::Sign => kind_of_sign(bytes),
+        Mark::Sign => Kind::Sign(sign_of(bytes)),
     }
 }
 

@@ -1,47 +1,9 @@
 // The tree of an orchestra: what the layers above read in place of tokens.
 use cs_base::{Name, Names, Num, Numbers, Rates};
-
-/// What a header line sets, and what an expression may read.
-#[derive(Clone, Copy, Debug, PartialEq, Eq)]
-pub enum HeadName {
-    Sr,
-    Kr,
-    Ksmps,
-    Nchnls,
-    Dbfs,
-}
-
-/// An operator between two expressions.
-#[derive(Clone, Copy, Debug, PartialEq, Eq)]
-pub enum BinOp {
-    Or,
-    And,
-    Less,
-    Greater,
-    LessEqual,
-    GreaterEqual,
-    Equal,
-    NotEqual,
-    Add,
-    Sub,
-    Mul,
-    Div,
-    Rem,
-}
-
-/// A function that an expression may call.
-#[derive(Clone, Copy, Debug, PartialEq, Eq)]
-pub enum Func {
-    Int,
-    Frac,
-    Abs,
-    Floor,
-    Cpspch,
-    I,
-}
+use cs_words::{BinOp, Func, HeadName};
 
 /// An expression. Brackets leave no trace: `(1)` is the number 1.
-#[derive(Debug, Drop)]
+#[derive(Drop)]
 pub enum Expr {
     /// A literal without a sign.
     Number(Num),
@@ -57,7 +19,7 @@ pub enum Expr {
 }
 
 /// An argument of a call.
-#[derive(Debug, Drop)]
+#[derive(Drop)]
 pub enum Arg {
     Value(Expr),
     /// A quoted text, without its quotation marks.
@@ -67,7 +29,7 @@ pub enum Arg {
 pub type Args = Vec<Arg>;
 
 /// A statement, with the line of its first token.
-#[derive(Debug, Drop)]
+#[derive(Drop)]
 #[cycle(stmt)]
 pub struct OrcStmt {
     pub line: u32,
@@ -77,7 +39,7 @@ pub struct OrcStmt {
 pub type Stmts = Vec<OrcStmt>;
 
 /// What a statement does.
-#[derive(Debug, Drop)]
+#[derive(Drop)]
 #[cycle(stmt)]
 pub enum StmtWhat {
     /// `name = expression`
@@ -91,7 +53,7 @@ pub enum StmtWhat {
 }
 
 /// A condition, and the statements that run where it is the first that holds.
-#[derive(Debug, Drop)]
+#[derive(Drop)]
 #[cycle(stmt)]
 pub struct Arm {
     pub cond: Expr,
@@ -101,7 +63,7 @@ pub struct Arm {
 pub type Arms = Vec<Arm>;
 
 /// A header line, as `sr = 48000`.
-#[derive(Clone, Copy, Debug, PartialEq, Eq)]
+#[derive(Clone, Copy, PartialEq, Eq)]
 pub struct HeadLine {
     pub line: u32,
     pub name: HeadName,
@@ -109,7 +71,7 @@ pub struct HeadLine {
 }
 
 /// An instrument, with the line of its `instr`.
-#[derive(Debug, Drop)]
+#[derive(Drop)]
 pub struct Instr {
     pub line: u32,
     /// Each from 1 to 32,767, and in no other instrument.
@@ -118,7 +80,7 @@ pub struct Instr {
 }
 
 /// A defined opcode, with the line of its `opcode`.
-#[derive(Debug, Drop)]
+#[derive(Drop)]
 pub struct Udo {
     pub line: u32,
     pub name: Name,
@@ -134,7 +96,7 @@ pub struct Udo {
 }
 
 /// An orchestra: its header lines, defined opcodes, statements outside both, and instruments, each in the order of the text.
-#[derive(Debug, Drop)]
+#[derive(Drop)]
 pub struct Orc {
     pub head: Vec<HeadLine>,
     pub opcodes: Vec<Udo>,

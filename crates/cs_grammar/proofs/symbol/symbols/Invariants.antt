@@ -1,6 +1,6 @@
 use Rattle.std.proofs.Common.{◌≡◌, ◌≤◌, ◌++◌, drop}
-use Rattle.cs_grammar.specs.Symbols.{symbols, symbols_from}
 use Rattle.cs_grammar.proofs.symbol.symbols.Given as goal
+use Rattle.cs_grammar.specs.Symbols.{symbols, symbols_from}
 
 abbrev pub invariant-loop-token : goal.invariant-loop-token
 invariant-loop-token l =

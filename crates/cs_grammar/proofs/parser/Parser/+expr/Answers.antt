@@ -1,13 +1,14 @@
 use Rattle.std.proofs.Common.{◌≡◌, ◌∙◌, Ok, Err, Some, None, sym, refl, ap, subst, arith, length}
 use Rattle.cs_grammar.specs.declared.expr.Level.TheVariants as at
-use Rattle.cs_grammar.specs.Reading.{next}
-use Rattle.cs_grammar.specs.Parts.{operator_of}
 use Rattle.cs_grammar.proofs.Sizes.{after_size}
-use Rattle.cs_grammar.specs.Tree.{expression}
-use Rattle.cs_grammar.specs.Grammar.{ReadsTail, binary, no_more, one_more, one_alone, fact_neg, fact_call, fact_group}
 use Rattle.cs_grammar.proofs.Gives.{failed, unpassed, made}
-use Rattle.cs_grammar.proofs.Rules.{group_fails, group_reads, call_fails, call_reads, pick_fails_yes, pick_fails_colon, pick_fails_no, pick_fails_close, pick_reads, right_fails, alone, none_of, raised}
+use Rattle.cs_grammar.proofs.Rules.{group_fails, group_reads, closed_is, call_is, pick_unmet, pick_is}
+use Rattle.cs_grammar.proofs.Rules.{right_fails, alone, none_of, raised}
 use Rattle.cs_grammar.proofs.parser.Parser.+expr.Goals as goal
+use Rattle.cs_grammar.specs.Grammar.{ReadsTail, binary, fact_group, fact_neg, no_more, one_alone, one_more}
+use Rattle.cs_grammar.specs.Parts.{operator_of}
+use Rattle.cs_grammar.specs.Reading.{next}
+use Rattle.cs_grammar.specs.Tree.{expression}
 
 pub negation-returns-in_err-part-clause-reads : goal.negation-returns-in_err-part-clause-reads
 negation-returns-in_err-part-clause-reads t c =
@@ -19,23 +20,37 @@ bracket-returns-in_err-first-clause-reads t c =
 
 pub bracket-returns-in_err-pass-clause-reads : goal.bracket-returns-in_err-pass-clause-reads
 bracket-returns-in_err-pass-clause-reads t c =
-    unpassed (Unit {0}) expression _ _ _ _ _ _ c.from_residual-in_err-pass.ensures.1 c.in_err-pass.ensures.passes (λ f p. group_fails (expression c.in_ok-first.first) c.expr.new.self f c.requires (rw c.skip.ensures at c.in_ok-first.ensures.reads) (sym c.next_is.ensures ∙ c.if-next_is.false) p)
+    unpassed (Unit {0}) expression _ _ _ _ _ _ c.from_residual-in_err-pass.ensures.1 c.in_err-pass.ensures.passes
+    (λ f p. group_fails (expression c.in_ok-first.first) c.expr.new.self f c.requires (rw c.skip.ensures at c.in_ok-first.ensures.reads)
+    (sym c.next_is.ensures ∙ c.if-next_is.false) p)
 
 pub bracket-returns-clause-reads : goal.bracket-returns-clause-reads
 bracket-returns-clause-reads t c =
-    group_reads (expression c.in_ok-first.first) c.expr.new.self c.pass.new.self c.requires (rw c.skip.ensures at c.in_ok-first.ensures.reads) (sym c.next_is.ensures ∙ c.if-next_is.false) c.in_ok-pass.ensures.passes
+    group_reads (expression c.in_ok-first.first) c.expr.new.self c.pass.new.self c.requires (rw c.skip.ensures at c.in_ok-first.ensures.reads)
+    (sym c.next_is.ensures ∙ c.if-next_is.false) c.in_ok-pass.ensures.passes
 
 pub function-returns-in_err-argument-clause-reads : goal.function-returns-in_err-argument-clause-reads
 function-returns-in_err-argument-clause-reads t c =
-    failed expression expression _ _ _ _ _ _ c.from_residual.ensures.1 c.in_err-argument.ensures.reads (λ f h. fact_call c.requires (rw (c.skip-2.ensures, c.skip.ensures) at h))
-
-pub function-returns-in_err-pass-clause-reads : goal.function-returns-in_err-pass-clause-reads
-function-returns-in_err-pass-clause-reads t c =
-    unpassed (Unit {0}) expression _ _ _ _ _ _ c.from_residual-in_err-pass.ensures.1 c.in_err-pass.ensures.passes (λ f p. call_fails c.args.func (expression c.in_ok-argument.argument) c.expr.new.self f c.requires (rw (c.skip-2.ensures, c.skip.ensures) at c.in_ok-argument.ensures.reads) p)
+    failed expression expression _ _ _ _ _ _ c.from_residual.ensures.1 c.in_err-argument.ensures.reads
+    (λ f h. call_is c.args.func (Err f) c.requires (rw (c.skip-2.ensures, c.skip.ensures) at h))
 
 pub function-returns-clause-reads : goal.function-returns-clause-reads
 function-returns-clause-reads t c =
-    made expression _ _ _ _ c.applied.ensures.value c.applied.ensures.memory (call_reads c.args.func (expression c.in_ok-argument.argument) c.expr.new.self c.pass.new.self c.requires (rw (c.skip-2.ensures, c.skip.ensures) at c.in_ok-argument.ensures.reads) c.in_ok-pass.ensures.passes)
+    made expression _ _ _ _ c.applied.ensures.value c.applied.ensures.memory (call_is c.args.func
+    (Ok (expression c.in_ok-argument.argument, c.closed.new.self)) c.requires (rw (c.skip-2.ensures, c.skip.ensures) at c.in_ok-argument.ensures.reads))
+
+pub closed-returns-in_err-part-clause-reads : goal.closed-returns-in_err-part-clause-reads
+closed-returns-in_err-part-clause-reads t c =
+    failed expression expression _ _ _ _ _ _ c.from_residual.ensures.1 c.in_err-part.ensures.reads (λ f h. (Err f, h, refl))
+
+pub closed-returns-in_err-pass-clause-reads : goal.closed-returns-in_err-pass-clause-reads
+closed-returns-in_err-pass-clause-reads t c =
+    unpassed (Unit {0}) expression _ _ _ _ _ _ c.from_residual-in_err-pass.ensures.1 c.in_err-pass.ensures.passes
+    (λ f p. closed_is c.args.end (expression c.in_ok-part.part) c.expr.new.self (Err f) c.in_ok-part.ensures.reads p)
+
+pub closed-returns-clause-reads : goal.closed-returns-clause-reads
+closed-returns-clause-reads t c =
+    closed_is c.args.end (expression c.in_ok-part.part) c.expr.new.self (Ok c.pass.new.self) c.in_ok-part.ensures.reads c.in_ok-pass.ensures.passes
 
 pub negation-returns-clause-reads : goal.negation-returns-clause-reads
 negation-returns-clause-reads t c =
@@ -43,23 +58,20 @@ negation-returns-clause-reads t c =
 
 pub choice-returns-in_err-yes-clause-reads : goal.choice-returns-in_err-yes-clause-reads
 choice-returns-in_err-yes-clause-reads t c =
-    failed expression expression _ _ _ _ _ _ c.from_residual.ensures.1 c.in_err-yes.ensures.reads (λ f h ts m k. pick_fails_yes (expression c.args.cond) c.args.self.now m k c.requires f (rw c.skip.ensures at h))
-
-pub choice-returns-in_err-pass-clause-reads : goal.choice-returns-in_err-pass-clause-reads
-choice-returns-in_err-pass-clause-reads t c =
-    unpassed (Unit {0}) expression _ _ _ _ _ _ c.from_residual-in_err-pass.ensures.1 c.in_err-pass.ensures.passes (λ f p ts m k. pick_fails_colon (expression c.args.cond) c.args.self.now m k c.requires (expression c.in_ok-yes.yes) c.expr.new.self f (rw c.skip.ensures at c.in_ok-yes.ensures.reads) p)
+    failed expression expression _ _ _ _ _ _ c.from_residual.ensures.1 c.in_err-yes.ensures.reads
+    (λ f h ts m k. pick_unmet (expression c.args.cond) c.args.self.now m k c.requires f (rw c.skip.ensures at h))
 
 pub choice-returns-in_err-no-clause-reads : goal.choice-returns-in_err-no-clause-reads
 choice-returns-in_err-no-clause-reads t c =
-    failed expression expression _ _ _ _ _ _ c.from_residual-in_err-no.ensures.1 c.in_err-no.ensures.reads (λ f h ts m k. pick_fails_no (expression c.args.cond) c.args.self.now m k c.requires (expression c.in_ok-yes.yes) c.expr.new.self c.pass.new.self f (rw c.skip.ensures at c.in_ok-yes.ensures.reads) c.in_ok-pass.ensures.passes h)
-
-pub choice-returns-in_err-pass-2-clause-reads : goal.choice-returns-in_err-pass-2-clause-reads
-choice-returns-in_err-pass-2-clause-reads t c =
-    unpassed (Unit {0}) expression _ _ _ _ _ _ c.from_residual-in_err-pass-2.ensures.1 c.in_err-pass-2.ensures.passes (λ f p ts m k. pick_fails_close (expression c.args.cond) c.args.self.now m k c.requires (expression c.in_ok-yes.yes) (expression c.in_ok-no.no) c.expr.new.self c.pass.new.self c.expr-2.new.self f (rw c.skip.ensures at c.in_ok-yes.ensures.reads) c.in_ok-pass.ensures.passes c.in_ok-no.ensures.reads p)
+    failed expression expression _ _ _ _ _ _ c.from_residual-in_err-no.ensures.1 c.in_err-no.ensures.reads
+    (λ f h ts m k. pick_is (expression c.args.cond) c.args.self.now m k c.requires (expression c.in_ok-yes.yes) c.closed.new.self (Err f)
+    (rw c.skip.ensures at c.in_ok-yes.ensures.reads) h)
 
 pub choice-returns-clause-reads : goal.choice-returns-clause-reads
 choice-returns-clause-reads t c =
-    made expression _ _ _ _ c.picked.ensures.value c.picked.ensures.memory (λ ts m k. pick_reads (expression c.args.cond) c.args.self.now m k c.requires (expression c.in_ok-yes.yes) (expression c.in_ok-no.no) c.expr.new.self c.pass.new.self c.expr-2.new.self c.pass-2.new.self (rw c.skip.ensures at c.in_ok-yes.ensures.reads) c.in_ok-pass.ensures.passes c.in_ok-no.ensures.reads c.in_ok-pass-2.ensures.passes)
+    made expression _ _ _ _ c.picked.ensures.value c.picked.ensures.memory (λ ts m k. pick_is (expression c.args.cond) c.args.self.now m k c.requires
+    (expression c.in_ok-yes.yes) c.closed.new.self (Ok (expression c.in_ok-no.no, c.closed-2.new.self)) (rw c.skip.ensures at c.in_ok-yes.ensures.reads)
+    c.in_ok-no.ensures.reads)
 
 pub fact-returns-in-Alone-clause-reads : goal.fact-returns-in-Alone-clause-reads
 fact-returns-in-Alone-clause-reads t c =
@@ -78,7 +90,8 @@ expr-loop-outer-init t c = record {
 
 pub expr-returns-in_err-value-2-clause-reads : goal.expr-returns-in_err-value-2-clause-reads
 expr-returns-in_err-value-2-clause-reads t c =
-    failed expression expression _ _ _ _ _ _ c.from_residual-in_err-value-2.ensures.1 c.in_err-value-2.ensures.reads (λ f h. raised c.args.level c.in-Some.outer c.in-Some.ensures.next.1 (binary c.in-Some.ensures.next.0 c.loop-outer.invariant.reads h))
+    failed expression expression _ _ _ _ _ _ c.from_residual-in_err-value-2.ensures.1 c.in_err-value-2.ensures.reads
+    (λ f h. raised c.args.level c.in-Some.outer c.in-Some.ensures.next.1 (binary c.in-Some.ensures.next.0 c.loop-outer.invariant.reads h))
 
 pub expr-loop-outer-preserved : goal.expr-loop-outer-preserved
 expr-loop-outer-preserved t c = record {
@@ -90,22 +103,27 @@ expr-loop-outer-preserved t c = record {
 pub operators-returns-in_err-right-clause-reads : goal.operators-returns-in_err-right-clause-reads
 operators-returns-in_err-right-clause-reads t c =
     let op : operator_of c.args.level (next c.loop-op.self).kind ≡ Some c.in-Some.op = cc in
-    failed expression expression _ _ _ _ _ _ c.from_residual.ensures.1 c.in_err-right.ensures.reads (λ f h. c.loop-op.invariant.reads (Err f) (right_fails (expression c.loop-op.left) f op c.requires (rw c.skip.ensures at h)))
+    failed expression expression _ _ _ _ _ _ c.from_residual.ensures.1 c.in_err-right.ensures.reads
+    (λ f h. c.loop-op.invariant.reads (Err f) (right_fails (expression c.loop-op.left) f op c.requires (rw c.skip.ensures at h)))
 
 pub operators-returns-then-not-repeats-clause-reads : goal.operators-returns-then-not-repeats-clause-reads
 operators-returns-then-not-repeats-clause-reads t c =
     let op : operator_of c.args.level (next c.loop-op.self).kind ≡ Some c.in-Some.op = cc in
-    c.loop-op.invariant.reads (Ok (expression c.in_ok-left.left, c.expr.new.self)) (subst (λ v. ReadsTail c.args.scope.now c.args.level (Ok (expression c.loop-op.left, c.loop-op.self)) (Ok (v, c.expr.new.self))) (sym c.in_ok-left.ensures.value) (one_alone op (sym c.if-not-repeats.ensures) c.requires (rw c.skip.ensures at c.in_ok-right.ensures.reads)))
+    c.loop-op.invariant.reads (Ok (expression c.in_ok-left.left, c.expr.new.self)) (subst
+    (λ v. ReadsTail c.args.scope.now c.args.level (Ok (expression c.loop-op.left, c.loop-op.self)) (Ok (v, c.expr.new.self)))
+    (sym c.in_ok-left.ensures.value) (one_alone op (sym c.if-not-repeats.ensures) c.requires (rw c.skip.ensures at c.in_ok-right.ensures.reads)))
 
 pub operators-loop-op-preserved : goal.operators-loop-op-preserved
 operators-loop-op-preserved t c =
     let op : operator_of c.args.level (next c.loop-op.self).kind ≡ Some c.in-Some.op = cc in
     record {
-      reads = λ out k. c.loop-op.invariant.reads out (one_more op (sym c.if-not-repeats.ensures) c.requires (rw c.skip.ensures at c.in_ok-right.ensures.reads) (subst (λ v. ReadsTail c.args.scope.now c.args.level (Ok (v, c.expr.new.self)) out) c.in_ok-left.ensures.value k));
+      reads = λ out k. c.loop-op.invariant.reads out (one_more op (sym c.if-not-repeats.ensures) c.requires (rw c.skip.ensures at c.in_ok-right.ensures.reads)
+          (subst (λ v. ReadsTail c.args.scope.now c.args.level (Ok (v, c.expr.new.self)) out) c.in_ok-left.ensures.value k));
       goes = omega (arith, c.in_ok-right.ensures.goes, c.loop-op.invariant.goes, ap length c.skip.ensures, after_size c.loop-op.self);
     }
 
 pub operators-returns-clause-reads : goal.operators-returns-clause-reads
 operators-returns-clause-reads t c =
-    let none : operator_of c.args.level (next c.loop-op.self).kind ≡ None = (ap (operator_of c.args.level) (sym c.kind.ensures) ∙ sym c.operator.ensures ∙ none_of c.operator.result c.in_default.not-Some) in
+    let none : operator_of c.args.level (next c.loop-op.self).kind ≡ None = (ap (operator_of c.args.level) (sym c.kind.ensures) ∙ sym c.operator.ensures ∙
+    none_of c.operator.result c.in_default.not-Some) in
     c.loop-op.invariant.reads (Ok (expression c.loop-op.left, c.loop-op.self)) (no_more none)

@@ -1,13 +1,16 @@
 use Rattle.std.proofs.Common.{◌+◌, ◌*◌, ◌-◌, ◌≤◌, length, Ok}
-use Rattle.cs_grammar.specs.Tree.{Expression, expression}
-use Rattle.cs_grammar.specs.Reading.{Reading}
-use Rattle.cs_grammar.specs.Parts.{rank}
-use Rattle.cs_grammar.specs.Grammar.{ReadsExpr, ReadsTail}
 use Rattle.cs_grammar.proofs.parser.Parser.+expr.Given as goal
+use Rattle.cs_grammar.specs.Grammar.{ReadsExpr, ReadsTail}
+use Rattle.cs_grammar.specs.Parts.{rank}
+use Rattle.cs_grammar.specs.Reading.{Reading}
+use Rattle.cs_grammar.specs.Tree.{Expression, expression}
 
 -- by what is left, and then by the level
 abbrev pub decreases-expr : goal.decreases-expr
 decreases-expr l = 16 * length l.self.now + (2 * rank l.level + 2)
+
+abbrev pub decreases-closed : goal.decreases-closed
+decreases-closed l = 16 * length l.self.now + 13
 
 abbrev pub decreases-operators : goal.decreases-operators
 decreases-operators l = 16 * length l.self.now + (2 * rank l.level + 1)
@@ -41,7 +44,8 @@ decreases-expr-loop-outer l = rank l.level - rank l.inner
 -- however the operators from here on are read, so are they all
 abbrev pub invariant-operators-loop-op : goal.invariant-operators-loop-op
 invariant-operators-loop-op l = record {
-  reads : (out : Reading Expression) → ReadsTail l.scope l.level (Ok (expression l.left, l.self)) out → ReadsTail l.scope l.level (Ok (expression l.fn.first, l.fn.self)) out;
+  reads : (out : Reading Expression) → ReadsTail l.scope l.level (Ok (expression l.left, l.self)) out
+      → ReadsTail l.scope l.level (Ok (expression l.fn.first, l.fn.self)) out;
   goes : length l.self ≤ length l.fn.self;
 }
 

@@ -1,0 +1,148 @@
+use Rattle.std.specs.Prelude.{ℕ, true, false, List, [], ◌∷◌, ◌++◌, ◌≡◌, ◌≢◌, ◌≤◌, ◌<◌, ◌+◌, codes, length, map}
+use Rattle.std.specs.Str.{byte}
+use Rattle.std.specs.List.{All, AllPairs}
+use Rattle.cs_words.specs.Names.{is_name, is_global, name_rate}
+use Rattle.cs_grammar.specs.declared.scope.Place.{Place}
+use Rattle.cs_grammar.specs.declared.scope.Place.TheVariants as place
+use Rattle.cs_grammar.specs.Tree.{Expression, number, var, field, head, neg, pair, pick, apply, Argument, value, text, Statement, set, add_to, call, choose}
+use Rattle.cs_grammar.specs.Tree.{Block, no_stmt, andthen, Arms, otherwise, arm, Instrument, Definition, Orchestra}
+use Rattle.cs_grammar.specs.declared.tree.HeadLine.{HeadLine}
+use Rattle.cs_grammar.specs.Orchestra.{nothing, with_header, with_instr, with_definition, with_stmt}
+use Rattle.cs_grammar.specs.Inputs.{AreDifferent}
+
+-- no full stop in a name: one that has it is no name of a text
+abbrev pub HasNoStop : List ℕ → Type 0
+HasNoStop n = All (λ b. b ≢ byte ".") n
+
+-- a variable's name begins with the letter of its rate, behind a g or not
+abbrev pub IsVariable : List ℕ → Type 0
+IsVariable n = (is_name n ≡ true) × HasNoStop n
+
+-- an expression whose variables are names, and whose fields are p1 to p100
+abbrev pub WellFormedExpr : Expression → Type 0
+WellFormedExpr (number v) = Unit {0}
+WellFormedExpr (var n) = IsVariable n
+WellFormedExpr (field k) = (1 ≤ k) × (k ≤ 100)
+WellFormedExpr (head h) = Unit {0}
+WellFormedExpr (neg a) = WellFormedExpr a
+WellFormedExpr (pair op a b) = WellFormedExpr a × WellFormedExpr b
+WellFormedExpr (pick c a b) = WellFormedExpr c × WellFormedExpr a × WellFormedExpr b
+WellFormedExpr (apply f a) = WellFormedExpr a
+
+abbrev pub WellFormedArg : Argument → Type 0
+WellFormedArg (value e) = WellFormedExpr e
+WellFormedArg (text t) = Unit {0}
+
+-- no text, but a value
+abbrev pub WellFormedValue : Argument → Type 0
+WellFormedValue (value e) = WellFormedExpr e
+WellFormedValue (text t) = ⊥
+
+-- what may be called: in an instrument or a definition no `zakinit`, in a definition not itself
+abbrev pub MayCall : Place → List ℕ → List ℕ → Type 0
+MayCall place.Outside own op = Unit {0}
+MayCall place.Instrument own op = op ≢ codes "zakinit"
+MayCall place.Definition own op = (op ≢ codes "zakinit") × (op ≢ own)
+
+-- the opcode of a call
+abbrev pub IsCall : Place → List ℕ → List ℕ → Type 0
+IsCall p own op = HasNoStop op × MayCall p own op
+
+-- Statements at a place, in the definition of a name, inside so many `if`s: an `if` stands inside at most 99 others.
+abbrev mutual
+  pub WellFormedStmt : Place → List ℕ → ℕ → Statement → Type 0
+  WellFormedStmt p own depth (set line n e) = IsVariable n × WellFormedExpr e
+  WellFormedStmt p own depth (add_to line n e) = IsVariable n × WellFormedExpr e
+  WellFormedStmt p own depth (call line ns op args) = All IsVariable ns × IsCall p own op × All WellFormedArg args
+  WellFormedStmt p own depth (choose line arms) = (depth < 100) × WellFormedArms p own (depth + 1) arms
+
+  pub WellFormedBlock : Place → List ℕ → ℕ → Block → Type 0
+  WellFormedBlock p own depth no_stmt = Unit {0}
+  WellFormedBlock p own depth (andthen x rest) = WellFormedStmt p own depth x × WellFormedBlock p own depth rest
+
+  pub WellFormedArms : Place → List ℕ → ℕ → Arms → Type 0
+  WellFormedArms p own depth (otherwise body) = WellFormedBlock p own depth body
+  WellFormedArms p own depth (arm c body rest) = WellFormedExpr c × WellFormedBlock p own depth body × WellFormedArms p own depth rest
+
+pub record WellFormedInstrument (i : Instrument) : Type 0 where
+  pub numbers : All (λ n. (1 ≤ n) × (n ≤ 32767)) i.numbers
+  pub body : WellFormedBlock place.Instrument [] 0 i.body
+
+-- the names of the inputs are different local variables, one for each letter, of its rate; one value for each result
+pub record WellFormedDefinition (d : Definition) : Type 0 where
+  pub name : HasNoStop d.name
+  pub local : All (λ n. IsVariable n × (is_global n ≡ false)) d.names
+  pub rates : map name_rate d.names ≡ d.ins
+  pub different : AreDifferent d.names
+  pub body : WellFormedBlock place.Definition d.name 0 d.body
+  pub values : length d.result ≡ length d.outs
+  pub each_value : All WellFormedValue d.result
+
+-- the line of a statement's first symbol
+abbrev pub line_of : Statement → ℕ
+line_of (set line n e) = line
+line_of (add_to line n e) = line
+line_of (call line ns op args) = line
+line_of (choose line arms) = line
+
+-- the numbers of all instruments
+abbrev pub all_numbers : List Instrument → List ℕ
+all_numbers [] = []
+all_numbers (i ∷ is) = i.numbers ++ all_numbers is
+
+-- What holds of every orchestra that is read.
+pub record IsWellFormed (o : Orchestra) : Type 0 where
+  pub outside : WellFormedBlock place.Outside [] 0 o.zero
+  pub instruments : All WellFormedInstrument o.instrs
+  pub definitions : All WellFormedDefinition o.opcodes
+  pub numbers : AreDifferent (all_numbers o.instrs)
+  pub opcodes : AreDifferent (map (λ d. d.name) o.opcodes)
+
+-- a part of an orchestra that stands in no other
+pub data Item : Type 0 where
+  header_item : HeadLine → Item
+  opcode_item : Definition → Item
+  stmt_item : Statement → Item
+  instr_item : Instrument → Item
+
+-- the lines of statements in the order of the text: that of an `if`, and then those in it
+abbrev mutual
+  pub stmt_lines : Statement → List ℕ
+  stmt_lines (set line n e) = line ∷ []
+  stmt_lines (add_to line n e) = line ∷ []
+  stmt_lines (call line ns op args) = line ∷ []
+  stmt_lines (choose line arms) = line ∷ arms_lines arms
+
+  pub block_lines : Block → List ℕ
+  block_lines no_stmt = []
+  block_lines (andthen x rest) = stmt_lines x ++ block_lines rest
+
+  pub arms_lines : Arms → List ℕ
+  arms_lines (otherwise body) = block_lines body
+  arms_lines (arm c body rest) = block_lines body ++ arms_lines rest
+
+-- the line of a part, and those of the statements in it
+abbrev pub item_lines : Item → List ℕ
+item_lines (header_item h) = h.line ∷ []
+item_lines (opcode_item d) = d.line ∷ block_lines d.body
+item_lines (stmt_item x) = stmt_lines x
+item_lines (instr_item i) = i.line ∷ block_lines i.body
+
+abbrev pub lines_of : List Item → List ℕ
+lines_of [] = []
+lines_of (i ∷ rest) = item_lines i ++ lines_of rest
+
+-- the orchestra of parts, each put into its list
+abbrev pub orchestra_of : List Item → Orchestra
+orchestra_of [] = nothing
+orchestra_of (header_item h ∷ rest) = with_header h (orchestra_of rest)
+orchestra_of (opcode_item d ∷ rest) = with_definition d (orchestra_of rest)
+orchestra_of (stmt_item x ∷ rest) = with_stmt x (orchestra_of rest)
+orchestra_of (instr_item i ∷ rest) = with_instr i (orchestra_of rest)
+
+-- An orchestra is made of parts whose lines ascend, with those of all statements in them: so lines tell the order of
+-- the text across the four lists.
+pub record InOrder (o : Orchestra) : Type 0 where
+  pub items : List Item
+  pub whole : o ≡ orchestra_of items
+  pub ascend : AllPairs (λ l m. l < m) (lines_of items)

@@ -1,0 +1,110 @@
+use Rattle.std.specs.Prelude.{ℕ, List, [], ◌++◌, ◌≡◌, Result, Ok, Err, if◌then◌else◌, map}
+use Rattle.cs_base.specs.declared.fault.Or.{Or}
+use Rattle.cs_base.specs.declared.fault.Or.TheVariants as or
+use Rattle.cs_base.specs.declared.fault.OrcFault.{OrcFault}
+use Rattle.cs_base.specs.declared.fault.OrcKind.TheVariants as orc
+use Rattle.cs_base.specs.declared.resource.Rate.{Rate}
+use Rattle.cs_grammar.specs.declared.symbol.Kind.{Kind}
+use Rattle.cs_grammar.specs.declared.symbol.Kind.TheVariants as kind
+use Rattle.cs_grammar.specs.declared.symbol.Expected.{Expected}
+use Rattle.cs_grammar.specs.declared.symbol.Expected.TheVariants as expected
+use Rattle.cs_grammar.specs.declared.expr.Level.TheVariants as level
+use Rattle.cs_grammar.specs.declared.tree.StmtWhat.{StmtWhat}
+use Rattle.cs_grammar.specs.declared.definition.Inside.{Inside}
+use Rattle.cs_grammar.specs.Tree.{Expression, of_what, Argument, argument, Block, block, joins, Definition, Orchestra}
+use Rattle.cs_grammar.specs.Headings.{Heading, types}
+use Rattle.cs_grammar.specs.inner.Takes.{inputs}
+use Rattle.cs_grammar.specs.Grammar.{ReadsExpr, ReadsStmt, ReadsBlock}
+use Rattle.cs_grammar.specs.Orchestra.{ReadsOrc, ReadsResult, behind_xout, definition_of}
+use Rattle.cs_grammar.specs.Symbols.{Symbol}
+use Rattle.cs_grammar.specs.Reading.{next, after, Left, Reading, left, both, three, mapped, next_is, through, ended, Scope, outside, misfit}
+
+-- What a call of the parser answers: a reading of the given kind, which leaves what is left then. Want of memory says nothing.
+abbrev pub Gives : {T A : Type 0} → (T → A) → Result T (Or OrcFault) → List Symbol → (Reading A → Type 0) → Type 0
+Gives see (Ok x) rest Is = Is (Ok (see x, rest))
+Gives see (Err (or.Fault f)) rest Is = Is (Err f)
+Gives see (Err or.OutOfMemory) rest Is = Unit {0}
+
+-- the same of a call that gives nothing but what it leaves
+abbrev pub Passes : {T : Type 0} → Result T (Or OrcFault) → List Symbol → Left → Type 0
+Passes (Ok x) rest st = st ≡ Ok rest
+Passes (Err (or.Fault f)) rest st = st ≡ Err f
+Passes (Err or.OutOfMemory) rest st = Unit {0}
+
+abbrev pub past : Scope → Expected → List Symbol → Left
+past s e ts = if next_is e ts then Ok (after ts) else Err (misfit s orc.Unexpected ts)
+
+abbrev pub line_past : Scope → Kind → List Symbol → Left
+line_past s kind.NewLine ts = Ok (after ts)
+line_past s kind.End ts = Ok ts
+line_past s _ ts = Err (misfit s orc.Unexpected ts)
+
+abbrev pub last_left : Scope → List Symbol → Left
+last_left s ts = if next_is expected.Endop ts then Ok ts else Err (behind_xout s ts)
+
+-- a statement, without the end of its line, which begins at these symbols
+abbrev pub GivesLine : Scope → List Symbol → Result StmtWhat (Or OrcFault) → List Symbol → Type 0
+GivesLine s ts result rest = Gives (of_what (next ts).line) result rest (λ o. ReadsStmt s ts (ended s o))
+
+-- the results and the inputs of a definition, with the end of their line
+abbrev pub signature : Scope → List Symbol → Reading (List Rate × List Rate)
+signature s ts =
+    let outs = types s (Ok ts) in
+    ended s (both (λ x y. (x, y)) outs (types s (left (through s expected.Comma outs))))
+
+-- an expression, and the symbol that must follow it
+abbrev pub IsClosed : Scope → Expected → List Symbol → Reading Expression → Type 0
+IsClosed s end ts o = (c : Reading Expression) × ReadsExpr s level.Expr (Ok ts) c × (o ≡ through s end c)
+
+-- a condition, with `then` and the end of its line
+abbrev pub IsCondition : Scope → List Symbol → Reading Expression → Type 0
+IsCondition s ts o = (c : Reading Expression) × ReadsExpr s level.Expr (Ok ts) c × (o ≡ ended s (through s expected.Then c))
+
+-- the statements of an instrument, and the line of `endin`
+abbrev pub IsInstrBody : Scope → List (List ℕ) → List Symbol → Reading Block → Type 0
+IsInstrBody s d ts o = (b : Reading Block) × ReadsBlock s (Ok ts) b × (o ≡ ended (outside d) (through s expected.Endin b))
+
+-- the names of a definition's inputs, its statements, its results
+abbrev pub Parts : Type 0
+Parts = List (List ℕ) × Block × List Argument
+
+abbrev pub inside : Inside → Parts
+inside p = (p.names, block p.body.items, map argument p.given.items)
+
+abbrev pub of_inside : Heading → Parts → Definition
+of_inside h p = definition_of h p.0 p.1 p.2
+
+abbrev pub IsInside : Scope → Heading → List Symbol → Reading Parts → Type 0
+IsInside s h ts o =
+    (n : Reading (List (List ℕ))) × (b : Reading Block) × (r : Reading (List Argument)) × (inputs s h ts ≡ n)
+    × ReadsBlock s (left n) b × ReadsResult s h.outs (left b) r × (o ≡ three (λ x y z. (x, y, z)) n b r)
+
+-- the same with the line of `endop`
+abbrev pub IsLines : Scope → List (List ℕ) → Heading → List Symbol → Reading Parts → Type 0
+IsLines s d h ts o = (p : Reading Parts) × IsInside s h ts p × (o ≡ ended (outside d) (through s expected.Endop p))
+
+-- an arm: its condition, and its statements
+abbrev pub IsArm : Scope → List Symbol → Reading (Expression × Block) → Type 0
+IsArm s ts o =
+    (c : Reading Expression) × (b : Reading Block) × ReadsExpr s level.Expr (Ok ts) c
+    × ReadsBlock s (left (ended s (through s expected.Then c))) b × (o ≡ both (λ x y. (x, y)) c b)
+
+-- an orchestra, and then another
+abbrev pub joined : Orchestra → Orchestra → Orchestra
+joined p q = record {
+  head = p.head ++ q.head;
+  opcodes = p.opcodes ++ q.opcodes;
+  zero = joins p.zero q.zero;
+  instrs = p.instrs ++ q.instrs;
+}
+
+-- however the rest of an orchestra is read, so is the whole, with what was read so far in front
+abbrev pub OrcSoFar : List Symbol → Orchestra → List (List ℕ) → List ℕ → List Symbol → Type 0
+OrcSoFar first o d g now =
+    (out : Reading Orchestra) → ReadsOrc d g (Ok now) out → ReadsOrc [] [] (Ok first) (mapped (joined o) out)
+
+-- a call that reads on has read so far, or found the fault of the whole
+abbrev pub ReadsOn : {T : Type 0} → Result T (Or OrcFault) → List Symbol → Type 0 → Type 0
+ReadsOn (Ok x) first so_far = so_far
+ReadsOn (Err (or.Fault f)) first so_far = ReadsOrc [] [] (Ok first) (Err f)
+ReadsOn (Err or.OutOfMemory) first so_far = Unit {0}

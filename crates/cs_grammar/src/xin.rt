@@ -1,0 +1,177 @@
+// The first line of a definition: the names that take its inputs.
+ghost use Rattle.std.specs.Prelude.{◌≡◌, ◌≤◌, ◌<◌, ◌*◌, ◌^◌, ◌++◌, IfOk, IfSome, length};
+ghost use Rattle.cs_words.specs.NameSets.{has};
+ghost use Rattle.cs_grammar.specs.Reading.{next};
+ghost use Rattle.cs_grammar.specs.Inputs.{is_free, is_local};
+ghost use Rattle.cs_grammar.specs.inner.Answers.{Gives};
+ghost use Rattle.cs_grammar.specs.inner.Takes.{input_count, plus_one, is_input, are_inputs, words, at_xin, inputs, no_names, taken_so_many, is_none, first_fits, after_first};
+
+use crate::heading::Heading;
+use crate::parser::Parser;
+use crate::scope::Scope;
+use crate::symbol::{Expected, Symbol};
+use cs_base::{Names, Or, OrcFault, OrcKind, Rate};
+use cs_words::{is_global, name_rate};
+use std::alloc::AllocError;
+
+// A word of the profile that is neither a keyword nor an opcode.
+fn is_free(scope: &Scope, symbol: &Symbol) -> bool
+    ensures { result ≡ is_free scope.now symbol.now }
+{
+    symbol.kind().is_plain() && !scope.is_opcode(symbol)
+}
+
+// How many free words stand before `xin`, with commas between them: None where the line isn't of that form.
+fn input_count(scope: &Scope, symbols: &[Symbol]) -> Option<usize>
+    ensures count { result ≡ input_count scope.now symbols.now }
+    ensures within { IfSome result (λ n. 2 * n ≤ length symbols.now) }
+    ensures some { IfSome result (λ n. 1 ≤ n) }
+{
+    match symbols {
+        [word, next, rest @ ..] if is_free(scope, word) => {
+            if Expected::Xin.is(next.kind()) {
+                Some(1)
+            } else if Expected::Comma.is(next.kind()) {
+                plus_one(input_count(scope, rest))
+            } else {
+                None
+            }
+        }
+        _ => None,
+    }
+}
+
+fn plus_one(count: Option<usize>) -> Option<usize>
+    requires { IfSome count (λ n. n < 2 ^ 63) }
+    ensures { result ≡ plus_one count }
+{
+    match count {
+        Some(n) => Some(n + 1),
+        None => None,
+    }
+}
+
+fn is_none(ins: &[Rate]) -> bool
+    ensures { result ≡ is_none ins.now }
+{
+    matches!(ins, [])
+}
+
+// The inputs after the first.
+fn after_first(ins: &[Rate]) -> &[Rate]
+    ensures { result.now ≡ after_first ins.now }
+{
+    match ins {
+        [] => ins,
+        [_, rest @ ..] => rest,
+    }
+}
+
+fn is_among(names: &Names, name: &[u8]) -> bool
+    ensures { result ≡ has names.now name.now }
+{
+    names
+        .as_slice()
+        .iter()
+        .any(|other| name == other.as_slice())
+}
+
+impl<'s> Parser<'s> {
+    // Whether the next symbol is a variable that each call has for itself.
+    fn at_local(&self, scope: &Scope) -> bool
+        ensures { result ≡ is_local scope.now (next self.now) }
+    {
+        self.at_variable(scope) && !is_global(self.text())
+    }
+
+    // Whether the next symbol is a local name of the rate that isn't among those before.
+    fn at_input(&self, scope: &Scope, before: &Names, rate: Rate) -> bool
+        ensures { result ≡ is_input scope.now before.now rate (next self.now) }
+    {
+        self.at_local(scope) && rate.same(name_rate(self.text())) && !is_among(before, self.text())
+    }
+
+    // Takes the names of so many inputs, and stops at `xin`. Answers whether they are the inputs' names.
+    fn take_inputs(
+        &mut self,
+        scope: &Scope,
+        ins: &[Rate],
+        count: usize,
+        names: &mut Names,
+    ) -> Result<bool, AllocError>
+        requires { 1 ≤ count }
+        ensures fit { IfOk result (λ fit. fit ≡ are_inputs scope.now names.old ins.now count self.old) }
+        ensures names { IfOk result (λ _. names.new ≡ names.old ++ words count self.old) }
+        ensures place { IfOk result (λ _. self.new ≡ at_xin count self.old) }
+        ensures goes { length self.new ≤ length self.old }
+    {
+        let fit = self.first_fits(scope, names, ins);
+        let rest = after_first(ins);
+        names.push(self.name()?)?;
+        self.skip();
+        if count == 1 {
+            return Ok(fit && is_none(rest));
+        }
+        self.skip();
+        let others = self.take_inputs(scope, rest, count - 1, names)?;
+        Ok(fit && others)
+    }
+
+    // Whether the next symbol is the name of the first of these inputs.
+    fn first_fits(&self, scope: &Scope, before: &Names, ins: &[Rate]) -> bool
+        ensures { result ≡ first_fits scope.now before.now ins.now (next self.now) }
+    {
+        match ins {
+            [] => false,
+            [rate, ..] => self.at_input(scope, before, *rate),
+        }
+    }
+
+    /// Reads the names that take the inputs.
+    pub fn inputs(&mut self, scope: &Scope, heading: &Heading) -> Result<Names, Or<OrcFault>>
+        ensures reads { Gives (λ ns. ns) result self.new
+            (λ o. o ≡ inputs scope.now heading.now self.old) }
+        ensures goes { length self.new ≤ length self.old }
+    {
+        if self.next_is(Expected::Xin) {
+            return Err(self.fault(OrcKind::XinXout));
+        }
+        match input_count(scope, self.rest()) {
+            Some(count) => self.taken(scope, heading, count),
+            None => self.no_names(heading),
+        }
+    }
+
+    fn no_names(&self, heading: &Heading) -> Result<Names, Or<OrcFault>>
+        ensures { Gives (λ ns. ns) result self.now (λ o. o ≡ no_names heading.now self.now) }
+    {
+        if is_none(heading.ins()) {
+            Ok(Names::new(self.alloc()))
+        } else {
+            Err(Or::Fault(OrcFault {
+                line: heading.line(),
+                kind: OrcKind::XinXout,
+            }))
+        }
+    }
+
+    fn taken(
+        &mut self,
+        scope: &Scope,
+        heading: &Heading,
+        count: usize,
+    ) -> Result<Names, Or<OrcFault>>
+        requires { 1 ≤ count }
+        ensures reads { Gives (λ ns. ns) result self.new
+            (λ o. o ≡ taken_so_many scope.now heading.now self.old count) }
+        ensures goes { length self.new ≤ length self.old }
+    {
+        let mut names = Names::new(self.alloc());
+        if !self.take_inputs(scope, heading.ins(), count, &mut names)? {
+            return Err(self.fault(OrcKind::XinXout));
+        }
+        self.skip();
+        self.end_line(scope)?;
+        Ok(names)
+    }
+}
