@@ -1,0 +1,13 @@
+pub mod Answers
+pub mod Cut
+pub mod Joined
+pub mod NoZakinit
+pub mod Ranges
+pub mod Rated
+pub mod RatedCalls
+pub mod RatedExpressions
+pub mod Renaming
+pub mod Rows
+pub mod SettingRows
+pub mod Trees
+pub mod Zaks

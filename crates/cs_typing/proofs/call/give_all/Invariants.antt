@@ -1,0 +1,10 @@
+use Rattle.std.proofs.Common.{◌≡◌, ◌++◌, drop, map}
+use Rattle.cs_grammar.specs.Tree.{argument}
+use Rattle.cs_typing.specs.Calls.{call_rate}
+use Rattle.cs_typing.specs.Known.{known_with, variable, given_all, Shared}
+use Rattle.cs_typing.specs.TypedTree as typed
+use Rattle.cs_typing.proofs.call.give_all.Given as goal
+
+abbrev pub invariant-loop-name : goal.invariant-loop-name
+invariant-loop-name l =
+    (s : Shared) → given_all (known_with s l.locals) (drop l.name-index l.results) ≡ given_all (known_with s l.initial.locals) l.results

@@ -1,0 +1,192 @@
+use Rattle.std.specs.Prelude.{ℕ, Bool, true, false, not, List, [], ◌∷◌, ◌++◌, ◌&&◌, ◌||◌, ◌+◌, ◌==◌, length, map, nat_lt, Option, Some, None, if◌then◌else◌}
+use Rattle.std.specs.List.{list_any, list_all}
+use Rattle.cs_base.specs.Rates.{same_rate, within}
+use Rattle.cs_base.specs.declared.fault.OrcKind.{OrcKind}
+use Rattle.cs_base.specs.declared.fault.OrcKind.TheVariants as orc
+use Rattle.cs_base.specs.declared.resource.Rate.{Rate}
+use Rattle.cs_base.specs.declared.resource.Rate.TheVariants as rate
+use Rattle.cs_words.specs.Catalogue.{Row, row_of, letter_at, takes_count, result_count}
+use Rattle.cs_words.specs.Names.{name_rate}
+use Rattle.cs_words.specs.declared.catalogue.Letter.{Letter}
+use Rattle.cs_words.specs.declared.catalogue.Letter.TheVariants as letter
+use Rattle.cs_words.specs.declared.catalogue.Opcode.{Opcode}
+use Rattle.cs_words.specs.declared.catalogue.Shape.{Shape}
+use Rattle.cs_words.specs.declared.catalogue.Shape.TheVariants as shape
+use Rattle.cs_grammar.specs.Tree.{Argument, value, text}
+use Rattle.cs_typing.specs.declared.call.Setting.{Setting}
+use Rattle.cs_typing.specs.Expressions.{is_init, is_audio, is_value, rate_of, reads_known, typed_expression}
+use Rattle.cs_typing.specs.Known.{Shared, Known, known_with, given_all, use_channel, clashes, channel_of, variable}
+use Rattle.cs_typing.specs.TypedTree as typed
+use Rattle.cs_typing.specs.declared.known.Channel.{Channel}
+use Rattle.cs_typing.specs.declared.known.Channel.TheVariants as channel
+
+-- A letter takes a value of a rate, where the result's rate is the bound.
+abbrev pub takes : Letter → Rate → Rate → Bool
+takes letter.Init bound r = is_init r
+takes letter.Table bound r = is_init r
+takes letter.Control bound r = within r bound && not (is_audio r)
+takes letter.Place bound r = within r bound && not (is_audio r)
+takes letter.Audio bound r = is_audio r
+takes letter.Held bound r = within r bound
+takes letter.Any bound r = true
+takes letter.Text bound r = false
+
+abbrev pub is_text : Letter → Bool
+is_text letter.Text = true
+is_text _ = false
+
+-- a letter takes an argument
+abbrev pub fits : Letter → Rate → Argument → Bool
+fits l bound (value e) = is_value e && takes l bound (rate_of e)
+fits l bound (text name) = is_text l
+
+-- each argument from a place on fits its letter
+abbrev pub all_fit : Row → Rate → ℕ → List Argument → Bool
+all_fit row bound n [] = true
+all_fit row bound n (a ∷ rest) = fits (letter_at row n) bound a && all_fit row bound (n + 1) rest
+
+-- the rate of the result, which bounds arguments; no result bounds nothing
+abbrev pub bound_of : List (List ℕ) → Rate
+bound_of [] = rate.Audio
+bound_of (name ∷ names) = name_rate name
+
+-- the result may have this name's rate
+abbrev pub may_result : Row → List ℕ → Bool
+may_result row name = list_any (same_rate (name_rate name)) row.results
+
+-- a value of the audio rate
+abbrev pub is_sound : Argument → Bool
+is_sound (value e) = is_audio (rate_of e)
+is_sound (text name) = false
+
+abbrev pub any_sound : List Argument → Bool
+any_sound args = list_any is_sound args
+
+-- a table is stored to sample by sample, or else at values that are held
+abbrev pub is_even : Shape → List Argument → Bool
+is_even shape.Store [] = true
+is_even shape.Store (a ∷ []) = true
+is_even shape.Store (a ∷ b ∷ rest) = if is_sound a then is_sound b else not (is_sound b)
+is_even _ args = true
+
+-- what may stand outside instruments
+abbrev pub stands_outside : Shape → Bool
+stands_outside shape.Init = true
+stands_outside shape.ZakInit = true
+stands_outside _ = false
+
+-- a channel of sounds, or else of control values
+abbrev pub kind_of : Bool → Channel
+kind_of sound = if sound then channel.Sound else channel.Control
+
+-- the kind of channel that a call uses, if it uses one
+abbrev pub channel_use : Shape → List (List ℕ) → List Argument → Option Channel
+channel_use shape.ChannelGet results args = Some (kind_of (is_audio (bound_of results)))
+channel_use shape.ChannelPut results args = Some (kind_of (any_sound args))
+channel_use shape.ChannelMix results args = Some channel.Sound
+channel_use shape.ChannelClear results args = Some channel.Sound
+channel_use _ results args = None
+
+-- the first text among the arguments
+abbrev pub text_of : List Argument → List ℕ
+text_of [] = []
+text_of (value e ∷ rest) = text_of rest
+text_of (text name ∷ rest) = name
+
+-- more sounds than the piece has channels
+abbrev pub is_too_wide : Setting → Shape → List Argument → Bool
+is_too_wide s shape.Out args = nat_lt s.channels (length args)
+is_too_wide s _ args = false
+
+-- an argument reads what is known
+abbrev pub argument_known : Known → Argument → Bool
+argument_known n (value e) = reads_known n e
+argument_known n (text name) = true
+
+abbrev pub all_known : Known → List Argument → Bool
+all_known n args = list_all (argument_known n) args
+
+-- arguments and results have the rates that the row allows, and the opcode may stand here
+abbrev pub rates_agree : Setting → Row → List (List ℕ) → List Argument → Bool
+rates_agree s row results args =
+    all_fit row (bound_of results) 0 args
+    && list_all (may_result row) results
+    && is_even row.shape args
+    && (s.inside || stands_outside row.shape)
+
+-- results and arguments are as many as the row says
+abbrev pub counts_agree : Row → List (List ℕ) → List Argument → Bool
+counts_agree row results args = length results == result_count row && takes_count row (length args)
+
+-- the first rule that a call of an opcode breaks
+abbrev pub row_fault : Setting → Known → Row → List (List ℕ) → List Argument → Option OrcKind
+row_fault s n row results args =
+    if not (counts_agree row results args) then Some orc.ArgCount
+    else (if not (all_known n args) then Some orc.Undefined
+    else (if not (rates_agree s row results args) then Some orc.RateMismatch
+    else (if clashes n.shared (channel_use row.shape results args) (text_of args) then Some orc.ChannelRate
+    else (if is_too_wide s row.shape args then Some orc.OutCount else None))))
+
+-- the first rule that a call breaks
+abbrev pub call_fault : Setting → Known → Option Opcode → List (List ℕ) → List Argument → Option OrcKind
+call_fault s n None results args = Some orc.UnknownOpcode
+call_fault s n (Some opcode) results args = row_fault s n (row_of opcode) results args
+
+-- what is known after a call
+abbrev pub row_known : Known → Row → List (List ℕ) → List Argument → Known
+row_known n row results args =
+    known_with (use_channel n.shared (channel_use row.shape results args) (text_of args)) (given_all n results).locals
+
+abbrev pub call_known : Known → Option Opcode → List (List ℕ) → List Argument → Known
+call_known n None results args = given_all n results
+call_known n (Some opcode) results args = row_known n (row_of opcode) results args
+
+-- what is done once, as the note begins, whatever its arguments
+abbrev pub is_starting : Shape → Bool
+is_starting shape.Init = true
+is_starting shape.ZakInit = true
+is_starting shape.Ask = true
+is_starting _ = false
+
+-- what is done once where all its arguments are known when the note begins
+abbrev pub is_writing : Shape → Bool
+is_writing shape.Store = true
+is_writing shape.ChannelPut = true
+is_writing _ = false
+
+-- a text, or a value that is known when the note begins
+abbrev pub is_still : Argument → Bool
+is_still (value e) = is_init (rate_of e)
+is_still (text name) = true
+
+-- the rate of a call without a result
+abbrev pub plain_rate : Shape → List Argument → Rate
+plain_rate sh args =
+    if is_writing sh && list_all is_still args then rate.Init
+    else (if any_sound args then rate.Audio else rate.Control)
+
+-- how often a call is done
+abbrev pub call_rate : Shape → List (List ℕ) → List Argument → Rate
+call_rate sh [] args = if is_starting sh then rate.Init else plain_rate sh args
+call_rate sh (name ∷ names) args = if is_starting sh then rate.Init else name_rate name
+
+-- the typed form of an argument: a text is the channel that it names, and is left out where it names none
+abbrev pub typed_argument : Known → Option Channel → Argument → List typed.Argument
+typed_argument n role (value e) = typed.value (typed_expression n e) ∷ []
+typed_argument n None (text name) = []
+typed_argument n (Some kind) (text name) = typed.text (channel_of n.shared kind name) ∷ []
+
+abbrev pub typed_arguments : Known → Option Channel → List Argument → List typed.Argument
+typed_arguments n role [] = []
+typed_arguments n role (a ∷ rest) = typed_argument n role a ++ typed_arguments n role rest
+
+-- the typed form of a call of an opcode
+abbrev pub typed_row : ℕ → Known → Opcode → Row → List (List ℕ) → List Argument → typed.Statement
+typed_row line n opcode row results args =
+    typed.call line (call_rate row.shape results args) (map (variable n) results) opcode
+    (typed_arguments n (channel_use row.shape results args) args)
+
+-- The typed form of a call. An unknown opcode has a fault, and so its form has no meaning.
+abbrev pub typed_call : ℕ → Known → Option Opcode → List (List ℕ) → List Argument → typed.Statement
+typed_call line n None results args = typed.choose line rate.Init (typed.otherwise typed.no_stmt)
+typed_call line n (Some opcode) results args = typed_row line n opcode (row_of opcode) results args

@@ -1,0 +1,104 @@
+use Rattle.std.specs.Prelude.{ℕ, Bool, true, false, not, List, ◌&&◌, if◌then◌else◌}
+use Rattle.cs_base.specs.Rates.{within, faster}
+use Rattle.cs_base.specs.declared.resource.Rate.{Rate}
+use Rattle.cs_base.specs.declared.resource.Rate.TheVariants as rate
+use Rattle.cs_words.specs.Names.{name_rate}
+use Rattle.cs_words.specs.declared.sign.BinOp.{BinOp}
+use Rattle.cs_words.specs.declared.sign.BinOp.TheVariants as op
+use Rattle.cs_words.specs.declared.word.Func.{Func}
+use Rattle.cs_words.specs.declared.word.Func.TheVariants as func
+use Rattle.cs_grammar.specs.Tree.{Expression, number, var, field, head, neg, pair, pick, apply}
+use Rattle.cs_typing.specs.Known.{Known, knows, variable}
+use Rattle.cs_typing.specs.TypedTree as typed
+
+abbrev pub is_init : Rate → Bool
+is_init rate.Init = true
+is_init _ = false
+
+abbrev pub is_control : Rate → Bool
+is_control rate.Control = true
+is_control _ = false
+
+abbrev pub is_audio : Rate → Bool
+is_audio rate.Audio = true
+is_audio _ = false
+
+-- the rate of a function's value: `i` of a variable is known when the note begins
+abbrev pub applied_rate : Func → Rate → Rate
+applied_rate func.I r = rate.Init
+applied_rate _ r = r
+
+-- The rate of an expression: the fastest of its parts. A variable's is in its name.
+abbrev pub rate_of : Expression → Rate
+rate_of (number v) = rate.Init
+rate_of (var name) = name_rate name
+rate_of (field k) = rate.Init
+rate_of (head h) = rate.Init
+rate_of (neg a) = rate_of a
+rate_of (pair o a b) = faster (rate_of a) (rate_of b)
+rate_of (pick c a b) = faster (rate_of c) (faster (rate_of a) (rate_of b))
+rate_of (apply f a) = applied_rate f (rate_of a)
+
+-- `+`, `-`, `*`, `/` and `%`; the other operators give truth values
+abbrev pub is_arithmetic : BinOp → Bool
+is_arithmetic op.Add = true
+is_arithmetic op.Sub = true
+is_arithmetic op.Mul = true
+is_arithmetic op.Div = true
+is_arithmetic op.Rem = true
+is_arithmetic _ = false
+
+-- `&&` and `||`
+abbrev pub is_logic : BinOp → Bool
+is_logic op.And = true
+is_logic op.Or = true
+is_logic _ = false
+
+-- the name of a variable of the control rate
+abbrev pub is_control_name : Expression → Bool
+is_control_name (var name) = is_control (name_rate name)
+is_control_name _ = false
+
+-- An expression that is a value, and one that is a condition: each with values and conditions where they are wanted. Conditions
+-- and `cpspch` take no sound, and `i` takes the name of a variable of the control rate.
+abbrev mutual
+  pub is_value : Expression → Bool
+  is_value (number v) = true
+  is_value (var name) = true
+  is_value (field k) = true
+  is_value (head h) = true
+  is_value (neg a) = is_value a
+  is_value (pair o a b) = is_arithmetic o && is_value a && is_value b
+  is_value (pick c a b) = is_condition c && is_value a && is_value b
+  is_value (apply func.I a) = is_control_name a
+  is_value (apply func.Cpspch a) = is_value a && not (is_audio (rate_of a))
+  is_value (apply f a) = is_value a
+
+  pub is_condition : Expression → Bool
+  is_condition (pair o a b) =
+      if is_logic o then is_condition a && is_condition b
+      else not (is_arithmetic o) && (is_value a && is_value b && not (is_audio (faster (rate_of a) (rate_of b))))
+  is_condition _ = false
+
+-- every variable that is read is known
+abbrev pub reads_known : Known → Expression → Bool
+reads_known n (number v) = true
+reads_known n (var name) = knows n name
+reads_known n (field k) = true
+reads_known n (head h) = true
+reads_known n (neg a) = reads_known n a
+reads_known n (pair o a b) = reads_known n a && reads_known n b
+reads_known n (pick c a b) = reads_known n c && reads_known n a && reads_known n b
+reads_known n (apply f a) = reads_known n a
+
+-- the typed form: variables in place of names, and each part's rate beside it
+abbrev pub typed_expression : Known → Expression → typed.Expression
+typed_expression n (number v) = typed.number rate.Init v
+typed_expression n (var name) = typed.var (name_rate name) (variable n name)
+typed_expression n (field k) = typed.field rate.Init k
+typed_expression n (head h) = typed.head rate.Init h
+typed_expression n (neg a) = typed.neg (rate_of (neg a)) (typed_expression n a)
+typed_expression n (pair o a b) = typed.pair (rate_of (pair o a b)) o (typed_expression n a) (typed_expression n b)
+typed_expression n (pick c a b) =
+    typed.pick (rate_of (pick c a b)) (typed_expression n c) (typed_expression n a) (typed_expression n b)
+typed_expression n (apply f a) = typed.apply (rate_of (apply f a)) f (typed_expression n a)

@@ -1,0 +1,103 @@
+use Rattle.std.specs.Prelude.{ℕ, Bool, true, false, List, [], ◌∷◌, Option, Some, None, if◌then◌else◌}
+use Rattle.cs_base.specs.declared.resource.Rate.{Rate}
+use Rattle.cs_base.specs.declared.resource.Rate.TheVariants as rate
+use Rattle.cs_base.specs.declared.resource.Res.{Res}
+use Rattle.cs_base.specs.declared.resource.Res.TheVariants as res
+use Rattle.cs_words.specs.Names.{name_rate, is_global}
+use Rattle.cs_words.specs.NameSets.{has, place_of, seen}
+use Rattle.cs_typing.specs.declared.known.Channel.{Channel}
+use Rattle.cs_typing.specs.declared.known.Channel.TheVariants as channel
+use Rattle.cs_typing.specs.declared.tree.Var.{Var}
+use Rattle.cs_typing.specs.declared.tree.Var.TheVariants as var
+
+-- names of variables by their rates, each list in the order in which they were first given
+pub record Table : Type 0 where
+  pub init : List (List ℕ)
+  pub control : List (List ℕ)
+  pub audio : List (List ℕ)
+
+abbrev pub no_names : Table
+no_names = record { init = []; control = []; audio = [] }
+
+-- the names of a rate
+abbrev pub of_rate : Rate → Table → List (List ℕ)
+of_rate rate.Init t = t.init
+of_rate rate.Control t = t.control
+of_rate rate.Audio t = t.audio
+
+-- a table with one more name of a rate, unless it is there
+abbrev pub with_name : Rate → Table → List ℕ → Table
+with_name rate.Init t name = record { init = seen t.init name; control = t.control; audio = t.audio }
+with_name rate.Control t name = record { init = t.init; control = seen t.control name; audio = t.audio }
+with_name rate.Audio t name = record { init = t.init; control = t.control; audio = seen t.audio name }
+
+abbrev pub in_table : Table → List ℕ → Bool
+in_table t name = has (of_rate (name_rate name) t) name
+
+abbrev pub place_in : Table → List ℕ → ℕ
+place_in t name = place_of (of_rate (name_rate name) t) name
+
+abbrev pub added : Table → List ℕ → Table
+added t name = with_name (name_rate name) t name
+
+-- What all bodies of an orchestra know alike: the global variables that any statement gives, and the channels that are used
+-- before, control channels and sound channels.
+pub record Shared : Type 0 where
+  pub globals : Table
+  pub control : List (List ℕ)
+  pub sound : List (List ℕ)
+
+-- what is known at a place of the text: what all bodies know, and the local variables that a statement of the body before gives
+pub record Known : Type 0 where
+  pub shared : Shared
+  pub locals : Table
+
+abbrev pub known_with : Shared → Table → Known
+known_with shared locals = record { shared = shared; locals = locals }
+
+-- a variable may be read
+abbrev pub knows : Known → List ℕ → Bool
+knows n name = if is_global name then in_table n.shared.globals name else in_table n.locals name
+
+-- the local variables after a variable was given
+abbrev pub after_giving : Table → List ℕ → Table
+after_giving locals name = if is_global name then locals else added locals name
+
+abbrev pub given : Known → List ℕ → Known
+given n name = known_with n.shared (after_giving n.locals name)
+
+abbrev pub given_all : Known → List (List ℕ) → Known
+given_all n [] = n
+given_all n (name ∷ names) = given_all (given n name) names
+
+-- what all bodies know after a channel was used
+abbrev pub used : Shared → Channel → List ℕ → Shared
+used s channel.Control name = record { globals = s.globals; control = seen s.control name; sound = s.sound }
+used s channel.Sound name = record { globals = s.globals; control = s.control; sound = seen s.sound name }
+
+abbrev pub use_channel : Shared → Option Channel → List ℕ → Shared
+use_channel s None name = s
+use_channel s (Some kind) name = used s kind name
+
+-- a channel was used before as one of the other kind
+abbrev pub clashes : Shared → Option Channel → List ℕ → Bool
+clashes s None name = false
+clashes s (Some channel.Control) name = has s.sound name
+clashes s (Some channel.Sound) name = has s.control name
+
+-- a global variable of a rate, by its number
+abbrev pub global : Rate → ℕ → Res
+global rate.Init k = res.Gi k
+global rate.Control k = res.Gk k
+global rate.Audio k = res.Ga k
+
+-- the variable of a name: a new name has the next number
+abbrev pub variable : Known → List ℕ → Var
+variable n name =
+    if is_global name then var.Global (global (name_rate name) (place_in n.shared.globals name))
+    else var.Local (name_rate name) (place_in n.locals name)
+
+-- the channel of a name: a new name has the next number
+abbrev pub channel_of : Shared → Channel → List ℕ → Var
+channel_of s channel.Control name = var.Global (res.Control (place_of s.control name))
+channel_of s channel.Sound name = var.Global (res.Sound (place_of s.sound name))

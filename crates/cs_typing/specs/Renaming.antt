@@ -1,0 +1,59 @@
+use Rattle.std.specs.Prelude.{ℕ, false, List, map, ◌≡◌, if◌then◌else◌}
+use Rattle.cs_words.specs.Names.{name_rate, is_global}
+use Rattle.cs_grammar.specs.Tree.{Expression, number, var, field, head, neg, pair, pick, apply, Argument, value, text, Statement, set, add_to, call, choose, Block, no_stmt, andthen, Arms, otherwise, arm}
+use Rattle.cs_typing.specs.Known.{Table, Known, known_with}
+
+-- Other names for local variables: of the same rates, local too, and never one for two.
+pub record IsRenaming (f : List ℕ → List ℕ) : Type 0 where
+  pub rate : (x : List ℕ) → is_global x ≡ false → name_rate (f x) ≡ name_rate x
+  pub stays : (x : List ℕ) → is_global x ≡ false → is_global (f x) ≡ false
+  pub apart : (x y : List ℕ) → is_global x ≡ false → is_global y ≡ false → f x ≡ f y → x ≡ y
+
+-- a variable's other name: global variables keep theirs
+abbrev pub renamed_name : (List ℕ → List ℕ) → List ℕ → List ℕ
+renamed_name f x = if is_global x then x else f x
+
+-- an expression with other names in it
+abbrev pub renamed_expression : (List ℕ → List ℕ) → Expression → Expression
+renamed_expression f (number v) = number v
+renamed_expression f (var name) = var (renamed_name f name)
+renamed_expression f (field k) = field k
+renamed_expression f (head h) = head h
+renamed_expression f (neg a) = neg (renamed_expression f a)
+renamed_expression f (pair o a b) = pair o (renamed_expression f a) (renamed_expression f b)
+renamed_expression f (pick c a b) = pick (renamed_expression f c) (renamed_expression f a) (renamed_expression f b)
+renamed_expression f (apply g a) = apply g (renamed_expression f a)
+
+-- an argument with other names in it: a text stays
+abbrev pub renamed_argument : (List ℕ → List ℕ) → Argument → Argument
+renamed_argument f (value e) = value (renamed_expression f e)
+renamed_argument f (text name) = text name
+
+-- statements with other names in them: the names of opcodes stay
+abbrev mutual
+  pub renamed : (List ℕ → List ℕ) → Statement → Statement
+  renamed f (set line name e) = set line (renamed_name f name) (renamed_expression f e)
+  renamed f (add_to line name e) = add_to line (renamed_name f name) (renamed_expression f e)
+  renamed f (call line results opcode args) =
+      call line (map (renamed_name f) results) opcode (map (renamed_argument f) args)
+  renamed f (choose line list) = choose line (renamed_arms f list)
+
+  pub renamed_block : (List ℕ → List ℕ) → Block → Block
+  renamed_block f no_stmt = no_stmt
+  renamed_block f (andthen x rest) = andthen (renamed f x) (renamed_block f rest)
+
+  pub renamed_arms : (List ℕ → List ℕ) → Arms → Arms
+  renamed_arms f (otherwise b) = otherwise (renamed_block f b)
+  renamed_arms f (arm c b rest) = arm (renamed_expression f c) (renamed_block f b) (renamed_arms f rest)
+
+-- names by their rates, each with its other name in its place
+abbrev pub renamed_table : (List ℕ → List ℕ) → Table → Table
+renamed_table f t = record {
+  init = map (renamed_name f) t.init;
+  control = map (renamed_name f) t.control;
+  audio = map (renamed_name f) t.audio;
+}
+
+-- what is known, with other names of local variables
+abbrev pub renamed_known : (List ℕ → List ℕ) → Known → Known
+renamed_known f n = known_with n.shared (renamed_table f n.locals)

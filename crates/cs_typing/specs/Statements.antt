@@ -1,0 +1,98 @@
+use Rattle.std.specs.Prelude.{ℕ, Bool, true, false, not, List, [], ◌∷◌, ◌&&◌, ◌||◌, Option, Some, None, if◌then◌else◌}
+use Rattle.std.specs.Option.{option_map, option_or}
+use Rattle.cs_base.specs.Rates.{within}
+use Rattle.cs_base.specs.declared.fault.OrcFault.{OrcFault}
+use Rattle.cs_base.specs.declared.fault.OrcKind.{OrcKind}
+use Rattle.cs_base.specs.declared.fault.OrcKind.TheVariants as orc
+use Rattle.cs_base.specs.declared.resource.Rate.{Rate}
+use Rattle.cs_base.specs.declared.resource.Rate.TheVariants as rate
+use Rattle.cs_words.specs.Catalogue.{catalogued}
+use Rattle.cs_words.specs.Names.{name_rate}
+use Rattle.cs_words.specs.declared.sign.BinOp.TheVariants as op
+use Rattle.cs_grammar.specs.Tree.{Expression, var, pair, Statement, set, add_to, call, choose, Block, no_stmt, andthen, Arms, otherwise, arm}
+use Rattle.cs_typing.specs.declared.call.Setting.{Setting}
+use Rattle.cs_typing.specs.Calls.{call_fault, call_known, typed_call}
+use Rattle.cs_typing.specs.Expressions.{is_init, is_value, is_condition, rate_of, reads_known, typed_expression}
+use Rattle.cs_typing.specs.Known.{Known, given, variable}
+use Rattle.cs_typing.specs.Settings.{at}
+use Rattle.cs_typing.specs.TypedTree as typed
+
+-- a value that a variable may take
+abbrev pub may_set : Setting → List ℕ → Expression → Bool
+may_set s name e = is_value e && within (rate_of e) (name_rate name) && (s.inside || is_init (name_rate name))
+
+-- the first rule that an assignment breaks
+abbrev pub set_fault : Setting → Known → List ℕ → Expression → Option OrcKind
+set_fault s n name e =
+    if not (reads_known n e) then Some orc.Undefined
+    else (if not (may_set s name e) then Some orc.RateMismatch else None)
+
+-- the first rule that the condition of an `if` breaks
+abbrev pub condition_fault : Setting → Known → Expression → Option OrcKind
+condition_fault s n e =
+    if not (reads_known n e) then Some orc.Undefined
+    else (if not (is_condition e && (s.inside || is_init (rate_of e))) then Some orc.RateMismatch else None)
+
+-- `x += e` is `x = x + e`
+abbrev pub sum_with : List ℕ → Expression → Expression
+sum_with name e = pair op.Add (var name) e
+
+-- what is known after statements; an `if` gives what any of its arms gives
+abbrev mutual
+  pub known : Known → Statement → Known
+  known n (set line name e) = given n name
+  known n (add_to line name e) = given n name
+  known n (call line results opcode args) = call_known n (catalogued opcode) results args
+  known n (choose line list) = known_arms n list
+
+  pub known_block : Known → Block → Known
+  known_block n no_stmt = n
+  known_block n (andthen x rest) = known_block (known n x) rest
+
+  pub known_arms : Known → Arms → Known
+  known_arms n (otherwise b) = known_block n b
+  known_arms n (arm c b rest) = known_arms (known_block n b) rest
+
+-- The first rule that statements break, in the order of the text. The condition of an arm is judged at its place, after the bodies
+-- of the arms before it, and its fault has the line of the `if`.
+abbrev mutual
+  pub fault : Setting → Known → Statement → Option OrcFault
+  fault s n (set line name e) = at line (set_fault s n name e)
+  fault s n (add_to line name e) = at line (set_fault s n name (sum_with name e))
+  fault s n (call line results opcode args) = at line (call_fault s n (catalogued opcode) results args)
+  fault s n (choose line list) = arms_fault s n line list
+
+  pub block_fault : Setting → Known → Block → Option OrcFault
+  block_fault s n no_stmt = None
+  block_fault s n (andthen x rest) = option_or (fault s n x) (block_fault s (known n x) rest)
+
+  pub arms_fault : Setting → Known → ℕ → Arms → Option OrcFault
+  arms_fault s n line (otherwise b) = block_fault s n b
+  arms_fault s n line (arm c b rest) =
+      option_or (at line (condition_fault s n c))
+      (option_or (block_fault s n b) (arms_fault s (known_block n b) line rest))
+
+-- all conditions are known when the note begins
+abbrev pub all_init : Arms → Bool
+all_init (otherwise b) = true
+all_init (arm c b rest) = is_init (rate_of c) && all_init rest
+
+-- the rate of an `if`
+abbrev pub choice_rate : Arms → Rate
+choice_rate list = if all_init list then rate.Init else rate.Control
+
+-- the typed form of statements
+abbrev mutual
+  pub typed_statement : Known → Statement → typed.Statement
+  typed_statement n (set line name e) = typed.set line (name_rate name) (variable n name) (typed_expression n e)
+  typed_statement n (add_to line name e) = typed.add_to line (name_rate name) (variable n name) (typed_expression n e)
+  typed_statement n (call line results opcode args) = typed_call line n (catalogued opcode) results args
+  typed_statement n (choose line list) = typed.choose line (choice_rate list) (typed_arms n list)
+
+  pub typed_block : Known → Block → typed.Block
+  typed_block n no_stmt = typed.no_stmt
+  typed_block n (andthen x rest) = typed.andthen (typed_statement n x) (typed_block (known n x) rest)
+
+  pub typed_arms : Known → Arms → typed.Arms
+  typed_arms n (otherwise b) = typed.otherwise (typed_block n b)
+  typed_arms n (arm c b rest) = typed.arm (typed_expression n c) (typed_block n b) (typed_arms (known_block n b) rest)

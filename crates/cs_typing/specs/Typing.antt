@@ -1,0 +1,143 @@
+use Rattle.std.specs.Prelude.{ℕ, Bool, true, false, List, [], ◌∷◌, ◌+◌, nat_lt, Option, Some, None, Result, Ok, Err, if◌then◌else◌}
+use Rattle.std.specs.Option.{option_or}
+use Rattle.cs_base.specs.declared.fault.OrcFault.{OrcFault}
+use Rattle.cs_words.specs.Names.{is_global}
+use Rattle.cs_grammar.specs.Tree.{Statement, set, add_to, call, choose, Block, no_stmt, andthen, Arms, otherwise, arm, Instrument, Orchestra}
+use Rattle.cs_typing.specs.declared.call.Setting.{Setting}
+use Rattle.cs_typing.specs.Known.{Table, no_names, added, Shared, Known, known_with}
+use Rattle.cs_typing.specs.Settings.{header, settings_fault, zaks_of_block, zak_places}
+use Rattle.cs_typing.specs.Statements.{block_fault, known_block, typed_block}
+use Rattle.cs_typing.specs.TypedTree as typed
+
+-- the global variables that statements give, after those before
+abbrev pub given_global : Table → List ℕ → Table
+given_global t name = if is_global name then added t name else t
+
+abbrev pub given_globals : Table → List (List ℕ) → Table
+given_globals t [] = t
+given_globals t (name ∷ names) = given_globals (given_global t name) names
+
+abbrev mutual
+  pub globals : Table → Statement → Table
+  globals t (set line name e) = given_global t name
+  globals t (add_to line name e) = given_global t name
+  globals t (call line results opcode args) = given_globals t results
+  globals t (choose line list) = globals_of_arms t list
+
+  pub globals_of_block : Table → Block → Table
+  globals_of_block t no_stmt = t
+  globals_of_block t (andthen x rest) = globals_of_block (globals t x) rest
+
+  pub globals_of_arms : Table → Arms → Table
+  globals_of_arms t (otherwise b) = globals_of_block t b
+  globals_of_arms t (arm c b rest) = globals_of_arms (globals_of_block t b) rest
+
+abbrev pub globals_of_instruments : Table → List Instrument → Table
+globals_of_instruments t [] = t
+globals_of_instruments t (i ∷ rest) = globals_of_instruments (globals_of_block t i.body) rest
+
+-- the global variables of an orchestra, those of the code outside instruments first
+abbrev pub all_globals : Orchestra → Table
+all_globals o = globals_of_instruments (globals_of_block no_names o.zero) o.instrs
+
+abbrev pub line_of : Statement → ℕ
+line_of (set line name e) = line
+line_of (add_to line name e) = line
+line_of (call line results opcode args) = line
+line_of (choose line list) = line
+
+-- the statements in front of a line, and those from it on
+abbrev pub before : ℕ → Block → Block
+before line no_stmt = no_stmt
+before line (andthen x rest) = if nat_lt (line_of x) line then andthen x (before line rest) else no_stmt
+
+abbrev pub from : ℕ → Block → Block
+from line no_stmt = no_stmt
+from line (andthen x rest) = if nat_lt (line_of x) line then from line rest else andthen x rest
+
+-- A part of an orchestra: statements outside instruments, or an instrument.
+pub data Item : Type 0 where
+  alone : Block → Item
+  body : Instrument → Item
+
+-- the parts in the order of the text
+abbrev pub items : Block → List Instrument → List Item
+items outside [] = alone outside ∷ []
+items outside (i ∷ rest) = alone (before i.line outside) ∷ body i ∷ items (from i.line outside) rest
+
+-- An instrument has its own local variables. Channels go on from part to part.
+abbrev pub entered : Known → Known
+entered n = known_with n.shared no_names
+
+abbrev pub left : Known → Known → Known
+left n m = known_with m.shared n.locals
+
+abbrev pub known_item : Known → Item → Known
+known_item n (alone b) = known_block n b
+known_item n (body i) = left n (known_block (entered n) i.body)
+
+abbrev pub known_items : Known → List Item → Known
+known_items n [] = n
+known_items n (x ∷ rest) = known_items (known_item n x) rest
+
+abbrev pub outside : ℕ → Setting
+outside channels = record { inside = false; channels = channels }
+
+abbrev pub inside : ℕ → Setting
+inside channels = record { inside = true; channels = channels }
+
+abbrev pub item_fault : ℕ → Known → Item → Option OrcFault
+item_fault channels n (alone b) = block_fault (outside channels) n b
+item_fault channels n (body i) = block_fault (inside channels) (entered n) i.body
+
+abbrev pub items_fault : ℕ → Known → List Item → Option OrcFault
+items_fault channels n [] = None
+items_fault channels n (x ∷ rest) = option_or (item_fault channels n x) (items_fault channels (known_item n x) rest)
+
+-- what is known at the beginning: every global variable
+abbrev pub first_known : Orchestra → Known
+first_known o = known_with (record { globals = all_globals o; control = []; sound = [] }) no_names
+
+-- the first rule of rates, names and types that an orchestra breaks
+abbrev pub type_fault : Orchestra → Option OrcFault
+type_fault o =
+    option_or (settings_fault o.head o.zero) (items_fault (header o.head).nchnls (first_known o) (items o.zero o.instrs))
+
+-- the typed statements outside instruments, all together
+abbrev pub typed_outside : Known → List Item → typed.Block
+typed_outside n [] = typed.no_stmt
+typed_outside n (alone b ∷ rest) = typed.then_block (typed_block n b) (typed_outside (known_block n b) rest)
+typed_outside n (body i ∷ rest) = typed_outside (known_item n (body i)) rest
+
+abbrev pub typed_instrument : Known → Instrument → typed.Instrument
+typed_instrument n i = record { line = i.line; numbers = i.numbers; body = typed_block (entered n) i.body }
+
+-- the typed instruments
+abbrev pub typed_instruments : Known → List Item → List typed.Instrument
+typed_instruments n [] = []
+typed_instruments n (alone b ∷ rest) = typed_instruments (known_block n b) rest
+typed_instruments n (body i ∷ rest) = typed_instrument n i ∷ typed_instruments (known_item n (body i)) rest
+
+-- what notes share, by name
+abbrev pub shared_names : Shared → typed.SharedNames
+shared_names s =
+    record { gi = s.globals.init; gk = s.globals.control; ga = s.globals.audio; control = s.control; sound = s.sound }
+
+-- the typed form of an orchestra
+abbrev pub typed_of : Orchestra → typed.Orchestra
+typed_of o = record {
+  head = header o.head;
+  zak_a = (zak_places (zaks_of_block o.zero)).0;
+  zak_k = (zak_places (zaks_of_block o.zero)).1;
+  zero = typed_outside (first_known o) (items o.zero o.instrs);
+  instrs = typed_instruments (first_known o) (items o.zero o.instrs);
+  globals = shared_names (known_items (first_known o) (items o.zero o.instrs)).shared;
+}
+
+-- an orchestra, judged: its first fault, or its typed form
+abbrev pub judged : Option OrcFault → typed.Orchestra → Result typed.Orchestra OrcFault
+judged (Some fault) typed_orchestra = Err fault
+judged None typed_orchestra = Ok typed_orchestra
+
+abbrev pub typing : Orchestra → Result typed.Orchestra OrcFault
+typing o = judged (type_fault o) (typed_of o)

@@ -1,0 +1,196 @@
+use Rattle.std.specs.Prelude.{ℕ, Bool, true, false, not, List, [], ◌∷◌, ◌≡◌, ◌≢◌, ◌+◌, ◌&&◌, ◌||◌, length, nat_lt, if◌then◌else◌}
+use Rattle.std.specs.List.{All, list_any, list_all}
+use Rattle.cs_base.specs.Rates.{same_rate, within, faster}
+use Rattle.cs_base.specs.declared.resource.Rate.{Rate}
+use Rattle.cs_base.specs.declared.resource.Rate.TheVariants as rate
+use Rattle.cs_base.specs.declared.resource.Res.{Res}
+use Rattle.cs_base.specs.declared.resource.Res.TheVariants as res
+use Rattle.cs_words.specs.Catalogue.{Row, row_of, letter_at, takes_count, result_count}
+use Rattle.cs_words.specs.declared.catalogue.Letter.{Letter}
+use Rattle.cs_words.specs.declared.catalogue.Opcode.{Opcode}
+use Rattle.cs_words.specs.declared.catalogue.Opcode.TheVariants as op
+use Rattle.cs_words.specs.declared.catalogue.Shape.{Shape}
+use Rattle.cs_words.specs.declared.catalogue.Shape.TheVariants as shape
+use Rattle.cs_words.specs.declared.word.Func.TheVariants as func
+use Rattle.cs_typing.specs.declared.call.Setting.{Setting}
+use Rattle.cs_typing.specs.declared.tree.Var.{Var}
+use Rattle.cs_typing.specs.declared.tree.Var.TheVariants as var
+use Rattle.cs_typing.specs.Calls.{takes, is_text, stands_outside, is_starting, is_writing}
+use Rattle.cs_typing.specs.Expressions.{is_init, is_control, is_audio, is_arithmetic}
+use Rattle.cs_typing.specs.Typing.{outside, inside}
+use Rattle.cs_typing.specs.TypedTree as typed
+
+-- how often what notes share changes
+abbrev pub res_rate : Res → Rate
+res_rate (res.Gi k) = rate.Init
+res_rate (res.Gk k) = rate.Control
+res_rate (res.Ga k) = rate.Audio
+res_rate (res.ZakK k) = rate.Control
+res_rate (res.ZakA k) = rate.Audio
+res_rate (res.Control k) = rate.Control
+res_rate (res.Sound k) = rate.Audio
+res_rate (res.Table k) = rate.Audio
+
+abbrev pub var_rate : Var → Rate
+var_rate (var.Local r k) = r
+var_rate (var.Global g) = res_rate g
+
+-- what a statement may read or give by name: a variable, no channel
+abbrev pub is_variable : Var → Bool
+is_variable (var.Local r k) = true
+is_variable (var.Global (res.Gi k)) = true
+is_variable (var.Global (res.Gk k)) = true
+is_variable (var.Global (res.Ga k)) = true
+is_variable (var.Global g) = false
+
+abbrev pub is_channel : Var → Bool
+is_channel (var.Global (res.Control k)) = true
+is_channel (var.Global (res.Sound k)) = true
+is_channel _ = false
+
+-- the rate beside an expression
+abbrev pub node_rate : typed.Expression → Rate
+node_rate (typed.number r v) = r
+node_rate (typed.var r v) = r
+node_rate (typed.field r k) = r
+node_rate (typed.head r h) = r
+node_rate (typed.neg r a) = r
+node_rate (typed.pair r o a b) = r
+node_rate (typed.pick r c a b) = r
+node_rate (typed.apply r f a) = r
+
+-- what the function `i` reads: a variable of the control rate
+abbrev pub is_read_once : typed.Expression → Bool
+is_read_once (typed.var r v) = is_control r
+is_read_once _ = false
+
+-- Each part of an expression has the rate of its fastest part; truth values and what `cpspch` takes are no sounds.
+abbrev pub IsRated : typed.Expression → Type 0
+IsRated (typed.number r v) = r ≡ rate.Init
+IsRated (typed.var r v) = (r ≡ var_rate v) × (is_variable v ≡ true)
+IsRated (typed.field r k) = r ≡ rate.Init
+IsRated (typed.head r h) = r ≡ rate.Init
+IsRated (typed.neg r a) = (r ≡ node_rate a) × IsRated a
+IsRated (typed.pair r o a b) =
+    (r ≡ faster (node_rate a) (node_rate b)) × ((is_arithmetic o || not (is_audio r)) ≡ true) × IsRated a × IsRated b
+IsRated (typed.pick r c a b) =
+    (r ≡ faster (node_rate c) (faster (node_rate a) (node_rate b))) × (is_audio (node_rate c) ≡ false) × IsRated c × IsRated a × IsRated b
+IsRated (typed.apply r func.I a) = (r ≡ rate.Init) × (is_read_once a ≡ true) × IsRated a
+IsRated (typed.apply r func.Cpspch a) = (r ≡ node_rate a) × (is_audio r ≡ false) × IsRated a
+IsRated (typed.apply r f a) = (r ≡ node_rate a) × IsRated a
+
+-- an argument: a value, or a channel
+abbrev pub IsRatedArgument : typed.Argument → Type 0
+IsRatedArgument (typed.value e) = IsRated e
+IsRatedArgument (typed.text v) = is_channel v ≡ true
+
+-- A variable takes a value that changes no more often than itself; outside instruments it is known when the note begins.
+abbrev pub IsRatedSet : Setting → Rate → Var → typed.Expression → Type 0
+IsRatedSet s r v e =
+    (r ≡ var_rate v) × (is_variable v ≡ true) × (within (node_rate e) r ≡ true) × ((s.inside || is_init r) ≡ true) × IsRated e
+
+-- the row of a call's arguments: the text of `event_i` leaves no trace, and what is left is read as by `schedule`
+abbrev pub row_left : Opcode → Row
+row_left op.EventI = row_of op.Schedule
+row_left opcode = row_of opcode
+
+-- each argument from a place on fits its letter
+abbrev pub fits_letter : Letter → Rate → typed.Argument → Bool
+fits_letter l bound (typed.value e) = takes l bound (node_rate e)
+fits_letter l bound (typed.text v) = is_text l
+
+abbrev pub fit_letters : Row → Rate → ℕ → List typed.Argument → Bool
+fit_letters row bound n [] = true
+fit_letters row bound n (a ∷ rest) = fits_letter (letter_at row n) bound a && fit_letters row bound (n + 1) rest
+
+-- the rate of the result, which bounds arguments; no result bounds nothing
+abbrev pub bound_by : List Var → Rate
+bound_by [] = rate.Audio
+bound_by (v ∷ vs) = var_rate v
+
+-- a variable may take the result of a row
+abbrev pub may_give : Row → Var → Bool
+may_give row v = is_variable v && list_any (same_rate (var_rate v)) row.results
+
+-- more sounds go out than the piece has channels
+abbrev pub goes_beyond : Setting → Shape → List typed.Argument → Bool
+goes_beyond s shape.Out args = nat_lt s.channels (length args)
+goes_beyond s _ args = false
+
+-- an argument that is known when the note begins, and one that is a sound
+abbrev pub keeps_still : typed.Argument → Bool
+keeps_still (typed.value e) = is_init (node_rate e)
+keeps_still (typed.text v) = true
+
+abbrev pub is_of_sound : typed.Argument → Bool
+is_of_sound (typed.value e) = is_audio (node_rate e)
+is_of_sound (typed.text v) = false
+
+-- a table is stored to sample by sample, or else at values that are held
+abbrev pub stores_evenly : Shape → List typed.Argument → Bool
+stores_evenly shape.Store (a ∷ b ∷ rest) = if is_of_sound a then is_of_sound b else not (is_of_sound b)
+stores_evenly _ args = true
+
+-- how often a call is done: once, as often as its result changes, or as its arguments do
+abbrev pub done_at : Shape → List Var → List typed.Argument → Rate
+done_at sh [] args =
+    if is_starting sh then rate.Init
+    else (if is_writing sh && list_all keeps_still args then rate.Init
+    else (if list_any is_of_sound args then rate.Audio else rate.Control))
+done_at sh (v ∷ vs) args = if is_starting sh then rate.Init else var_rate v
+
+-- A call agrees with the row of its opcode.
+pub record IsRatedCall (s : Setting) (r : Rate) (vs : List Var) (opcode : Opcode) (args : List typed.Argument) : Type 0 where
+  pub done : r ≡ done_at (row_of opcode).shape vs args
+  pub results : length vs ≡ result_count (row_of opcode)
+  pub given : list_all (may_give (row_of opcode)) vs ≡ true
+  pub count : takes_count (row_left opcode) (length args) ≡ true
+  pub letters : fit_letters (row_left opcode) (bound_by vs) 0 args ≡ true
+  pub parts : All IsRatedArgument args
+  pub channels : goes_beyond s (row_of opcode).shape args ≡ false
+  pub even : stores_evenly (row_of opcode).shape args ≡ true
+  pub place : (s.inside || stands_outside (row_of opcode).shape) ≡ true
+
+-- all conditions are known when the note begins
+abbrev pub all_still : typed.Arms → Bool
+all_still (typed.otherwise b) = true
+all_still (typed.arm c b rest) = is_init (node_rate c) && all_still rest
+
+-- Statements agree with the rules of rates. An `if` is done once exactly where all its conditions are known when the note begins.
+abbrev mutual
+  pub IsRatedStatement : Setting → typed.Statement → Type 0
+  IsRatedStatement s (typed.set line r v e) = IsRatedSet s r v e
+  IsRatedStatement s (typed.add_to line r v e) = IsRatedSet s r v e
+  IsRatedStatement s (typed.call line r vs opcode args) = IsRatedCall s r vs opcode args
+  IsRatedStatement s (typed.choose line r list) =
+      (r ≡ (if all_still list then rate.Init else rate.Control)) × IsRatedArms s list
+
+  pub IsRatedBlock : Setting → typed.Block → Type 0
+  IsRatedBlock s typed.no_stmt = Unit {0}
+  IsRatedBlock s (typed.andthen x rest) = IsRatedStatement s x × IsRatedBlock s rest
+
+  pub IsRatedArms : Setting → typed.Arms → Type 0
+  IsRatedArms s (typed.otherwise b) = IsRatedBlock s b
+  IsRatedArms s (typed.arm c b rest) =
+      IsRated c × (is_audio (node_rate c) ≡ false) × ((s.inside || is_init (node_rate c)) ≡ true) × IsRatedBlock s b × IsRatedArms s rest
+
+-- An orchestra agrees with the rules of rates: its statements outside instruments, and each instrument's.
+abbrev pub IsWellRated : typed.Orchestra → Type 0
+IsWellRated o =
+    IsRatedBlock (outside o.head.nchnls) o.zero × All (λ i. IsRatedBlock (inside o.head.nchnls) i.body) o.instrs
+
+-- no `zakinit` among statements
+abbrev mutual
+  pub HasNoZakinit : typed.Statement → Type 0
+  HasNoZakinit (typed.set line r v e) = Unit {0}
+  HasNoZakinit (typed.add_to line r v e) = Unit {0}
+  HasNoZakinit (typed.call line r vs opcode args) = opcode ≢ op.Zakinit
+  HasNoZakinit (typed.choose line r list) = ArmsHaveNoZakinit list
+
+  pub BlockHasNoZakinit : typed.Block → Type 0
+  BlockHasNoZakinit typed.no_stmt = Unit {0}
+  BlockHasNoZakinit (typed.andthen x rest) = HasNoZakinit x × BlockHasNoZakinit rest
+
+  pub ArmsHaveNoZakinit : typed.Arms → Type 0
+  ArmsHaveNoZakinit (typed.otherwise b) = BlockHasNoZakinit b
+  ArmsHaveNoZakinit (typed.arm c b rest) = BlockHasNoZakinit b × ArmsHaveNoZakinit rest

@@ -1,0 +1,36 @@
+use Rattle.std.specs.Prelude.{ℕ, Bool, true, List, [], ◌∷◌, if◌then◌else◌}
+use Rattle.std.specs.List.{list_any}
+use Rattle.std.specs.Option.{option_or}
+use Rattle.cs_words.specs.declared.word.HeadName.{HeadName}
+use Rattle.cs_grammar.specs.declared.tree.HeadLine.{HeadLine}
+use Rattle.cs_grammar.specs.Tree.{Argument}
+use Rattle.cs_typing.specs.declared.settle.Setup.{Setup}
+use Rattle.cs_typing.specs.declared.zak.Zaks.{Zaks}
+use Rattle.cs_typing.specs.TypedTree.{header_of_head}
+use Rattle.cs_typing.specs.Settings.{Header, same_head, at, Zak, zak_fault, sizes}
+
+-- a header line among these gives a name
+abbrev pub is_given : List HeadLine → HeadName → Bool
+is_given before name = list_any (λ b. same_head name b.name) before
+
+abbrev pub zak_at : ℕ → List Argument → Zak
+zak_at line args = record { line = line; args = args }
+
+-- what is known after one more `zakinit`: its fault, where none was before, and its sizes, where it is the first
+abbrev pub after_zak : Zaks → Zak → Zaks
+after_zak s z = record {
+  seen = true;
+  fault = option_or s.fault (at z.line (zak_fault s.seen z));
+  places = if s.seen then s.places else sizes z.args;
+}
+
+abbrev pub after_zaks : Zaks → List Zak → Zaks
+after_zaks s [] = s
+after_zaks s (z ∷ rest) = after_zaks (after_zak s z) rest
+
+-- what holds for a piece, and the numbers of places of its zak spaces: of sounds, and of control values
+abbrev pub told : Header → ℕ × ℕ → Header × (ℕ × ℕ)
+told h places = (h, places)
+
+abbrev pub setup : Setup → Header × (ℕ × ℕ)
+setup s = told (header_of_head s.head) s.places

@@ -1,0 +1,66 @@
+use Rattle.std.specs.Prelude.{ℕ, List, [], ◌∷◌, ◌++◌, ◌≡◌, map, Option, Some, None, Result, Ok, Err}
+use Rattle.cs_base.specs.declared.fault.Or.{Or}
+use Rattle.cs_base.specs.declared.fault.Or.TheVariants as or
+use Rattle.cs_base.specs.declared.fault.OrcFault.{OrcFault}
+use Rattle.cs_typing.specs.Known.{Table, no_names, Known}
+use Rattle.cs_typing.specs.Statements.{known_block, typed_block}
+use Rattle.cs_typing.specs.Settings.{Header}
+use Rattle.cs_typing.specs.Typing.{Item, alone, body, items, items_fault, known_item, known_items, first_known, shared_names, typed_instrument, typed_outside, typed_instruments}
+use Rattle.cs_grammar.specs.Tree.{Orchestra}
+use Rattle.cs_typing.specs.declared.tree.TypedOrc.{TypedOrc}
+use Rattle.cs_typing.specs.TypedTree as typed
+use Rattle.cs_typing.specs.declared.orc.Done.{Done}
+
+-- what is made of the parts of an orchestra so far: the variables and the typed statements of the code outside instruments, and
+-- the typed instruments
+pub record Made : Type 0 where
+  pub locals : Table
+  pub zero : typed.Block
+  pub instrs : List typed.Instrument
+
+abbrev pub made_is : Table → typed.Block → List typed.Instrument → Made
+made_is locals zero instrs = record { locals = locals; zero = zero; instrs = instrs }
+
+abbrev pub made_of : Table → Done → Made
+made_of locals d =
+    record { locals = locals; zero = typed.block d.zero.items; instrs = map typed.instrument d.instrs.items }
+
+abbrev pub nothing : Made
+nothing = record { locals = no_names; zero = typed.no_stmt; instrs = [] }
+
+-- what is made after one more part
+abbrev pub after_item : Known → Made → Item → Made
+after_item n m (alone b) =
+    record { locals = (known_block n b).locals; zero = typed.then_block m.zero (typed_block n b); instrs = m.instrs }
+after_item n m (body i) = record { locals = m.locals; zero = m.zero; instrs = m.instrs ++ typed_instrument n i ∷ [] }
+
+abbrev pub after_items : Known → Made → List Item → Made
+after_items n m [] = m
+after_items n m (x ∷ xs) = after_items (known_item n x) (after_item n m x) xs
+
+-- An answer: there is no fault, or else it is this. Want of memory says nothing.
+abbrev pub Judged : {T : Type 0} → Result T (Or OrcFault) → Option OrcFault → Type 0
+Judged (Ok x) fault = fault ≡ None
+Judged (Err (or.Fault f)) fault = fault ≡ Some f
+Judged (Err or.OutOfMemory) fault = Unit {0}
+
+-- the first rule that statements break, where the settings break none
+abbrev pub parts_fault : ℕ → Orchestra → Option OrcFault
+parts_fault channels o = items_fault channels (first_known o) (items o.zero o.instrs)
+
+-- the typed form of an orchestra whose header and numbers of zak places are these
+abbrev pub typed_by : Header → ℕ × ℕ → Orchestra → typed.Orchestra
+typed_by h places o = record {
+  head = h;
+  zak_a = places.0;
+  zak_k = places.1;
+  zero = typed_outside (first_known o) (items o.zero o.instrs);
+  instrs = typed_instruments (first_known o) (items o.zero o.instrs);
+  globals = shared_names (known_items (first_known o) (items o.zero o.instrs)).shared;
+}
+
+-- An answer: the typed orchestra, where there is no fault, or else the fault. Want of memory says nothing.
+abbrev pub GivesOrc : Result TypedOrc (Or OrcFault) → Option OrcFault → typed.Orchestra → Type 0
+GivesOrc (Ok x) fault form = (fault ≡ None) × (typed.orchestra x ≡ form)
+GivesOrc (Err (or.Fault f)) fault form = fault ≡ Some f
+GivesOrc (Err or.OutOfMemory) fault form = Unit {0}

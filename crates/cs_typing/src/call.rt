@@ -1,0 +1,440 @@
+// Calls of opcodes: how many arguments, what each may be, which channel is used, and the typed form.
+ghost use Rattle.std.specs.Prelude.{◌≡◌, ◌++◌, IfOk, OnOk, map};
+ghost use Rattle.std.specs.List.{list_all};
+ghost use Rattle.cs_base.specs.declared.fault.Or.TheVariants as or;
+ghost use Rattle.cs_words.specs.Catalogue.{catalogued};
+ghost use Rattle.cs_grammar.specs.Tree.{argument};
+ghost use Rattle.cs_typing.specs.Calls.{takes, is_text, fits, all_fit, bound_of, may_result, is_sound, any_sound, is_even, stands_outside, kind_of, channel_use, text_of, is_too_wide, argument_known, all_known, rates_agree, counts_agree, row_fault, is_starting, is_writing, is_still, plain_rate, call_rate, typed_argument, typed_arguments, typed_row, call_fault, call_known, typed_call};
+ghost use Rattle.cs_typing.specs.Known.{known_with, variable, given_all};
+ghost use Rattle.cs_typing.specs.Settings.{at};
+ghost use Rattle.cs_typing.specs.TypedTree as typed;
+ghost use Rattle.cs_typing.specs.inner.Answers.{Gives};
+
+use crate::expr::{is_audio, is_init, is_value, rate_of, reads_known, typed_expression};
+use crate::known::{Channel, Shared, Table, give};
+use crate::tree::{TypedArg, TypedArgs, TypedStmt, TypedWhat, Vars};
+use cs_base::{Name, Or, OrcFault, OrcKind, OutOfMemory, Rate};
+use cs_grammar::Arg;
+use cs_words::{Letter, Opcode, Shape, Signature, find_opcode, name_rate, signature_of};
+use std::alloc::Global;
+
+/// Where a statement stands: inside an instrument or outside of all, and how many channels the piece has.
+#[derive(Clone, Copy)]
+pub struct Setting {
+    pub inside: bool,
+    pub channels: u32,
+}
+
+// Whether a letter takes a value of a rate, where the result's rate is the bound.
+fn takes(letter: Letter, bound: Rate, rate: Rate) -> bool
+    ensures { result ≡ takes letter bound rate }
+{
+    match letter {
+        Letter::Init | Letter::Table => is_init(rate),
+        Letter::Control | Letter::Place => rate.within(bound) && !is_audio(rate),
+        Letter::Audio => is_audio(rate),
+        Letter::Held => rate.within(bound),
+        Letter::Any => true,
+        Letter::Text => false,
+    }
+}
+
+fn is_text(letter: Letter) -> bool
+    ensures { result ≡ is_text letter }
+{
+    matches!(letter, Letter::Text)
+}
+
+// Whether a letter takes an argument.
+fn fits(letter: Letter, bound: Rate, arg: &Arg) -> bool
+    ensures { result ≡ fits letter bound (argument arg.now) }
+{
+    match arg {
+        Arg::Value(e) => is_value(e) && takes(letter, bound, rate_of(e)),
+        Arg::Text(_) => is_text(letter),
+    }
+}
+
+// Whether each argument fits its letter.
+fn all_fit(row: &Signature, bound: Rate, args: &[Arg]) -> bool
+    ensures { result ≡ all_fit row.now bound 0 (map argument args.now) }
+{
+    let mut n: usize = 0;
+    for arg in args {
+        if !fits(row.letter(n), bound, arg) {
+            return false;
+        }
+        n += 1;
+    }
+    true
+}
+
+// The rate of the result, which bounds arguments; no result bounds nothing.
+fn bound_of(results: &[Name]) -> Rate
+    ensures { result ≡ bound_of results.now }
+{
+    match results {
+        [] => Rate::Audio,
+        [name, ..] => name_rate(name.as_slice()),
+    }
+}
+
+// Whether the result may have this name's rate.
+fn may_result(row: &Signature, name: &[u8]) -> bool
+    ensures { result ≡ may_result row.now name.now }
+{
+    let rate = name_rate(name);
+    for allowed in row.results() {
+        if rate.same(*allowed) {
+            return true;
+        }
+    }
+    false
+}
+
+fn all_may_result(row: &Signature, results: &[Name]) -> bool
+    ensures { result ≡ list_all (may_result row.now) results.now }
+{
+    for name in results {
+        if !may_result(row, name.as_slice()) {
+            return false;
+        }
+    }
+    true
+}
+
+// A value of the audio rate.
+fn is_sound(arg: &Arg) -> bool
+    ensures { result ≡ is_sound (argument arg.now) }
+{
+    match arg {
+        Arg::Value(e) => is_audio(rate_of(e)),
+        Arg::Text(_) => false,
+    }
+}
+
+fn any_sound(args: &[Arg]) -> bool
+    ensures { result ≡ any_sound (map argument args.now) }
+{
+    for arg in args {
+        if is_sound(arg) {
+            return true;
+        }
+    }
+    false
+}
+
+// A table is stored to sample by sample, or else at values that are held.
+fn is_even(shape: Shape, args: &[Arg]) -> bool
+    ensures { result ≡ is_even shape (map argument args.now) }
+{
+    match (shape, args) {
+        (Shape::Store, [a, b, ..]) => is_sound(a) == is_sound(b),
+        _ => true,
+    }
+}
+
+// What may stand outside instruments.
+fn stands_outside(shape: Shape) -> bool
+    ensures { result ≡ stands_outside shape }
+{
+    matches!(shape, Shape::Init | Shape::ZakInit)
+}
+
+// A channel of sounds, or else of control values.
+fn kind_of(is_sound: bool) -> Channel
+    ensures { result ≡ kind_of is_sound }
+{
+    if is_sound {
+        Channel::Sound
+    } else {
+        Channel::Control
+    }
+}
+
+// The kind of channel that a call uses, if it uses one.
+fn channel_use(shape: Shape, results: &[Name], args: &[Arg]) -> Option<Channel>
+    ensures { result ≡ channel_use shape results.now (map argument args.now) }
+{
+    match shape {
+        Shape::ChannelGet => Some(kind_of(is_audio(bound_of(results)))),
+        Shape::ChannelPut => Some(kind_of(any_sound(args))),
+        Shape::ChannelMix | Shape::ChannelClear => Some(Channel::Sound),
+        _ => None,
+    }
+}
+
+// The first text among the arguments.
+fn text_of(args: &[Arg]) -> &[u8]
+    ensures { result.now ≡ text_of (map argument args.now) }
+{
+    for arg in args {
+        if let Arg::Text(name) = arg {
+            return name.as_slice();
+        }
+    }
+    b"".as_slice()
+}
+
+// More sounds than the piece has channels.
+fn is_too_wide(setting: Setting, shape: Shape, args: &[Arg]) -> bool
+    ensures { result ≡ is_too_wide setting shape (map argument args.now) }
+{
+    match shape {
+        Shape::Out => args.len() > setting.channels as usize,
+        _ => false,
+    }
+}
+
+// Whether an argument reads what is known.
+fn argument_known<'t>(shared: &Shared<'t>, locals: &Table<'t>, arg: &Arg) -> bool
+    ensures { result ≡ argument_known (known_with shared.now locals.now) (argument arg.now) }
+{
+    match arg {
+        Arg::Value(e) => reads_known(shared, locals, e),
+        Arg::Text(_) => true,
+    }
+}
+
+fn all_known<'t>(shared: &Shared<'t>, locals: &Table<'t>, args: &[Arg]) -> bool
+    ensures { result ≡ all_known (known_with shared.now locals.now) (map argument args.now) }
+{
+    for arg in args {
+        if !argument_known(shared, locals, arg) {
+            return false;
+        }
+    }
+    true
+}
+
+// Whether arguments and results have the rates that the row allows, and the opcode may stand here.
+fn rates_agree(setting: Setting, row: &Signature, results: &[Name], args: &[Arg]) -> bool
+    ensures { result ≡ rates_agree setting row.now results.now (map argument args.now) }
+{
+    all_fit(row, bound_of(results), args)
+        && all_may_result(row, results)
+        && is_even(row.shape(), args)
+        && (setting.inside || stands_outside(row.shape()))
+}
+
+// Whether results and arguments are as many as the row says.
+fn counts_agree(row: &Signature, results: &[Name], args: &[Arg]) -> bool
+    ensures { result ≡ counts_agree row.now results.now (map argument args.now) }
+{
+    results.len() == row.result_count() && row.takes_count(args.len())
+}
+
+/// The first rule that a call of an opcode breaks.
+pub fn row_fault<'t>(
+    setting: Setting,
+    shared: &Shared<'t>,
+    locals: &Table<'t>,
+    row: &Signature,
+    results: &[Name],
+    args: &[Arg],
+) -> Option<OrcKind>
+    ensures { result ≡ row_fault setting (known_with shared.now locals.now) row.now results.now (map argument args.now) }
+{
+    if !counts_agree(row, results, args) {
+        Some(OrcKind::ArgCount)
+    } else if !all_known(shared, locals, args) {
+        Some(OrcKind::Undefined)
+    } else if !rates_agree(setting, row, results, args) {
+        Some(OrcKind::RateMismatch)
+    } else if shared.clashes(channel_use(row.shape(), results, args), text_of(args)) {
+        Some(OrcKind::ChannelRate)
+    } else if is_too_wide(setting, row.shape(), args) {
+        Some(OrcKind::OutCount)
+    } else {
+        None
+    }
+}
+
+// What is done once, as the note begins, whatever its arguments.
+fn is_starting(shape: Shape) -> bool
+    ensures { result ≡ is_starting shape }
+{
+    matches!(shape, Shape::Init | Shape::ZakInit | Shape::Ask)
+}
+
+// What is done once where all its arguments are known when the note begins.
+fn is_writing(shape: Shape) -> bool
+    ensures { result ≡ is_writing shape }
+{
+    matches!(shape, Shape::Store | Shape::ChannelPut)
+}
+
+// A text, or a value that is known when the note begins.
+fn is_still(arg: &Arg) -> bool
+    ensures { result ≡ is_still (argument arg.now) }
+{
+    match arg {
+        Arg::Value(e) => is_init(rate_of(e)),
+        Arg::Text(_) => true,
+    }
+}
+
+fn all_still(args: &[Arg]) -> bool
+    ensures { result ≡ list_all is_still (map argument args.now) }
+{
+    for arg in args {
+        if !is_still(arg) {
+            return false;
+        }
+    }
+    true
+}
+
+// The rate of a call without a result.
+fn plain_rate(shape: Shape, args: &[Arg]) -> Rate
+    ensures { result ≡ plain_rate shape (map argument args.now) }
+{
+    if is_writing(shape) && all_still(args) {
+        Rate::Init
+    } else if any_sound(args) {
+        Rate::Audio
+    } else {
+        Rate::Control
+    }
+}
+
+/// How often a call is done.
+pub fn call_rate(shape: Shape, results: &[Name], args: &[Arg]) -> Rate
+    ensures { result ≡ call_rate shape results.now (map argument args.now) }
+{
+    match results {
+        _ if is_starting(shape) => Rate::Init,
+        [] => plain_rate(shape, args),
+        [name, ..] => name_rate(name.as_slice()),
+    }
+}
+
+// The variables of results.
+fn variables<'t>(
+    alloc: Global,
+    shared: &Shared<'t>,
+    locals: &Table<'t>,
+    results: &[Name],
+) -> Result<Vars, OutOfMemory>
+    ensures { IfOk result (λ made. made ≡ map (variable (known_with shared.now locals.now)) results.now) }
+{
+    let mut made = Vars::new(alloc);
+    for name in results {
+        made.push(shared.variable(locals, name.as_slice()))?;
+    }
+    Ok(made)
+}
+
+// Adds the typed form of an argument, if it has one.
+fn add_argument<'t>(
+    alloc: Global,
+    shared: &Shared<'t>,
+    locals: &Table<'t>,
+    role: Option<Channel>,
+    arg: &Arg,
+    made: &mut TypedArgs,
+) -> Result<(), OutOfMemory>
+    ensures { OnOk result (map typed.argument made.new.items ≡ map typed.argument made.old.items
+        ++ typed_argument (known_with shared.now locals.now) role (argument arg.now)) }
+{
+    match (arg, role) {
+        (Arg::Value(e), _) => {
+            let e = typed_expression(alloc, shared, locals, e)?;
+            made.push(TypedArg::Value(e))?;
+        }
+        (Arg::Text(name), Some(kind)) => {
+            made.push(TypedArg::Text(shared.channel(kind, name.as_slice())))?;
+        }
+        (Arg::Text(_), None) => {}
+    }
+    Ok(())
+}
+
+// The typed forms of arguments.
+fn typed_arguments<'t>(
+    alloc: Global,
+    shared: &Shared<'t>,
+    locals: &Table<'t>,
+    role: Option<Channel>,
+    args: &[Arg],
+) -> Result<TypedArgs, OutOfMemory>
+    ensures { IfOk result (λ made. map typed.argument made.items
+        ≡ typed_arguments (known_with shared.now locals.now) role (map argument args.now)) }
+{
+    let mut made = Vec::new(alloc);
+    for arg in args {
+        add_argument(alloc, shared, locals, role, arg, &mut made)?;
+    }
+    Ok(made)
+}
+
+// The typed form of a call of an opcode.
+fn typed_row<'t>(
+    alloc: Global,
+    line: u32,
+    shared: &Shared<'t>,
+    locals: &Table<'t>,
+    opcode: Opcode,
+    row: &Signature,
+    results: &[Name],
+    args: &[Arg],
+) -> Result<TypedStmt, OutOfMemory>
+    ensures { IfOk result (λ made. typed.statement made
+        ≡ typed_row line (known_with shared.now locals.now) opcode row.now results.now (map argument args.now)) }
+{
+    let role = channel_use(row.shape(), results, args);
+    let vars = variables(alloc, shared, locals, results)?;
+    let typed = typed_arguments(alloc, shared, locals, role, args)?;
+    Ok(TypedStmt {
+        line,
+        rate: call_rate(row.shape(), results, args),
+        what: TypedWhat::Call(vars, opcode, typed),
+    })
+}
+
+// Notes that results are given.
+fn give_all<'t>(locals: &mut Table<'t>, results: &'t [Name]) -> Result<(), OutOfMemory>
+    ensures { OnOk result ((s : _) → known_with s locals.new ≡ given_all (known_with s locals.old) results.now) }
+{
+    for name in results {
+        give(locals, name.as_slice())?;
+    }
+    Ok(())
+}
+
+/// Judges a call, and gives its typed form; results and the channel are known from then on.
+pub fn call<'t>(
+    alloc: Global,
+    setting: Setting,
+    shared: &mut Shared<'t>,
+    locals: &mut Table<'t>,
+    line: u32,
+    results: &'t [Name],
+    name: &[u8],
+    args: &'t [Arg],
+) -> Result<TypedStmt, Or<OrcFault>>
+    ensures gives { Gives typed.statement result
+        (at line (call_fault setting (known_with shared.old locals.old) (catalogued name.now) results.now (map argument args.now)))
+        (typed_call line (known_with shared.old locals.old) (catalogued name.now) results.now (map argument args.now)) }
+    ensures known { OnOk result (known_with shared.new locals.new
+        ≡ call_known (known_with shared.old locals.old) (catalogued name.now) results.now (map argument args.now)) }
+{
+    let Some(opcode) = find_opcode(name) else {
+        return Err(broken(line, OrcKind::UnknownOpcode));
+    };
+    let row = signature_of(opcode);
+    if let Some(kind) = row_fault(setting, shared, locals, &row, results, args) {
+        return Err(broken(line, kind));
+    }
+    let made = typed_row(alloc, line, shared, locals, opcode, &row, results, args)?;
+    give_all(locals, results)?;
+    shared.use_channel(channel_use(row.shape(), results, args), text_of(args))?;
+    Ok(made)
+}
+
+/// A broken rule at its line.
+pub fn broken(line: u32, kind: OrcKind) -> Or<OrcFault>
+    ensures { result ≡ or.Fault (record { line = line; kind = kind }) }
+{
+    Or::Fault(OrcFault { line, kind })
+}

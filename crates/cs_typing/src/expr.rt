@@ -1,0 +1,223 @@
+// Expressions: their rates, whether they are values or conditions, what they read, and their typed form.
+ghost use Rattle.std.specs.Prelude.{◌≡◌, IfOk};
+ghost use Rattle.cs_grammar.specs.Tree.{expression};
+ghost use Rattle.cs_base.specs.Rates.{faster};
+ghost use Rattle.cs_base.specs.declared.resource.Rate.TheVariants as rate;
+ghost use Rattle.cs_typing.specs.Expressions.{is_init, is_control, is_audio, rate_of, applied_rate, is_arithmetic, is_logic, is_control_name, is_value, is_condition, reads_known, typed_expression};
+ghost use Rattle.cs_typing.specs.Known.{known_with};
+ghost use Rattle.cs_typing.specs.TypedTree as typed;
+
+use crate::known::{Shared, Table};
+use crate::tree::{TypedExpr, TypedPart};
+use cs_base::{OutOfMemory, Rate};
+use cs_grammar::Expr;
+use cs_words::{BinOp, Func, name_rate};
+use std::alloc::Global;
+
+pub fn is_init(rate: Rate) -> bool
+    ensures { result ≡ is_init rate }
+{
+    matches!(rate, Rate::Init)
+}
+
+fn is_control(rate: Rate) -> bool
+    ensures { result ≡ is_control rate }
+{
+    matches!(rate, Rate::Control)
+}
+
+pub fn is_audio(rate: Rate) -> bool
+    ensures { result ≡ is_audio rate }
+{
+    matches!(rate, Rate::Audio)
+}
+
+/// The rate of an expression: the fastest of its parts.
+pub fn rate_of(e: &Expr) -> Rate
+    ensures { result ≡ rate_of (expression e.now) }
+{
+    match e {
+        Expr::Number(_) | Expr::Field(_) | Expr::Head(_) => Rate::Init,
+        Expr::Var(name) => name_rate(name.as_slice()),
+        Expr::Neg(a) => rate_of(a),
+        Expr::Pair(_, a, b) => rate_of(a).faster(rate_of(b)),
+        Expr::Pick(c, a, b) => rate_of(c).faster(rate_of(a).faster(rate_of(b))),
+        Expr::Call(Func::I, _) => Rate::Init,
+        Expr::Call(_, a) => rate_of(a),
+    }
+}
+
+fn is_arithmetic(op: BinOp) -> bool
+    ensures { result ≡ is_arithmetic op }
+{
+    matches!(
+        op,
+        BinOp::Add | BinOp::Sub | BinOp::Mul | BinOp::Div | BinOp::Rem
+    )
+}
+
+fn is_logic(op: BinOp) -> bool
+    ensures { result ≡ is_logic op }
+{
+    matches!(op, BinOp::And | BinOp::Or)
+}
+
+// The name of a variable of the control rate.
+fn is_control_name(e: &Expr) -> bool
+    ensures { result ≡ is_control_name (expression e.now) }
+{
+    match e {
+        Expr::Var(name) => is_control(name_rate(name.as_slice())),
+        _ => false,
+    }
+}
+
+/// Whether an expression is a value, with values and conditions where they are wanted.
+#[cycle(kinds)]
+pub fn is_value(e: &Expr) -> bool
+    ensures { result ≡ is_value (expression e.now) }
+{
+    match e {
+        Expr::Number(_) | Expr::Var(_) | Expr::Field(_) | Expr::Head(_) => true,
+        Expr::Neg(a) => is_value(a),
+        Expr::Pair(op, a, b) => is_arithmetic(*op) && is_value(a) && is_value(b),
+        Expr::Pick(c, a, b) => is_condition(c) && is_value(a) && is_value(b),
+        Expr::Call(Func::I, a) => is_control_name(a),
+        Expr::Call(Func::Cpspch, a) => is_value(a) && !is_audio(rate_of(a)),
+        Expr::Call(_, a) => is_value(a),
+    }
+}
+
+/// Whether an expression is a condition.
+#[cycle(kinds)]
+pub fn is_condition(e: &Expr) -> bool
+    ensures { result ≡ is_condition (expression e.now) }
+{
+    match e {
+        Expr::Pair(op, a, b) => {
+            if is_logic(*op) {
+                is_condition(a) && is_condition(b)
+            } else {
+                !is_arithmetic(*op)
+                    && (is_value(a) && is_value(b) && !is_audio(rate_of(a).faster(rate_of(b))))
+            }
+        }
+        _ => false,
+    }
+}
+
+/// Whether every variable that is read is known.
+pub fn reads_known<'t>(shared: &Shared<'t>, locals: &Table<'t>, e: &Expr) -> bool
+    ensures { result ≡ reads_known (known_with shared.now locals.now) (expression e.now) }
+{
+    match e {
+        Expr::Number(_) | Expr::Field(_) | Expr::Head(_) => true,
+        Expr::Var(name) => shared.knows(locals, name.as_slice()),
+        Expr::Neg(a) | Expr::Call(_, a) => reads_known(shared, locals, a),
+        Expr::Pair(_, a, b) => { reads_known(shared, locals, a) && reads_known(shared, locals, b) }
+        Expr::Pick(c, a, b) => {
+            reads_known(shared, locals, c)
+                && reads_known(shared, locals, a)
+                && reads_known(shared, locals, b)
+        }
+    }
+}
+
+/// The typed form of an expression, with its rate beside each part.
+pub fn typed_expression<'t>(
+    alloc: Global,
+    shared: &Shared<'t>,
+    locals: &Table<'t>,
+    e: &Expr,
+) -> Result<TypedExpr, OutOfMemory>
+    ensures form { IfOk result (λ made. typed.expression made
+        ≡ typed_expression (known_with shared.now locals.now) (expression e.now)) }
+    ensures rate { IfOk result (λ made. made.rate ≡ rate_of (expression e.now)) }
+{
+    match e {
+        Expr::Number(value) => Ok(still(TypedPart::Number(*value))),
+        Expr::Field(number) => Ok(still(TypedPart::Field(*number))),
+        Expr::Head(name) => Ok(still(TypedPart::Head(*name))),
+        Expr::Var(name) => Ok(TypedExpr {
+            rate: name_rate(name.as_slice()),
+            what: TypedPart::Var(shared.variable(locals, name.as_slice())),
+        }),
+        Expr::Neg(a) => negated(alloc, typed_expression(alloc, shared, locals, a)?),
+        Expr::Pair(op, a, b) => {
+            let a = typed_expression(alloc, shared, locals, a)?;
+            paired(alloc, *op, a, typed_expression(alloc, shared, locals, b)?)
+        }
+        Expr::Pick(c, a, b) => {
+            let c = typed_expression(alloc, shared, locals, c)?;
+            let a = typed_expression(alloc, shared, locals, a)?;
+            picked(alloc, c, a, typed_expression(alloc, shared, locals, b)?)
+        }
+        Expr::Call(func, a) => applied(alloc, *func, typed_expression(alloc, shared, locals, a)?),
+    }
+}
+
+// What is known when the note begins.
+fn still(what: TypedPart) -> TypedExpr
+    ensures { result ≡ record { rate = rate.Init; what = what } }
+{
+    TypedExpr {
+        rate: Rate::Init,
+        what,
+    }
+}
+
+fn negated(alloc: Global, a: TypedExpr) -> Result<TypedExpr, OutOfMemory>
+    ensures form { IfOk result (λ made. typed.expression made ≡ typed.neg a.rate (typed.expression a)) }
+    ensures rate { IfOk result (λ made. made.rate ≡ a.rate) }
+{
+    let rate = a.rate;
+    Ok(TypedExpr {
+        rate,
+        what: TypedPart::Neg(Box::new(alloc, a)?),
+    })
+}
+
+fn paired(alloc: Global, op: BinOp, a: TypedExpr, b: TypedExpr) -> Result<TypedExpr, OutOfMemory>
+    ensures form { IfOk result (λ made. typed.expression made
+        ≡ typed.pair (faster a.rate b.rate) op (typed.expression a) (typed.expression b)) }
+    ensures rate { IfOk result (λ made. made.rate ≡ faster a.rate b.rate) }
+{
+    let rate = a.rate.faster(b.rate);
+    let a = Box::new(alloc, a)?;
+    let b = Box::new(alloc, b)?;
+    Ok(TypedExpr {
+        rate,
+        what: TypedPart::Pair(op, a, b),
+    })
+}
+
+fn picked(alloc: Global, c: TypedExpr, a: TypedExpr, b: TypedExpr) -> Result<TypedExpr, OutOfMemory>
+    ensures form { IfOk result (λ made. typed.expression made
+        ≡ typed.pick (faster c.rate (faster a.rate b.rate)) (typed.expression c) (typed.expression a) (typed.expression b)) }
+    ensures rate { IfOk result (λ made. made.rate ≡ faster c.rate (faster a.rate b.rate)) }
+{
+    let rate = c.rate.faster(a.rate.faster(b.rate));
+    let c = Box::new(alloc, c)?;
+    let a = Box::new(alloc, a)?;
+    let b = Box::new(alloc, b)?;
+    Ok(TypedExpr {
+        rate,
+        what: TypedPart::Pick(c, a, b),
+    })
+}
+
+fn applied(alloc: Global, func: Func, a: TypedExpr) -> Result<TypedExpr, OutOfMemory>
+    ensures form { IfOk result (λ made. typed.expression made
+        ≡ typed.apply (applied_rate func a.rate) func (typed.expression a)) }
+    ensures rate { IfOk result (λ made. made.rate ≡ applied_rate func a.rate) }
+{
+    let rate = if matches!(func, Func::I) {
+        Rate::Init
+    } else {
+        a.rate
+    };
+    Ok(TypedExpr {
+        rate,
+        what: TypedPart::Call(func, Box::new(alloc, a)?),
+    })
+}

@@ -1,0 +1,32 @@
+//! Rates, names and types of an orchestra: the grammar's tree with a variable in place of each name, an opcode in place of
+//! each opcode's name, and a rate beside each expression and each statement.
+//!
+//! Its one contract: `type_orc` answers the typed form as specs/Typing.antt defines it, or the first broken rule of the kinds
+//! 12 to 19 with its line: header lines and `zakinit`s in the order of the text, then `kr`, and then each statement in the
+//! order of the text. What it answers agrees with the rules of rates (`typing_is_well_rated`), and no `zakinit` stands in an
+//! instrument (`instruments_have_no_zakinit`). How names are looked up may be changed without anyone above noticing.
+//!
+//! To be read in this order: `tree` (what is made), `names` and `known` (names and their numbers), `expr`, `call`, `stmt`
+//! (what is judged where it stands), `headers`, `zak` and `settle` (what holds for the whole piece), `globals` (the
+//! variables that all instruments share), `orc` (the parts in the order of the text), `laws`.
+#![tactic(auto)]
+
+mod call;
+mod expr;
+mod globals;
+mod headers;
+mod known;
+mod laws;
+mod names;
+mod orc;
+mod settle;
+mod stmt;
+mod tree;
+mod zak;
+
+pub use laws::{instruments_have_no_zakinit, typing_is_well_rated};
+pub use orc::type_orc;
+pub use tree::{
+    Globals, TypedArg, TypedArgs, TypedArm, TypedArms, TypedExpr, TypedInstr, TypedOrc, TypedPart,
+    TypedStmt, TypedStmts, TypedWhat, Var, Vars,
+};

@@ -1,0 +1,110 @@
+// The typed tree of an orchestra: what the layers above read in place of names and opcodes' names.
+use cs_base::{Head, Items, Names, Num, Numbers, Rate, Res};
+use cs_words::{BinOp, Func, HeadName, Opcode};
+
+/// A variable: one of the note's own, by its rate and its number among the names of that rate; or what notes share.
+#[derive(Clone, Copy, PartialEq, Eq)]
+pub enum Var {
+    Local(Rate, u32),
+    Global(Res),
+}
+
+pub type Vars = Items<Var>;
+
+/// An expression, and how often its value changes.
+#[derive(Drop)]
+#[cycle(expr)]
+pub struct TypedExpr {
+    pub rate: Rate,
+    pub what: TypedPart,
+}
+
+/// What an expression is.
+#[derive(Drop)]
+#[cycle(expr)]
+pub enum TypedPart {
+    Number(Num),
+    Var(Var),
+    /// `p1` to `p100`, by its number.
+    Field(u32),
+    Head(HeadName),
+    Neg(Box<TypedExpr>),
+    Pair(BinOp, Box<TypedExpr>, Box<TypedExpr>),
+    /// Condition, value where it holds, value where it doesn't.
+    Pick(Box<TypedExpr>, Box<TypedExpr>, Box<TypedExpr>),
+    Call(Func, Box<TypedExpr>),
+}
+
+/// An argument of a call: a value, or the channel that a text names. The text of `event_i` leaves no trace.
+#[derive(Drop)]
+pub enum TypedArg {
+    Value(TypedExpr),
+    Text(Var),
+}
+
+pub type TypedArgs = Vec<TypedArg>;
+
+/// A statement, with the line of its first token and its rate: a statement of rate `Init` is done once, as the note begins.
+#[derive(Drop)]
+#[cycle(stmt)]
+pub struct TypedStmt {
+    pub line: u32,
+    pub rate: Rate,
+    pub what: TypedWhat,
+}
+
+pub type TypedStmts = Vec<TypedStmt>;
+
+/// What a statement does.
+#[derive(Drop)]
+#[cycle(stmt)]
+pub enum TypedWhat {
+    Set(Var, TypedExpr),
+    AddTo(Var, TypedExpr),
+    /// Results, opcode, arguments.
+    Call(Vars, Opcode, TypedArgs),
+    /// The arms of `if` and `elseif`, and the statements after `else`.
+    Choose(TypedArms, TypedStmts),
+}
+
+/// A condition, and the statements that are done where it is the first that holds.
+#[derive(Drop)]
+#[cycle(stmt)]
+pub struct TypedArm {
+    pub cond: TypedExpr,
+    pub body: Vec<TypedStmt>,
+}
+
+pub type TypedArms = Vec<TypedArm>;
+
+/// An instrument, with the line of its `instr` and its numbers.
+#[derive(Drop)]
+pub struct TypedInstr {
+    pub line: u32,
+    pub numbers: Numbers,
+    pub body: TypedStmts,
+}
+
+/// The names of what notes share, each list in the order in which they were first seen: variables by rate, control channels and
+/// sound channels.
+#[derive(Drop)]
+pub struct Globals {
+    pub gi: Names,
+    pub gk: Names,
+    pub ga: Names,
+    pub control: Names,
+    pub sound: Names,
+}
+
+/// A typed orchestra.
+#[derive(Drop)]
+pub struct TypedOrc {
+    pub head: Head,
+    /// The number of places of the zak space of sounds: 0 without `zakinit`.
+    pub zak_a: u32,
+    /// The number of places of the zak space of control values: 0 without `zakinit`.
+    pub zak_k: u32,
+    pub zero: TypedStmts,
+    pub instrs: Vec<TypedInstr>,
+    pub globals: Globals,
+}

@@ -1,0 +1,166 @@
+// `zakinit`s outside instruments, in the order of the text: their first fault, and the sizes of the two zak spaces.
+ghost use Rattle.std.specs.Prelude.{◌≡◌, ◌≤◌, map, true, false, None};
+ghost use Rattle.std.specs.List.{list_all};
+ghost use Rattle.cs_words.specs.Catalogue.{catalogued};
+ghost use Rattle.cs_grammar.specs.Tree as tree;
+ghost use Rattle.cs_grammar.specs.declared.tree.Arm.{out-Arm};
+ghost use Rattle.cs_typing.specs.Settings.{at, is_zakinit, is_size, zak_fault, zaks, zaks_of_block, zaks_of_arms, zaks_fault, places, sizes, zak_places};
+ghost use Rattle.cs_typing.specs.inner.Settled.{zak_at, after_zak, after_zaks};
+
+use crate::headers::{is_whole_to, whole};
+use cs_base::{OrcFault, OrcKind};
+use cs_grammar::{Arg, Arm, Expr, OrcStmt, StmtWhat};
+use cs_words::{Opcode, find_opcode};
+
+/// What is known of the `zakinit`s before a place of the text.
+#[derive(Clone, Copy)]
+pub struct Zaks {
+    /// Whether there is one.
+    pub seen: bool,
+    /// The first rule that they break.
+    pub fault: Option<OrcFault>,
+    /// The numbers of places of the zak space of sounds and of that of control values.
+    pub places: (u32, u32),
+}
+
+// Whether an argument may be a size: a literal, whole from 1 to 1,000. A text is judged with its statement.
+fn is_size(arg: &Arg) -> bool
+    ensures { result ≡ is_size (tree.argument arg.now) }
+{
+    match arg {
+        Arg::Value(Expr::Number(value)) => is_whole_to(1000, *value),
+        Arg::Value(_) => false,
+        Arg::Text(_) => true,
+    }
+}
+
+fn all_sizes(args: &[Arg]) -> bool
+    ensures { result ≡ list_all is_size (map tree.argument args.now) }
+{
+    for arg in args {
+        if !is_size(arg) {
+            return false;
+        }
+    }
+    true
+}
+
+// The first rule that a `zakinit` breaks, where one stands before it or not.
+fn zak_fault(before: bool, line: u32, args: &[Arg]) -> Option<OrcFault>
+    ensures { result ≡ at line (zak_fault before (zak_at line (map tree.argument args.now))) }
+{
+    if !all_sizes(args) {
+        Some(OrcFault {
+            line,
+            kind: OrcKind::HeaderValue,
+        })
+    } else if before {
+        Some(OrcFault {
+            line,
+            kind: OrcKind::HeaderTwice,
+        })
+    } else {
+        None
+    }
+}
+
+// The places that a size gives: from 0 to it.
+fn places(arg: &Arg) -> u32
+    ensures { result ≡ places (tree.argument arg.now) }
+{
+    match arg {
+        Arg::Value(Expr::Number(value)) => whole(*value) + 1,
+        _ => 0,
+    }
+}
+
+// Those that two sizes give.
+fn sizes(args: &[Arg]) -> (u32, u32)
+    ensures { result ≡ sizes (map tree.argument args.now) }
+{
+    match args {
+        [a, b, ..] => (places(a), places(b)),
+        _ => (0, 0),
+    }
+}
+
+// What is known after one more `zakinit`.
+fn after_zak(before: Zaks, line: u32, args: &[Arg]) -> Zaks
+    ensures { result ≡ after_zak before (zak_at line (map tree.argument args.now)) }
+{
+    Zaks {
+        seen: true,
+        fault: before.fault.or(zak_fault(before.seen, line, args)),
+        places: if before.seen {
+            before.places
+        } else {
+            sizes(args)
+        },
+    }
+}
+
+fn is_zakinit(name: &[u8]) -> bool
+    ensures { result ≡ is_zakinit (catalogued name.now) }
+{
+    matches!(find_opcode(name), Some(Opcode::Zakinit))
+}
+
+#[cycle(zaks)]
+fn after_stmt(before: Zaks, s: &OrcStmt) -> Zaks
+    ensures { result ≡ after_zaks before (zaks (tree.statement s.now)) }
+{
+    match &s.what {
+        StmtWhat::Set(_, _) | StmtWhat::AddTo(_, _) => before,
+        StmtWhat::Call(_, name, args) => {
+            if is_zakinit(name.as_slice()) {
+                after_zak(before, s.line, args)
+            } else {
+                before
+            }
+        }
+        StmtWhat::Choose(list, els) => after_block(after_arms(before, list), els),
+    }
+}
+
+#[cycle(zaks)]
+fn after_block(before: Zaks, stmts: &[OrcStmt]) -> Zaks
+    ensures { result ≡ after_zaks before (zaks_of_block (tree.block stmts.now)) }
+{
+    let mut known = before;
+    for s in stmts {
+        known = after_stmt(known, s);
+    }
+    known
+}
+
+#[cycle(zaks)]
+fn after_arms(before: Zaks, list: &[Arm]) -> Zaks
+    ensures { (els : tree.Block) → after_zaks result (zaks_of_block els)
+        ≡ after_zaks before (zaks_of_arms (tree.arms els list.now)) }
+{
+    let mut known = before;
+    for a in list {
+        known = after_arm(known, a);
+    }
+    known
+}
+
+#[cycle(zaks)]
+fn after_arm(before: Zaks, a: &Arm) -> Zaks
+    ensures { result ≡ after_zaks before (zaks_of_block (tree.block (out-Arm a.now).body.items)) }
+{
+    after_block(before, &a.body)
+}
+
+/// The `zakinit`s among statements, in `if`s too: their first fault, and the places of the two spaces.
+pub fn zaks_of(outside: &[OrcStmt]) -> Zaks
+    ensures fault { result.fault ≡ zaks_fault false (zaks_of_block (tree.block outside.now)) }
+    ensures places { result.places ≡ zak_places (zaks_of_block (tree.block outside.now)) }
+{
+    let none = Zaks {
+        seen: false,
+        fault: None,
+        places: (0, 0),
+    };
+    after_block(none, outside)
+}
