@@ -6,7 +6,8 @@ use Rattle.std.proofs.lemmas.Int.{ints}
 use Rattle.std.proofs.Math.Nat.{mod-add-mod, add-mod-mod, mod-lt}
 use Rattle.cs_gen.proofs.Quotients.{within}
 use Rattle.cs_gen.specs.Faults.{argument}
-use Rattle.cs_gen.specs.Points.{floor_div, total, sine, harmonics, wave}
+use Rattle.cs_base.specs.Numbers.{floor_div, total}
+use Rattle.cs_gen.specs.Points.{full_scale, sine, harmonics, wave}
 
 -- a sum is no farther from 0 than both together
 unsigned_abs-sum : (x y : ℤ) → unsigned_abs (x +ℤ y) ≤ unsigned_abs x + unsigned_abs y
@@ -21,7 +22,7 @@ total-snoc (y ∷ ys) z = omega (arith, ints, total-snoc ys z)
 
 -- harmonic h at place j, at its strength
 unfoldable pub harmonic : ℕ → List ℤ → ℕ → ℕ → ℤ
-harmonic len strengths j h = floor_div (argument strengths (h - 1) *ℤ sine len h j) 32767
+harmonic len strengths j h = floor_div (argument strengths (h - 1) *ℤ sine len h j) full_scale
 
 -- the sum of the first i harmonics at place j
 unfoldable pub first_harmonics : ℕ → List ℤ → ℕ → ℕ → ℤ
@@ -49,11 +50,11 @@ phase-more len i j =
     mod-add-mod ((i + 1) * j) len (j % len) ∙ add-mod-mod ((i + 1) * j) j len ∙ ap (λ n. n % len) (omega arith)
 
 one_harmonic : (len : ℕ) (strengths : List ℤ) (j phase i : ℕ) (strength part : ℤ) → phase ≡ (i + 1) * j % len → strength ≡ argument strengths i →
-    part ≡ floor_div (strength *ℤ wave (phase * 2 ^ 24 / len)) 32767 → part ≡ harmonic len strengths j (i + 1)
+    part ≡ floor_div (strength *ℤ wave (phase * 2 ^ 24 / len)) full_scale → part ≡ harmonic len strengths j (i + 1)
 unfolding harmonic sine
 one_harmonic len strengths j phase i strength part come s p =
     let back : i + 1 - 1 ≡ i = omega arith in
-    rw back (p ∙ ap (λ z. floor_div (z *ℤ wave (phase * 2 ^ 24 / len)) 32767) s ∙ ap (λ k. floor_div (argument strengths i *ℤ wave (k * 2 ^ 24 / len)) 32767) come)
+    rw back (p ∙ ap (λ z. floor_div (z *ℤ wave (phase * 2 ^ 24 / len)) full_scale) s ∙ ap (λ k. floor_div (argument strengths i *ℤ wave (k * 2 ^ 24 / len)) full_scale) come)
 
 -- what the sum over the harmonics keeps, after i of them
 pub record IsSummed (len : ℕ) (strengths : List ℤ) (j step phase i : ℕ) (sum : ℤ) : Type 0 where
@@ -75,7 +76,7 @@ IsSummed-none len strengths j some =
 
 pub IsSummed-more : (len : ℕ) (strengths : List ℤ) (j step phase i : ℕ) (sum : ℤ) → IsSummed len strengths j step phase i sum →
     (next : ℕ) (strength part more : ℤ) → strength ≡ argument strengths i →
-    part ≡ floor_div (strength *ℤ wave (phase * 2 ^ 24 / len)) 32767 → unsigned_abs part ≤ 2 ^ 47 →
+    part ≡ floor_div (strength *ℤ wave (phase * 2 ^ 24 / len)) full_scale → unsigned_abs part ≤ 2 ^ 47 →
     next ≡ (phase + step) % len → next < len → more ≡ sum +ℤ part →
     IsSummed len strengths j step next (i + 1) more
 IsSummed-more len strengths j step phase i sum before next strength part more s p bound n inside m =

@@ -2,12 +2,11 @@
 use Rattle.std.proofs.Common.{◌≡◌, ℕ, zero, suc, ◌*◌, ◌/◌, ◌<◌, ◌≤◌, ℤ, pos, negsuc, neg_ℤ, ◌+ℤ◌, ◌-ℤ◌, ◌*ℤ◌, ◌≤ℤ◌, unsigned_abs, arith, subst, refl}
 use Rattle.std.proofs.Math.Nat.{div-le_of_le-mul}
 use Rattle.std.proofs.lemmas.Nat.{le-div, mul-le, div_below}
-use Rattle.std.proofs.lemmas.Int.{ints, clamps, unsigned_abs-mul}
-use Rattle.cs_base.specs.Numbers.{IsRaw, clamp}
-use Rattle.cs_gen.specs.Points.{floor_div}
+use Rattle.std.proofs.lemmas.Int.{ints, unsigned_abs-mul}
+use Rattle.cs_base.specs.Numbers.{IsRaw, floor_div}
 
 -- a quotient is at most d, where the number is at most d times the divisor
-pub floor_div_le : (z d : ℤ) (n : ℕ) → 0 < n → z ≤ℤ (d *ℤ pos n) → floor_div z n ≤ℤ d
+pub floor_div_le : (z d : ℤ) (n : ℕ) → 0 < n → z ≤ℤ (d *ℤ pos n) → floor_div z (pos n) ≤ℤ d
 floor_div_le (pos a) (pos e) n some h =
     let small : a ≤ e * n = omega (arith, ints) in
     let q : a / n ≤ e = div-le_of_le-mul n (omega (arith, small)) in omega (arith, ints)
@@ -20,7 +19,7 @@ floor_div_le (negsuc a) (negsuc e) n some h =
     let q : e ≤ a / n = le-div e a n some big in omega (arith, ints)
 
 -- a quotient is at least d, where the number is at least d times the divisor
-pub le-floor_div : (z d : ℤ) (n : ℕ) → 0 < n → (d *ℤ pos n) ≤ℤ z → d ≤ℤ floor_div z n
+pub le-floor_div : (z d : ℤ) (n : ℕ) → 0 < n → (d *ℤ pos n) ≤ℤ z → d ≤ℤ floor_div z (pos n)
 le-floor_div (pos a) (pos e) n some h =
     let small : e * n ≤ a = omega (arith, ints) in
     let q : e ≤ a / n = le-div e a n some small in omega (arith, ints)
@@ -55,19 +54,19 @@ neg_times zero n = omega (arith, ints)
 neg_times (suc m) n = refl
 
 -- the quotient of a number within m * n is within m
-pub floor_div_within : (z : ℤ) (m n : ℕ) → 0 < n → unsigned_abs z ≤ m * n → unsigned_abs (floor_div z n) ≤ m
+pub floor_div_within : (z : ℤ) (m n : ℕ) → 0 < n → unsigned_abs z ≤ m * n → unsigned_abs (floor_div z (pos n)) ≤ m
 floor_div_within z m n some h =
-    within (floor_div z n) m
+    within (floor_div z (pos n)) m
     (le-floor_div z (neg_ℤ (pos m)) n some (subst (λ w. w ≤ℤ z) (neg_times m n) (above_within z (m * n) h)))
     (floor_div_le z (pos m) n some (below_within z (m * n) h))
 
 -- part of the way from 0 to d: j of n steps, rounded down
-pub part_way_up : (m j n : ℕ) → j < n → (pos 0 ≤ℤ floor_div (pos m *ℤ pos j) n) × (floor_div (pos m *ℤ pos j) n ≤ℤ pos m)
+pub part_way_up : (m j n : ℕ) → j < n → (pos 0 ≤ℤ floor_div (pos m *ℤ pos j) (pos n)) × (floor_div (pos m *ℤ pos j) (pos n) ≤ℤ pos m)
 part_way_up m j n h =
     let some : 0 < n = omega arith in
     (omega (arith, ints), floor_div_le (pos m *ℤ pos j) (pos m) n some (let p : m * j ≤ m * n = mul-le m j m n (omega arith) (omega arith) in omega (arith, ints)))
 
-pub part_way_down : (m j n : ℕ) → j < n → (negsuc m ≤ℤ floor_div (negsuc m *ℤ pos j) n) × (floor_div (negsuc m *ℤ pos j) n ≤ℤ pos 0)
+pub part_way_down : (m j n : ℕ) → j < n → (negsuc m ≤ℤ floor_div (negsuc m *ℤ pos j) (pos n)) × (floor_div (negsuc m *ℤ pos j) (pos n) ≤ℤ pos 0)
 part_way_down m j n h =
     let some : 0 < n = omega arith in
     let p : suc m * j ≤ suc m * n = mul-le (suc m) j (suc m) n (omega arith) (omega arith) in (
@@ -85,26 +84,22 @@ moved_down : (low high a b f : ℤ) (m : ℕ) → b -ℤ a ≡ negsuc m → negs
 moved_down low high a b f m e p q lb ha = (omega (arith, ints), omega (arith, ints))
 
 on_rise : (low high a b d : ℤ) → b -ℤ a ≡ d → (j n : ℕ) → j < n → low ≤ℤ a → low ≤ℤ b → a ≤ℤ high → b ≤ℤ high →
-    (low ≤ℤ (a +ℤ floor_div (d *ℤ pos j) n)) × ((a +ℤ floor_div (d *ℤ pos j) n) ≤ℤ high)
+    (low ≤ℤ (a +ℤ floor_div (d *ℤ pos j) (pos n))) × ((a +ℤ floor_div (d *ℤ pos j) (pos n)) ≤ℤ high)
 on_rise low high a b (pos m) e j n h la lb ha hb =
-    let part = part_way_up m j n h in moved_up low high a b (floor_div (pos m *ℤ pos j) n) m e part.0 part.1 la hb
+    let part = part_way_up m j n h in moved_up low high a b (floor_div (pos m *ℤ pos j) (pos n)) m e part.0 part.1 la hb
 on_rise low high a b (negsuc m) e j n h la lb ha hb =
-    let part = part_way_down m j n h in moved_down low high a b (floor_div (negsuc m *ℤ pos j) n) m e part.0 part.1 lb ha
+    let part = part_way_down m j n h in moved_down low high a b (floor_div (negsuc m *ℤ pos j) (pos n)) m e part.0 part.1 lb ha
 
 -- a place on the line from a to b stays above what both ends are above, and below what both are below
 pub on_line : (low high a b : ℤ) (j n : ℕ) → j < n → low ≤ℤ a → low ≤ℤ b → a ≤ℤ high → b ≤ℤ high →
-    (low ≤ℤ (a +ℤ floor_div ((b -ℤ a) *ℤ pos j) n)) × ((a +ℤ floor_div ((b -ℤ a) *ℤ pos j) n) ≤ℤ high)
+    (low ≤ℤ (a +ℤ floor_div ((b -ℤ a) *ℤ pos j) (pos n))) × ((a +ℤ floor_div ((b -ℤ a) *ℤ pos j) (pos n)) ≤ℤ high)
 on_line low high a b j n h la lb ha hb = on_rise low high a b (b -ℤ a) refl j n h la lb ha hb
 
--- a number in range is brought nowhere
-pub clamp_same : (z : ℤ) → IsRaw z → clamp z ≡ z
-clamp_same z h = let low = h.0 in let high = h.1 in omega (arith, ints, clamps)
-
 -- a number within m, as a part of m in 65,536ths, is in range
-pub ratio_in_range : (z : ℤ) (m : ℕ) → 0 < m → unsigned_abs z ≤ m → IsRaw (floor_div (z *ℤ pos 65536) m)
+pub ratio_in_range : (z : ℤ) (m : ℕ) → 0 < m → unsigned_abs z ≤ m → IsRaw (floor_div (z *ℤ pos 65536) (pos m))
 ratio_in_range z m some h =
     let product : unsigned_abs (z *ℤ pos 65536) ≤ 65536 * m = omega (arith, product_within z (pos 65536) m 65536 h (omega arith)) in
     let small = floor_div_within (z *ℤ pos 65536) 65536 m some product in
-    let low = above_within (floor_div (z *ℤ pos 65536) m) 65536 small in
-    let high = below_within (floor_div (z *ℤ pos 65536) m) 65536 small in
+    let low = above_within (floor_div (z *ℤ pos 65536) (pos m)) 65536 small in
+    let high = below_within (floor_div (z *ℤ pos 65536) (pos m)) 65536 small in
     (omega (arith, ints, low), omega (arith, ints, high))

@@ -6,8 +6,9 @@ use Rattle.std.proofs.lemmas.List.Sums.{position_or_len_is}
 use Rattle.std.proofs.lemmas.Bool.Decides.{nat_tests}
 use Rattle.std.proofs.lemmas.Grind.{common_steps}
 use Rattle.cs_gen.specs.Faults.{argument, segments_of}
-use Rattle.cs_gen.specs.Points.{floor_div, length_of, begin_of, segment_at, value_of, segments}
-use Rattle.cs_gen.specs.Walk.{HasPassed, HasReached}
+use Rattle.cs_base.specs.Numbers.{floor_div}
+use Rattle.cs_gen.specs.Points.{length_of, begin_of, segment_at, value_of, segments}
+use Rattle.cs_gen.specs.inner.Walk.{HasPassed, HasReached}
 
 sum-snoc : (f : ℕ → ℕ) (k : ℕ) → sum (map f (range_with_len 0 (k + 1))) ≡ sum (map f (range_with_len 0 k)) + f k
 sum-snoc f k = let more = map-range_with_len_more f 0 k k (omega arith) in rw more (grind (arith, common_steps))
@@ -83,7 +84,7 @@ segment_at-reached args j k begin r =
 
 -- the point at a place that a walk has reached: on a segment's line, at the end of all, and past it
 on_segment : (args : List ℤ) (j k begin : ℕ) → HasReached args j k begin → k < segments_of args →
-    segments args j ≡ value_of args k +ℤ floor_div ((value_of args (k + 1) -ℤ value_of args k) *ℤ pos (j - begin)) (length_of args k)
+    segments args j ≡ value_of args k +ℤ floor_div ((value_of args (k + 1) -ℤ value_of args k) *ℤ pos (j - begin)) (pos (length_of args k))
 unfolding segments
 on_segment args j k begin r h =
     let at = segment_at-reached args j k begin r in
@@ -93,13 +94,13 @@ on_segment args j k begin r h =
 
 pub is_on_segment : (args : List ℤ) (j k begin : ℕ) → HasReached args j k begin → k < segments_of args →
     (here next z : ℤ) (length : ℕ) → here ≡ argument args (2 * k) → next ≡ argument args (2 * k + 2) → length ≡ length_of args k →
-    z ≡ here +ℤ floor_div ((next -ℤ here) *ℤ pos (j - begin)) length → z ≡ segments args j
+    z ≡ here +ℤ floor_div ((next -ℤ here) *ℤ pos (j - begin)) (pos length) → z ≡ segments args j
 is_on_segment args j k begin r h here next z length eh en el ez =
     let twice : 2 * k + 2 ≡ 2 * (k + 1) = omega arith in
     let en' : next ≡ value_of args (k + 1) = en ∙ ap (argument args) twice in
-    ez ∙ ap (λ v. v +ℤ floor_div ((next -ℤ v) *ℤ pos (j - begin)) length) eh
-    ∙ ap (λ v. value_of args k +ℤ floor_div ((v -ℤ value_of args k) *ℤ pos (j - begin)) length) en'
-    ∙ ap (λ n. value_of args k +ℤ floor_div ((value_of args (k + 1) -ℤ value_of args k) *ℤ pos (j - begin)) n) el
+    ez ∙ ap (λ v. v +ℤ floor_div ((next -ℤ v) *ℤ pos (j - begin)) (pos length)) eh
+    ∙ ap (λ v. value_of args k +ℤ floor_div ((v -ℤ value_of args k) *ℤ pos (j - begin)) (pos length)) en'
+    ∙ ap (λ n. value_of args k +ℤ floor_div ((value_of args (k + 1) -ℤ value_of args k) *ℤ pos (j - begin)) (pos n)) el
     ∙ sym (on_segment args j k begin r h)
 
 pub at_end : (args : List ℤ) (j k begin : ℕ) → HasReached args j k begin → segments_of args ≤ k → j - begin ≡ 0 →

@@ -1,8 +1,8 @@
 -- Which tables are refused, and for what.
 use Rattle.std.specs.Prelude.{◌≡◌, ℕ, ◌+◌, ◌-◌, ◌*◌, ◌/◌, Bool, ◌&&◌, ◌||◌, ◌==◌, List, [], ◌∷◌, length, ℤ, pos, unsigned_abs, int_lt, Option, Some, None, slice_index_or, if◌then◌else◌}
-use Rattle.std.specs.Int.{int_div_euclid}
 use Rattle.std.specs.List.{list_any, range_with_len}
 use Rattle.std.specs.Ordering.{int_eq}
+use Rattle.cs_base.specs.Numbers.{floor_div, one}
 use Rattle.cs_base.specs.declared.fault.Or.{Or}
 use Rattle.cs_base.specs.declared.fault.Or.TheVariants.{Fault, OutOfMemory}
 use Rattle.cs_gen.specs.declared.check.GenFault.{GenFault}
@@ -14,7 +14,7 @@ argument args k = slice_index_or args k (pos 0)
 
 -- the whole part of a number, rounded down
 abbrev pub whole : ℤ → ℤ
-whole raw = int_div_euclid raw (pos 65536)
+whole raw = floor_div raw one
 
 -- how many segments GEN07's arguments give: one for each value after the first
 abbrev pub segments_of : List ℤ → ℕ

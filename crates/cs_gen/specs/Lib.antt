@@ -1,3 +1,4 @@
 pub mod Faults
 pub mod Points
-pub mod Walk
+pub mod Tables
+pub mod inner

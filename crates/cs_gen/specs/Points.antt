@@ -1,13 +1,12 @@
 -- The points of a table, each by a formula for its one place.
 use Rattle.std.specs.Prelude.{ℕ, ◌+◌, ◌-◌, ◌*◌, ◌/◌, ◌%◌, ◌^◌, max, sum, ◌==◌, nat_lt, nat_le, List, [], ◌∷◌, length, map, ℤ, pos, neg_ℤ, ◌+ℤ◌, ◌-ℤ◌, ◌*ℤ◌, unsigned_abs, int_lt, slice_index, if◌then◌else◌}
-use Rattle.std.specs.Int.{int_div_euclid}
 use Rattle.std.specs.List.{position_or_len, range_with_len}
-use Rattle.cs_base.specs.Numbers.{clamp}
+use Rattle.cs_base.specs.Numbers.{clamp, floor_div, one, total}
 use Rattle.cs_gen.specs.Faults.{argument, whole, segments_of}
 
--- a quotient rounded down
-abbrev pub floor_div : ℤ → ℕ → ℤ
-floor_div z n = int_div_euclid z (pos n)
+-- the height of the wave at its crest
+abbrev pub full_scale : ℤ
+full_scale = pos 32767
 
 -- the power of two of a table's size, which is that power or one more
 abbrev pub len_of : ℕ → ℕ
@@ -39,21 +38,16 @@ unfoldable pub wave : ℕ → ℤ
 wave w =
     let here = wave_at (w / 65536) in
     let next = wave_at ((w / 65536 + 1) % 256) in
-    here +ℤ floor_div ((next -ℤ here) *ℤ pos (w % 65536)) 65536
+    here +ℤ floor_div ((next -ℤ here) *ℤ pos (w % 65536)) (pos 65536)
 
 -- harmonic h of a table of len points, at place j
 unfoldable pub sine : ℕ → ℕ → ℕ → ℤ
 sine len h j = wave ((h * j) % len * 2 ^ 24 / len)
 
--- the sum of whole numbers, without bounds
-abbrev pub total : List ℤ → ℤ
-total [] = pos 0
-total (z ∷ zs) = z +ℤ total zs
-
 -- GEN10 at place j, before it is brought into range: each strength times its harmonic, summed
 unfoldable pub harmonics : ℕ → List ℤ → ℕ → ℤ
 harmonics len strengths j =
-    total (map (λ h. floor_div (argument strengths (h - 1) *ℤ sine len h j) 32767)
+    total (map (λ h. floor_div (argument strengths (h - 1) *ℤ sine len h j) full_scale)
     (range_with_len 1 (length strengths)))
 
 -- GEN07: how many points segment k is long
@@ -79,7 +73,7 @@ segments args j =
     let k = segment_at args j in
     let into = j - begin_of args k in
     if nat_lt k (segments_of args)
-    then value_of args k +ℤ floor_div ((value_of args (k + 1) -ℤ value_of args k) *ℤ pos into) (length_of args k)
+    then value_of args k +ℤ floor_div ((value_of args (k + 1) -ℤ value_of args k) *ℤ pos into) (pos (length_of args k))
     else if into == 0 then value_of args k else pos 0
 
 -- a point by the formula of GEN02, GEN07 or GEN10
@@ -96,7 +90,7 @@ greatest (z ∷ zs) = max (unsigned_abs z) (greatest zs)
 
 -- a point of a table whose greatest absolute value is to be 1
 abbrev pub normalised : ℕ → ℤ → ℤ
-normalised m v = if m == 0 then v else floor_div (v *ℤ pos 65536) m
+normalised m v = if m == 0 then v else floor_div (v *ℤ one) (pos m)
 
 -- the values of f at the first n places
 abbrev pub at_places : ℕ → (ℕ → ℤ) → List ℤ

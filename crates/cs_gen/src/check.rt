@@ -25,6 +25,7 @@ const LENGTHS: [i64; 16] = [
 /// The first reason why a table of this size, GEN and arguments can't be made, if there is one.
 pub fn check_table(size: i64, gen_: i64, args: &[Num]) -> Result<(), GenFault>
     ensures accepted { OnOk result (table_fault size gen_ args.now ≡ None) }
+    ensures size { OnOk result ((pos 2 ≤ℤ size) × (size ≤ℤ pos 65537)) }
     ensures refused { IfErr result (λ fault. table_fault size gen_ args.now ≡ Some fault) }
 {
     if !is_size(size) {

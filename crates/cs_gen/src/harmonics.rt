@@ -1,9 +1,9 @@
 // GEN10: a point is the sum of all harmonics at its place.
 ghost use Rattle.std.specs.Prelude.{◌≡◌, ◌<◌, ◌≤◌, ◌+◌, ◌*◌, ◌/◌, ◌%◌, ◌^◌, ◌*ℤ◌, ◌+ℤ◌, unsigned_abs};
-ghost use Rattle.cs_base.specs.Numbers.{clamp};
-ghost use Rattle.cs_gen.specs.Points.{floor_div, harmonics, wave};
+ghost use Rattle.cs_base.specs.Numbers.{clamp, floor_div};
+ghost use Rattle.cs_gen.specs.Points.{full_scale, harmonics, wave};
 
-use crate::sine::wave;
+use crate::sine::{FULL_SCALE, wave};
 use cs_base::Num;
 
 /// Place `j` of a table of `len` points, where `strengths` are those of the harmonics 1, 2 and so on.
@@ -19,14 +19,14 @@ pub(crate) fn harmonics(len: u64, strengths: &[Num], j: u64) -> Num
         sum += i128::from(harmonic(len, *strength, phase));
         phase = turned(len, phase, step);
     }
-    narrowed(sum)
+    Num::of_wide(sum)
 }
 
 // A strength times the wave, where the harmonic has come so many of `len` parts of its turn.
 fn harmonic(len: u64, strength: Num, phase: u64) -> i64
     requires wide { len ≤ 65536 }
     requires within { phase < len }
-    ensures value { result ≡ floor_div (strength *ℤ wave (phase * 2 ^ 24 / len)) 32767 }
+    ensures value { result ≡ floor_div (strength *ℤ wave (phase * 2 ^ 24 / len)) full_scale }
     ensures bounded { unsigned_abs result ≤ 2 ^ 47 }
 {
     scaled(strength.raw(), wave(phase * (1 << 24) / len))
@@ -36,10 +36,10 @@ fn harmonic(len: u64, strength: Num, phase: u64) -> i64
 fn scaled(strength: i64, height: i64) -> i64
     requires strong { unsigned_abs strength ≤ 2 ^ 47 }
     requires high { unsigned_abs height ≤ 32767 }
-    ensures value { result ≡ floor_div (strength *ℤ height) 32767 }
+    ensures value { result ≡ floor_div (strength *ℤ height) full_scale }
     ensures bounded { unsigned_abs result ≤ 2 ^ 47 }
 {
-    (strength * height).div_euclid(32767)
+    (strength * height).div_euclid(FULL_SCALE)
 }
 
 // One step further round a turn of `len` parts.
@@ -52,11 +52,4 @@ fn turned(len: u64, phase: u64, step: u64) -> u64
 {
     let next = phase + step;
     if next < len { next } else { next - len }
-}
-
-// A sum, brought into range.
-fn narrowed(exact: i128) -> Num
-    ensures { result ≡ clamp exact }
-{
-    Num::of_raw(exact.clamp(i128::from(i64::MIN), i128::from(i64::MAX)) as i64)
 }

@@ -1,7 +1,7 @@
 // Normalising: the greatest absolute value of a table becomes 1.
 ghost use Rattle.std.specs.Prelude.{◌≡◌, ◌<◌, ◌≤◌, ◌^◌, ◌*ℤ◌, pos, unsigned_abs, map, int_lt, if◌then◌else◌};
-ghost use Rattle.cs_base.specs.Numbers.{IsRaw};
-ghost use Rattle.cs_gen.specs.Points.{floor_div, greatest, normalised};
+ghost use Rattle.cs_base.specs.Numbers.{IsRaw, floor_div, one};
+ghost use Rattle.cs_gen.specs.Points.{greatest, normalised};
 
 use cs_base::Num;
 
@@ -60,7 +60,7 @@ fn ratio(value: i64, most: u64) -> Num
     requires bounded { most ≤ 2 ^ 47 }
     requires in_range { IsRaw value }
     requires most { unsigned_abs value ≤ most }
-    ensures { result ≡ floor_div (value *ℤ pos 65536) most }
+    ensures { result ≡ floor_div (value *ℤ one) (pos most) }
 {
     Num::of_raw((value * 65536).div_euclid(most as i64))
 }

@@ -1,9 +1,9 @@
 // GEN07: a point lies on the line of the segment in which its place is.
 ghost use Rattle.std.specs.Prelude.{◌≡◌, ◌<◌, ◌≤◌, ◌+◌, ◌*◌, ◌^◌, ◌+ℤ◌, ◌-ℤ◌, ◌*ℤ◌, pos, unsigned_abs, IfOk};
-ghost use Rattle.cs_base.specs.Numbers.{IsRaw};
+ghost use Rattle.cs_base.specs.Numbers.{IsRaw, floor_div};
 ghost use Rattle.cs_gen.specs.Faults.{argument, segments_of};
-ghost use Rattle.cs_gen.specs.Points.{at_places, floor_div, length_of, segments};
-ghost use Rattle.cs_gen.specs.Walk.{HasPassed, HasReached};
+ghost use Rattle.cs_gen.specs.Points.{at_places, length_of, segments};
+ghost use Rattle.cs_gen.specs.inner.Walk.{HasPassed, HasReached};
 
 use crate::check::{argument, segments_of};
 use cs_base::Num;
@@ -81,7 +81,7 @@ fn on_line(value: i64, next: i64, into: u64, length: u64) -> Num
     requires next { IsRaw next }
     requires inside { into < length }
     requires wide { length ≤ 2 ^ 31 }
-    ensures { result ≡ value +ℤ floor_div ((next -ℤ value) *ℤ pos into) length }
+    ensures { result ≡ value +ℤ floor_div ((next -ℤ value) *ℤ pos into) (pos length) }
 {
     moved(value, part(difference(next, value), into, length))
 }
@@ -96,7 +96,7 @@ fn difference(next: i64, value: i64) -> i128
 fn part(rise: i128, into: u64, length: u64) -> i128
     requires small { unsigned_abs rise < 2 ^ 48 }
     requires inside { into < length }
-    ensures { result ≡ floor_div (rise *ℤ pos into) length }
+    ensures { result ≡ floor_div (rise *ℤ pos into) (pos length) }
 {
     (rise * i128::from(into)).div_euclid(i128::from(length))
 }

@@ -1,6 +1,10 @@
 // The sine of the profile: 65 whole values of a quarter turn, mirrored and interpolated.
 ghost use Rattle.std.specs.Prelude.{◌≡◌, ◌<◌, ◌≤◌, ◌*◌, ◌/◌, ◌^◌, ◌*ℤ◌, ◌-ℤ◌, ◌+ℤ◌, ◌≤ℤ◌, pos, neg_ℤ, slice_index};
-ghost use Rattle.cs_gen.specs.Points.{wave_at, wave, floor_div, quarter};
+ghost use Rattle.cs_base.specs.Numbers.{floor_div};
+ghost use Rattle.cs_gen.specs.Points.{wave_at, wave, full_scale, quarter};
+
+/// The height of the wave at its crest.
+pub(crate) const FULL_SCALE: i64 = 32_767;
 
 // The rising quarter of a wave of 256 places, from place 0 to place 64.
 const QUARTER: [u16; 65] = [
@@ -16,8 +20,8 @@ const QUARTER: [u16; 65] = [
 pub(crate) fn wave(w: u64) -> i64
     requires { w < 2 ^ 24 }
     ensures value { result ≡ wave w }
-    ensures above { neg_ℤ (pos 32767) ≤ℤ result }
-    ensures below { result ≤ℤ pos 32767 }
+    ensures above { neg_ℤ full_scale ≤ℤ result }
+    ensures below { result ≤ℤ full_scale }
 {
     between(
         wave_at(w / 65536),
@@ -29,13 +33,13 @@ pub(crate) fn wave(w: u64) -> i64
 // A value on the line from here to the next place.
 fn between(here: i64, next: i64, fraction: u64) -> i64
     requires fraction { fraction < 65536 }
-    requires here_above { neg_ℤ (pos 32767) ≤ℤ here }
-    requires here_below { here ≤ℤ pos 32767 }
-    requires next_above { neg_ℤ (pos 32767) ≤ℤ next }
-    requires next_below { next ≤ℤ pos 32767 }
-    ensures value { result ≡ here +ℤ floor_div ((next -ℤ here) *ℤ pos fraction) 65536 }
-    ensures above { neg_ℤ (pos 32767) ≤ℤ result }
-    ensures below { result ≤ℤ pos 32767 }
+    requires here_above { neg_ℤ full_scale ≤ℤ here }
+    requires here_below { here ≤ℤ full_scale }
+    requires next_above { neg_ℤ full_scale ≤ℤ next }
+    requires next_below { next ≤ℤ full_scale }
+    ensures value { result ≡ here +ℤ floor_div ((next -ℤ here) *ℤ pos fraction) (pos 65536) }
+    ensures above { neg_ℤ full_scale ≤ℤ result }
+    ensures below { result ≤ℤ full_scale }
 {
     here + part(next - here, fraction)
 }
@@ -45,7 +49,7 @@ fn part(difference: i64, fraction: u64) -> i64
     requires fraction { fraction < 65536 }
     requires above { neg_ℤ (pos 65534) ≤ℤ difference }
     requires below { difference ≤ℤ pos 65534 }
-    ensures { result ≡ floor_div (difference *ℤ pos fraction) 65536 }
+    ensures { result ≡ floor_div (difference *ℤ pos fraction) (pos 65536) }
 {
     (difference * fraction as i64).div_euclid(65536)
 }
@@ -54,8 +58,8 @@ fn part(difference: i64, fraction: u64) -> i64
 fn wave_at(place: u64) -> i64
     requires { place < 256 }
     ensures value { result ≡ wave_at place }
-    ensures above { neg_ℤ (pos 32767) ≤ℤ result }
-    ensures below { result ≤ℤ pos 32767 }
+    ensures above { neg_ℤ full_scale ≤ℤ result }
+    ensures below { result ≤ℤ full_scale }
 {
     match place {
         0..=64 => i64::from(quarter_at(place)),

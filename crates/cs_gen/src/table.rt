@@ -1,7 +1,8 @@
 // A table by its size, its GEN and the arguments.
-ghost use Rattle.std.specs.Prelude.{ℕ, ◌≡◌, ◌≤◌, IfOk, IfErr, OnOk, None, pos, length, slice_index_or, unsigned_abs};
+ghost use Rattle.std.specs.Prelude.{ℕ, ◌≡◌, ◌≤◌, IfOk, IfErr, OnOk, None, unsigned_abs};
 ghost use Rattle.cs_gen.specs.Faults.{IsCauseOf, argument, table_fault};
-ghost use Rattle.cs_gen.specs.Points.{at_places, guard_place, harmonics, len_of, plain_point, point, points_of};
+ghost use Rattle.cs_gen.specs.Points.{at_places, harmonics, len_of, plain_point};
+ghost use Rattle.cs_gen.specs.Tables.{IsMade};
 ghost use Rattle.cs_base.specs.Numbers.{clamp};
 
 use crate::check::{GenFault, argument, check_table};
@@ -17,10 +18,7 @@ pub type Points = Items<Num>;
 /// All points that a table of this size keeps, `size` of them, by its GEN; a positive GEN normalises. The fault
 /// is that of `check_table`.
 pub fn make_table(alloc: Global, size: i64, gen_: i64, args: &[Num]) -> Result<Points, Or<GenFault>>
-    ensures points { IfOk result (λ points. points ≡ points_of size gen_ args.now) }
-    ensures guard { let place = guard_place (unsigned_abs size) in
-        IfOk result (λ points.
-        slice_index_or points (guard_place (length points)) (pos 0) ≡ point size gen_ args.now place) }
+    ensures made { IfOk result (IsMade size gen_ args.now) }
     ensures accepted { OnOk result (table_fault size gen_ args.now ≡ None) }
 
     // A fault is found before memory is asked for.

@@ -15,4 +15,4 @@ loop-strength-preserved c =
     (let kept = c.loop-strength.invariant.bounded in let part = c.harmonic.ensures.bounded in omega (arith, ints, c.from-sum.ensures))
 
 pub returns : goal.returns
-returns c = c.narrowed.ensures ∙ ap clamp (IsSummed-all c.args.len c.args.strengths.now c.args.j _ _ _ _ c.loop-strength.invariant (omega arith))
+returns c = c.of_wide.ensures ∙ ap clamp (IsSummed-all c.args.len c.args.strengths.now c.args.j _ _ _ _ c.loop-strength.invariant (omega arith))

@@ -1,8 +1,8 @@
 use Rattle.std.proofs.Common.{◌≡◌, ◌*ℤ◌, pos, to_z, of_z, w64, ap, ◌∙◌, rules, arith}
 use Rattle.std.proofs.lemmas.Int.{ints, to_z-of_z}
-use Rattle.cs_base.specs.Numbers.{clamp}
-use Rattle.cs_gen.specs.Points.{floor_div}
-use Rattle.cs_gen.proofs.Quotients.{clamp_same, ratio_in_range}
+use Rattle.cs_base.proofs.Arithmetic.{clamp_same}
+use Rattle.cs_base.specs.Numbers.{clamp, floor_div}
+use Rattle.cs_gen.proofs.Quotients.{ratio_in_range}
 use Rattle.cs_gen.proofs.normal.ratio.Goals as goal
 
 pub returns : goal.returns
@@ -13,4 +13,4 @@ returns c =
     let below : to_z w64 c.args.most ≡ pos c.args.most = omega (arith, ints) in
     let quotient = rw below at (rw above at c.div_euclid.ensures) in
     c.of_raw.ensures ∙ ap clamp (to_z-of_z w64 c.div_euclid.result (search rules) ∙ quotient)
-    ∙ clamp_same (floor_div (c.args.value *ℤ pos 65536) c.args.most) (ratio_in_range c.args.value c.args.most c.requires.some c.requires.most)
+    ∙ clamp_same (floor_div (c.args.value *ℤ pos 65536) (pos c.args.most)) (ratio_in_range c.args.value c.args.most c.requires.some c.requires.most)

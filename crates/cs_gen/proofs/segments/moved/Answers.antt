@@ -1,8 +1,8 @@
 use Rattle.std.proofs.Common.{◌≡◌, ◌∙◌, ap, ◌+ℤ◌, to_z, of_z, w64, arith}
 use Rattle.std.specs.Int.{w128}
 use Rattle.std.proofs.lemmas.Int.{ints}
+use Rattle.cs_base.proofs.Arithmetic.{clamp_same}
 use Rattle.cs_base.specs.Numbers.{clamp}
-use Rattle.cs_gen.proofs.Quotients.{clamp_same}
 use Rattle.cs_gen.proofs.segments.moved.Goals as goal
 
 pub returns : goal.returns
