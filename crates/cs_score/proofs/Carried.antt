@@ -1,52 +1,99 @@
 -- A statement's fields, filled by those of the one before.
-use Rattle.std.proofs.Common.{◌≡◌, ℕ, zero, suc, ◌+◌, ◌<◌, min, max, Bool, true, false, List, [], ◌∷◌, ◌++◌, length, drop, take, map, set, get_or, arith, ap, sym, ◌∙◌, refl, append_assoc, Option, Some, None, slice_get, unwrap_or, if◌then◌else◌}
+use Rattle.std.proofs.Common.{◌≡◌, ℕ, ℤ, zero, suc, ◌+◌, ◌<◌, ◌≤◌, min, max, Bool, true, false, List, [], ◌∷◌, ◌++◌, length, drop, take, map, set, get_or, arith, ap, sym, ◌∙◌, refl, append_assoc, Option, Some, None, Result, Ok, Err, IfOk, IsSome, subst, slice_get, unwrap_or, if◌then◌else◌}
 use Rattle.std.specs.List.{range_with_len}
-use Rattle.std.proofs.lemmas.List.{drop_more, get_or_at, take_more, set_at, append-nil, length-take-le, same_lists}
+use Rattle.std.proofs.lemmas.List.{drop_more, drop_all, get_or_at, take_more, set_at, append-nil, length-take-le, same_lists}
 use Rattle.std.proofs.lemmas.List.FromFn.{length-map-range_with_len, get_or-map-range_with_len}
 use Rattle.cs_score.specs.declared.field.Field.{Field}
 use Rattle.cs_score.specs.declared.field.Field.TheVariants.{Number, Same, After, Ahead, Foreign, Unreadable}
 use Rattle.cs_score.specs.declared.row.Row.{Row}
 use Rattle.cs_score.specs.Carry.{taken, field, count, fields, continues}
-use Rattle.cs_score.specs.State.{filled, filled_one, completed}
+use Rattle.cs_score.specs.Notes.{values_of}
+use Rattle.cs_base.specs.declared.fault.ScoreKind.TheVariants.{NothingToCarry}
+use Rattle.cs_score.specs.Notes.{gap_by}
+use Rattle.cs_score.specs.inner.State.{filled, filled_one, completed, fields_read, instr_read, p1_before, p2_read, IsKept, IsLast}
+use Rattle.cs_score.specs.inner.Values.{AreValues}
+use Rattle.cs_score.specs.declared.field.Instrument.{Instrument}
+use Rattle.cs_score.specs.declared.last.LastNote.{LastNote}
+use Rattle.cs_score.specs.declared.last.NoteRead.{NoteRead}
+use Rattle.cs_score.specs.declared.refusal.Refusal.{Refusal}
 
 pub length-filled : (ws before : List Field) → length (filled ws before) ≡ max (length ws) (length before)
 length-filled [] before = omega arith
 length-filled (f ∷ fs) [] = omega arith
 length-filled (f ∷ fs) (g ∷ gs) = let e = length-filled fs gs in omega (arith, e)
 
-get_filled : (ws before : List Field) (k : ℕ) (d : Field) → k < length ws → k < length before → get_or (filled ws before) k d ≡ filled_one (get_or ws k d) (get_or before k d)
+get_filled : (ws before : List Field) (k : ℕ) (d : Field) → k < length ws → k < length before
+    → get_or (filled ws before) k d ≡ filled_one (get_or ws k d) (get_or before k d)
 get_filled [] before k d l m = absurd (omega arith)
 get_filled (f ∷ fs) [] k d l m = absurd (omega arith)
 get_filled (f ∷ fs) (g ∷ gs) zero d l m = refl
 get_filled (f ∷ fs) (g ∷ gs) (suc k) d l m = get_filled fs gs k d (omega arith) (omega arith)
 
 -- the fields that both have, then those that one of them has
-pub filled_end : (n : ℕ) (ws before : List Field) → n ≡ min (length ws) (length before) → take n (filled ws before) ++ (drop n ws ++ drop n before) ≡ filled ws before
-filled_end zero [] before e = refl
-filled_end zero (f ∷ fs) [] e = append-nil (f ∷ fs)
+pub filled_end : (n : ℕ) (ws before : List Field) → n ≡ min (length ws) (length before)
+    → take n (filled ws before) ++ (drop n before ++ drop n ws) ≡ filled ws before
+filled_end zero [] before e = append-nil before
+filled_end zero (f ∷ fs) [] e = refl
 filled_end zero (f ∷ fs) (g ∷ gs) e = absurd (omega arith)
 filled_end (suc n) [] before e = absurd (omega arith)
 filled_end (suc n) (f ∷ fs) [] e = absurd (omega arith)
 filled_end (suc n) (f ∷ fs) (g ∷ gs) e = ap (λ t. filled_one f g ∷ t) (filled_end n fs gs (omega arith))
 
+-- past the written fields those of the statement before are taken whole
+pub filled_rest : (n : ℕ) (ws before : List Field) → length ws ≤ n → drop n (filled ws before) ≡ drop n before
+filled_rest n [] before l = refl
+filled_rest zero (f ∷ fs) before l = absurd (omega arith)
+filled_rest (suc n) (f ∷ fs) [] l = drop_all n fs (omega arith)
+filled_rest (suc n) (f ∷ fs) (g ∷ gs) l = filled_rest n fs gs (omega arith)
+
+-- and so are their values, where no field from p4 on is written
+pub taken_whole : (ws before fields : List Field) (more : List ℤ) → length ws ≤ 3 → AreValues before more → fields ≡ filled ws before
+    → AreValues fields more
+taken_whole ws before fields more l v e = (
+  ap (values_of NothingToCarry) (ap (drop 3) e ∙ filled_rest 3 ws before l) ∙ v.0,
+  omega (arith, v.1, ap length e, length-filled ws before),
+)
+
+-- what the next statement may take from one is what the code keeps of it
+kept_one : (last next : LastNote) (written fields : List Field) (instr : Instrument) (p2 : ℕ) → instr_read last written ≡ Ok instr →
+    fields ≡ fields_read last written → p2_read last written ≡ Ok p2 → IsLast instr p2 fields next → IsKept last written next
+kept_one last next written fields instr p2 i f p l =
+    let P : Option Instrument → Type 0 = λ o. IsSome o in
+    record {
+      is_instr = i ∙ sym (ap p1_before l.is_instr);
+      stands = subst P (sym l.is_instr) refl;
+      is_p2 = p ∙ ap Ok (sym l.is_p2);
+      is_gap = l.is_gap ∙ ap (λ r. gap_by r (slice_get fields 2)) (sym (ap p1_before l.is_instr)) ∙ ap (λ fs. gap_by (p1_before next.instr) (slice_get fs 2)) (sym l.is_fields);
+      is_fields = l.is_fields ∙ f;
+    }
+
+pub kept_is : (r : Result NoteRead Refusal) (last : LastNote) (written : List Field) (instr : Instrument) (p2 : ℕ) (fields : List Field) →
+    instr_read last written ≡ Ok instr → fields ≡ fields_read last written → p2_read last written ≡ Ok p2 →
+    IfOk r (λ read. IsLast instr p2 fields read.last) → IfOk r (λ read. IsKept last written read.last)
+kept_is (Ok read) last written instr p2 fields i f p l = kept_one last read.last written fields instr p2 i f p l
+kept_is (Err e) last written instr p2 fields i f p l = tt
+
 -- one field more
-pub filled_more : (ws before now : List Field) (k : ℕ) (v d : Field) → k < length ws → k < length before → v ≡ filled_one (get_or ws k d) (get_or before k d) → now ≡ take k (filled ws before) ++ drop k ws → set now k v ≡ take (k + 1) (filled ws before) ++ drop (k + 1) ws
+pub filled_more : (ws before now : List Field) (k : ℕ) (v d : Field) → k < length ws → k < length before
+    → v ≡ filled_one (get_or ws k d) (get_or before k d) → now ≡ take k (filled ws before) ++ drop k before
+    → set now k v ≡ take (k + 1) (filled ws before) ++ drop (k + 1) before
 filled_more ws before now k v d l m is e =
     let F = filled ws before in
     let front = take k F in
-    let rest = drop (k + 1) ws in
+    let rest = drop (k + 1) before in
     let small : k < length F = omega (arith, length-filled ws before) in
-    let split : now ≡ front ++ get_or ws k d ∷ rest = e ∙ ap (λ t. front ++ t) (drop_more ws k d l) in
-    ap (λ t. set t k v) split ∙ set_at front (get_or ws k d) rest v k (length-take-le k F (omega arith))
+    let split : now ≡ front ++ get_or before k d ∷ rest = e ∙ ap (λ t. front ++ t) (drop_more before k d m) in
+    ap (λ t. set t k v) split ∙ set_at front (get_or before k d) rest v k (length-take-le k F (omega arith))
     ∙ ap (λ x. front ++ x ∷ rest) (is ∙ sym (get_filled ws before k d l m))
     ∙ sym (append_assoc front (get_or F k d ∷ []) rest)
     ∙ ap (λ t. t ++ rest) (sym (take_more F k d small))
 
-pub now_at : (ws before now : List Field) (k : ℕ) (d : Field) → k < length ws → k < length before → now ≡ take k (filled ws before) ++ drop k ws → get_or now k d ≡ get_or ws k d
+pub now_at : (ws before now : List Field) (k : ℕ) (d : Field) → k < length ws → k < length before
+    → now ≡ take k (filled ws before) ++ drop k before → get_or now k d ≡ get_or before k d
 now_at ws before now k d l m e =
     let F = filled ws before in
     let small : k < length F = omega (arith, length-filled ws before) in
-    ap (λ t. get_or t k d) (e ∙ ap (λ t. take k F ++ t) (drop_more ws k d l)) ∙ get_or_at (take k F) (get_or ws k d) (drop (k + 1) ws) d k (length-take-le k F (omega arith))
+    ap (λ t. get_or t k d) (e ∙ ap (λ t. take k F ++ t) (drop_more before k d m)) ∙ get_or_at (take k F) (get_or before k d) (drop (k + 1) before) d k (length-take-le k F (omega arith))
 
 -- ---- each field by looking back
 
@@ -78,7 +125,8 @@ get_of_filled (f ∷ fs) [] k = sym (taken_none (slice_get (f ∷ fs) k))
 get_of_filled (f ∷ fs) (g ∷ gs) zero = sym (taken_some f g)
 get_of_filled (f ∷ fs) (g ∷ gs) (suc k) = get_of_filled fs gs k
 
-by_choice : (b : Bool) (row : List Field) (before : List Field) (k : ℕ) → taken (slice_get row k) (if b then slice_get before k else None) ≡ slice_get (completed b row before) k
+by_choice : (b : Bool) (row : List Field) (before : List Field) (k : ℕ)
+    → taken (slice_get row k) (if b then slice_get before k else None) ≡ slice_get (completed b row before) k
 by_choice true row before k = sym (get_of_filled row before k)
 by_choice false row before k = taken_none (slice_get row k)
 

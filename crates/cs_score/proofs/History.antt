@@ -18,8 +18,8 @@ use Rattle.cs_score.specs.declared.statement.ScoreWhat.TheVariants.{Note, Hold, 
 use Rattle.cs_score.specs.Carry.{and_then, continues, fields, is_note, is_note_letter, is_same, p1, p1_by}
 use Rattle.cs_score.specs.Notes.{gap, gap_by, note, note_of, ok_or_zero, p2, p2_by}
 use Rattle.cs_score.specs.Statements.{asked, asked_by, base_after, base_of, first_size, one, refusal_of, size_in, table, table_refusal, is_other_size, unless, written_table}
-use Rattle.cs_score.specs.State.{IsKept, completed, continuing, fields_read, instr_read, note_read, note_with, p1_before, p2_read}
-use Rattle.cs_score.specs.Past.{Follows, Keeps, LastFollows, asked_after, table_read}
+use Rattle.cs_score.specs.inner.State.{IsKept, completed, continuing, fields_read, instr_read, note_read, note_with, p1_before, p2_read}
+use Rattle.cs_score.specs.inner.Past.{Follows, Keeps, LastFollows, asked_after, table_read}
 use Rattle.cs_score.proofs.Carried.{field_is, fields_next}
 
 -- ---- an `i` statement
@@ -31,7 +31,8 @@ no_same : (r : Result Instrument ScoreKind) → is_same r (Err NothingToCarry) �
 no_same (Ok a) = refl
 no_same (Err e) = refl
 
-same_by : (b : Bool) (r before last : Result Instrument ScoreKind) → last ≡ (if b then before else Err NothingToCarry) → is_same r last ≡ (b && is_same r before)
+same_by : (b : Bool) (r before last : Result Instrument ScoreKind) → last ≡ (if b then before else Err NothingToCarry)
+    → is_same r last ≡ (b && is_same r before)
 same_by true r before last e = ap (is_same r) e
 same_by false r before last e = ap (is_same r) e ∙ no_same r
 
@@ -62,7 +63,8 @@ no_mark a b c d (Some (Ahead x)) = refl
 no_mark a b c d (Some Foreign) = refl
 no_mark a b c d (Some Unreadable) = refl
 
-p2_by_same : (continuing : Bool) (a b c d : ℕ) (f : Option Field) → (continuing ≡ true → a ≡ c) → (continuing ≡ true → b ≡ d) → p2_by continuing a b f ≡ p2_by continuing c d f
+p2_by_same : (continuing : Bool) (a b c d : ℕ) (f : Option Field) → (continuing ≡ true → a ≡ c) → (continuing ≡ true → b ≡ d)
+    → p2_by continuing a b f ≡ p2_by continuing c d f
 p2_by_same true a b c d f e g = ap (λ x. p2_by true x b f) (e refl) ∙ ap (λ x. p2_by true c x f) (g refl)
 p2_by_same false a b c d f e g = no_mark a b c d f
 
@@ -118,7 +120,8 @@ asked_by_is above past row letter.Stray k = refl
 pub asked_is : (above : List Row) (past : Past) (row : Row) → Keeps above past → asked_after past row row.letter ≡ asked above row
 asked_is above past row k = asked_by_is above past row row.letter k
 
-instr_more : (above : List Row) (past : Past) (row : Row) (next : LastNote) (l : Letter) → Keeps above past → LastFollows past.last row next l → p1_before next.instr ≡ (if is_note_letter l then p1 (row ∷ above) else Err NothingToCarry)
+instr_more : (above : List Row) (past : Past) (row : Row) (next : LastNote) (l : Letter) → Keeps above past
+    → LastFollows past.last row next l → p1_before next.instr ≡ (if is_note_letter l then p1 (row ∷ above) else Err NothingToCarry)
 instr_more above past row next letter.Note k h = sym h.is_instr ∙ instr_is above past row k
 instr_more above past row next letter.Table k h = ap p1_before h
 instr_more above past row next letter.Tempo k h = ap p1_before h
@@ -129,7 +132,8 @@ instr_more above past row next letter.Other k h = ap p1_before h
 instr_more above past row next letter.Stray k h = ap p1_before h
 
 -- of an `i` statement its parts are kept
-kept_by : (past : Past) (row : Row) (next : LastNote) (l : Letter) → LastFollows past.last row next l → is_note_letter l ≡ true → IsKept past.last row.fields next
+kept_by : (past : Past) (row : Row) (next : LastNote) (l : Letter) → LastFollows past.last row next l → is_note_letter l ≡ true
+    → IsKept past.last row.fields next
 kept_by past row next letter.Note h e = h
 kept_by past row next letter.Table h e = absurd (let wrong : false ≡ true = e in cc)
 kept_by past row next letter.Tempo h e = absurd (let wrong : false ≡ true = e in cc)
@@ -139,10 +143,12 @@ kept_by past row next letter.End h e = absurd (let wrong : false ≡ true = e in
 kept_by past row next letter.Other h e = absurd (let wrong : false ≡ true = e in cc)
 kept_by past row next letter.Stray h e = absurd (let wrong : false ≡ true = e in cc)
 
-fields_more : (above : List Row) (past : Past) (row : Row) (next : LastNote) → Keeps above past → IsKept past.last row.fields next → next.fields ≡ fields (row ∷ above)
+fields_more : (above : List Row) (past : Past) (row : Row) (next : LastNote) → Keeps above past → IsKept past.last row.fields next
+    → next.fields ≡ fields (row ∷ above)
 fields_more above past row next k h = h.is_fields ∙ fields_is above past row k
 
-gap_more : (above : List Row) (past : Past) (row : Row) (next : LastNote) → Keeps above past → IsKept past.last row.fields next → next.gap ≡ gap (row ∷ above)
+gap_more : (above : List Row) (past : Past) (row : Row) (next : LastNote) → Keeps above past → IsKept past.last row.fields next
+    → next.gap ≡ gap (row ∷ above)
 gap_more above past row next k h =
     h.is_gap ∙ ap (λ r. gap_by r (slice_get next.fields 2)) (sym h.is_instr ∙ instr_is above past row k)
     ∙ ap (gap_by (p1 (row ∷ above))) (ap (λ fs. slice_get fs 2) (fields_more above past row next k h) ∙ sym (field_is (row ∷ above) 2))

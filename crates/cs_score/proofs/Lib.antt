@@ -1,3 +1,4 @@
+pub mod Counts
 pub mod Carried
 pub mod Comments
 pub mod History
@@ -5,3 +6,4 @@ pub mod Lines
 pub mod Pairs
 pub mod Reading
 pub mod Words
+pub mod Sizes

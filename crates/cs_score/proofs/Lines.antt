@@ -1,11 +1,11 @@
 -- The lines of a text, one by one.
-use Rattle.std.proofs.Common.{◌≡◌, ℕ, suc, ◌+◌, ◌-◌, ◌<◌, ◌≤◌, Bool, true, false, List, [], ◌∷◌, ◌++◌, length, drop, take, arith, ap, sym, ◌∙◌, refl, subst, count_by, if◌then◌else◌}
+use Rattle.std.proofs.Common.{◌≡◌, ℕ, suc, ◌+◌, ◌-◌, ◌<◌, true, false, List, [], ◌∷◌, ◌++◌, length, drop, take, arith, ap, sym, ◌∙◌, refl, subst}
 use Rattle.std.specs.List.{prefix_len}
-use Rattle.std.proofs.lemmas.List.{drop-drop, take-append-drop, take-take, drop-take, length-drop}
-use Rattle.std.proofs.lemmas.List.Sums.{sum_by-append}
+use Rattle.std.proofs.lemmas.List.{drop-drop, length-drop}
 use Rattle.cs_score.specs.declared.row.Row.{Row}
-use Rattle.cs_score.specs.Rows.{is_feed, is_line_byte, is_blank, Line, with_byte, lines_from, line_after, row_at, row_of, rows_in, next_len, hidden_here, plain_from, plain_of}
-use Rattle.cs_score.proofs.Words.{by_test}
+use Rattle.cs_base.specs.Lines.{is_feed, is_line_byte, is_blank, line_after}
+use Rattle.cs_base.proofs.Tests.{by_test}
+use Rattle.cs_score.specs.Rows.{Line, with_byte, lines_from, row_at, row_of, rows_in, next_len, hidden_here, plain_from, plain_of}
 
 abbrev pub line_len : List ℕ → ℕ
 line_len text = prefix_len is_line_byte text
@@ -44,26 +44,15 @@ one_line at b (c ∷ rest) = by_test (is_feed b)
     (subst (Cut at (b ∷ text) (suc (line_len text))) (let e : suc m ≡ next_len (b ∷ text) = omega (arith, line_len_more b text h) in e)
     (lines_more at b text h ∙ ap (with_byte at b) more ∙ ap (λ k. line_at at (b ∷ take (line_len text) text) ∷ lines_from k (drop m text)) place)))
 
-count_by-append : (p : ℕ → Bool) (xs ys : List ℕ) → count_by p (xs ++ ys) ≡ count_by p xs + count_by p ys
-count_by-append p xs ys = sum_by-append (λ x. if p x then 1 else 0) xs ys
-
--- the line number further on
-pub line_number : (text : List ℕ) (from to line feeds : ℕ) → from ≤ to → line ≡ line_after (take from text) → feeds ≡ count_by is_feed (take (to - from) (drop from text)) → line + feeds ≡ line_after (take to text)
-line_number text from to line feeds l e f =
-    let whole : from + (to - from) ≡ to = omega arith in
-    let front : take from (take to text) ≡ take from text = take-take from to text l in
-    let back : drop from (take to text) ≡ take (to - from) (drop from text) = ap (λ n. drop from (take n text)) (sym whole) ∙ drop-take from (to - from) text in
-    let split = ap (count_by is_feed) (sym (take-append-drop from (take to text))) ∙ count_by-append is_feed (take from (take to text)) (drop from (take to text)) in
-    let a = ap (count_by is_feed) front in
-    let b = ap (count_by is_feed) back in
-    omega (arith, split, a, b, e, f)
-
 cut_at : (at : ℕ) (text : List ℕ) → 0 < length text → Cut at text (line_len text) (next_len text)
 cut_at at [] l = absurd (omega arith)
 cut_at at (b ∷ rest) l = one_line at b rest
 
 -- a line's statement, then those of the lines after it
-pub row_read : (text plain : List ℕ) (at n indent m line : ℕ) (row : List Row) → at < length plain → n ≡ line_len (drop at plain) → indent ≡ prefix_len is_blank (take n (drop at plain)) → m ≡ next_len (drop at plain) → line ≡ line_after (take (at + indent) text) → row ≡ row_at line (drop indent (take n (drop at plain))) → rows_in text (lines_from at (drop at plain)) ≡ row ++ rows_in text (lines_from (at + m) (drop (at + m) plain))
+pub row_read : (text plain : List ℕ) (at n indent m line : ℕ) (row : List Row) → at < length plain → n ≡ line_len (drop at plain)
+    → indent ≡ prefix_len is_blank (take n (drop at plain)) → m ≡ next_len (drop at plain) → line ≡ line_after (take (at + indent) text)
+    → row ≡ row_at line (drop indent (take n (drop at plain)))
+    → rows_in text (lines_from at (drop at plain)) ≡ row ++ rows_in text (lines_from (at + m) (drop (at + m) plain))
 row_read text plain at n indent m line row l is_n is_indent is_m is_line is_row =
     let rest = drop at plain in
     let cut : Cut at rest n m = subst (λ i. Cut at rest i m) (sym is_n) (subst (Cut at rest (line_len rest)) (sym is_m) (cut_at at rest (omega (arith, length-drop at plain)))) in

@@ -29,7 +29,8 @@ and_then_fault r f k e = ap (λ s. and_then s f) e
 abbrev pub empty : Field
 empty = Number zero
 
-prepended : (points : List TempoPoint) (p : TempoPoint) (r : Result (List TempoPoint) ScoreKind) → and_then (and_then r (λ ps. Ok (p ∷ ps))) (λ ps. Ok (points ++ ps)) ≡ and_then r (λ ps. Ok ((points ++ p ∷ []) ++ ps))
+prepended : (points : List TempoPoint) (p : TempoPoint) (r : Result (List TempoPoint) ScoreKind)
+    → and_then (and_then r (λ ps. Ok (p ∷ ps))) (λ ps. Ok (points ++ ps)) ≡ and_then r (λ ps. Ok ((points ++ p ∷ []) ++ ps))
 prepended points p (Ok ps) = ap Ok (sym (append_assoc points (p ∷ []) ps))
 prepended points p (Err k) = refl
 
@@ -45,7 +46,9 @@ with_beat g fs beat = and_then (number_of BadNumber g) (λ m. and_then (as_tempo
 abbrev with_first : Option ℕ → Field → Field → List Field → Result (List TempoPoint) ScoreKind
 with_first last f g fs = and_then (number_of BadNumber f) (λ n. and_then (as_beat last n) (with_beat g fs))
 
-one_pair : (last : Option ℕ) (f g : Field) (fs : List Field) (n m : Signed) (beat tempo : ℕ) → number_of BadNumber f ≡ Ok n → as_beat last n ≡ Ok beat → number_of BadNumber g ≡ Ok m → as_tempo m ≡ Ok tempo → points_of last (f ∷ g ∷ fs) ≡ with_tempo beat fs tempo
+one_pair : (last : Option ℕ) (f g : Field) (fs : List Field) (n m : Signed) (beat tempo : ℕ) → number_of BadNumber f ≡ Ok n
+    → as_beat last n ≡ Ok beat → number_of BadNumber g ≡ Ok m → as_tempo m ≡ Ok tempo
+    → points_of last (f ∷ g ∷ fs) ≡ with_tempo beat fs tempo
 one_pair last f g fs n m beat tempo a b c d =
     and_then_by (number_of BadNumber f) (λ n. and_then (as_beat last n) (with_beat g fs)) n a
     ∙ and_then_by (as_beat last n) (with_beat g fs) beat b
@@ -57,7 +60,12 @@ pair_split fs at l =
     drop_more fs at empty (omega arith)
     ∙ ap (λ t. get_or fs at empty ∷ t) (drop_more fs (at + 1) empty l ∙ ap (λ n. get_or fs (at + 1) empty ∷ drop n fs) (let e : at + 1 + 1 ≡ at + 2 = omega arith in e))
 
-pub pair_read : (fs : List Field) (at : ℕ) (last : Option ℕ) (points points' : List TempoPoint) (n m : Signed) (beat tempo : ℕ) (whole : Result (List TempoPoint) ScoreKind) → at + 1 < length fs → number_of BadNumber (get_or fs at empty) ≡ Ok n → as_beat last n ≡ Ok beat → number_of BadNumber (get_or fs (at + 1) empty) ≡ Ok m → as_tempo m ≡ Ok tempo → points' ≡ points ++ record { beat = beat; tempo = tempo } ∷ [] → whole ≡ and_then (points_of last (drop at fs)) (λ ps. Ok (points ++ ps)) → whole ≡ and_then (points_of (Some beat) (drop (at + 2) fs)) (λ ps. Ok (points' ++ ps))
+pub pair_read : (fs : List Field) (at : ℕ) (last : Option ℕ) (points points' : List TempoPoint) (n m : Signed) (beat tempo : ℕ) (whole : Result (List TempoPoint) ScoreKind)
+    → at + 1 < length fs → number_of BadNumber (get_or fs at empty) ≡ Ok n → as_beat last n ≡ Ok beat
+    → number_of BadNumber (get_or fs (at + 1) empty) ≡ Ok m → as_tempo m ≡ Ok tempo
+    → points' ≡ points ++ record { beat = beat; tempo = tempo } ∷ []
+    → whole ≡ and_then (points_of last (drop at fs)) (λ ps. Ok (points ++ ps))
+    → whole ≡ and_then (points_of (Some beat) (drop (at + 2) fs)) (λ ps. Ok (points' ++ ps))
 pair_read fs at last points points' n m beat tempo whole l a b c d more read =
     let rest = drop (at + 2) fs in
     read
@@ -79,29 +87,38 @@ number_fault : (last : Option ℕ) (f : Field) (rest : List Field) (k : ScoreKin
 number_fault last f [] k e = and_then_fault (number_of BadNumber f) (λ n. and_then (as_beat last n) (λ _. Err MissingField)) k e
 number_fault last f (g ∷ fs) k e = and_then_fault (number_of BadNumber f) (λ n. and_then (as_beat last n) (with_beat g fs)) k e
 
-beat_fault : (last : Option ℕ) (f : Field) (rest : List Field) (n : Signed) (k : ScoreKind) → number_of BadNumber f ≡ Ok n → as_beat last n ≡ Err k → points_of last (f ∷ rest) ≡ Err k
+beat_fault : (last : Option ℕ) (f : Field) (rest : List Field) (n : Signed) (k : ScoreKind) → number_of BadNumber f ≡ Ok n
+    → as_beat last n ≡ Err k → points_of last (f ∷ rest) ≡ Err k
 beat_fault last f [] n k e g = and_then_by (number_of BadNumber f) (λ n. and_then (as_beat last n) (λ _. Err MissingField)) n e ∙ and_then_fault (as_beat last n) (λ _. Err MissingField) k g
 beat_fault last f (h ∷ fs) n k e g = and_then_by (number_of BadNumber f) (λ n. and_then (as_beat last n) (with_beat h fs)) n e ∙ and_then_fault (as_beat last n) (with_beat h fs) k g
 
-pub fault_read : (fs : List Field) (at : ℕ) (last : Option ℕ) (points : List TempoPoint) (k : ScoreKind) (whole : Result (List TempoPoint) ScoreKind) → at < length fs → points_of last (get_or fs at empty ∷ drop (at + 1) fs) ≡ Err k → whole ≡ and_then (points_of last (drop at fs)) (λ ps. Ok (points ++ ps)) → whole ≡ Err k
+pub fault_read : (fs : List Field) (at : ℕ) (last : Option ℕ) (points : List TempoPoint) (k : ScoreKind) (whole : Result (List TempoPoint) ScoreKind)
+    → at < length fs → points_of last (get_or fs at empty ∷ drop (at + 1) fs) ≡ Err k
+    → whole ≡ and_then (points_of last (drop at fs)) (λ ps. Ok (points ++ ps)) → whole ≡ Err k
 fault_read fs at last points k whole l e read =
     read ∙ ap (λ t. and_then (points_of last t) (λ ps. Ok (points ++ ps))) (drop_more fs at empty l) ∙ and_then_fault (points_of last (get_or fs at empty ∷ drop (at + 1) fs)) (λ ps. Ok (points ++ ps)) k e
 
-pub number_fault_read : (fs : List Field) (at : ℕ) (last : Option ℕ) (points : List TempoPoint) (k : ScoreKind) (whole : Result (List TempoPoint) ScoreKind) → at < length fs → number_of BadNumber (get_or fs at empty) ≡ Err k → whole ≡ and_then (points_of last (drop at fs)) (λ ps. Ok (points ++ ps)) → whole ≡ Err k
+pub number_fault_read : (fs : List Field) (at : ℕ) (last : Option ℕ) (points : List TempoPoint) (k : ScoreKind) (whole : Result (List TempoPoint) ScoreKind)
+    → at < length fs → number_of BadNumber (get_or fs at empty) ≡ Err k
+    → whole ≡ and_then (points_of last (drop at fs)) (λ ps. Ok (points ++ ps)) → whole ≡ Err k
 number_fault_read fs at last points k whole l e read =
     fault_read fs at last points k whole l (number_fault last (get_or fs at empty) (drop (at + 1) fs) k e) read
 
-pub beat_fault_read : (fs : List Field) (at : ℕ) (last : Option ℕ) (points : List TempoPoint) (n : Signed) (k : ScoreKind) (whole : Result (List TempoPoint) ScoreKind) → at < length fs → number_of BadNumber (get_or fs at empty) ≡ Ok n → as_beat last n ≡ Err k → whole ≡ and_then (points_of last (drop at fs)) (λ ps. Ok (points ++ ps)) → whole ≡ Err k
+pub beat_fault_read : (fs : List Field) (at : ℕ) (last : Option ℕ) (points : List TempoPoint) (n : Signed) (k : ScoreKind) (whole : Result (List TempoPoint) ScoreKind)
+    → at < length fs → number_of BadNumber (get_or fs at empty) ≡ Ok n → as_beat last n ≡ Err k
+    → whole ≡ and_then (points_of last (drop at fs)) (λ ps. Ok (points ++ ps)) → whole ≡ Err k
 beat_fault_read fs at last points n k whole l e g read =
     fault_read fs at last points k whole l (beat_fault last (get_or fs at empty) (drop (at + 1) fs) n k e g) read
 
 -- ---- all points
 
-rising_by : (last beat tempo : ℕ) (rest ps : List TempoPoint) → point beat tempo ∷ rest ≡ ps → last ≤ beat → beat < beats_end → (1000000 ≤ tempo) × (tempo ≤ 60000000000) → AreRising beat rest → AreRising last ps
+rising_by : (last beat tempo : ℕ) (rest ps : List TempoPoint) → point beat tempo ∷ rest ≡ ps → last ≤ beat → beat < beats_end
+    → (1000000 ≤ tempo) × (tempo ≤ 60000000000) → AreRising beat rest → AreRising last ps
 rising_by last beat tempo rest ps e l m t r =
     subst (AreRising last) e (l, record { beat = m; slow = t.0; fast = t.1 }, r)
 
-tempo_by : (beat tempo : ℕ) (rest ps : List TempoPoint) → point beat tempo ∷ rest ≡ ps → beat ≡ 0 → beat < beats_end → (1000000 ≤ tempo) × (tempo ≤ 60000000000) → AreRising beat rest → AreTempoPoints ps
+tempo_by : (beat tempo : ℕ) (rest ps : List TempoPoint) → point beat tempo ∷ rest ≡ ps → beat ≡ 0 → beat < beats_end
+    → (1000000 ≤ tempo) × (tempo ≤ 60000000000) → AreRising beat rest → AreTempoPoints ps
 tempo_by beat tempo rest ps e z m t r =
     subst AreTempoPoints e (z, (omega arith, record { beat = m; slow = t.0; fast = t.1 }, r))
 
@@ -145,6 +162,7 @@ first_points (f ∷ g ∷ fs) ps l e =
     at_start : (n : ℕ) → (n == 0) ≡ true → n ≡ 0
     at_start n h = grind (arith, nat_tests)
 
-pub all_points : (fs : List Field) (at : ℕ) (last : Option ℕ) (points : List TempoPoint) → 0 < length fs → length fs ≤ at → points_of None fs ≡ and_then (points_of last (drop at fs)) (λ ps. Ok (points ++ ps)) → AreTempoPoints points
+pub all_points : (fs : List Field) (at : ℕ) (last : Option ℕ) (points : List TempoPoint) → 0 < length fs → length fs ≤ at
+    → points_of None fs ≡ and_then (points_of last (drop at fs)) (λ ps. Ok (points ++ ps)) → AreTempoPoints points
 all_points fs at last points some l read =
     first_points fs points some (read ∙ ap (λ t. and_then (points_of last t) (λ ps. Ok (points ++ ps))) (drop_all at fs l) ∙ ap Ok (append-nil points))

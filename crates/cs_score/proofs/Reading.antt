@@ -3,12 +3,14 @@ use Rattle.std.proofs.Common.{◌≡◌, ℕ, ◌≤◌, Bool, true, false, List
 use Rattle.std.specs.Option.{option_to_list}
 use Rattle.std.proofs.lemmas.List.{append-nil, drop_all}
 use Rattle.cs_base.specs.declared.fault.ScoreFault.{ScoreFault}
+use Rattle.cs_score.specs.declared.kept.Kept.{Kept}
 use Rattle.cs_score.specs.declared.past.Past.{Past}
 use Rattle.cs_score.specs.declared.row.Row.{Row}
 use Rattle.cs_score.specs.declared.statement.ScoreStmt.{ScoreStmt}
 use Rattle.cs_score.specs.declared.statement.ScoreWhat.{ScoreWhat}
 use Rattle.cs_score.specs.Carry.{and_then}
-use Rattle.cs_score.specs.Past.{IsFaultOf, Keeps, LineTaken, RowRead, asked_after}
+use Rattle.cs_score.specs.inner.Counts.{Holds, IsWhole}
+use Rattle.cs_score.specs.inner.Past.{IsFaultOf, Keeps, LineTaken, RowRead, asked_after}
 use Rattle.cs_score.specs.Rows.{lines_from, plain_of, rows_in, rows_of}
 use Rattle.cs_score.specs.Statements.{asked, at_line, is_end, score_of, stated, statements_of, up_to_end}
 use Rattle.cs_score.proofs.History.{asked_is, row_more}
@@ -24,91 +26,120 @@ score_is text = refl
 abbrev pub rows_from : List ℕ → List ℕ → ℕ → List Row
 rows_from text plain at = rows_in text (lines_from at (drop at plain))
 
--- what has been read of a text up to a place: the rows above it, what the code keeps of them, and their statements
-pub record Read (text plain : List ℕ) (at : ℕ) (past : Past) (out : List ScoreStmt) : Type 0 where
+-- what has been read of a text up to a place: the rows above it, their statements, and what the code keeps of both
+pub record Read (text plain : List ℕ) (at : ℕ) (past : Past) (kept : Kept) : Type 0 where
   pub above : List Row
+  pub all : List ScoreStmt
   pub keeps : Keeps above past
-  pub whole : score_of text ≡ with_front out (statements_of above (up_to_end (rows_from text plain at)))
+  pub holds : Holds all kept
+  pub whole : score_of text ≡ with_front all (statements_of above (up_to_end (rows_from text plain at)))
 
 with_nothing : (r : Result (List ScoreStmt) ScoreFault) → with_front [] r ≡ r
 with_nothing (Ok xs) = refl
 with_nothing (Err f) = refl
 
-pub nothing_read : (text plain : List ℕ) (past : Past) → plain ≡ plain_of text → Keeps [] past → Read text plain 0 past []
-nothing_read text plain past e k = record {
+pub nothing_read : (text plain : List ℕ) (past : Past) (kept : Kept) → plain ≡ plain_of text → Keeps [] past → Holds [] kept → Read text plain 0 past kept
+nothing_read text plain past kept e k h = record {
   above = [];
+  all = [];
   keeps = k;
+  holds = h;
   whole = score_is text ∙ ap (λ t. statements_of [] (up_to_end (rows_in text (lines_from 0 t)))) (sym e) ∙ sym (with_nothing (statements_of [] (up_to_end (rows_from text plain 0))));
 }
 
 -- a line without a statement
-pub blank_read : (text plain : List ℕ) (at next : ℕ) (past : Past) (out : List ScoreStmt) → rows_from text plain at ≡ rows_from text plain next → Read text plain at past out → Read text plain next past out
-blank_read text plain at next past out e r = record {
+pub blank_read : (text plain : List ℕ) (at next : ℕ) (past : Past) (kept : Kept) → rows_from text plain at ≡ rows_from text plain next
+    → Read text plain at past kept → Read text plain next past kept
+blank_read text plain at next past kept e r = record {
   above = r.above;
+  all = r.all;
   keeps = r.keeps;
-  whole = r.whole ∙ ap (λ rows. with_front out (statements_of r.above (up_to_end rows))) e;
+  holds = r.holds;
+  whole = r.whole ∙ ap (λ rows. with_front r.all (statements_of r.above (up_to_end rows))) e;
 }
 
 -- one statement more
-joined : (out these : List ScoreStmt) (r : Result (List ScoreStmt) ScoreFault) → with_front out (and_then r (λ more. Ok (these ++ more))) ≡ with_front (out ++ these) r
+joined : (out these : List ScoreStmt) (r : Result (List ScoreStmt) ScoreFault)
+    → with_front out (and_then r (λ more. Ok (these ++ more))) ≡ with_front (out ++ these) r
 joined out these (Ok more) = ap Ok (sym (append_assoc out these more))
 joined out these (Err f) = refl
 
-first_row : (above : List Row) (row : Row) (rows : List Row) (these : List ScoreWhat) (out : List ScoreStmt) → asked above row ≡ Ok these → with_front out (statements_of above (row ∷ rows)) ≡ with_front (out ++ at_line row.line these) (statements_of (row ∷ above) rows)
+first_row : (above : List Row) (row : Row) (rows : List Row) (these : List ScoreWhat) (out : List ScoreStmt) → asked above row ≡ Ok these
+    → with_front out (statements_of above (row ∷ rows)) ≡ with_front (out ++ at_line row.line these) (statements_of (row ∷ above) rows)
 first_row above row rows these out e =
     ap (λ r. with_front out (and_then (stated row.line r) (λ these. and_then (statements_of (row ∷ above) rows) (λ more. Ok (these ++ more))))) e
     ∙ joined out (at_line row.line these) (statements_of (row ∷ above) rows)
 
-pub row_read : (text plain : List ℕ) (at next : ℕ) (past past' : Past) (out out' : List ScoreStmt) (row : Row) → rows_from text plain at ≡ row ∷ rows_from text plain next → is_end row.letter ≡ false → RowRead past out row past' out' → Read text plain at past out → Read text plain next past' out'
-row_read text plain at next past past' out out' row e more one r =
+pub row_read : (text plain : List ℕ) (at next : ℕ) (past past' : Past) (kept kept' : Kept) (row : Row)
+    → rows_from text plain at ≡ row ∷ rows_from text plain next → is_end row.letter ≡ false → RowRead past kept row past' kept'
+    → Read text plain at past kept → Read text plain next past' kept'
+row_read text plain at next past past' kept kept' row e more one r =
     let rows = up_to_end (rows_from text plain next) in
     let asks : asked r.above row ≡ Ok one.these = sym (asked_is r.above past row r.keeps) ∙ one.asked in
     record {
       above = row ∷ r.above;
+      all = r.all ++ at_line row.line one.these;
       keeps = row_more r.above past row past' r.keeps one.follows;
-      whole = r.whole ∙ ap (λ rows. with_front out (statements_of r.above (up_to_end rows))) e
-          ∙ ap (λ b. with_front out (statements_of r.above (row ∷ (if b then [] else rows)))) more
-          ∙ first_row r.above row rows one.these out asks
-          ∙ ap (λ t. with_front t (statements_of (row ∷ r.above) rows)) (sym one.added);
+      holds = one.grown r.all r.holds;
+      whole = r.whole ∙ ap (λ rows. with_front r.all (statements_of r.above (up_to_end rows))) e
+          ∙ ap (λ b. with_front r.all (statements_of r.above (row ∷ (if b then [] else rows)))) more
+          ∙ first_row r.above row rows one.these r.all asks;
     }
 
 -- the last statement, an `e`
-pub end_read : (text plain : List ℕ) (at next : ℕ) (past past' : Past) (out out' : List ScoreStmt) (row : Row) → rows_from text plain at ≡ row ∷ rows_from text plain next → is_end row.letter ≡ true → RowRead past out row past' out' → Read text plain at past out → score_of text ≡ Ok out'
-end_read text plain at next past past' out out' row e end one r =
+pub end_read : (text plain : List ℕ) (at next : ℕ) (past past' : Past) (kept kept' : Kept) (row : Row)
+    → rows_from text plain at ≡ row ∷ rows_from text plain next → is_end row.letter ≡ true → RowRead past kept row past' kept'
+    → Read text plain at past kept → IsWhole text kept'
+end_read text plain at next past past' kept kept' row e end one r =
     let rows = up_to_end (rows_from text plain next) in
     let asks : asked r.above row ≡ Ok one.these = sym (asked_is r.above past row r.keeps) ∙ one.asked in
-    r.whole ∙ ap (λ rows. with_front out (statements_of r.above (up_to_end rows))) e
-    ∙ ap (λ b. with_front out (statements_of r.above (row ∷ (if b then [] else rows)))) end
-    ∙ first_row r.above row [] one.these out asks
-    ∙ ap Ok (append-nil (out ++ at_line row.line one.these) ∙ sym one.added)
+    record {
+      all = r.all ++ at_line row.line one.these;
+      read = r.whole ∙ ap (λ rows. with_front r.all (statements_of r.above (up_to_end rows))) e
+          ∙ ap (λ b. with_front r.all (statements_of r.above (row ∷ (if b then [] else rows)))) end
+          ∙ first_row r.above row [] one.these r.all asks
+          ∙ ap Ok (append-nil (r.all ++ at_line row.line one.these));
+      holds = one.grown r.all r.holds;
+    }
 
 -- the end of the text
-pub all_read : (text plain : List ℕ) (at : ℕ) (past : Past) (out : List ScoreStmt) → length plain ≤ at → Read text plain at past out → score_of text ≡ Ok out
-all_read text plain at past out l r =
-    r.whole ∙ ap (λ t. with_front out (statements_of r.above (up_to_end (rows_in text (lines_from at t))))) (drop_all at plain l) ∙ ap Ok (append-nil out)
+pub all_read : (text plain : List ℕ) (at : ℕ) (past : Past) (kept : Kept) → length plain ≤ at → Read text plain at past kept → IsWhole text kept
+all_read text plain at past kept l r = record {
+  all = r.all;
+  read = r.whole ∙ ap (λ t. with_front r.all (statements_of r.above (up_to_end (rows_in text (lines_from at t))))) (drop_all at plain l) ∙ ap Ok (append-nil r.all);
+  holds = r.holds;
+}
 
 -- a fault
-pub fault_read : (text plain : List ℕ) (at next : ℕ) (past : Past) (out : List ScoreStmt) (row : Row) (f : ScoreFault) → rows_from text plain at ≡ row ∷ rows_from text plain next → f.line ≡ row.line → asked_after past row row.letter ≡ Err f.kind → Read text plain at past out → score_of text ≡ Err f
-fault_read text plain at next past out row f e line kind r =
+pub fault_read : (text plain : List ℕ) (at next : ℕ) (past : Past) (kept : Kept) (row : Row) (f : ScoreFault)
+    → rows_from text plain at ≡ row ∷ rows_from text plain next → f.line ≡ row.line → asked_after past row row.letter ≡ Err f.kind
+    → Read text plain at past kept → score_of text ≡ Err f
+fault_read text plain at next past kept row f e line kind r =
     let rows = if is_end row.letter then [] else up_to_end (rows_from text plain next) in
     let asks : asked r.above row ≡ Err f.kind = sym (asked_is r.above past row r.keeps) ∙ kind in
-    r.whole ∙ ap (λ rows. with_front out (statements_of r.above (up_to_end rows))) e
-    ∙ ap (λ a. with_front out (and_then (stated row.line a) (λ these. and_then (statements_of (row ∷ r.above) rows) (λ more. Ok (these ++ more))))) asks
+    r.whole ∙ ap (λ rows. with_front r.all (statements_of r.above (up_to_end rows))) e
+    ∙ ap (λ a. with_front r.all (and_then (stated row.line a) (λ these. and_then (statements_of (row ∷ r.above) rows) (λ more. Ok (these ++ more))))) asks
     ∙ ap (λ n. Err (record { line = n; kind = f.kind })) (sym line)
 
 -- ---- a line, with a statement or without
 
-pub line_read : (text plain : List ℕ) (at next : ℕ) (past past' : Past) (out out' : List ScoreStmt) (row : Option Row) (ends : Bool) → rows_from text plain at ≡ option_to_list row ++ rows_from text plain next → LineTaken past out row ends past' out' → ends ≡ false → Read text plain at past out → Read text plain next past' out'
-line_read text plain at next past past' out out' None ends e t f r =
-    subst (λ p. Read text plain next p out') (sym t.0) (subst (Read text plain next past) (sym t.1) (blank_read text plain at next past out e r))
-line_read text plain at next past past' out out' (Some row) ends e t f r =
-    row_read text plain at next past past' out out' row e (sym t.1 ∙ f) t.0 r
+pub line_read : (text plain : List ℕ) (at next : ℕ) (past past' : Past) (kept kept' : Kept) (row : Option Row) (ends : Bool)
+    → rows_from text plain at ≡ option_to_list row ++ rows_from text plain next → LineTaken past kept row ends past' kept' → ends ≡ false
+    → Read text plain at past kept → Read text plain next past' kept'
+line_read text plain at next past past' kept kept' None ends e t f r =
+    subst (λ p. Read text plain next p kept') (sym t.0) (subst (Read text plain next past) (sym t.1) (blank_read text plain at next past kept e r))
+line_read text plain at next past past' kept kept' (Some row) ends e t f r =
+    row_read text plain at next past past' kept kept' row e (sym t.1 ∙ f) t.0 r
 
-pub last_line_read : (text plain : List ℕ) (at next : ℕ) (past past' : Past) (out out' : List ScoreStmt) (row : Option Row) (ends : Bool) → rows_from text plain at ≡ option_to_list row ++ rows_from text plain next → LineTaken past out row ends past' out' → ends ≡ true → Read text plain at past out → score_of text ≡ Ok out'
-last_line_read text plain at next past past' out out' None ends e t f r = absurd (let wrong : false ≡ true = sym t.2 ∙ f in cc)
-last_line_read text plain at next past past' out out' (Some row) ends e t f r =
-    end_read text plain at next past past' out out' row e (sym t.1 ∙ f) t.0 r
+pub last_line_read : (text plain : List ℕ) (at next : ℕ) (past past' : Past) (kept kept' : Kept) (row : Option Row) (ends : Bool)
+    → rows_from text plain at ≡ option_to_list row ++ rows_from text plain next → LineTaken past kept row ends past' kept' → ends ≡ true
+    → Read text plain at past kept → IsWhole text kept'
+last_line_read text plain at next past past' kept kept' None ends e t f r = absurd (let wrong : false ≡ true = sym t.2 ∙ f in cc)
+last_line_read text plain at next past past' kept kept' (Some row) ends e t f r =
+    end_read text plain at next past past' kept kept' row e (sym t.1 ∙ f) t.0 r
 
-pub line_fault_read : (text plain : List ℕ) (at next : ℕ) (past : Past) (out : List ScoreStmt) (row : Option Row) (f : ScoreFault) → rows_from text plain at ≡ option_to_list row ++ rows_from text plain next → IsFaultOf past row f → Read text plain at past out → score_of text ≡ Err f
-line_fault_read text plain at next past out None f e t r = absurd t
-line_fault_read text plain at next past out (Some row) f e t r = fault_read text plain at next past out row f e t.0 t.1 r
+pub line_fault_read : (text plain : List ℕ) (at next : ℕ) (past : Past) (kept : Kept) (row : Option Row) (f : ScoreFault)
+    → rows_from text plain at ≡ option_to_list row ++ rows_from text plain next → IsFaultOf past row f → Read text plain at past kept
+    → score_of text ≡ Err f
+line_fault_read text plain at next past kept None f e t r = absurd t
+line_fault_read text plain at next past kept (Some row) f e t r = fault_read text plain at next past kept row f e t.0 t.1 r

@@ -1,15 +1,12 @@
 -- The words of a line, one by one.
-use Rattle.std.proofs.Common.{◌≡◌, ℕ, suc, ◌+◌, ◌<◌, Bool, true, false, not, List, [], ◌∷◌, ◌++◌, length, drop, take, map, get_or, arith, ap, sym, ◌∙◌, refl, subst, append_assoc}
+use Rattle.std.proofs.Common.{◌≡◌, ℕ, suc, ◌+◌, ◌<◌, true, false, not, List, [], ◌∷◌, ◌++◌, length, drop, take, map, get_or, arith, ap, sym, ◌∙◌, refl, subst, append_assoc}
 use Rattle.std.specs.List.{prefix_len}
 use Rattle.std.proofs.lemmas.List.{drop_more, drop-drop}
 use Rattle.cs_score.specs.declared.field.Field.{Field}
-use Rattle.cs_score.specs.Fields.{field_of, begins}
-use Rattle.cs_score.specs.Rows.{is_blank, is_word_byte, words, with_first}
-
--- what a test may be, with the fact
-pub by_test : {P : Type 0} (b : Bool) → (b ≡ true → P) → (b ≡ false → P) → P
-by_test true f g = f refl
-by_test false f g = g refl
+use Rattle.cs_base.specs.Lines.{begins, is_blank}
+use Rattle.cs_base.proofs.Tests.{by_test}
+use Rattle.cs_score.specs.Fields.{field_of}
+use Rattle.cs_score.specs.Rows.{is_word_byte, words, with_first}
 
 abbrev pub word_len : List ℕ → ℕ
 word_len text = prefix_len is_word_byte text
@@ -36,7 +33,8 @@ word_first b (c ∷ rest) h = by_test (is_blank c)
     (λ k. subst (λ n. words (b ∷ c ∷ rest) ≡ (b ∷ take n (c ∷ rest)) ∷ words (drop n (c ∷ rest))) (sym (len_blank c rest k)) (lone_first b (c ∷ rest) h (ap not k)))
     (λ k. subst (λ n. words (b ∷ c ∷ rest) ≡ (b ∷ take n (c ∷ rest)) ∷ words (drop n (c ∷ rest))) (sym (len_word c rest k)) (joined_first b (c ∷ rest) h (ap not k) ∙ ap (with_first b) (word_first c rest k)))
 
-one_word : (text : List ℕ) → 0 < length text → is_blank (get_or text 0 0) ≡ false → words text ≡ take (word_len text) text ∷ words (drop (word_len text) text)
+one_word : (text : List ℕ) → 0 < length text → is_blank (get_or text 0 0) ≡ false
+    → words text ≡ take (word_len text) text ∷ words (drop (word_len text) text)
 one_word [] l h = absurd (omega arith)
 one_word (b ∷ rest) l h =
     subst (λ n. words (b ∷ rest) ≡ take n (b ∷ rest) ∷ words (drop n (b ∷ rest))) (sym (len_word b rest h)) (word_first b rest h)
@@ -46,7 +44,10 @@ one_word (b ∷ rest) l h =
 pub blank_read : (line : List ℕ) (at : ℕ) → at < length line → is_blank (get_or line at 0) ≡ true → words (drop at line) ≡ words (drop (at + 1) line)
 blank_read line at l h = ap words (drop_more line at 0 l) ∙ blank_first (get_or line at 0) (drop (at + 1) line) h
 
-pub word_read : (line : List ℕ) (at len : ℕ) (fields fields' : List Field) (f : Field) → at < length line → is_blank (get_or line at 0) ≡ false → len ≡ word_len (drop at line) → f ≡ field_of (take len (drop at line)) → fields' ≡ fields ++ f ∷ [] → fields ++ map field_of (words (drop at line)) ≡ map field_of (words line) → fields' ++ map field_of (words (drop (at + len) line)) ≡ map field_of (words line)
+pub word_read : (line : List ℕ) (at len : ℕ) (fields fields' : List Field) (f : Field) → at < length line
+    → is_blank (get_or line at 0) ≡ false → len ≡ word_len (drop at line) → f ≡ field_of (take len (drop at line))
+    → fields' ≡ fields ++ f ∷ [] → fields ++ map field_of (words (drop at line)) ≡ map field_of (words line)
+    → fields' ++ map field_of (words (drop (at + len) line)) ≡ map field_of (words line)
 word_read line at len fields fields' f l h e is more read =
     let split = drop_more line at 0 l in
     let text = drop at line in

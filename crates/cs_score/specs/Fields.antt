@@ -1,26 +1,19 @@
 -- What a field of a line says, wherever it stands.
-use Rattle.std.specs.Prelude.{ℕ, ℤ, pos, neg_ℤ, Bool, true, false, List, [], ◌∷◌, ◌&&◌, ◌||◌, ◌==◌, length, slice_index, drop, codes, nat_eq, nat_lt, Option, Some, None, if◌then◌else◌}
-use Rattle.std.specs.List.{list_any, starts_with}
+use Rattle.std.specs.Prelude.{ℕ, ℤ, pos, neg_ℤ, Bool, true, false, List, ◌&&◌, ◌||◌, ◌==◌, length, slice_index, drop, codes, nat_lt, Option, Some, None, if◌then◌else◌}
+use Rattle.std.specs.List.{list_any}
+use Rattle.std.specs.Str.{byte}
 use Rattle.std.specs.Option.{option_map}
 use Rattle.cs_base.specs.Decimals.{decimal_of, raw_of_decimal, millionths_of}
+use Rattle.cs_base.specs.Lines.{begins, begins_with}
 use Rattle.cs_base.specs.Numbers.{clamp}
 use Rattle.cs_base.specs.declared.decimal.Decimal.{Decimal}
 use Rattle.cs_score.specs.declared.field.Signed.{Signed}
 use Rattle.cs_score.specs.declared.field.Field.{Field}
 use Rattle.cs_score.specs.declared.field.Field.TheVariants.{Number, Same, After, Ahead, Foreign, Unreadable}
 
--- whether a text begins with another
-abbrev pub begins_with : List ℕ → List ℕ → Bool
-begins_with front text = starts_with nat_eq text front
-
--- whether a text has a first byte, of this kind
-abbrev pub begins : (ℕ → Bool) → List ℕ → Bool
-begins p [] = false
-begins p (b ∷ rest) = p b
-
 -- the bytes `< > ! [ { " ( ) ~ $ @ n p`, with which fields begin that the profile leaves out
 abbrev pub is_foreign : ℕ → Bool
-is_foreign b = b == 34 || list_any (λ sign. b == sign) (codes "<>![{()~$@np")
+is_foreign b = b == byte "\"" || list_any (λ sign. b == sign) (codes "<>![{()~$@np")
 
 -- a decimal, and whether a minus stands before it
 abbrev pub signed : Bool → List ℕ → Option Signed
@@ -29,8 +22,8 @@ signed minus text = option_map (λ (d : Decimal). record { minus = minus; size =
 -- the number that a word is: a decimal after `-`, after `+`, or alone
 abbrev pub signed_of : List ℕ → Option Signed
 signed_of word =
-    if begins (λ b. b == 45) word then signed true (drop 1 word)
-    else if begins (λ b. b == 43) word then signed false (drop 1 word)
+    if begins (λ b. b == byte "-") word then signed true (drop 1 word)
+    else if begins (λ b. b == byte "+") word then signed false (drop 1 word)
     else signed false word
 
 abbrev pub number_field : Option Signed → Field
@@ -47,14 +40,14 @@ caret_field word = if begins_with (codes "^+") word then ahead_field (decimal_of
 
 -- whether a word is this one byte
 abbrev pub is_only : ℕ → List ℕ → Bool
-is_only byte word = length word == 1 && slice_index word 0 == byte
+is_only sign word = length word == 1 && slice_index word 0 == sign
 
 -- what a word says
 abbrev pub field_of : List ℕ → Field
 field_of word =
-    if is_only 46 word then Same
-    else if is_only 43 word then After
-    else if begins (λ b. b == 94) word then caret_field word
+    if is_only (byte ".") word then Same
+    else if is_only (byte "+") word then After
+    else if begins (λ b. b == byte "^") word then caret_field word
     else if begins is_foreign word then Foreign
     else number_field (signed_of word)
 

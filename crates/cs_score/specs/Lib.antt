@@ -1,8 +1,9 @@
 pub mod Carry
 pub mod Fields
+pub mod Limits
 pub mod Notes
-pub mod Past
 pub mod Ranges
 pub mod Rows
-pub mod State
+pub mod Sizes
 pub mod Statements
+pub mod inner

@@ -7,6 +7,7 @@ use Rattle.cs_score.specs.declared.field.Instrument.{Instrument}
 use Rattle.cs_score.specs.declared.field.Signed.{Signed}
 use Rattle.cs_score.specs.declared.field.Field.{Field}
 use Rattle.cs_score.specs.declared.field.Field.TheVariants.{Number, After, Ahead}
+use Rattle.cs_score.specs.declared.note.Times.{Times}
 use Rattle.cs_score.specs.declared.row.Row.{Row}
 use Rattle.cs_score.specs.declared.statement.ScoreWhat.{ScoreWhat}
 use Rattle.cs_score.specs.declared.statement.ScoreWhat.TheVariants.{Note, Hold, Stop}
@@ -88,13 +89,22 @@ note_by instr at p3 more =
     else if is_negative_time p3 then Hold instr.number at (raw_of p3) more
     else Note instr.number at (size_of p3) more
 
+-- when it starts, and its p3
+abbrev pub times_of : ℕ → Instrument → ℕ → Option Field → Result Times ScoreKind
+times_of base instr p2 p3 =
+    and_then (start_of base p2) (λ at. and_then (p3_by instr at p3) (λ p3. Ok (record { at = at; p3 = p3 })))
+
+-- the fields from p4 on, then the count of all
+abbrev pub valued_note : Instrument → Times → List Field → Result ScoreWhat ScoreKind
+valued_note instr times fields =
+    and_then (values_of NothingToCarry (drop 3 fields)) (λ more.
+    counted instr (length fields) (note_by instr times.at times.p3 more))
+
 -- the fields after p1 in order, then their count
 abbrev pub note_of : ℕ → Instrument → Result ℕ ScoreKind → List Field → Result ScoreWhat ScoreKind
 note_of base instr p2 fields =
-    and_then p2 (λ p2. and_then (start_of base p2) (λ at.
-    and_then (p3_by instr at (slice_get fields 2)) (λ p3.
-    and_then (values_of NothingToCarry (drop 3 fields)) (λ more.
-    counted instr (length fields) (note_by instr at p3 more)))))
+    and_then p2 (λ p2. and_then (times_of base instr p2 (slice_get fields 2)) (λ times.
+    valued_note instr times fields))
 
 -- the newest statement, an `i`, over a base
 abbrev pub note : ℕ → List Row → Result ScoreWhat ScoreKind

@@ -1,33 +1,14 @@
 -- The lines of a text that have a statement: its letter, its line number and its fields.
-use Rattle.std.specs.Prelude.{ℕ, Bool, List, [], ◌∷◌, ◌++◌, ◌+◌, ◌-◌, ◌||◌, ◌==◌, not, map, take, drop, codes, length, min, if◌then◌else◌, count_by}
+use Rattle.std.specs.Prelude.{ℕ, Bool, List, [], ◌∷◌, ◌++◌, ◌+◌, ◌-◌, ◌==◌, not, map, take, drop, length, min, if◌then◌else◌}
 use Rattle.std.specs.Char.{is_ascii_alphabetic}
 use Rattle.std.specs.List.{prefix_len}
+use Rattle.std.specs.Str.{byte}
+use Rattle.cs_base.specs.Comments.{comment_len}
+use Rattle.cs_base.specs.Lines.{begins, is_blank, is_feed, is_line_byte, line_after, space}
 use Rattle.cs_score.specs.declared.row.Letter.{Letter}
 use Rattle.cs_score.specs.declared.row.Letter.TheVariants as letter
 use Rattle.cs_score.specs.declared.row.Row.{Row}
-use Rattle.cs_score.specs.Fields.{begins_with, begins, field_of}
-
--- space, tab and carriage return
-abbrev pub is_blank : ℕ → Bool
-is_blank b = b == 32 || b == 9 || b == 13
-
-abbrev pub is_feed : ℕ → Bool
-is_feed b = b == 10
-
-abbrev pub is_line_byte : ℕ → Bool
-is_line_byte b = not (is_feed b)
-
--- the bytes of a comment after its `/*`, up to the next `*/` or to the end of the text
-abbrev pub block_len : List ℕ → ℕ
-block_len [] = 0
-block_len (b ∷ rest) = if begins_with (codes "*/") (b ∷ rest) then 2 else 1 + block_len rest
-
--- how many bytes of a text's front are a comment: to the end of the line after `;` or `//`, to `*/` after `/*`
-abbrev pub comment_len : List ℕ → ℕ
-comment_len text =
-    if begins_with (codes ";") text || begins_with (codes "//") text then prefix_len is_line_byte text
-    else if begins_with (codes "/*") text then 2 + block_len (drop 2 text)
-    else 0
+use Rattle.cs_score.specs.Fields.{field_of}
 
 -- how many bytes from here on are a comment, where so many are hidden by one that began before
 abbrev pub hidden_here : ℕ → List ℕ → ℕ
@@ -38,7 +19,7 @@ abbrev pub plain_from : ℕ → List ℕ → List ℕ
 plain_from hidden [] = []
 plain_from hidden (b ∷ rest) =
     let here = hidden_here hidden (b ∷ rest) in
-    (if here == 0 then b else 32) ∷ plain_from (here - 1) rest
+    (if here == 0 then b else space) ∷ plain_from (here - 1) rest
 
 abbrev pub plain_of : List ℕ → List ℕ
 plain_of text = plain_from 0 text
@@ -77,19 +58,15 @@ words (b ∷ rest) =
 -- what the first byte of a statement says
 abbrev pub letter_of : ℕ → Letter
 letter_of b =
-    if b == 105 then letter.Note else if b == 102 then letter.Table
-    else if b == 116 then letter.Tempo else if b == 98 then letter.Base
-    else if b == 115 then letter.Section else if b == 101 then letter.End
+    if b == byte "i" then letter.Note else if b == byte "f" then letter.Table
+    else if b == byte "t" then letter.Tempo else if b == byte "b" then letter.Base
+    else if b == byte "s" then letter.Section else if b == byte "e" then letter.End
     else if is_ascii_alphabetic b then letter.Other else letter.Stray
 
 -- a statement: its first byte, and the words after it, the first of which may follow at once
 abbrev pub row_at : ℕ → List ℕ → List Row
 row_at line [] = []
 row_at line (b ∷ rest) = record { line = line; letter = letter_of b; fields = map field_of (words rest) } ∷ []
-
--- the line number of what stands after a text
-abbrev pub line_after : List ℕ → ℕ
-line_after before = count_by is_feed before + 1
 
 -- the statement of a line, if it has one; its line number is that of its letter
 abbrev pub row_of : List ℕ → Line → List Row

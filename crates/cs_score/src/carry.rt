@@ -1,30 +1,32 @@
 // What an `i` statement takes from the one before: the code keeps the row of that one, filled.
-ghost use Rattle.std.specs.Prelude.{◌≡◌, ◌<◌, Some, Ok, IfOk, slice_get};
+ghost use Rattle.std.specs.Prelude.{◌≡◌, ◌<◌, ◌^◌, Some, Ok, IfOk, IfSome, slice_get};
+ghost use Rattle.std.proofs.Props.{props};
 ghost use Rattle.cs_score.specs.Carry.{is_same};
-ghost use Rattle.cs_score.specs.Notes.{gap_by};
+ghost use Rattle.cs_score.specs.Notes.{gap_by, note_of, valued_note};
 ghost use Rattle.cs_score.specs.Ranges.{HasRange, IsInstrument, beats_end};
-ghost use Rattle.cs_score.specs.State.{IsKept, NoteAnswers, completed, filled, filled_one, instr_read, note_read, note_with, p1_before};
+ghost use Rattle.cs_score.specs.inner.State.{Ends, IsKept, IsLast, NoteAnswers, completed, filled, filled_one, instr_read, note_read, note_with, p1_before};
+ghost use Rattle.cs_score.specs.inner.Values.{AreValues};
 
 use crate::field::{Field, Instrument};
 use crate::last::{LastNote, NoteRead};
-use crate::note::{gap, note, p1, p2};
+use crate::note::{Times, check_count, copied, field_at, gap, p1, p2, timed, values_or, what};
 use crate::refusal::Refusal;
-use cs_base::Items;
+use cs_base::{Items, Nums};
 use std::alloc::{AllocError, Global};
 
 /// Reads an `i` statement by its written fields, after the statements that gave `base` and `last`.
 pub fn read_note(
     alloc: Global,
     base: u64,
-    last: &LastNote,
+    last: LastNote,
     written: Items<Field>,
 ) -> Result<NoteRead, Refusal>
     requires { base < beats_end }
-    ensures value { NoteAnswers result (note_read base last.now written) }
-    ensures kept { IfOk result (λ read. IsKept last.now written read.last) }
+    ensures value { NoteAnswers result (note_read base last written) }
+    ensures kept { IfOk result (λ read. IsKept last written read.last) }
     ensures range { IfOk result (λ read. HasRange read.what) }
 {
-    let instr = p1(written.as_slice().get(0).copied(), last.instr)?;
+    let instr = p1(field_at(&written, 0), last.instr)?;
     note_with(alloc, base, last, written, instr)
 }
 
@@ -32,29 +34,67 @@ pub fn read_note(
 fn note_with(
     alloc: Global,
     base: u64,
-    last: &LastNote,
+    last: LastNote,
     written: Items<Field>,
     instr: Instrument,
 ) -> Result<NoteRead, Refusal>
     requires base { base < beats_end }
-    requires instr { instr_read last.now written ≡ Ok instr }
+    requires instr { instr_read last written ≡ Ok instr }
     requires in_range { IsInstrument instr.number }
-    ensures value { NoteAnswers result (note_with base last.now written instr) }
-    ensures kept { IfOk result (λ read. IsKept last.now written read.last) }
+    ensures value { NoteAnswers result (note_with base last written instr) }
+    ensures kept { IfOk result (λ read. IsKept last written read.last) }
     ensures range { IfOk result (λ read. HasRange read.what) }
 {
     let continuing = is_same(instr, last.instr);
-    let fields = completed(continuing, written, last.fields.as_slice())?;
-    let p2 = p2(
-        continuing,
-        last.p2,
-        last.gap,
-        fields.as_slice().get(1).copied(),
-    )?;
-    let what = note(alloc, base, instr, p2, fields.as_slice())?;
+    let before = last.p2;
+    let gap = last.gap;
+    let carried = carry(continuing, written, last)?;
+    let p2 = p2(continuing, before, gap, field_at(&carried.fields, 1))?;
+    note_of(alloc, base, instr, p2, carried)
+}
+
+// The statement after its p2, and what the next one may take from it.
+fn note_of(
+    alloc: Global,
+    base: u64,
+    instr: Instrument,
+    p2: u64,
+    carried: Carried,
+) -> Result<NoteRead, Refusal>
+    requires base { base < beats_end }
+    requires instr { IsInstrument instr.number }
+    requires p2 { p2 < 2 ^ 63 }
+    ensures value { NoteAnswers result (note_of base instr (Ok p2) carried.fields) }
+    ensures range { IfOk result (λ read. HasRange read.what) }
+    ensures kept { IfOk result (λ read. IsLast instr p2 carried.fields read.last) }
+{
+    let times = timed(base, instr, p2, field_at(&carried.fields, 2))?;
+    valued(alloc, instr, p2, times, carried)
+}
+
+// The statement after its p3.
+fn valued(
+    alloc: Global,
+    instr: Instrument,
+    p2: u64,
+    times: Times,
+    carried: Carried,
+) -> Result<NoteRead, Refusal>
+    requires instr { IsInstrument instr.number }
+    requires p2 { p2 < beats_end }
+    requires at { times.at < beats_end }
+    requires ends { Ends instr times.at times.p3 }
+    ensures value { NoteAnswers result (valued_note instr times carried.fields) }
+    ensures range { IfOk result (λ read. HasRange read.what) }
+    ensures kept { IfOk result (λ read. IsLast instr p2 carried.fields read.last) }
+{
+    let Carried { fields, taken } = carried;
+    let more = values_or(alloc, taken, fields.as_slice())?;
+    check_count(instr, fields.len())?;
+    let what = what(instr, times, copied(alloc, &more)?);
     Ok(NoteRead {
         what,
-        last: kept(instr, p2, fields),
+        last: kept(instr, p2, fields, more),
     })
 }
 
@@ -68,47 +108,63 @@ fn is_same(instr: Instrument, last: Option<Instrument>) -> bool
     }
 }
 
-fn kept(instr: Instrument, p2: u64, fields: Items<Field>) -> LastNote
+fn kept(instr: Instrument, p2: u64, fields: Items<Field>, more: Nums) -> LastNote
     requires instr { IsInstrument instr.number }
     requires p2 { p2 < beats_end }
-    ensures instr { result.instr ≡ Some instr }
-    ensures p2 { result.p2 ≡ p2 }
-    ensures gap { result.gap ≡ gap_by (Ok instr) (slice_get fields 2) }
-    ensures fields { result.fields ≡ fields }
+    requires more { AreValues fields more }
+    ensures { IsLast instr p2 fields result }
 {
-    let gap = gap(instr, fields.as_slice().get(2).copied());
+    let gap = gap(instr, field_at(&fields, 2));
     LastNote {
         instr: Some(instr),
         p2,
         gap,
         fields,
+        more,
     }
 }
 
-// The fields of a statement, those of the one before in the place of each that is left to it.
-fn completed(
-    continuing: bool,
-    written: Items<Field>,
-    before: &[Field],
-) -> Result<Items<Field>, AllocError>
-    ensures { IfOk result (λ fields. fields ≡ completed continuing written before.now) }
+/// The fields of a statement, those of the one before in the place of each that is left to it.
+#[derive(Drop)]
+pub struct Carried {
+    pub fields: Items<Field>,
+    /// The values from p4 on, where all of them are those of the statement before.
+    pub taken: Option<Nums>,
+    ghost taken_are_values: { IfSome taken (AreValues fields) } by { Prim.hlevel props },
+}
+
+// No field from p4 on is written in so many fields.
+const UP_TO_P3: usize = 3;
+
+// The fields of a statement: from p4 on they are taken whole, with their values, where none of them is written.
+fn carry(continuing: bool, written: Items<Field>, last: LastNote) -> Result<Carried, AllocError>
+    ensures { IfOk result (λ c. c.fields ≡ completed continuing written last.fields) }
 {
-    if continuing {
-        filled(written, before)
+    if !continuing {
+        return Ok(Carried {
+            fields: written,
+            taken: None,
+        });
+    }
+    let LastNote { fields, more, .. } = last;
+    let taken = if written.len() <= UP_TO_P3 {
+        Some(more)
     } else {
-        Ok(written)
-    }
+        None
+    };
+    let fields = filled(written.as_slice(), fields)?;
+    Ok(Carried { fields, taken })
 }
 
-fn filled(written: Items<Field>, before: &[Field]) -> Result<Items<Field>, AllocError>
-    ensures { IfOk result (λ fields. fields ≡ filled written before.now) }
+fn filled(written: &[Field], before: Items<Field>) -> Result<Items<Field>, AllocError>
+    ensures { IfOk result (λ fields. fields ≡ filled written.now before) }
 {
-    let mut fields = written.into_vec();
-    let count = fields.len().min(before.len());
+    let mut fields = before.into_vec();
+    let count = written.len().min(fields.len());
     for k in 0..count {
-        fields[k] = filled_one(fields[k], before[k]);
+        fields[k] = filled_one(written[k], fields[k]);
     }
-    fields.extend_from_slice(&before[count..])?;
+    fields.extend_from_slice(&written[count..])?;
     Ok(Items::from_vec(fields))
 }
 

@@ -3,21 +3,22 @@ ghost use Rattle.std.specs.Prelude.{◌≡◌, true, ◌==◌, ◌≤ℤ◌, pos
 ghost use Rattle.std.specs.List.{list_any};
 ghost use Rattle.std.specs.Option.{option_map};
 ghost use Rattle.cs_base.specs.Decimals.{decimal_of, millionths_of};
+ghost use Rattle.cs_base.specs.Lines.{begins};
 ghost use Rattle.cs_base.specs.declared.decimal.Decimal.{Decimal};
-ghost use Rattle.cs_score.specs.Fields.{field_of, begins, begins_with, is_foreign, is_only, number_field, signed, signed_of, caret_field, raw_of, whole_of, size_of, is_whole, is_below_zero, is_negative_time};
+ghost use Rattle.cs_score.specs.Fields.{field_of, is_foreign, is_only, number_field, signed, signed_of, caret_field, raw_of, whole_of, size_of, is_whole, is_below_zero, is_negative_time};
 ghost use Rattle.cs_score.specs.Carry.{number_of};
 
 use cs_base::{Decimal, Num, ScoreKind, read_decimal};
 
 /// A number as a field writes it: a decimal, and whether a minus stands before it.
-#[derive(Clone, Copy, Debug, PartialEq, Eq)]
+#[derive(Clone, Copy)]
 pub struct Signed {
     pub minus: bool,
     pub size: Decimal,
 }
 
 /// p1 of an `i` statement: the number of an instrument, and whether a minus makes the statement a stop.
-#[derive(Clone, Copy, Debug, PartialEq, Eq)]
+#[derive(Clone, Copy, PartialEq, Eq)]
 pub struct Instrument {
     pub number: u32,
     pub stop: bool,
@@ -80,7 +81,7 @@ fn negated(n: Num) -> Num
 }
 
 /// What a field says, wherever it stands.
-#[derive(Clone, Copy, Debug, PartialEq, Eq)]
+#[derive(Clone, Copy)]
 pub enum Field {
     /// A decimal, with a sign or without.
     Number(Signed),

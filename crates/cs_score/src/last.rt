@@ -1,14 +1,15 @@
 // What the next `i` statement may take from the one right before it.
 ghost use Rattle.std.specs.Prelude.{◌≡◌, ◌<◌, ◌^◌, None};
 ghost use Rattle.cs_score.specs.Ranges.{IsInstrument, number_or_one, beats_end};
+ghost use Rattle.cs_score.specs.inner.Values.{AreValues};
 
 use crate::ScoreWhat;
 use crate::field::{Field, Instrument};
-use cs_base::Items;
+use cs_base::{Items, Nums};
 use std::alloc::Global;
 
 /// The `i` statement right before, with all its fields.
-#[derive(Debug, Drop)]
+#[derive(Drop)]
 pub struct LastNote {
     /// p1; `None` where no `i` statement stands right before.
     pub instr: Option<Instrument>,
@@ -17,9 +18,12 @@ pub struct LastNote {
     /// How much later the next note by `+` starts, in millionths.
     pub gap: u64,
     pub fields: Items<Field>,
+    /// The values of the fields from p4 on.
+    pub more: Nums,
     ghost instr_in_range: { IsInstrument (number_or_one instr) },
     ghost p2_in_range: { p2 < beats_end },
     ghost gap_in_range: { gap < 2 ^ 62 },
+    ghost more_are_values: { AreValues fields more },
 }
 
 impl LastNote {
@@ -32,12 +36,13 @@ impl LastNote {
             p2: 0,
             gap: 0,
             fields: Items::new(alloc),
+            more: Nums::new(alloc),
         }
     }
 }
 
 /// An `i` statement, and what the next one may take from it.
-#[derive(Debug, Drop)]
+#[derive(Drop)]
 pub struct NoteRead {
     pub what: ScoreWhat,
     pub last: LastNote,

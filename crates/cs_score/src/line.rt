@@ -1,14 +1,16 @@
 // The lines of a text, one by one.
 ghost use Rattle.std.specs.Prelude.{◌≡◌, ◌<◌, ◌≤◌, ◌+◌, ◌-◌, ◌++◌, drop, take, length, count_by, IfOk};
 ghost use Rattle.std.specs.Option.{option_to_list};
-ghost use Rattle.cs_score.specs.Rows.{is_feed, line_after, lines_from, next_len, plain_of, row_at, rows_in};
+ghost use Rattle.cs_base.specs.Limits.{most_score_bytes};
+ghost use Rattle.cs_base.specs.Lines.{line_after};
+ghost use Rattle.cs_score.specs.Rows.{lines_from, next_len, row_at, rows_in};
 
-use crate::comment::line_len;
 use crate::row::{Letter, Row, blanks_len, fields_of};
+use cs_base::{feeds, line_len};
 use std::alloc::{AllocError, Global};
 
 /// A line that was read: its statement, if it has one, and the place and the line number of what follows.
-#[derive(Debug, Drop)]
+#[derive(Drop)]
 pub struct LineRead {
     pub row: Option<Row>,
     pub next: usize,
@@ -23,7 +25,7 @@ pub fn read_line(
     at: usize,
     line: u32,
 ) -> Result<LineRead, AllocError>
-    requires small { length text.now ≤ 4194304 }
+    requires small { length text.now ≤ most_score_bytes }
     requires plain { length plain.now ≡ length text.now }
     requires at { at < length plain.now }
     requires line { line ≡ line_after (take at text.now) }
@@ -55,20 +57,13 @@ fn next_len(text: &[u8]) -> usize
 
 // The line number at a place, from that at an earlier one.
 fn line_on(text: &[u8], line: u32, from: usize, to: usize) -> u32
-    requires small { length text.now ≤ 4194304 }
+    requires small { length text.now ≤ most_score_bytes }
     requires from { from ≤ to }
     requires to { to ≤ length text.now }
     requires line { line ≡ line_after (take from text.now) }
     ensures { result ≡ line_after (take to text.now) }
 {
     line + feeds(&text[from..to])
-}
-
-fn feeds(text: &[u8]) -> u32
-    requires { length text.now ≤ 4194304 }
-    ensures { result ≡ count_by is_feed text.now }
-{
-    text.iter().filter(|byte| **byte == b'\n').count() as u32
 }
 
 // A statement, where a line has one after its blanks: its letter, and its fields.

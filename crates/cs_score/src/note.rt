@@ -4,14 +4,15 @@ ghost use Rattle.cs_base.specs.declared.fault.ScoreKind.TheVariants.{NothingToCa
 ghost use Rattle.cs_score.specs.Ranges.{IsInstrument, number_or_one, HasRange, beats_end};
 ghost use Rattle.cs_score.specs.declared.statement.ScoreWhat.{ScoreWhat};
 ghost use Rattle.cs_score.specs.Carry.{and_then, as_instrument, instrument_of, p1_by, is_same};
-ghost use Rattle.cs_score.specs.Notes.{as_time, moved, p2_by, gap_by, start_of, as_length, p3_by, values_of, fewest, counted, note_by, note_of};
-ghost use Rattle.cs_score.specs.State.{Answers, Ends, p1_before};
+ghost use Rattle.cs_score.specs.Notes.{as_time, moved, p2_by, gap_by, start_of, as_length, p3_by, times_of, values_of, fewest, counted, note_by};
+ghost use Rattle.cs_score.specs.inner.State.{Answers, Ends, p1_before};
+ghost use Rattle.cs_score.specs.inner.Values.{AreValues};
 
 use crate::ScoreWhat;
 use crate::field::{Field, Instrument, Signed};
 use crate::refusal::Refusal;
-use cs_base::{Decimal, Nums, ScoreKind};
-use std::alloc::Global;
+use cs_base::{Decimal, Items, Nums, ScoreKind};
+use std::alloc::{AllocError, Global};
 
 /// The millionths of 10,000,000 beats: every beat lies before.
 pub const BEATS_END: u64 = 10_000_000_000_000;
@@ -132,6 +133,31 @@ fn p3(instr: Instrument, at: u64, written: Option<Field>) -> Result<Signed, Scor
     }
 }
 
+/// When a note starts, in millionths, and its p3.
+#[derive(Clone, Copy)]
+pub struct Times {
+    pub at: u64,
+    pub p3: Signed,
+}
+
+/// The start, with the base, and p3.
+pub fn timed(
+    base: u64,
+    instr: Instrument,
+    p2: u64,
+    written: Option<Field>,
+) -> Result<Times, ScoreKind>
+    requires base { base < beats_end }
+    requires p2 { p2 < 2 ^ 63 }
+    ensures value { result ≡ times_of base instr p2 written }
+    ensures at { IfOk result (λ t. (t.at < beats_end) × (p2 < beats_end)) }
+    ensures ends { IfOk result (λ t. Ends instr t.at t.p3) }
+{
+    let at = start(base, p2)?;
+    let p3 = p3(instr, at, written)?;
+    Ok(Times { at, p3 })
+}
+
 // A note that lasts ends below the greatest beat; p3 of a stop is only a number.
 fn length(instr: Instrument, at: u64, n: Signed) -> Result<Signed, ScoreKind>
     requires { at < beats_end }
@@ -158,8 +184,26 @@ pub fn values(alloc: Global, dot: ScoreKind, fields: &[Field]) -> Result<Nums, R
     Ok(values)
 }
 
-// The count of fields is looked at last.
-fn check_count(instr: Instrument, count: usize) -> Result<(), ScoreKind>
+/// The values of the fields from p4 on, which may be `taken` from the statement before.
+pub fn values_or(alloc: Global, taken: Option<Nums>, fields: &[Field]) -> Result<Nums, Refusal>
+    requires { IfSome taken (AreValues fields.now) }
+    ensures value { Answers result (values_of NothingToCarry (drop 3 fields.now)) }
+    ensures values { IfOk result (AreValues fields.now) }
+{
+    match taken {
+        Some(more) => Ok(more),
+        None => values(alloc, ScoreKind::NothingToCarry, rest(fields, 3)),
+    }
+}
+
+pub fn copied(alloc: Global, values: &Nums) -> Result<Nums, AllocError>
+    ensures { IfOk result (λ copy. copy ≡ values.now) }
+{
+    Ok(Nums::from_vec(values.as_slice().to_vec(alloc)?))
+}
+
+/// The count of fields is looked at last.
+pub fn check_count(instr: Instrument, count: usize) -> Result<(), ScoreKind>
     ensures value { (what : ScoreWhat) → counted instr count what ≡ and_then result (λ _. Ok what) }
     ensures few { OnOk result (count ≤ 100) }
 {
@@ -173,16 +217,17 @@ fn check_count(instr: Instrument, count: usize) -> Result<(), ScoreKind>
     Ok(())
 }
 
-// A stop by its p1, a held note by its p3, or a note.
-fn what(instr: Instrument, at: u64, p3: Signed, more: Nums) -> ScoreWhat
+/// A stop by its p1, a held note by its p3, or a note.
+pub fn what(instr: Instrument, times: Times, more: Nums) -> ScoreWhat
     requires instr { IsInstrument instr.number }
-    requires at { at < beats_end }
-    requires ends { Ends instr at p3 }
+    requires at { times.at < beats_end }
+    requires ends { Ends instr times.at times.p3 }
     requires few { length more ≤ 97 }
-    ensures value { result ≡ note_by instr at p3 more }
+    ensures value { result ≡ note_by instr times.at times.p3 more }
     ensures range { HasRange result }
 {
     let number = instr.number;
+    let Times { at, p3 } = times;
     if instr.stop {
         ScoreWhat::Stop { instr: number, at }
     } else if p3.is_negative_time() {
@@ -202,26 +247,11 @@ fn what(instr: Instrument, at: u64, p3: Signed, more: Nums) -> ScoreWhat
     }
 }
 
-/// What an `i` statement asks for by its p1, its p2 before the base, and all its fields.
-pub fn note(
-    alloc: Global,
-    base: u64,
-    instr: Instrument,
-    p2: u64,
-    fields: &[Field],
-) -> Result<ScoreWhat, Refusal>
-    requires base { base < beats_end }
-    requires instr { IsInstrument instr.number }
-    requires p2 { p2 < 2 ^ 63 }
-    ensures value { Answers result (note_of base instr (Ok p2) fields.now) }
-    ensures range { IfOk result HasRange }
-    ensures near { OnOk result (p2 < beats_end) }
+/// The field at place `k`, counted from 0, if there is one.
+pub fn field_at(fields: &Items<Field>, k: usize) -> Option<Field>
+    ensures { result ≡ slice_get fields.now k }
 {
-    let at = start(base, p2)?;
-    let p3 = p3(instr, at, fields.get(2).copied())?;
-    let more = values(alloc, ScoreKind::NothingToCarry, rest(fields, 3))?;
-    check_count(instr, fields.len())?;
-    Ok(what(instr, at, p3, more))
+    fields.as_slice().get(k).copied()
 }
 
 /// The fields from place `k` on, counted from 0.

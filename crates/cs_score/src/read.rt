@@ -1,61 +1,84 @@
 // The whole text, line after line.
-ghost use Rattle.std.specs.Prelude.{◌≡◌, ◌≤◌, length, Some, Result, Ok, Err, IfOk, OnOk, All};
+ghost use Rattle.std.specs.Prelude.{◌≡◌, ◌≤◌, length, Some, None, Result, Ok, Err, IfOk, OnOk, All};
+ghost use Rattle.cs_base.specs.Limits.{most_score_bytes};
 ghost use Rattle.cs_base.specs.declared.fault.ScoreFault.{ScoreFault};
 ghost use Rattle.cs_base.specs.declared.fault.Or.TheVariants as or;
-ghost use Rattle.cs_score.specs.Past.{IsFaultOf, LineTaken, RowRead};
+ghost use Rattle.cs_base.specs.declared.limit.LimitHit.{LimitHit};
+ghost use Rattle.cs_score.specs.declared.refusal.ScoreRefusal.TheVariants as refusal;
+ghost use Rattle.cs_score.specs.Limits.{Passes, limit_of_score};
+ghost use Rattle.cs_score.specs.inner.Counts.{IsWhole};
+ghost use Rattle.cs_score.specs.inner.Past.{IsFaultOf, LineTaken, RowRead};
 ghost use Rattle.cs_score.specs.Ranges.{IsInRange};
 ghost use Rattle.cs_score.specs.Statements.{is_end, score_of};
 
 use crate::comment::plain;
+use crate::kept::Kept;
 use crate::line::read_line;
 use crate::past::Past;
 use crate::refusal::Refusal;
 use crate::row::{Letter, Row};
-use crate::{ScoreStmt, ScoreStmts};
+use crate::{ScoreRefusal, ScoreStmt, ScoreStmts};
 use cs_base::{Or, ScoreFault};
 use std::alloc::Global;
 
-/// Reads a score of at most 4,194,304 bytes into its statements, or finds its first fault: what is carried and the
-/// base of a section are resolved, and beats are millionths of a beat.
-pub fn read_score(alloc: Global, text: &[u8]) -> Result<ScoreStmts, Or<ScoreFault>>
-    requires { length text.now ≤ 4194304 }
+/// Reads a score of at most 4,194,304 bytes into its statements, or finds its first fault, else the first limit that
+/// its statements pass: that on table numbers, else that on statements. What is carried and the base of a section are
+/// resolved.
+pub fn read_score(alloc: Global, text: &[u8]) -> Result<ScoreStmts, ScoreRefusal>
+    requires { length text.now ≤ most_score_bytes }
     ensures statements { IfOk result (λ statements. score_of text.now ≡ Ok statements) }
-    ensures fault { (f : ScoreFault) → result ≡ Err (or.Fault f) → score_of text.now ≡ Err f }
+    ensures within { IfOk result (λ statements. limit_of_score statements ≡ None) }
     ensures ranges { IfOk result (λ statements. All IsInRange statements) }
+    // The first fault of the whole text, also where a limit is passed before it.
+    ensures fault { (f : ScoreFault) → result ≡ Err (refusal.Fault f) → score_of text.now ≡ Err f }
+    ensures limit { (hit : LimitHit) → result ≡ Err (refusal.Limit hit)
+        → Passes hit (score_of text.now) }
+{
+    let kept = read_all(alloc, text)?;
+    kept.answer()
+}
+
+// Reads the whole text; of its statements those are kept that pass no limit.
+fn read_all(alloc: Global, text: &[u8]) -> Result<Kept, Or<ScoreFault>>
+    requires { length text.now ≤ most_score_bytes }
+    ensures whole { IfOk result (IsWhole text.now) }
+    ensures ranges { IfOk result (λ kept. All IsInRange kept.statements) }
+    ensures fault { (f : ScoreFault) → result ≡ Err (or.Fault f) → score_of text.now ≡ Err f }
 {
     let plain = plain(alloc, text)?;
     let mut past = Past::new(alloc);
-    let mut statements = ScoreStmts::new(alloc);
+    let mut kept = Kept::new(alloc);
     let mut at = 0;
     let mut line = 1;
     while at < plain.len() {
         let read = read_line(alloc, text, &plain, at, line)?;
         at = read.next;
         line = read.line;
-        let ends = read_row(alloc, &mut past, &mut statements, read.row)?;
+        let ends = read_row(alloc, &mut past, &mut kept, read.row)?;
         if ends {
-            return Ok(statements);
+            return Ok(kept);
         }
     }
-    Ok(statements)
+    Ok(kept)
 }
 
 // Adds the statement of a line that has one. Answers whether it was an `e`.
 fn read_row(
     alloc: Global,
     past: &mut Past,
-    statements: &mut ScoreStmts,
+    kept: &mut Kept,
     row: Option<Row>,
 ) -> Result<bool, Or<ScoreFault>>
-    ensures read { IfOk result (λ ends. LineTaken past.old statements.old row ends past.new statements.new) }
+    ensures read { IfOk result (λ ends. LineTaken past.old kept.old row ends past.new kept.new) }
     ensures fault { (f : ScoreFault) → result ≡ Err (or.Fault f) → IsFaultOf past.old row f }
-    ensures ranges { OnOk result (All IsInRange statements.old → All IsInRange statements.new) }
+    ensures ranges { OnOk result (All IsInRange kept.old.statements
+        → All IsInRange kept.new.statements) }
 {
     match row {
         None => Ok(false),
         Some(row) => {
             let ends = is_end(row.letter);
-            read_statement(alloc, past, statements, row)?;
+            read_statement(alloc, past, kept, row)?;
             Ok(ends)
         }
     }
@@ -71,18 +94,19 @@ fn is_end(letter: Letter) -> bool
 fn read_statement(
     alloc: Global,
     past: &mut Past,
-    statements: &mut ScoreStmts,
+    kept: &mut Kept,
     row: Row,
 ) -> Result<(), Or<ScoreFault>>
-    ensures read { OnOk result (RowRead past.old statements.old row past.new statements.new) }
+    ensures read { OnOk result (RowRead past.old kept.old row past.new kept.new) }
     ensures fault { (f : ScoreFault) → result ≡ Err (or.Fault f) → IsFaultOf past.old (Some row) f }
-    ensures ranges { OnOk result (All IsInRange statements.old → All IsInRange statements.new) }
+    ensures ranges { OnOk result (All IsInRange kept.old.statements
+        → All IsInRange kept.new.statements) }
 {
     let line = row.line;
     match past.read(alloc, row) {
         Ok(None) => Ok(()),
         Ok(Some(what)) => {
-            statements.push(ScoreStmt { line, what })?;
+            kept.take(ScoreStmt { line, what })?;
             Ok(())
         }
         Err(Refusal::Fault(kind)) => Err(Or::Fault(ScoreFault { line, kind })),

@@ -2,14 +2,15 @@
 ghost use Rattle.std.specs.Prelude.{◌≡◌, ◌<◌, ◌≤◌, drop, length, map, IfOk};
 ghost use Rattle.std.specs.List.{prefix_len};
 ghost use Rattle.cs_score.specs.Fields.{field_of};
-ghost use Rattle.cs_score.specs.Rows.{letter_of, is_blank, is_word_byte, words};
+ghost use Rattle.cs_base.specs.Lines.{is_blank};
+ghost use Rattle.cs_score.specs.Rows.{letter_of, is_word_byte, words};
 
 use crate::field::Field;
-use cs_base::Items;
+use cs_base::{Items, is_blank};
 use std::alloc::{AllocError, Global};
 
 /// What the first byte of a statement says.
-#[derive(Clone, Copy, Debug, PartialEq, Eq)]
+#[derive(Clone, Copy)]
 pub enum Letter {
     /// `i`
     Note,
@@ -47,7 +48,7 @@ impl Letter {
 }
 
 /// A statement as a line writes it. Lines count from 1.
-#[derive(Debug, Drop)]
+#[derive(Drop)]
 pub struct Row {
     pub line: u32,
     pub letter: Letter,
@@ -70,12 +71,6 @@ pub fn fields_of(alloc: Global, line: &[u8]) -> Result<Items<Field>, AllocError>
         }
     }
     Ok(fields)
-}
-
-pub fn is_blank(byte: u8) -> bool
-    ensures { result ≡ is_blank byte }
-{
-    byte == b' ' || byte == b'\t' || byte == b'\r'
 }
 
 pub fn blanks_len(text: &[u8]) -> usize

@@ -1,9 +1,9 @@
 use cs_base::{Items, Num, Nums};
 
-/// A point of a tempo statement: from this beat on, in millionths, the tempo in millionths of a beat a minute.
-#[derive(Clone, Copy, Debug, PartialEq, Eq)]
+/// A point of a tempo statement: from this beat on the tempo.
+#[derive(Clone, Copy, PartialEq, Eq)]
 pub struct TempoPoint {
-    /// Millionths of a beat.
+    /// Millionths of a beat from the start of the section, from 0 to 9,999,999,999,999.
     pub beat: u64,
     /// Millionths of a beat a minute, from 1,000,000 to 60,000,000,000.
     pub tempo: u64,
@@ -12,18 +12,20 @@ pub struct TempoPoint {
 /// The points of a tempo statement, in order.
 pub type TempoPoints = Items<TempoPoint>;
 
-/// What a statement asks for. Beats are millionths of a beat from the start of the section, below 10,000,000 whole
-/// beats; what was carried and the base are in them.
-#[derive(Debug, Drop)]
+/// What a statement asks for. Each `at` is a beat in millionths from the start of the section, from 0 to
+/// 9,999,999,999,999. That of a note, a held note or a stop has its sum of a mark and the base of the section in it;
+/// that of a table or an extension has neither.
+#[derive(Drop)]
 pub enum ScoreWhat {
-    /// A note of instrument `instr` from beat `at` on, `length` long; `more` are its fields from p4 on.
+    /// A note of instrument `instr`, 1 to 32,767, from beat `at` on, `length` millionths of a beat long, at least 0;
+    /// its end, `at` and `length`, is at most 9,999,999,999,999 too. `more` are its fields from p4 on, 97 at most.
     Note {
         instr: u32,
         at: u64,
         length: u64,
         more: Nums,
     },
-    /// A note that is held until a stop ends it; `given` is its p3, which is below 0 in the text.
+    /// A note that is held until a stop ends it; `given` is its p3 as a number and no beat: it is below 0 in the text.
     Hold {
         instr: u32,
         at: u64,
@@ -35,7 +37,7 @@ pub enum ScoreWhat {
         instr: u32,
         at: u64,
     },
-    /// Table `number`, made at beat `at`.
+    /// Table `number`, 1 to 65,535, made at beat `at`.
     Table {
         number: u32,
         at: u64,
@@ -56,7 +58,7 @@ pub enum ScoreWhat {
 }
 
 /// A statement and the line of its letter. Lines count from 1.
-#[derive(Debug, Drop)]
+#[derive(Drop)]
 pub struct ScoreStmt {
     pub line: u32,
     pub what: ScoreWhat,

@@ -5,7 +5,7 @@ ghost use Rattle.std.specs.Option.{option_or};
 ghost use Rattle.cs_score.specs.declared.row.Letter.TheVariants as letter;
 ghost use Rattle.cs_score.specs.Ranges.{HasRange};
 ghost use Rattle.cs_score.specs.Statements.{size_for};
-ghost use Rattle.cs_score.specs.Past.{AskedAnswers, Follows, HasRangeOrNothing, asked_after};
+ghost use Rattle.cs_score.specs.inner.Past.{AskedAnswers, Follows, HasRangeOrNothing, asked_after};
 
 use crate::ScoreWhat;
 use crate::carry::read_note;
@@ -18,6 +18,7 @@ use crate::tempo::tempo;
 use cs_base::ScoreKind;
 use std::alloc::{AllocError, Global};
 use std::collections::HashMap;
+use std::mem::replace;
 
 impl Past {
     /// No statement was read.
@@ -57,7 +58,8 @@ impl Past {
         ensures follows { OnOk result (Follows self.old row self.new) }
         ensures range { IfOk result HasRangeOrNothing }
     {
-        let read = read_note(alloc, self.base, &self.last, row.fields)?;
+        let last = replace(&mut self.last, LastNote::none(alloc));
+        let read = read_note(alloc, self.base, last, row.fields)?;
         self.last = read.last;
         Ok(Some(read.what))
     }

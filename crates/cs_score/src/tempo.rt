@@ -2,7 +2,7 @@
 ghost use Rattle.std.specs.Prelude.{◌≡◌, ◌<◌, ◌≤◌, None, IfOk, length};
 ghost use Rattle.cs_score.specs.Ranges.{AreTempoPoints, HasRange, beats_end};
 ghost use Rattle.cs_score.specs.Statements.{follows, as_beat, as_tempo, points_of, tempo_of};
-ghost use Rattle.cs_score.specs.State.{Answers};
+ghost use Rattle.cs_score.specs.inner.State.{Answers};
 
 use crate::field::{Field, Signed};
 use crate::note::BEATS_END;

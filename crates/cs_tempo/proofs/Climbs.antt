@@ -18,13 +18,13 @@ use Rattle.cs_score.specs.declared.statement.ScoreStmt.{ScoreStmt}
 use Rattle.cs_tempo.specs.declared.plot.Event.{Event}
 use Rattle.cs_tempo.specs.declared.plot.EventAct.{EventAct}
 use Rattle.cs_tempo.specs.Time.{IsTempo}
-use Rattle.cs_tempo.specs.Clock.{Pace}
+use Rattle.cs_tempo.specs.inner.Clock.{Pace}
 use Rattle.cs_tempo.specs.Sections.{ends_section, at_front, sections_of, own_points, or_else, tempo_of, cycle_at, reach_of, greatest, length_of}
 use Rattle.cs_tempo.specs.Order.{has_turn, beat_of, order_of, put, in_order}
 use Rattle.cs_tempo.specs.Pairing.{stop_of}
 use Rattle.cs_tempo.specs.Plot.{Setting, acts_of, events_along, setting_of, events_from}
 use Rattle.cs_tempo.specs.Limits.{cycles_in}
-use Rattle.cs_tempo.specs.Events.{HasEnd, IsTurnIn}
+use Rattle.cs_tempo.specs.inner.Events.{HasEnd, IsTurnIn}
 use Rattle.cs_tempo.proofs.Sorting.{Each, each_more, each_from_index}
 use Rattle.cs_tempo.proofs.Orders.{each_at}
 use Rattle.cs_tempo.proofs.Firsts.{is_above, is_within}
@@ -103,12 +103,12 @@ climb_append : (low top : ℕ) (xs ys : List Event) → Climb low xs → Each (�
 climb_append low top [] ys c e up d = climb_low top low ys up d
 climb_append low top (x ∷ xs) ys c e up d = (c.0, climb_append x.cycle top xs ys c.1 e.1 e.0 d)
 
-each_append : {X : Type 0} (P : X → Type 0) (xs ys : List X) → Each P xs → Each P ys → Each P (xs ++ ys)
+pub each_append : {X : Type 0} (P : X → Type 0) (xs ys : List X) → Each P xs → Each P ys → Each P (xs ++ ys)
 each_append P [] ys e f = f
 each_append P (x ∷ xs) ys e f = (e.0, each_append P xs ys e.1 f)
 
 -- a turn does one thing at most
-one_act : (set : Setting) (stop : Option ℕ) (w : ScoreWhat) → (acts_of set stop w ≡ []) ⊎ ((a : EventAct) × (acts_of set stop w ≡ a ∷ []))
+pub one_act : (set : Setting) (stop : Option ℕ) (w : ScoreWhat) → (acts_of set stop w ≡ []) ⊎ ((a : EventAct) × (acts_of set stop w ≡ a ∷ []))
 unfolding acts_of
 one_act set stop (Note instr at len more) = inr (_, refl)
 one_act set stop (Hold instr at given more) = inr (_, refl)
@@ -134,7 +134,8 @@ first_cycles [] = 0
 first_cycles (a ∷ _) = cycles_in a
 
 -- a note ends within its section
-act_within : (set : Setting) (stop : Option ℕ) (w : ScoreWhat) (a : EventAct) → HasRange w → reach_of set.head set.tempo w ≤ set.cycles → has_turn w ≡ true →
+act_within : (set : Setting) (stop : Option ℕ) (w : ScoreWhat) (a : EventAct) → HasRange w → reach_of set.head set.tempo w ≤ set.cycles
+    → has_turn w ≡ true →
     IfSome stop (HasEnd (record { head = set.head; tempo = set.tempo }) set.cycles) → acts_of set stop w ≡ a ∷ [] →
     cycle_at set.head set.tempo (beat_of w) + cycles_in a ≤ set.cycles
 unfolding acts_of
@@ -187,7 +188,8 @@ unfolding length_of
 reach_all head section = each_at (λ s. reach_of head (tempo_of section) s.what ≤ greatest (map (λ u. reach_of head (tempo_of section) u.what) section)) section
     (reach_each (λ u. reach_of head (tempo_of section) u.what) section)
 
-front_each : (P : ScoreStmt → Type 0) (s : ScoreStmt) (sections : List (List ScoreStmt)) → P s → Each (Each P) sections → Each (Each P) (at_front s sections)
+front_each : (P : ScoreStmt → Type 0) (s : ScoreStmt) (sections : List (List ScoreStmt)) → P s → Each (Each P) sections
+    → Each (Each P) (at_front s sections)
 front_each P s [] p e = ((p, tt), tt)
 front_each P s (first ∷ others) p e = ((p, e.0), e.1)
 
@@ -217,7 +219,8 @@ from_within head offset (section ∷ others) r =
     (each_more _ _ _ (λ e h. omega (arith, h, total)) (along_within (setting_of head offset section) [] (in_order section) turns))
     (each_more _ _ _ (λ e h. omega (arith, h, total)) (from_within head (offset + length_of head section) others r.1))
 
-pub from_climbs : (head : Head) (offset : ℕ) (sections : List (List ScoreStmt)) → Each (All IsInRange) sections → Climb offset (events_from head offset sections)
+pub from_climbs : (head : Head) (offset : ℕ) (sections : List (List ScoreStmt)) → Each (All IsInRange) sections
+    → Climb offset (events_from head offset sections)
 unfolding events_from
 from_climbs head offset [] r = tt
 from_climbs head offset (section ∷ others) r =

@@ -5,7 +5,7 @@ use Rattle.std.proofs.lemmas.Nat.{mul-le, div_below}
 use Rattle.cs_score.specs.Ranges.{AreRising, beats_end}
 use Rattle.cs_score.specs.declared.statement.TempoPoint.{TempoPoint}
 use Rattle.cs_tempo.specs.Time.{part_of, time_along, time_of, IsTempo, Rises, cycle_of}
-use Rattle.cs_tempo.specs.Clock.{point_at, IsTimed}
+use Rattle.cs_tempo.specs.inner.Clock.{point_at, IsTimed}
 use Rattle.cs_tempo.proofs.Times.{along_small, rises_on, tempo_rises}
 
 -- what rises goes on rising

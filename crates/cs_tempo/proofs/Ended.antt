@@ -11,16 +11,16 @@ use Rattle.cs_tempo.specs.Held.{held_after, held, ends_here, or_later, ending_st
 use Rattle.cs_tempo.proofs.Sorting.{Each, each_more}
 
 -- one more turn changes places and number alike
-one_more : (n place : ℕ) (w : ScoreWhat) (h : List ℕ) → length (held_after n place w h) ≡ sounding_after n w (length h)
-one_more n place (Hold instr at given more) h =
-    ⊎_elim (λ t. rw t (length_push h place)) (λ f. rw f refl) (cases_Bool (n == instr))
-one_more n place (Stop instr at) [] = ⊎_elim (λ t. rw t refl) (λ f. rw f refl) (cases_Bool (n == instr))
-one_more n place (Stop instr at) (p ∷ h) = ⊎_elim (λ t. rw t (omega arith)) (λ f. rw f refl) (cases_Bool (n == instr))
-one_more n place (Note instr at len more) h = refl
-one_more n place (Table number at size gen args) h = refl
-one_more n place (Extend at) h = refl
-one_more n place (Tempo points) h = refl
-one_more n place Section h = refl
+one_more : (n index : ℕ) (w : ScoreWhat) (h : List ℕ) → length (held_after n index w h) ≡ sounding_after n w (length h)
+one_more n index (Hold instr at given more) h =
+    ⊎_elim (λ t. rw t (length_push h index)) (λ f. rw f refl) (cases_Bool (n == instr))
+one_more n index (Stop instr at) [] = ⊎_elim (λ t. rw t refl) (λ f. rw f refl) (cases_Bool (n == instr))
+one_more n index (Stop instr at) (p ∷ h) = ⊎_elim (λ t. rw t (omega arith)) (λ f. rw f refl) (cases_Bool (n == instr))
+one_more n index (Note instr at len more) h = refl
+one_more n index (Table number at size gen args) h = refl
+one_more n index (Extend at) h = refl
+one_more n index (Tempo points) h = refl
+one_more n index Section h = refl
 
 -- as many places as notes
 held_counted : (n : ℕ) (earlier : List ScoreStmt) → length (held n earlier) ≡ sounding n earlier
@@ -49,7 +49,7 @@ lower_after n k (Extend at) h e = each_more (λ p. p < k) (λ p. p < suc k) h (�
 lower_after n k (Tempo points) h e = each_more (λ p. p < k) (λ p. p < suc k) h (λ p l. omega arith) e
 lower_after n k Section h e = each_more (λ p. p < k) (λ p. p < suc k) h (λ p l. omega arith) e
 
--- every place is that of an earlier turn
+-- every index is that of an earlier turn
 held_lower : (n : ℕ) (earlier : List ScoreStmt) → Each (λ p. p < length earlier) (held n earlier)
 unfolding held
 held_lower n [] = tt
@@ -77,28 +77,28 @@ another : (b c : Bool) (at k : ℕ) (rest : Option ℕ) (later : List ℕ) → b
 another true c at k rest later p h = absurd (cc)
 another false c at k rest later p h = h
 
-apart : (a place : ℕ) → a < place → (place == a) ≡ false
-apart a place h = grind (arith, nat_tests)
+apart : (a index : ℕ) → a < index → (index == a) ≡ false
+apart a index h = grind (arith, nat_tests)
 
 -- one turn: the stop ends the note, or it sounds on with those before it that still sound
-module _ (n place : ℕ) where
-  step : (k : ℕ) (w : ScoreWhat) (ahead behind : List ℕ) (rest : Option ℕ) (later : List ℕ) → Each (λ p. p < place) ahead →
-      ((front back : List ℕ) → held_after n k w (ahead ++ place ∷ behind) ≡ front ++ place ∷ back → Each (λ p. p < place) front → rest ≡ slice_get later (length front)) →
-      or_later (ends_here n place (ahead ++ place ∷ behind) w) rest ≡ slice_get (own_stop n w ++ later) (length ahead)
+module _ (n index : ℕ) where
+  step : (k : ℕ) (w : ScoreWhat) (ahead behind : List ℕ) (rest : Option ℕ) (later : List ℕ) → Each (λ p. p < index) ahead →
+      ((front back : List ℕ) → held_after n k w (ahead ++ index ∷ behind) ≡ front ++ index ∷ back → Each (λ p. p < index) front → rest ≡ slice_get later (length front)) →
+      or_later (ends_here n index (ahead ++ index ∷ behind) w) rest ≡ slice_get (own_stop n w ++ later) (length ahead)
   step k (Hold instr at given more) ahead behind rest later low go =
       ⊎_elim
-      (λ t. go ahead (behind ++ k ∷ []) (rw t (append_assoc ahead (place ∷ behind) (k ∷ []))) low)
+      (λ t. go ahead (behind ++ k ∷ []) (rw t (append_assoc ahead (index ∷ behind) (k ∷ []))) low)
       (λ f. go ahead behind (rw f refl) low)
       (cases_Bool (n == instr))
   step k (Stop instr at) [] behind rest later low go =
       ⊎_elim
-      (λ t. ended (n == instr) (place == place) at rest later t (grind (arith, nat_tests)))
-      (λ f. another (n == instr) (place == place) at 0 rest later f (go [] behind (rw f refl) low))
+      (λ t. ended (n == instr) (index == index) at rest later t (grind (arith, nat_tests)))
+      (λ f. another (n == instr) (index == index) at 0 rest later f (go [] behind (rw f refl) low))
       (cases_Bool (n == instr))
   step k (Stop instr at) (a ∷ ahead) behind rest later low go =
       ⊎_elim
-      (λ t. sounds_on (n == instr) (place == a) at (length ahead) rest later t (apart a place low.0) (go ahead behind (rw t refl) low.1))
-      (λ f. another (n == instr) (place == a) at (suc (length ahead)) rest later f (go (a ∷ ahead) behind (rw f refl) low))
+      (λ t. sounds_on (n == instr) (index == a) at (length ahead) rest later t (apart a index low.0) (go ahead behind (rw t refl) low.1))
+      (λ f. another (n == instr) (index == a) at (suc (length ahead)) rest later f (go (a ∷ ahead) behind (rw f refl) low))
       (cases_Bool (n == instr))
   step k (Note instr at len more) ahead behind rest later low go = go ahead behind refl low
   step k (Table number at size gen args) ahead behind rest later low go = go ahead behind refl low
@@ -106,13 +106,13 @@ module _ (n place : ℕ) where
   step k (Tempo points) ahead behind rest later low go = go ahead behind refl low
   step k Section ahead behind rest later low go = go ahead behind refl low
 
-  counted : (ahead behind : List ℕ) (earlier later : List ScoreStmt) → held n earlier ≡ ahead ++ place ∷ behind → Each (λ p. p < place) ahead →
-      ending_stop n place earlier later ≡ slice_get (stops_of n later) (length ahead)
+  counted : (ahead behind : List ℕ) (earlier later : List ScoreStmt) → held n earlier ≡ ahead ++ index ∷ behind → Each (λ p. p < index) ahead →
+      ending_stop n index earlier later ≡ slice_get (stops_of n later) (length ahead)
   unfolding ending_stop stops_of held
   counted ahead behind earlier [] e low = none_there [] (length ahead) refl
   counted ahead behind earlier (s ∷ later) e low =
-      ap (λ h. or_later (ends_here n place h s.what) (ending_stop n place (s ∷ earlier) later)) e
-      ∙ step (length earlier) s.what ahead behind (ending_stop n place (s ∷ earlier) later) (stops_of n later) low
+      ap (λ h. or_later (ends_here n index h s.what) (ending_stop n index (s ∷ earlier) later)) e
+      ∙ step (length earlier) s.what ahead behind (ending_stop n index (s ∷ earlier) later) (stops_of n later) low
       (λ front back e' low'. counted front back (s ∷ earlier) later (ap (held_after n (length earlier) s.what) e ∙ e') low')
 
 held_now : (n at : ℕ) (given : ℤ) (more : List ℤ) (k : ℕ) (h : List ℕ) → held_after n k (Hold n at given more) h ≡ h ++ k ∷ []

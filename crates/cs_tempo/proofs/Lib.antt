@@ -13,3 +13,4 @@ pub mod Sorting
 pub mod Sweeps
 pub mod Times
 pub mod Walks
+pub mod Performable

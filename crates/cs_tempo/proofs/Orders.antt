@@ -11,13 +11,13 @@ use Rattle.std.proofs.lemmas.List.{at_drop_more, at_drop_all, drop_more, length-
 use Rattle.cs_score.specs.declared.statement.ScoreStmt.{ScoreStmt}
 use Rattle.cs_tempo.specs.declared.order.Turn.{Turn}
 use Rattle.cs_tempo.specs.Order.{has_turn, beat_of, p1_of, p3_of, order_of, put, in_order}
-use Rattle.cs_tempo.specs.Turns.{turn_of, own_turn, turns_from, turn_order, inserted, sorted}
+use Rattle.cs_tempo.specs.inner.Turns.{turn_of, own_turn, turns_from, turn_order, inserted, sorted}
 use Rattle.cs_tempo.proofs.Sorting.{Each, each_more, each_sorted}
 
 pub turn_total : IsTotalOrder turn_order
 turn_total =
     then_total (on_total (λ (t : Turn). t.at) nat_cmp_total) (then_total (on_total (λ (t : Turn). t.p1) int_cmp_total)
-    (then_total (on_total (λ (t : Turn). t.p3) int_cmp_total) (on_total (λ (t : Turn). t.place) nat_cmp_total)))
+    (then_total (on_total (λ (t : Turn). t.p3) int_cmp_total) (on_total (λ (t : Turn). t.index) nat_cmp_total)))
 
 both_equal : (o p : Ordering) → ordering_then o p ≡ Equal → (o ≡ Equal) × (p ≡ Equal)
 both_equal Less p h = absurd (cc)
@@ -25,25 +25,26 @@ both_equal Equal p h = (refl, h)
 both_equal Greater p h = absurd (cc)
 
 abbrev turn_by : ℕ → ℤ → ℤ → ℕ → Turn
-turn_by at p1 p3 place = record { at = at; p1 = p1; p3 = p3; place = place }
+turn_by at p1 p3 index = record { at = at; p1 = p1; p3 = p3; index = index }
 
 pub turn_same : (t u : Turn) → turn_order t u ≡ Equal → t ≡ u
 turn_same t u h =
     let a = both_equal (nat_cmp t.at u.at) _ h in
     let b = both_equal (int_cmp t.p1 u.p1) _ a.1 in
-    let c = both_equal (int_cmp t.p3 u.p3) (nat_cmp t.place u.place) b.1 in
+    let c = both_equal (int_cmp t.p3 u.p3) (nat_cmp t.index u.index) b.1 in
     let at : t.at ≡ u.at = ranked t.at u.at Equal (sym a.0) in
     let p1 : t.p1 ≡ u.p1 = int_ranked t.p1 u.p1 Equal (sym b.0) in
     let p3 : t.p3 ≡ u.p3 = int_ranked t.p3 u.p3 Equal (sym c.0) in
-    let place : t.place ≡ u.place = ranked t.place u.place Equal (sym c.1) in
-    ap (λ n. turn_by n t.p1 t.p3 t.place) at ∙ ap (λ n. turn_by u.at n t.p3 t.place) p1
-    ∙ ap (λ n. turn_by u.at u.p1 n t.place) p3 ∙ ap (λ n. turn_by u.at u.p1 u.p3 n) place
+    let index : t.index ≡ u.index = ranked t.index u.index Equal (sym c.1) in
+    ap (λ n. turn_by n t.p1 t.p3 t.index) at ∙ ap (λ n. turn_by u.at n t.p3 t.index) p1
+    ∙ ap (λ n. turn_by u.at u.p1 n t.index) p3 ∙ ap (λ n. turn_by u.at u.p1 u.p3 n) index
 
 not_less : (m k : ℕ) → k < m → is_lt (nat_cmp m k) ≡ false
 not_less m k h = grind (arith, nat_tests)
 
--- a later place decides nothing
-later_place : (a b c : Ordering) (k m : ℕ) → k < m → is_lt (ordering_then a (ordering_then b (ordering_then c (nat_cmp m k)))) ≡ is_lt (ordering_then a (ordering_then b c))
+-- a later index decides nothing
+later_place : (a b c : Ordering) (k m : ℕ) → k < m
+    → is_lt (ordering_then a (ordering_then b (ordering_then c (nat_cmp m k)))) ≡ is_lt (ordering_then a (ordering_then b c))
 later_place Less b c k m h = refl
 later_place Greater b c k m h = refl
 later_place Equal Less c k m h = refl
@@ -55,13 +56,13 @@ later_place Equal Equal Equal k m h = not_less m k h
 module _ (section : List ScoreStmt) (d : ScoreStmt) where
   -- the statement of a turn
   abbrev pub stmt : Turn → ScoreStmt
-  stmt t = get_or section t.place d
+  stmt t = get_or section t.index d
 
-  -- a turn that is that of a statement at a place from k on
+  -- a turn that is that of a statement at an index from k on
   pub record IsFrom (k : ℕ) (t : Turn) : Type 0 where
-    pub after : k ≤ t.place
-    pub within : t.place < length section
-    pub is : t ≡ turn_of t.place (stmt t).what
+    pub after : k ≤ t.index
+    pub within : t.index < length section
+    pub is : t ≡ turn_of t.index (stmt t).what
 
   below : (k : ℕ) (s : ScoreStmt) (later : List ScoreStmt) → drop k section ≡ s ∷ later → k < length section
   below k s later e = omega (arith, length-drop k section, ap length e)
@@ -76,7 +77,7 @@ module _ (section : List ScoreStmt) (d : ScoreStmt) where
   same_test k s u f =
       ap (λ t. is_lt (turn_order t (turn_of k s.what))) f.is
       ∙ later_place (nat_cmp (beat_of (stmt u).what) (beat_of s.what)) (int_cmp (p1_of (stmt u).what) (p1_of s.what))
-      (int_cmp (p3_of (stmt u).what) (p3_of s.what)) k u.place (omega (arith, f.after))
+      (int_cmp (p3_of (stmt u).what) (p3_of s.what)) k u.index (omega (arith, f.after))
 
   put_is : (k : ℕ) (s : ScoreStmt) (us : List Turn) → get_or section k d ≡ s → Each (IsFrom (k + 1)) us →
       map stmt (inserted turn_order (turn_of k s.what) us) ≡ put s (map stmt us)
@@ -134,7 +135,7 @@ each_at P (x ∷ xs) e (suc k) d some = each_at P xs e.1 k d (omega arith)
 
 -- the sorted turns lie in the section
 pub turns_within : (section : List ScoreStmt) (d : ScoreStmt) (k : ℕ) (e : Turn) → k < length (sorted turn_order (turns_from 0 section)) →
-    (get_or (sorted turn_order (turns_from 0 section)) k e).place < length section
+    (get_or (sorted turn_order (turns_from 0 section)) k e).index < length section
 turns_within section d k e some =
     (each_at (IsFrom section d 0) _ (each_sorted turn_order turn_total turn_same (IsFrom section d 0) _ (turns_are section d 0 section refl)) k e some).within
 

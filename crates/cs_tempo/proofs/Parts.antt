@@ -12,7 +12,8 @@ abbrev pub in_front : List ScoreStmt → List (List ScoreStmt) → List (List Sc
 in_front [] sections = sections
 in_front (s ∷ later) sections = at_front s (in_front later sections)
 
-pub in_front_more : (xs : List ScoreStmt) (s : ScoreStmt) (sections : List (List ScoreStmt)) → in_front (xs ++ s ∷ []) sections ≡ in_front xs (at_front s sections)
+pub in_front_more : (xs : List ScoreStmt) (s : ScoreStmt) (sections : List (List ScoreStmt))
+    → in_front (xs ++ s ∷ []) sections ≡ in_front xs (at_front s sections)
 in_front_more [] s sections = refl
 in_front_more (x ∷ xs) s sections = ap (at_front x) (in_front_more xs s sections)
 

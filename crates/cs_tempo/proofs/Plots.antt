@@ -10,8 +10,9 @@ use Rattle.cs_tempo.specs.Order.{in_order}
 use Rattle.cs_tempo.specs.Plot.{setting_of, events_along, events_from}
 use Rattle.cs_tempo.proofs.Walks.{seen_at}
 
--- the length at a place is that of the section at the place
-pub length_at : {A : Type 0} (f : A → List ScoreStmt) (head : Head) (sections : List A) (lengths : List ℕ) (k : ℕ) (s : A) → lengths ≡ map (length_of head) (map f sections) →
+-- the length at an index is that of the section at the index
+pub length_at : {A : Type 0} (f : A → List ScoreStmt) (head : Head) (sections : List A) (lengths : List ℕ) (k : ℕ) (s : A)
+    → lengths ≡ map (length_of head) (map f sections) →
     k < length sections → s ≡ get_or sections k s → get_or lengths k 0 ≡ length_of head (f s)
 length_at f head sections lengths k s e some here =
     ap (λ (ns : List ℕ). get_or ns k 0) e
@@ -21,10 +22,12 @@ length_at f head sections lengths k s e some here =
 pub length_fits : (lengths : List ℕ) (k offset : ℕ) → k < length lengths → offset ≡ sum (take k lengths) → offset + get_or lengths k 0 ≤ sum lengths
 length_fits lengths k offset some e = omega (arith, e, sum_by_more_le (λ (n : ℕ). n) lengths k 0 some)
 
-pub offset_more : (lengths : List ℕ) (k offset : ℕ) → k < length lengths → offset ≡ sum (take k lengths) → offset + get_or lengths k 0 ≡ sum (take (k + 1) lengths)
+pub offset_more : (lengths : List ℕ) (k offset : ℕ) → k < length lengths → offset ≡ sum (take k lengths)
+    → offset + get_or lengths k 0 ≡ sum (take (k + 1) lengths)
 offset_more lengths k offset some e = omega (arith, e, sum_by_more (λ (n : ℕ). n) lengths k 0 some)
 
-pub from_step : {A : Type 0} (f : A → List ScoreStmt) (head : Head) (sections : List A) (k offset n : ℕ) (s : A) (done : List Event) → k < length sections → s ≡ get_or sections k s →
+pub from_step : {A : Type 0} (f : A → List ScoreStmt) (head : Head) (sections : List A) (k offset n : ℕ) (s : A) (done : List Event)
+    → k < length sections → s ≡ get_or sections k s →
     n ≡ length_of head (f s) →
     (done ++ events_along (setting_of head offset (f s)) [] (in_order (f s))) ++ events_from head (offset + n) (map f (drop (k + 1) sections))
     ≡ done ++ events_from head offset (map f (drop k sections))

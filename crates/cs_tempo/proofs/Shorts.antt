@@ -1,35 +1,58 @@
 -- A score that passes no limit is short.
-use Rattle.std.proofs.Common.{◌≡◌, ℕ, ◌*◌, ◌^◌, ◌≤◌, Bool, true, false, nat_lt, Option, Some, None, List, map, sum, arith, refl, if◌then◌else◌}
+use Rattle.std.proofs.Common.{◌≡◌, ℕ, ◌*◌, ◌^◌, ◌≤◌, Bool, true, false, nat_lt, Option, Some, None, List, [], map, sum, arith, refl, if◌then◌else◌}
+use Rattle.std.specs.Option.{option_or}
 use Rattle.std.proofs.lemmas.Bool.Decides.{nat_tests}
 use Rattle.std.proofs.lemmas.Nat.{mul-le}
+use Rattle.cs_base.specs.Limits.{most_wav_bytes}
 use Rattle.cs_base.specs.declared.head.Head.{Head}
-use Rattle.cs_base.specs.declared.fault.LimitHit.{LimitHit}
+use Rattle.cs_base.specs.declared.limit.LimitHit.{LimitHit}
 use Rattle.cs_score.specs.declared.statement.ScoreStmt.{ScoreStmt}
+use Rattle.cs_score.specs.Limits.{first_at, limit_of_score}
+use Rattle.cs_tempo.specs.declared.plot.Event.{Event}
 use Rattle.cs_tempo.specs.Sections.{sections_of, length_of}
-use Rattle.cs_tempo.specs.Limits.{hit, before_other, passes_bytes, passes_tables, passes_statements, first_at, at_statement, limit_of}
+use Rattle.cs_tempo.specs.Plot.{events_from}
+use Rattle.cs_tempo.specs.Limits.{at_event, bytes_hit, limit_of, limit_of_sections, passes_bytes, passes_notes}
 
-first_none : (a b : Option LimitHit) → before_other a b ≡ None → a ≡ None
+first_none : (a b : Option LimitHit) → option_or a b ≡ None → a ≡ None
 first_none None b h = refl
 first_none (Some x) b h = absurd (cc)
 
-rest_none : (a b : Option LimitHit) → before_other a b ≡ None → b ≡ None
+rest_none : (a b : Option LimitHit) → option_or a b ≡ None → b ≡ None
 rest_none None b h = h
 rest_none (Some x) b h = absurd (cc)
 
-not_passed : (b : Bool) → (if b then hit 8 0 else None) ≡ None → b ≡ false
+not_passed : (b : Bool) → (if b then bytes_hit else None) ≡ None → b ≡ false
 not_passed true h = absurd (cc)
 not_passed false h = refl
 
-few_cycles : (n k m : ℕ) → 1 ≤ k → 1 ≤ m → nat_lt (2 ^ 31) (n * k * m * 2) ≡ false → n ≤ 2 ^ 30
-few_cycles n k m a b h =
-    let p : n * 1 ≤ n * k = mul-le n 1 n k (omega arith) a in
-    let q : n * k * 1 ≤ n * k * m = mul-le (n * k) 1 (n * k) m (omega arith) b in
-    let r : n * k * m * 2 ≤ 2 ^ 31 = grind (arith, nat_tests) in omega (arith, p, q, r)
+few_bytes : (n : ℕ) → nat_lt most_wav_bytes n ≡ false → n ≤ most_wav_bytes
+few_bytes n h = grind (arith, nat_tests)
 
-pub plot_short : (head : Head) (score : List ScoreStmt) → limit_of head score ≡ None → sum (map (length_of head) (sections_of score)) ≤ 2 ^ 30
-plot_short head score h =
-    let n : ℕ = sum (map (length_of head) (sections_of score)) in
-    let a = rest_none (at_statement 6 (first_at passes_tables _ score)) _ h in
-    let b = rest_none (at_statement 7 (first_at passes_statements _ score)) _ a in
-    let c = first_none (if passes_bytes head n then hit 8 0 else None) _ b in
-    few_cycles n head.ksmps head.nchnls head.ksmps_in_range.0 head.nchnls_in_range.0 (not_passed (passes_bytes head n) c)
+few_cycles : (n k m : ℕ) → 1 ≤ k → 1 ≤ m → n * k * m * 2 ≤ most_wav_bytes → n ≤ 2 ^ 30
+few_cycles n k m a b r =
+    let p : n * 1 ≤ n * k = mul-le n 1 n k (omega arith) a in
+    let q : n * k * 1 ≤ n * k * m = mul-le (n * k) 1 (n * k) m (omega arith) b in omega (arith, p, q, r)
+
+no_event : (o : Option Event) → at_event o ≡ None → o ≡ None
+no_event None e = refl
+no_event (Some x) e = absurd (cc)
+
+module _ (head : Head) (score : List ScoreStmt) (h : limit_of head score ≡ None) where
+  abbrev pub cycles : ℕ
+  cycles = sum (map (length_of head) (sections_of score))
+
+  -- none of its limits is passed
+  pub counts_within : limit_of_score score ≡ None
+  counts_within = first_none (limit_of_score score) _ h
+
+  after : limit_of_sections head (sections_of score) ≡ None
+  after = rest_none (limit_of_score score) _ h
+
+  pub bytes_within : cycles * head.ksmps * head.nchnls * 2 ≤ most_wav_bytes
+  bytes_within = few_bytes (cycles * head.ksmps * head.nchnls * 2) (not_passed (passes_bytes head cycles) (first_none (if passes_bytes head cycles then bytes_hit else None) _ after))
+
+  pub notes_within : first_at passes_notes [] (events_from head 0 (sections_of score)) ≡ None
+  notes_within = no_event _ (rest_none (if passes_bytes head cycles then bytes_hit else None) _ after)
+
+  pub plot_short : cycles ≤ 2 ^ 30
+  plot_short = few_cycles cycles head.ksmps head.nchnls head.ksmps_in_range.0 head.nchnls_in_range.0 bytes_within

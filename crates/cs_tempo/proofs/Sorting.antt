@@ -10,7 +10,7 @@ use Rattle.std.proofs.lemmas.List.Sums.{sum_by-cons}
 use Rattle.std.proofs.lemmas.List.Sorted.{sum_by-IsPermutation, sorted_far, ranks_by}
 use Rattle.std.proofs.lemmas.Cmp.{tied_itself}
 use Rattle.std.proofs.lemmas.Bool.{cases_Bool}
-use Rattle.cs_tempo.specs.Turns.{inserted, sorted}
+use Rattle.cs_tempo.specs.inner.Turns.{inserted, sorted}
 
 -- a claim on each item of a list
 abbrev pub Each : {X : Type 0} (P : X → Type 0) → List X → Type 0

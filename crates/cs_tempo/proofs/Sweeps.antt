@@ -8,7 +8,7 @@ use Rattle.std.proofs.lemmas.List.Sums.{sum_by-cons, sum_by-append, sum_by-take-
 use Rattle.std.proofs.lemmas.List.Sorted.{sum_by-IsPermutation}
 use Rattle.cs_tempo.specs.declared.plot.Event.{Event}
 use Rattle.cs_tempo.specs.Limits.{cycles_in, is_active}
-use Rattle.cs_tempo.specs.Sweep.{is_note, own_end, ends_of, IsPast}
+use Rattle.cs_tempo.specs.inner.Sweep.{is_note, own_end, ends_of, HaveEnded}
 use Rattle.cs_tempo.proofs.Sorting.{Each, each_from_index}
 use Rattle.cs_tempo.proofs.Firsts.{count_more}
 
@@ -73,7 +73,7 @@ default_at xs i d h = get_or_default xs i d 0 h
 cycle_at_default : (xs : List Event) (i : ℕ) (d e : Event) → i < length xs → (get_or xs i d).cycle ≡ (get_or xs i e).cycle
 cycle_at_default xs i d e h = ap (λ (x : Event). x.cycle) (get_or_default xs i d e h)
 
-past_counted : (ends : List ℕ) (c j : ℕ) → IsNonDecreasing ends → IsPast ends c j → count_by (λ m. nat_le m c) ends ≡ j
+past_counted : (ends : List ℕ) (c j : ℕ) → IsNonDecreasing ends → HaveEnded ends c j → count_by (λ m. nat_le m c) ends ≡ j
 past_counted ends c j up p =
     let low : Each (λ m. m ≤ c) (take j ends) = each_from_index _ (take j ends) (λ i d l.
     let l' : i < j = omega (arith, length-take j ends, p.within) in
@@ -85,7 +85,7 @@ past_counted ends c j up p =
 
 -- the notes that are active when an event is done
 pub active_count : (events : List Event) (ends : List ℕ) (k j : ℕ) (e : Event) → k < length events → e ≡ get_or events k e →
-    IsNonDecreasingBy (λ (x : Event). x.cycle) events → IsPermutation (ends_of events) ends → IsNonDecreasing ends → IsPast ends e.cycle j →
+    IsNonDecreasingBy (λ (x : Event). x.cycle) events → IsPermutation (ends_of events) ends → IsNonDecreasing ends → HaveEnded ends e.cycle j →
     count_by (is_active e.cycle) (take (k + 1) events) + j ≡ count_by is_note (take (k + 1) events)
 active_count events ends k j e some here up perm order past =
     let c : ℕ = e.cycle in
@@ -117,18 +117,18 @@ ends_more xs k e some here = ends_push (take k xs) e ∙ ap ends_of (ap (λ y. t
 -- the same with the numbers that the walk keeps
 pub counted_here : (events : List Event) (ends seen : List ℕ) (k j : ℕ) (e : Event) (started notes c : ℕ) → k < length events → e ≡ get_or events k e →
     IsNonDecreasingBy (λ (x : Event). x.cycle) events → IsPermutation (ends_of events) ends → IsNonDecreasing ends →
-    started ≡ count_by is_note (take k events) → notes ≡ cond (is_note e) 1 0 → seen ≡ ends → c ≡ e.cycle → IsPast seen c j →
+    started ≡ count_by is_note (take k events) → notes ≡ cond (is_note e) 1 0 → seen ≡ ends → c ≡ e.cycle → HaveEnded seen c j →
     count_by (is_active e.cycle) (take (k + 1) events) + j ≡ started + notes
 counted_here events ends seen k j e started notes c some here up perm order s n same at past =
-    let past' : IsPast ends c j = subst (λ xs. IsPast xs c j) same past in
-    let past'' : IsPast ends e.cycle j = subst (λ x. IsPast ends x j) at past' in
+    let past' : HaveEnded ends c j = subst (λ xs. HaveEnded xs c j) same past in
+    let past'' : HaveEnded ends e.cycle j = subst (λ x. HaveEnded ends x j) at past' in
     omega (arith, active_count events ends k j e some here up perm order past'', count_more is_note events k e some here, s, n)
 
 -- what ended by one event has ended by each later one
 pub ended_later : (events : List Event) (ends seen : List ℕ) (k j : ℕ) (e : Event) (c : ℕ) → k < length events → e ≡ get_or events k e →
-    IsNonDecreasingBy (λ (x : Event). x.cycle) events → seen ≡ ends → c ≡ e.cycle → IsPast seen c j →
+    IsNonDecreasingBy (λ (x : Event). x.cycle) events → seen ≡ ends → c ≡ e.cycle → HaveEnded seen c j →
     (i m : ℕ) (d : Event) → i < j → k + 1 ≤ m → m < length events → get_or ends i 0 ≤ (get_or events m d).cycle
 ended_later events ends seen k j e c some here up same at past i m d low later within =
-    let past' : IsPast ends c j = subst (λ xs. IsPast xs c j) same past in
+    let past' : HaveEnded ends c j = subst (λ xs. HaveEnded xs c j) same past in
     let cycle : (get_or events k d).cycle ≡ e.cycle = ap (λ (x : Event). x.cycle) (get_or_default events k d e some ∙ sym here) in
     omega (arith, past'.below i low, up k m d (omega arith) within, cycle, at)

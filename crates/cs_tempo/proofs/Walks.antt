@@ -12,13 +12,13 @@ use Rattle.cs_score.specs.declared.statement.ScoreWhat.{ScoreWhat}
 use Rattle.cs_score.specs.declared.statement.ScoreWhat.TheVariants.{Note, Hold, Stop, Table, Extend, Tempo, Section}
 use Rattle.cs_score.specs.declared.statement.ScoreStmt.{ScoreStmt}
 use Rattle.cs_tempo.specs.declared.plot.Event.{Event}
-use Rattle.cs_tempo.specs.Clock.{Pace}
+use Rattle.cs_tempo.specs.inner.Clock.{Pace}
 use Rattle.cs_tempo.specs.Sections.{cycle_at, end_of, reach_of}
 use Rattle.cs_tempo.specs.Order.{has_turn, beat_of, put, in_order, order_of}
 use Rattle.cs_tempo.specs.Pairing.{own_stop, sounding, sounding_after, stops_of, stop_of}
-use Rattle.cs_tempo.specs.Stops.{Shows, Lines, AreLines, ending}
-use Rattle.cs_tempo.specs.Line.{Line}
-use Rattle.cs_tempo.specs.Events.{HasEnd, IsTurnIn}
+use Rattle.cs_tempo.specs.inner.Stops.{Shows, Queues, AreQueues, ending}
+use Rattle.cs_tempo.specs.inner.Queue.{Queue}
+use Rattle.cs_tempo.specs.inner.Events.{HasEnd, IsTurnIn}
 use Rattle.cs_tempo.specs.Plot.{Setting, events_at, events_along}
 use Rattle.cs_tempo.proofs.Sorting.{Each}
 
@@ -26,7 +26,8 @@ note_within : (pace : Pace) (cycles at len : ℕ) → end_of pace.head pace.temp
 note_within pace cycles at len h = grind (arith, nat_tests)
 
 -- a beat's cycle lies in its section
-pub start_within : (pace : Pace) (cycles : ℕ) (w : ScoreWhat) → HasRange w → reach_of pace.head pace.tempo w ≤ cycles → has_turn w ≡ true → HasEnd pace cycles (beat_of w)
+pub start_within : (pace : Pace) (cycles : ℕ) (w : ScoreWhat) → HasRange w → reach_of pace.head pace.tempo w ≤ cycles → has_turn w ≡ true
+    → HasEnd pace cycles (beat_of w)
 start_within pace cycles (Note instr at len more) r h t = record { beat = omega (arith, r.1); cycle = note_within pace cycles at len h }
 start_within pace cycles (Hold instr at given more) r h t = record { beat = r.1; cycle = omega arith }
 start_within pace cycles (Stop instr at) r h t = record { beat = r.1; cycle = h }
@@ -57,7 +58,7 @@ found_within P [] k e = tt
 found_within P (x ∷ xs) zero e = e.0
 found_within P (x ∷ xs) (suc k) e = found_within P xs k e.1
 
--- a turn's place in a walk
+-- a turn's index in a walk
 pub ahead : (ss : List ScoreStmt) (k : ℕ) (s : ScoreStmt) → k < length ss → s ≡ get_or ss k s → drop k ss ≡ s ∷ drop (k + 1) ss
 ahead ss k s some at = drop_more ss k s some ∙ ap (λ x. x ∷ drop (k + 1) ss) (sym at)
 
@@ -77,7 +78,7 @@ pub events_none : (set : Setting) (ss : List ScoreStmt) (k : ℕ) (done : List E
 unfolding events_along
 events_none set ss k done all = rw (drop_all k ss all) (append-nil done)
 
--- what the lines say of a turn
+-- what the queues say of a turn
 ending_of : (w : ScoreWhat) (stops : ℕ → List ℕ) (earlier later : List ScoreStmt) → ((n : ℕ) → stops n ≡ own_stop n w ++ stops_of n later) →
     ending w stops (λ n. sounding n earlier) ≡ stop_of earlier later w
 ending_of (Hold instr at given more) stops earlier later e = ap (λ xs. slice_get xs (sounding instr earlier)) (e instr)
@@ -88,7 +89,8 @@ ending_of (Extend at) stops earlier later e = refl
 ending_of (Tempo points) stops earlier later e = refl
 ending_of Section stops earlier later e = refl
 
-pub ending_is : (earlier later : List ScoreStmt) (s : ScoreStmt) → ending s.what (λ n. stops_of n (s ∷ later)) (λ n. sounding n earlier) ≡ stop_of earlier later s.what
+pub ending_is : (earlier later : List ScoreStmt) (s : ScoreStmt)
+    → ending s.what (λ n. stops_of n (s ∷ later)) (λ n. sounding n earlier) ≡ stop_of earlier later s.what
 unfolding stops_of
 ending_is earlier later s = ending_of s.what (λ n. stops_of n (s ∷ later)) earlier later (λ n. refl)
 
@@ -116,20 +118,21 @@ unfolding sounding
 few_sound n [] = omega arith
 few_sound n (s ∷ ss) = few_more n s.what (sounding n ss) (length ss) (few_sound n ss)
 
-pub few_lines : (lines : Lines) (earlier later : List ScoreStmt) (n : ℕ) (line : Line) → AreLines lines earlier later → get nat_eq lines n ≡ Some line → line.sounding ≤ length earlier
-few_lines lines earlier later n line a e =
-    let shown : Shows (Some line) (stops_of n later) (sounding n earlier) = subst (λ (o : Option Line). Shows o (stops_of n later) (sounding n earlier)) e (a n) in
+pub few_queues : (queues : Queues) (earlier later : List ScoreStmt) (n : ℕ) (queue : Queue) → AreQueues queues earlier later
+    → get nat_eq queues n ≡ Some queue → queue.sounding ≤ length earlier
+few_queues queues earlier later n queue a e =
+    let shown : Shows (Some queue) (stops_of n later) (sounding n earlier) = subst (λ (o : Option Queue). Shows o (stops_of n later) (sounding n earlier)) e (a n) in
     omega (arith, shown.1, few_sound n earlier)
 
-pub lines_step : (lines : Lines) (earlier later : List ScoreStmt) (s : ScoreStmt) →
-    ((n : ℕ) → Shows (get nat_eq lines n) (stops_of n later) (sounding_after n s.what (sounding n earlier))) → AreLines lines (s ∷ earlier) later
+pub queues_step : (queues : Queues) (earlier later : List ScoreStmt) (s : ScoreStmt) →
+    ((n : ℕ) → Shows (get nat_eq queues n) (stops_of n later) (sounding_after n s.what (sounding n earlier))) → AreQueues queues (s ∷ earlier) later
 unfolding sounding
-lines_step lines earlier later s h = h
+queues_step queues earlier later s h = h
 
-pub lines_at : (lines : Lines) (earlier later : List ScoreStmt) (s : ScoreStmt) (n : ℕ) → AreLines lines earlier (s ∷ later) →
-    Shows (get nat_eq lines n) (own_stop n s.what ++ stops_of n later) (sounding n earlier)
+pub queues_at : (queues : Queues) (earlier later : List ScoreStmt) (s : ScoreStmt) (n : ℕ) → AreQueues queues earlier (s ∷ later) →
+    Shows (get nat_eq queues n) (own_stop n s.what ++ stops_of n later) (sounding n earlier)
 unfolding stops_of
-lines_at lines earlier later s n a = a n
+queues_at queues earlier later s n a = a n
 
 -- the turns of a section in order
 put_each : (P : ScoreStmt → Type 0) (s : ScoreStmt) (us : List ScoreStmt) → P s → Each P us → Each P (put s us)
@@ -138,7 +141,8 @@ put_each P s [] p e = (p, tt)
 put_each P s (u ∷ us) p e =
     ⊎_elim (λ t. rw t (e.0, put_each P s us p e.1)) (λ f. rw f (p, (e.0, e.1))) (cases_Bool (is_lt (order_of u.what s.what)))
 
-pub order_each : (pace : Pace) (cycles : ℕ) (section : List ScoreStmt) → All IsInRange section → All (λ s. reach_of pace.head pace.tempo s.what ≤ cycles) section →
+pub order_each : (pace : Pace) (cycles : ℕ) (section : List ScoreStmt) → All IsInRange section
+    → All (λ s. reach_of pace.head pace.tempo s.what ≤ cycles) section →
     Each (IsTurnIn pace cycles) (in_order section)
 unfolding in_order
 order_each pace cycles [] r h = tt
@@ -171,7 +175,7 @@ all_map P f (x ∷ xs) e = at_each P f x xs e (all_map P f xs e.1)
 pub seen_at : {X Y : Type 0} (f : X → Y) (xs : List X) (k : ℕ) (x : X) → k < length xs → x ≡ get_or xs k x → f x ≡ get_or (map f xs) k (f x)
 seen_at f xs k x some at = ap f at ∙ sym (get_or-map f xs k x (f x) some)
 
--- one step of the walk: the turn s at place k, with those before it and those behind it
+-- one step of the walk: the turn s at index k, with those before it and those behind it
 module _ (ss : List ScoreStmt) (k : ℕ) (s : ScoreStmt) (some : k < length ss) (here : s ≡ get_or ss k s) where
   abbrev pub before : List ScoreStmt
   before = reverse (take k ss)
@@ -179,24 +183,24 @@ module _ (ss : List ScoreStmt) (k : ℕ) (s : ScoreStmt) (some : k < length ss) 
   abbrev pub after : List ScoreStmt
   after = drop (k + 1) ss
 
-  pub lines_here : (lines : Lines) → AreLines lines (reverse (take k ss)) (drop k ss) → AreLines lines (reverse (take k ss)) (s ∷ drop (k + 1) ss)
-  lines_here lines a = subst (λ later. AreLines lines (reverse (take k ss)) later) (ahead ss k s some here) a
+  pub lines_here : (queues : Queues) → AreQueues queues (reverse (take k ss)) (drop k ss) → AreQueues queues (reverse (take k ss)) (s ∷ drop (k + 1) ss)
+  lines_here queues a = subst (λ later. AreQueues queues (reverse (take k ss)) later) (ahead ss k s some here) a
 
-  pub stop_is : (r : Option ℕ) (lines : Lines) → AreLines lines (reverse (take k ss)) (drop k ss) →
-      ((stops : ℕ → List ℕ) (sounds : ℕ → ℕ) → ((n : ℕ) → Shows (get nat_eq lines n) (stops n) (sounds n)) → r ≡ ending s.what stops sounds) →
+  pub stop_is : (r : Option ℕ) (queues : Queues) → AreQueues queues (reverse (take k ss)) (drop k ss) →
+      ((stops : ℕ → List ℕ) (sounds : ℕ → ℕ) → ((n : ℕ) → Shows (get nat_eq queues n) (stops n) (sounds n)) → r ≡ ending s.what stops sounds) →
       r ≡ stop_of (reverse (take k ss)) (drop (k + 1) ss) s.what
-  stop_is r lines a h =
-      h (λ n. stops_of n (s ∷ drop (k + 1) ss)) (λ n. sounding n (reverse (take k ss))) (lines_here lines a)
+  stop_is r queues a h =
+      h (λ n. stops_of n (s ∷ drop (k + 1) ss)) (λ n. sounding n (reverse (take k ss))) (lines_here queues a)
       ∙ ending_is (reverse (take k ss)) (drop (k + 1) ss) s
 
-  pub lines_then : (lines lines' : Lines) → AreLines lines (reverse (take k ss)) (drop k ss) →
-      ((n : ℕ) (stops : List ℕ) (sounds : ℕ) → Shows (get nat_eq lines n) (own_stop n s.what ++ stops) sounds → Shows (get nat_eq lines' n) stops (sounding_after n s.what sounds)) →
-      AreLines lines' (reverse (take (k + 1) ss)) (drop (k + 1) ss)
-  lines_then lines lines' a h =
-      subst (λ earlier. AreLines lines' earlier (drop (k + 1) ss)) (sym (behind ss k s some here))
-      (lines_step lines' (reverse (take k ss)) (drop (k + 1) ss) s
+  pub lines_then : (queues queues' : Queues) → AreQueues queues (reverse (take k ss)) (drop k ss) →
+      ((n : ℕ) (stops : List ℕ) (sounds : ℕ) → Shows (get nat_eq queues n) (own_stop n s.what ++ stops) sounds → Shows (get nat_eq queues' n) stops (sounding_after n s.what sounds)) →
+      AreQueues queues' (reverse (take (k + 1) ss)) (drop (k + 1) ss)
+  lines_then queues queues' a h =
+      subst (λ earlier. AreQueues queues' earlier (drop (k + 1) ss)) (sym (behind ss k s some here))
+      (queues_step queues' (reverse (take k ss)) (drop (k + 1) ss) s
       (λ n. h n (stops_of n (drop (k + 1) ss)) (sounding n (reverse (take k ss)))
-      (lines_at lines (reverse (take k ss)) (drop (k + 1) ss) s n (lines_here lines a))))
+      (queues_at queues (reverse (take k ss)) (drop (k + 1) ss) s n (lines_here queues a))))
 
 pub few_before : (ss : List ScoreStmt) (k : ℕ) → length (reverse (take k ss)) ≤ k
 few_before ss k = omega (arith, length-reverse (take k ss), length-take k ss)

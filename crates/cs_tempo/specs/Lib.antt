@@ -1,14 +1,9 @@
-pub mod Clock
-pub mod Counts
-pub mod Events
 pub mod Held
 pub mod Limits
-pub mod Line
 pub mod Order
 pub mod Pairing
+pub mod Performable
 pub mod Plot
 pub mod Sections
-pub mod Stops
-pub mod Sweep
 pub mod Time
-pub mod Turns
+pub mod inner

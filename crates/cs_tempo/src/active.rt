@@ -1,20 +1,18 @@
 // Counts the notes that are active in a cycle, by one way through the events in order.
 ghost use Rattle.std.specs.Prelude.{◌≡◌, ◌≤◌, ◌<◌, ◌+◌, ◌++◌, [], ℕ, length, slice_index, cond, IfOk, OnOk};
 ghost use Rattle.std.specs.List.Sorted.{IsNonDecreasingBy, IsNonDecreasing, IsPermutation};
-ghost use Rattle.cs_tempo.specs.Limits.{first_at, passes_notes, at_event, cycles_in};
-ghost use Rattle.cs_tempo.specs.Sweep.{ends_of, own_end, is_note, IsPast};
+ghost use Rattle.cs_score.specs.Limits.{first_at};
+ghost use Rattle.cs_tempo.specs.Limits.{passes_notes, at_event, cycles_in};
+ghost use Rattle.cs_tempo.specs.inner.Sweep.{ends_of, own_end, is_note, HaveEnded};
 
 use crate::plot::{Event, EventAct};
-use cs_base::{LimitHit, OutOfMemory};
+use cs_base::{Limit, LimitHit, MOST_NOTES, OutOfMemory};
 use std::alloc::Global;
 
-// Notes that are active in one cycle.
-const NOTES: usize = 512;
-
 /// The refusal of the first start with which more notes are active in its cycle than may be.
-pub fn notes_past(alloc: Global, events: &[Event]) -> Result<Option<LimitHit>, OutOfMemory>
+pub fn note_hit(alloc: Global, events: &[Event]) -> Result<Option<LimitHit>, OutOfMemory>
     requires { IsNonDecreasingBy (λ e. e.cycle) events.now }
-    ensures { IfOk result (λ hit. hit ≡ at_event 5 (first_at passes_notes [] events.now)) }
+    ensures { IfOk result (λ hit. hit ≡ at_event (first_at passes_notes [] events.now)) }
 {
     let ends = sorted_ends(alloc, events)?;
     let mut started: usize = 0;
@@ -22,9 +20,9 @@ pub fn notes_past(alloc: Global, events: &[Event]) -> Result<Option<LimitHit>, O
     for event in events {
         started += notes_in(event);
         ended = ended_by(&ends, ended, u64::from(event.cycle));
-        if started - ended > NOTES {
+        if started - ended > MOST_NOTES {
             return Ok(Some(LimitHit {
-                limit: 5,
+                limit: Limit::Notes,
                 line: event.line,
             }));
         }
@@ -36,7 +34,7 @@ pub fn notes_past(alloc: Global, events: &[Event]) -> Result<Option<LimitHit>, O
 fn ended_by(ends: &[u64], from: usize, cycle: u64) -> usize
     requires within { from ≤ length ends.now }
     requires below { (i : ℕ) → i < from → slice_index ends.now i ≤ cycle }
-    ensures { IsPast ends.now cycle result }
+    ensures { HaveEnded ends.now cycle result }
 {
     let mut ended = from;
     while ended < ends.len() && ends[ended] <= cycle {

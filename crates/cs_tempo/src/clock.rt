@@ -2,7 +2,7 @@
 ghost use Rattle.std.specs.Prelude.{◌≡◌, ◌≤◌, ◌<◌, ◌+◌, ◌-◌, ◌*◌, ◌^◌, length, IfOk, drop};
 ghost use Rattle.cs_score.specs.Ranges.{beats_end};
 ghost use Rattle.cs_tempo.specs.Time.{time_along, time_of, IsTempo, Rises};
-ghost use Rattle.cs_tempo.specs.Clock.{point_at, AreTimes};
+ghost use Rattle.cs_tempo.specs.inner.Clock.{point_at, AreTimes};
 ghost use Rattle.cs_tempo.specs.Sections.{cycle_at};
 
 use crate::time::{cycle_of, first_part, steady_time, time_along};
@@ -20,7 +20,7 @@ pub struct Clock<'s> {
 }
 
 impl<'s> Model for Clock<'s> {
-    ghost use Rattle.cs_tempo.specs.Clock.{Pace, IsTimed};
+    ghost use Rattle.cs_tempo.specs.inner.Clock.{Pace, IsTimed};
 
     ghost Value = { Pace };
 

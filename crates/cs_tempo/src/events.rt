@@ -7,7 +7,7 @@ ghost use Rattle.cs_tempo.specs.Sections.{reach_of, end_of, cycle_at};
 ghost use Rattle.cs_tempo.specs.Order.{beat_of, in_order};
 ghost use Rattle.cs_tempo.specs.declared.plot.EventAct.{EventAct};
 ghost use Rattle.cs_tempo.specs.Plot.{fields_of, length_in_seconds, held_until, acts_of, events_along};
-ghost use Rattle.cs_tempo.specs.Events.{in_section, HasEnd, IsTurnIn, Acts};
+ghost use Rattle.cs_tempo.specs.inner.Events.{in_section, HasEnd, IsTurnIn, Acts};
 
 use crate::clock::Clock;
 use crate::order::in_order;
@@ -55,9 +55,9 @@ fn add_events(
         ≡ events.old.items
         ++ events_along (in_section clock.now offset cycles) [] (map (λ s. s.now) order.now)) }
 {
-    let mut lines = stops_by_instrument(alloc, order)?;
+    let mut queues = stops_by_instrument(alloc, order)?;
     for statement in order {
-        let stop = take_turn(&mut lines, &statement.what);
+        let stop = take_turn(&mut queues, &statement.what);
         let act = act_of(alloc, clock, cycles, stop, &statement.what)?;
         push_event(events, clock, offset, cycles, statement, act)?;
     }

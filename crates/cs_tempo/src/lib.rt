@@ -1,7 +1,7 @@
 //! Time and the plot of a piece: when each note of a score starts and ends, in control cycles.
 //!
-//! The one contract: `schedule` answers the plot of a score (`plot_of`), or the first limit that the score
-//! passes (`limit_of`), or want of memory. All times are exact whole numbers.
+//! The one contract: `schedule` answers the plot of a score (`plot_of`), which can be performed (`IsPerformable`), or the
+//! first limit that the score passes (`limit_of`), or want of memory. All times are exact whole numbers.
 //!
 //! How a beat's time is found, how turns are sorted, stops paired and notes counted may be changed without
 //! anyone above noticing. In reading order: `time` (beats to nanoseconds to cycles), `clock`, `section`,
@@ -18,11 +18,13 @@ mod pairing;
 mod plot;
 mod scheduling;
 mod section;
-#[cfg(test)]
-mod tests;
 mod time;
 
-pub use laws::{plots_are_in_order, ramps_are_rounded_down, stops_end_the_first, time_never_falls};
+pub use laws::{
+    pairings_worked_by_hand, plots_are_in_order, ramps_are_rounded_down,
+    scores_within_limits_are_performable, stops_end_the_first, time_never_falls,
+    times_worked_by_hand,
+};
 pub use plot::{Event, EventAct, Events, Plot};
 pub use scheduling::schedule;
 pub use time::{beat_time, cycle_of};

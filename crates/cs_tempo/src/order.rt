@@ -3,19 +3,19 @@ ghost use Rattle.std.specs.Prelude.{◌≡◌, ◌∷◌, [], ◌≤◌, ◌<◌
 ghost use Rattle.std.specs.List.{All};
 ghost use Rattle.cs_score.specs.Ranges.{IsInRange, HasRange};
 ghost use Rattle.cs_tempo.specs.Order.{has_turn, in_order};
-ghost use Rattle.cs_tempo.specs.Turns.{turn_of, own_turn, turns_from, turn_order, sorted};
+ghost use Rattle.cs_tempo.specs.inner.Turns.{turn_of, own_turn, turns_from, turn_order, sorted};
 
 use cs_base::OutOfMemory;
 use cs_score::{ScoreStmt, ScoreWhat};
 use std::alloc::Global;
 
-/// What a turn is sorted by: its beat, its p1 and p3, and its place in the section.
-#[derive(Clone, Copy, Debug, PartialEq, Eq, PartialOrd, Ord)]
+/// What a turn is sorted by: its beat, its p1 and p3, and its index in the section.
+#[derive(Clone, Copy, PartialEq, Eq, PartialOrd, Ord)]
 pub struct Turn {
     pub at: u64,
     pub p1: i32,
     pub p3: i64,
-    pub place: usize,
+    pub index: usize,
 }
 
 // Before every p1: tables stand first.
@@ -29,7 +29,7 @@ pub fn in_order(alloc: Global, section: &[ScoreStmt]) -> Result<Vec<&ScoreStmt>,
     let turns = sorted_turns(alloc, section)?;
     let mut order = Vec::new(alloc);
     for turn in &turns {
-        order.push(&section[turn.place])?;
+        order.push(&section[turn.index])?;
     }
     Ok(order)
 }
@@ -38,7 +38,7 @@ fn sorted_turns(alloc: Global, section: &[ScoreStmt]) -> Result<Vec<Turn>, OutOf
     requires { All IsInRange section.now }
     ensures sorted { IfOk result (λ turns. turns.items
         ≡ sorted turn_order (turns_from 0 section.now)) }
-    ensures within { IfOk result (λ turns. All (λ t. t.place < length section.now) turns.items) }
+    ensures within { IfOk result (λ turns. All (λ t. t.index < length section.now) turns.items) }
 {
     let mut turns = turns_of(alloc, section)?;
     turns.sort()?;
@@ -50,26 +50,26 @@ fn turns_of(alloc: Global, section: &[ScoreStmt]) -> Result<Vec<Turn>, OutOfMemo
     ensures { IfOk result (λ turns. turns.items ≡ turns_from 0 section.now) }
 {
     let mut turns = Vec::new(alloc);
-    for (place, statement) in section.iter().enumerate() {
-        push_turn(&mut turns, &statement.what, place)?;
+    for (index, statement) in section.iter().enumerate() {
+        push_turn(&mut turns, &statement.what, index)?;
     }
     Ok(turns)
 }
 
-fn push_turn(turns: &mut Vec<Turn>, what: &ScoreWhat, place: usize) -> Result<(), OutOfMemory>
+fn push_turn(turns: &mut Vec<Turn>, what: &ScoreWhat, index: usize) -> Result<(), OutOfMemory>
     requires { HasRange what.now }
-    ensures { OnOk result (turns.new.items ≡ turns.old.items ++ own_turn place what.now) }
+    ensures { OnOk result (turns.new.items ≡ turns.old.items ++ own_turn index what.now) }
 {
-    if let Some(turn) = turn_of(what, place) {
+    if let Some(turn) = turn_of(what, index) {
         turns.push(turn)?;
     }
     Ok(())
 }
 
-// The turn of the statement at a place, if it has one.
-fn turn_of(what: &ScoreWhat, place: usize) -> Option<Turn>
+// The turn of the statement at an index, if it has one.
+fn turn_of(what: &ScoreWhat, index: usize) -> Option<Turn>
     requires { HasRange what.now }
-    ensures { result ≡ (if has_turn what.now then Some (turn_of place what.now) else None) }
+    ensures { result ≡ (if has_turn what.now then Some (turn_of index what.now) else None) }
 {
     let (at, p1, p3) = match what {
         ScoreWhat::Note {
@@ -88,5 +88,5 @@ fn turn_of(what: &ScoreWhat, place: usize) -> Option<Turn>
         ScoreWhat::Table { at, .. } => (*at, TABLE, 0),
         _ => return None,
     };
-    Some(Turn { at, p1, p3, place })
+    Some(Turn { at, p1, p3, index })
 }

@@ -2,8 +2,8 @@
 ghost use Rattle.std.specs.Prelude.{◌≡◌, ◌≢◌, ◌==◌, ℕ, List, ◌+◌, ◌-◌, ◌<◌, ◌^◌, ◌++◌, ◌∷◌, [], map, drop, length, slice_get, nat_eq, IfOk, OnOk, Option, Some, None, if◌then◌else◌};
 ghost use Rattle.std.specs.HashMap.{get};
 ghost use Rattle.cs_tempo.specs.Pairing.{own_stop, sounding, sounding_after, stops_of};
-ghost use Rattle.cs_tempo.specs.Stops.{Shows, AreLines, ending};
-ghost use Rattle.cs_tempo.specs.Line.{Line};
+ghost use Rattle.cs_tempo.specs.inner.Stops.{Shows, AreQueues, ending};
+ghost use Rattle.cs_tempo.specs.inner.Queue.{Queue};
 
 use cs_base::OutOfMemory;
 use cs_score::{ScoreStmt, ScoreWhat};
@@ -21,9 +21,9 @@ pub struct Stops {
 
 impl Model for Stops {
     ghost use Rattle.std.specs.Prelude.{drop, length, ◌≤◌};
-    ghost use Rattle.cs_tempo.specs.Line.{Line};
+    ghost use Rattle.cs_tempo.specs.inner.Queue.{Queue};
 
-    ghost Value = { Line };
+    ghost Value = { Queue };
 
     ghost view = { λ s. record { stops = drop s.passed s.beats.items; sounding = s.sounding } };
 
@@ -80,81 +80,81 @@ pub fn stops_by_instrument(
     alloc: Global,
     order: &[&ScoreStmt],
 ) -> Result<StopsByInstrument, OutOfMemory>
-    ensures { IfOk result (λ lines. AreLines lines [] (map (λ s. s.now) order.now)) }
+    ensures { IfOk result (λ queues. AreQueues queues [] (map (λ s. s.now) order.now)) }
 {
-    let mut lines = HashMap::new(alloc);
+    let mut queues = HashMap::new(alloc);
     for statement in order {
-        add_own_stop(&mut lines, alloc, &statement.what)?;
+        add_own_stop(&mut queues, alloc, &statement.what)?;
     }
-    Ok(lines)
+    Ok(queues)
 }
 
 fn add_own_stop(
-    lines: &mut StopsByInstrument,
+    queues: &mut StopsByInstrument,
     alloc: Global,
     what: &ScoreWhat,
 ) -> Result<(), OutOfMemory>
-    ensures { OnOk result ((n : ℕ) (stops : List ℕ) → Shows (get nat_eq lines.old n) stops 0
-        → Shows (get nat_eq lines.new n) (stops ++ own_stop n what.now) 0) }
+    ensures { OnOk result ((n : ℕ) (stops : List ℕ) → Shows (get nat_eq queues.old n) stops 0
+        → Shows (get nat_eq queues.new n) (stops ++ own_stop n what.now) 0) }
 {
     match what {
-        ScoreWhat::Stop { instr, at } => add_stop(lines, alloc, *instr, *at),
+        ScoreWhat::Stop { instr, at } => add_stop(queues, alloc, *instr, *at),
         _ => Ok(()),
     }
 }
 
 fn add_stop(
-    lines: &mut StopsByInstrument,
+    queues: &mut StopsByInstrument,
     alloc: Global,
     instr: u32,
     at: u64,
 ) -> Result<(), OutOfMemory>
-    ensures { OnOk result ((n : ℕ) (stops : List ℕ) → Shows (get nat_eq lines.old n) stops 0
-        → Shows (get nat_eq lines.new n) (stops ++ (if n == instr then at ∷ [] else [])) 0) }
+    ensures { OnOk result ((n : ℕ) (stops : List ℕ) → Shows (get nat_eq queues.old n) stops 0
+        → Shows (get nat_eq queues.new n) (stops ++ (if n == instr then at ∷ [] else [])) 0) }
 {
-    lines.entry(instr)?.or_insert(Stops::new(alloc)).push(at)
+    queues.entry(instr)?.or_insert(Stops::new(alloc)).push(at)
 }
 
 /// A held note starts: the beat of the stop that ends it, where one does.
-pub fn hold(lines: &mut StopsByInstrument, instr: u32) -> Option<u64>
-    requires { (line : Line) → get nat_eq lines.old instr ≡ Some line → line.sounding < 2 ^ 63 }
-    ensures stop { (stops : List ℕ) (sounding : ℕ) → Shows (get nat_eq lines.old instr) stops sounding
+pub fn hold(queues: &mut StopsByInstrument, instr: u32) -> Option<u64>
+    requires { (queue : Queue) → get nat_eq queues.old instr ≡ Some queue → queue.sounding < 2 ^ 63 }
+    ensures stop { (stops : List ℕ) (sounding : ℕ) → Shows (get nat_eq queues.old instr) stops sounding
         → result ≡ slice_get stops sounding }
-    ensures own { (stops : List ℕ) (sounding : ℕ) → Shows (get nat_eq lines.old instr) stops sounding
-        → Shows (get nat_eq lines.new instr) stops (sounding + 1) }
-    ensures others { (n : ℕ) → n ≢ instr → get nat_eq lines.new n ≡ get nat_eq lines.old n }
+    ensures own { (stops : List ℕ) (sounding : ℕ) → Shows (get nat_eq queues.old instr) stops sounding
+        → Shows (get nat_eq queues.new instr) stops (sounding + 1) }
+    ensures others { (n : ℕ) → n ≢ instr → get nat_eq queues.new n ≡ get nat_eq queues.old n }
 {
-    match lines.get_mut(&instr) {
+    match queues.get_mut(&instr) {
         Some(stops) => stops.hold(),
         None => None,
     }
 }
 
 /// A stop comes.
-pub fn pass(lines: &mut StopsByInstrument, instr: u32)
-    ensures own { (stops : List ℕ) (sounding : ℕ) → Shows (get nat_eq lines.old instr) stops sounding
-        → Shows (get nat_eq lines.new instr) (drop 1 stops) (sounding - 1) }
-    ensures others { (n : ℕ) → n ≢ instr → get nat_eq lines.new n ≡ get nat_eq lines.old n }
+pub fn pass(queues: &mut StopsByInstrument, instr: u32)
+    ensures own { (stops : List ℕ) (sounding : ℕ) → Shows (get nat_eq queues.old instr) stops sounding
+        → Shows (get nat_eq queues.new instr) (drop 1 stops) (sounding - 1) }
+    ensures others { (n : ℕ) → n ≢ instr → get nat_eq queues.new n ≡ get nat_eq queues.old n }
 {
-    if let Some(stops) = lines.get_mut(&instr) {
+    if let Some(stops) = queues.get_mut(&instr) {
         stops.pass();
     }
 }
 
 /// The turn of a statement comes: the beat of the stop that ends it, where it is a held note.
-pub fn take_turn(lines: &mut StopsByInstrument, what: &ScoreWhat) -> Option<u64>
-    requires { (n : ℕ) (line : Line) → get nat_eq lines.old n ≡ Some line → line.sounding < 2 ^ 63 }
+pub fn take_turn(queues: &mut StopsByInstrument, what: &ScoreWhat) -> Option<u64>
+    requires { (n : ℕ) (queue : Queue) → get nat_eq queues.old n ≡ Some queue → queue.sounding < 2 ^ 63 }
     ensures stop { (stops : ℕ → List ℕ) (sounding : ℕ → ℕ)
-        → ((n : ℕ) → Shows (get nat_eq lines.old n) (stops n) (sounding n))
+        → ((n : ℕ) → Shows (get nat_eq queues.old n) (stops n) (sounding n))
         → result ≡ ending what.now stops sounding }
-    ensures lines { (n : ℕ) (stops : List ℕ) (sounding : ℕ)
-        → Shows (get nat_eq lines.old n) (own_stop n what.now ++ stops) sounding
-        → Shows (get nat_eq lines.new n) stops (sounding_after n what.now sounding) }
+    ensures queues { (n : ℕ) (stops : List ℕ) (sounding : ℕ)
+        → Shows (get nat_eq queues.old n) (own_stop n what.now ++ stops) sounding
+        → Shows (get nat_eq queues.new n) stops (sounding_after n what.now sounding) }
 {
     match what {
-        ScoreWhat::Hold { instr, .. } => hold(lines, *instr),
+        ScoreWhat::Hold { instr, .. } => hold(queues, *instr),
         ScoreWhat::Stop { instr, .. } => {
-            pass(lines, *instr);
+            pass(queues, *instr);
             None
         }
         ScoreWhat::Note { .. } => None,

@@ -2,7 +2,7 @@
 use cs_base::{Items, Nums};
 
 /// What an event does.
-#[derive(Debug, Drop)]
+#[derive(Drop)]
 pub enum EventAct {
     /// Starts a note of instrument `instr` that lasts `cycles` control cycles; 0 is its initialisation
     /// pass alone, where its p3 is 0. `fields` are p1 onward, with p2 and p3 in seconds, or p3 as it was
@@ -22,7 +22,7 @@ pub enum EventAct {
 }
 
 /// What is done before a control cycle is performed, and the line of the score that asks for it.
-#[derive(Debug, Drop)]
+#[derive(Drop)]
 pub struct Event {
     /// Control cycles from the start of the piece.
     pub cycle: u32,
@@ -35,7 +35,7 @@ pub struct Event {
 pub type Events = Items<Event>;
 
 /// All that a score asks for: its events, and its length in control cycles.
-#[derive(Debug, Drop)]
+#[derive(Drop)]
 pub struct Plot {
     pub events: Events,
     pub cycles: u32,

@@ -2,35 +2,38 @@
 ghost use Rattle.std.specs.Prelude.{◌≡◌, ◌≤◌, ◌<◌, ◌+◌, ◌^◌, ◌++◌, [], ℕ, map, sum, IfOk, OnOk, Option, Some, None};
 ghost use Rattle.std.specs.List.{All};
 ghost use Rattle.std.specs.List.Sorted.{IsNonDecreasingBy};
-ghost use Rattle.cs_base.specs.declared.fault.LimitHit.{LimitHit};
+ghost use Rattle.cs_base.specs.declared.limit.LimitHit.{LimitHit};
 ghost use Rattle.cs_base.specs.declared.fault.Or.TheVariants as or;
 ghost use Rattle.cs_score.specs.Ranges.{IsInRange};
 ghost use Rattle.cs_tempo.specs.Sections.{length_of};
 ghost use Rattle.cs_tempo.specs.Order.{in_order};
 ghost use Rattle.cs_tempo.specs.Plot.{setting_of, events_along, events_from, plot_of_sections, plot_of};
-ghost use Rattle.cs_tempo.specs.Limits.{first_at, passes_tables, passes_statements, at_statement, before_other, limit_of_sections, limit_of};
+ghost use Rattle.cs_score.specs.Limits.{limit_of_score};
+ghost use Rattle.cs_tempo.specs.Limits.{limit_of_sections, limit_of};
+ghost use Rattle.cs_tempo.specs.Performable.{IsPerformable};
 
-use crate::active::notes_past;
+use crate::active::note_hit;
 use crate::clock::Clock;
 use crate::events::add_section;
-use crate::limits::{passes_bytes, statements_past, tables_past};
+use crate::limits::passes_bytes;
 use crate::plot::{Event, Events, Plot};
 use crate::section::{length_of, sections, tempo_of};
-use cs_base::{Head, LimitHit, Or, OutOfMemory};
+use cs_base::{Head, Limit, LimitHit, Or, OutOfMemory};
 use cs_score::{ScoreStmt, ScoreStmts};
 use std::alloc::Global;
 
-/// The plot of a score as it is read, or the first limit that it passes.
+/// The plot of a score as it is read, or the first limit that it passes: that on the bytes of the sound file, else
+/// that on notes at once. The limits on table numbers and on statements were found when it was read.
 pub fn schedule(alloc: Global, score: &ScoreStmts, head: &Head) -> Result<Plot, Or<LimitHit>>
-    requires { All IsInRange score.now }
+    requires range { All IsInRange score.now }
+    requires read { limit_of_score score.now ≡ None }
     ensures plot { IfOk result (λ plot. plot ≡ plot_of head.now score.now) }
+    ensures performable { IfOk result (IsPerformable head.now) }
     ensures within { OnOk result (limit_of head.now score.now ≡ None) }
-    // The limits in the order 6, 7, 8, 5, each exactly where it is passed.
     ensures limit { (hit : LimitHit) → result ≡ Err (or.Fault hit)
         → limit_of head.now score.now ≡ Some hit }
 {
     let score = score.as_slice();
-    check_counts(alloc, score)?;
     let sections = sections(alloc, score)?;
     plot_sections(alloc, head, &sections)
 }
@@ -52,34 +55,18 @@ fn plot_sections(
     let lengths = lengths_of(alloc, head, sections)?;
     let cycles = total(&lengths);
     if passes_bytes(head, cycles) {
-        return Err(Or::Fault(LimitHit { limit: 8, line: 0 }));
+        return Err(Or::Fault(LimitHit {
+            limit: Limit::WavBytes,
+            line: 0,
+        }));
     }
     let events = events_of(alloc, head, sections, &lengths)?;
-    match notes_past(alloc, &events)? {
+    match note_hit(alloc, &events)? {
         Some(hit) => Err(Or::Fault(hit)),
         None => Ok(Plot {
             events: Events::from_vec(events),
             cycles: cycles as u32,
         }),
-    }
-}
-
-// The limits on table numbers and on statements.
-fn check_counts(alloc: Global, score: &[ScoreStmt]) -> Result<(), Or<LimitHit>>
-    ensures tables { OnOk result (at_statement 6 (first_at passes_tables [] score.now) ≡ None) }
-    ensures statements { OnOk result
-        (at_statement 7 (first_at passes_statements [] score.now) ≡ None) }
-    ensures limit { (hit : LimitHit) (other : Option LimitHit) → result ≡ Err (or.Fault hit)
-        → before_other (at_statement 6 (first_at passes_tables [] score.now))
-        (before_other (at_statement 7 (first_at passes_statements [] score.now)) other)
-        ≡ Some hit }
-{
-    if let Some(hit) = tables_past(alloc, score)? {
-        return Err(Or::Fault(hit));
-    }
-    match statements_past(score) {
-        Some(hit) => Err(Or::Fault(hit)),
-        None => Ok(()),
     }
 }
 

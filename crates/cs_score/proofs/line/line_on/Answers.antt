@@ -1,4 +1,4 @@
-use Rattle.cs_score.proofs.Lines.{line_number}
+use Rattle.cs_base.proofs.Texts.{line_number}
 use Rattle.cs_score.proofs.line.line_on.Goals as goal
 
 pub returns : goal.returns

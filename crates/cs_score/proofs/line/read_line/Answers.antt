@@ -2,7 +2,8 @@ use Rattle.std.proofs.Common.{◌-◌, drop, take, length, ap, ◌∙◌}
 use Rattle.std.specs.List.{prefix_len}
 use Rattle.std.specs.Option.{option_to_list}
 use Rattle.std.proofs.lemmas.List.{take_rest}
-use Rattle.cs_score.specs.Rows.{is_blank, next_len, row_at}
+use Rattle.cs_base.specs.Lines.{is_blank}
+use Rattle.cs_score.specs.Rows.{next_len, row_at}
 use Rattle.cs_score.proofs.Lines.{line_len, row_read}
 use Rattle.cs_score.proofs.line.read_line.Goals as goal
 

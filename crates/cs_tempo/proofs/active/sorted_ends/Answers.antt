@@ -1,6 +1,6 @@
 use Rattle.std.proofs.Common.{◌++◌, ◌∙◌, refl, ap, ℕ}
 use Rattle.std.proofs.lemmas.List.Sorted.{IsNonDecreasingBy-from_sort}
-use Rattle.cs_tempo.specs.Sweep.{ends_of, own_end}
+use Rattle.cs_tempo.specs.inner.Sweep.{ends_of, own_end}
 use Rattle.cs_tempo.proofs.Sweeps.{ends_more}
 use Rattle.cs_tempo.proofs.active.sorted_ends.Goals as goal
 

@@ -1,5 +1,5 @@
 use Rattle.std.proofs.Common.{◌≤◌, ◌<◌, ◌-◌, length}
-use Rattle.cs_tempo.specs.Clock.{point_at}
+use Rattle.cs_tempo.specs.inner.Clock.{point_at}
 use Rattle.cs_tempo.proofs.clock.ramp_of.Given as goal
 
 abbrev pub invariant-loop-high : goal.invariant-loop-high

@@ -1,5 +1,5 @@
 use Rattle.std.proofs.Common.{◌∙◌, map, ap, sym, subst}
-use Rattle.cs_tempo.specs.Events.{IsTurnIn}
+use Rattle.cs_tempo.specs.inner.Events.{IsTurnIn}
 use Rattle.cs_tempo.proofs.Sorting.{Each}
 use Rattle.cs_tempo.proofs.Walks.{order_each, all_map}
 use Rattle.cs_tempo.proofs.events.add_section.Goals as goal

@@ -1,6 +1,6 @@
 use Rattle.std.proofs.Common.{◌≡◌}
 use Rattle.cs_score.specs.declared.statement.ScoreWhat.TheVariants.{Section}
-use Rattle.cs_tempo.specs.Turns.{turns_from, turn_order, sorted}
+use Rattle.cs_tempo.specs.inner.Turns.{turns_from, turn_order, sorted}
 use Rattle.cs_tempo.proofs.Sorting.{is_sorted}
 use Rattle.cs_tempo.proofs.Orders.{turn_total, turn_same, turns_within}
 use Rattle.cs_tempo.proofs.order.sorted_turns.Goals as goal

@@ -3,7 +3,7 @@ use Rattle.std.proofs.lemmas.List.{take_rest, nil_from_length}
 use Rattle.std.proofs.lemmas.Bool.Decides.{nat_tests}
 use Rattle.cs_score.specs.declared.statement.TempoPoint.{TempoPoint}
 use Rattle.cs_tempo.specs.Time.{time_of, IsTempo}
-use Rattle.cs_tempo.specs.Clock.{Pace}
+use Rattle.cs_tempo.specs.inner.Clock.{Pace}
 use Rattle.cs_tempo.proofs.Times.{sixty_time, time_small, tempo_rises}
 use Rattle.cs_tempo.proofs.Clocks.{rises_drop, reading}
 use Rattle.cs_tempo.proofs.clock.Clock.time.Goals as goal

@@ -1,0 +1,67 @@
+-- The limits on table numbers and on statements, and the first of them that a score passes.
+use Rattle.std.specs.Prelude.{◌≡◌, ℕ, ◌+◌, ◌==◌, Bool, true, false, nat_lt, count_by, List, [], ◌∷◌, ◌++◌, Option, Some, None, Result, Ok, Err, if◌then◌else◌}
+use Rattle.std.specs.List.{list_any}
+use Rattle.std.specs.Option.{option_or}
+use Rattle.cs_base.specs.Limits.{most_events, most_tables}
+use Rattle.cs_base.specs.declared.fault.ScoreFault.{ScoreFault}
+use Rattle.cs_base.specs.declared.limit.Limit.{Limit}
+use Rattle.cs_base.specs.declared.limit.Limit.TheVariants as limit
+use Rattle.cs_base.specs.declared.limit.LimitHit.{LimitHit}
+use Rattle.cs_score.specs.declared.statement.ScoreWhat.{ScoreWhat}
+use Rattle.cs_score.specs.declared.statement.ScoreWhat.TheVariants.{Table, Tempo, Section}
+use Rattle.cs_score.specs.declared.statement.ScoreStmt.{ScoreStmt}
+
+-- the first item of a list at which a test on all items up to it, the earlier ones first, passes
+unfoldable pub first_at : {A : Type 0} → (List A → A → Bool) → List A → List A → Option A
+first_at passes before [] = None
+first_at passes before (x ∷ later) =
+    if passes (before ++ x ∷ []) x then Some x else first_at passes (before ++ x ∷ []) later
+
+-- the number of a table statement
+abbrev pub own_number : ScoreWhat → List ℕ
+own_number (Table number at size gen args) = number ∷ []
+own_number _ = []
+
+-- the table numbers of some statements
+unfoldable pub numbers_of : List ScoreStmt → List ℕ
+numbers_of [] = []
+numbers_of (s ∷ later) = own_number s.what ++ numbers_of later
+
+-- how many different numbers a list has: each counts where it stands last
+unfoldable pub different : List ℕ → ℕ
+different [] = 0
+different (n ∷ later) =
+    if list_any (λ m. m == n) later then different later else different later + 1
+
+-- `i` and `f` statements: notes, stops, tables and `f 0`
+abbrev pub is_counted : ScoreWhat → Bool
+is_counted (Tempo points) = false
+is_counted Section = false
+is_counted _ = true
+
+abbrev pub counts : ScoreStmt → Bool
+counts s = is_counted s.what
+
+-- more different table numbers than may be, in the statements up to one
+abbrev pub passes_tables : List ScoreStmt → ScoreStmt → Bool
+passes_tables upto s = nat_lt most_tables (different (numbers_of upto))
+
+-- more `i` and `f` statements than may be
+abbrev pub passes_events : List ScoreStmt → ScoreStmt → Bool
+passes_events upto s = nat_lt most_events (count_by counts upto)
+
+-- the refusal of a limit at the line of a statement
+abbrev pub at_statement : Limit → Option ScoreStmt → Option LimitHit
+at_statement which None = None
+at_statement which (Some s) = Some (record { limit = which; line = s.line })
+
+-- the first limit that statements pass: that on table numbers, else that on statements
+abbrev pub limit_of_score : List ScoreStmt → Option LimitHit
+limit_of_score score =
+    option_or (at_statement limit.Tables (first_at passes_tables [] score))
+    (at_statement limit.Events (first_at passes_events [] score))
+
+-- a text without a fault, whose statements pass this limit first
+abbrev pub Passes : LimitHit → Result (List ScoreStmt) ScoreFault → Type 0
+Passes hit (Ok statements) = limit_of_score statements ≡ Some hit
+Passes hit (Err fault) = ⊥

@@ -1,0 +1,6 @@
+-- What private clauses alone cite.
+pub mod Counts
+pub mod Past
+pub mod Refusals
+pub mod State
+pub mod Values

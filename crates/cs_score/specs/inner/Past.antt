@@ -1,0 +1,87 @@
+-- What the code keeps of all rows that it has read, and how one row more changes that.
+use Rattle.std.specs.Prelude.{◌≡◌, ℕ, ℤ, Bool, false, List, [], ◌∷◌, ◌++◌, Option, Some, None, Result, Ok, Err, nat_eq, true, if◌then◌else◌}
+use Rattle.std.specs.HashMap.{get}
+use Rattle.std.specs.Option.{option_or, option_to_list}
+use Rattle.cs_base.specs.declared.fault.ScoreFault.{ScoreFault}
+use Rattle.cs_base.specs.declared.fault.ScoreKind.{ScoreKind}
+use Rattle.cs_base.specs.declared.fault.ScoreKind.TheVariants.{NothingToCarry, NotInProfile, BadStatement}
+use Rattle.cs_score.specs.declared.field.Field.{Field}
+use Rattle.cs_score.specs.declared.kept.Kept.{Kept}
+use Rattle.cs_score.specs.declared.last.LastNote.{LastNote}
+use Rattle.cs_score.specs.declared.past.Past.{Past}
+use Rattle.cs_score.specs.declared.refusal.Refusal.{Refusal}
+use Rattle.cs_score.specs.declared.refusal.Refusal.TheVariants as refusal
+use Rattle.cs_score.specs.declared.row.Letter.{Letter}
+use Rattle.cs_score.specs.declared.row.Letter.TheVariants as letter
+use Rattle.cs_score.specs.declared.row.Row.{Row}
+use Rattle.cs_score.specs.declared.statement.ScoreWhat.{ScoreWhat}
+use Rattle.cs_score.specs.declared.statement.ScoreWhat.TheVariants.{Section}
+use Rattle.cs_score.specs.declared.statement.ScoreStmt.{ScoreStmt}
+use Rattle.cs_score.specs.Carry.{and_then, fields, is_note, p1}
+use Rattle.cs_score.specs.Notes.{gap, p2, ok_or_zero}
+use Rattle.cs_score.specs.Ranges.{HasRange}
+use Rattle.cs_score.specs.Statements.{at_line, base_after, base_by, base_of, ended, first_size, is_end, one, refusal_of, size_in, tempo_of, unless, written_table}
+use Rattle.cs_score.specs.inner.Counts.{Holds}
+use Rattle.cs_score.specs.inner.State.{IsKept, note_read, p1_before}
+
+-- a list of at most one thing, answered as one thing or none
+abbrev pub AskedAnswers : Result (Option ScoreWhat) Refusal → Result (List ScoreWhat) ScoreKind → Type 0
+AskedAnswers (Ok what) meant = meant ≡ Ok (option_to_list what)
+AskedAnswers (Err (refusal.Fault kind)) meant = meant ≡ Err kind
+AskedAnswers (Err refusal.OutOfMemory) meant = Unit {0}
+
+abbrev pub HasRangeOrNothing : Option ScoreWhat → Type 0
+HasRangeOrNothing None = Unit {0}
+HasRangeOrNothing (Some what) = HasRange what
+
+-- an `f`, where numbers have these first sizes
+abbrev pub table_read : (ℕ → Option ℤ) → List Field → Result ScoreWhat ScoreKind
+table_read sizes fs = and_then (written_table fs) (λ what. unless (refusal_of sizes what) what)
+
+-- what a row asks for, by what the code keeps
+abbrev pub asked_after : Past → Row → Letter → Result (List ScoreWhat) ScoreKind
+asked_after past row letter.Note = one (note_read past.base past.last row.fields)
+asked_after past row letter.Table = one (table_read (get nat_eq past.sizes) row.fields)
+asked_after past row letter.Tempo = one (tempo_of row.fields)
+asked_after past row letter.Base = and_then (base_by row.fields) (λ _. Ok [])
+asked_after past row letter.Section = Ok (Section ∷ [])
+asked_after past row letter.End = ended row.fields
+asked_after past row letter.Other = Err NotInProfile
+asked_after past row letter.Stray = Err BadStatement
+
+-- only an `i` statement is kept for the next one
+abbrev pub LastFollows : LastNote → Row → LastNote → Letter → Type 0
+LastFollows last row next letter.Note = IsKept last row.fields next
+LastFollows last row next _ = next.instr ≡ None
+
+-- what the code keeps after one row more
+pub record Follows (past : Past) (row : Row) (next : Past) : Type 0 where
+  pub base : next.base ≡ base_after row.fields past.base row.letter
+  pub sizes : (n : ℕ) → get nat_eq next.sizes n ≡ option_or (get nat_eq past.sizes n) (size_in n row)
+  pub last : LastFollows past.last row next.last row.letter
+
+-- what the code keeps of rows that stand newest first
+pub record Keeps (above : List Row) (past : Past) : Type 0 where
+  pub base : past.base ≡ base_of above
+  pub sizes : (n : ℕ) → get nat_eq past.sizes n ≡ first_size above n
+  pub instr : p1_before past.last.instr ≡ (if is_note above then p1 above else Err NothingToCarry)
+  pub p2 : is_note above ≡ true → past.last.p2 ≡ ok_or_zero (p2 above)
+  pub gap : is_note above ≡ true → past.last.gap ≡ gap above
+  pub fields : is_note above ≡ true → past.last.fields ≡ fields above
+
+-- one row more was read: what it asks for stands at the end, with its line
+pub record RowRead (past : Past) (before : Kept) (row : Row) (next : Past) (after : Kept) : Type 0 where
+  pub these : List ScoreWhat
+  pub asked : asked_after past row row.letter ≡ Ok these
+  pub grown : (all : List ScoreStmt) → Holds all before → Holds (all ++ at_line row.line these) after
+  pub follows : Follows past row next
+
+-- a line was read: its statement, if it has one; the flag says that it was an `e`
+abbrev pub LineTaken : Past → Kept → Option Row → Bool → Past → Kept → Type 0
+LineTaken past before None ends next after = (next ≡ past) × (after ≡ before) × (ends ≡ false)
+LineTaken past before (Some row) ends next after = RowRead past before row next after × (ends ≡ is_end row.letter)
+
+-- the fault of a line
+abbrev pub IsFaultOf : Past → Option Row → ScoreFault → Type 0
+IsFaultOf past None f = ⊥
+IsFaultOf past (Some row) f = (f.line ≡ row.line) × (asked_after past row row.letter ≡ Err f.kind)

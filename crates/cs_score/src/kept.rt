@@ -1,0 +1,181 @@
+// The statements of a score that are kept: all of them, until they pass a limit. What comes later is counted no more.
+ghost use Rattle.std.specs.Prelude.{◌≡◌, ◌≢◌, ◌++◌, ◌∷◌, [], ℕ, List, nat_lt, cond, All, IfOk, OnOk, Option, Some, None, Err, if◌then◌else◌};
+ghost use Rattle.std.specs.Option.{is_none, option_or};
+ghost use Rattle.cs_base.specs.declared.fault.ScoreFault.{ScoreFault};
+ghost use Rattle.cs_base.specs.declared.limit.LimitHit.{LimitHit};
+ghost use Rattle.cs_score.specs.declared.refusal.ScoreRefusal.TheVariants as refusal;
+ghost use Rattle.cs_score.specs.declared.statement.ScoreStmt.{ScoreStmt};
+ghost use Rattle.cs_score.specs.Limits.{is_counted, limit_of_score, own_number};
+ghost use Rattle.cs_score.specs.Ranges.{IsInRange};
+ghost use Rattle.cs_score.specs.inner.Counts.{HasCount, HasNumbers, IsSeen, Holds};
+
+use crate::{ScoreRefusal, ScoreStmt, ScoreStmts, ScoreWhat};
+use cs_base::{Limit, LimitHit, MOST_EVENTS, MOST_TABLES};
+use std::alloc::{AllocError, Global};
+
+/// The different table numbers so far, and the refusal of the table that gives one too many.
+#[derive(Drop)]
+pub struct TableNumbers {
+    pub seen: Vec<u32>,
+    pub hit: Option<LimitHit>,
+}
+
+/// How many `i` and `f` statements there are so far, and the refusal of the one that is too many.
+#[derive(Drop)]
+pub struct EventCount {
+    pub count: usize,
+    pub hit: Option<LimitHit>,
+}
+
+/// What is kept of the statements so far: all of them, until they pass a limit.
+#[derive(Drop)]
+pub struct Kept {
+    pub statements: ScoreStmts,
+    pub tables: TableNumbers,
+    pub events: EventCount,
+}
+
+impl TableNumbers {
+    fn new(alloc: Global) -> TableNumbers
+        ensures { HasNumbers [] result }
+    {
+        TableNumbers {
+            seen: Vec::new(alloc),
+            hit: None,
+        }
+    }
+
+    fn see(&mut self, statement: &ScoreStmt) -> Result<(), AllocError>
+        ensures { (all : List ScoreStmt) → HasNumbers all self.old
+            → OnOk result (HasNumbers (all ++ statement.now ∷ []) self.new) }
+    {
+        if self.hit.is_none() {
+            see_table(&mut self.seen, &statement.what)?;
+            self.hit = hit(self.seen.len(), MOST_TABLES, Limit::Tables, statement.line);
+        }
+        Ok(())
+    }
+}
+
+// Takes in the number of a table statement.
+fn see_table(seen: &mut Vec<u32>, what: &ScoreWhat) -> Result<(), AllocError>
+    ensures { (numbers : List ℕ) → IsSeen seen.old.items numbers
+        → OnOk result (IsSeen seen.new.items (numbers ++ own_number what.now)) }
+{
+    match what {
+        ScoreWhat::Table { number, .. } => see_number(seen, *number),
+        ScoreWhat::Note { .. } => Ok(()),
+        ScoreWhat::Hold { .. } => Ok(()),
+        ScoreWhat::Stop { .. } => Ok(()),
+        ScoreWhat::Extend { .. } => Ok(()),
+        ScoreWhat::Tempo { .. } => Ok(()),
+        ScoreWhat::Section => Ok(()),
+    }
+}
+
+fn see_number(seen: &mut Vec<u32>, number: u32) -> Result<(), AllocError>
+    ensures { (numbers : List ℕ) → IsSeen seen.old.items numbers
+        → OnOk result (IsSeen seen.new.items (numbers ++ number ∷ [])) }
+{
+    if seen.contains(&number) {
+        return Ok(());
+    }
+    seen.push(number)?;
+    Ok(())
+}
+
+// The refusal of a statement with which more is counted than may be.
+fn hit(count: usize, most: usize, limit: Limit, line: u32) -> Option<LimitHit>
+    ensures { result ≡ (if nat_lt most count then Some (record { limit = limit; line = line }) else None) }
+{
+    if count > most {
+        Some(LimitHit { limit, line })
+    } else {
+        None
+    }
+}
+
+impl EventCount {
+    fn new() -> EventCount
+        ensures { HasCount [] result }
+    {
+        EventCount {
+            count: 0,
+            hit: None,
+        }
+    }
+
+    fn see(&mut self, statement: &ScoreStmt)
+        ensures { (all : List ScoreStmt) → HasCount all self.old
+            → HasCount (all ++ statement.now ∷ []) self.new }
+    {
+        if self.hit.is_none() {
+            self.count = self.count.saturating_add(counted(&statement.what));
+            self.hit = hit(self.count, MOST_EVENTS, Limit::Events, statement.line);
+        }
+    }
+}
+
+fn counted(what: &ScoreWhat) -> usize
+    ensures { result ≡ cond (is_counted what.now) 1 0 }
+{
+    match what {
+        ScoreWhat::Note { .. } => 1,
+        ScoreWhat::Hold { .. } => 1,
+        ScoreWhat::Stop { .. } => 1,
+        ScoreWhat::Table { .. } => 1,
+        ScoreWhat::Extend { .. } => 1,
+        ScoreWhat::Tempo { .. } => 0,
+        ScoreWhat::Section => 0,
+    }
+}
+
+impl Kept {
+    pub fn new(alloc: Global) -> Kept
+        ensures keeps { Holds [] result }
+        ensures none { result.statements ≡ [] }
+    {
+        Kept {
+            statements: ScoreStmts::new(alloc),
+            tables: TableNumbers::new(alloc),
+            events: EventCount::new(),
+        }
+    }
+
+    /// Takes in a statement, which is kept where no limit was passed.
+    pub fn take(&mut self, statement: ScoreStmt) -> Result<(), AllocError>
+        ensures keeps { (all : List ScoreStmt) → Holds all self.old
+            → OnOk result (Holds (all ++ statement ∷ []) self.new) }
+        ensures ranges { OnOk result (All IsInRange self.old.statements → IsInRange statement
+            → All IsInRange self.new.statements) }
+    {
+        self.tables.see(&statement)?;
+        self.events.see(&statement);
+        if self.hit().is_none() {
+            self.statements.push(statement)?;
+        }
+        Ok(())
+    }
+
+    // The first limit that was passed.
+    fn hit(&self) -> Option<LimitHit>
+        ensures { result ≡ option_or self.now.tables.hit self.now.events.hit }
+    {
+        self.tables.hit.or(self.events.hit)
+    }
+
+    /// The statements, or the first limit that they pass.
+    pub fn answer(self) -> Result<ScoreStmts, ScoreRefusal>
+        ensures statements { (all : List ScoreStmt) → Holds all self
+            → IfOk result (λ statements. (statements ≡ all) × (limit_of_score all ≡ None)) }
+        ensures kept { IfOk result (λ statements. statements ≡ self.statements) }
+        ensures limit { (all : List ScoreStmt) (hit : LimitHit) → Holds all self
+            → result ≡ Err (refusal.Limit hit) → limit_of_score all ≡ Some hit }
+        ensures fault { (f : ScoreFault) → result ≢ Err (refusal.Fault f) }
+    {
+        match self.hit() {
+            Some(hit) => Err(ScoreRefusal::Limit(hit)),
+            None => Ok(self.statements),
+        }
+    }
+}

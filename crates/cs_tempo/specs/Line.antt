@@ -1,8 +1,0 @@
--- What contracts see of an instrument's pairing.
-use Rattle.std.specs.Prelude.{ℕ, List}
-
--- an instrument at a place in the order: the beats of its stops to come, and how many of its held
--- notes sound
-pub record Line : Type 0 where
-  pub stops : List ℕ
-  pub sounding : ℕ

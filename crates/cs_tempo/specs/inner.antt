@@ -1,0 +1,7 @@
+-- What private clauses alone cite.
+pub mod Clock
+pub mod Events
+pub mod Queue
+pub mod Stops
+pub mod Sweep
+pub mod Turns

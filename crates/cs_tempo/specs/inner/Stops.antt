@@ -1,0 +1,29 @@
+-- Each instrument of a section by its stops to come.
+use Rattle.std.specs.Prelude.{◌≡◌, ℕ, nat_eq, List, [], Option, Some, None, slice_get}
+use Rattle.std.specs.declared.hash.FoldHasher.{FoldHasher}
+use Rattle.std.specs.declared.hash.BuildHasherDefault.{BuildHasherDefault}
+use Rattle.std.specs.HashMap.{get, HashMap}
+use Rattle.cs_score.specs.declared.statement.ScoreWhat.{ScoreWhat}
+use Rattle.cs_score.specs.declared.statement.ScoreWhat.TheVariants.{Hold}
+use Rattle.cs_score.specs.declared.statement.ScoreStmt.{ScoreStmt}
+use Rattle.cs_tempo.specs.inner.Queue.{Queue}
+use Rattle.cs_tempo.specs.Pairing.{sounding, stops_of}
+
+abbrev pub Queues : Type 0
+Queues = HashMap ℕ Queue (BuildHasherDefault FoldHasher)
+
+-- an instrument without stops to come needs no queue
+abbrev pub Shows : Option Queue → List ℕ → ℕ → Type 0
+Shows None stops sounding = stops ≡ []
+Shows (Some queue) stops sounding = (queue.stops ≡ stops) × (queue.sounding ≡ sounding)
+
+-- the queues stand for each instrument after some turns, latest first, and before others
+abbrev pub AreQueues : Queues → List ScoreStmt → List ScoreStmt → Type 0
+AreQueues queues earlier later =
+    (n : ℕ) → Shows (get nat_eq queues n) (stops_of n later) (sounding n earlier)
+
+-- the beat of the stop that ends a turn, by each instrument's stops to come and sounding notes; a held
+-- note alone has one
+abbrev pub ending : ScoreWhat → (ℕ → List ℕ) → (ℕ → ℕ) → Option ℕ
+ending (Hold instr at given more) stops sounding = slice_get (stops instr) (sounding instr)
+ending _ stops sounding = None

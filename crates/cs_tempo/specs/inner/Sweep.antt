@@ -1,0 +1,22 @@
+-- The way through the events by which active notes are counted.
+use Rattle.std.specs.Prelude.{ℕ, ◌+◌, ◌<◌, ◌≤◌, ◌==◌, Bool, not, List, [], ◌∷◌, ◌++◌, length, slice_index, if◌then◌else◌}
+use Rattle.cs_tempo.specs.declared.plot.Event.{Event}
+use Rattle.cs_tempo.specs.Limits.{cycles_in}
+
+-- whether an event starts a note that lasts
+abbrev pub is_note : Event → Bool
+is_note e = not (cycles_in e.act == 0)
+
+-- the cycle in which such a note ends
+abbrev pub own_end : Event → List ℕ
+own_end e = if is_note e then (e.cycle + cycles_in e.act) ∷ [] else []
+
+unfoldable pub ends_of : List Event → List ℕ
+ends_of [] = []
+ends_of (e ∷ later) = own_end e ++ ends_of later
+
+-- of ends in order, the first j are those at or before a cycle
+pub record HaveEnded (ends : List ℕ) (cycle j : ℕ) : Type 0 where
+  pub within : j ≤ length ends
+  pub below : (i : ℕ) → i < j → slice_index ends i ≤ cycle
+  pub above : j < length ends → cycle < slice_index ends j

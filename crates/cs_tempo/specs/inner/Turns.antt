@@ -1,0 +1,35 @@
+-- The keys by which a section's turns are sorted.
+use Rattle.std.specs.Prelude.{ℕ, ◌+◌, List, [], ◌∷◌, ◌++◌, if◌then◌else◌}
+use Rattle.std.specs.Ordering.{nat_cmp, int_cmp, ordering_then, is_lt}
+use Rattle.std.specs.declared.cmp.Ordering.{Ordering}
+use Rattle.cs_score.specs.declared.statement.ScoreWhat.{ScoreWhat}
+use Rattle.cs_score.specs.declared.statement.ScoreStmt.{ScoreStmt}
+use Rattle.cs_tempo.specs.declared.order.Turn.{Turn}
+use Rattle.cs_tempo.specs.Order.{has_turn, beat_of, p1_of, p3_of}
+
+-- the turn of the statement at an index of its section
+abbrev pub turn_of : ℕ → ScoreWhat → Turn
+turn_of index what = record { at = beat_of what; p1 = p1_of what; p3 = p3_of what; index = index }
+
+abbrev pub own_turn : ℕ → ScoreWhat → List Turn
+own_turn index what = if has_turn what then turn_of index what ∷ [] else []
+
+-- the turns of statements that stand from an index on
+unfoldable pub turns_from : ℕ → List ScoreStmt → List Turn
+turns_from index [] = []
+turns_from index (s ∷ later) = own_turn index s.what ++ turns_from (index + 1) later
+
+-- by beat, p1, p3 and index
+abbrev pub turn_order : Turn → Turn → Ordering
+turn_order t u =
+    ordering_then (nat_cmp t.at u.at) (ordering_then (int_cmp t.p1 u.p1)
+    (ordering_then (int_cmp t.p3 u.p3) (nat_cmp t.index u.index)))
+
+-- a list in order: each item put before the first that is not before it
+abbrev pub inserted : {X : Type 0} (R : X → X → Ordering) → X → List X → List X
+inserted R x [] = x ∷ []
+inserted R x (y ∷ ys) = if is_lt (R y x) then y ∷ inserted R x ys else x ∷ y ∷ ys
+
+abbrev pub sorted : {X : Type 0} (R : X → X → Ordering) → List X → List X
+sorted R [] = []
+sorted R (x ∷ xs) = inserted R x (sorted R xs)
