@@ -4,7 +4,8 @@ use Rattle.std.proofs.lemmas.Fmt.{decimal_digit, decimal_step, decimal_nonempty,
 use Rattle.std.proofs.lemmas.List.{drop-set, take_more, take_all}
 use Rattle.std.proofs.lemmas.Grind.{flat_map-append}
 use Rattle.std.proofs.lemmas.Int.{ints}
-use Rattle.cs_edge.specs.Taps.{Shows, peak_of, mirror_value}
+use Rattle.cs_edge.specs.Taps.{peak_of, mirror_value}
+use Rattle.cs_edge.specs.inner.Page.{Shows}
 
 -- DIGITS, written from the back of a block of 20
 

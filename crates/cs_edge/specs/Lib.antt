@@ -1,8 +1,9 @@
 pub mod Files
-pub mod Mirror
 pub mod MemShelf
 pub mod MemSink
 pub mod Memory
+pub mod Mirror
 pub mod Moves
-pub mod Told
 pub mod Taps
+pub mod Told
+pub mod inner

@@ -14,8 +14,8 @@ abbrev pub sink_script : MemSink → Script
 sink_script s = s.script
 
 -- the most bytes that it takes in one write
-abbrev pub most_of : MemSink → ℕ
-most_of s = s.portion.most
+abbrev pub write_room : MemSink → ℕ
+write_room s = s.portion.most
 
 -- the bytes that it kept
 abbrev pub sink_bytes : MemSink → List ℕ

@@ -1,5 +1,6 @@
 use Rattle.std.specs.Prelude.{ℕ, ◌≡◌, ◌-◌, ◌*◌, ◌/◌, ◌%◌, ◌^◌, ◌<◌, ◌≤◌, max, min, nat_le, ℤ, nat_abs, List, [], ◌∷◌, ◌++◌, length, take, replicate, flat_map, codes, decimal, if◌then◌else◌, Option, MatchOption}
 use Rattle.std.specs.Fmt.{signed_decimal}
+use Rattle.std.specs.Str.{byte}
 
 -- the greatest absolute value of a list, 0 for none
 abbrev pub peak_of : List ℤ → ℕ
@@ -8,7 +9,7 @@ peak_of (z ∷ zs) = max (nat_abs z) (peak_of zs)
 
 -- a number below 100,000 in five digits, with leading zeros
 abbrev pub five_digits : ℕ → List ℕ
-five_digits n = replicate (5 - length (decimal n)) 48 ++ decimal n
+five_digits n = replicate (5 - length (decimal n)) (byte "0") ++ decimal n
 
 -- the line of a peak: the whole number, a point, and five digits of what is left in 65,536ths
 unfoldable pub peak_line : ℕ → List ℕ
@@ -38,8 +39,3 @@ mirror_text kept count room =
     if nat_le (length (mirror_line kept count)) room
     then mirror_line kept count
     else fitting room (mirror_line [] count)
-
--- The text stands in the buffer's first bytes, as many as are used; where none is said, it has outgrown the buffer.
-abbrev pub Shows : Option ℕ → List ℕ → List ℕ → Type 0
-Shows used out text =
-    MatchOption used (length out < length text) (λ n. (n ≡ length text) × (n ≤ length out) × (take n out ≡ text))

@@ -3,7 +3,7 @@ ghost use Rattle.std.specs.Prelude.{◌≡◌, decimal};
 use std::marker::Model;
 
 /// A number in decimal digits.
-#[derive(Debug, Drop)]
+#[derive(Drop)]
 pub struct Digits {
     block: [u8; 20],
     from: usize,

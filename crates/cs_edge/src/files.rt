@@ -1,7 +1,7 @@
 use cs_base::{Bytes, Items, Text};
 
 /// A file in memory: its name and its bytes.
-#[derive(Debug, Drop)]
+#[derive(Drop)]
 pub struct NamedBytes {
     pub name: Text,
     pub bytes: Bytes,

@@ -5,7 +5,7 @@ pub trait Gate {
 }
 
 /// A gate that stands open: it does nothing.
-#[derive(Clone, Copy, Debug, PartialEq, Eq)]
+#[derive(Clone, Copy)]
 pub struct OpenGate {}
 
 impl OpenGate {

@@ -10,7 +10,7 @@ use cs_base::{Items, Text};
 use std::alloc::{AllocError, Global};
 
 /// The moves so far, and whether they are all there.
-#[derive(Debug, Drop)]
+#[derive(Drop)]
 pub struct Kept {
     pub alloc: Global,
     pub moves: Items<Move>,

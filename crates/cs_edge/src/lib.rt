@@ -10,11 +10,13 @@
 //! In reading order: `moves` (the calls made on an object), `files`, `shelf`, `sink`, `writing` (all of a piece),
 //! `gate`, `tap`; then the objects in memory, `script` (which calls are to fail), `kept`, `lookup`, `mem_shelf`,
 //! `sure_shelf`, `taken`, `portion`, `mem_sink`, `sure_sink`, `sure` (the law of those that never fail); the meters,
-//! `digits`, `page` (a line in a buffer), `peak`, `mirror`; last `adapters`, the trusted edge.
+//! `digits`, `page` (a line in a buffer), `peak`, `mirror`, `examples` (their lines, computed); last `adapters`, the
+//! trusted edge.
 #![tactic(auto)]
 
 mod adapters;
 mod digits;
+mod examples;
 mod files;
 mod gate;
 mod kept;
@@ -37,6 +39,7 @@ mod tap;
 mod writing;
 
 pub use adapters::{FileShelf, FileSink, TalkOut};
+pub use examples::worked_examples;
 pub use files::{Calls, Files, NamedBytes};
 pub use gate::{Gate, OpenGate};
 pub use mem_shelf::MemShelf;
@@ -51,6 +54,3 @@ pub use sure_shelf::SureShelf;
 pub use sure_sink::SureSink;
 pub use tap::Tap;
 pub use writing::write_all;
-
-#[cfg(test)]
-mod tests;

@@ -14,7 +14,7 @@ use crate::{Calls, Failed, Files, Move, Shelf};
 use std::alloc::Global;
 
 /// Files in memory. It tells them, what is left of the file begun and, while memory suffices, the calls made on it.
-#[derive(Debug, Drop)]
+#[derive(Drop)]
 pub struct MemShelf {
     files: Files,
     begun: Option<usize>,

@@ -4,7 +4,7 @@ ghost use Rattle.cs_edge.specs.declared.moves.Move.TheVariants.{Begin, Write, En
 ghost use Rattle.cs_edge.specs.Told.{Follows, HasCause};
 ghost use Rattle.cs_edge.specs.Moves.{SinkTold, GrownBy, TakenMore};
 ghost use Rattle.cs_edge.specs.Memory.{FailsAsListed};
-ghost use Rattle.cs_edge.specs.MemSink.{sink_told, sink_script, sink_bytes, sink_moves, most_of};
+ghost use Rattle.cs_edge.specs.MemSink.{sink_told, sink_script, sink_bytes, sink_moves, write_room};
 
 use crate::kept::Kept;
 use crate::portion::Portion;
@@ -14,7 +14,7 @@ use crate::{Calls, Failed, Move, Sink};
 use std::alloc::Global;
 
 /// Bytes in memory. While memory suffices it tells the name begun with the bytes taken, and the calls made on it.
-#[derive(Debug, Drop)]
+#[derive(Drop)]
 pub struct MemSink {
     taken: Taken,
     portion: Portion,
@@ -30,7 +30,7 @@ impl MemSink {
         ensures told { sink_told result
             ≡ record { held = Some (record { name = None; bytes = [] }); moves = Some []; faults = 0 } }
         ensures script { sink_script result ≡ record { failing = failing; calls = 0; faults = 0 } }
-        ensures most { most_of result ≡ most }
+        ensures room { write_room result ≡ most }
     {
         MemSink {
             taken: Taken::new(alloc),
@@ -68,7 +68,7 @@ impl Sink for MemSink {
         ensures cause { HasCause (sink_told self.old).faults (sink_told self.new).faults result }
         ensures listed { FailsAsListed (sink_script self.old) (sink_script self.new) result }
         ensures moves { Follows (sink_told self.old).moves (sink_told self.new).moves (GrownBy (Begin name.now)) }
-        ensures most { most_of self.new ≡ most_of self.old }
+        ensures room { write_room self.new ≡ write_room self.old }
     {
         self.kept.add_begin(name);
         if self.script.call_fails() {
@@ -82,7 +82,7 @@ impl Sink for MemSink {
     fn write(&mut self, piece: &[u8]) -> Result<usize, Failed>
         requires { 0 < length piece.now }
         ensures count { IfOk result (λ n. (0 < n) × (n ≤ length piece.now)) }
-        ensures exact { IfOk result (λ n. n ≡ min (length piece.now) (most_of self.old)) }
+        ensures exact { IfOk result (λ n. n ≡ min (length piece.now) (write_room self.old)) }
         ensures taken { IfOk result (λ n. Follows (sink_told self.old).held (sink_told self.new).held
             (TakenMore (take n piece.now))) }
         ensures failed { OnErr result (Follows (sink_told self.old).held (sink_told self.new).held
@@ -90,7 +90,7 @@ impl Sink for MemSink {
         ensures cause { HasCause (sink_told self.old).faults (sink_told self.new).faults result }
         ensures listed { FailsAsListed (sink_script self.old) (sink_script self.new) result }
         ensures moves { Follows (sink_told self.old).moves (sink_told self.new).moves (GrownBy Write) }
-        ensures most { most_of self.new ≡ most_of self.old }
+        ensures room { write_room self.new ≡ write_room self.old }
     {
         self.kept.add(Move::Write);
         if self.script.call_fails() {
@@ -106,7 +106,7 @@ impl Sink for MemSink {
         ensures cause { HasCause (sink_told self.old).faults (sink_told self.new).faults result }
         ensures listed { FailsAsListed (sink_script self.old) (sink_script self.new) result }
         ensures moves { Follows (sink_told self.old).moves (sink_told self.new).moves (GrownBy End) }
-        ensures most { most_of self.new ≡ most_of self.old }
+        ensures room { write_room self.new ≡ write_room self.old }
     {
         self.kept.add(Move::End);
         if self.script.call_fails() {

@@ -1,5 +1,6 @@
 ghost use Rattle.std.specs.Prelude.{◌≡◌, ℕ, ℤ, List, [], ◌∷◌, ◌++◌, length, IfOk};
-ghost use Rattle.cs_edge.specs.Taps.{IsMirrorOf, mirror_line, mirror_text, Shows};
+ghost use Rattle.cs_edge.specs.Taps.{IsMirrorOf, mirror_line, mirror_text};
+ghost use Rattle.cs_edge.specs.inner.Page.{Shows};
 ghost use Rattle.cs_edge.specs.Mirror.{room_of, kept_of, count_of};
 
 use crate::Tap;
@@ -8,7 +9,7 @@ use cs_base::OutOfMemory;
 use std::alloc::Global;
 
 /// A meter that keeps the first values of the mix, and counts all of them.
-#[derive(Debug, Drop)]
+#[derive(Drop)]
 pub struct MirrorTap {
     block: Vec<i64>,
     used: usize,

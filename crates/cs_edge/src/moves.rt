@@ -5,7 +5,7 @@ use cs_base::Text;
 pub struct Failed;
 
 /// A call that was made on a shelf or a sink, a failed one too.
-#[derive(Debug, Drop)]
+#[derive(Drop)]
 pub enum Move {
     /// A begin of that name.
     Begin(Text),

@@ -1,7 +1,7 @@
 // A text in a buffer, piece by piece.
 ghost use Rattle.std.specs.Prelude.{ℕ, ℤ, List, ◌++◌, ◌<◌, ◌^◌, ◌≡◌, decimal};
 ghost use Rattle.std.specs.Fmt.{signed_decimal};
-ghost use Rattle.cs_edge.specs.Taps.{Shows};
+ghost use Rattle.cs_edge.specs.inner.Page.{Shows};
 
 use crate::digits::Digits;
 

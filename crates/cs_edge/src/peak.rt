@@ -1,12 +1,13 @@
 ghost use Rattle.std.specs.Prelude.{◌≡◌, ℕ, ℤ, List, [], ◌++◌, ◌<◌, ◌≤◌, ◌-◌, length, replicate};
-ghost use Rattle.cs_edge.specs.Taps.{peak_of, peak_line, five_digits, fitting, Shows};
+ghost use Rattle.cs_edge.specs.Taps.{peak_of, peak_line, five_digits, fitting};
+ghost use Rattle.cs_edge.specs.inner.Page.{Shows};
 
 use crate::Tap;
 use crate::digits::Digits;
 use crate::page::{add_number, add_piece};
 
 /// A meter of the greatest absolute value of the mix.
-#[derive(Debug, Drop)]
+#[derive(Drop)]
 pub struct PeakTap {
     peak: u64,
 }

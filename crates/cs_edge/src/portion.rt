@@ -1,7 +1,7 @@
 ghost use Rattle.std.specs.Prelude.{◌≡◌, ◌≤◌, ◌<◌, min};
 
 /// The most bytes that a sink takes in one write, at least 1.
-#[derive(Debug, Drop)]
+#[derive(Drop)]
 pub struct Portion {
     pub most: u32,
     ghost takes_some: { 1 ≤ most },

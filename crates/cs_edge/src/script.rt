@@ -6,7 +6,7 @@ ghost use Rattle.cs_edge.specs.Memory.{next_call};
 use crate::Calls;
 
 /// The calls that are to fail, how many were made, and how many failed.
-#[derive(Debug, Drop)]
+#[derive(Drop)]
 pub struct Script {
     pub failing: Calls,
     pub calls: u64,

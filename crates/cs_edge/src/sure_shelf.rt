@@ -5,7 +5,7 @@ use crate::lookup::{bytes_of, copy_front, place_in};
 use crate::{Failed, Files, Shelf};
 
 /// Files in memory, of which no call ever fails. It tells them and what is left, and no calls.
-#[derive(Debug, Drop)]
+#[derive(Drop)]
 pub struct SureShelf {
     files: Files,
     begun: Option<usize>,

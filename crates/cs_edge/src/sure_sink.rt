@@ -3,7 +3,7 @@ ghost use Rattle.std.specs.Prelude.{None};
 use crate::{Failed, Sink};
 
 /// A sink that takes everything, keeps and tells nothing, and never fails.
-#[derive(Clone, Copy, Debug, PartialEq, Eq)]
+#[derive(Clone, Copy)]
 pub struct SureSink {}
 
 impl SureSink {

@@ -9,7 +9,7 @@ use cs_base::Text;
 use std::alloc::Global;
 
 /// The name begun and the bytes taken since, and whether they are all there.
-#[derive(Debug, Drop)]
+#[derive(Drop)]
 pub struct Taken {
     pub alloc: Global,
     pub name: Option<Text>,

@@ -7,7 +7,8 @@ use Rattle.std.proofs.Math.ListN.{drop_of_length-le}
 use Rattle.std.proofs.Math.Nat.{mul-le-mul_left}
 use Rattle.std.proofs.Math.Seq.{take-append-add, take-append_seam}
 use borrow.Rule.Slice.PartMut.{put_mid}
-use Rattle.cs_wav.specs.Wav.{IsWidth, full_scale, complement, sample_bytes, sound}
+use Rattle.cs_wav.specs.Wav.{full_scale, complement, sample_bytes, samples_of}
+use Rattle.cs_wav.specs.inner.Widths.{IsWidth}
 
 -- a write of some bytes from a place on
 pub put_mid-front : (xs bs : List ℕ) (at n : ℕ) → at + n ≤ length xs → put_mid at (length xs - at) xs (bs ++ drop n (take (length xs - at) (drop at xs))) ≡ take at xs ++ (bs ++ drop (at + n) xs)
@@ -36,18 +37,18 @@ length-sample_bytes bytes dbfs mix w =
     ⊎_elim (λ e. subst P (sym e) refl) (λ e. subst P (sym e) refl) w
 
 -- one sample more
-pub sound_more : (bytes : ℕ) (dbfs : ℤ) (mix : List ℤ) (i : ℕ) → i < length mix → sound bytes dbfs (take (i + 1) mix) ≡ sound bytes dbfs (take i mix) ++ sample_bytes bytes dbfs (get_or mix i (pos 0))
-unfolding sound
+pub sound_more : (bytes : ℕ) (dbfs : ℤ) (mix : List ℤ) (i : ℕ) → i < length mix → samples_of bytes dbfs (take (i + 1) mix) ≡ samples_of bytes dbfs (take i mix) ++ sample_bytes bytes dbfs (get_or mix i (pos 0))
+unfolding samples_of
 sound_more bytes dbfs mix i h =
-    ap (sound bytes dbfs) (take_more mix i (pos 0) h)
+    ap (samples_of bytes dbfs) (take_more mix i (pos 0) h)
     ∙ flat_map-append (sample_bytes bytes dbfs) (take i mix) (get_or mix i (pos 0) ∷ [])
-    ∙ ap (λ (l : List ℕ). sound bytes dbfs (take i mix) ++ l) (append-nil (sample_bytes bytes dbfs (get_or mix i (pos 0))))
+    ∙ ap (λ (l : List ℕ). samples_of bytes dbfs (take i mix) ++ l) (append-nil (sample_bytes bytes dbfs (get_or mix i (pos 0))))
 
 -- a sample written behind those that stand there
 pub take-written : (bytes : ℕ) (dbfs : ℤ) (mix : List ℤ) (out now : List ℕ) (i : ℕ) → IsWidth bytes → i < length mix → length out ≡ length mix * bytes
-    → take (i * bytes) out ≡ sound bytes dbfs (take i mix)
+    → take (i * bytes) out ≡ samples_of bytes dbfs (take i mix)
     → now ≡ take (i * bytes) out ++ (sample_bytes bytes dbfs (get_or mix i (pos 0)) ++ drop (i * bytes + bytes) out)
-    → take ((i + 1) * bytes) now ≡ sound bytes dbfs (take (i + 1) mix)
+    → take ((i + 1) * bytes) now ≡ samples_of bytes dbfs (take (i + 1) mix)
 take-written bytes dbfs mix out now i w h long before e =
     let new : List ℕ = sample_bytes bytes dbfs (get_or mix i (pos 0)) in
     let front : length (take (i * bytes) out) ≡ i * bytes = length-take-le (i * bytes) out (omega (arith, mul-le-mul_left {m = i} {n = length mix} bytes (omega arith))) in

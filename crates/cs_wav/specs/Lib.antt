@@ -1,1 +1,3 @@
 pub mod Wav
+pub mod Worked
+pub mod inner

@@ -1,4 +1,4 @@
-use Rattle.std.specs.Prelude.{◌≡◌, ◌≤ℤ◌, ℕ, suc, ◌+◌, ◌-◌, ◌*◌, ◌%◌, ◌^◌, ℤ, pos, negsuc, neg_ℤ, int_lt, ◌+ℤ◌, ◌-ℤ◌, ◌*ℤ◌, Bool, ◌||◌, if◌then◌else◌, ◌⊎◌, List, [], ◌∷◌, ◌++◌, length, codes, replicate}
+use Rattle.std.specs.Prelude.{◌≤ℤ◌, ℕ, suc, ◌+◌, ◌-◌, ◌*◌, ◌%◌, ◌^◌, ℤ, pos, negsuc, neg_ℤ, int_lt, ◌+ℤ◌, ◌-ℤ◌, ◌*ℤ◌, Bool, ◌||◌, if◌then◌else◌, List, [], ◌∷◌, ◌++◌, length, codes, replicate}
 use Rattle.std.specs.Int.{int_max, int_min, int_div_euclid, bytes_low_first}
 use Rattle.std.specs.List.{flat_map}
 use Rattle.cs_base.specs.declared.head.Head.{Head}
@@ -7,11 +7,14 @@ use Rattle.cs_base.specs.declared.head.Head.{Head}
 abbrev pub bytes_of : Bool → ℕ
 bytes_of wide = if wide then 3 else 2
 
--- a width that the format has here
-abbrev pub IsWidth : ℕ → Type 0
-IsWidth bytes = (bytes ≡ 2) ⊎ (bytes ≡ 3)
+-- full scale in samples of 16 bits, and in samples of 24 bits
+abbrev pub full_scale_16 : ℕ
+full_scale_16 = 32768
 
--- full scale in samples of so many bytes: 32,768 in two, 8,388,608 in three
+abbrev pub full_scale_24 : ℕ
+full_scale_24 = 8388608
+
+-- full scale in samples of so many bytes: half of what they can tell apart
 abbrev pub full_scale : ℕ → ℤ
 full_scale bytes = pos (2 ^ (8 * bytes - 1))
 
@@ -44,30 +47,51 @@ abbrev pub sample_bytes : ℕ → ℤ → ℤ → List ℕ
 sample_bytes bytes dbfs mix = little_bytes bytes (complement bytes (sample bytes dbfs mix))
 
 -- the samples of these mix values, one behind the other
-unfoldable pub sound : ℕ → ℤ → List ℤ → List ℕ
-sound bytes dbfs mix = flat_map (sample_bytes bytes dbfs) mix
+unfoldable pub samples_of : ℕ → ℤ → List ℤ → List ℕ
+samples_of bytes dbfs mix = flat_map (sample_bytes bytes dbfs) mix
 
--- the header before a sound of this size, in samples of so many bytes: the size of all that follows
--- its first eight bytes, the format, and the size of the sound
-unfoldable pub header_bytes : ℕ → ℕ → Head → List ℕ
-header_bytes bytes size head =
-    codes "RIFF" ++ little_bytes 4 (36 + size + size % 2) ++ codes "WAVE"
-    ++ codes "fmt " ++ little_bytes 4 16 ++ little_bytes 2 1 ++ little_bytes 2 head.nchnls
+-- the size of the samples of so many frames
+abbrev pub size_of : ℕ → ℕ → Head → ℕ
+size_of bytes frames head = frames * head.nchnls * bytes
+
+-- the bytes of a header
+abbrev pub header_len : ℕ
+header_len = 44
+
+-- its front; the size in it is that of all that follows its first eight bytes, with the byte 0 behind samples of odd size
+abbrev pub riff_part : ℕ → List ℕ
+riff_part size = codes "RIFF" ++ little_bytes 4 (header_len - 8 + size + size % 2) ++ codes "WAVE"
+
+-- the format, in 16 bytes: plain samples (1), channels, frames a second, bytes a second, bytes a frame, bits a sample
+abbrev pub format_part : ℕ → Head → List ℕ
+format_part bytes head =
+    codes "fmt " ++ little_bytes 4 16 ++ little_bytes 2 1 ++ little_bytes 2 head.nchnls
     ++ little_bytes 4 head.sr ++ little_bytes 4 (head.sr * head.nchnls * bytes)
     ++ little_bytes 2 (head.nchnls * bytes) ++ little_bytes 2 (8 * bytes)
-    ++ codes "data" ++ little_bytes 4 size
 
--- the file of these mix values, frame by frame, the channels of a frame in order; a sound of odd
--- size is followed by one byte 0
+-- the head of the samples: their size
+abbrev pub data_part : ℕ → List ℕ
+data_part size = codes "data" ++ little_bytes 4 size
+
+-- the header before samples of this size, each of so many bytes
+unfoldable pub header_bytes : ℕ → ℕ → Head → List ℕ
+header_bytes bytes size head = riff_part size ++ format_part bytes head ++ data_part size
+
+-- the file of these mix values, frame by frame, the channels of a frame in order; samples of odd
+-- size are followed by one byte 0
 unfoldable pub wav_of : List ℤ → Head → Bool → List ℕ
 wav_of mix head wide =
     let size = length mix * bytes_of wide in
-    header_bytes (bytes_of wide) size head ++ sound (bytes_of wide) head.dbfs mix
+    header_bytes (bytes_of wide) size head ++ samples_of (bytes_of wide) head.dbfs mix
     ++ replicate (size % 2) 0
 
--- what a sum of notes may be: at most 2^56 in size
+-- the greatest sum of notes: 2^56
+abbrev pub greatest_mix : ℤ
+greatest_mix = pos 72057594037927936
+
+-- what a sum of notes may be: no greater than that in size
 abbrev pub IsMix : ℤ → Type 0
-IsMix z = (negsuc 72057594037927935 ≤ℤ z) × (z ≤ℤ pos 72057594037927936)
+IsMix z = (neg_ℤ greatest_mix ≤ℤ z) × (z ≤ℤ greatest_mix)
 
 -- two lists of one length, added value by value
 abbrev pub added : List ℤ → List ℤ → List ℤ

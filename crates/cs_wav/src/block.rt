@@ -1,7 +1,8 @@
 // A block of mix values becomes a block of samples.
 ghost use Rattle.std.specs.Prelude.{◌≡◌, ◌<◌, ◌<ℤ◌, ◌*◌, ◌^◌, pos, length};
 ghost use Rattle.std.specs.List.{count_by};
-ghost use Rattle.cs_wav.specs.Wav.{IsWidth, is_out_of_range, sound};
+ghost use Rattle.cs_wav.specs.Wav.{is_out_of_range, samples_of};
+ghost use Rattle.cs_wav.specs.inner.Widths.{IsWidth};
 
 use crate::sample::put_value;
 use cs_base::Num;
@@ -12,7 +13,7 @@ pub fn pcm_block(mix: &[i64], dbfs: Num, out: &mut [u8]) -> u32
     requires few { length mix.now < 2 ^ 32 }
     requires room { length out.old ≡ length mix.now * 2 }
     requires above_zero { pos 0 <ℤ dbfs }
-    ensures bytes { out.new ≡ sound 2 dbfs mix.now }
+    ensures bytes { out.new ≡ samples_of 2 dbfs mix.now }
     ensures out_of_range { result ≡ count_by (is_out_of_range 2 dbfs) mix.now }
 {
     samples(2, mix, dbfs, out)
@@ -24,7 +25,7 @@ pub fn pcm_block24(mix: &[i64], dbfs: Num, out: &mut [u8]) -> u32
     requires few { length mix.now < 2 ^ 32 }
     requires room { length out.old ≡ length mix.now * 3 }
     requires above_zero { pos 0 <ℤ dbfs }
-    ensures bytes { out.new ≡ sound 3 dbfs mix.now }
+    ensures bytes { out.new ≡ samples_of 3 dbfs mix.now }
     ensures out_of_range { result ≡ count_by (is_out_of_range 3 dbfs) mix.now }
 {
     samples(3, mix, dbfs, out)
@@ -35,7 +36,7 @@ fn samples(bytes: usize, mix: &[i64], dbfs: Num, out: &mut [u8]) -> u32
     requires few { length mix.now < 2 ^ 32 }
     requires room { length out.old ≡ length mix.now * bytes }
     requires above_zero { pos 0 <ℤ dbfs }
-    ensures bytes { out.new ≡ sound bytes dbfs mix.now }
+    ensures bytes { out.new ≡ samples_of bytes dbfs mix.now }
     ensures out_of_range { result ≡ count_by (is_out_of_range bytes dbfs) mix.now }
 {
     let mut brought_in = 0;

@@ -1,21 +1,21 @@
 //! The bytes of the sound file: a header, and the mix as samples of two or of three bytes.
 //!
-//! Its one contract: header, samples and, behind a sound of odd size, one byte 0 are the WAV of the
+//! Its one contract: header, samples and, behind samples of odd size, one byte 0 are the WAV of the
 //! mix, byte for byte, and a sample that had to be brought into range is counted. The layers above
 //! know the definition of the file alone, so the way to a sample may be changed without anyone noticing.
 //!
-//! Read `mix` (notes are summed), `sample` (a mix value becomes bytes), `block` (many of them) and
-//! `riff` (the header).
+//! Read `mix` (notes are summed), `sample` (a mix value becomes bytes), `block` (many of them), `riff`
+//! (the header) and `worked` (files and samples worked out by hand).
 #![tactic(auto)]
 
 mod block;
 mod mix;
 mod riff;
 mod sample;
+mod worked;
 
 pub use block::{pcm_block, pcm_block24};
 pub use mix::add_block;
 pub use riff::{header, header24};
-
-#[cfg(test)]
-mod tests;
+pub use sample::{FULL_SCALE_16, FULL_SCALE_24};
+pub use worked::{full_scales, worked_file, worked_samples};

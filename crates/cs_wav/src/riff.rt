@@ -1,31 +1,33 @@
 // The 44 bytes before the samples.
-ghost use Rattle.std.specs.Prelude.{◌≡◌, ◌≤◌, ◌*◌, ◌^◌};
-ghost use Rattle.cs_wav.specs.Wav.{IsWidth, header_bytes, little_bytes};
+ghost use Rattle.std.specs.Prelude.{◌≡◌, ◌≤◌};
+ghost use Rattle.cs_base.specs.Limits.{most_wav_bytes};
+ghost use Rattle.cs_wav.specs.Wav.{header_bytes, little_bytes, size_of};
+ghost use Rattle.cs_wav.specs.inner.Widths.{IsWidth};
 
 use byteorder::{ByteOrder, LittleEndian};
 use cs_base::Head;
 
 /// The header before so many frames in samples of 16 bits, of at most 2^31 bytes in all.
 pub fn header(frames: u32, head: &Head) -> [u8; 44]
-    requires { frames * head.now.nchnls * 2 ≤ 2 ^ 31 }
-    ensures { result ≡ header_bytes 2 (frames * head.now.nchnls * 2) head.now }
+    requires { size_of 2 frames head.now ≤ most_wav_bytes }
+    ensures { result ≡ header_bytes 2 (size_of 2 frames head.now) head.now }
 {
     header_of(2, frames, head)
 }
 
 /// The header before so many frames in samples of 24 bits, of at most 2^31 bytes in all.
 pub fn header24(frames: u32, head: &Head) -> [u8; 44]
-    requires { frames * head.now.nchnls * 3 ≤ 2 ^ 31 }
-    ensures { result ≡ header_bytes 3 (frames * head.now.nchnls * 3) head.now }
+    requires { size_of 3 frames head.now ≤ most_wav_bytes }
+    ensures { result ≡ header_bytes 3 (size_of 3 frames head.now) head.now }
 {
     header_of(3, frames, head)
 }
 
-// Behind a sound of odd size stands one byte 0, which the first size counts and the last doesn't.
+// Behind samples of odd size stands one byte 0, which the first size counts and the last doesn't.
 fn header_of(bytes: u32, frames: u32, head: &Head) -> [u8; 44]
     requires width { IsWidth bytes }
-    requires size { frames * head.now.nchnls * bytes ≤ 2 ^ 31 }
-    ensures { result ≡ header_bytes bytes (frames * head.now.nchnls * bytes) head.now }
+    requires size { size_of bytes frames head.now ≤ most_wav_bytes }
+    ensures { result ≡ header_bytes bytes (size_of bytes frames head.now) head.now }
 {
     let size = frames * head.nchnls * bytes;
     let [r0, r1, r2, r3] = four_bytes(36 + size + size % 2);

@@ -2,10 +2,16 @@
 // from it.
 ghost use Rattle.std.specs.Prelude.{◌≡◌, ◌≤◌, ◌<◌, ◌+◌, ◌≤ℤ◌, ◌<ℤ◌, ◌↔◌, ℤ, pos, neg_ℤ, int_lt, ◌*ℤ◌, ◌-ℤ◌, ◌++◌, ◌||◌, IsTrue, length, take, drop};
 ghost use Rattle.std.specs.Int.{int_max, int_min, int_div_euclid};
-ghost use Rattle.cs_wav.specs.Wav.{IsWidth, full_scale, is_out_of_range, little_bytes, complement, sample_bytes};
+ghost use Rattle.cs_wav.specs.Wav.{full_scale, full_scale_24, is_out_of_range, little_bytes, complement, sample_bytes};
+ghost use Rattle.cs_wav.specs.inner.Widths.{IsWidth};
 
 use byteorder::{ByteOrder, LittleEndian};
 use cs_base::Num;
+
+/// Full scale in samples of 16 bits.
+pub const FULL_SCALE_16: i64 = 32_768;
+/// Full scale in samples of 24 bits.
+pub const FULL_SCALE_24: i64 = 8_388_608;
 
 /// Writes a mix value as a sample into `out` from place `at` on, and answers whether it had to be
 /// brought in.
@@ -28,9 +34,13 @@ fn full_scale_of(bytes: usize) -> i64
     requires { IsWidth bytes }
     ensures value { result ≡ full_scale bytes }
     ensures some { pos 0 <ℤ result }
-    ensures few { result ≤ℤ pos 8388608 }
+    ensures few { result ≤ℤ pos full_scale_24 }
 {
-    if bytes == 2 { 32_768 } else { 8_388_608 }
+    if bytes == 2 {
+        FULL_SCALE_16
+    } else {
+        FULL_SCALE_24
+    }
 }
 
 // The value in steps of a sample, rounded down. The product may be greater than an i64.
@@ -44,7 +54,7 @@ fn level_of(full: i64, dbfs: Num, value: i64) -> i128
 // The level, or the end of the range that it lies beyond.
 fn brought_in(full: i64, level: i128) -> i64
     requires some { pos 0 <ℤ full }
-    requires few { full ≤ℤ pos 8388608 }
+    requires few { full ≤ℤ pos full_scale_24 }
     ensures value { result ≡ int_max (neg_ℤ full) (int_min level (full -ℤ pos 1)) }
     ensures least { neg_ℤ full ≤ℤ result }
     ensures greatest { result <ℤ full }
@@ -54,7 +64,7 @@ fn brought_in(full: i64, level: i128) -> i64
 
 fn is_outside(full: i64, level: i128) -> bool
     requires some { pos 0 <ℤ full }
-    requires few { full ≤ℤ pos 8388608 }
+    requires few { full ≤ℤ pos full_scale_24 }
     ensures { result ≡ (int_lt level (neg_ℤ full) || int_lt (full -ℤ pos 1) level) }
 {
     level < i128::from(-full) || i128::from(full - 1) < level

@@ -4,13 +4,13 @@ use Rattle.std.proofs.lemmas.List.{length-take-le, take_all}
 use Rattle.std.proofs.lemmas.List.Sums.{count_by-le-length, count_by_more_yes, count_by_more_no}
 use Rattle.std.proofs.Math.Nat.{mul-le-mul_left}
 use Rattle.std.specs.List.{count_by}
-use Rattle.cs_wav.specs.Wav.{is_out_of_range, sound}
+use Rattle.cs_wav.specs.Wav.{is_out_of_range, samples_of}
 use Rattle.cs_wav.proofs.Samples.{take-written}
 use Rattle.cs_wav.proofs.block.samples.Goals as goal
 use Rattle.cs_wav.proofs.block.samples.Goals.{then-put_value, else-put_value}
 
 pub loop-i-init : goal.loop-i-init
-unfolding sound
+unfolding samples_of
 loop-i-init c = record { size = c.requires.room; written = ap (λ (n : ℕ). take n c.args.out.now) (let none : 0 * c.args.bytes ≡ 0 = omega arith in none); counted = search rules }
 
 pub put_value-requires-clause-room : goal.put_value-requires-clause-room
@@ -41,7 +41,7 @@ pub returns-clause-bytes : goal.returns-clause-bytes
 returns-clause-bytes c =
     let last : c.loop-i.i ≡ length c.args.mix.now = omega arith in
     let place : length c.loop-i.out ≤ c.loop-i.i * c.args.bytes = omega (arith, c.loop-i.invariant.size, ap (λ (n : ℕ). n * c.args.bytes) last) in
-    sym (take_all (c.loop-i.i * c.args.bytes) c.loop-i.out place) ∙ c.loop-i.invariant.written ∙ ap (sound c.args.bytes c.args.dbfs) (take_all c.loop-i.i c.args.mix.now (omega arith))
+    sym (take_all (c.loop-i.i * c.args.bytes) c.loop-i.out place) ∙ c.loop-i.invariant.written ∙ ap (samples_of c.args.bytes c.args.dbfs) (take_all c.loop-i.i c.args.mix.now (omega arith))
 
 pub returns-clause-out_of_range : goal.returns-clause-out_of_range
 returns-clause-out_of_range c = c.loop-i.invariant.counted ∙ ap (count_by (is_out_of_range c.args.bytes c.args.dbfs)) (take_all c.loop-i.i c.args.mix.now (omega arith))

@@ -1,12 +1,12 @@
 use Rattle.std.proofs.Common.{◌≡◌, ℕ, ◌*◌, ℤ, List, length, take}
 use Rattle.std.specs.List.{count_by}
-use Rattle.cs_wav.specs.Wav.{is_out_of_range, sound}
+use Rattle.cs_wav.specs.Wav.{is_out_of_range, samples_of}
 use Rattle.cs_wav.proofs.block.samples.Given as goal
 
 -- the samples so far stand at the front, and those of them that were brought in are counted
 pub record IsSoFar (bytes : ℕ) (dbfs : ℤ) (mix : List ℤ) (out : List ℕ) (brought_in i : ℕ) : Type 0 where
   pub size : length out ≡ length mix * bytes
-  pub written : take (i * bytes) out ≡ sound bytes dbfs (take i mix)
+  pub written : take (i * bytes) out ≡ samples_of bytes dbfs (take i mix)
   pub counted : brought_in ≡ count_by (is_out_of_range bytes dbfs) (take i mix)
 
 abbrev pub invariant-loop-i : goal.invariant-loop-i

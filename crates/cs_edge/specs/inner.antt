@@ -1,0 +1,2 @@
+-- What private clauses cite alone.
+pub mod Page

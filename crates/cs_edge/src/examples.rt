@@ -1,0 +1,11 @@
+// The lines of the meters, computed: a call that does nothing, whose contract is the examples.
+ghost use Rattle.std.specs.Prelude.{◌≡◌, ℕ, pos, negsuc, [], ◌∷◌, codes};
+ghost use Rattle.cs_edge.specs.Taps.{peak_line, mirror_line, mirror_text};
+
+/// Lines of the meters: a peak is a whole number and five digits, a mirror the count and the values that it kept.
+pub fn worked_examples()
+    ensures hundred { peak_line 6553600 ≡ codes "peak 100.00000\n" }
+    ensures smallest { peak_line 1 ≡ codes "peak 0.00001\n" }
+    ensures mirror { mirror_line (pos 65536 ∷ negsuc 131071 ∷ []) 9 ≡ codes "mirror 9 65536 -131072\n" }
+    ensures no_room { mirror_text (pos 65536 ∷ []) 9 14 ≡ codes "mirror 9\n" }
+{}

@@ -1,0 +1,2 @@
+-- what only private clauses cite
+pub mod Widths
