@@ -1,51 +1,29 @@
 -- Resources by number: a number stands for one resource, and its index among the areas is the resource's place.
-use Rattle.std.proofs.Common.{◌≡◌, ℕ, zero, suc, ◌+◌, ◌<◌, List, [], ◌∷◌, ◌++◌, length, take, get_or, slice_get, Some, Bool, true, false, ◌&&◌, nat_eq, refl, sym, ◌∙◌, ap, subst, arith, if◌then◌else◌, eqb-true, eq-eqb, ⊎_elim}
+use Rattle.std.proofs.Common.{◌≡◌, ℕ, zero, suc, ◌+◌, ◌<◌, List, [], ◌∷◌, ◌++◌, length, take, get_or, slice_get, Some, Bool, true, false, ◌&&◌, nat_eq, refl, sym, ◌∙◌, ap, subst, arith, if◌then◌else◌, eq-eqb, ⊎_elim}
 use Rattle.std.specs.List.{list_any, position}
 use Rattle.std.proofs.lemmas.List.{map_more, length-map}
 use Rattle.std.proofs.lemmas.List.Quantifiers.{position-Some}
-use Rattle.std.proofs.lemmas.Bool.{and_parts, and_from, cond-false, or_left, or_right, or_cases, false_from_ne_true}
+use Rattle.std.proofs.lemmas.Bool.{and_from, cond-false, or_left, or_right, or_cases, false_from_ne_true}
 use Rattle.std.proofs.lemmas.Option.{slice_get-get_or}
 use Rattle.cs_base.specs.declared.resource.Res.{Res}
-use Rattle.cs_base.specs.declared.resource.Res.TheVariants.{Gi, Gk, Ga, ZakK, ZakA, Control, Sound, Table}
+use Rattle.cs_base.proofs.Rates.{same_res_is}
 use Rattle.cs_cells.specs.declared.footprint.Area.{Area}
-use Rattle.cs_cells.specs.Areas.{HasPlace, IsLaid, key, keys_of}
+use Rattle.cs_cells.specs.Areas.{HasPlace, IsLaid}
+use Rattle.cs_cells.specs.inner.Index.{key, keys_of}
 
 abbrev pub same : ℕ × ℕ → ℕ × ℕ → Bool
 same k y = nat_eq k.0 y.0 && nat_eq k.1 y.1
 
-abbrev res_of : ℕ → ℕ → Res
-res_of zero n = Gi n
-res_of (suc zero) n = Gk n
-res_of (suc (suc zero)) n = Ga n
-res_of (suc (suc (suc zero))) n = ZakK n
-res_of (suc (suc (suc (suc zero)))) n = ZakA n
-res_of (suc (suc (suc (suc (suc zero))))) n = Control n
-res_of (suc (suc (suc (suc (suc (suc zero)))))) n = Sound n
-res_of (suc (suc (suc (suc (suc (suc (suc k))))))) n = Table n
-
-res_of-key : (r : Res) → res_of (key r).0 (key r).1 ≡ r
-res_of-key (Gi n) = refl
-res_of-key (Gk n) = refl
-res_of-key (Ga n) = refl
-res_of-key (ZakK n) = refl
-res_of-key (ZakA n) = refl
-res_of-key (Control n) = refl
-res_of-key (Sound n) = refl
-res_of-key (Table n) = refl
-
 key_is : (r s : Res) → same (key r) (key s) ≡ true → s ≡ r
-key_is r s h =
-    let both = and_parts (nat_eq (key r).0 (key s).0) (nat_eq (key r).1 (key s).1) h in
-    let kind : (key r).0 ≡ (key s).0 = eqb-true (key r).0 (key s).0 both.0 in
-    let number : (key r).1 ≡ (key s).1 = eqb-true (key r).1 (key s).1 both.1 in
-    sym (res_of-key s) ∙ ap (λ k. res_of k (key s).1) (sym kind) ∙ ap (λ n. res_of (key r).0 n) (sym number) ∙ res_of-key r
+key_is r s h = sym (same_res_is r s h)
 
 same_self : (r s : Res) → s ≡ r → same (key r) (key s) ≡ true
 same_self r s e =
     and_from (nat_eq (key r).0 (key s).0) (nat_eq (key r).1 (key s).1)
     (eq-eqb (key r).0 (key s).0 (ap (λ x. (key x).0) (sym e))) (eq-eqb (key r).1 (key s).1 (ap (λ x. (key x).1) (sym e)))
 
-at_place : (areas : List Area) (place : ℕ) (d : ℕ × ℕ) → place < length areas → (a : Area) × (slice_get areas place ≡ Some a) × (get_or (keys_of areas) place d ≡ key a.res)
+at_place : (areas : List Area) (place : ℕ) (d : ℕ × ℕ) → place < length areas
+    → (a : Area) × (slice_get areas place ≡ Some a) × (get_or (keys_of areas) place d ≡ key a.res)
 at_place [] place d l = absurd (omega arith)
 at_place (a ∷ rest) zero d l = (a, refl, refl)
 at_place (a ∷ rest) (suc place) d l = at_place rest place d (omega arith)
@@ -79,7 +57,8 @@ in_front (suc i) (a ∷ rest) r zero h = (omega arith, h)
 in_front (suc i) (a ∷ rest) r (suc place) h = let found : (place < i) × HasPlace rest r place = in_front i rest r place h in (omega arith, found.1)
 
 -- the next area's resource is none of those before
-pub next_is_new : (areas : List Area) (i : ℕ) (d : Area) → IsLaid areas → i < length areas → list_any (same (key (get_or areas i d).res)) (keys_of (take i areas)) ≡ false
+pub next_is_new : (areas : List Area) (i : ℕ) (d : Area) → IsLaid areas → i < length areas
+    → list_any (same (key (get_or areas i d).res)) (keys_of (take i areas)) ≡ false
 next_is_new areas i d laid l =
     let r : Res = (get_or areas i d).res in
     false_from_ne_true (list_any (same (key r)) (keys_of (take i areas)))
@@ -90,7 +69,8 @@ next_is_new areas i d laid l =
     omega arith)
 
 pub keys_more : (areas : List Area) (i : ℕ) (d : Area) (k : ℕ × ℕ) (ks more : List (ℕ × ℕ)) → IsLaid areas → i < length areas
-    → k ≡ key (get_or areas i d).res → ks ≡ keys_of (take i areas) → more ≡ (if list_any (same k) ks then ks else ks ++ k ∷ []) → more ≡ keys_of (take (i + 1) areas)
+    → k ≡ key (get_or areas i d).res → ks ≡ keys_of (take i areas) → more ≡ (if list_any (same k) ks then ks else ks ++ k ∷ [])
+    → more ≡ keys_of (take (i + 1) areas)
 keys_more areas i d k ks more laid l is front grown =
     grown
     ∙ cond-false (list_any (same k) ks) ks (ks ++ k ∷ []) (ap (λ x. list_any (same x) ks) is ∙ ap (λ xs. list_any (same (key (get_or areas i d).res)) xs) front ∙ next_is_new areas i d laid l)

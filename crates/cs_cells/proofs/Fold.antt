@@ -16,7 +16,8 @@ module _ {J : Type 0} where
   next_has P js ks n d same l all =
       let long : length (drop n js) ≡ length (drop n ks) = ap length same in
       let at : get_or ks n d ≡ get_or js n d =
-      ap (λ i. get_or ks i d) (omega arith) ∙ sym (get_or-drop n ks 0 d) ∙ ap (λ r. get_or r 0 d) (sym same) ∙ get_or-drop n js 0 d ∙ ap (λ i. get_or js i d) (omega arith) in
+      ap (λ i. get_or ks i d) (omega arith) ∙ sym (get_or-drop n ks 0 d) ∙ ap (λ r. get_or r 0 d) (sym same) ∙ get_or-drop n js 0 d
+      ∙ ap (λ i. get_or js i d) (omega arith) in
       subst P at (All-get_or P ks n d (omega (arith, long, length-drop n js, length-drop n ks)) all)
 
   pub left_more : (js ks : List J) (n : ℕ) (y : J) → drop n js ≡ drop n ks → drop (n + 1) (set js n y) ≡ drop (n + 1) ks

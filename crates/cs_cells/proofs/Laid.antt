@@ -8,7 +8,8 @@ use Rattle.cs_cells.specs.declared.footprint.Area.{Area}
 use Rattle.cs_cells.specs.Areas.{HasPlace, IsLaid, word_count}
 use Rattle.cs_cells.specs.Cells.{in_area, covers}
 
-pub at_push : {X : Type 0} (xs : List X) (x : X) (k : ℕ) (y : X) → slice_get (xs ++ x ∷ []) k ≡ Some y → ((slice_get xs k ≡ Some y) × (k < length xs)) ⊎ ((k ≡ length xs) × (y ≡ x))
+pub at_push : {X : Type 0} (xs : List X) (x : X) (k : ℕ) (y : X) → slice_get (xs ++ x ∷ []) k ≡ Some y
+    → ((slice_get xs k ≡ Some y) × (k < length xs)) ⊎ ((k ≡ length xs) × (y ≡ x))
 at_push [] x zero y at = inr (refl, cc)
 at_push [] x (suc k) y at = absurd (cc)
 at_push (z ∷ xs) x zero y at = inl (at, omega arith)
@@ -20,7 +21,8 @@ laid_none = record {
   apart = λ p q res h k. absurd (let at = h.1 in cc);
 }
 
-pub laid_more : (areas : List Area) (area : Area) → IsLaid areas → area.first ≡ word_count areas → ((place : ℕ) → ¬ (HasPlace areas area.res place)) → IsLaid (areas ++ area ∷ [])
+pub laid_more : (areas : List Area) (area : Area) → IsLaid areas → area.first ≡ word_count areas → ((place : ℕ) → ¬ (HasPlace areas area.res place))
+    → IsLaid (areas ++ area ∷ [])
 laid_more areas area laid first new = record {
   follows = λ place a at. ⊎_elim
       (λ front. let low : place ≤ length areas = omega (arith, front.1) in laid.follows place a front.0 ∙ ap word_count (sym (take-append-le place areas (area ∷ []) low)))
@@ -78,14 +80,16 @@ one_place areas p q x laid hp hq =
     (cases_order p q)
 
 -- a covered address lies in the area of a listed place
-pub covered_place : (areas : List Area) (places : List ℕ) (x : ℕ) → covers areas places x ≡ true → (i : ℕ) × (place : ℕ) × (slice_get places i ≡ Some place) × (in_area (slice_get areas place) x ≡ true)
+pub covered_place : (areas : List Area) (places : List ℕ) (x : ℕ) → covers areas places x ≡ true
+    → (i : ℕ) × (place : ℕ) × (slice_get places i ≡ Some place) × (in_area (slice_get areas place) x ≡ true)
 covered_place areas [] x h = absurd (cc)
 covered_place areas (place ∷ places) x h = ⊎_elim
     (λ here. (0, place, refl, here))
     (λ later. let rest = covered_place areas places x later in (suc rest.0, rest.1, rest.2, rest.3))
     (or_cases (in_area (slice_get areas place) x) (covers areas places x) h)
 
-pub covers_place : (areas : List Area) (places : List ℕ) (i place x : ℕ) → slice_get places i ≡ Some place → in_area (slice_get areas place) x ≡ true → covers areas places x ≡ true
+pub covers_place : (areas : List Area) (places : List ℕ) (i place x : ℕ) → slice_get places i ≡ Some place → in_area (slice_get areas place) x ≡ true
+    → covers areas places x ≡ true
 covers_place areas [] i place x at h = absurd (cc)
 covers_place areas (y ∷ places) zero place x at h = or_left (in_area (slice_get areas y) x) (covers areas places x) (let e : y ≡ place = cc in subst (λ z. in_area (slice_get areas z) x ≡ true) (sym e) h)
 covers_place areas (y ∷ places) (suc i) place x at h = or_right (in_area (slice_get areas y) x) (covers areas places x) (covers_place areas places i place x at h)

@@ -2,7 +2,7 @@
 use Rattle.std.proofs.Common.{◌≡◌, ℕ, zero, suc, ◌+◌, ◌-◌, ◌<◌, ◌≤◌, List, [], ◌∷◌, length, slice_get, Some, refl, sym, ◌∙◌, ap, subst, arith}
 use Rattle.cs_cells.specs.Cells.{Cells, cell, Agree}
 use Rattle.cs_cells.specs.Meaning.{Meaning, Frames, Uses, Writes}
-use Rattle.cs_cells.specs.Serial.{serial_cells, serial_jobs, before, AllSound, IsQuiet, LastWriter, AsSerial}
+use Rattle.cs_cells.specs.Serial.{serial_cells, serial_jobs, before, AllValid, IsQuiet, LastWriter, AsSerial}
 
 module _ {J : Type 0} (M : Meaning J) where
   pub before-suc : (js : List J) (c : Cells) (t : ℕ) (j : J) → slice_get js t ≡ Some j → before M js c (suc t) ≡ M.leaves j (before M js c t)
@@ -30,14 +30,16 @@ module _ {J : Type 0} (M : Meaning J) (F : Frames M) where
   length-before (x ∷ js) c (suc t) = length-before js (M.leaves x c) t ∙ F.long x c
 
   -- a job that does not write a cell leaves it
-  pub passed_by : (js : List J) (c : Cells) → AllSound M js → (t a : ℕ) → ((j : J) → slice_get js t ≡ Some j → ¬ (Writes M j a)) → cell (before M js c (suc t)) a ≡ cell (before M js c t) a
+  pub passed_by : (js : List J) (c : Cells) → AllValid M js → (t a : ℕ) → ((j : J) → slice_get js t ≡ Some j → ¬ (Writes M j a))
+      → cell (before M js c (suc t)) a ≡ cell (before M js c t) a
   passed_by [] c s zero a q = refl
   passed_by [] c s (suc t) a q = refl
   passed_by (x ∷ js) c s zero a q = F.others x c a (s 0 x refl) (q x refl)
   passed_by (x ∷ js) c s (suc t) a q = passed_by js (M.leaves x c) (λ u. s (suc u)) t a q
 
   -- nor do k jobs from p on, none of which writes it
-  pub passed_by_all : (js : List J) (c : Cells) → AllSound M js → (p a k t : ℕ) → t ≡ p + k → IsQuiet M js p t a → cell (before M js c t) a ≡ cell (before M js c p) a
+  pub passed_by_all : (js : List J) (c : Cells) → AllValid M js → (p a k t : ℕ) → t ≡ p + k → IsQuiet M js p t a
+      → cell (before M js c t) a ≡ cell (before M js c p) a
   passed_by_all js c s p a zero t e q = let same : t ≡ p = omega arith in ap (λ u. cell (before M js c u) a) same
   passed_by_all js c s p a (suc k) t e q =
       let last : t ≡ suc (p + k) = omega arith in
@@ -47,13 +49,14 @@ module _ {J : Type 0} (M : Meaning J) (F : Frames M) where
       ∙ passed_by js c s (p + k) a (λ j at. q (p + k) j low high at)
       ∙ passed_by_all js c s p a k (p + k) refl (λ u x i l. q u x i (omega arith))
 
-  pub last_writer : (js : List J) (c : Cells) → AllSound M js → LastWriter M js c
+  pub last_writer : (js : List J) (c : Cells) → AllValid M js → LastWriter M js c
   last_writer js c s = record {
     written = λ p t a l q. passed_by_all js c s (suc p) a (t - suc p) t (omega arith) q;
     opening = λ t a q. passed_by_all js c s 0 a t t (omega arith) q;
   }
 
-  pub as_serial : (js : List J) (c : Cells) (t : ℕ) (j : J) (d : Cells) → AllSound M js → slice_get js t ≡ Some j → Agree (Uses M j) d (before M js c t) → AsSerial M js c t j d
+  pub as_serial : (js : List J) (c : Cells) (t : ℕ) (j : J) (d : Cells) → AllValid M js → slice_get js t ≡ Some j → Agree (Uses M j) d (before M js c t)
+      → AsSerial M js c t j d
   as_serial js c t j d s at same = record {
     job = job_at M js c t j at ∙ ap Some (sym (F.job j d (before M js c t) (s t j at) same));
     cells = subst (λ e. Agree (Uses M j) (M.leaves j d) e) (sym (before-suc M js c t j at)) (F.cells j d (before M js c t) (s t j at) same);

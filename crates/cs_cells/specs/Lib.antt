@@ -1,4 +1,6 @@
 pub mod Areas
 pub mod Cells
+pub mod Examples
 pub mod Meaning
 pub mod Serial
+pub mod inner

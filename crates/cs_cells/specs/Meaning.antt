@@ -9,7 +9,7 @@ pub record Meaning (J : Type 0) : Type 1 where
   pub foot : J → Footprint
   pub after : J → Cells → J
   pub leaves : J → Cells → Cells
-  pub sound : J → Type 0
+  pub valid : J → Type 0
 
 module _ {J : Type 0} (M : Meaning J) where
   -- the job's footprint has the cell's resource among those used
@@ -22,10 +22,10 @@ module _ {J : Type 0} (M : Meaning J) where
 
   -- The frame law: a run is a function of the job and of the used cells, and only written cells change.
   pub record Frames : Type 0 where
-    pub job : (j : J) (c d : Cells) → M.sound j → Agree (Uses j) c d → M.after j c ≡ M.after j d
-    pub cells : (j : J) (c d : Cells) → M.sound j → Agree (Uses j) c d → Agree (Uses j) (M.leaves j c) (M.leaves j d)
-    pub others : (j : J) (c : Cells) (a : ℕ) → M.sound j → ¬ (Writes j a) → cell (M.leaves j c) a ≡ cell c a
+    pub job : (j : J) (c d : Cells) → M.valid j → Agree (Uses j) c d → M.after j c ≡ M.after j d
+    pub cells : (j : J) (c d : Cells) → M.valid j → Agree (Uses j) c d → Agree (Uses j) (M.leaves j c) (M.leaves j d)
+    pub others : (j : J) (c : Cells) (a : ℕ) → M.valid j → ¬ (Writes j a) → cell (M.leaves j c) a ≡ cell c a
     pub long : (j : J) (c : Cells) → length (M.leaves j c) ≡ length c
-    pub sound_after : (j : J) (c : Cells) → M.sound j → M.sound (M.after j c)
+    pub valid_after : (j : J) (c : Cells) → M.valid j → M.valid (M.after j c)
     pub foot_after : (j : J) (c : Cells) → M.foot (M.after j c) ≡ M.foot j
     pub areas_after : (j : J) (c : Cells) → M.areas (M.after j c) ≡ M.areas j

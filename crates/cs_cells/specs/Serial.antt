@@ -24,8 +24,8 @@ module _ {J : Type 0} (M : Meaning J) where
   after js c t = before js c (suc t)
 
   -- what is true of each job that code holds is true of each of these
-  abbrev pub AllSound : List J → Type 0
-  AllSound js = (t : ℕ) (j : J) → slice_get js t ≡ Some j → M.sound j
+  abbrev pub AllValid : List J → Type 0
+  AllValid js = (t : ℕ) (j : J) → slice_get js t ≡ Some j → M.valid j
 
   -- no job from p on and before t writes the cell
   abbrev pub IsQuiet : List J → ℕ → ℕ → ℕ → Type 0

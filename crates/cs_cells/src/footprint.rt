@@ -8,7 +8,8 @@ pub struct Area {
     pub length: u32,
 }
 
-/// What a note may touch, as places of areas in a layout, ascending, each once. Whatever is written is also used.
+/// What a note may touch, as places of areas in a layout, ascending, each once. Whatever is written
+/// is also used.
 #[derive(Debug, Drop)]
 pub struct Footprint {
     pub uses: Places,

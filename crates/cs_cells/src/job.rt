@@ -6,15 +6,17 @@ use crate::{Bank, Footprint};
 
 /// Something that runs once in a control cycle over the cells of a bank.
 pub trait Job {
-    // The layout and the footprint of a job, the job and the cells after its run, and what is true of each job that code holds.
+    // The layout and the footprint of a job, the job and the cells after its run, and what is true
+    // of each job that code holds.
     ghost means: { Meaning Self };
 
     /// The places, in the job's layout, of the resources that it may use and write.
     fn footprint(&self) -> &Footprint
         ensures foot { result.now ≡ means.foot self.now }
-        ensures sound { means.sound self.now };
+        ensures valid { means.valid self.now };
 
-    /// Runs once. The bank must have each cell that the job uses, and let each be set that it writes.
+    /// Runs once. The bank must have each cell that the job uses, and let each be set that it
+    /// writes.
     fn run<B: Bank>(&mut self, bank: &mut B)
         requires get { (a : ℕ) → Uses means self.old a → B.can_get (B.rest bank.old) a }
         requires set { (a : ℕ) → Writes means self.old a → B.can_set (B.rest bank.old) a }

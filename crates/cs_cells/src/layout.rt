@@ -1,21 +1,17 @@
 // Which cells are whose.
 ghost use Rattle.std.specs.Prelude.{◌≡◌, ℕ, ◌+◌, ◌<◌, length, slice_get, IfOk, IfErr, IfSome, IfNone};
 ghost use Rattle.cs_base.specs.declared.fault.Or.TheVariants as or;
-ghost use Rattle.cs_cells.specs.Areas.{HasPlace, IsLaid, limit_passed, word_count, key, keys_of};
+ghost use Rattle.cs_cells.specs.Areas.{HasPlace, IsLaid, limit_passed, word_count};
+ghost use Rattle.cs_cells.specs.inner.Index.{key, keys_of};
 
 use crate::Area;
-use cs_base::{LimitHit, Or, Res};
+use cs_base::{Limit, LimitHit, MOST_RESOURCES, MOST_WORDS, Or, Res};
 use indexmap::IndexSet;
 use std::alloc::{AllocFailed, Global};
 use std::marker::Model;
 
-/// At most so many resources, by limit 11.
-const MOST_RESOURCES: usize = 4_096;
-
-/// At most so many words, by limit 9.
-const MOST_WORDS: u64 = 65_536;
-
-/// Where each resource's cells are. Contracts see the list of its areas; a resource's place is its index there.
+/// Where each resource's cells are. Contracts see the list of its areas; a resource's place is its
+/// index there.
 #[derive(Drop)]
 pub struct Layout {
     areas: Vec<Area>,
@@ -26,7 +22,7 @@ pub struct Layout {
 impl Model for Layout {
     ghost use Rattle.std.specs.Prelude.{List};
     ghost use Rattle.cs_cells.specs.declared.footprint.Area.{Area};
-    ghost use Rattle.cs_cells.specs.Areas.{IsIndexed};
+    ghost use Rattle.cs_cells.specs.inner.Index.{IsIndexed};
 
     ghost Value = { List Area };
 
@@ -36,8 +32,9 @@ impl Model for Layout {
 }
 
 impl Layout {
-    /// Lays out areas that follow one another from address 0 without gaps, each of another resource. More than
-    /// 4,096 of them are refused as limit 11, and then more than 65,536 words in all as limit 9, at line 0.
+    /// Lays out areas that follow one another from address 0 without gaps, each of another
+    /// resource. More of them than 4,096 pass the limit on resources, and then more than 65,536
+    /// words in all that on words, at line 0.
     pub fn build(alloc: Global, areas: &[Area]) -> Result<Layout, Or<LimitHit>>
         requires { IsLaid areas.now }
         ensures areas { IfOk result (λ l. l ≡ areas.now) }
@@ -46,11 +43,11 @@ impl Layout {
         ensures memory { IfNone (limit_passed areas.now) (IfErr result (λ e. e ≡ or.OutOfMemory)) }
     {
         if areas.len() > MOST_RESOURCES {
-            return Err(Or::Fault(LimitHit { limit: 11, line: 0 }));
+            return Err(passed(Limit::Resources));
         }
         let words = words_of(areas);
-        if words > MOST_WORDS {
-            return Err(Or::Fault(LimitHit { limit: 9, line: 0 }));
+        if words > MOST_WORDS as u64 {
+            return Err(passed(Limit::Words));
         }
         let keys = index(alloc, areas)?;
         Ok(Layout {
@@ -117,16 +114,14 @@ fn end_of(area: Area) -> u64
 fn key_of(res: Res) -> (u8, u32)
     ensures { result ≡ key res }
 {
-    match res {
-        Res::Gi(number) => (0, number),
-        Res::Gk(number) => (1, number),
-        Res::Ga(number) => (2, number),
-        Res::ZakK(number) => (3, number),
-        Res::ZakA(number) => (4, number),
-        Res::Control(number) => (5, number),
-        Res::Sound(number) => (6, number),
-        Res::Table(number) => (7, number),
-    }
+    (res.kind(), res.number())
+}
+
+/// A limit that the areas pass, and no line of a text.
+fn passed(limit: Limit) -> Or<LimitHit>
+    ensures { result ≡ or.Fault (record { limit = limit; line = 0 }) }
+{
+    Or::Fault(LimitHit { limit, line: 0 })
 }
 
 /// The resources by number, each at the place of its area.

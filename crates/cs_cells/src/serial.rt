@@ -2,14 +2,16 @@
 ghost use Rattle.std.specs.Prelude.{◌≡◌, ℕ, List, All, slice_get, Some};
 ghost use Rattle.cs_cells.specs.Cells.{Cells, Agree};
 ghost use Rattle.cs_cells.specs.Meaning.{Uses, Writes};
-ghost use Rattle.cs_cells.specs.Serial.{serial_cells, serial_jobs, before, AllSound, LastWriter, AsSerial};
+ghost use Rattle.cs_cells.specs.Serial.{serial_cells, serial_jobs, before, AllValid, LastWriter, AsSerial};
 
 use crate::{Bank, Job};
 
-/// Runs each job once, in order. The bank must have each cell that a job uses, and let each be set that one writes.
+/// Runs each job once, in order. The bank must have each cell that a job uses, and let each be set
+/// that one writes.
 pub fn run_all<J: Job, B: Bank>(jobs: &mut [J], bank: &mut B)
     requires get { All (λ j. (a : ℕ) → Uses J.means j a → B.can_get (B.rest bank.old) a) jobs.old }
-    requires set { All (λ j. (a : ℕ) → Writes J.means j a → B.can_set (B.rest bank.old) a) jobs.old }
+    requires set { All (λ j. (a : ℕ) → Writes J.means j a
+        → B.can_set (B.rest bank.old) a) jobs.old }
     ensures jobs { jobs.new ≡ serial_jobs J.means jobs.old (B.cells bank.old) }
     ensures cells { B.cells bank.new ≡ serial_cells J.means jobs.old (B.cells bank.old) }
     ensures rest { B.rest bank.new ≡ B.rest bank.old }
@@ -19,8 +21,12 @@ pub fn run_all<J: Job, B: Bank>(jobs: &mut [J], bank: &mut B)
     }
 }
 
-/// The two laws of the serial run, of any jobs and any cells. It does nothing: its clauses are the laws.
+/// The two laws of the serial run, of any jobs and any cells. It does nothing: its clauses are the
+/// laws.
 pub fn serial_laws<J: Job>()
-    ensures last_writer { (js : List J) (c : Cells) → AllSound J.means js → LastWriter J.means js c }
-    ensures as_serial { (js : List J) (c : Cells) (t : ℕ) (j : J) (d : Cells) → AllSound J.means js → slice_get js t ≡ Some j → Agree (Uses J.means j) d (before J.means js c t) → AsSerial J.means js c t j d }
+    ensures last_writer { (js : List J) (c : Cells) → AllValid J.means js
+        → LastWriter J.means js c }
+    ensures as_serial { (js : List J) (c : Cells) (t : ℕ) (j : J) (d : Cells)
+        → AllValid J.means js → slice_get js t ≡ Some j
+        → Agree (Uses J.means j) d (before J.means js c t) → AsSerial J.means js c t j d }
 {}

@@ -3,13 +3,13 @@ use Rattle.std.proofs.Common.{◌≡◌, ◌⊎◌, ◌↔◌, ℕ, zero, suc, �
 use Rattle.std.proofs.lemmas.Bool.{cases_eq, cases_lt}
 use Rattle.std.proofs.lemmas.List.{get_or_push, get_or_append_left}
 use Rattle.cs_cells.specs.declared.footprint.Footprint.{Footprint}
-use Rattle.cs_graph.specs.Sets.{has}
+use Rattle.cs_graph.specs.inner.Sets.{has}
 use Rattle.cs_graph.specs.Conflict.{foot, Clash, Conflict, Leads, direct, beyond, Near, Chain, alone, further, IsLevel}
 use Rattle.cs_graph.specs.Graph.{Reaches, step, onward, IsFit, IsLevelled}
-use Rattle.cs_graph.specs.Growing.{IsKnown, IsDrawn}
-use Rattle.cs_graph.specs.Index.{HasEdge}
-use Rattle.cs_graph.specs.Nearest.{past_at, Has, IsClosed, IsFound}
-use Rattle.cs_graph.specs.declared.nearest.Past.{Past}
+use Rattle.cs_graph.specs.inner.Growing.{IsKnown, IsDrawn}
+use Rattle.cs_graph.specs.inner.Index.{HasEdge}
+use Rattle.cs_graph.specs.inner.Nearest.{known_at, Has, IsClosed, IsFound}
+use Rattle.cs_graph.specs.declared.nearest.Known.{Known}
 use Rattle.cs_graph.specs.declared.nearest.Found.{Found}
 
 module _ (feet : List Footprint) where
@@ -21,8 +21,8 @@ module _ (feet : List Footprint) where
   Leads-join p q t a (direct _ _ c) = beyond p q t a c
   Leads-join p q t a (beyond _ r _ l c) = beyond p r t (Leads-join p q r a l) c
 
-  pub IsClosed-known : (n : ℕ) (past : List Past) → IsKnown feet n past → IsClosed past n
-  IsClosed-known n past k = record {
+  pub IsClosed-known : (n : ℕ) (known : List Known) → IsKnown feet n known → IsClosed known n
+  IsClosed-known n known k = record {
     earlier = λ p q within h. Leads-earlier p q ((k.leads p q within).0 h);
     chained = λ p q r within h g.
         let second = (k.leads q r within).0 g in
@@ -32,9 +32,9 @@ module _ (feet : List Footprint) where
   }
 
   -- what is found at note t
-  module _ (t : ℕ) (within : t < length feet) (met : List ℕ) (past : List Past) (found : Found)
+  module _ (t : ℕ) (within : t < length feet) (met : List ℕ) (known : List Known) (found : Found)
       (meets : (p : ℕ) → p < t → (has met p ≡ true) ↔ Clash (foot feet p) (foot feet t))
-      (k : IsKnown feet t past) (f : IsFound met past 0 t found) where
+      (k : IsKnown feet t known) (f : IsFound met known 0 t found) where
     conflict-met : (p : ℕ) → p < t → Has met p → Conflict feet p t
     conflict-met p low h = record { earlier = low; within = within; clash = (meets p low).0 h }
 
@@ -53,29 +53,29 @@ module _ (feet : List Footprint) where
     pub near-found : (p : ℕ) → Near feet p t → Has found.near p
     near-found p n = ⊎_elim (λ h. h) (λ w. absurd (n.no_longer_way w.0 w.1 w.2)) (found-rest p n.conflict)
 
-    pub found-leads : (p : ℕ) → Has found.past.reach p ↔ Leads feet p t
+    pub found-leads : (p : ℕ) → Has found.known.reach p ↔ Leads feet p t
     found-leads p = (
       λ h. let w = f.reach p h in let c = conflict-met w.0 w.2 w.3 in
           ⊎_elim (λ (same : p ≡ w.0). direct p t (subst (λ x. Conflict feet x t) (sym same) c)) (λ l. beyond p w.0 t ((k.leads p w.0 w.2).0 l) c) w.4,
       λ l. leads-found p l,
     )
       where
-        leads-found : (p : ℕ) → Leads feet p t → Has found.past.reach p
+        leads-found : (p : ℕ) → Leads feet p t → Has found.known.reach p
         leads-found p (direct _ _ c) = f.all p p (omega arith) c.earlier (met-conflict p c) (inl refl)
         leads-found p (beyond _ q _ l c) = f.all p q (omega arith) c.earlier (met-conflict q c) (inr ((k.leads p q c.earlier).1 l))
 
-    abbrev more : List Past
-    more = past ++ found.past ∷ []
+    abbrev more : List Known
+    more = known ++ found.known ∷ []
 
-    old_past : (q : ℕ) → q < t → past_at more q ≡ past_at past q
-    old_past q low = get_or_append_left past (found.past ∷ []) _ q (omega (arith, low, k.long))
+    old_past : (q : ℕ) → q < t → known_at more q ≡ known_at known q
+    old_past q low = get_or_append_left known (found.known ∷ []) _ q (omega (arith, low, k.long))
 
-    new_past : past_at more t ≡ found.past
-    new_past = get_or_push past found.past _ t k.long
+    new_past : known_at more t ≡ found.known
+    new_past = get_or_push known found.known _ t k.long
 
     pub known_push : IsKnown feet (t + 1) more
     known_push = record {
-      long = omega (arith, k.long, length-append past (found.past ∷ []));
+      long = omega (arith, k.long, length-append known (found.known ∷ []));
       leads = λ p q low. ⊎_elim
           (λ (here : q ≡ t). rw (here, new_past) (found-leads p))
           (λ apart. rw (old_past q (omega arith)) (k.leads p q (omega arith)))
@@ -95,12 +95,12 @@ module _ (feet : List Footprint) where
           (cases_eq q t);
     }
 
-    pub level_push : (levels : List ℕ) → length levels ≡ t → ((q : ℕ) → q < t → get_or levels q 0 ≡ (past_at past q).level)
-        → (q : ℕ) → q < t + 1 → get_or (levels ++ found.past.level ∷ []) q 0 ≡ (past_at more q).level
+    pub level_push : (levels : List ℕ) → length levels ≡ t → ((q : ℕ) → q < t → get_or levels q 0 ≡ (known_at known q).level)
+        → (q : ℕ) → q < t + 1 → get_or (levels ++ found.known.level ∷ []) q 0 ≡ (known_at more q).level
     level_push levels long same q low = ⊎_elim
-        (λ (here : q ≡ t). rw (here, new_past) (get_or_push levels found.past.level 0 t long))
+        (λ (here : q ≡ t). rw (here, new_past) (get_or_push levels found.known.level 0 t long))
         (λ apart. let below : q < t = omega arith in
-        rw (old_past q below) (get_or_append_left levels (found.past.level ∷ []) 0 q (omega arith) ∙ same q below))
+        rw (old_past q below) (get_or_append_left levels (found.known.level ∷ []) 0 q (omega arith) ∙ same q below))
         (cases_eq q t)
 
     pub drawn_more : (old edges : List (ℕ × ℕ)) → IsDrawn feet t old
@@ -162,9 +162,9 @@ module _ (feet : List Footprint) where
     pub IsLevel-levelled : (t : ℕ) → t < length feet → IsLevel feet t (get_or levels t 0)
     IsLevel-levelled t within = record { chain = chain_to _ t within refl; longest = λ m ch. chain_low m t ch }
 
-  pub levelled_known : (past : List Past) (levels : List ℕ) → IsKnown feet (length feet) past
-      → ((q : ℕ) → q < length feet → get_or levels q 0 ≡ (past_at past q).level) → IsLevelled feet levels
-  levelled_known past levels k same = record {
+  pub levelled_known : (known : List Known) (levels : List ℕ) → IsKnown feet (length feet) known
+      → ((q : ℕ) → q < length feet → get_or levels q 0 ≡ (known_at known q).level) → IsLevelled feet levels
+  levelled_known known levels k same = record {
     none = λ t within no_. ⊎_elim
         (λ high. absurd (no_ (k.greatest t within (rw (← same t within) high)).0 (k.greatest t within (rw (← same t within) high)).1))
         (λ low. omega arith)

@@ -1,13 +1,12 @@
 -- The edges to one note, drawn one by one.
 use Rattle.std.proofs.Common.{◌≡◌, ◌⊎◌, ◌↔◌, ℕ, ◌+◌, ◌<◌, true, false, List, [], ◌∷◌, ◌++◌, length, refl, sym, subst, inl, inr, ⊎_elim, arith}
-use Rattle.std.proofs.lemmas.Bool.{cases_eq}
+use Rattle.std.proofs.lemmas.Bool.{both_ways, cases_eq}
 use Rattle.std.proofs.lemmas.List.Elements.{All-weaker, All-push}
 use Rattle.std.specs.List.{All}
 use Rattle.cs_graph.proofs.EdgeLemmas.{edge_kept, edge_new, edge_cases}
-use Rattle.cs_graph.proofs.BoolLemmas.{both_ways}
 use Rattle.cs_graph.specs.Graph.{ComesBefore, Edge}
-use Rattle.cs_graph.specs.Index.{HasEdge}
-use Rattle.cs_graph.specs.Sets.{has}
+use Rattle.cs_graph.specs.inner.Index.{HasEdge}
+use Rattle.cs_graph.specs.inner.Sets.{has}
 
 -- the edges are the old ones, and those to note t from the near notes below p
 abbrev pub AreDrawn : List (ℕ × ℕ) → List ℕ → ℕ → ℕ → List (ℕ × ℕ) → Type 0
@@ -31,7 +30,8 @@ drawn_skip old edges near t p no_ d a b = (
   λ h. (d a b).1 (⊎_elim (λ k. inl k) (λ k. inr (k.0, ⊎_elim (λ (same : a ≡ p). absurd (both_ways _ no_ (rw (← same) k.2))) (λ apart. omega (arith, k.1)) (cases_eq a p), k.2)) h),
 )
 
-pub drawn_push : (old edges : List (ℕ × ℕ)) (near : List ℕ) (t p : ℕ) → has near p ≡ true → AreDrawn old near t p edges → AreDrawn old near t (p + 1) (edges ++ (p, t) ∷ [])
+pub drawn_push : (old edges : List (ℕ × ℕ)) (near : List ℕ) (t p : ℕ) → has near p ≡ true → AreDrawn old near t p edges
+    → AreDrawn old near t (p + 1) (edges ++ (p, t) ∷ [])
 drawn_push old edges near t p yes_ d a b = (
   λ h. ⊎_elim
       (λ k. ⊎_elim (λ l. inl l) (λ l. inr (l.0, omega (arith, l.1), l.2)) ((d a b).0 (h.0, k)))

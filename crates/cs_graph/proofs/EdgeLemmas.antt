@@ -1,6 +1,6 @@
 -- Edges that are added at the end of a list of edges.
 use Rattle.std.proofs.Common.{◌≡◌, ◌==◌, ◌≢◌, ◌⊎◌, ℕ, zero, suc, ◌+◌, ◌<◌, Bool, true, false, cond, List, [], ◌∷◌, ◌++◌, map, length, get_or, set, refl, sym, ap, ◌∙◌, subst, inl, inr, ⊎_elim, arith, get_or-set_same, get_or-set_other, length-append}
-use Rattle.std.proofs.lemmas.Bool.{cases_eq, cases_lt}
+use Rattle.std.proofs.lemmas.Bool.{cases_eq, cases_lt, eqb-true}
 use Rattle.std.proofs.lemmas.Bool.Decides.{nat_tests}
 use Rattle.std.proofs.lemmas.List.{map-append, append-nil, get_or-map, length-map, get_or_push, get_or_append_left}
 use Rattle.std.proofs.lemmas.List.Elements.{filter_passes, filter-append, Contains-append_left, Contains-push, Contains-push_cases, Contains-get_or}
@@ -8,11 +8,11 @@ use Rattle.std.proofs.lemmas.List.Quantifiers.{all_pairs_push}
 use Rattle.std.proofs.lemmas.Option.{none-some, some_pair_parts, slice_get_within, slice_get-get_or}
 use Rattle.std.proofs.lemmas.List.Kept.{AllPairs-filter}
 use Rattle.std.specs.List.Sorted.{IsStrictlyIncreasing}
-use Rattle.cs_graph.proofs.BoolLemmas.{same_number, read_at}
+use Rattle.cs_graph.proofs.ReadAt.{read_at}
 use Rattle.std.specs.List.{All, AllPairs, Contains, filter}
 use Rattle.std.proofs.Math.ListN.{length-set}
 use Rattle.cs_graph.specs.Graph.{Edge, ComesBefore}
-use Rattle.cs_graph.specs.Index.{preds_of, succs_of, node_at, IsInOf, IsOutOf, IsIndexed, IsOpen, IsStored}
+use Rattle.cs_graph.specs.inner.Index.{preds_of, succs_of, node_at, IsInOf, IsOutOf, IsIndexed, IsOpen, IsStored}
 use Rattle.cs_graph.specs.declared.node.Node.{Node}
 
 map_up : (f : ℕ × ℕ → ℕ) (test : ℕ × ℕ → Bool) (xs : List (ℕ × ℕ)) → AllPairs ComesBefore xs
@@ -46,10 +46,12 @@ module _ (p t : ℕ) where
   edge_cases (x ∷ xs) (suc e) a b h = ⊎_elim (λ k. inl k) (λ k. inr (ap suc k.0, k.1, k.2)) (edge_cases xs e a b h)
 
   preds-grown : (xs : List (ℕ × ℕ)) (q : ℕ) → preds_of (grown xs) q ≡ preds_of xs q ++ map (λ (e : ℕ × ℕ). e.0) (cond (t == q) ((p, t) ∷ []) [])
-  preds-grown xs q = ap (map (λ (e : ℕ × ℕ). e.0)) (filter-append (λ e. e.1 == q) xs ((p, t) ∷ [])) ∙ map-append (λ (e : ℕ × ℕ). e.0) (filter (λ e. e.1 == q) xs) (cond (t == q) ((p, t) ∷ []) [])
+  preds-grown xs q = ap (map (λ (e : ℕ × ℕ). e.0)) (filter-append (λ e. e.1 == q) xs ((p, t) ∷ []))
+      ∙ map-append (λ (e : ℕ × ℕ). e.0) (filter (λ e. e.1 == q) xs) (cond (t == q) ((p, t) ∷ []) [])
 
   succs-grown : (xs : List (ℕ × ℕ)) (q : ℕ) → succs_of (grown xs) q ≡ succs_of xs q ++ map (λ (e : ℕ × ℕ). e.1) (cond (p == q) ((p, t) ∷ []) [])
-  succs-grown xs q = ap (map (λ (e : ℕ × ℕ). e.1)) (filter-append (λ e. e.0 == q) xs ((p, t) ∷ [])) ∙ map-append (λ (e : ℕ × ℕ). e.1) (filter (λ e. e.0 == q) xs) (cond (p == q) ((p, t) ∷ []) [])
+  succs-grown xs q = ap (map (λ (e : ℕ × ℕ). e.1)) (filter-append (λ e. e.0 == q) xs ((p, t) ∷ []))
+      ∙ map-append (λ (e : ℕ × ℕ). e.1) (filter (λ e. e.0 == q) xs) (cond (p == q) ((p, t) ∷ []) [])
 
   in_stays : (xs : List (ℕ × ℕ)) (q : ℕ) (preds : List ℕ) (first : ℕ) → t ≢ q → IsInOf xs q preds first → IsInOf (grown xs) q preds first
   in_stays xs q preds first apart r = let test : (t == q) ≡ false = grind (arith, nat_tests) in record {
@@ -61,12 +63,13 @@ module _ (p t : ℕ) where
     low = omega (arith, r.low, length-append xs ((p, t) ∷ []));
   }
 
-  in_gains : (xs : List (ℕ × ℕ)) (preds : List ℕ) (first : ℕ) → first + length preds ≡ length xs → IsInOf xs t preds first → IsInOf (grown xs) t (preds ++ p ∷ []) first
+  in_gains : (xs : List (ℕ × ℕ)) (preds : List ℕ) (first : ℕ) → first + length preds ≡ length xs → IsInOf xs t preds first
+      → IsInOf (grown xs) t (preds ++ p ∷ []) first
   in_gains xs preds first up r = let test : (t == t) ≡ true = grind (arith, nat_tests) in let long = length-append preds (p ∷ []) in record {
     ends = rw (preds-grown xs t, test) (ap (λ l. l ++ p ∷ []) r.ends);
     numbers = λ e. (
       λ h. ⊎_elim (λ below. let w = (r.numbers e).0 (h.0, omega arith) in (w.0, edge_kept xs e w.0 t w.1))
-          (λ past. (p, subst (λ n. Edge (grown xs) n p t) (let k : length xs ≡ e = omega (arith, h.1, long) in k) (edge_new xs)))
+          (λ known. (p, subst (λ n. Edge (grown xs) n p t) (let k : length xs ≡ e = omega (arith, h.1, long) in k) (edge_new xs)))
           (cases_lt e (length xs)),
       λ h. ⊎_elim (λ k. let w = (r.numbers e).1 (h.0, k) in (w.0, omega (arith, w.1, long))) (λ k. (omega (arith, k.0), omega (arith, k.0, long))) (edge_cases xs e h.0 t h.1),
     );
@@ -137,10 +140,10 @@ module _ (p t : ℕ) where
 -- in the edges to one note, and in those from one note, the other ends ascend
 module _ (xs : List (ℕ × ℕ)) (ordered : AllPairs ComesBefore xs) (q : ℕ) where
   pub preds_up : AllPairs (λ a b. a < b) (preds_of xs q)
-  preds_up = map_up (λ e. e.0) (λ e. e.1 == q) xs ordered (λ e f k l before. ⊎_elim (λ h. absurd (omega (arith, same_number _ _ k, same_number _ _ l))) (λ h. h.1) before)
+  preds_up = map_up (λ e. e.0) (λ e. e.1 == q) xs ordered (λ e f k l before. ⊎_elim (λ h. absurd (omega (arith, eqb-true _ _ k, eqb-true _ _ l))) (λ h. h.1) before)
 
   pub succs_up : AllPairs (λ a b. a < b) (succs_of xs q)
-  succs_up = map_up (λ e. e.1) (λ e. e.0 == q) xs ordered (λ e f k l before. ⊎_elim (λ h. h) (λ h. absurd (omega (arith, h.1, same_number _ _ k, same_number _ _ l))) before)
+  succs_up = map_up (λ e. e.1) (λ e. e.0 == q) xs ordered (λ e f k l before. ⊎_elim (λ h. h) (λ h. absurd (omega (arith, h.1, eqb-true _ _ k, eqb-true _ _ l))) before)
 
 pub increasing : (xs : List ℕ) → AllPairs (λ a b. a < b) xs → IsStrictlyIncreasing xs
 increasing xs up k within = up k (k + 1) 0 (omega arith) within
@@ -151,7 +154,8 @@ filter_none test (x ∷ xs) none = let first : test x ≡ false = none 0 x.0 x.1
     rw first (filter_none test xs (λ e a b k. none (suc e) a b k))
 
 -- what a look-up reads of a stored graph
-module _ (xs : List (ℕ × ℕ)) (levels : List ℕ) (nodes : List Node) (s : IsStored xs levels nodes) (q : ℕ) (within : q < length levels) (n : Node) (is : n ≡ get_or nodes q n) where
+module _ (xs : List (ℕ × ℕ)) (levels : List ℕ) (nodes : List Node) (s : IsStored xs levels nodes) (q : ℕ) (within : q < length levels) (n : Node)
+    (is : n ≡ get_or nodes q n) where
   node_is : node_at nodes q ≡ n
   node_is = read_at nodes q n _ (omega (arith, within, s.each)) is
 

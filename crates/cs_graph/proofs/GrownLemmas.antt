@@ -3,12 +3,12 @@ use Rattle.std.proofs.Common.{List, length, arith}
 use Rattle.cs_cells.specs.declared.footprint.Footprint.{Footprint}
 use Rattle.cs_graph.proofs.ConflictLemmas.{levelled_known, IsLevel-levelled, IsFit-drawn}
 use Rattle.cs_graph.specs.Graph.{IsGraphOf, IsFit, IsLevelled}
-use Rattle.cs_graph.specs.Growing.{IsGrown}
+use Rattle.cs_graph.specs.inner.Growing.{IsGrown}
 use Rattle.cs_graph.specs.declared.graph.Growing.{Growing}
 
 module _ (feet : List Footprint) (g : Growing) (r : IsGrown feet (length feet) g) where
   pub grown_levelled : IsLevelled feet g.levels.items
-  grown_levelled = levelled_known feet g.past.items g.levels.items r.known r.level
+  grown_levelled = levelled_known feet g.known.items g.levels.items r.known r.level
 
   pub grown_fit : IsFit feet g.edges.items
   grown_fit = IsFit-drawn feet (length feet) g.edges.items (omega arith) r.drawn

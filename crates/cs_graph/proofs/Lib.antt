@@ -1,4 +1,4 @@
-pub mod BoolLemmas
+pub mod ReadAt
 pub mod ConflictLemmas
 pub mod DrawLemmas
 pub mod EdgeLemmas
@@ -7,3 +7,4 @@ pub mod GrownLemmas
 pub mod NearestLemmas
 pub mod SetLemmas
 pub mod TouchedLemmas
+mod SmallCycle

@@ -1,15 +1,14 @@
 use Rattle.std.proofs.Common.{◌≡◌, ◌==◌, ◌||◌, ◌&&◌, not, ℕ, ◌+◌, ◌<◌, ◌≤◌, max, true, false, List, refl, sym, ◌∙◌, inl, inr, ⊎_elim, arith}
-use Rattle.std.proofs.lemmas.Bool.{cases_eq, cases_lt}
+use Rattle.std.proofs.lemmas.Bool.{and_parts, both_ways, cases_eq, cases_lt, eqb-true, not-true, or_cases, or_left, or_right}
 use Rattle.std.proofs.lemmas.Bool.Decides.{nat_tests}
-use Rattle.cs_graph.proofs.BoolLemmas.{or_cases, and_cases, or_left, or_right, not_true, same_number, both_ways}
-use Rattle.cs_graph.specs.Sets.{has}
-use Rattle.cs_graph.specs.Nearest.{past_at, Has, LeadsIn, IsClosed, IsFound}
-use Rattle.cs_graph.specs.declared.nearest.Past.{Past}
+use Rattle.cs_graph.specs.inner.Sets.{has}
+use Rattle.cs_graph.specs.inner.Nearest.{known_at, Has, LeadsIn, IsClosed, IsFound}
+use Rattle.cs_graph.specs.declared.nearest.Known.{Known}
 use Rattle.cs_graph.specs.declared.nearest.Found.{Found}
 
-module _ (met : List ℕ) (past : List Past) (t : ℕ) where
-  pub found_none : (found : Found) → ((p : ℕ) → has found.near p ≡ false) → ((p : ℕ) → has found.past.reach p ≡ false)
-      → found.past.level ≡ 0 → IsFound met past t t found
+module _ (met : List ℕ) (known : List Known) (t : ℕ) where
+  pub found_none : (found : Found) → ((p : ℕ) → has found.near p ≡ false) → ((p : ℕ) → has found.known.reach p ≡ false)
+      → found.known.level ≡ 0 → IsFound met known t t found
   found_none found near reach level = record {
     near = λ p h. absurd (both_ways _ (near p) h);
     rest = λ p a b h. absurd (omega arith);
@@ -20,7 +19,7 @@ module _ (met : List ℕ) (past : List Past) (t : ℕ) where
     low = omega arith;
   }
 
-  pub found_skip : (q : ℕ) (found : Found) → has met q ≡ false → IsFound met past (q + 1) t found → IsFound met past q t found
+  pub found_skip : (q : ℕ) (found : Found) → has met q ≡ false → IsFound met known (q + 1) t found → IsFound met known q t found
   found_skip q found not_met f = record {
     near = λ p h. let w = f.near p h in (omega arith, w.1, w.2, w.3);
     rest = λ p a b h. ⊎_elim (λ (same : p ≡ q). absurd (both_ways _ not_met (rw (← same) h))) (λ apart. f.rest p (omega arith) b h) (cases_eq p q);
@@ -31,36 +30,36 @@ module _ (met : List ℕ) (past : List Past) (t : ℕ) where
     low = f.low;
   }
 
-  module _ (closed : IsClosed past t) (q : ℕ) (old new : Found) (within : q < t) (is_met : Has met q) (f : IsFound met past (q + 1) t old) where
+  module _ (closed : IsClosed known t) (q : ℕ) (old new : Found) (within : q < t) (is_met : Has met q) (f : IsFound met known (q + 1) t old) where
     -- a note that is reached from those taken in before is reached from a later one
-    reached_by : Has old.past.reach q → (r : ℕ) × (q + 1 ≤ r) × (r < t) × Has met r × LeadsIn past q r
+    reached_by : Has old.known.reach q → (r : ℕ) × (q + 1 ≤ r) × (r < t) × Has met r × LeadsIn known q r
     reached_by h = let w = f.reach q h in (w.0, w.1, w.2, w.3, ⊎_elim (λ same. absurd (omega (arith, same, w.1))) (λ leads. leads) w.4)
 
-    module _ (near : (p : ℕ) → has new.near p ≡ (has old.near p || (p == q && not (has old.past.reach q))))
-        (level : new.past.level ≡ max old.past.level ((past_at past q).level + 1)) where
-      levels_low : new.past.level ≤ t
-      levels_low = let a : (past_at past q).level ≤ q = closed.low q within in omega (arith, f.low)
+    module _ (near : (p : ℕ) → has new.near p ≡ (has old.near p || (p == q && not (has old.known.reach q))))
+        (level : new.known.level ≡ max old.known.level ((known_at known q).level + 1)) where
+      levels_low : new.known.level ≤ t
+      levels_low = let a : (known_at known q).level ≤ q = closed.low q within in omega (arith, f.low)
 
-      levels_above : (r : ℕ) → q ≤ r → r < t → Has met r → (past_at past r).level < new.past.level
-      levels_above r a b h = ⊎_elim (λ (same : r ≡ q). rw same (omega arith)) (λ apart. let k : (past_at past r).level < old.past.level = f.above r (omega arith) b h in omega arith) (cases_eq r q)
+      levels_above : (r : ℕ) → q ≤ r → r < t → Has met r → (known_at known r).level < new.known.level
+      levels_above r a b h = ⊎_elim (λ (same : r ≡ q). rw same (omega arith)) (λ apart. let k : (known_at known r).level < old.known.level = f.above r (omega arith) b h in omega arith) (cases_eq r q)
 
-      levels_greatest : 0 < new.past.level → (r : ℕ) × (q ≤ r) × (r < t) × Has met r × (new.past.level ≡ (past_at past r).level + 1)
+      levels_greatest : 0 < new.known.level → (r : ℕ) × (q ≤ r) × (r < t) × Has met r × (new.known.level ≡ (known_at known r).level + 1)
       levels_greatest h = ⊎_elim
           (λ here. (q, omega arith, within, is_met, omega arith))
           (λ old_. let w = f.greatest (omega arith) in (w.0, omega (arith, w.1), w.2, w.3, omega (arith, w.4)))
-          (cases_lt old.past.level ((past_at past q).level + 1))
+          (cases_lt old.known.level ((known_at known q).level + 1))
 
-      new_one : (p : ℕ) → p ≡ q → has old.past.reach q ≡ false → (p == q && not (has old.past.reach q)) ≡ true
+      new_one : (p : ℕ) → p ≡ q → has old.known.reach q ≡ false → (p == q && not (has old.known.reach q)) ≡ true
       new_one p here fresh = let test : (p == q) ≡ true = grind (arith, nat_tests) in rw (test, fresh) refl
 
       keeps_near : (p : ℕ) → Has old.near p → Has new.near p
       keeps_near p h = rw (near p) (or_left _ _ h)
 
-      pub found_reached : Has old.past.reach q → ((p : ℕ) → has new.past.reach p ≡ has old.past.reach p) → IsFound met past q t new
+      pub found_reached : Has old.known.reach q → ((p : ℕ) → has new.known.reach p ≡ has old.known.reach p) → IsFound met known q t new
       found_reached reached same = record {
         near = λ p h. ⊎_elim
             (λ k. let w = f.near p k in (omega (arith, w.0), w.1, w.2, w.3))
-            (λ k. absurd (both_ways _ (not_true _ (and_cases _ _ k).1) reached))
+            (λ k. absurd (both_ways _ (not-true _ (and_parts _ _ k).1) reached))
             (or_cases _ _ (sym (near p) ∙ h));
         rest = λ p a b h. ⊎_elim
             (λ (here : p ≡ q). let w = reached_by reached in inr (w.0, w.2, w.3, rw here w.4))
@@ -80,17 +79,17 @@ module _ (met : List ℕ) (past : List Past) (t : ℕ) where
         low = levels_low;
       }
 
-      pub found_nearest : has old.past.reach q ≡ false
-          → ((p : ℕ) → has new.past.reach p ≡ (has old.past.reach p || p == q || has (past_at past q).reach p)) → IsFound met past q t new
+      pub found_nearest : has old.known.reach q ≡ false
+          → ((p : ℕ) → has new.known.reach p ≡ (has old.known.reach p || p == q || has (known_at known q).reach p)) → IsFound met known q t new
       found_nearest fresh grown = record {
         near = λ p h. ⊎_elim
             (λ k. let w = f.near p k in (omega (arith, w.0), w.1, w.2, w.3))
-            (λ k. let here : p ≡ q = same_number p q (and_cases _ _ k).0 in (
+            (λ k. let here : p ≡ q = eqb-true p q (and_parts _ _ k).0 in (
               omega arith,
               omega arith,
               rw here is_met,
               λ r c m leads.
-                  let leads' : LeadsIn past q r = rw (← here) leads in
+                  let leads' : LeadsIn known q r = rw (← here) leads in
                   let later : q < r = closed.earlier q r c leads' in
                   both_ways _ fresh (f.all q r (omega arith) c m (inr leads')),
             ))
@@ -102,14 +101,14 @@ module _ (met : List ℕ) (past : List Past) (t : ℕ) where
         reach = λ p h. ⊎_elim
             (λ k. ⊎_elim
             (λ k. let w = f.reach p k in (w.0, omega (arith, w.1), w.2, w.3, w.4))
-            (λ k. (q, omega arith, within, is_met, inl (same_number p q k)))
+            (λ k. (q, omega arith, within, is_met, inl (eqb-true p q k)))
             (or_cases _ _ k))
             (λ k. (q, omega arith, within, is_met, inr k))
             (or_cases _ _ (sym (grown p) ∙ h));
         all = λ p r a b h k. grown p ∙ ⊎_elim
             (λ (here : r ≡ q). ⊎_elim
-            (λ (one : p ≡ r). or_left _ _ (or_right (has old.past.reach p) (p == q) (let same : p ≡ q = one ∙ here in grind (arith, nat_tests))))
-            (λ leads. or_right _ _ (let k : LeadsIn past p q = rw (← here) leads in k))
+            (λ (one : p ≡ r). or_left _ _ (or_right (has old.known.reach p) (p == q) (let same : p ≡ q = one ∙ here in grind (arith, nat_tests))))
+            (λ leads. or_right _ _ (let k : LeadsIn known p q = rw (← here) leads in k))
             k)
             (λ apart. or_left _ _ (or_left _ _ (f.all p r (omega arith) b h k)))
             (cases_eq r q);

@@ -1,3 +1,4 @@
+use Rattle.cs_base.specs.Limits.{most_notes}
 use Rattle.std.proofs.Common.{◌≡◌, ◌||◌, ℕ, zero, suc, ◌*◌, ◌/◌, ◌%◌, ◌^◌, ◌<◌, max, false, List, [], ◌∷◌, length, get_or, set, refl, ap, ⊎_elim, arith, eqb, w64, get_or-set_same, get_or-set_other}
 use Rattle.std.specs.Int.{bit_at}
 use Rattle.std.specs.Int.RustNames.{bit_or}
@@ -6,7 +7,7 @@ use Rattle.std.proofs.lemmas.Bool.{cases_eq, cases_lt}
 use Rattle.std.proofs.lemmas.Bool.Decides.{nat_tests}
 use Rattle.std.proofs.lemmas.List.{get_or_past}
 use Rattle.std.proofs.lemmas.Nat.Bits.{bit_at-zero, bit_at-lt, bit_at_or, shr_and_one, bit_at_set_same, bit_at_set_other}
-use Rattle.cs_graph.specs.Sets.{has}
+use Rattle.cs_graph.specs.inner.Sets.{has}
 
 -- the test of a bit, as code makes it
 pub has_bit : (ws : List ℕ) (n : ℕ) → eqb (bit_and (get_or ws (n / 64) 0 / 2 ^ (n % 64)) 1) 1 ≡ has ws n
@@ -37,7 +38,7 @@ bit-insert w r j small = ⊎_elim
     (λ apart. let there : bit_at (bit_or w (1 * 2 ^ r % 2 ^ 64)) j ≡ bit_at w j = bit_at_set_other w64 w r small j apart in grind (arith, nat_tests))
     (cases_eq j r)
 
-pub has-insert : (ws : List ℕ) (n i : ℕ) → length ws ≡ 8 → n < 512
+pub has-insert : (ws : List ℕ) (n i : ℕ) → length ws ≡ 8 → n < most_notes
     → has (set ws (n / 64) (bit_or (get_or ws (n / 64) 0) (1 * 2 ^ (n % 64) % 18446744073709551616))) i ≡ (has ws i || eqb i n)
 unfolding has
 has-insert ws n i long small = let word : ℕ = bit_or (get_or ws (n / 64) 0) (1 * 2 ^ (n % 64) % 2 ^ 64) in ⊎_elim
@@ -61,7 +62,7 @@ pub has-join : (ws us vs : List ℕ) (i : ℕ) → length ws ≡ 8 → length us
 unfolding has
 has-join ws us vs i long long' long'' each = ⊎_elim
     (λ within. rw (each (i / 64) within) (bit-join (get_or us (i / 64) 0) (get_or vs (i / 64) 0) (i % 64)))
-    (λ past. let w : get_or ws (i / 64) 0 ≡ 0 = get_or_past ws (i / 64) 0 (omega arith) in
+    (λ known. let w : get_or ws (i / 64) 0 ≡ 0 = get_or_past ws (i / 64) 0 (omega arith) in
     let u : get_or us (i / 64) 0 ≡ 0 = get_or_past us (i / 64) 0 (omega arith) in
     let v : get_or vs (i / 64) 0 ≡ 0 = get_or_past vs (i / 64) 0 (omega arith) in
     rw (w, u, v, bit_at-zero (i % 64)) refl)

@@ -3,13 +3,13 @@ use Rattle.std.proofs.lemmas.Bool.Decides.{nat_tests}
 use Rattle.std.proofs.lemmas.List.Folds.{Any-from_list_any, list_any-from_Any, list_any_more}
 use Rattle.std.specs.List.{list_any, Contains}
 use Rattle.cs_cells.specs.declared.footprint.Footprint.{Footprint}
-use Rattle.cs_graph.proofs.BoolLemmas.{or_cases, or_left, or_right, same_number}
-use Rattle.cs_graph.specs.Conflict.{Uses, Clash}
-use Rattle.cs_graph.specs.Touched.{lists}
+use Rattle.std.proofs.lemmas.Bool.{or_cases, or_left, or_right, eqb-true}
+use Rattle.cs_graph.specs.Conflict.{UsesResource, Clash}
+use Rattle.cs_graph.specs.inner.Touched.{lists}
 
 pub Contains-from_test : (xs : List ℕ) (r : ℕ) → lists xs r ≡ true → Contains xs r
 Contains-from_test xs r h = let a = Any-from_list_any (λ y. r == y) xs h in
-    let same : r ≡ a.1 = same_number r a.1 a.4 in subst (Contains xs) (sym same) (a.0, a.2, a.3)
+    let same : r ≡ a.1 = eqb-true r a.1 a.4 in subst (Contains xs) (sym same) (a.0, a.2, a.3)
 
 pub test-from_Contains : (xs : List ℕ) (r : ℕ) → Contains xs r → lists xs r ≡ true
 test-from_Contains xs r h = list_any-from_Any (λ y. r == y) xs (h.0, r, h.1, h.2, grind (arith, nat_tests))
@@ -19,10 +19,10 @@ any-found f xs r h k = list_any-from_Any f xs (h.0, r, h.1, h.2, k)
 
 module _ (F G : Footprint) (w u : ℕ → Bool) (writes : (y : ℕ) → w y ≡ lists F.writes y)
     (uses : (y : ℕ) → u y ≡ (lists F.uses y || lists F.writes y)) where
-  used : (y : ℕ) → u y ≡ true → Uses F y
+  used : (y : ℕ) → u y ≡ true → UsesResource F y
   used y h = ⊎_elim (λ k. inl (Contains-from_test F.uses y k)) (λ k. inr (Contains-from_test F.writes y k)) (or_cases _ _ (sym (uses y) ∙ h))
 
-  used' : (y : ℕ) → Uses F y → u y ≡ true
+  used' : (y : ℕ) → UsesResource F y → u y ≡ true
   used' y h = uses y ∙ ⊎_elim (λ k. or_left _ _ (test-from_Contains F.uses y k)) (λ k. or_right _ _ (test-from_Contains F.writes y k)) h
 
   clash-tested : (list_any w G.uses || list_any u G.writes) ≡ true ↔ Clash F G

@@ -3,15 +3,15 @@ use Rattle.std.specs.List.{Contains}
 use Rattle.cs_cells.specs.declared.footprint.Footprint.{Footprint}
 
 -- whatever is written counts as used
-abbrev pub Uses : Footprint → ℕ → Type 0
-Uses f r = Contains f.uses r ⊎ Contains f.writes r
+abbrev pub UsesResource : Footprint → ℕ → Type 0
+UsesResource f r = Contains f.uses r ⊎ Contains f.writes r
 
-abbrev pub Writes : Footprint → ℕ → Type 0
-Writes f r = Contains f.writes r
+abbrev pub WritesResource : Footprint → ℕ → Type 0
+WritesResource f r = Contains f.writes r
 
 -- one of the two writes a resource that the other uses
 abbrev pub Clash : Footprint → Footprint → Type 0
-Clash f g = (r : ℕ) × ((Writes f r × Uses g r) ⊎ (Uses f r × Writes g r))
+Clash f g = (r : ℕ) × ((WritesResource f r × UsesResource g r) ⊎ (UsesResource f r × WritesResource g r))
 
 -- the footprint of note t; there is nothing that a note past the last one touches
 abbrev pub foot : List Footprint → ℕ → Footprint

@@ -1,7 +1,4 @@
 pub mod Conflict
+pub mod Examples
 pub mod Graph
-pub mod Growing
-pub mod Index
-pub mod Nearest
-pub mod Sets
-pub mod Touched
+pub mod inner

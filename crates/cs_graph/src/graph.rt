@@ -1,13 +1,14 @@
 // The graph of a control cycle's footprints.
-ghost use Rattle.std.specs.Prelude.{◌≡◌, ◌+◌, ◌<◌, ◌≤◌, ◌↔◌, ℕ, length, slice_index, IfOk, OnOk};
+ghost use Rattle.cs_base.specs.Limits.{most_notes};
+ghost use Rattle.std.specs.Prelude.{◌≡◌, ◌*◌, ◌+◌, ◌<◌, ◌≤◌, ◌↔◌, ℕ, length, slice_index, IfOk, OnOk};
 ghost use Rattle.std.specs.List.{Contains};
 ghost use Rattle.std.specs.List.Sorted.{IsStrictlyIncreasing};
 ghost use Rattle.cs_graph.specs.Graph.{IsGraphOf, IsFit, IsLevelled, Edge};
-ghost use Rattle.cs_graph.specs.Growing.{IsGrown};
+ghost use Rattle.cs_graph.specs.inner.Growing.{IsGrown};
 
-use crate::nearest::{Past, nearest};
+use crate::nearest::{Known, nearest};
 use crate::node::{Node, add_edges};
-use crate::touched::{Rows, meet};
+use crate::touched::{SharersByPlace, meet};
 use cs_base::OutOfMemory;
 use cs_cells::{Feet, Footprint};
 use std::alloc::Global;
@@ -15,8 +16,9 @@ use std::collections::HashMap;
 use std::marker::Model;
 use std::ops::Range;
 
-/// Which notes of a control cycle wait for which: an edge leads from each note to the later ones that conflict
-/// with it and that no longer chain of conflicts joins to it. Edges are numbered by the later note, then by the earlier.
+/// Which notes of a control cycle wait for which: an edge leads from each note to the later ones
+/// that conflict with it and that no longer chain of conflicts joins to it. Edges are numbered by
+/// the later note, then by the earlier.
 #[derive(Debug, Drop)]
 pub struct Graph {
     edges: Vec<(u32, u32)>,
@@ -29,7 +31,7 @@ impl Model for Graph {
 
     ghost Value = { Dependencies };
 
-    ghost use Rattle.cs_graph.specs.Index.{IsStored};
+    ghost use Rattle.cs_graph.specs.inner.Index.{IsStored};
 
     ghost view = { λ g. record { edges = g.edges.items; levels = g.levels.items } };
 
@@ -39,8 +41,8 @@ impl Model for Graph {
 /// A graph as far as it is built.
 #[derive(Drop)]
 pub struct Growing {
-    rows: Rows,
-    past: Vec<Past>,
+    by_place: SharersByPlace,
+    known: Vec<Known>,
     edges: Vec<(u32, u32)>,
     levels: Vec<u32>,
     nodes: Vec<Node>,
@@ -48,26 +50,26 @@ pub struct Growing {
 
 impl Growing {
     fn add_note(&mut self, alloc: Global, feet: &[Footprint], note: u32) -> Result<(), OutOfMemory>
-        requires small { note < 512 }
+        requires small { note < most_notes }
         requires within { note < length feet.now }
         requires grown { IsGrown feet.now note self.old }
         ensures { OnOk result (IsGrown feet.now (note + 1) self.new) }
     {
-        let met = meet(&mut self.rows, feet, note)?;
-        let found = nearest(&met, note, &self.past);
+        let met = meet(&mut self.by_place, feet, note)?;
+        let found = nearest(&met, note, &self.known);
         let first_in = self.edges.len() as u32;
         self.nodes.push(Node::new(alloc, first_in))?;
         add_edges(&mut self.edges, &mut self.nodes, &found.near, note)?;
-        self.levels.push(found.past.level)?;
-        self.past.push(found.past)?;
+        self.levels.push(found.known.level)?;
+        self.known.push(found.known)?;
         Ok(())
     }
 }
 
 impl Graph {
-    /// The graph of at most 512 footprints in serial order.
+    /// The graph of footprints in serial order, of at most as many notes as a cycle may have.
     pub fn build(alloc: Global, feet: &Feet) -> Result<Graph, OutOfMemory>
-        requires { length feet.now ≤ 512 }
+        requires { length feet.now ≤ most_notes }
         ensures graph { IfOk result (λ graph. IsGraphOf feet.now graph) }
         // Each earlier conflicting note is reached along the nearest ones.
         ensures fit { IfOk result (λ graph. IsFit feet.now graph.edges) }
@@ -76,8 +78,8 @@ impl Graph {
     {
         let feet = feet.as_slice();
         let mut growing = Growing {
-            rows: HashMap::new(alloc),
-            past: Vec::new(alloc),
+            by_place: HashMap::new(alloc),
+            known: Vec::new(alloc),
             edges: Vec::new(alloc),
             levels: Vec::new(alloc),
             nodes: Vec::new(alloc),
@@ -101,7 +103,7 @@ impl Graph {
     /// The number of notes.
     pub fn len(&self) -> u32
         ensures notes { result ≡ length self.now.levels }
-        ensures few { result ≤ 512 }
+        ensures few { result ≤ most_notes }
     {
         self.levels.len() as u32
     }
@@ -134,10 +136,11 @@ impl Graph {
         self.levels[note as usize]
     }
 
-    /// All edges, each from an earlier note to a later one, in the order of the later note and then of the earlier one.
+    /// All edges, each from an earlier note to a later one, in the order of the later note and then
+    /// of the earlier one.
     pub fn edges(&self) -> &[(u32, u32)]
         ensures edges { result.now ≡ self.now.edges }
-        ensures few { length result.now ≤ 262144 }
+        ensures few { length result.now ≤ most_notes * most_notes }
     {
         &self.edges
     }

@@ -1,21 +1,22 @@
-//! Which note of a control cycle waits for which. Two notes conflict where one of them writes a resource that
-//! the other uses; the later one waits for the earlier one.
+//! Which note of a control cycle waits for which. Two notes conflict where one of them writes a
+//! resource that the other uses; the later one waits for the earlier one.
 //!
-//! The one contract: the edges of a `Graph` are exactly the nearest conflicts, those that no longer chain of
-//! conflicts joins, in the order of the later note; along them each conflict is reached (`Graph::build`).
-//! The look-ups cost the note's own edges alone.
+//! The one contract: the edges of a `Graph` are exactly the nearest conflicts, those that no longer
+//! chain of conflicts joins, in the order of the later note; along them each conflict is reached
+//! (`Graph::build`). The look-ups cost the note's own edges alone.
 //!
-//! How conflicts are found and how farther ones are dropped may change without anyone above noticing: now each
-//! place has the notes so far that touch it, as sets of bits, and each note the set of notes that lead to it.
-//! In reading order: `note_set`, `touched`, `nearest`, `node`, `graph`.
+//! How conflicts are found and how farther ones are dropped may change without anyone above
+//! noticing: now each place has the notes so far that touch it, as sets of bits, and each note the
+//! set of notes that lead to it. In reading order: `note_set`, `touched`, `nearest`, `node`,
+//! `graph`; `examples` works a small cycle out.
 #![tactic(auto)]
 
+mod examples;
 mod graph;
 mod nearest;
 mod node;
 mod note_set;
-#[cfg(test)]
-mod tests;
 mod touched;
 
+pub use examples::graph_examples;
 pub use graph::Graph;

@@ -1,16 +1,17 @@
 // What is kept for each note, so that a look-up costs the note's own edges alone.
+ghost use Rattle.cs_base.specs.Limits.{most_notes};
 ghost use Rattle.std.specs.Prelude.{◌≡◌, ◌+◌, ◌*◌, ◌<◌, ◌≤◌, ◌⊎◌, ◌↔◌, ◌++◌, ◌∷◌, [], ℕ, true, length, OnOk};
 ghost use Rattle.std.specs.List.{All};
 ghost use Rattle.cs_graph.specs.Graph.{ComesBefore};
-ghost use Rattle.cs_graph.specs.Index.{IsIndexed, IsOpen, HasEdge, node_at};
-ghost use Rattle.cs_graph.specs.Sets.{has};
+ghost use Rattle.cs_graph.specs.inner.Index.{IsIndexed, IsOpen, HasEdge, node_at};
+ghost use Rattle.cs_graph.specs.inner.Sets.{has};
 
 use crate::note_set::NoteSet;
 use cs_base::{Numbers, OutOfMemory};
 use std::alloc::Global;
 
-/// The edges at one note: its predecessors and successors, ascending, the numbers of the edges that lead from
-/// it, and of the first edge that leads to it.
+/// The edges at one note: its predecessors and successors, ascending, the numbers of the edges that
+/// lead from it, and of the first edge that leads to it.
 #[derive(Debug, Drop)]
 pub struct Node {
     pub preds: Numbers,
@@ -32,7 +33,10 @@ impl Node {
     }
 
     fn add_pred(&mut self, earlier: u32) -> Result<(), OutOfMemory>
-        ensures { OnOk result (self.new ≡ record self.old { preds = self.old.preds ++ earlier ∷ [] }) }
+        ensures { OnOk result (self.new ≡ record self.old {
+          preds = self.old.preds ++ earlier
+              ∷ [];
+        }) }
     {
         self.preds.push(earlier)?;
         Ok(())
@@ -61,7 +65,7 @@ fn add_edge(
     requires indexed { IsIndexed edges.old.items nodes.old.items }
     requires last { IsOpen edges.old.items nodes.old.items later }
     requires after { All (λ e. ComesBefore e (earlier, later)) edges.old.items }
-    requires few { length edges.old.items < 262144 }
+    requires few { length edges.old.items < most_notes * most_notes }
     ensures edges { OnOk result (edges.new.items ≡ edges.old.items ++ (earlier, later) ∷ []) }
     ensures indexed { OnOk result (IsIndexed edges.new.items nodes.new.items) }
     ensures last { OnOk result (IsOpen edges.new.items nodes.new.items later) }
@@ -83,16 +87,16 @@ pub fn add_edges(
     near: &NoteSet,
     note: u32,
 ) -> Result<(), OutOfMemory>
-    requires small { (note < 512) × (note + 1 ≡ length nodes.old.items) }
+    requires small { (note < most_notes) × (note + 1 ≡ length nodes.old.items) }
     requires indexed { IsIndexed edges.old.items nodes.old.items }
     requires last { IsOpen edges.old.items nodes.old.items note }
     requires after { All (λ e. e.1 < note) edges.old.items }
-    requires few { length edges.old.items ≤ 512 * note }
+    requires few { length edges.old.items ≤ most_notes * note }
     ensures edges { OnOk result ((p t : ℕ) → HasEdge edges.new.items p t
         ↔ (HasEdge edges.old.items p t ⊎ ((t ≡ note) × (p < note) × (has near.now p ≡ true)))) }
     ensures indexed { OnOk result (IsIndexed edges.new.items nodes.new.items) }
     ensures notes { OnOk result (length nodes.new.items ≡ length nodes.old.items) }
-    ensures few { OnOk result (length edges.new.items ≤ 512 * (note + 1)) }
+    ensures few { OnOk result (length edges.new.items ≤ most_notes * (note + 1)) }
 {
     for earlier in 0..note {
         if near.contains(earlier) {

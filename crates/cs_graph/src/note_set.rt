@@ -1,13 +1,19 @@
-// A set of up to 512 notes, one bit each.
+// A set of the notes of a cycle, one bit each.
+ghost use Rattle.cs_base.specs.Limits.{most_notes};
 ghost use Rattle.std.specs.Prelude.{◌≡◌, ◌==◌, ◌||◌, ℕ, ◌<◌, false};
-ghost use Rattle.cs_graph.specs.Sets.{has};
+ghost use Rattle.cs_graph.specs.inner.Sets.{has};
 
+use cs_base::MOST_NOTES;
 use std::marker::Model;
 
-/// A set of notes below 512, as bits of eight words. Contracts see the words, and ask for a member by `has`.
+/// How many words have a bit for each note.
+const WORDS: usize = MOST_NOTES / 64;
+
+/// A set of the notes that a cycle may have, as bits of words. Contracts see the words, and ask for
+/// a member by `has`.
 #[derive(Clone, Copy)]
 pub struct NoteSet {
-    words: [u64; 8],
+    words: [u64; WORDS],
 }
 
 impl Model for NoteSet {
@@ -27,18 +33,18 @@ impl NoteSet {
     pub fn new() -> NoteSet
         ensures { (i : ℕ) → has result i ≡ false }
     {
-        NoteSet { words: [0; 8] }
+        NoteSet { words: [0; WORDS] }
     }
 
     pub fn contains(&self, note: u32) -> bool
-        requires { note < 512 }
+        requires { note < most_notes }
         ensures { result ≡ has self.now note }
     {
         self.words[(note / 64) as usize] >> (note % 64) & 1 == 1
     }
 
     pub fn insert(&mut self, note: u32)
-        requires { note < 512 }
+        requires { note < most_notes }
         ensures { (i : ℕ) → has self.new i ≡ (has self.old i || i == note) }
     {
         self.words[(note / 64) as usize] |= 1u64 << (note % 64);
@@ -48,7 +54,7 @@ impl NoteSet {
     pub fn join(&mut self, other: &NoteSet)
         ensures { (i : ℕ) → has self.new i ≡ (has self.old i || has other.now i) }
     {
-        for k in 0..8 {
+        for k in 0..WORDS {
             self.words[k] |= other.words[k];
         }
     }

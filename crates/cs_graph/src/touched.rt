@@ -1,9 +1,10 @@
 // The notes so far that use and that write each place.
+ghost use Rattle.cs_base.specs.Limits.{most_notes};
 ghost use Rattle.std.specs.Prelude.{◌≡◌, ◌==◌, ◌≢◌, ◌&&◌, ◌||◌, ◌↔◌, ◌+◌, ℕ, ◌<◌, true, false, length, IfOk, OnOk};
 ghost use Rattle.std.specs.List.{list_any};
 ghost use Rattle.cs_graph.specs.Conflict.{Clash, foot};
-ghost use Rattle.cs_graph.specs.Sets.{has};
-ghost use Rattle.cs_graph.specs.Touched.{uses_so_far, writes_so_far, meets_so_far, IsTouchedBy};
+ghost use Rattle.cs_graph.specs.inner.Sets.{has};
+ghost use Rattle.cs_graph.specs.inner.Touched.{uses_so_far, writes_so_far, meets_so_far, IsTouchedBy};
 
 use crate::note_set::NoteSet;
 use cs_base::OutOfMemory;
@@ -12,27 +13,27 @@ use std::collections::HashMap;
 
 /// The notes so far that use a place (whatever is written is used), and those that write it.
 #[derive(Drop)]
-pub struct Row {
+pub struct Sharers {
     users: NoteSet,
     writers: NoteSet,
 }
 
-/// A row for each place that a note so far has touched.
-pub type Rows = HashMap<u32, Row>;
+/// Who shares each place that a note so far has touched.
+pub type SharersByPlace = HashMap<u32, Sharers>;
 
-impl Row {
-    fn new() -> Row
+impl Sharers {
+    fn new() -> Sharers
         ensures users { (p : ℕ) → has result.users p ≡ false }
         ensures writers { (p : ℕ) → has result.writers p ≡ false }
     {
-        Row {
+        Sharers {
             users: NoteSet::new(),
             writers: NoteSet::new(),
         }
     }
 
     fn add_user(&mut self, note: u32)
-        requires { note < 512 }
+        requires { note < most_notes }
         ensures users { (p : ℕ) → has self.new.users p ≡ (has self.old.users p || p == note) }
         ensures writers { self.new.writers ≡ self.old.writers }
     {
@@ -40,7 +41,7 @@ impl Row {
     }
 
     fn add_writer(&mut self, note: u32)
-        requires { note < 512 }
+        requires { note < most_notes }
         ensures users { (p : ℕ) → has self.new.users p ≡ (has self.old.users p || p == note) }
         ensures writers { (p : ℕ) → has self.new.writers p ≡ (has self.old.writers p || p == note) }
     {
@@ -49,66 +50,72 @@ impl Row {
     }
 }
 
-// The note uses the place, and so meets the place's writers so far; or it writes the place, and meets its users.
+// The note uses the place, and so meets the place's writers so far; or it writes the place, and
+// meets its users.
 fn touch_place(
-    rows: &mut Rows,
+    by_place: &mut SharersByPlace,
     place: u32,
     writes: bool,
     note: u32,
     met: &mut NoteSet,
 ) -> Result<(), OutOfMemory>
-    requires { note < 512 }
-    ensures users { OnOk result ((r p : ℕ) → uses_so_far rows.new r p
-        ≡ (uses_so_far rows.old r p || (r == place && p == note))) }
-    ensures writers { OnOk result ((r p : ℕ) → writes_so_far rows.new r p
-        ≡ (writes_so_far rows.old r p || (writes && (r == place && p == note)))) }
+    requires { note < most_notes }
+    ensures users { OnOk result ((r p : ℕ) → uses_so_far by_place.new r p
+        ≡ (uses_so_far by_place.old r p || (r == place && p == note))) }
+    ensures writers { OnOk result ((r p : ℕ) → writes_so_far by_place.new r p
+        ≡ (writes_so_far by_place.old r p || (writes && (r == place && p == note)))) }
     ensures met { OnOk result ((p : ℕ) → has met.new p
-        ≡ (has met.old p || meets_so_far writes rows.old place p)) }
+        ≡ (has met.old p || meets_so_far writes by_place.old place p)) }
 {
-    let row = rows.entry(place)?.or_insert(Row::new());
+    let sharers = by_place.entry(place)?.or_insert(Sharers::new());
     if writes {
-        met.join(&row.users);
-        row.add_writer(note);
+        met.join(&sharers.users);
+        sharers.add_writer(note);
     } else {
-        met.join(&row.writers);
-        row.add_user(note);
+        met.join(&sharers.writers);
+        sharers.add_user(note);
     }
     Ok(())
 }
 
 fn touch_places(
-    rows: &mut Rows,
+    by_place: &mut SharersByPlace,
     places: &[u32],
     writes: bool,
     note: u32,
     met: &mut NoteSet,
 ) -> Result<(), OutOfMemory>
-    requires { note < 512 }
-    ensures users { OnOk result ((r p : ℕ) → uses_so_far rows.new r p
-        ≡ (uses_so_far rows.old r p || (list_any (λ y. r == y) places.now && p == note))) }
-    ensures writers { OnOk result ((r p : ℕ) → writes_so_far rows.new r p
-        ≡ (writes_so_far rows.old r p || (writes && (list_any (λ y. r == y) places.now && p == note)))) }
+    requires { note < most_notes }
+    ensures users { OnOk result ((r p : ℕ) → uses_so_far by_place.new r p
+        ≡ (uses_so_far by_place.old r p || (list_any (λ y. r == y) places.now && p == note))) }
+    ensures writers { OnOk result ((r p : ℕ) → writes_so_far by_place.new r p
+        ≡ (writes_so_far by_place.old r p
+        || (writes && (list_any (λ y. r == y) places.now && p == note)))) }
     ensures met { OnOk result ((p : ℕ) → p ≢ note → has met.new p
-        ≡ (has met.old p || list_any (λ y. meets_so_far writes rows.old y p) places.now)) }
+        ≡ (has met.old p || list_any (λ y. meets_so_far writes by_place.old y p) places.now)) }
 {
     for place in places {
-        touch_place(rows, *place, writes, note, met)?;
+        touch_place(by_place, *place, writes, note, met)?;
     }
     Ok(())
 }
 
 /// Takes in the next note, and answers the earlier notes that it conflicts with.
-pub fn meet(rows: &mut Rows, feet: &[Footprint], note: u32) -> Result<NoteSet, OutOfMemory>
-    requires small { note < 512 }
+pub fn meet(
+    by_place: &mut SharersByPlace,
+    feet: &[Footprint],
+    note: u32,
+) -> Result<NoteSet, OutOfMemory>
+    requires small { note < most_notes }
     requires within { note < length feet.now }
-    requires rows { IsTouchedBy feet.now note rows.old }
-    ensures rows { OnOk result (IsTouchedBy feet.now (note + 1) rows.new) }
+    requires by_place { IsTouchedBy feet.now note by_place.old }
+    ensures by_place { OnOk result (IsTouchedBy feet.now (note + 1) by_place.new) }
     ensures met { IfOk result (λ met. (p : ℕ) → p < note
         → (has met p ≡ true) ↔ Clash (foot feet.now p) (foot feet.now note)) }
 {
     let foot = &feet[note as usize];
     let mut met = NoteSet::new();
-    touch_places(rows, foot.uses.as_slice(), false, note, &mut met)?;
-    touch_places(rows, foot.writes.as_slice(), true, note, &mut met)?;
+    touch_places(by_place, foot.uses.as_slice(), false, note, &mut met)?;
+    touch_places(by_place, foot.writes.as_slice(), true, note, &mut met)?;
     Ok(met)
 }

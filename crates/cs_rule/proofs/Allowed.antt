@@ -2,7 +2,7 @@
 use Rattle.std.proofs.Common.{◌≡◌, ◌≢◌, ℕ, ◌+◌, ◌<◌, ◌≤◌, ⊎_elim, List, length, set, true, false, Option, Some, None, refl, sym, ap, ◌∙◌, subst, arith, slice_index, slice_set, eqb, eq-eqb, ne_eqb}
 use Rattle.std.proofs.lemmas.Bool.{cases_eq}
 use Rattle.std.proofs.lemmas.List.{set-get_or}
-use Rattle.std.proofs.lemmas.Option.{slice_get_within}
+use Rattle.std.proofs.lemmas.Option.{same_Some, slice_get_within}
 use mathlib.Core.Option as maybe
 use mathlib.Core.Option.{some, none}
 use prog.Atomic.{either}
@@ -15,17 +15,17 @@ use Rattle.cs_rule.specs.Counts.{listed}
 use Rattle.cs_rule.specs.Facts.{turned_in, Pictured}
 use Rattle.cs_rule.specs.Plans.{uses_at, places_used, places_written, writers_before, area_count, edge_count}
 use Rattle.cs_rule.specs.Rule.{Facts, Holds}
-use Rattle.cs_rule.specs.Told.{Sat, finished, closed, watched, opens, claimed, looked, looked_turn}
+use Rattle.cs_rule.specs.Plays.{Sat, finished, closed, watched, opens, claimed, looked, looked_turn}
 use Rattle.cs_rule.specs.Views.{began, missed, ended, shut, settled, passed, opened}
-use Rattle.cs_rule.specs.Words.{Words, at, row_of, IsSized, status_at, watch_at, turn_at, cell_at}
+use Rattle.cs_rule.specs.Words.{Words, at, all_words, IsSized, status_at, watch_at, turn_at, cell_at}
 use Rattle.cs_rule.specs.declared.view.Doing.{Doing}
 use Rattle.cs_rule.specs.declared.view.Plan.{Plan}
 use Rattle.cs_rule.specs.declared.view.View.{View}
-use Rattle.cs_rule.proofs.Begins.{some_is, facts_began, facts_missed}
+use Rattle.cs_rule.proofs.Begins.{facts_began, facts_missed}
 use Rattle.cs_rule.proofs.Ends.{facts_ended, facts_shut}
 use Rattle.cs_rule.proofs.Lists.{set_again, within_of}
 use Rattle.cs_rule.proofs.Moves.{facts_settled, facts_passed, facts_opened}
-use Rattle.cs_rule.proofs.Rows.{get_status, get_watch, get_turn, get_cell, set_status, set_watch, sized_status, sized_watch}
+use Rattle.cs_rule.proofs.AllWords.{get_status, get_watch, get_turn, get_cell, set_status, set_watch, sized_status, sized_watch}
 use Rattle.cs_rule.proofs.Does.{busy}
 use Rattle.cs_rule.proofs.Turns.{looks_turn}
 
@@ -39,13 +39,14 @@ exchanged n old new P hit miss = ⊎_elim
 module _ {J : Type 0} (M : Meaning J) (k : Plan J) where
   -- the rule after a step, from the words' parts and the facts
   pub holds_after : (s : State (Option J) (View J)) (h : Holds M k s) (ws : List ℕ) (p : Words) (hs : List (maybe.Option (Option J))) (vs : List (View J))
-      → ws ≡ row_of k.notes p → IsSized k p → length hs ≡ length s.homes → Facts M k p hs vs → Holds M k (record { words = ws; homes = hs; views = vs })
+      → ws ≡ all_words k.notes p → IsSized k p → length hs ≡ length s.homes → Facts M k p hs vs → Holds M k (record { words = ws; homes = hs; views = vs })
   holds_after s h ws p hs vs words sized deep facts = record { plan = h.plan; parts = p; words = words; sized = sized; deep = deep ∙ h.deep; facts = facts }
 
-  pub word_kept : (s : State (Option J) (View J)) (h : Holds M k s) (i : ℕ) → slice_set s.words i (slice_index s.words i) ≡ row_of k.notes h.parts
+  pub word_kept : (s : State (Option J) (View J)) (h : Holds M k s) (i : ℕ) → slice_set s.words i (slice_index s.words i) ≡ all_words k.notes h.parts
   word_kept s h i = set-get_or s.words i 0 ∙ h.words
 
-  pub word_set : (s : State (Option J) (View J)) (h : Holds M k s) (i x : ℕ) (p : Words) → set (row_of k.notes h.parts) i x ≡ row_of k.notes p → slice_set s.words i x ≡ row_of k.notes p
+  pub word_set : (s : State (Option J) (View J)) (h : Holds M k s) (i x : ℕ) (p : Words) → set (all_words k.notes h.parts) i x ≡ all_words k.notes p
+      → slice_set s.words i x ≡ all_words k.notes p
   word_set s h i x p e = ap (λ ws. set ws i x) h.words ∙ e
 
   pub status_is : (s : State (Option J) (View J)) (h : Holds M k s) (t : ℕ) → t < k.notes → slice_index s.words (status_at k t) ≡ at h.parts.status t
@@ -69,7 +70,7 @@ module _ {J : Type 0} (M : Meaning J) (k : Plan J) where
 
   one_edge : (m : Plan J) (e q t r u : ℕ) → m ≡ k → Edge k.edges e q t → Edge m.edges e r u → (q ≡ r) × (t ≡ u)
   one_edge m e q t r u same a b = let b' : Edge k.edges e r u = subst (λ z. Edge z.edges e r u) same b in
-      let s : (q, t) ≡ (r, u) = some_is (sym a ∙ b') in (ap (λ z. z.0) s, ap (λ z. z.1) s)
+      let s : (q, t) ≡ (r, u) = same_Some _ _ (sym a ∙ b') in (ap (λ z. z.0) s, ap (λ z. z.1) s)
 
   module _ (F : Frames M) (n id : ℕ) (m : Sat J) (plan : m.0.plan ≡ k) where
     pub claims : (t : ℕ) → t < k.notes → m.0.doing ≡ None → m.0.closing ≡ None → m.0.moving ≡ None → m.0.spent ≡ false
@@ -98,7 +99,8 @@ module _ {J : Type 0} (M : Meaning J) (k : Plan J) where
         x = slice_index s.words (status_at k t)
 
     -- a load that changes nothing
-    rule_again : (s : State (Option J) (View J)) (h : Holds M k s) (i : ℕ) → get_elem? s.views id ≡ some m.0 → Holds M k (stepped s i (slice_index s.words i) id m.1 m.0 keeps)
+    rule_again : (s : State (Option J) (View J)) (h : Holds M k s) (i : ℕ) → get_elem? s.views id ≡ some m.0
+        → Holds M k (stepped s i (slice_index s.words i) id m.1 m.0 keeps)
     rule_again s h i here = holds_after s h (slice_set s.words i (slice_index s.words i)) h.parts s.homes (set s.views id m.0) (word_kept s h i) h.sized refl
         (subst (Facts M k h.parts s.homes) (sym (set_again s.views id m.0 here)) h.facts)
 
@@ -132,7 +134,7 @@ module _ {J : Type 0} (M : Meaning J) (k : Plan J) where
             let used_k : listed (places_used M k d.note) b ≡ true = subst (λ z. listed (places_used M z d.note) b ≡ true) plan used in
             let running : at h.parts.status d.note ≡ 2 = busy k h.parts.status s.views h.facts.doers id m.0 d here doing in
             let within : d.note < length h.parts.status = within_of h.parts.status d.note (λ z. omega (arith, running)) in
-            ap (λ ws. at ws (turn_at k r)) h.words ∙ ap (λ z. at (row_of k.notes h.parts) (turn_at k z)) same_ ∙ get_turn k h.parts h.sized b low_k
+            ap (λ ws. at ws (turn_at k r)) h.words ∙ ap (λ z. at (all_words k.notes h.parts) (turn_at k z)) same_ ∙ get_turn k h.parts h.sized b low_k
             ∙ looks_turn M k h.parts.status s.views id m.0 m.0 here h.plan h.parts.watch h.facts.gates h.facts.doers d doing h.parts.turns b (omega (arith, within, h.sized.status)) low_k used_k h.facts.turned
             ∙ subst (λ z. writers_before M k d.note b + turned_in M k b m.0.doing ≡ writers_before M z d.note b + turned_in M z b m.0.doing) (sym plan) refl,
       ),
@@ -152,7 +154,8 @@ module _ {J : Type 0} (M : Meaning J) (k : Plan J) where
           λ u e. let same_ : d.note ≡ u = one_status m.0.plan d.note u e in ap (λ z. (ended m.0 z, m.1)) same_,
         )
 
-    pub closes_edge : (e q t i : ℕ) → Edge k.edges e q t → m.0.closing ≡ Some (record { note = q; place = i }) → m.0.moving ≡ None → i ≤ e → ((g u : ℕ) → Edge k.edges g q u → i ≤ g → e ≤ g) → m.0.spent ≡ false
+    pub closes_edge : (e q t i : ℕ) → Edge k.edges e q t → m.0.closing ≡ Some (record { note = q; from = i }) → m.0.moving ≡ None → i ≤ e
+        → ((g u : ℕ) → Edge k.edges g q u → i ≤ g → e ≤ g) → m.0.spent ≡ false
         → Allows (Holds M k) n id m (watch_at k e) (λ _. 2) (closed (step n (watch_at k e) 2 0 none) m)
     closes_edge e q t i edge closing no_moving low first live s h deep here fits =
         let near : e < edge_count k = slice_get_within k.edges e (q, t) edge in
@@ -171,7 +174,8 @@ module _ {J : Type 0} (M : Meaning J) (k : Plan J) where
               ap (λ z. (shut m.0 z q t x, m.1)) same_e ∙ ap (λ z. (shut m.0 e' z t x, m.1)) both.0 ∙ ap (λ z. (shut m.0 e' q' z x, m.1)) both.1,
         )
 
-    pub watches_edge : (e q t i : ℕ) → Edge k.edges e q t → m.0.moving ≡ Some (record { note = t; place = i }) → i ≤ e → ((g r : ℕ) → Edge k.edges g r t → i ≤ g → e ≤ g) → m.0.spent ≡ false
+    pub watches_edge : (e q t i : ℕ) → Edge k.edges e q t → m.0.moving ≡ Some (record { note = t; from = i }) → i ≤ e
+        → ((g r : ℕ) → Edge k.edges g r t → i ≤ g → e ≤ g) → m.0.spent ≡ false
         → Allows (Holds M k) n id m (watch_at k e) (λ y. either (eqb y 0) 1 y) (watched (step n (watch_at k e) 0 1 none) m)
     watches_edge e q t i edge moving low first live s h deep here fits =
         exchanged x 0 1 (λ y. (w : View J) × (a : Act (Option J)) × Valid s.homes m.1 a × Holds M k (stepped s (watch_at k e) y id m.1 w a) × watched (step n (watch_at k e) 0 1 none) m x (w, carried_after m.1 a))
@@ -202,7 +206,7 @@ module _ {J : Type 0} (M : Meaning J) (k : Plan J) where
         near : e < edge_count k
         near = slice_get_within k.edges e (q, t) edge
 
-    pub opens_note : (t i : ℕ) → t < k.notes → m.0.moving ≡ Some (record { note = t; place = i }) → ((g r : ℕ) → Edge k.edges g r t → g < i) → m.0.spent ≡ false
+    pub opens_note : (t i : ℕ) → t < k.notes → m.0.moving ≡ Some (record { note = t; from = i }) → ((g r : ℕ) → Edge k.edges g r t → g < i) → m.0.spent ≡ false
         → Allows (Holds M k) n id m (status_at k t) (λ _. 1) (λ _. opens (step n (status_at k t) 1 0 none) m 1)
     opens_note t i low moving last live s h deep here fits = (
       opened m.0 t,

@@ -1,6 +1,7 @@
 -- A note is claimed, or a try misses it; and the steps of a note that is done: they keep the facts.
-use Rattle.std.proofs.Common.{◌≡◌, ◌≢◌, ℕ, ◌+◌, ◌<◌, ◌≤◌, inl, inr, ⊎_elim, List, length, set, Bool, true, false, Option, Some, None, refl, sym, ap, ◌∙◌, subst, arith, ◌==◌, ◌&&◌, nat_le, slice_get}
-use Rattle.std.proofs.lemmas.Bool.{cases_eq}
+use Rattle.std.proofs.Common.{◌≡◌, ◌≢◌, ℕ, ◌+◌, ◌<◌, ◌≤◌, inl, inr, ⊎_elim, List, length, set, false, Option, Some, None, refl, sym, ap, ◌∙◌, subst, arith, ◌==◌, nat_le, slice_get}
+use Rattle.std.proofs.lemmas.Option.{same_Some}
+use Rattle.std.proofs.lemmas.Bool.{and_right, cases_eq}
 use mathlib.Core.Option as maybe
 use mathlib.Core.Option.{some}
 use lib.ListN.{get_elem?}
@@ -16,18 +17,11 @@ use Rattle.cs_rule.specs.declared.view.Doing.{Doing}
 use Rattle.cs_rule.specs.declared.view.Plan.{Plan}
 use Rattle.cs_rule.specs.declared.view.View.{View}
 use Rattle.cs_rule.proofs.Does.{alike}
-use Rattle.cs_rule.proofs.Groups.{gates_status, sane_step, doers_step, watches_still, tallied_step, seats_step, owned_step}
+use Rattle.cs_rule.proofs.Groups.{gates_status, sane_live, sane_step, doers_step, watches_still, tallied_step, seats_step, owned_step}
 use Rattle.cs_rule.proofs.Lists.{same_yes, same_no, put_cases, times-without, times-without_le}
 use Rattle.cs_rule.proofs.Slots.{slots_step, slots_status}
 use Rattle.cs_rule.proofs.Stores.{stored_step, pictured_fresh}
 use Rattle.cs_rule.proofs.Turns.{turned_still}
-
-pub and_false : (b : Bool) → (b && false) ≡ false
-and_false true = refl
-and_false false = refl
-
-pub some_is : {A : Type 0} {p q : A} → Some p ≡ Some q → p ≡ q
-some_is e = cc
 
 -- a status that is set to a number other than 3, where it was other than 3
 pub three_still : (st : List ℕ) (t x a : ℕ) → t < length st → at st t ≡ a → (x == 3) ≡ (a == 3) → (u : ℕ) → same (at st u) 3 ≡ same (at (set st t x) u) 3
@@ -43,14 +37,7 @@ module _ {J : Type 0} (M : Meaning J) (F : Frames M) (k : Plan J) (plan : IsPlan
       → Facts M k (record p { status = set p.status t 2 }) hs (set vs id (began M v t))
   facts_began t low is v_plan idle no_closing no_moving live = record {
     gates = gates_status k st p.watch t 2 near f.gates (omega arith) (λ n e q edge. f.gates.closed e q t edge (λ z. omega arith)) (λ z. absurd (omega arith));
-    sane = sane_step k vs id v w here (λ s. record {
-      plan = s.plan;
-      one_duty = inr (no_closing, no_moving);
-      owes_in = λ u some_. s.owes_in u (omega (arith, some_, times-without_le u t v.owes));
-      follower = s.follower;
-      leader = s.leader;
-      over = λ z. absurd (let e : true ≡ false = sym z ∙ live in cc);
-    }) f.sane;
+    sane = sane_step k vs id v w here (λ s. sane_live k v w live refl refl refl refl (inr (no_closing, no_moving)) (λ u some_. s.owes_in u (omega (arith, some_, times-without_le u t v.owes))) s) f.sane;
     doers = doers_step k vs id v w here st st' (λ u. let none : does_note u v ≡ 0 = ap (doing_on u) idle in ⊎_elim
         (λ h. let a : same t u ≡ 1 = same_yes t u (sym h.0) in
         let b : same (at st u) 2 ≡ 0 = ap (λ n. same n 2) (ap (at st) h.0 ∙ is) in
@@ -72,10 +59,10 @@ module _ {J : Type 0} (M : Meaning J) (F : Frames M) (k : Plan J) (plan : IsPlan
     seats = seats_step k vs id v w here refl (λ x. refl) refl refl f.seats;
     owned = owned_step k vs id v w here st st' p.own p.own (λ u.
         let a : ran_note u v ≡ 0 = ap (ran_on u) idle in
-        let b : ran_note u w ≡ 0 = ap one (and_false (t == u)) in
+        let b : ran_note u w ≡ 0 = ap one (and_right (t == u) false refl) in
         omega (arith, three_still st t 2 1 near is refl u)) f.owned;
     slots = slots_status M k vs id v w here st hs t 2 1 near is (λ z. omega arith) refl (λ d j e free at_.
-        let same_d : fresh M v.plan t ≡ d = some_is e in
+        let same_d : fresh M v.plan t ≡ d = same_Some _ _ e in
         let note : t ≡ d.note = ap (λ x. x.note) same_d in
         let phase : 0 ≡ d.phase = ap (λ x. x.phase) same_d in
         let at_t : slice_get k.jobs t ≡ Some j = ap (slice_get k.jobs) note ∙ at_ in
@@ -86,7 +73,7 @@ module _ {J : Type 0} (M : Meaning J) (F : Frames M) (k : Plan J) (plan : IsPlan
         ∙ ap (λ n. some (some (Some (job_if M k (nat_le 1 d.phase) n j)))) note) f.slots;
     stored = stored_step M F k plan st p.watch p.cells vs id v w here f.gates st' (alike st t 2 1 near is refl)
         (λ u z. ⊎_elim (λ h. h.1) (λ h. h.1 ∙ z) (put_cases st t 2 u near))
-        (λ d e. subst (Pictured M k p.cells) (ap (λ z. fresh M z t) (sym v_plan) ∙ some_is e) (pictured_fresh M F k plan st p.watch p.cells vs id v w here f.gates t low is f.stored))
+        (λ d e. subst (Pictured M k p.cells) (ap (λ z. fresh M z t) (sym v_plan) ∙ same_Some _ _ e) (pictured_fresh M F k plan st p.watch p.cells vs id v w here f.gates t low is f.stored))
         f.stored;
     turned = turned_still M k st vs id v w here st' p.turns (alike st t 2 1 near is refl) (λ r. sym (ap (turned_in M k r) idle)) f.turned;
   }
@@ -104,14 +91,7 @@ module _ {J : Type 0} (M : Meaning J) (F : Frames M) (k : Plan J) (plan : IsPlan
   pub facts_missed : (t : ℕ) → at p.status t ≢ 1 → v.spent ≡ false → Facts M k p hs (set vs id (missed v t))
   facts_missed t is live = record {
     gates = f.gates;
-    sane = sane_step k vs id v w here (λ s. record {
-      plan = s.plan;
-      one_duty = s.one_duty;
-      owes_in = λ u some_. s.owes_in u (omega (arith, some_, times-without_le u t v.owes));
-      follower = s.follower;
-      leader = s.leader;
-      over = λ z. absurd (let e : true ≡ false = sym z ∙ live in cc);
-    }) f.sane;
+    sane = sane_step k vs id v w here (λ s. sane_live k v w live refl refl refl refl s.one_duty (λ u some_. s.owes_in u (omega (arith, some_, times-without_le u t v.owes))) s) f.sane;
     doers = doers_step k vs id v w here st st (λ u. refl) f.doers;
     watches = watches_still k vs id v w here st st p.watch refl refl (λ u. refl) (λ u z. z) (λ u z. z) (λ u z. z) f.watches;
     tallied = tallied_step k vs id v w here st st
@@ -144,19 +124,13 @@ module _ {J : Type 0} (M : Meaning J) (F : Frames M) (k : Plan J) (plan : IsPlan
           (cases_eq (at p.status u) 0)
 
   -- a step of the note that the view does
-  pub facts_does : (p' : Words) (hs' : List (maybe.Option (Option J))) (d d' : Doing) → p'.status ≡ p.status → p'.watch ≡ p.watch → v.doing ≡ Some d → d'.note ≡ d.note → v.spent ≡ false
+  pub facts_does : (p' : Words) (hs' : List (maybe.Option (Option J))) (d d' : Doing) → p'.status ≡ p.status → p'.watch ≡ p.watch → v.doing ≡ Some d
+      → d'.note ≡ d.note → v.spent ≡ false
       → Owned p.status p'.own (set vs id (does v d')) → Slots M k p.status hs' (set vs id (does v d')) → Stored M k p.status p'.cells (set vs id (does v d'))
       → Turned M k p.status p'.turns (set vs id (does v d')) → Facts M k p' hs' (set vs id (does v d'))
   facts_does p' hs' d d' same_status same_watch doing note live owned slots stored turned = record {
     gates = subst (λ x. Gates k x p'.watch) (sym same_status) (subst (Gates k p.status) (sym same_watch) f.gates);
-    sane = sane_step k vs id v w here (λ s. record {
-      plan = s.plan;
-      one_duty = ⊎_elim (λ none. absurd (let e : Some d ≡ None = sym doing ∙ none in cc)) (λ both. inr both) s.one_duty;
-      owes_in = s.owes_in;
-      follower = s.follower;
-      leader = s.leader;
-      over = λ z. absurd (let e : true ≡ false = sym z ∙ live in cc);
-    }) f.sane;
+    sane = sane_step k vs id v w here (λ s. sane_live k v w live refl refl refl refl (⊎_elim (λ none. absurd (let e : Some d ≡ None = sym doing ∙ none in cc)) (λ both. inr both) s.one_duty) s.owes_in s) f.sane;
     doers = subst (λ x. Doers k x (set vs id w)) (sym same_status)
         (doers_step k vs id v w here st st (λ u. ap (λ n. n + same (at p.status u) 2) (ap (λ n. same n u) note ∙ sym (ap (doing_on u) doing))) f.doers);
     watches = subst (λ x. Watches k x p'.watch (set vs id w)) (sym same_status) (subst (λ x. Watches k p.status x (set vs id w)) (sym same_watch)

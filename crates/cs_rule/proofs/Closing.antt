@@ -1,10 +1,10 @@
 -- No note is lost, and what lies on the board at the end is the serial run.
-use Rattle.std.proofs.Common.{◌≡◌, ◌≢◌, ℕ, zero, suc, ◌+◌, ◌<◌, ◌⊎◌, inl, inr, ⊎_elim, pos, List, [], ◌∷◌, ◌++◌, map, length, get_or, drop, Bool, true, false, Option, Some, None, refl, sym, ap, ◌∙◌, subst, arith, ◌==◌, ◌&&◌, not, slice_get, ext_get_or, drop_at, drop-drop, eq-eqb}
-use Rattle.std.proofs.lemmas.Bool.{cases_eq}
+use Rattle.std.proofs.Common.{◌≡◌, ◌≢◌, ℕ, zero, suc, ◌+◌, ◌<◌, ◌⊎◌, inl, inr, ⊎_elim, pos, List, [], ◌∷◌, ◌++◌, map, length, get_or, drop, true, false, Option, Some, None, refl, sym, ap, ◌∙◌, subst, arith, ◌==◌, ◌&&◌, not, slice_get, ext_get_or, drop_at, drop-drop, eq-eqb}
+use Rattle.std.proofs.lemmas.Bool.{cases_Bool, cases_eq}
 use Rattle.std.proofs.lemmas.List.{length-map}
 use Rattle.std.proofs.lemmas.Option.{slice_get_within, slice_get-get_or}
 use mathlib.Core.Option as maybe
-use mathlib.Core.Option.{some}
+use mathlib.Core.Option.{some, some-injective}
 use lib.ListN.{get_elem?}
 use Rattle.atomic_table.specs.Table.{State}
 use Rattle.cs_cells.specs.Cells.{cell, signed, values}
@@ -13,19 +13,15 @@ use Rattle.cs_cells.specs.Serial.{serial_cells, serial_jobs}
 use Rattle.cs_cells.proofs.SerialRun.{before-all, length-before, job_at, length-serial_jobs}
 use Rattle.cs_rule.specs.Counts.{one, same, total, times}
 use Rattle.cs_rule.specs.Ending.{IsLast, HasLast, AllDone, IsSerial, cells_in}
-use Rattle.cs_rule.specs.Facts.{spot_on, spot_by, doing_on, does_note, closes_by, moves, owed, leads, numbered, names, Waits, Kept, job_if}
+use Rattle.cs_rule.specs.Facts.{spot_on, spot_by, doing_on, does_note, closes_by, moves, owed, is_first, numbered, names, Waits, Kept, job_if}
 use Rattle.cs_rule.specs.Plans.{IsPlan, writes_at, before_at, edge_count, area_count}
 use Rattle.cs_rule.specs.Rule.{Facts, Holds}
-use Rattle.cs_rule.specs.Words.{Words, at, row_of, IsSized, status_at, cell_at}
+use Rattle.cs_rule.specs.Words.{Words, at, all_words, IsSized, status_at, cell_at}
 use Rattle.cs_rule.specs.declared.view.Plan.{Plan}
 use Rattle.cs_rule.specs.declared.view.View.{View}
 use Rattle.cs_rule.proofs.Lists.{total_le, total_two, total_none}
-use Rattle.cs_rule.proofs.Rows.{get_status}
+use Rattle.cs_rule.proofs.AllWords.{get_status}
 use Rattle.cs_rule.proofs.Stores.{quiet}
-
-either_way : (b : Bool) → (b ≡ true) ⊎ (b ≡ false)
-either_way true = inl refl
-either_way false = inr refl
 
 -- what is found at each place of a list, and its length
 pub same_homes : {A B : Type 0} (f : A → B) (hs : List B) (xs : List A) → length hs ≡ length xs
@@ -44,18 +40,15 @@ module _ {J : Type 0} (M : Meaning J) (F : Frames M) (k : Plan J) (plan : IsPlan
   -- another seat isn't the first one
   follows : (j : ℕ) (w : View J) → j ≢ id → get_elem? vs j ≡ some w → w.first ≡ false
   follows j w n at_ = ⊎_elim
-      (λ (e : w.first ≡ true). absurd (omega (arith, ap one e, ap one last.first, total_two leads vs j id w v n at_ here, f.seats.leading)))
+      (λ (e : w.first ≡ true). absurd (omega (arith, ap one e, ap one last.first, total_two is_first vs j id w v n at_ here, f.seats.leading)))
       (λ e. e)
-      (either_way w.first)
+      (cases_Bool w.first)
 
   no_out : (j : ℕ) (w : View J) → get_elem? vs j ≡ some w → w.out ≡ []
   no_out j w at_ = ⊎_elim
-      (λ (e : j ≡ id). ap (λ x. x.out) (cc_some (sym at_ ∙ ap (get_elem? vs) e ∙ here)) ∙ last.out)
+      (λ (e : j ≡ id). ap (λ x. x.out) (some-injective _ _ (sym at_ ∙ ap (get_elem? vs) e ∙ here)) ∙ last.out)
       (λ (n : j ≢ id). (f.sane j w at_).follower (follows j w n at_))
       (cases_eq j id)
-    where
-      cc_some : {a b : View J} → some a ≡ some b → a ≡ b
-      cc_some e = cc
 
   -- every other seat was joined
   spent : (j : ℕ) (w : View J) → j ≢ id → get_elem? vs j ≡ some w → w.spent ≡ true
@@ -66,18 +59,15 @@ module _ {J : Type 0} (M : Meaning J) (F : Frames M) (k : Plan J) (plan : IsPlan
       let mine : numbered w.number w ≡ 1 = ap (λ b. one (not b && (not w.spent && w.number == w.number))) (follows j w n at_)
       ∙ ap (λ b. one (not b && w.number == w.number)) e ∙ ap one (eq-eqb w.number w.number refl) in
       omega (arith, none, mine, f.seats.numbers w.number, total_le (numbered w.number) vs j w at_)))
-      (either_way w.spent)
+      (cases_Bool w.spent)
 
   module _ (j : ℕ) (w : View J) (at_ : get_elem? vs j ≡ some w) where
     pub idle : (w.doing ≡ None) × (w.closing ≡ None) × (w.moving ≡ None) × (w.owes ≡ [])
     idle = ⊎_elim
-        (λ (e : j ≡ id). let s : v ≡ w = cc_some (sym here ∙ ap (get_elem? vs) (sym e) ∙ at_) in
+        (λ (e : j ≡ id). let s : v ≡ w = some-injective _ _ (sym here ∙ ap (get_elem? vs) (sym e) ∙ at_) in
         subst (λ x. (x.doing ≡ None) × (x.closing ≡ None) × (x.moving ≡ None) × (x.owes ≡ [])) s (last.doing, last.closing, last.moving, last.owes))
         (λ (n : j ≢ id). let o = (f.sane j w at_).over (spent j w n at_) in (o.0, o.1, o.2, o.3))
         (cases_eq j id)
-      where
-        cc_some : {a b : View J} → some a ≡ some b → a ≡ b
-        cc_some e = cc
 
   none_does : (t : ℕ) → total (does_note t) vs ≡ 0
   none_does t = total_none (does_note t) vs (λ j w a. ap (doing_on t) (idle j w a).0)
@@ -108,10 +98,10 @@ module _ {J : Type 0} (M : Meaning J) (F : Frames M) (k : Plan J) (plan : IsPlan
   all_done zero t l low = absurd (omega arith)
   all_done (suc n) t l low = ⊎_elim
       (λ z. absurd (let h : Waits k p.watch vs t = f.watches.waits t low z in ⊎_elim
-      (λ a. let forward = plan.forward h.place a.0 t a.1 in ⊎_elim
-      (λ (c : at p.watch h.place ≡ 2). omega (arith, c, a.2))
-      (λ (c : 0 < total (closes_by a.0 h.place) vs). omega (arith, c, none_closes a.0 h.place))
-      (f.watches.left h.place a.0 t a.1 (all_done n a.0 (omega (arith, forward.0)) (omega (arith, forward.0)))))
+      (λ a. let forward = plan.forward h.edge a.0 t a.1 in ⊎_elim
+      (λ (c : at p.watch h.edge ≡ 2). omega (arith, c, a.2))
+      (λ (c : 0 < total (closes_by a.0 h.edge) vs). omega (arith, c, none_closes a.0 h.edge))
+      (f.watches.left h.edge a.0 t a.1 (all_done n a.0 (omega (arith, forward.0)) (omega (arith, forward.0)))))
       (λ b. omega (arith, b.1, none_moves t))
       h.who))
       (λ d. d)
@@ -127,7 +117,7 @@ module _ {J : Type 0} (M : Meaning J) (F : Frames M) (k : Plan J) (plan : IsPlan
       ∙ sym (quiet M F k plan h.upto k.notes a h.within (λ q m l. ⊎_elim
       (λ w. absurd (h.later q m l w (done q l)))
       (λ w. w)
-      (either_way (writes_at M k q a))))
+      (cases_Bool (writes_at M k q a))))
       ∙ ap (λ n. cell (before_at M k n) a) (sym plan.jobs)
       ∙ ap (λ c. cell c a) (before-all M k.jobs k.cells)
 
@@ -167,10 +157,10 @@ module _ {J : Type 0} (M : Meaning J) (F : Frames M) (k : Plan J) (plan : IsPlan
 past_drop : (xs ys : List ℕ) (n i : ℕ) → length xs ≡ n → drop (n + i) (xs ++ ys) ≡ drop i ys
 past_drop xs ys n i l = sym (drop-drop i n (xs ++ ys)) ∙ ap (drop i) (drop_at xs ys n l)
 
-pub row_cells : {J : Type 0} (k : Plan J) (w : Words) → IsSized k w → cells_in k (row_of k.notes w) ≡ w.cells
+pub row_cells : {J : Type 0} (k : Plan J) (w : Words) → IsSized k w → cells_in k (all_words k.notes w) ≡ w.cells
 row_cells k w s =
     let e : cell_at k 0 ≡ suc (k.notes + (edge_count k + (k.notes + (area_count k + 0)))) = omega arith in
-    ap (λ n. drop n (row_of k.notes w)) e
+    ap (λ n. drop n (all_words k.notes w)) e
     ∙ past_drop w.status (w.watch ++ (w.own ++ (w.turns ++ w.cells))) k.notes (edge_count k + (k.notes + (area_count k + 0))) s.status
     ∙ past_drop w.watch (w.own ++ (w.turns ++ w.cells)) (edge_count k) (k.notes + (area_count k + 0)) s.watch
     ∙ past_drop w.own (w.turns ++ w.cells) k.notes (area_count k + 0) s.own

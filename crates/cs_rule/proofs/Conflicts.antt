@@ -118,7 +118,8 @@ module _ {J : Type 0} (M : Meaning J) where
         let c = listed_contains Q x.1 (sub x.1 (contains_at P x.0 x.1 x.2)) in
         covers_in areas Q c.0 x.1 a c.1 c.2 x.3
       where
-        covers_in : (areas : List Area) (Q : List ℕ) (i r a : ℕ) → i < length Q → get_or Q i r ≡ r → in_area (slice_get areas r) a ≡ true → covers areas Q a ≡ true
+        covers_in : (areas : List Area) (Q : List ℕ) (i r a : ℕ) → i < length Q → get_or Q i r ≡ r → in_area (slice_get areas r) a ≡ true
+            → covers areas Q a ≡ true
         covers_in areas [] i r a l e h = absurd (omega arith)
         covers_in areas (y ∷ ys) zero r a l e h = or_left (in_area (slice_get areas y) a) (covers areas ys a) (subst (λ z. in_area (slice_get areas z) a ≡ true) (sym e) h)
         covers_in areas (y ∷ ys) (suc i) r a l e h = or_right (in_area (slice_get areas y) a) (covers areas ys a) (covers_in areas ys i r a (omega arith) e h)

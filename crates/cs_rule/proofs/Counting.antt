@@ -1,6 +1,6 @@
 -- Counting tests below a number, and the places of an ascending list one by one.
 use Rattle.std.proofs.Common.{◌≡◌, ◌≢◌, ℕ, zero, suc, ◌+◌, ◌-◌, ◌<◌, ◌≤◌, ⊎_elim, List, [], ◌∷◌, length, take, Bool, true, false, ◌==◌, ◌||◌, refl, sym, ap, ◌∙◌, arith, eq-eqb, ne_eqb}
-use Rattle.std.proofs.lemmas.Bool.{cases_eq}
+use Rattle.std.proofs.lemmas.Bool.{cases_eq, or_right}
 use Rattle.std.specs.List.Sorted.{IsStrictlyIncreasing}
 use Rattle.cs_rule.specs.Counts.{one, listed, count_below}
 use Rattle.cs_rule.specs.Words.{at}
@@ -67,14 +67,10 @@ listed_here xs i l = ap (λ j. listed (take j xs) (at xs i)) (plus i) ∙ go xs 
     plus : (i : ℕ) → i + 1 ≡ suc i
     plus i = omega arith
 
-    or_true : (b : Bool) → (b || true) ≡ true
-    or_true true = refl
-    or_true false = refl
-
     go : (xs : List ℕ) (i : ℕ) → i < length xs → listed (take (suc i) xs) (at xs i) ≡ true
     go [] i l = absurd (omega arith)
     go (x ∷ xs) zero l = ap (λ b. b || listed (take zero xs) x) (eq-eqb x x refl)
-    go (x ∷ xs) (suc i) l = ap (λ b. x == at xs i || b) (go xs i (omega arith)) ∙ or_true (x == at xs i)
+    go (x ∷ xs) (suc i) l = ap (λ b. x == at xs i || b) (go xs i (omega arith)) ∙ or_right (x == at xs i) true refl
 
 pub listed_fresh : (xs : List ℕ) → IsStrictlyIncreasing xs → (i : ℕ) → i < length xs → listed (take i xs) (at xs i) ≡ false
 listed_fresh xs h i l = go i (at xs i) (omega arith) (λ j m. differ j m)

@@ -1,14 +1,14 @@
 -- A note is Done, and its watchers move on: these steps keep the facts.
 use Rattle.std.proofs.Common.{◌≡◌, ◌≢◌, ℕ, ◌+◌, ◌<◌, ◌≤◌, ◌⊎◌, inl, inr, ⊎_elim, List, length, set, Bool, true, false, cond, Option, Some, None, refl, sym, ap, ◌∙◌, subst, arith, ◌==◌, ◌&&◌, nat_le, slice_get, eq-eqb, ne_eqb, le-leb}
 use Rattle.std.proofs.lemmas.Bool.{cases_eq, cases_lt}
-use Rattle.std.proofs.lemmas.Option.{slice_get_within}
+use Rattle.std.proofs.lemmas.Option.{same_Some, slice_get_within}
 use mathlib.Core.Option as maybe
 use mathlib.Core.Option.{some}
 use lib.ListN.{get_elem?}
 use Rattle.cs_cells.specs.Meaning.{Meaning, Frames}
 use Rattle.cs_graph.specs.Graph.{Edge}
 use Rattle.cs_rule.specs.Counts.{one, same, times, total}
-use Rattle.cs_rule.specs.Facts.{doing_on, ran_on, spot_on, spot_by, spot_at, turned_in, does_note, ran_note, closes, closes_by, moves, moves_at, has, leads, numbered, Gates, IsSane, Waits, Watches}
+use Rattle.cs_rule.specs.Facts.{doing_on, ran_on, spot_on, spot_by, spot_at, turned_in, does_note, ran_note, closes, closes_by, moves, moves_at, has_done, is_first, numbered, Gates, IsSane, Waits, Watches}
 use Rattle.cs_rule.specs.Plans.{IsPlan, places_written}
 use Rattle.cs_rule.specs.Rule.{Facts}
 use Rattle.cs_rule.specs.Views.{ended, shut}
@@ -17,12 +17,11 @@ use Rattle.cs_rule.specs.declared.view.Doing.{Doing}
 use Rattle.cs_rule.specs.declared.view.Plan.{Plan}
 use Rattle.cs_rule.specs.declared.view.Spot.{Spot}
 use Rattle.cs_rule.specs.declared.view.View.{View}
-use Rattle.cs_rule.proofs.Begins.{some_is}
 use Rattle.cs_rule.proofs.Does.{busy}
-use Rattle.cs_rule.proofs.Groups.{gates_status, gates_watch, sane_step, doers_step, waits_still, watches_step, tallied_step, seats_step, owned_step, total_keeps}
+use Rattle.cs_rule.proofs.Groups.{gates_status, gates_watch, sane_live, sane_step, doers_step, waits_still, watches_step, tallied_step, seats_step, owned_step, total_keeps}
 use Rattle.cs_rule.proofs.Lists.{same_yes, same_no, same_cases, put_cases, total-set, total_le, total_more, total_tight, times-snoc, within_of}
 use Rattle.cs_rule.proofs.Slots.{slots_step, slots_done}
-use Rattle.cs_rule.proofs.Spots.{on_here, on_else, by_else, by_later, at_here, at_else, at_place, at_less, closing_by, closing_on}
+use Rattle.cs_rule.proofs.Spots.{on_here, on_else, by_else, by_later, at_here, at_else, at_from, at_less, closing_by, closing_on}
 use Rattle.cs_rule.proofs.Stores.{stored_step, stored_done}
 use Rattle.cs_rule.proofs.Turns.{turned_still, turned_done}
 
@@ -45,14 +44,7 @@ module _ {J : Type 0} (M : Meaning J) (F : Frames M) (k : Plan J) (plan : IsPlan
       → Facts M k (record p { status = set p.status d.note 3 }) hs (set vs id (ended v d.note))
   facts_ended d v_plan doing free phase live = record {
     gates = gates_status k st p.watch d.note 3 near f.gates (omega arith) (λ n e q edge. f.gates.closed e q d.note edge (λ z. omega (arith, running))) (λ z. refl);
-    sane = sane_step k vs id v w here (λ s. record {
-      plan = s.plan;
-      one_duty = inl refl;
-      owes_in = s.owes_in;
-      follower = s.follower;
-      leader = s.leader;
-      over = λ z. absurd (let e : true ≡ false = sym z ∙ live in cc);
-    }) f.sane;
+    sane = sane_step k vs id v w here (λ s. sane_live k v w live refl refl refl refl (inl refl) s.owes_in s) f.sane;
     doers = doers_step k vs id v w here st st' (λ u. let mine : does_note u v ≡ same d.note u = ap (doing_on u) doing in ⊎_elim
         (λ h. let a : same d.note u ≡ 1 = same_yes d.note u (sym h.0) in
         let b : same (at st u) 2 ≡ 1 = ap (λ n. same n 2) (ap (at st) h.0 ∙ running) in
@@ -85,7 +77,7 @@ module _ {J : Type 0} (M : Meaning J) (F : Frames M) (k : Plan J) (plan : IsPlan
         (λ u z. ⊎_elim (λ h. absurd (omega (arith, h.1, z))) (λ h. inr (sym h.1 ∙ z, omega arith)) (put_cases st d.note 3 u near))
         (λ u q l root. inl q)
         (λ u z. ⊎_elim (λ h. omega (arith, h.1)) (λ h. omega (arith, h.1)) (put_cases st d.note 3 u near))
-        (λ u. let more : has u w ≡ has u v + same d.note u = times-snoc u v.mine d.note in ⊎_elim
+        (λ u. let more : has_done u w ≡ has_done u v + same d.note u = times-snoc u v.mine d.note in ⊎_elim
         (λ h. let a : same d.note u ≡ 1 = same_yes d.note u (sym h.0) in
         let b : same (at st u) 3 ≡ 0 = ap (λ n. same n 3) (ap (at st) h.0 ∙ running) in
         let c : same (at st' u) 3 ≡ 1 = ap (λ n. same n 3) h.1 in omega arith)
@@ -132,7 +124,7 @@ module _ {J : Type 0} (M : Meaning J) (F : Frames M) (k : Plan J) (plan : IsPlan
 
   -- a step that changes one watch word, and what the view closes or moves
   pub facts_aside : (w : View J) (wt' : List ℕ) → v.doing ≡ None → w.doing ≡ None → w.owes ≡ v.owes → w.found ≡ v.found → w.mine ≡ v.mine
-      → leads w ≡ leads v → ((x : ℕ) → numbered x w ≡ numbered x v) → w.out ≡ v.out → w.made ≡ v.made
+      → is_first w ≡ is_first v → ((x : ℕ) → numbered x w ≡ numbered x v) → w.out ≡ v.out → w.made ≡ v.made
       → Gates k p.status wt' → (IsSane k v → IsSane k w) → Watches k p.status wt' (set vs id w)
       → Facts M k (record p { watch = wt' }) hs (set vs id w)
   facts_aside w wt' idle idle' owes found mine lead number out made gates sane watches = record {
@@ -151,30 +143,31 @@ module _ {J : Type 0} (M : Meaning J) (F : Frames M) (k : Plan J) (plan : IsPlan
   }
 
   -- a Waiting note whose edges a step leaves, and which nobody begins or ends to move
-  pub waits_moved : (w : View J) (wt' : List ℕ) (u : ℕ) → ((e q : ℕ) → Edge k.edges e q u → at wt' e ≡ at p.watch e) → moves u w ≡ moves u v → ((i : ℕ) → moves_at u i w ≡ moves_at u i v)
+  pub waits_moved : (w : View J) (wt' : List ℕ) (u : ℕ) → ((e q : ℕ) → Edge k.edges e q u → at wt' e ≡ at p.watch e) → moves u w ≡ moves u v
+      → ((i : ℕ) → moves_at u i w ≡ moves_at u i v)
       → Waits k p.watch vs u → Waits k wt' (set vs id w) u
   waits_moved w wt' u edges m ma h = record {
-    place = h.place;
+    edge = h.edge;
     before = λ e q edge l. edges e q edge ∙ h.before e q edge l;
     after = λ e q edge l z. h.after e q edge l (sym (edges e q edge) ∙ z);
     who = ⊎_elim
-        (λ a. inl (a.0, a.1, edges h.place a.0 a.1 ∙ a.2, total_keeps k vs id v w here (moves u) m ∙ a.3))
-        (λ b. inr ((λ q edge z. b.0 q edge (sym (edges h.place q edge) ∙ z)), total_keeps k vs id v w here (moves u) m ∙ b.1, total_keeps k vs id v w here (moves_at u h.place) (ma h.place) ∙ b.2))
+        (λ a. inl (a.0, a.1, edges h.edge a.0 a.1 ∙ a.2, total_keeps k vs id v w here (moves u) m ∙ a.3))
+        (λ b. inr ((λ q edge z. b.0 q edge (sym (edges h.edge q edge) ∙ z)), total_keeps k vs id v w here (moves u) m ∙ b.1, total_keeps k vs id v w here (moves_at u h.edge) (ma h.edge) ∙ b.2))
         h.who;
     some_edge = h.some_edge;
   }
 
   pub one_target : (e q t r u : ℕ) → Edge k.edges e q t → Edge k.edges e r u → t ≡ u
-  one_target e q t r u a b = ap (λ z. z.1) (some_is (sym a ∙ b))
+  one_target e q t r u a b = ap (λ z. z.1) (same_Some _ _ (sym a ∙ b))
 
   one_source : (e q t r u : ℕ) → Edge k.edges e q t → Edge k.edges e r u → q ≡ r
-  one_source e q t r u a b = ap (λ z. z.0) (some_is (sym a ∙ b))
+  one_source e q t r u a b = ap (λ z. z.0) (same_Some _ _ (sym a ∙ b))
 
   pub edge_below : (e q t : ℕ) → Edge k.edges e q t → e < length p.watch
   edge_below e q t edge = omega (arith, slice_get_within k.edges e (q, t) edge, sized.watch)
 
   -- what is known of the note that a view moves: it waits at the view's place
-  module _ (t i : ℕ) (moving : v.moving ≡ Some (record { note = t; place = i })) where
+  module _ (t i : ℕ) (moving : v.moving ≡ Some (record { note = t; from = i })) where
     mine : moves t v ≡ 1
     mine = ap (spot_on t) moving ∙ on_here t i
 
@@ -184,31 +177,24 @@ module _ {J : Type 0} (M : Meaning J) (F : Frames M) (k : Plan J) (plan : IsPlan
     pub moved_in : t < k.notes
     moved_in = ⊎_elim (λ l. l) (λ n. absurd (omega (arith, f.watches.moving_in t n, total_le (moves t) vs id v here, mine))) (cases_lt t k.notes)
 
-    pub moved_at : (h : Waits k p.watch vs t) → ((q : ℕ) → Edge k.edges h.place q t → at p.watch h.place ≢ 1) × (total (moves t) vs ≡ 1) × (h.place ≡ i)
+    pub moved_at : (h : Waits k p.watch vs t) → ((q : ℕ) → Edge k.edges h.edge q t → at p.watch h.edge ≢ 1) × (total (moves t) vs ≡ 1) × (h.edge ≡ i)
     moved_at h = ⊎_elim
         (λ a. absurd (omega (arith, a.3, total_le (moves t) vs id v here, mine)))
-        (λ b. let tight : moves_at t h.place v ≡ moves t v = total_tight (moves_at t h.place) (moves t) vs id v (λ x. at_less t h.place x.moving) (b.2 ∙ sym b.1) here in
-        (b.0, b.1, sym (at_place t i h.place (sym (ap (spot_at t h.place) moving) ∙ tight ∙ mine))))
+        (λ b. let tight : moves_at t h.edge v ≡ moves t v = total_tight (moves_at t h.edge) (moves t) vs id v (λ x. at_less t h.edge x.moving) (b.2 ∙ sym b.1) here in
+        (b.0, b.1, sym (at_from t i h.edge (sym (ap (spot_at t h.edge) moving) ∙ tight ∙ mine))))
         h.who
 
     pub others_moves : (u j : ℕ) → u ≢ t → (moves u v ≡ 0) × (moves_at u j v ≡ 0)
     others_moves u j n = (ap (spot_on u) moving ∙ on_else t u i (λ z. n (sym z)), ap (spot_at u j) moving ∙ at_else t u i j (λ z. n (sym z)))
 
   -- edge e of the note that is being closed is Closed
-  pub facts_shut : (e q t i : ℕ) → Edge k.edges e q t → v.plan ≡ k → v.closing ≡ Some (record { note = q; place = i }) → v.moving ≡ None → i ≤ e
+  pub facts_shut : (e q t i : ℕ) → Edge k.edges e q t → v.plan ≡ k → v.closing ≡ Some (record { note = q; from = i }) → v.moving ≡ None → i ≤ e
       → ((g u : ℕ) → Edge k.edges g q u → i ≤ g → e ≤ g) → v.spent ≡ false
       → Facts M k (record p { watch = set p.watch e 2 }) hs (set vs id (shut v e q t (at p.watch e)))
   facts_shut e q t i edge v_plan closing no_moving low first live =
       facts_aside w (set p.watch e 2) idle idle refl refl refl refl (λ x. refl) refl refl
       (gates_watch k p.status p.watch e 2 near f.gates (omega arith) (λ z r u edge'. ap (at p.status) (sym (one_source e q t r u edge edge')) ∙ source_done) (λ z. refl))
-      (λ s. record {
-        plan = s.plan;
-        one_duty = inl idle;
-        owes_in = s.owes_in;
-        follower = s.follower;
-        leader = s.leader;
-        over = λ z. absurd (let c : true ≡ false = sym z ∙ live in cc);
-      })
+      (λ s. sane_live k v w live refl refl refl refl (inl idle) s.owes_in s)
       (watches_step k vs id v w here p.status p.status p.watch (set p.watch e 2)
       (λ r. let a : closes r v ≡ same q r = ap (spot_on r) closing in let b : closes r w ≤ same q r = closing_on v.plan.edges q (e + 1) r in omega arith)
       goes waits
@@ -220,7 +206,7 @@ module _ {J : Type 0} (M : Meaning J) (F : Frames M) (k : Plan J) (plan : IsPlan
       w = shut v e q t (at p.watch e)
 
       idle : v.doing ≡ None
-      idle = not_doing (record { note = q; place = i }) (inl closing)
+      idle = not_doing (record { note = q; from = i }) (inl closing)
 
       near : e < length p.watch
       near = edge_below e q t edge
@@ -239,11 +225,11 @@ module _ {J : Type 0} (M : Meaning J) (F : Frames M) (k : Plan J) (plan : IsPlan
       no_move_at : (u j : ℕ) → moves_at u j v ≡ 0
       no_move_at u j = ap (spot_at u j) no_moving
 
-      found_move : at p.watch e ≡ 1 → w.moving ≡ Some (record { note = t; place = e + 1 })
-      found_move c = ap (λ b. cond b (Some (record { note = t; place = e + 1 })) None) (eq-eqb (at p.watch e) 1 c)
+      found_move : at p.watch e ≡ 1 → w.moving ≡ Some (record { note = t; from = e + 1 })
+      found_move c = ap (λ b. cond b (Some (record { note = t; from = e + 1 })) None) (eq-eqb (at p.watch e) 1 c)
 
       lost_move : at p.watch e ≢ 1 → w.moving ≡ None
-      lost_move n = ap (λ b. cond b (Some (record { note = t; place = e + 1 })) None) (ne_eqb (at p.watch e) 1 n)
+      lost_move n = ap (λ b. cond b (Some (record { note = t; from = e + 1 })) None) (ne_eqb (at p.watch e) 1 n)
 
       -- unless it is the watcher that was found, a note is moved by no more views than before
       same_moves : (u : ℕ) → (u ≡ t → at p.watch e ≢ 1) → (moves u w ≡ moves u v) × ((j : ℕ) → moves_at u j w ≡ moves_at u j v)
@@ -256,12 +242,13 @@ module _ {J : Type 0} (M : Meaning J) (F : Frames M) (k : Plan J) (plan : IsPlan
       still : (u : ℕ) → (u ≡ t → at p.watch e ≢ 1) → total (moves u) (set vs id w) ≡ total (moves u) vs
       still u n = total_keeps k vs id v w here (moves u) (same_moves u n).0
 
-      goes : (g r u : ℕ) → Edge k.edges g r u → at p.status r ≡ 3 → (at (set p.watch e 2) g ≡ 2) ⊎ ((0 < closes_by r g w) ⊎ ((at p.status r ≡ 3) × (at p.watch g ≡ 2 → at (set p.watch e 2) g ≡ 2) × (closes_by r g v ≤ closes_by r g w)))
+      goes : (g r u : ℕ) → Edge k.edges g r u → at p.status r ≡ 3
+          → (at (set p.watch e 2) g ≡ 2) ⊎ ((0 < closes_by r g w) ⊎ ((at p.status r ≡ 3) × (at p.watch g ≡ 2 → at (set p.watch e 2) g ≡ 2) × (closes_by r g v ≤ closes_by r g w)))
       goes g r u edge' d = ⊎_elim
           (λ z. inl z.1)
           (λ z. ⊎_elim
           (λ (s : q ≡ r). ⊎_elim
-          (λ (l : g < i). inr (inr (d, (λ c. z.1 ∙ c), omega (arith, ap (spot_by r g) closing, subst (λ x. spot_by x g (Some (record { note = q; place = i })) ≡ 0) s (by_later q i g l)))))
+          (λ (l : g < i). inr (inr (d, (λ c. z.1 ∙ c), omega (arith, ap (spot_by r g) closing, subst (λ x. spot_by x g (Some (record { note = q; from = i })) ≡ 0) s (by_later q i g l)))))
           (λ (l : i ≤ g). let edge_q : Edge k.edges g q u = subst (λ x. Edge k.edges g x u) (sym s) edge' in
           let n = z.0 in let l' : e ≤ g = first g u edge_q l in
           inr (inl (subst (λ x. 0 < closes_by x g w) s (omega (arith, closing_by v.plan.edges g q u (e + 1) (subst (λ x. Edge x g q u) (sym (ap (λ y. y.edges) v_plan)) edge_q) (omega arith))))))
@@ -284,15 +271,15 @@ module _ {J : Type 0} (M : Meaning J) (F : Frames M) (k : Plan J) (plan : IsPlan
         where
           closed : (u : ℕ) → at p.watch e ≢ 1 → Waits k p.watch vs u → Waits k (set p.watch e 2) (set vs id w) u
           closed u c h = let m = same_moves u (λ s. c) in record {
-            place = h.place;
+            edge = h.edge;
             before = λ g r edge' l. ⊎_elim (λ y. y.1) (λ y. y.1 ∙ h.before g r edge' l) (put_cases p.watch e 2 g near);
             after = λ g r edge' l. ⊎_elim (λ y x. omega (arith, y.1, x)) (λ y x. h.after g r edge' l (sym y.1 ∙ x)) (put_cases p.watch e 2 g near);
             who = ⊎_elim
-                (λ a. inl (a.0, a.1, ⊎_elim (λ y. absurd (c (ap (at p.watch) (sym y.0) ∙ a.2))) (λ y. y.1 ∙ a.2) (put_cases p.watch e 2 h.place near), total_keeps k vs id v w here (moves u) m.0 ∙ a.3))
+                (λ a. inl (a.0, a.1, ⊎_elim (λ y. absurd (c (ap (at p.watch) (sym y.0) ∙ a.2))) (λ y. y.1 ∙ a.2) (put_cases p.watch e 2 h.edge near), total_keeps k vs id v w here (moves u) m.0 ∙ a.3))
                 (λ b. inr (
-                  (λ r edge'. ⊎_elim (λ y x. omega (arith, y.1, x)) (λ y x. b.0 r edge' (sym y.1 ∙ x)) (put_cases p.watch e 2 h.place near)),
+                  (λ r edge'. ⊎_elim (λ y x. omega (arith, y.1, x)) (λ y x. b.0 r edge' (sym y.1 ∙ x)) (put_cases p.watch e 2 h.edge near)),
                   total_keeps k vs id v w here (moves u) m.0 ∙ b.1,
-                  total_keeps k vs id v w here (moves_at u h.place) (m.1 h.place) ∙ b.2,
+                  total_keeps k vs id v w here (moves_at u h.edge) (m.1 h.edge) ∙ b.2,
                 ))
                 h.who;
             some_edge = h.some_edge;
@@ -300,22 +287,22 @@ module _ {J : Type 0} (M : Meaning J) (F : Frames M) (k : Plan J) (plan : IsPlan
 
           found : at p.watch e ≡ 1 → Waits k p.watch vs t → Waits k (set p.watch e 2) (set vs id w) t
           found c h = record {
-            place = e + 1;
-            before = λ g r edge' l. ⊎_elim (λ y. y.1) (λ y. let n = y.0 in y.1 ∙ h.before g r edge' (omega (arith, place_e))) (put_cases p.watch e 2 g near);
-            after = λ g r edge' l x. ⊎_elim (λ y. omega (arith, y.0)) (λ y. h.after g r edge' (omega (arith, place_e)) (sym y.1 ∙ x)) (put_cases p.watch e 2 g near);
+            edge = e + 1;
+            before = λ g r edge' l. ⊎_elim (λ y. y.1) (λ y. let n = y.0 in y.1 ∙ h.before g r edge' (omega (arith, edge_is))) (put_cases p.watch e 2 g near);
+            after = λ g r edge' l x. ⊎_elim (λ y. omega (arith, y.0)) (λ y. h.after g r edge' (omega (arith, edge_is)) (sym y.1 ∙ x)) (put_cases p.watch e 2 g near);
             who = inr (
-              (λ r edge' x. ⊎_elim (λ y. omega (arith, y.0)) (λ y. h.after (e + 1) r edge' (omega (arith, place_e)) (sym y.1 ∙ x)) (put_cases p.watch e 2 (e + 1) near)),
+              (λ r edge' x. ⊎_elim (λ y. omega (arith, y.0)) (λ y. h.after (e + 1) r edge' (omega (arith, edge_is)) (sym y.1 ∙ x)) (put_cases p.watch e 2 (e + 1) near)),
               omega (arith, total-set (moves t) vs id v w here, none, no_move t, ap (spot_on t) (found_move c), on_here t (e + 1)),
               omega (arith, total-set (moves_at t (e + 1)) vs id v w here, total_more (moves_at t (e + 1)) (moves t) vs (λ x. at_less t (e + 1) x.moving), none, no_move_at t (e + 1), ap (spot_at t (e + 1)) (found_move c), at_here t (e + 1)),
             );
             some_edge = h.some_edge;
           }
             where
-              place_e : h.place ≡ e
-              place_e = ⊎_elim
+              edge_is : h.edge ≡ e
+              edge_is = ⊎_elim
                   (λ l. absurd (h.after e q edge l c))
-                  (λ l. ⊎_elim (λ m. absurd (omega (arith, h.before e q edge m))) (λ m. omega arith) (cases_lt e h.place))
-                  (cases_lt h.place e)
+                  (λ l. ⊎_elim (λ m. absurd (omega (arith, h.before e q edge m))) (λ m. omega arith) (cases_lt e h.edge))
+                  (cases_lt h.edge e)
 
               none : total (moves t) vs ≡ 0
-              none = ⊎_elim (λ a. a.3) (λ b. absurd (b.0 q (subst (λ x. Edge k.edges x q t) (sym place_e) edge) (ap (at p.watch) place_e ∙ c))) h.who
+              none = ⊎_elim (λ a. a.3) (λ b. absurd (b.0 q (subst (λ x. Edge k.edges x q t) (sym edge_is) edge) (ap (at p.watch) edge_is ∙ c))) h.who

@@ -1,10 +1,10 @@
 -- What each group of facts asks of a step that changes one view, or a status, or a watch word.
-use Rattle.std.proofs.Common.{◌≡◌, ◌≢◌, ℕ, ◌+◌, ◌<◌, ◌≤◌, ◌⊎◌, inl, inr, ⊎_elim, List, length, set, sym, ap, ◌∙◌, subst, arith}
+use Rattle.std.proofs.Common.{◌≡◌, ◌≢◌, ℕ, ◌+◌, ◌<◌, ◌≤◌, ◌⊎◌, inl, inr, ⊎_elim, List, length, set, true, false, None, sym, ap, ◌∙◌, subst, arith}
 use mathlib.Core.Option.{some}
 use lib.ListN.{get_elem?}
 use Rattle.cs_graph.specs.Graph.{Edge}
 use Rattle.cs_rule.specs.Counts.{same, total}
-use Rattle.cs_rule.specs.Facts.{spot_on, spot_by, spot_at, does_note, ran_note, closes, closes_by, moves, moves_at, owed, has, leads, numbered, names, Found, Gates, IsSane, Doers, Waits, Watches, Tallied, Seats, Owned}
+use Rattle.cs_rule.specs.Facts.{spot_on, spot_by, spot_at, does_note, ran_note, closes, closes_by, moves, moves_at, owed, has_done, is_first, numbered, names, Found, Gates, IsSane, Doers, Waits, Watches, Tallied, Seats, Owned}
 use Rattle.cs_rule.specs.Plans.{IsRoot}
 use Rattle.cs_rule.specs.Words.{at}
 use Rattle.cs_rule.specs.declared.view.Plan.{Plan}
@@ -42,6 +42,18 @@ module _ {J : Type 0} (k : Plan J) where
         (put_cases wt e x f low);
   }
 
+-- a view that takes part stays sane where its duty and what it owes are
+pub sane_live : {J : Type 0} (k : Plan J) (v w : View J) → v.spent ≡ false → w.spent ≡ v.spent → w.plan ≡ v.plan → w.first ≡ v.first → w.out ≡ v.out
+    → (w.doing ≡ None) ⊎ ((w.closing ≡ None) × (w.moving ≡ None)) → ((t : ℕ) → 0 < owed t w → t < k.notes) → IsSane k v → IsSane k w
+sane_live k v w live spent plan first out duty owes s = record {
+  plan = λ z. plan ∙ s.plan live;
+  one_duty = duty;
+  owes_in = owes;
+  follower = λ z. out ∙ s.follower (sym first ∙ z);
+  leader = λ z. spent ∙ live;
+  over = λ z. absurd (let e : true ≡ false = sym z ∙ spent ∙ live in cc);
+}
+
 module _ {J : Type 0} (k : Plan J) (vs : List (View J)) (id : ℕ) (v w : View J) (here : get_elem? vs id ≡ some v) where
   pub total_keeps : (g : View J → ℕ) → g w ≡ g v → total g (set vs id w) ≡ total g vs
   total_keeps g e = omega (arith, total-set g vs id v w here)
@@ -50,17 +62,18 @@ module _ {J : Type 0} (k : Plan J) (vs : List (View J)) (id : ℕ) (v w : View J
       → (i : ℕ) (x : View J) → get_elem? (set vs id w) i ≡ some x → IsSane k x
   sane_step f all i x e = ⊎_elim (λ h. subst (IsSane k) h.1 (f (all id v here))) (λ h. all i x h.1) (at_set vs id i w x e)
 
-  pub doers_step : (st st' : List ℕ) → ((u : ℕ) → does_note u w + same (at st u) 2 ≡ does_note u v + same (at st' u) 2) → Doers k st vs → Doers k st' (set vs id w)
+  pub doers_step : (st st' : List ℕ) → ((u : ℕ) → does_note u w + same (at st u) 2 ≡ does_note u v + same (at st' u) 2) → Doers k st vs
+      → Doers k st' (set vs id w)
   doers_step st st' h d u = omega (arith, h u, d u, total-set (does_note u) vs id v w here)
 
   pub waits_still : (wt : List ℕ) (t : ℕ) → w.moving ≡ v.moving → Waits k wt vs t → Waits k wt (set vs id w) t
   waits_still wt t m h = record {
-    place = h.place;
+    edge = h.edge;
     before = h.before;
     after = h.after;
     who = ⊎_elim
         (λ a. inl (a.0, a.1, a.2, total_keeps (moves t) (ap (spot_on t) m) ∙ a.3))
-        (λ b. inr (b.0, total_keeps (moves t) (ap (spot_on t) m) ∙ b.1, total_keeps (moves_at t h.place) (ap (spot_at t h.place) m) ∙ b.2))
+        (λ b. inr (b.0, total_keeps (moves t) (ap (spot_on t) m) ∙ b.1, total_keeps (moves_at t h.edge) (ap (spot_at t h.edge) m) ∙ b.2))
         h.who;
     some_edge = h.some_edge;
   }
@@ -109,7 +122,7 @@ module _ {J : Type 0} (k : Plan J) (vs : List (View J)) (id : ℕ) (v w : View J
       → ((t : ℕ) → at st' t ≡ 1 → (0 < owed t w) ⊎ ((at st t ≡ 1) × (owed t v ≤ owed t w)))
       → ((t : ℕ) → Found w t → t < k.notes → IsRoot k t → Found v t ⊎ (2 ≤ at st' t))
       → ((t : ℕ) → 2 ≤ at st t → 2 ≤ at st' t)
-      → ((t : ℕ) → has t w + same (at st t) 3 ≡ has t v + same (at st' t) 3)
+      → ((t : ℕ) → has_done t w + same (at st t) 3 ≡ has_done t v + same (at st' t) 3)
       → Tallied k st vs → Tallied k st' (set vs id w)
   tallied_step st st' owing found rises having h = record {
     owing = λ t e. ⊎_elim
@@ -120,12 +133,12 @@ module _ {J : Type 0} (k : Plan J) (vs : List (View J)) (id : ℕ) (v w : View J
         (λ z. ⊎_elim (λ old. rises t (h.finding id v t here old low root)) (λ new. new) (found t (subst (λ y. Found y t) (sym z.1) f) low root))
         (λ z. rises t (h.finding i x t z.1 f low root))
         (at_set vs id i w x e);
-    having = λ t. omega (arith, having t, h.having t, total-set (has t) vs id v w here);
+    having = λ t. omega (arith, having t, h.having t, total-set (has_done t) vs id v w here);
   }
 
-  pub seats_step : leads w ≡ leads v → ((x : ℕ) → numbered x w ≡ numbered x v) → w.out ≡ v.out → w.made ≡ v.made → Seats vs → Seats (set vs id w)
+  pub seats_step : is_first w ≡ is_first v → ((x : ℕ) → numbered x w ≡ numbered x v) → w.out ≡ v.out → w.made ≡ v.made → Seats vs → Seats (set vs id w)
   seats_step l n o m h = record {
-    leading = total_keeps leads l ∙ h.leading;
+    leading = total_keeps is_first l ∙ h.leading;
     numbers = λ x. total_keeps (numbered x) (n x) ∙ h.numbers x ∙ sym (total_keeps (names x) (ap (λ z. names x (record v { out = z })) o));
     once = λ x. omega (arith, h.once x, total_keeps (names x) (ap (λ z. names x (record v { out = z })) o));
     fresh = λ i y x e p. ⊎_elim

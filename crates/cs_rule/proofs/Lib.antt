@@ -1,5 +1,5 @@
 pub mod Lists
-pub mod Rows
+pub mod AllWords
 pub mod Groups
 pub mod Conflicts
 pub mod Does

@@ -111,7 +111,8 @@ module _ {A : Type 0} where
   total_none f (x ∷ xs) h = let a : f x ≡ 0 = h 0 x refl in let b : total f xs ≡ 0 = total_none f xs (λ j. h (suc j)) in omega arith
 
   -- where none but one weighs anything, all weigh what it does
-  pub total_only : (f : A → ℕ) (l : List A) (i : ℕ) (v : A) → get_elem? l i ≡ some v → ((j : ℕ) (w : A) → j ≢ i → get_elem? l j ≡ some w → f w ≡ 0) → total f l ≡ f v
+  pub total_only : (f : A → ℕ) (l : List A) (i : ℕ) (v : A) → get_elem? l i ≡ some v → ((j : ℕ) (w : A) → j ≢ i → get_elem? l j ≡ some w → f w ≡ 0)
+      → total f l ≡ f v
   total_only f [] i v e h = absurd (some-ne-none v (sym e))
   total_only f (x ∷ xs) zero v e h =
       let a : f x ≡ f v = ap f (some-injective x v e) in

@@ -1,5 +1,5 @@
 -- A watcher watches its next edge, or is opened: these steps keep the facts.
-use Rattle.std.proofs.Common.{◌≡◌, ◌≢◌, ℕ, ◌+◌, ◌<◌, ◌≤◌, inl, inr, ⊎_elim, List, length, set, true, false, Option, Some, None, refl, sym, ap, ◌∙◌, subst, arith}
+use Rattle.std.proofs.Common.{◌≡◌, ◌≢◌, ℕ, ◌+◌, ◌<◌, ◌≤◌, inl, inr, ⊎_elim, List, length, set, false, Option, Some, None, refl, sym, ap, ◌∙◌, subst, arith}
 use Rattle.std.proofs.lemmas.Bool.{cases_eq, cases_lt}
 use mathlib.Core.Option as maybe
 use mathlib.Core.Option.{some}
@@ -17,7 +17,7 @@ use Rattle.cs_rule.specs.declared.view.View.{View}
 use Rattle.cs_rule.proofs.Begins.{three_still}
 use Rattle.cs_rule.proofs.Does.{alike}
 use Rattle.cs_rule.proofs.Ends.{facts_aside, waits_moved, one_target, edge_below, not_doing, moved_waits, moved_in, moved_at, others_moves}
-use Rattle.cs_rule.proofs.Groups.{gates_status, gates_watch, sane_step, doers_step, watches_step, tallied_step, seats_step, owned_step, total_keeps}
+use Rattle.cs_rule.proofs.Groups.{gates_status, gates_watch, sane_live, sane_step, doers_step, watches_step, tallied_step, seats_step, owned_step, total_keeps}
 use Rattle.cs_rule.proofs.Lists.{same_yes, same_no, put_cases, total-set, total_gap, times-snoc}
 use Rattle.cs_rule.proofs.Slots.{slots_status}
 use Rattle.cs_rule.proofs.Spots.{on_here, on_else, at_here, at_else, at_apart, at_less}
@@ -26,9 +26,9 @@ use Rattle.cs_rule.proofs.Turns.{turned_still}
 
 module _ {J : Type 0} (M : Meaning J) (F : Frames M) (k : Plan J) (plan : IsPlan M k) (p : Words) (sized : IsSized k p)
     (hs : List (maybe.Option (Option J))) (vs : List (View J)) (id : ℕ) (v : View J) (here : get_elem? vs id ≡ some v) (f : Facts M k p hs vs)
-    (t i : ℕ) (moving : v.moving ≡ Some (record { note = t; place = i })) (live : v.spent ≡ false) where
+    (t i : ℕ) (moving : v.moving ≡ Some (record { note = t; from = i })) (live : v.spent ≡ false) where
   idle : v.doing ≡ None
-  idle = not_doing M F k plan p sized hs vs id v here f (record { note = t; place = i }) (inr moving)
+  idle = not_doing M F k plan p sized hs vs id v here f (record { note = t; from = i }) (inr moving)
 
   waiting : at p.status t ≡ 0
   waiting = moved_waits M F k plan p sized hs vs id v here f t i moving
@@ -39,7 +39,7 @@ module _ {J : Type 0} (M : Meaning J) (F : Frames M) (k : Plan J) (plan : IsPlan
   h : Waits k p.watch vs t
   h = f.watches.waits t within waiting
 
-  known : ((q : ℕ) → Edge k.edges h.place q t → at p.watch h.place ≢ 1) × (total (moves t) vs ≡ 1) × (h.place ≡ i)
+  known : ((q : ℕ) → Edge k.edges h.edge q t → at p.watch h.edge ≢ 1) × (total (moves t) vs ≡ 1) × (h.edge ≡ i)
   known = moved_at M F k plan p sized hs vs id v here f t i moving h
 
   mine : moves t v ≡ 1
@@ -60,14 +60,7 @@ module _ {J : Type 0} (M : Meaning J) (F : Frames M) (k : Plan J) (plan : IsPlan
   facts_settled e q edge low first found =
       facts_aside M F k plan p sized hs vs id v here f w (set p.watch e 1) idle idle refl refl refl refl (λ x. refl) refl refl
       (gates_watch k p.status p.watch e 1 near f.gates (omega arith) (λ z. absurd (omega arith)) (λ z. absurd (omega arith)))
-      (λ s. record {
-        plan = s.plan;
-        one_duty = inl idle;
-        owes_in = s.owes_in;
-        follower = s.follower;
-        leader = s.leader;
-        over = λ z. absurd (let c : true ≡ false = sym z ∙ live in cc);
-      })
+      (λ s. sane_live k v w live refl refl refl refl (inl idle) s.owes_in s)
       (watches_step k vs id v w here p.status p.status p.watch (set p.watch e 1)
       (λ r. omega arith)
       (λ g r u edge' d. inr (inr (d, (λ c. ⊎_elim (λ y. absurd (let z : at p.watch g ≡ 0 = ap (at p.watch) y.0 ∙ found in omega arith)) (λ y. y.1 ∙ c) (put_cases p.watch e 1 g near)), omega arith)))
@@ -89,7 +82,7 @@ module _ {J : Type 0} (M : Meaning J) (F : Frames M) (k : Plan J) (plan : IsPlan
 
       watching : Waits k (set p.watch e 1) (set vs id w) t
       watching = record {
-        place = e;
+        edge = e;
         before = λ g r edge' l. ⊎_elim (λ y. absurd (omega (arith, y.0)))
             (λ y. ⊎_elim
             (λ (m : g < i). y.1 ∙ h.before g r edge' (omega (arith, known.2)))
@@ -107,14 +100,7 @@ module _ {J : Type 0} (M : Meaning J) (F : Frames M) (k : Plan J) (plan : IsPlan
   facts_passed e q edge low first found =
       facts_aside M F k plan p sized hs vs id v here f w p.watch idle idle refl refl refl refl (λ x. refl) refl refl
       f.gates
-      (λ s. record {
-        plan = s.plan;
-        one_duty = inl idle;
-        owes_in = s.owes_in;
-        follower = s.follower;
-        leader = s.leader;
-        over = λ z. absurd (let c : true ≡ false = sym z ∙ live in cc);
-      })
+      (λ s. sane_live k v w live refl refl refl refl (inl idle) s.owes_in s)
       (watches_step k vs id v w here p.status p.status p.watch p.watch
       (λ r. omega arith)
       (λ g r u edge' d. inr (inr (d, (λ c. c), omega arith)))
@@ -132,16 +118,16 @@ module _ {J : Type 0} (M : Meaning J) (F : Frames M) (k : Plan J) (plan : IsPlan
 
       not_watched : at p.watch e ≢ 1
       not_watched c = ⊎_elim
-          (λ (s : h.place ≡ e). known.0 q (subst (λ x. Edge k.edges x q t) (sym s) edge) (ap (at p.watch) s ∙ c))
-          (λ (n : h.place ≢ e). h.after e q edge (omega (arith, known.2)) c)
-          (cases_eq h.place e)
+          (λ (s : h.edge ≡ e). known.0 q (subst (λ x. Edge k.edges x q t) (sym s) edge) (ap (at p.watch) s ∙ c))
+          (λ (n : h.edge ≢ e). h.after e q edge (omega (arith, known.2)) c)
+          (cases_eq h.edge e)
 
       closed : at p.watch e ≡ 2
       closed = omega (arith, f.gates.watches e, not_watched)
 
       further : Waits k p.watch (set vs id w) t
       further = record {
-        place = e + 1;
+        edge = e + 1;
         before = λ g r edge' l. ⊎_elim
             (λ (m : g < i). h.before g r edge' (omega (arith, known.2)))
             (λ (m : i ≤ g). let s : g ≡ e = omega (arith, first g r edge' m) in ap (at p.watch) s ∙ closed)
@@ -162,17 +148,10 @@ module _ {J : Type 0} (M : Meaning J) (F : Frames M) (k : Plan J) (plan : IsPlan
   pub facts_opened : ((g r : ℕ) → Edge k.edges g r t → g < i) → Facts M k (record p { status = set p.status t 1 }) hs (set vs id (opened v t))
   facts_opened last = record {
     gates = gates_status k p.status p.watch t 1 near f.gates (omega arith) (λ n e q edge. h.before e q edge (omega (arith, last e q edge, known.2))) (λ z. absurd (omega (arith, waiting)));
-    sane = sane_step k vs id v w here (λ s. record {
-      plan = s.plan;
-      one_duty = inl idle;
-      owes_in = λ u some_. ⊎_elim
-          (λ (e : u ≡ t). omega (arith, within))
-          (λ (n : u ≢ t). s.owes_in u (omega (arith, some_, times-snoc u v.owes t, same_no t u (λ z. n (sym z)))))
-          (cases_eq u t);
-      follower = s.follower;
-      leader = s.leader;
-      over = λ z. absurd (let c : true ≡ false = sym z ∙ live in cc);
-    }) f.sane;
+    sane = sane_step k vs id v w here (λ s. sane_live k v w live refl refl refl refl (inl idle) (λ u some_. ⊎_elim
+        (λ (e : u ≡ t). omega (arith, within))
+        (λ (n : u ≢ t). s.owes_in u (omega (arith, some_, times-snoc u v.owes t, same_no t u (λ z. n (sym z)))))
+        (cases_eq u t)) s) f.sane;
     doers = doers_step k vs id v w here p.status st' (λ u. ⊎_elim
         (λ y. let a : same (at p.status u) 2 ≡ 0 = ap (λ n. same n 2) (ap (at p.status) y.0 ∙ waiting) in
         let b : same (at st' u) 2 ≡ 0 = ap (λ n. same n 2) y.1 in omega arith)

@@ -1,6 +1,6 @@
 -- The board at the opening keeps the rule.
 use Rattle.std.proofs.Common.{◌≡◌, ◌≢◌, ℕ, zero, suc, ◌+◌, ◌<◌, ◌≤◌, ◌⊎◌, inl, inr, ⊎_elim, List, [], ◌∷◌, ◌++◌, map, length, take, Bool, true, false, cond, Some, None, refl, sym, ap, ◌∙◌, subst, arith, ◌==◌, ◌&&◌, ◌||◌, slice_get, eq-eqb, eqb-true, length-append}
-use Rattle.std.proofs.lemmas.Bool.{cases_eq, cases_lt}
+use Rattle.std.proofs.lemmas.Bool.{cases_Bool, cases_eq, cases_lt, or_right}
 use Rattle.std.proofs.lemmas.List.{length-map, get_or_past, get_or_append_left, get_or_at}
 use Rattle.std.proofs.lemmas.Option.{slice_get_within, get_or_from_slice_get}
 use mathlib.Core.Option.{some}
@@ -11,18 +11,14 @@ use Rattle.cs_cells.specs.Meaning.{Meaning}
 use Rattle.cs_graph.specs.Graph.{Edge}
 use Rattle.cs_rule.specs.Counts.{one, same, times, listed, count_below}
 use Rattle.cs_rule.specs.Facts.{IsSane, Waits, done_writers, job_if, Found}
-use Rattle.cs_rule.specs.Opening.{each_below, first_status, later_end, first_watch, opening_words}
+use Rattle.cs_rule.specs.inner.Opening.{each_below, first_status, later_end, first_watch, opening_words}
 use Rattle.cs_rule.specs.Plans.{IsPlan, IsRoot, leads_in, edge_count, area_count, before_at, places_written}
 use Rattle.cs_rule.specs.Rule.{Facts, Holds}
 use Rattle.cs_rule.specs.Views.{roots_below, opening_view}
-use Rattle.cs_rule.specs.Words.{Words, at, row_of, IsSized}
+use Rattle.cs_rule.specs.Words.{Words, at, all_words, IsSized}
 use Rattle.cs_rule.specs.declared.view.Plan.{Plan}
 use Rattle.cs_rule.specs.declared.view.View.{View}
 use Rattle.cs_rule.proofs.Lists.{same_yes, same_no}
-
-both_ways : (b : Bool) → (b ≡ true) ⊎ (b ≡ false)
-both_ways true = inl refl
-both_ways false = inr refl
 
 -- a list of the values below a number
 pub length-each_below : (f : ℕ → ℕ) (n : ℕ) → length (each_below f n) ≡ n
@@ -49,28 +45,20 @@ zeros n i = ⊎_elim
 pub leads_by : (edges : List (ℕ × ℕ)) (e p t : ℕ) → Edge edges e p t → leads_in edges t ≡ true
 leads_by [] e p t h = absurd (cc)
 leads_by (x ∷ es) zero p t h = let i : x.1 ≡ t = (let z : Some x ≡ Some (p, t) = h in cc) in ap (λ b. b || leads_in es t) (eq-eqb x.1 t i)
-leads_by (x ∷ es) (suc e) p t h = ap (λ b. x.1 == t || b) (leads_by es e p t h) ∙ or_true (x.1 == t)
-  where
-    or_true : (b : Bool) → (b || true) ≡ true
-    or_true true = refl
-    or_true false = refl
+leads_by (x ∷ es) (suc e) p t h = ap (λ b. x.1 == t || b) (leads_by es e p t h) ∙ or_right (x.1 == t) true refl
 
 pub leads_by_earlier : (edges : List (ℕ × ℕ)) (n e p t : ℕ) → e < n → Edge edges e p t → leads_in (take n edges) t ≡ true
 leads_by_earlier [] n e p t l h = absurd (cc)
 leads_by_earlier (x ∷ es) zero e p t l h = absurd (omega arith)
 leads_by_earlier (x ∷ es) (suc n) zero p t l h = let i : x.1 ≡ t = (let z : Some x ≡ Some (p, t) = h in cc) in ap (λ b. b || leads_in (take n es) t) (eq-eqb x.1 t i)
-leads_by_earlier (x ∷ es) (suc n) (suc e) p t l h = ap (λ b. x.1 == t || b) (leads_by_earlier es n e p t (omega arith) h) ∙ or_true (x.1 == t)
-  where
-    or_true : (b : Bool) → (b || true) ≡ true
-    or_true true = refl
-    or_true false = refl
+leads_by_earlier (x ∷ es) (suc n) (suc e) p t l h = ap (λ b. x.1 == t || b) (leads_by_earlier es n e p t (omega arith) h) ∙ or_right (x.1 == t) true refl
 
 pub first_edge : (edges : List (ℕ × ℕ)) (t : ℕ) → leads_in edges t ≡ true → (e : ℕ) × (p : ℕ) × Edge edges e p t × (leads_in (take e edges) t ≡ false)
 first_edge [] t h = absurd (cc)
 first_edge (x ∷ es) t h = ⊎_elim
     (λ (b : (x.1 == t) ≡ true). let i : x.1 ≡ t = eqb-true x.1 t b in (0, x.0, ap (λ z. Some (x.0, z)) i, refl))
     (λ (b : (x.1 == t) ≡ false). let r = first_edge es t (ap (λ z. z || leads_in es t) (sym b) ∙ h) in (suc r.0, r.1, r.2, ap (λ z. z || leads_in (take r.0 es) t) b ∙ r.3))
-    (both_ways (x.1 == t))
+    (cases_Bool (x.1 == t))
 
 -- a note stands among those that wait for none exactly where no edge leads to it
 root_in : (edges : List (ℕ × ℕ)) (n t : ℕ) → t < n → leads_in edges t ≡ false → 0 < times t (roots_below edges n)
@@ -84,7 +72,7 @@ root_in edges (suc n) t l h = ⊎_elim
     = ap (λ z. times t (cond z (roots_below edges n) (n ∷ roots_below edges n))) b in omega arith)
     (λ b. let c : times t (roots_below edges (suc n)) ≡ same n t + times t (roots_below edges n)
     = ap (λ z. times t (cond z (roots_below edges n) (n ∷ roots_below edges n))) b in omega arith)
-    (both_ways (leads_in edges n)))
+    (cases_Bool (leads_in edges n)))
     (cases_eq t n)
 
 root_out : (edges : List (ℕ × ℕ)) (n t : ℕ) → n ≤ t → times t (roots_below edges n) ≡ 0
@@ -95,7 +83,7 @@ root_out edges (suc n) t l =
     (λ b. ap (λ z. times t (cond z (roots_below edges n) (n ∷ roots_below edges n))) b ∙ r)
     (λ b. let s : same n t ≡ 0 = same_no n t (λ z. omega arith) in
     ap (λ z. times t (cond z (roots_below edges n) (n ∷ roots_below edges n))) b ∙ (let c : same n t + times t (roots_below edges n) ≡ 0 = omega arith in c))
-    (both_ways (leads_in edges n))
+    (cases_Bool (leads_in edges n))
 
 -- the jobs lie in their slots in order
 home_of : {J : Type 0} (js : List J) (t : ℕ) (j : J) → slice_get js t ≡ Some j → get_elem? (map some (map Some js)) t ≡ some (some (Some j))
@@ -134,7 +122,7 @@ module _ {J : Type 0} (M : Meaning J) (k : Plan J) (ws : List ℕ) (same_values 
       (λ (l : t < k.notes). let a : at st t ≡ first_status k.edges t = at_each_below (first_status k.edges) k.notes t l in ⊎_elim
       (λ b. inl (a ∙ ap (λ z. cond z 0 1) b))
       (λ b. inr (a ∙ ap (λ z. cond z 0 1) b, l, b))
-      (both_ways (leads_in k.edges t)))
+      (cases_Bool (leads_in k.edges t)))
       (λ (l : k.notes ≤ t). inl (past_each_below (first_status k.edges) k.notes t l))
       (cases_lt t k.notes)
 
@@ -145,7 +133,7 @@ module _ {J : Type 0} (M : Meaning J) (k : Plan J) (ws : List ℕ) (same_values 
   open_ t n e l = omega (arith, status_low t)
 
   not_done : (t : ℕ) → (at st t == 3) ≡ false
-  not_done t = ⊎_elim (λ b. absurd (open_ t 3 (eqb-true (at st t) 3 b) (omega arith))) (λ b. b) (both_ways (at st t == 3))
+  not_done t = ⊎_elim (λ b. absurd (open_ t 3 (eqb-true (at st t) 3 b) (omega arith))) (λ b. b) (cases_Bool (at st t == 3))
 
   same_none : (t n : ℕ) → 1 < n → same (at st t) n ≡ 0
   same_none t n l = same_no (at st t) n (λ e. open_ t n e l)
@@ -160,7 +148,7 @@ module _ {J : Type 0} (M : Meaning J) (k : Plan J) (ws : List ℕ) (same_values 
       ⊎_elim
       (λ b. let c : first_watch k.edges e ≡ 0 = ap (λ z. cond z 0 1) b in omega arith)
       (λ b. let c : first_watch k.edges e ≡ 1 = ap (λ z. cond z 0 1) b in omega arith)
-      (both_ways (leads_in (take e k.edges) (later_end k.edges e))))
+      (cases_Bool (leads_in (take e k.edges) (later_end k.edges e))))
       (λ (l : edge_count k ≤ e). omega (arith, past_each_below (first_watch k.edges) (edge_count k) e l))
       (cases_lt e (edge_count k))
 
@@ -168,11 +156,11 @@ module _ {J : Type 0} (M : Meaning J) (k : Plan J) (ws : List ℕ) (same_values 
   led t low z = ⊎_elim
       (λ b. b)
       (λ b. absurd (let o : at st t ≡ 1 = at_each_below (first_status k.edges) k.notes t low ∙ ap (λ y. cond y 0 1) b in omega arith))
-      (both_ways (leads_in k.edges t))
+      (cases_Bool (leads_in k.edges t))
 
   opening_waits : (t : ℕ) → t < k.notes → at st t ≡ 0 → Waits k wt only t
   opening_waits t low z = let f = first_edge k.edges t (led t low z) in record {
-    place = f.0;
+    edge = f.0;
     before = λ e p h l. absurd (let b : true ≡ false = sym (leads_by_earlier k.edges f.0 e p t l h) ∙ f.3 in cc);
     after = λ e p h l o. let b : at wt e ≡ 0 = watch_is e p t h ∙ ap (λ y. cond y 0 1) (leads_by_earlier k.edges e f.0 f.1 t l f.2) in omega (arith, o);
     who = inl (f.1, f.2, watch_is f.0 f.1 t f.2 ∙ ap (λ y. cond y 0 1) f.3, refl);
@@ -180,7 +168,7 @@ module _ {J : Type 0} (M : Meaning J) (k : Plan J) (ws : List ℕ) (same_values 
   }
 
   root_free : (t : ℕ) → IsRoot k t → leads_in k.edges t ≡ false
-  root_free t root = ⊎_elim (λ b. absurd (let f = first_edge k.edges t b in root f.0 f.1 f.2)) (λ b. b) (both_ways (leads_in k.edges t))
+  root_free t root = ⊎_elim (λ b. absurd (let f = first_edge k.edges t b in root f.0 f.1 f.2)) (λ b. b) (cases_Bool (leads_in k.edges t))
 
   opening_facts : Facts M k begins (map some (map Some k.jobs)) only
   opening_facts = record {
@@ -269,7 +257,7 @@ module _ {J : Type 0} (M : Meaning J) (k : Plan J) (ws : List ℕ) (same_values 
           map_at (x ∷ xs) zero m = refl
           map_at (x ∷ xs) (suc i) m = map_at xs i (omega arith)
 
-  pub opens : IsPlan M k → Holds M k (opening (row_of k.notes begins) (map Some k.jobs) (opening_view k))
+  pub opens : IsPlan M k → Holds M k (opening (all_words k.notes begins) (map Some k.jobs) (opening_view k))
   opens plan = record {
     plan = plan;
     parts = begins;
@@ -290,7 +278,7 @@ pub status_free : (edges : List (ℕ × ℕ)) (t : ℕ) → ((e p : ℕ) → ¬ 
 status_free edges t none = ⊎_elim
     (λ b. absurd (let f = first_edge edges t b in none f.0 f.1 f.2))
     (λ b. ap (λ z. cond z 0 1) (sym b))
-    (both_ways (leads_in edges t))
+    (cases_Bool (leads_in edges t))
 
 taken : (edges : List (ℕ × ℕ)) (e f : ℕ) (x : ℕ × ℕ) → slice_get (take e edges) f ≡ Some x → (f < e) × (slice_get edges f ≡ Some x)
 taken edges zero f x h = absurd (cc)
@@ -306,7 +294,7 @@ pub watch_first : (edges : List (ℕ × ℕ)) (e q t : ℕ) → Edge edges e q t
 watch_first edges e q t at_ none = ⊎_elim
     (λ b. absurd (let f = first_edge (take e edges) t b in let r = taken edges e f.0 (f.1, t) f.2 in none f.0 f.1 r.0 r.1))
     (λ b. ap (λ z. cond z 0 1) (sym b ∙ ap (λ z. leads_in (take e edges) z.1) (sym (get_or_from_slice_get edges e (q, t) (0, 0) at_))))
-    (both_ways (leads_in (take e edges) t))
+    (cases_Bool (leads_in (take e edges) t))
 
 -- a note among those that wait for none is one of the cycle's
 pub roots_within : (edges : List (ℕ × ℕ)) (n t : ℕ) → 0 < times t (roots_below edges n) → t < n

@@ -1,5 +1,6 @@
 -- The steps of a note that runs: its job goes out, cells are set, turns are made, and the job comes home.
 use Rattle.std.proofs.Common.{◌≡◌, ◌≢◌, ℕ, zero, suc, ◌+◌, ◌-◌, ◌<◌, ◌≤◌, ⊎_elim, List, [], ◌∷◌, length, get_or, set, take, Bool, true, false, Option, Some, None, refl, sym, ap, ◌∙◌, subst, arith, ◌==◌, ◌&&◌, nat_le, slice_get, slice_index, slice_set, eq-eqb, ne_eqb, le-leb}
+use Rattle.std.proofs.lemmas.Option.{same_Some}
 use Rattle.std.proofs.lemmas.List.{length-set}
 use Rattle.std.specs.List.{Contains}
 use mathlib.Core.Option as maybe
@@ -12,20 +13,20 @@ use Rattle.cs_rule.specs.Counts.{one, same, listed, total}
 use Rattle.cs_rule.specs.Facts.{job_if, doing_on, ran_on, turned_in, turned_on, does_note, ran_note, Pictured, Slots}
 use Rattle.cs_rule.specs.Plans.{writes_at, places_used, places_written, before_at, writers_before, area_count}
 use Rattle.cs_rule.specs.Rule.{Holds}
-use Rattle.cs_rule.specs.Told.{Sat, took, gave, set_cell, turned}
+use Rattle.cs_rule.specs.Plays.{Sat, took, gave, set_cell, turned}
 use Rattle.cs_rule.specs.Views.{does, set_image, next_phase}
 use Rattle.cs_rule.specs.Words.{Words, at, own_at, turn_at, cell_at}
 use Rattle.cs_rule.specs.declared.view.Doing.{Doing}
 use Rattle.cs_rule.specs.declared.view.Plan.{Plan}
 use Rattle.cs_rule.specs.declared.view.View.{View}
 use Rattle.cs_rule.proofs.Allowed.{holds_after, word_kept, word_set, one_cell}
-use Rattle.cs_rule.proofs.Begins.{some_is, facts_does}
+use Rattle.cs_rule.proofs.Begins.{facts_does}
 use Rattle.cs_rule.proofs.Conflicts.{listed_of, written_rises, written_used, written_used_at, used_place, used_within}
 use Rattle.cs_rule.proofs.Counting.{listed_fresh}
 use Rattle.cs_rule.proofs.Does.{busy, does_one}
 use Rattle.cs_rule.proofs.Groups.{owned_step}
 use Rattle.cs_rule.proofs.Lists.{put_cases, total_gap, within_of}
-use Rattle.cs_rule.proofs.Rows.{set_own, set_turn, set_cell_word, sized_own, sized_turn, sized_cell}
+use Rattle.cs_rule.proofs.AllWords.{set_own, set_turn, set_cell_word, sized_own, sized_turn, sized_cell}
 use Rattle.cs_rule.proofs.Slots.{slots_moved, slots_still}
 use Rattle.cs_rule.proofs.Stores.{stored_step, stored_set}
 use Rattle.cs_rule.proofs.Turns.{turned_still, turned_more, looks_turn}
@@ -52,7 +53,8 @@ module _ {J : Type 0} (M : Meaning J) (k : Plan J) (F : Frames M) (n id : ℕ) (
     picture = h.facts.stored.images id m.0 d here doing
 
     -- a step of the note that leaves its note, phase and image: only its job moves
-    job_moved : (b : Bool) (i : ℕ) (hs : List (maybe.Option (Option J))) → length hs ≡ length s.homes → Slots M k h.parts.status hs (set s.views id (does m.0 (record d { held = b })))
+    job_moved : (b : Bool) (i : ℕ) (hs : List (maybe.Option (Option J))) → length hs ≡ length s.homes
+        → Slots M k h.parts.status hs (set s.views id (does m.0 (record d { held = b })))
         → Holds M k (record { words = slice_set s.words i (slice_index s.words i); homes = hs; views = set s.views id (does m.0 (record d { held = b })) })
     job_moved b i hs long slots =
         let w : View J = does m.0 (record d { held = b }) in
@@ -61,7 +63,7 @@ module _ {J : Type 0} (M : Meaning J) (k : Plan J) (F : Frames M) (n id : ℕ) (
         (owned_step k s.views id m.0 w here h.parts.status h.parts.status h.parts.own h.parts.own (λ u. omega (arith, ap (ran_on u) doing)) h.facts.owned)
         slots
         (stored_step M F k h.plan h.parts.status h.parts.watch h.parts.cells s.views id m.0 w here h.facts.gates h.parts.status (λ u. refl) (λ u z. z)
-        (λ e is. subst (Pictured M k h.parts.cells) (some_is is) (record { long = picture.long; seen = picture.seen; after = picture.after })) h.facts.stored)
+        (λ e is. subst (Pictured M k h.parts.cells) (same_Some _ _ is) (record { long = picture.long; seen = picture.seen; after = picture.after })) h.facts.stored)
         (turned_still M k h.parts.status s.views id m.0 w here h.parts.status h.parts.turns (λ u. refl) (λ r. sym (ap (turned_in M k r) doing)) h.facts.turned))
 
   pub takes_job : (j : J) → d.phase ≡ 0 → d.held ≡ false → slice_get k.jobs d.note ≡ Some j → Allows (Holds M k) n id m 0 (λ y. y) (took (step n 0 0 0 none) m)
@@ -73,10 +75,11 @@ module _ {J : Type 0} (M : Meaning J) (k : Plan J) (F : Frames M) (n id : ℕ) (
         (slots_moved M k s.views id m.0 (does m.0 (record d { held = true })) here h.parts.status s.homes d (record d { held = true }) none h.facts.doers doing refl refl
         (omega (arith, h.deep, within s h here)) (λ x free' at'. absurd (cc)) h.facts.slots),
     λ e x is at' zero_.
-        let same_d : d ≡ e = some_is (sym doing ∙ is) in
+        let same_d : d ≡ e = same_Some _ _ (sym doing ∙ is) in
         let at_k : slice_get k.jobs e.note ≡ Some x = subst (λ z. slice_get z.jobs e.note ≡ Some x) plan at' in
-        let same_j : j ≡ x = some_is (sym at_ ∙ ap (λ z. slice_get k.jobs z.note) same_d ∙ at_k) in
-        ap (λ z. (does m.0 (record z { held = true }), (z.note, Some j) ∷ m.1)) same_d ∙ ap (λ z. (does m.0 (record e { held = true }), (e.note, Some z) ∷ m.1)) same_j,
+        let same_j : j ≡ x = same_Some _ _ (sym at_ ∙ ap (λ z. slice_get k.jobs z.note) same_d ∙ at_k) in
+        ap (λ z. (does m.0 (record z { held = true }), (z.note, Some j) ∷ m.1)) same_d
+        ∙ ap (λ z. (does m.0 (record e { held = true }), (e.note, Some z) ∷ m.1)) same_j,
   )
 
   pub gives_job : (j x : J) → m.1 ≡ (d.note, Some x) ∷ [] → slice_get k.jobs d.note ≡ Some j → x ≡ job_if M k (nat_le 1 d.phase) d.note j
@@ -91,8 +94,8 @@ module _ {J : Type 0} (M : Meaning J) (k : Plan J) (F : Frames M) (n id : ℕ) (
             (job_moved s h here false 0 hs (length-set s.homes d.note (some (Some x)))
             (slots_moved M k s.views id m.0 (does m.0 (record d { held = false })) here h.parts.status s.homes d (record d { held = false }) (some (Some x)) h.facts.doers doing refl refl
             (omega (arith, h.deep, within s h here))
-            (λ y free' at'. ap (λ z. some (Some z)) (is ∙ ap (job_if M k (nat_le 1 d.phase) d.note) (some_is (sym at_ ∙ at')))) h.facts.slots)),
-        λ e is'. ap (λ z. (does m.0 (record z { held = false }), rest m.1)) (some_is (sym doing ∙ is')),
+            (λ y free' at'. ap (λ z. some (Some z)) (is ∙ ap (job_if M k (nat_le 1 d.phase) d.note) (same_Some _ _ (sym at_ ∙ at')))) h.facts.slots)),
+        λ e is'. ap (λ z. (does m.0 (record z { held = false }), rest m.1)) (same_Some _ _ (sym doing ∙ is')),
       )
 
   module _ (held : d.held ≡ true) where
@@ -110,12 +113,12 @@ module _ {J : Type 0} (M : Meaning J) (k : Plan J) (F : Frames M) (n id : ℕ) (
               (word_set M k s h (cell_at k a) x p' (set_cell_word k h.parts h.sized a x)) (sized_cell k h.parts h.sized a x) refl
               (facts_does M F k h.plan h.parts h.sized s.homes s.views id m.0 here h.facts p' s.homes d d' refl refl doing refl live
               (owned_step k s.views id m.0 w here h.parts.status h.parts.status h.parts.own h.parts.own (λ u. omega (arith, ap (ran_on u) doing)) h.facts.owned)
-              (slots_still M k s.views id m.0 w here h.parts.status s.homes (λ e is. ap (λ z. z.held) (sym (some_is is)) ∙ held) h.facts.slots)
+              (slots_still M k s.views id m.0 w here h.parts.status s.homes (λ e is. ap (λ z. z.held) (sym (same_Some _ _ is)) ∙ held) h.facts.slots)
               (stored_set M F k h.plan h.parts.status h.parts.watch h.parts.cells s.views id m.0 w here h.facts.gates d a x h.facts.doers doing phase refl (omega (arith, low, h.sized.cells)) h.sized.cells (within s h here) writes h.facts.stored)
               (turned_still M k h.parts.status s.views id m.0 w here h.parts.status h.parts.turns (λ u. refl) (λ r. sym (ap (turned_in M k r) doing)) h.facts.turned)),
           λ b e word is.
               let same_a : a ≡ b = one_cell M k m.0.plan a b plan word in
-              let same_d : d ≡ e = some_is (sym doing ∙ is) in
+              let same_d : d ≡ e = same_Some _ _ (sym doing ∙ is) in
               ap (λ z. (does m.0 (set_image z a (signed x)), m.1)) same_d ∙ ap (λ z. (does m.0 (set_image e z (signed x)), m.1)) same_a,
         )
 
@@ -151,12 +154,12 @@ module _ {J : Type 0} (M : Meaning J) (k : Plan J) (F : Frames M) (n id : ℕ) (
               let now : one (d.note == u && nat_le 1 (d.phase + 1)) ≡ 0 = ap (λ b. one (b && nat_le 1 (d.phase + 1))) (ne_eqb d.note u n) in
               omega (arith, y.1, none_ran u))
               (put_cases h.parts.own d.note 1 u near)) h.facts.owned)
-              (slots_still M k s.views id m.0 w here h.parts.status s.homes (λ e is. ap (λ z. z.held) (sym (some_is is)) ∙ held) h.facts.slots)
+              (slots_still M k s.views id m.0 w here h.parts.status s.homes (λ e is. ap (λ z. z.held) (sym (same_Some _ _ is)) ∙ held) h.facts.slots)
               (stored_step M F k h.plan h.parts.status h.parts.watch h.parts.cells s.views id m.0 w here h.facts.gates h.parts.status (λ u. refl) (λ u z. z)
-              (λ e is. subst (Pictured M k h.parts.cells) (some_is is) (record { long = (picture s h here).long; seen = (picture s h here).seen; after = λ z. ran })) h.facts.stored)
+              (λ e is. subst (Pictured M k h.parts.cells) (same_Some _ _ is) (record { long = (picture s h here).long; seen = (picture s h here).seen; after = λ z. ran })) h.facts.stored)
               (turned_still M k h.parts.status s.views id m.0 w here h.parts.status h.parts.turns (λ u. refl)
               (λ r. ap (λ z. one (listed (take (z + 1 - 1) (places_written M k d.note)) r)) phase ∙ sym (ap (turned_in M k r) doing ∙ ap (λ z. one (listed (take (z - 1) (places_written M k d.note)) r)) phase)) h.facts.turned)),
-          λ e is. ap (λ z. (does m.0 (next_phase z), m.1)) (some_is (sym doing ∙ is)),
+          λ e is. ap (λ z. (does m.0 (next_phase z), m.1)) (same_Some _ _ (sym doing ∙ is)),
         )
       where
         none_ran : (u : ℕ) → one (d.note == u && nat_le 1 d.phase) ≡ 0
@@ -167,7 +170,8 @@ module _ {J : Type 0} (M : Meaning J) (k : Plan J) (F : Frames M) (n id : ℕ) (
             and_none false = refl
 
     -- the turn on the i-th resource that the note writes
-    pub turns_on : (i r x : ℕ) → d.phase ≡ i + 1 → i < length (places_written M k d.note) → at (places_written M k d.note) i ≡ r → x ≡ writers_before M k d.note r + 1
+    pub turns_on : (i r x : ℕ) → d.phase ≡ i + 1 → i < length (places_written M k d.note) → at (places_written M k d.note) i ≡ r
+        → x ≡ writers_before M k d.note r + 1
         → Allows (Holds M k) n id m (turn_at k r) (λ _. x) (λ _. turned (step n (turn_at k r) x 0 none) m x)
     turns_on i r x phase low is next s h deep here fits =
         let d' : Doing = next_phase d in
@@ -192,11 +196,11 @@ module _ {J : Type 0} (M : Meaning J) (k : Plan J) (F : Frames M) (n id : ℕ) (
               let old : ran_note u m.0 ≡ one (d.note == u && true) = ap (ran_on u) doing ∙ ap (λ b. one (d.note == u && b)) (le-leb 1 d.phase (omega arith)) in
               let now : one (d.note == u && nat_le 1 (d.phase + 1)) ≡ one (d.note == u && true) = ap (λ b. one (d.note == u && b)) (le-leb 1 (d.phase + 1) (omega arith)) in
               omega arith) h.facts.owned)
-              (slots_still M k s.views id m.0 w here h.parts.status s.homes (λ e is'. ap (λ z. z.held) (sym (some_is is')) ∙ held) h.facts.slots)
+              (slots_still M k s.views id m.0 w here h.parts.status s.homes (λ e is'. ap (λ z. z.held) (sym (same_Some _ _ is')) ∙ held) h.facts.slots)
               (stored_step M F k h.plan h.parts.status h.parts.watch h.parts.cells s.views id m.0 w here h.facts.gates h.parts.status (λ u. refl) (λ u z. z)
-              (λ e is'. subst (Pictured M k h.parts.cells) (some_is is') (record { long = (picture s h here).long; seen = (picture s h here).seen; after = λ z. (picture s h here).after (omega arith) })) h.facts.stored)
+              (λ e is'. subst (Pictured M k h.parts.cells) (same_Some _ _ is') (record { long = (picture s h here).long; seen = (picture s h here).seen; after = λ z. (picture s h here).after (omega arith) })) h.facts.stored)
               (turned_more M k h.parts.status s.views id m.0 w here h.parts.turns d i r x doing refl phase up low is (omega (arith, small, h.sized.turns)) (omega arith) h.facts.turned)),
-          λ e is'. ap (λ z. (does m.0 (next_phase z), m.1)) (some_is (sym doing ∙ is')),
+          λ e is'. ap (λ z. (does m.0 (next_phase z), m.1)) (same_Some _ _ (sym doing ∙ is')),
         )
       where
         get_default : (xs : List ℕ) (i r : ℕ) → i < length xs → get_or xs i r ≡ at xs i

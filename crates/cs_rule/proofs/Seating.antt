@@ -1,13 +1,13 @@
 -- A seat is split off, or taken in: these keep the facts.
-use Rattle.std.proofs.Common.{◌≡◌, ◌≢◌, ℕ, ◌+◌, ◌<◌, ◌≤◌, ◌⊎◌, inl, inr, ⊎_elim, List, [], ◌∷◌, ◌++◌, set, Bool, true, false, not, Option, Some, None, refl, sym, ap, ◌∙◌, subst, arith, ◌==◌, ◌&&◌, slice_get}
-use Rattle.std.proofs.lemmas.Bool.{cases_eq}
+use Rattle.std.proofs.Common.{◌≡◌, ◌≢◌, ℕ, ◌+◌, ◌<◌, ◌≤◌, ◌⊎◌, inl, inr, ⊎_elim, List, [], ◌∷◌, ◌++◌, set, true, false, not, Option, Some, None, refl, sym, ap, ◌∙◌, subst, arith, ◌==◌, ◌&&◌, slice_get}
+use Rattle.std.proofs.lemmas.Bool.{cases_Bool, cases_eq}
 use mathlib.Core.Option as maybe
 use mathlib.Core.Option.{some}
 use lib.ListN.{get_elem?}
 use Rattle.atomic_table.specs.Table.{Splits, Joins}
 use Rattle.cs_cells.specs.Meaning.{Meaning}
 use Rattle.cs_rule.specs.Counts.{one, same, total, times, without}
-use Rattle.cs_rule.specs.Facts.{doing_on, ran_on, spot_on, spot_by, spot_at, turned_in, owed, has, leads, numbered, names, Found, IsSane, Waits, Seats}
+use Rattle.cs_rule.specs.Facts.{doing_on, ran_on, spot_on, spot_by, spot_at, turned_in, owed, has_done, is_first, numbered, names, Found, IsSane, Waits, Seats}
 use Rattle.cs_rule.specs.Rule.{Facts, Holds}
 use Rattle.cs_rule.specs.Views.{kept_view, given_view, joined, spent_view}
 use Rattle.cs_rule.specs.Words.{Words}
@@ -20,10 +20,6 @@ use Rattle.cs_rule.proofs.Lists.{same_yes, same_no, at_set, at_snoc, set_else, t
 -- what a view weighs by what it does, closes and moves
 abbrev Weight : Type 0
 Weight = Option Doing → Option Spot → Option Spot → ℕ
-
-bool_cases : (b : Bool) → (b ≡ true) ⊎ (b ≡ false)
-bool_cases true = inl refl
-bool_cases false = inr refl
 
 found_none : {J : Type 0} (x : View J) (t : ℕ) → x.found ≡ [] → ¬ (Found x t)
 found_none x t e q = let none : List (ℕ × ℕ) = [] in let z : slice_get none q.0 ≡ Some (t, q.1) = subst (λ l. slice_get l q.0 ≡ Some (t, q.1)) e q.2 in cc
@@ -39,7 +35,7 @@ module _ {J : Type 0} where
   module _ (M : Meaning J) (k : Plan J) (p : Words) (hs : List (maybe.Option (Option J))) (vs vs' : List (View J)) where
     -- views that weigh what those before did
     facts_alike : ((g : Weight) → g None None None ≡ 0 → total (weigh g) vs' ≡ total (weigh g) vs)
-        → ((t : ℕ) → total (owed t) vs ≤ total (owed t) vs') → ((t : ℕ) → total (has t) vs' ≡ total (has t) vs)
+        → ((t : ℕ) → total (owed t) vs ≤ total (owed t) vs') → ((t : ℕ) → total (has_done t) vs' ≡ total (has_done t) vs)
         → ((i : ℕ) (x : View J) → get_elem? vs' i ≡ some x → Old vs x)
         → ((i : ℕ) (x : View J) → get_elem? vs' i ≡ some x → IsSane k x) → Seats vs' → Facts M k p hs vs → Facts M k p hs vs'
     facts_alike duty owes mine old sane seats f = record {
@@ -82,24 +78,36 @@ module _ {J : Type 0} where
       where
         waits : (t : ℕ) → Waits k p.watch vs t → Waits k p.watch vs' t
         waits t h = record {
-          place = h.place;
+          edge = h.edge;
           before = h.before;
           after = h.after;
           who = ⊎_elim
               (λ a. inl (a.0, a.1, a.2, duty (λ d c m. spot_on t m) refl ∙ a.3))
-              (λ b. inr (b.0, duty (λ d c m. spot_on t m) refl ∙ b.1, duty (λ d c m. spot_at t h.place m) refl ∙ b.2))
+              (λ b. inr (b.0, duty (λ d c m. spot_on t m) refl ∙ b.1, duty (λ d c m. spot_at t h.edge m) refl ∙ b.2))
               h.who;
           some_edge = h.some_edge;
         }
+
+  -- the first view stays sane, whatever it knows of the others and of the notes that are finished
+  first_sane : (k : Plan J) (v : View J) (mine out : List ℕ) (made : ℕ) → v.first ≡ true → v.spent ≡ false → IsSane k v
+      → IsSane k (record v { mine = mine; out = out; made = made })
+  first_sane k v mine out made first live s = record {
+    plan = s.plan;
+    one_duty = s.one_duty;
+    owes_in = s.owes_in;
+    follower = λ z. absurd (let c : true ≡ false = sym first ∙ z in cc);
+    leader = s.leader;
+    over = λ z. absurd (let c : true ≡ false = sym z ∙ live in cc);
+  }
 
   -- only the first view has others out
   module _ (k : Plan J) (vs : List (View J)) (id : ℕ) (v : View J) (here : get_elem? vs id ≡ some v) (first : v.first ≡ true)
       (sane : (i : ℕ) (x : View J) → get_elem? vs i ≡ some x → IsSane k x) (seats : Seats vs) where
     pub follows : (j : ℕ) (y : View J) → j ≢ id → get_elem? vs j ≡ some y → y.first ≡ false
     follows j y n e = ⊎_elim
-        (λ t. absurd (omega (arith, total_two leads vs id j v y (λ z. n (sym z)) here e, seats.leading, ap one first, ap one t)))
+        (λ t. absurd (omega (arith, total_two is_first vs id j v y (λ z. n (sym z)) here e, seats.leading, ap one first, ap one t)))
         (λ f. f)
-        (bool_cases y.first)
+        (cases_Bool y.first)
 
     pub names_first : (x : ℕ) → total (names x) vs ≡ names x v
     names_first x = total_only (names x) vs id v here (λ j y n e. ap (times x) ((sane j y e).follower (follows j y n e)))
@@ -115,7 +123,7 @@ module _ {J : Type 0} where
       facts = facts_alike M k h.parts s.homes s.views vs'
           (λ g none. omega (arith, sums (weigh g), none))
           (λ t. omega (arith, sums (owed t)))
-          (λ t. omega (arith, sums (has t)))
+          (λ t. omega (arith, sums (has_done t)))
           old sane seats h.facts;
     }
       where
@@ -131,7 +139,8 @@ module _ {J : Type 0} where
         sums : (g : View J → ℕ) → total g vs' + g v ≡ total g s.views + g w + g given
         sums g = omega (arith, total-snoc g (set s.views id w) given, total-set g s.views id v w here)
 
-        each : (P : View J → Type 0) → P w → P given → ((i : ℕ) (x : View J) → get_elem? s.views i ≡ some x → P x) → (i : ℕ) (x : View J) → get_elem? vs' i ≡ some x → P x
+        each : (P : View J → Type 0) → P w → P given → ((i : ℕ) (x : View J) → get_elem? s.views i ≡ some x → P x) → (i : ℕ) (x : View J)
+            → get_elem? vs' i ≡ some x → P x
         each P pw pg rest i x e = ⊎_elim
             (λ a. ⊎_elim (λ b. subst P b.1 pw) (λ b. rest i x b.1) (at_set s.views id i w x a.0))
             (λ a. subst P a.0 pg)
@@ -142,14 +151,7 @@ module _ {J : Type 0} where
 
         sane : (i : ℕ) (x : View J) → get_elem? vs' i ≡ some x → IsSane k x
         sane = let o = h.facts.sane id v here in each (IsSane k)
-            (record {
-              plan = o.plan;
-              one_duty = o.one_duty;
-              owes_in = o.owes_in;
-              follower = λ z. absurd (let c : true ≡ false = sym first ∙ z in cc);
-              leader = o.leader;
-              over = λ z. absurd (let c : true ≡ false = sym z ∙ live in cc);
-            })
+            (first_sane k v v.mine (v.made ∷ v.out) (v.made + 1) first live o)
             (record {
               plan = λ z. plan;
               one_duty = inl refl;
@@ -165,7 +167,7 @@ module _ {J : Type 0} where
 
         seats : Seats vs'
         seats = record {
-          leading = omega (arith, sums leads, h.facts.seats.leading);
+          leading = omega (arith, sums is_first, h.facts.seats.leading);
           numbers = λ x. omega (arith, sums (numbered x), sums (names x), h.facts.seats.numbers x);
           once = λ x. ⊎_elim
               (λ (e : v.made ≡ x). let all : total (names x) s.views ≡ 0 = ap (λ z. total (names z) s.views) (sym e) ∙ names_first k s.views id v here first h.facts.sane h.facts.seats v.made ∙ new_name in
@@ -184,7 +186,8 @@ module _ {J : Type 0} where
                 (λ q. absurd (omega arith))
                 (λ i y e q. h.facts.seats.fresh i y x e q)
 
-    pub joins : (id : ℕ) (v : View J) (other : ℕ) (u : View J) → v.first ≡ true → v.spent ≡ false → u.spent ≡ false → u.doing ≡ None → u.closing ≡ None → u.moving ≡ None → u.owes ≡ []
+    pub joins : (id : ℕ) (v : View J) (other : ℕ) (u : View J) → v.first ≡ true → v.spent ≡ false → u.spent ≡ false → u.doing ≡ None → u.closing ≡ None
+        → u.moving ≡ None → u.owes ≡ []
         → Joins (Holds M k) id v other u (joined v u) spent_view
     joins id v other u first live live' idle no_closing no_moving no_owes s h here apart there = record {
       plan = h.plan;
@@ -195,7 +198,7 @@ module _ {J : Type 0} where
       facts = facts_alike M k h.parts s.homes s.views vs'
           (λ g none. omega (arith, sums (weigh g), none, ap (λ z. g z u.closing u.moving) idle, ap (λ z. g None z u.moving) no_closing, ap (λ z. g None None z) no_moving))
           (λ t. omega (arith, sums (owed t), ap (times t) no_owes))
-          (λ t. let both : has t w ≡ has t v + has t u = total-append (λ y. same y t) v.mine u.mine in omega (arith, sums (has t)))
+          (λ t. let both : has_done t w ≡ has_done t v + has_done t u = total-append (λ y. same y t) v.mine u.mine in omega (arith, sums (has_done t)))
           old sane seats h.facts;
     }
       where
@@ -211,7 +214,8 @@ module _ {J : Type 0} where
         sums : (g : View J → ℕ) → total g vs' + g u + g v ≡ total g s.views + g w + g spent_view
         sums g = omega (arith, total-set g (set s.views id w) other u spent_view there, total-set g s.views id v w here)
 
-        each : (P : View J → Type 0) → P w → P spent_view → ((i : ℕ) (x : View J) → get_elem? s.views i ≡ some x → P x) → (i : ℕ) (x : View J) → get_elem? vs' i ≡ some x → P x
+        each : (P : View J → Type 0) → P w → P spent_view → ((i : ℕ) (x : View J) → get_elem? s.views i ≡ some x → P x) → (i : ℕ) (x : View J)
+            → get_elem? vs' i ≡ some x → P x
         each P pw ps rest i x e = ⊎_elim
             (λ a. subst P a.1 ps)
             (λ a. ⊎_elim (λ b. subst P b.1 pw) (λ b. rest i x b.1) (at_set s.views id i w x a.1))
@@ -222,14 +226,7 @@ module _ {J : Type 0} where
 
         sane : (i : ℕ) (x : View J) → get_elem? vs' i ≡ some x → IsSane k x
         sane = let o = h.facts.sane id v here in each (IsSane k)
-            (record {
-              plan = o.plan;
-              one_duty = o.one_duty;
-              owes_in = o.owes_in;
-              follower = λ z. absurd (let c : true ≡ false = sym first ∙ z in cc);
-              leader = o.leader;
-              over = λ z. absurd (let c : true ≡ false = sym z ∙ live in cc);
-            })
+            (first_sane k v (v.mine ++ u.mine) (without u.number v.out) v.made first live o)
             (record {
               plan = λ z. absurd (cc);
               one_duty = inl refl;
@@ -254,7 +251,7 @@ module _ {J : Type 0} where
 
         seats : Seats vs'
         seats = record {
-          leading = omega (arith, sums leads, h.facts.seats.leading, ap one followed);
+          leading = omega (arith, sums is_first, h.facts.seats.leading, ap one followed);
           numbers = λ x. ⊎_elim
               (λ (e : u.number ≡ x).
               let gone : names x w ≡ 0 = ap (λ z. times x (without z v.out)) e ∙ times-without_same x v.out in

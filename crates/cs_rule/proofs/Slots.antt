@@ -1,5 +1,6 @@
 -- The slots: a note's job is home, or out with the seat that runs it.
 use Rattle.std.proofs.Common.{◌≡◌, ◌≢◌, ℕ, ◌<◌, ⊎_elim, List, length, set, true, false, Option, Some, None, refl, sym, ap, ◌∙◌, ◌==◌, nat_le, slice_get}
+use Rattle.std.proofs.lemmas.Option.{same_Some}
 use mathlib.Core.Option as maybe
 use mathlib.Core.Option.{some, none}
 use lib.ListN.{get_elem?}
@@ -44,7 +45,8 @@ module _ {J : Type 0} (M : Meaning J) (k : Plan J) (vs : List (View J)) (id : �
       s
 
   -- a note is Done, while its job is home
-  pub slots_done : (st : List ℕ) (hs : Homes) (d : Doing) → d.note < length st → at st d.note ≡ 2 → v.doing ≡ Some d → d.held ≡ false → nat_le 1 d.phase ≡ true → w.doing ≡ None
+  pub slots_done : (st : List ℕ) (hs : Homes) (d : Doing) → d.note < length st → at st d.note ≡ 2 → v.doing ≡ Some d → d.held ≡ false
+      → nat_le 1 d.phase ≡ true → w.doing ≡ None
       → Slots M k st hs vs → Slots M k (set st d.note 3) hs (set vs id w)
   slots_done st hs d low is doing free ran over s = slots_step st (set st d.note 3) hs hs
       (λ u j at_ n. ⊎_elim
@@ -63,13 +65,14 @@ module _ {J : Type 0} (M : Meaning J) (k : Plan J) (vs : List (View J)) (id : �
   slots_still st hs held s = slots_step st st hs hs s.home (λ d j is_ free. absurd (let z : true ≡ false = sym (held d is_) ∙ free in cc)) (λ i y d n e is_. refl) s
 
   -- the job of the note that the view does goes out, or comes home
-  pub slots_moved : (st : List ℕ) (hs : Homes) (d d' : Doing) (h : maybe.Option (Option J)) → Doers k st vs → v.doing ≡ Some d → w.doing ≡ Some d' → d'.note ≡ d.note → d.note < length hs
+  pub slots_moved : (st : List ℕ) (hs : Homes) (d d' : Doing) (h : maybe.Option (Option J)) → Doers k st vs → v.doing ≡ Some d → w.doing ≡ Some d'
+      → d'.note ≡ d.note → d.note < length hs
       → ((j : J) → d'.held ≡ false → slice_get k.jobs d.note ≡ Some j → h ≡ some (Some (job_if M k (nat_le 1 d'.phase) d.note j)))
       → Slots M k st hs vs → Slots M k st (set hs d.note h) (set vs id w)
   slots_moved st hs d d' h D doing doing' same_ low mine s = slots_step st st hs (set hs d.note h)
       (λ u j at_ n. set_else hs d.note u h (λ z. n (ap (at st) z ∙ busy k st vs D id v d here doing)) ∙ s.home u j at_ n)
       (λ e j is_ free at_.
-      let same_e : d' ≡ e = cc_some (sym doing' ∙ is_) in
+      let same_e : d' ≡ e = same_Some _ _ (sym doing' ∙ is_) in
       let note_e : e.note ≡ d.note = ap (λ z. z.note) (sym same_e) ∙ same_ in
       ap (get_elem? (set hs d.note h)) note_e ∙ set_here hs d.note h low
       ∙ ap some (mine j (ap (λ z. z.held) same_e ∙ free) (ap (slice_get k.jobs) (sym note_e) ∙ at_))
@@ -77,6 +80,3 @@ module _ {J : Type 0} (M : Meaning J) (k : Plan J) (vs : List (View J)) (id : �
       ∙ ap (λ t. some (some (Some (job_if M k (nat_le 1 e.phase) t j)))) (sym note_e))
       (λ i x e n at_ is_. set_else hs d.note e.note h (apart k st vs D i id x v e d n at_ here is_ doing))
       s
-    where
-      cc_some : {a b : Doing} → Some a ≡ Some b → a ≡ b
-      cc_some e = cc

@@ -1,6 +1,7 @@
 -- The cells: each has the value of the serial run at some note, and an image has the cells that its note uses.
-use Rattle.std.proofs.Common.{◌≡◌, ◌≢◌, ℕ, ◌+◌, ◌-◌, ◌<◌, ◌≤◌, ◌⊎◌, inl, inr, ⊎_elim, pos, List, length, set, slice_set, Bool, true, false, Some, None, refl, sym, ap, ◌∙◌, subst, arith, ◌==◌, slice_get}
-use Rattle.std.proofs.lemmas.Bool.{cases_eq, cases_lt}
+use Rattle.std.proofs.Common.{◌≡◌, ◌≢◌, ℕ, ◌+◌, ◌-◌, ◌<◌, ◌≤◌, ⊎_elim, pos, List, length, set, slice_set, true, false, Some, None, sym, ap, ◌∙◌, subst, arith, ◌==◌, slice_get}
+use Rattle.std.proofs.lemmas.Option.{same_Some}
+use Rattle.std.proofs.lemmas.Bool.{both_ways, cases_Bool, cases_eq, cases_lt}
 use Rattle.std.proofs.lemmas.List.{get_or-set_same, get_or-set_other, length-set}
 use mathlib.Core.Option.{some}
 use lib.ListN.{get_elem?}
@@ -18,25 +19,19 @@ use Rattle.cs_rule.proofs.Conflicts.{writer_user_at, user_writer_at, written_use
 use Rattle.cs_rule.proofs.Does.{busy, apart}
 use Rattle.cs_rule.proofs.Lists.{put_cases, at_set}
 
-both_ways : (b : Bool) → (b ≡ true) ⊎ (b ≡ false)
-both_ways true = inl refl
-both_ways false = inr refl
-
-not_both : {b : Bool} → b ≡ true → b ≡ false → ⊥
-not_both t f = let e : true ≡ false = sym t ∙ f in cc
-
 module _ {J : Type 0} (M : Meaning J) (F : Frames M) (k : Plan J) (plan : IsPlan M k) where
   writes_job : (t a : ℕ) (j : J) → slice_get k.jobs t ≡ Some j → covers (M.areas j) (M.foot j).writes a ≡ true → writes_at M k t a ≡ true
   writes_job t a j e h = subst (λ o. covers k.areas (writes_of M o) a ≡ true) (sym e) (subst (λ z. covers z (M.foot j).writes a ≡ true) (plan.layout t j e) h)
 
   -- notes that don't write a cell leave it
   pub quiet : (p t a : ℕ) → p ≤ t → ((q : ℕ) → p ≤ q → q < t → writes_at M k q a ≡ false) → cell (before_at M k t) a ≡ cell (before_at M k p) a
-  quiet p t a low h = passed_by_all M F k.jobs k.cells plan.sound p a (t - p) t (omega arith)
-      (λ q j l m e w. not_both (writes_job q a j e w) (h q l m))
+  quiet p t a low h = passed_by_all M F k.jobs k.cells plan.valid p a (t - p) t (omega arith)
+      (λ q j l m e w. both_ways _ (h q l m) (writes_job q a j e w))
 
   module _ (st wt cw : List ℕ) (vs : List (View J)) (id : ℕ) (v w : View J) (here : get_elem? vs id ≡ some v) (g : Gates k st wt) where
     -- a step after which the same notes are Done, and no other is InProgress that wasn't
-    kept_still : (st' : List ℕ) (a : ℕ) → ((u : ℕ) → (at st' u == 3) ≡ (at st u == 3)) → ((u : ℕ) → at st u ≡ 2 → at st' u ≡ 2) → Kept M k st cw a → Kept M k st' cw a
+    kept_still : (st' : List ℕ) (a : ℕ) → ((u : ℕ) → (at st' u == 3) ≡ (at st u == 3)) → ((u : ℕ) → at st u ≡ 2 → at st' u ≡ 2) → Kept M k st cw a
+        → Kept M k st' cw a
     kept_still st' a alike runs h = record {
       upto = h.upto;
       within = h.within;
@@ -74,25 +69,26 @@ module _ {J : Type 0} (M : Meaning J) (F : Frames M) (k : Plan J) (plan : IsPlan
             (λ x. absurd (let z : u ≡ t = begun_at M k plan st wt g u t a x used (λ y. omega arith) (λ y. omega arith) begun open_ in
             let y : at st u ≡ at st t = ap (at st) z in omega arith))
             (λ x. x)
-            (both_ways (writes_at M k u a))
+            (cases_Bool (writes_at M k u a))
 
         seen : (a : ℕ) → uses_at M k t a ≡ true → Kept M k st cw a → signed (at cw a) ≡ cell (before_at M k t) a
         seen a used h = h.value (none_running a used) ∙ ⊎_elim
             (λ (l : h.upto < t). sym (quiet h.upto t a (omega arith) (λ q x y. ⊎_elim
             (λ z. absurd (h.later q x (omega arith) z (past M k plan st wt g q t (writer_user_at M k plan q t a y z used) begun)))
             (λ z. z)
-            (both_ways (writes_at M k q a)))))
+            (cases_Bool (writes_at M k q a)))))
             (λ (l : t ≤ h.upto). quiet t h.upto a l (λ q x y. ⊎_elim
             (λ z. absurd (let d : at st q ≡ 3 = h.done q y z in ⊎_elim
             (λ (e : t ≡ q). open_ (ap (at st) e ∙ d))
             (λ (n : t ≢ q). open_ (past M k plan st wt g t q (user_writer_at M k plan t q a (omega arith) used z) (λ c. omega arith)))
             (cases_eq t q)))
             (λ z. z)
-            (both_ways (writes_at M k q a))))
+            (cases_Bool (writes_at M k q a))))
             (cases_lt h.upto t)
 
     -- a cell is set by the note that writes it
-    pub stored_set : (d : Doing) (a x : ℕ) → Doers k st vs → v.doing ≡ Some d → d.phase ≡ 0 → w.doing ≡ Some (set_image d a (signed x)) → a < length cw → length cw ≡ length k.cells
+    pub stored_set : (d : Doing) (a x : ℕ) → Doers k st vs → v.doing ≡ Some d → d.phase ≡ 0 → w.doing ≡ Some (set_image d a (signed x)) → a < length cw
+        → length cw ≡ length k.cells
         → d.note < k.notes → writes_at M k d.note a ≡ true → Stored M k st cw vs → Stored M k st (set cw a x) (set vs id w)
     stored_set d a x D doing zero_ doing' low long within writes s = record {
       values = λ b l. let h = s.values b l in record {
@@ -101,19 +97,16 @@ module _ {J : Type 0} (M : Meaning J) (F : Frames M) (k : Plan J) (plan : IsPlan
         done = h.done;
         later = h.later;
         value = λ q. ⊎_elim
-            (λ (e : b ≡ a). absurd (not_both writes (subst (λ c. writes_at M k d.note c ≡ false) e (q d.note within running))))
+            (λ (e : b ≡ a). absurd (both_ways _ (subst (λ c. writes_at M k d.note c ≡ false) e (q d.note within running)) writes))
             (λ (n : b ≢ a). ap signed (get_or-set_other cw a b x 0 n) ∙ h.value q)
             (cases_eq b a);
       };
       images = λ i y e at_ is. ⊎_elim
-          (λ z. subst (Pictured M k (set cw a x)) (some_is (sym doing' ∙ ap (λ u. u.doing) z.1 ∙ is)) mine)
+          (λ z. subst (Pictured M k (set cw a x)) (same_Some _ _ (sym doing' ∙ ap (λ u. u.doing) z.1 ∙ is)) mine)
           (λ z. others i y e z.0 z.1 is (s.images i y e z.1 is))
           (at_set vs id i w y at_);
     }
       where
-        some_is : {p q : Doing} → Some p ≡ Some q → p ≡ q
-        some_is e = cc
-
         running : at st d.note ≡ 2
         running = busy k st vs D id v d here doing
 
@@ -143,7 +136,7 @@ module _ {J : Type 0} (M : Meaning J) (F : Frames M) (k : Plan J) (plan : IsPlan
     pub stored_done : (d : Doing) → Doers k st vs → v.doing ≡ Some d → 1 ≤ d.phase → w.doing ≡ None → d.note < length st → d.note < k.notes
         → Stored M k st cw vs → Stored M k (set st d.note 3) cw (set vs id w)
     stored_done d D doing ran over low within s = record {
-      values = λ a l. ⊎_elim (λ x. written a l x (s.values a l)) (λ x. left a x (s.values a l)) (both_ways (writes_at M k d.note a));
+      values = λ a l. ⊎_elim (λ x. written a l x (s.values a l)) (λ x. left a x (s.values a l)) (cases_Bool (writes_at M k d.note a));
       images = λ i y e at_ is. ⊎_elim
           (λ z. absurd (let n : Some e ≡ None = sym is ∙ ap (λ u. u.doing) (sym z.1) ∙ over in cc))
           (λ z. s.images i y e z.1 is)
@@ -177,7 +170,7 @@ module _ {J : Type 0} (M : Meaning J) (F : Frames M) (k : Plan J) (plan : IsPlan
           within = h.within;
           done = λ u m y. now_done u (h.done u m y);
           later = λ u m n y e. ⊎_elim
-              (λ z. not_both (subst (λ c. writes_at M k c a ≡ true) z.0 y) x)
+              (λ z. both_ways _ x (subst (λ c. writes_at M k c a ≡ true) z.0 y))
               (λ z. h.later u m n y (sym z.1 ∙ e))
               (put_cases st d.note 3 u low);
           value = λ q. h.value (λ u m e. ⊎_elim

@@ -1,6 +1,6 @@
 -- The turn words: how many notes that write a resource have run.
-use Rattle.std.proofs.Common.{◌≡◌, ◌≢◌, ℕ, zero, suc, ◌+◌, ◌-◌, ◌<◌, ◌≤◌, ◌⊎◌, inl, inr, ⊎_elim, List, [], ◌∷◌, length, set, take, Bool, true, false, Option, Some, None, refl, sym, ap, ◌∙◌, arith, ◌==◌, ◌&&◌, ◌||◌, eq-eqb, eqb-true}
-use Rattle.std.proofs.lemmas.Bool.{cases_eq}
+use Rattle.std.proofs.Common.{◌≡◌, ◌≢◌, ℕ, zero, suc, ◌+◌, ◌-◌, ◌<◌, ◌≤◌, ⊎_elim, List, [], ◌∷◌, length, set, take, Bool, true, false, Option, Some, None, refl, sym, ap, ◌∙◌, arith, ◌==◌, ◌&&◌, ◌||◌, eq-eqb, eqb-true}
+use Rattle.std.proofs.lemmas.Bool.{and_parts, and_right, cases_Bool, cases_eq}
 use Rattle.std.proofs.lemmas.List.{take_all}
 use Rattle.std.specs.List.{Contains}
 use Rattle.std.specs.List.Sorted.{IsStrictlyIncreasing}
@@ -20,10 +20,6 @@ use Rattle.cs_rule.proofs.Counting.{count_same, count_more, count_cut, listed_mo
 use Rattle.cs_rule.proofs.Does.{busy, apart}
 use Rattle.cs_rule.proofs.Lists.{put_cases, total-set, total_only}
 
-both_ways : (b : Bool) → (b ≡ true) ⊎ (b ≡ false)
-both_ways true = inl refl
-both_ways false = inr refl
-
 module _ {J : Type 0} (M : Meaning J) (k : Plan J) where
   done_same : (st st' : List ℕ) (r : ℕ) → ((u : ℕ) → (at st' u == 3) ≡ (at st u == 3)) → done_writers M k st' r ≡ done_writers M k st r
   done_same st st' r alike = count_same (λ u. at st' u == 3 && listed (places_written M k u) r) (λ u. at st u == 3 && listed (places_written M k u) r) k.notes
@@ -37,7 +33,8 @@ module _ {J : Type 0} (M : Meaning J) (k : Plan J) where
         omega (arith, h r l, same_ r, done_same st st' r alike, total-set (turned_on M k r) vs id v w here)
 
     -- a note makes its turn on a resource that it writes, in the order of its footprint
-    pub turned_more : (tw : List ℕ) (d : Doing) (i r0 x : ℕ) → v.doing ≡ Some d → w.doing ≡ Some (next_phase d) → d.phase ≡ i + 1 → IsStrictlyIncreasing (places_written M k d.note)
+    pub turned_more : (tw : List ℕ) (d : Doing) (i r0 x : ℕ) → v.doing ≡ Some d → w.doing ≡ Some (next_phase d) → d.phase ≡ i + 1
+        → IsStrictlyIncreasing (places_written M k d.note)
         → i < length (places_written M k d.note) → at (places_written M k d.note) i ≡ r0 → r0 < length tw → x ≡ at tw r0 + 1
         → Turned M k st tw vs → Turned M k st (set tw r0 x) (set vs id w)
     turned_more tw d i r0 x doing doing' phase up low is within new h r l =
@@ -62,7 +59,8 @@ module _ {J : Type 0} (M : Meaning J) (k : Plan J) where
         more = omega arith
 
     -- a note whose turns are all made is Done
-    pub turned_done : (tw : List ℕ) (d : Doing) → v.doing ≡ Some d → w.doing ≡ None → at st d.note ≡ 2 → d.note < length st → d.note < k.notes → d.phase ≡ 1 + length (places_written M k d.note)
+    pub turned_done : (tw : List ℕ) (d : Doing) → v.doing ≡ Some d → w.doing ≡ None → at st d.note ≡ 2 → d.note < length st → d.note < k.notes
+        → d.phase ≡ 1 + length (places_written M k d.note)
         → Turned M k st tw vs → Turned M k (set st d.note 3) tw (set vs id w)
     turned_done tw d doing over is low within phase h r l =
         let W : List ℕ = places_written M k d.note in
@@ -98,16 +96,12 @@ module _ {J : Type 0} (M : Meaning J) (k : Plan J) where
           earlier u l = ⊎_elim
               (λ y. ap (λ b. b && listed (places_written M k u) r) (eq-eqb (at st u) 3
               (past M k plan st wt g u d.note (writer_user M k plan u d.note r l (listed_contains (places_written M k u) r y) uses) (λ z. omega (arith, running)))))
-              (λ y. ap (λ b. at st u == 3 && b) y ∙ and_false (at st u == 3) ∙ sym y)
-              (both_ways (listed (places_written M k u) r))
-            where
-              and_false : (b : Bool) → (b && false) ≡ false
-              and_false true = refl
-              and_false false = refl
+              (λ y. ap (λ b. at st u == 3 && b) y ∙ and_right (at st u == 3) false refl ∙ sym y)
+              (cases_Bool (listed (places_written M k u) r))
 
           later : (u : ℕ) → d.note ≤ u → u < k.notes → (at st u == 3 && listed (places_written M k u) r) ≡ false
           later u l m = ⊎_elim
-              (λ y. absurd (let parts = split (at st u == 3) (listed (places_written M k u) r) y in
+              (λ y. absurd (let parts = and_parts (at st u == 3) (listed (places_written M k u) r) y in
               let three : at st u ≡ 3 = eqb-true (at st u) 3 parts.0 in
               let c : at st d.note ≡ 3 = ⊎_elim
               (λ (e : d.note ≡ u). ap (at st) e ∙ three)
@@ -115,14 +109,10 @@ module _ {J : Type 0} (M : Meaning J) (k : Plan J) where
               (cases_eq d.note u) in
               omega (arith, running)))
               (λ y. y)
-              (both_ways (at st u == 3 && listed (places_written M k u) r))
-            where
-              split : (a b : Bool) → (a && b) ≡ true → (a ≡ true) × (b ≡ true)
-              split true b e = (refl, e)
-              split false b e = absurd (cc)
+              (cases_Bool (at st u == 3 && listed (places_written M k u) r))
 
       take_listed : (n : ℕ) (xs : List ℕ) (r : ℕ) → listed xs r ≡ false → listed (take n xs) r ≡ false
-      take_listed n xs r h = ⊎_elim (λ y. absurd (let c = listed_contains (take n xs) r y in let z : true ≡ false = sym (in_whole n xs r y) ∙ h in cc)) (λ y. y) (both_ways (listed (take n xs) r))
+      take_listed n xs r h = ⊎_elim (λ y. absurd (let c = listed_contains (take n xs) r y in let z : true ≡ false = sym (in_whole n xs r y) ∙ h in cc)) (λ y. y) (cases_Bool (listed (take n xs) r))
         where
           in_whole : (n : ℕ) (xs : List ℕ) (r : ℕ) → listed (take n xs) r ≡ true → listed xs r ≡ true
           in_whole zero xs r h = absurd (cc)
@@ -147,4 +137,4 @@ module _ {J : Type 0} (M : Meaning J) (k : Plan J) where
                   (λ y. absurd (apart k st vs D j id x v b d n at_ here e doing
                   (alone_on M k plan st wt g b.note d.note r (listed_contains (places_written M k b.note) r y) (listed_contains (places_used M k d.note) r used) (busy k st vs D j x b at_ e) running)))
                   (λ y. ap (turned_in M k r) e ∙ ap one (take_listed (b.phase - 1) (places_written M k b.note) r y))
-                  (both_ways (listed (places_written M k b.note) r))
+                  (cases_Bool (listed (places_written M k b.note) r))

@@ -1,4 +1,4 @@
--- Counting in plain lists.
+-- Counting in plain lists. f is what an element weighs, P a test.
 use Rattle.std.specs.Prelude.{ℕ, zero, suc, ◌+◌, List, [], ◌∷◌, Bool, false, cond, ◌==◌, ◌||◌}
 
 abbrev pub one : Bool → ℕ

@@ -1,4 +1,4 @@
--- The end of a cycle, once every seat but the first was joined.
+-- The end of a cycle, once every seat but the first was joined. v is a view, k a plan, s the state of the board, t a note; M is what jobs mean.
 use Rattle.std.specs.Prelude.{◌≡◌, ℕ, ◌<◌, List, [], map, drop, true, Option, Some, None, slice_index}
 use mathlib.Core.Option.{some}
 use lib.ListN.{get_elem?}
@@ -9,6 +9,7 @@ use Rattle.cs_cells.specs.Serial.{serial_cells, serial_jobs}
 use Rattle.cs_rule.specs.Words.{status_at, cell_at}
 use Rattle.cs_rule.specs.declared.view.Plan.{Plan}
 use Rattle.cs_rule.specs.declared.view.View.{View}
+use Rattle.cs_rule.specs.declared.words.TheConstants.{DONE}
 
 -- the first seat, when it runs nothing, has nothing to finish or to try, and has taken in each other seat
 pub record IsLast {J : Type 0} (v : View J) : Type 0 where
@@ -30,7 +31,7 @@ module _ {J : Type 0} (k : Plan J) where
 
   -- No note is lost: each is Done.
   abbrev pub AllDone : State (Option J) (View J) → Type 0
-  AllDone s = (t : ℕ) → t < k.notes → slice_index s.words (status_at k t) ≡ 3
+  AllDone s = (t : ℕ) → t < k.notes → slice_index s.words (status_at k t) ≡ DONE
 
   module _ (M : Meaning J) where
     -- The cells are those of the serial run, and the slot of each note has its job as the serial run leaves it.

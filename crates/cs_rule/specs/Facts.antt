@@ -1,4 +1,6 @@
 -- The facts that hold between any two steps, in groups. `status` and so on are parts of the words, `views` the seats' views.
+-- M is what jobs mean, k the plan; t and u are notes, p an earlier one, e an edge, i an edge or the number of a seat; v is a view,
+-- d what it does, s a spot, x the number of a seat, j a job, a an address, r the place of a resource.
 use Rattle.std.specs.Prelude.{◌≡◌, ◌≢◌, ℕ, ◌+◌, ◌-◌, ◌<◌, ◌≤◌, ◌⊎◌, List, [], length, take, Bool, true, false, cond, Option, Some, None, ◌==◌, ◌&&◌, not, nat_le, slice_get}
 use mathlib.Core.Option as maybe
 use mathlib.Core.Option.{some}
@@ -13,6 +15,7 @@ use Rattle.cs_rule.specs.declared.view.Doing.{Doing}
 use Rattle.cs_rule.specs.declared.view.Plan.{Plan}
 use Rattle.cs_rule.specs.declared.view.Spot.{Spot}
 use Rattle.cs_rule.specs.declared.view.View.{View}
+use Rattle.cs_rule.specs.declared.words.TheConstants.{WAITING, AVAILABLE, IN_PROGRESS, DONE, WATCHED, CLOSED}
 
 -- 1 where the spot is at note p, where it is there at edge i or before, and where it is there at edge i
 abbrev pub spot_on : ℕ → Option Spot → ℕ
@@ -21,11 +24,11 @@ spot_on p (Some s) = same s.note p
 
 abbrev pub spot_by : ℕ → ℕ → Option Spot → ℕ
 spot_by p i None = 0
-spot_by p i (Some s) = one (s.note == p && nat_le s.place i)
+spot_by p i (Some s) = one (s.note == p && nat_le s.from i)
 
 abbrev pub spot_at : ℕ → ℕ → Option Spot → ℕ
 spot_at p i None = 0
-spot_at p i (Some s) = one (s.note == p && s.place == i)
+spot_at p i (Some s) = one (s.note == p && s.from == i)
 
 -- 1 where note t is done, and where it has run
 abbrev pub doing_on : ℕ → Option Doing → ℕ
@@ -58,11 +61,11 @@ module _ {J : Type 0} where
   abbrev pub owed : ℕ → View J → ℕ
   owed t v = times t v.owes
 
-  abbrev pub has : ℕ → View J → ℕ
-  has t v = times t v.mine
+  abbrev pub has_done : ℕ → View J → ℕ
+  has_done t v = times t v.mine
 
-  abbrev pub leads : View J → ℕ
-  leads v = one v.first
+  abbrev pub is_first : View J → ℕ
+  is_first v = one v.first
 
   abbrev pub numbered : ℕ → View J → ℕ
   numbered x v = one (not v.first && (not v.spent && v.number == x))
@@ -77,10 +80,10 @@ module _ {J : Type 0} where
   module _ (k : Plan J) where
     -- Each word has one of its values. Every edge into a note that isn't Waiting is Closed, and a Closed edge leads from a Done note.
     pub record Gates (status watch : List ℕ) : Type 0 where
-      pub statuses : (t : ℕ) → at status t ≤ 3
-      pub watches : (e : ℕ) → at watch e ≤ 2
-      pub closed : (e p t : ℕ) → Edge k.edges e p t → at status t ≢ 0 → at watch e ≡ 2
-      pub done : (e p t : ℕ) → Edge k.edges e p t → at watch e ≡ 2 → at status p ≡ 3
+      pub statuses : (t : ℕ) → at status t ≤ DONE
+      pub watches : (e : ℕ) → at watch e ≤ CLOSED
+      pub closed : (e p t : ℕ) → Edge k.edges e p t → at status t ≢ WAITING → at watch e ≡ CLOSED
+      pub done : (e p t : ℕ) → Edge k.edges e p t → at watch e ≡ CLOSED → at status p ≡ DONE
 
     -- A view by itself: it has the plan, does one thing at a time, and a spent one has no part.
     pub record IsSane (v : View J) : Type 0 where
@@ -93,41 +96,41 @@ module _ {J : Type 0} where
 
     -- A note is InProgress exactly where one view does it.
     abbrev pub Doers : List ℕ → List (View J) → Type 0
-    Doers status views = (t : ℕ) → total (does_note t) views ≡ same (at status t) 2
+    Doers status views = (t : ℕ) → total (does_note t) views ≡ same (at status t) IN_PROGRESS
 
     -- A Waiting note has a place among the edges into it: those before are Closed, and it watches the edge there or is being moved by one view.
     pub record Waits (watch : List ℕ) (views : List (View J)) (t : ℕ) : Type 0 where
-      pub place : ℕ
-      pub before : (e p : ℕ) → Edge k.edges e p t → e < place → at watch e ≡ 2
-      pub after : (e p : ℕ) → Edge k.edges e p t → place < e → at watch e ≢ 1
-      pub who : ((p : ℕ) × Edge k.edges place p t × (at watch place ≡ 1) × (total (moves t) views ≡ 0))
-          ⊎ (((p : ℕ) → Edge k.edges place p t → at watch place ≢ 1) × (total (moves t) views ≡ 1) × (total (moves_at t place) views ≡ 1))
+      pub edge : ℕ
+      pub before : (e p : ℕ) → Edge k.edges e p t → e < edge → at watch e ≡ CLOSED
+      pub after : (e p : ℕ) → Edge k.edges e p t → edge < e → at watch e ≢ WATCHED
+      pub who : ((p : ℕ) × Edge k.edges edge p t × (at watch edge ≡ WATCHED) × (total (moves t) views ≡ 0))
+          ⊎ (((p : ℕ) → Edge k.edges edge p t → at watch edge ≢ WATCHED) × (total (moves t) views ≡ 1) × (total (moves_at t edge) views ≡ 1))
       pub some_edge : (e : ℕ) × (p : ℕ) × Edge k.edges e p t
 
     -- A view closes a Done note, which no other view closes; each edge from a Done note is Closed or still ahead of that view. Only a Waiting note is moved.
     pub record Watches (status watch : List ℕ) (views : List (View J)) : Type 0 where
-      pub closing : (p : ℕ) → total (closes p) views ≤ same (at status p) 3
-      pub left : (e p t : ℕ) → Edge k.edges e p t → at status p ≡ 3 → (at watch e ≡ 2) ⊎ (0 < total (closes_by p e) views)
-      pub waits : (t : ℕ) → t < k.notes → at status t ≡ 0 → Waits watch views t
-      pub calm : (t : ℕ) → at status t ≢ 0 → total (moves t) views ≡ 0
+      pub closing : (p : ℕ) → total (closes p) views ≤ same (at status p) DONE
+      pub left : (e p t : ℕ) → Edge k.edges e p t → at status p ≡ DONE → (at watch e ≡ CLOSED) ⊎ (0 < total (closes_by p e) views)
+      pub waits : (t : ℕ) → t < k.notes → at status t ≡ WAITING → Waits watch views t
+      pub calm : (t : ℕ) → at status t ≢ WAITING → total (moves t) views ≡ 0
       pub moving_in : (t : ℕ) → k.notes ≤ t → total (moves t) views ≡ 0
 
     -- An Available note is owed. A note that waits for none and that a try found other than Available has begun. Each Done note is one seat's, once.
     pub record Tallied (status : List ℕ) (views : List (View J)) : Type 0 where
-      pub owing : (t : ℕ) → at status t ≡ 1 → 0 < total (owed t) views
-      pub finding : (id : ℕ) (v : View J) (t : ℕ) → get_elem? views id ≡ some v → Found v t → t < k.notes → IsRoot k t → 2 ≤ at status t
-      pub having : (t : ℕ) → total (has t) views ≡ same (at status t) 3
+      pub owing : (t : ℕ) → at status t ≡ AVAILABLE → 0 < total (owed t) views
+      pub finding : (id : ℕ) (v : View J) (t : ℕ) → get_elem? views id ≡ some v → Found v t → t < k.notes → IsRoot k t → IN_PROGRESS ≤ at status t
+      pub having : (t : ℕ) → total (has_done t) views ≡ same (at status t) DONE
 
   -- One view is the first; each other one that isn't spent has a number of its own, which is among those out.
   pub record Seats (views : List (View J)) : Type 0 where
-    pub leading : total leads views ≡ 1
+    pub leading : total is_first views ≡ 1
     pub numbers : (x : ℕ) → total (numbered x) views ≡ total (names x) views
     pub once : (x : ℕ) → total (names x) views ≤ 1
     pub fresh : (id : ℕ) (v : View J) (x : ℕ) → get_elem? views id ≡ some v → 0 < names x v → x < v.made
 
   -- An own turn word is 1 exactly where the note is Done or has run.
   abbrev pub Owned : List ℕ → List ℕ → List (View J) → Type 0
-  Owned status own views = (t : ℕ) → at own t ≡ same (at status t) 3 + total (ran_note t) views
+  Owned status own views = (t : ℕ) → at own t ≡ same (at status t) DONE + total (ran_note t) views
 
 module _ {J : Type 0} (M : Meaning J) (k : Plan J) where
   -- the job of note t as it lies in the slot: as at the opening, or after its run
@@ -136,8 +139,8 @@ module _ {J : Type 0} (M : Meaning J) (k : Plan J) where
 
   -- The slot of a note that isn't InProgress is home with its job. That of a note InProgress is home while its view hasn't taken the job out.
   pub record Slots (status : List ℕ) (homes : List (maybe.Option (Option J))) (views : List (View J)) : Type 0 where
-    pub home : (t : ℕ) (j : J) → slice_get k.jobs t ≡ Some j → at status t ≢ 2
-        → get_elem? homes t ≡ some (some (Some (job_if (at status t == 3) t j)))
+    pub home : (t : ℕ) (j : J) → slice_get k.jobs t ≡ Some j → at status t ≢ IN_PROGRESS
+        → get_elem? homes t ≡ some (some (Some (job_if (at status t == DONE) t j)))
     pub resting : (id : ℕ) (v : View J) (d : Doing) (j : J) → get_elem? views id ≡ some v → v.doing ≡ Some d → d.held ≡ false
         → slice_get k.jobs d.note ≡ Some j → get_elem? homes d.note ≡ some (some (Some (job_if (nat_le 1 d.phase) d.note j)))
 
@@ -145,9 +148,9 @@ module _ {J : Type 0} (M : Meaning J) (k : Plan J) where
   pub record Kept (status cells : List ℕ) (a : ℕ) : Type 0 where
     pub upto : ℕ
     pub within : upto ≤ k.notes
-    pub done : (t : ℕ) → t < upto → writes_at M k t a ≡ true → at status t ≡ 3
-    pub later : (t : ℕ) → upto ≤ t → t < k.notes → writes_at M k t a ≡ true → at status t ≢ 3
-    pub value : ((t : ℕ) → t < k.notes → at status t ≡ 2 → writes_at M k t a ≡ false) → signed (at cells a) ≡ cell (before_at M k upto) a
+    pub done : (t : ℕ) → t < upto → writes_at M k t a ≡ true → at status t ≡ DONE
+    pub later : (t : ℕ) → upto ≤ t → t < k.notes → writes_at M k t a ≡ true → at status t ≢ DONE
+    pub value : ((t : ℕ) → t < k.notes → at status t ≡ IN_PROGRESS → writes_at M k t a ≡ false) → signed (at cells a) ≡ cell (before_at M k upto) a
 
   -- A note's image has the cells that it uses, and once it has run the cells after it in the serial run.
   pub record Pictured (cells : List ℕ) (d : Doing) : Type 0 where
@@ -169,7 +172,7 @@ module _ {J : Type 0} (M : Meaning J) (k : Plan J) where
 
   -- how many Done notes write the resource at place r
   abbrev pub done_writers : List ℕ → ℕ → ℕ
-  done_writers status r = count_below (λ u. at status u == 3 && listed (places_written M k u) r) k.notes
+  done_writers status r = count_below (λ u. at status u == DONE && listed (places_written M k u) r) k.notes
 
   -- A turn word is the number of Done notes that write its resource, plus 1 where one InProgress has made its turn step there.
   abbrev pub Turned : List ℕ → List ℕ → List (View J) → Type 0

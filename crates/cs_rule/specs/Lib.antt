@@ -3,9 +3,9 @@ pub mod Ending
 pub mod Facts
 pub mod Keys
 pub mod Laws
-pub mod Opening
 pub mod Plans
+pub mod Plays
 pub mod Rule
-pub mod Told
 pub mod Views
 pub mod Words
+pub mod inner

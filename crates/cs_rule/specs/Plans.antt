@@ -1,11 +1,13 @@
 -- What is fixed while a cycle runs, and what the serial run makes of it.
+-- M is what jobs mean, k a plan; t a note and p an earlier one, e, f, g edges; j a job, a an address, r the place of a resource.
 use Rattle.std.specs.Prelude.{◌≡◌, ℕ, zero, suc, ◌<◌, ◌≤◌, List, [], ◌∷◌, map, length, Bool, false, ◌==◌, ◌||◌, Option, Some, None, slice_get}
 use Rattle.std.specs.List.{Contains}
 use Rattle.std.specs.List.Sorted.{IsStrictlyIncreasing}
+use Rattle.cs_base.specs.Limits.{most_resources}
 use Rattle.cs_cells.specs.Areas.{IsLaid, word_count}
 use Rattle.cs_cells.specs.Cells.{Cells, covers}
 use Rattle.cs_cells.specs.Meaning.{Meaning}
-use Rattle.cs_cells.specs.Serial.{before, AllSound}
+use Rattle.cs_cells.specs.Serial.{before, AllValid}
 use Rattle.cs_cells.specs.declared.footprint.Footprint.{Footprint}
 use Rattle.cs_graph.specs.Conflict.{Conflict}
 use Rattle.cs_graph.specs.Graph.{Edge, Reaches}
@@ -18,6 +20,14 @@ pub record IsFootprint (n : ℕ) (f : Footprint) : Type 0 where
   pub writes : IsStrictlyIncreasing f.writes
   pub within : (r : ℕ) → Contains f.uses r → r < n
   pub written : (r : ℕ) → Contains f.writes r → Contains f.uses r
+
+-- each edge leads from an earlier note to a later one of n
+abbrev pub LeadsForward : List (ℕ × ℕ) → ℕ → Type 0
+LeadsForward edges n = (e p t : ℕ) → Edge edges e p t → (p < t) × (t < n)
+
+-- between two edges into note t there are only edges into it
+abbrev pub StandTogether : List (ℕ × ℕ) → ℕ → Type 0
+StandTogether edges t = (e f g p q : ℕ) → Edge edges e p t → Edge edges g q t → e ≤ f → f ≤ g → (r : ℕ) × Edge edges f r t
 
 -- some edge leads to note t
 abbrev pub leads_in : List (ℕ × ℕ) → ℕ → Bool
@@ -79,12 +89,12 @@ module _ {J : Type 0} (M : Meaning J) where
   -- What is known of a plan from the start: each conflict is reached along edges, and the edges into a note stand together.
   pub record IsPlan (k : Plan J) : Type 0 where
     pub jobs : length k.jobs ≡ k.notes
-    pub forward : (e p t : ℕ) → Edge k.edges e p t → (p < t) × (t < k.notes)
-    pub together : (e f g p q t : ℕ) → Edge k.edges e p t → Edge k.edges g q t → e ≤ f → f ≤ g → (r : ℕ) × Edge k.edges f r t
+    pub forward : LeadsForward k.edges k.notes
+    pub together : (t : ℕ) → StandTogether k.edges t
     pub fit : (p t : ℕ) → Conflict (feet k) p t → Reaches k.edges p t
     pub footprints : (t : ℕ) (j : J) → slice_get k.jobs t ≡ Some j → IsFootprint (area_count k) (M.foot j)
     pub layout : (t : ℕ) (j : J) → slice_get k.jobs t ≡ Some j → M.areas j ≡ k.areas
-    pub sound : AllSound M k.jobs
+    pub valid : AllValid M k.jobs
     pub laid : IsLaid k.areas
-    pub few : area_count k ≤ 4096
+    pub few : area_count k ≤ most_resources
     pub cells : length k.cells ≡ word_count k.areas

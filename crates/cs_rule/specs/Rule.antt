@@ -1,4 +1,4 @@
--- The rule of the board: what holds between any two steps, whatever the interleaving.
+-- The rule of the board: what holds between any two steps, whatever the interleaving. M is what jobs mean, k the plan, w the words, s the state of the board.
 use Rattle.std.specs.Prelude.{◌≡◌, ℕ, List, length, Option}
 use mathlib.Core.Option as maybe
 use mathlib.Core.Option.{some}
@@ -7,7 +7,7 @@ use Rattle.atomic_table.specs.Table.{State}
 use Rattle.cs_cells.specs.Meaning.{Meaning}
 use Rattle.cs_rule.specs.Facts.{Gates, IsSane, Doers, Watches, Tallied, Seats, Owned, Slots, Stored, Turned}
 use Rattle.cs_rule.specs.Plans.{IsPlan}
-use Rattle.cs_rule.specs.Words.{Words, row_of, IsSized}
+use Rattle.cs_rule.specs.Words.{Words, all_words, IsSized}
 use Rattle.cs_rule.specs.declared.view.Plan.{Plan}
 use Rattle.cs_rule.specs.declared.view.View.{View}
 
@@ -27,7 +27,7 @@ module _ {J : Type 0} (M : Meaning J) (k : Plan J) where
   pub record Holds (s : State (Option J) (View J)) : Type 0 where
     pub plan : IsPlan M k
     pub parts : Words
-    pub words : s.words ≡ row_of k.notes parts
+    pub words : s.words ≡ all_words k.notes parts
     pub sized : IsSized k parts
     pub deep : length s.homes ≡ k.notes
     pub facts : Facts parts s.homes s.views

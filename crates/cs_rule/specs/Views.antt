@@ -1,4 +1,6 @@
 -- What a seat knows, and how each kind of step changes it.
+-- v and w are views, k a plan, d what a view does; t is a note, p an earlier one, e and i are edges, x is the number of a seat, a an
+-- address and z a value. M is what jobs mean.
 use Rattle.std.specs.Prelude.{ℕ, zero, suc, ◌+◌, ℤ, List, [], ◌∷◌, ◌++◌, true, false, cond, Option, Some, None, ◌==◌, slice_set}
 use Rattle.cs_cells.specs.Meaning.{Meaning}
 use Rattle.cs_rule.specs.Counts.{without}
@@ -7,6 +9,7 @@ use Rattle.cs_rule.specs.declared.view.Doing.{Doing}
 use Rattle.cs_rule.specs.declared.view.Plan.{Plan}
 use Rattle.cs_rule.specs.declared.view.Spot.{Spot}
 use Rattle.cs_rule.specs.declared.view.View.{View}
+use Rattle.cs_rule.specs.declared.words.TheConstants.{WATCHED}
 
 -- the notes below n to which no edge leads
 abbrev pub roots_below : List (ℕ × ℕ) → ℕ → List ℕ
@@ -15,7 +18,7 @@ roots_below edges (suc n) = cond (leads_in edges n) (roots_below edges n) (n ∷
 
 -- a spot at note p from edge i on, where an edge from there on leads from p
 abbrev pub closing_from : List (ℕ × ℕ) → ℕ → ℕ → Option Spot
-closing_from edges p i = cond (leads_out edges p i) (Some (record { note = p; place = i })) None
+closing_from edges p i = cond (leads_out edges p i) (Some (record { note = p; from = i })) None
 
 abbrev pub set_image : Doing → ℕ → ℤ → Doing
 set_image d a z = record d { image = slice_set d.image a z }
@@ -67,14 +70,14 @@ module _ {J : Type 0} where
   abbrev pub shut : View J → ℕ → ℕ → ℕ → ℕ → View J
   shut v e p t found = record v {
     closing = closing_from v.plan.edges p (e + 1);
-    moving = cond (found == 1) (Some (record { note = t; place = e + 1 })) None;
+    moving = cond (found == WATCHED) (Some (record { note = t; from = e + 1 })) None;
   }
 
   abbrev pub settled : View J → View J
   settled v = record v { moving = None }
 
   abbrev pub passed : View J → ℕ → ℕ → View J
-  passed v t e = record v { moving = Some (record { note = t; place = e + 1 }) }
+  passed v t e = record v { moving = Some (record { note = t; from = e + 1 }) }
 
   abbrev pub opened : View J → ℕ → View J
   opened v t = record v { moving = None; owes = v.owes ++ t ∷ [] }

@@ -1,9 +1,9 @@
--- The words of the board.
+-- The words of the board: k is the plan of the cycle, n its number of notes, w the words, t a note, e an edge, r the place of a resource, a an address.
 use Rattle.std.specs.Prelude.{◌≡◌, ℕ, ◌+◌, List, ◌∷◌, ◌++◌, length, slice_index}
 use Rattle.cs_rule.specs.Plans.{edge_count, area_count}
 use Rattle.cs_rule.specs.declared.view.Plan.{Plan}
 
--- A status is 0 Waiting, 1 Available, 2 InProgress or 3 Done; a watch word is 0 Idle, 1 Watched or 2 Closed.
+-- A status is WAITING, AVAILABLE, IN_PROGRESS or DONE; a watch word is IDLE, WATCHED or CLOSED.
 pub record Words : Type 0 where
   -- one for each note
   pub status : List ℕ
@@ -20,9 +20,9 @@ pub record Words : Type 0 where
 abbrev pub at : List ℕ → ℕ → ℕ
 at xs i = slice_index xs i
 
--- all words in a row, the number of notes first
-abbrev pub row_of : ℕ → Words → List ℕ
-row_of n w = n ∷ w.status ++ (w.watch ++ (w.own ++ (w.turns ++ w.cells)))
+-- all words, the number of notes first
+abbrev pub all_words : ℕ → Words → List ℕ
+all_words n w = n ∷ w.status ++ (w.watch ++ (w.own ++ (w.turns ++ w.cells)))
 
 module _ {J : Type 0} (k : Plan J) where
   pub record IsSized (w : Words) : Type 0 where
@@ -32,7 +32,7 @@ module _ {J : Type 0} (k : Plan J) where
     pub turns : length w.turns ≡ area_count k
     pub cells : length w.cells ≡ length k.cells
 
-  -- where each word stands in the row
+  -- where each word stands among all
   abbrev pub status_at : ℕ → ℕ
   status_at t = 1 + t
 
@@ -48,5 +48,5 @@ module _ {J : Type 0} (k : Plan J) where
   abbrev pub cell_at : ℕ → ℕ
   cell_at a = 1 + (k.notes + (edge_count k + (k.notes + (area_count k + a))))
 
-  abbrev pub row_length : ℕ
-  row_length = 1 + (k.notes + (edge_count k + (k.notes + (area_count k + length k.cells))))
+  abbrev pub word_total : ℕ
+  word_total = 1 + (k.notes + (edge_count k + (k.notes + (area_count k + length k.cells))))

@@ -30,7 +30,7 @@ impl<J: Job> TableRule<Option<J>, View<J>, Key<J>> for Rule {
 pub struct Claim;
 
 impl<J: Job> Play<Option<J>, View<J>> for Claim {
-    ghost use Rattle.cs_rule.specs.Told.{claimed};
+    ghost use Rattle.cs_rule.specs.Plays.{claimed};
 
     ghost then = { claimed J.means };
 }
@@ -39,7 +39,7 @@ impl<J: Job> Play<Option<J>, View<J>> for Claim {
 pub struct Take;
 
 impl<J> Play<Option<J>, View<J>> for Take {
-    ghost use Rattle.cs_rule.specs.Told.{took};
+    ghost use Rattle.cs_rule.specs.Plays.{took};
 
     ghost then = { took };
 }
@@ -48,7 +48,7 @@ impl<J> Play<Option<J>, View<J>> for Take {
 pub struct Look;
 
 impl<J: Job> Play<Option<J>, View<J>> for Look {
-    ghost use Rattle.cs_rule.specs.Told.{looked};
+    ghost use Rattle.cs_rule.specs.Plays.{looked};
 
     ghost then = { looked J.means };
 }
@@ -57,7 +57,7 @@ impl<J: Job> Play<Option<J>, View<J>> for Look {
 pub struct Set;
 
 impl<J> Play<Option<J>, View<J>> for Set {
-    ghost use Rattle.cs_rule.specs.Told.{set_cell};
+    ghost use Rattle.cs_rule.specs.Plays.{set_cell};
 
     ghost then = { set_cell };
 }
@@ -66,7 +66,7 @@ impl<J> Play<Option<J>, View<J>> for Set {
 pub struct LookTurn;
 
 impl<J: Job> Play<Option<J>, View<J>> for LookTurn {
-    ghost use Rattle.cs_rule.specs.Told.{looked_turn};
+    ghost use Rattle.cs_rule.specs.Plays.{looked_turn};
 
     ghost then = { looked_turn J.means };
 }
@@ -75,7 +75,7 @@ impl<J: Job> Play<Option<J>, View<J>> for LookTurn {
 pub struct Turn;
 
 impl<J> Play<Option<J>, View<J>> for Turn {
-    ghost use Rattle.cs_rule.specs.Told.{turned};
+    ghost use Rattle.cs_rule.specs.Plays.{turned};
 
     ghost then = { turned };
 }
@@ -84,7 +84,7 @@ impl<J> Play<Option<J>, View<J>> for Turn {
 pub struct Give;
 
 impl<J> Play<Option<J>, View<J>> for Give {
-    ghost use Rattle.cs_rule.specs.Told.{gave};
+    ghost use Rattle.cs_rule.specs.Plays.{gave};
 
     ghost then = { gave };
 }
@@ -93,7 +93,7 @@ impl<J> Play<Option<J>, View<J>> for Give {
 pub struct Finish;
 
 impl<J> Play<Option<J>, View<J>> for Finish {
-    ghost use Rattle.cs_rule.specs.Told.{finished};
+    ghost use Rattle.cs_rule.specs.Plays.{finished};
 
     ghost then = { finished };
 }
@@ -102,7 +102,7 @@ impl<J> Play<Option<J>, View<J>> for Finish {
 pub struct Close;
 
 impl<J> Play<Option<J>, View<J>> for Close {
-    ghost use Rattle.cs_rule.specs.Told.{closed};
+    ghost use Rattle.cs_rule.specs.Plays.{closed};
 
     ghost then = { closed };
 }
@@ -111,7 +111,7 @@ impl<J> Play<Option<J>, View<J>> for Close {
 pub struct Watch;
 
 impl<J> Play<Option<J>, View<J>> for Watch {
-    ghost use Rattle.cs_rule.specs.Told.{watched};
+    ghost use Rattle.cs_rule.specs.Plays.{watched};
 
     ghost then = { watched };
 }
@@ -120,7 +120,7 @@ impl<J> Play<Option<J>, View<J>> for Watch {
 pub struct Open;
 
 impl<J> Play<Option<J>, View<J>> for Open {
-    ghost use Rattle.cs_rule.specs.Told.{opens};
+    ghost use Rattle.cs_rule.specs.Plays.{opens};
 
     ghost then = { opens };
 }

@@ -1,8 +1,10 @@
-// What a worker knows of a control cycle. No value of these types is made: only contracts speak of them.
+// What a worker knows of a control cycle. No value of these types is made: only contracts speak of
+// them.
 use cs_cells::Area;
 use std::collections::LinkedList;
 
-/// With what a cycle begins: its notes in serial order, which waits for which, the layout, the jobs and the cells.
+/// With what a cycle begins: its notes in serial order, which waits for which, the layout, the jobs
+/// and the cells.
 pub struct Plan<J> {
     pub notes: u64,
     /// Each from an earlier note to a later one, in the order of the later note.
@@ -15,18 +17,20 @@ pub struct Plan<J> {
 /// The note that a worker does.
 pub struct Doing {
     pub note: u64,
-    /// How many turn steps it has made: the note's own turn first, then one for each resource that it writes.
+    /// How many turn steps it has made: the note's own turn first, then one for each resource that
+    /// it writes.
     pub phase: u64,
     /// The worker has the note's job out of its slot.
     pub held: bool,
-    /// The cells as the note sees them: those before it in the serial run, with what it has set so far.
+    /// The cells as the note sees them: those before it in the serial run, with what it has set so
+    /// far.
     pub image: LinkedList<i64>,
 }
 
 /// A note and the edge from which on its edges are still to be looked at.
 pub struct Spot {
     pub note: u64,
-    pub place: u64,
+    pub from: u64,
 }
 
 /// What one seat of the board knows.
@@ -35,7 +39,8 @@ pub struct View<J> {
     pub doing: Option<Doing>,
     /// A note that is Done and whose watch words are being closed.
     pub closing: Option<Spot>,
-    /// A waiting note that was found watching, and that now has to watch another edge or to be opened.
+    /// A waiting note that was found watching, and that now has to watch another edge or to be
+    /// opened.
     pub moving: Option<Spot>,
     /// Notes that this seat made Available, or had at the opening, and hasn't tried since.
     pub owes: LinkedList<u64>,

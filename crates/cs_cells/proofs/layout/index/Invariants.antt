@@ -1,5 +1,5 @@
 use Rattle.std.proofs.Common.{◌≡◌, take}
-use Rattle.cs_cells.specs.Areas.{keys_of}
+use Rattle.cs_cells.specs.inner.Index.{keys_of}
 use Rattle.cs_cells.proofs.layout.index.Given as goal
 
 abbrev pub invariant-loop-area : goal.invariant-loop-area

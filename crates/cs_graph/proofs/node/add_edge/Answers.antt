@@ -1,8 +1,8 @@
 use Rattle.std.proofs.Common.{◌≡◌, ℕ, length, set, arith}
 use Rattle.std.proofs.Math.ListN.{length-set}
-use Rattle.cs_graph.specs.Index.{node_at}
+use Rattle.cs_graph.specs.inner.Index.{node_at}
 use Rattle.cs_graph.proofs.EdgeLemmas.{indexed_more}
-use Rattle.cs_graph.proofs.BoolLemmas.{read_at}
+use Rattle.cs_graph.proofs.ReadAt.{read_at}
 use Rattle.cs_graph.proofs.node.add_edge.Goals as goal
 
 pub returns-clause-indexed : goal.returns-clause-indexed

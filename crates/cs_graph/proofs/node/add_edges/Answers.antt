@@ -1,6 +1,6 @@
 use Rattle.std.proofs.Common.{◌≡◌, ◌∷◌, [], ℕ, true, false, length-append, sym, ◌∙◌, arith, subst}
 use Rattle.cs_graph.proofs.DrawLemmas.{AreDrawn, after_skip, after_push, drawn_skip, drawn_push}
-use Rattle.cs_graph.specs.Sets.{has}
+use Rattle.cs_graph.specs.inner.Sets.{has}
 use Rattle.cs_graph.proofs.node.add_edges.Goals as goal
 use Rattle.cs_graph.proofs.node.add_edges.Goals.{then-contains+in_ok-add_edge, else-contains}
 

@@ -2,7 +2,7 @@ use Rattle.std.proofs.Common.{◌≡◌, ◌+◌, ◌≤◌, length}
 use Rattle.std.specs.List.{All}
 use Rattle.cs_graph.proofs.DrawLemmas.{AreDrawn}
 use Rattle.cs_graph.specs.Graph.{ComesBefore}
-use Rattle.cs_graph.specs.Index.{IsIndexed, IsOpen}
+use Rattle.cs_graph.specs.inner.Index.{IsIndexed, IsOpen}
 use Rattle.cs_graph.proofs.node.add_edges.Given as goal
 
 abbrev pub invariant-loop-earlier : goal.invariant-loop-earlier

@@ -1,7 +1,8 @@
 use Rattle.std.proofs.Common.{subst, sym, ◌∙◌, ap}
 use Rattle.std.specs.List.{list_any, position}
 use Rattle.std.proofs.lemmas.Bool.{both_ways}
-use Rattle.cs_cells.specs.Areas.{HasPlace, key, keys_of}
+use Rattle.cs_cells.specs.Areas.{HasPlace}
+use Rattle.cs_cells.specs.inner.Index.{key, keys_of}
 use Rattle.cs_cells.proofs.Areas.{same, place_found, any_place}
 use Rattle.cs_cells.proofs.layout.Layout.find.Goals as goal
 

@@ -1,6 +1,6 @@
 use Rattle.std.proofs.Common.{◌≡◌, length, ap, subst, arith}
 use Rattle.cs_graph.proofs.GrownLemmas.{grown_graph, grown_fit, grown_levelled}
-use Rattle.cs_graph.specs.Growing.{IsGrown}
+use Rattle.cs_graph.specs.inner.Growing.{IsGrown}
 use Rattle.cs_graph.proofs.graph.Graph.build.Goals as goal
 
 -- the loop has taken in each note

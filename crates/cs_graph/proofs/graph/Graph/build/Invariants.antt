@@ -1,4 +1,4 @@
-use Rattle.cs_graph.specs.Growing.{IsGrown}
+use Rattle.cs_graph.specs.inner.Growing.{IsGrown}
 use Rattle.cs_graph.proofs.graph.Graph.build.Given as goal
 
 abbrev pub invariant-loop-note : goal.invariant-loop-note

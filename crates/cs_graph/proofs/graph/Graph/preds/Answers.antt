@@ -1,14 +1,15 @@
 use Rattle.std.proofs.Common.{◌<◌, length, ◌≡◌, ◌∙◌}
 use Rattle.cs_graph.proofs.EdgeLemmas.{node_in, preds_up, increasing}
 use Rattle.cs_graph.proofs.EndLemmas.{preds_each}
-use Rattle.cs_graph.specs.Index.{preds_of}
+use Rattle.cs_graph.specs.inner.Index.{preds_of}
 use Rattle.cs_graph.proofs.graph.Graph.preds.Goals as goal
 
 -- the list is that of the graph's edges
 ends : (c : goal.After-as_slice) → c.as_slice.result.now ≡ preds_of c.self.inside.edges.items c.args.note
 ends c =
     let within : c.args.note < length c.self.inside.levels.items = rw (← c.self.view_is) at c.requires in
-    c.as_slice.ensures ∙ (node_in c.self.inside.edges.items c.self.inside.levels.items c.self.inside.nodes.items c.self.invariant c.args.note within _ c.index-node.ensures).ends
+    c.as_slice.ensures
+    ∙ (node_in c.self.inside.edges.items c.self.inside.levels.items c.self.inside.nodes.items c.self.invariant c.args.note within _ c.index-node.ensures).ends
 
 pub returns-clause-each : goal.returns-clause-each
 returns-clause-each c = rw (ends c, ← c.self.view_is) (preds_each c.self.inside.edges.items c.args.note)

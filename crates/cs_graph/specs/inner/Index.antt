@@ -1,5 +1,6 @@
 -- What is kept for each note so that a look-up costs its own edges alone.
-use Rattle.std.specs.Prelude.{◌≡◌, ℕ, ◌+◌, ◌<◌, ◌≤◌, ◌↔◌, ◌==◌, List, [], map, length, slice_index_or}
+use Rattle.cs_base.specs.Limits.{most_notes}
+use Rattle.std.specs.Prelude.{◌*◌, ◌≡◌, ℕ, ◌+◌, ◌<◌, ◌≤◌, ◌↔◌, ◌==◌, List, [], map, length, slice_index_or}
 use Rattle.std.specs.List.{Contains, AllPairs, filter}
 use Rattle.cs_graph.specs.Graph.{Edge, ComesBefore}
 use Rattle.cs_graph.specs.declared.node.Node.{Node}
@@ -44,5 +45,5 @@ HasEdge edges p t = (e : ℕ) × Edge edges e p t
 pub record IsStored (edges : List (ℕ × ℕ)) (levels : List ℕ) (nodes : List Node) : Type 0 where
   pub indexed : IsIndexed edges nodes
   pub each : length nodes ≡ length levels
-  pub notes : length levels ≤ 512
-  pub few : length edges ≤ 262144
+  pub notes : length levels ≤ most_notes
+  pub few : length edges ≤ most_notes * most_notes

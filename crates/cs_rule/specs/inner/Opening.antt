@@ -1,8 +1,9 @@
--- The words with which a cycle begins.
+-- The words with which a cycle begins. k is a plan, t a note, e an edge, r the place of a resource.
 use Rattle.std.specs.Prelude.{ℕ, zero, suc, List, [], ◌∷◌, ◌++◌, take, cond, slice_index_or}
 use Rattle.cs_rule.specs.Plans.{leads_in, edge_count, area_count}
 use Rattle.cs_rule.specs.Words.{Words}
 use Rattle.cs_rule.specs.declared.view.Plan.{Plan}
+use Rattle.cs_rule.specs.declared.words.TheConstants.{WAITING, AVAILABLE, IDLE, WATCHED}
 
 -- f of each number below n, in order
 abbrev pub each_below : (ℕ → ℕ) → ℕ → List ℕ
@@ -11,7 +12,7 @@ each_below f (suc n) = each_below f n ++ f n ∷ []
 
 -- a note that waits for none is Available, any other is Waiting
 abbrev pub first_status : List (ℕ × ℕ) → ℕ → ℕ
-first_status edges t = cond (leads_in edges t) 0 1
+first_status edges t = cond (leads_in edges t) WAITING AVAILABLE
 
 -- the note to which edge e leads
 abbrev pub later_end : List (ℕ × ℕ) → ℕ → ℕ
@@ -19,7 +20,7 @@ later_end edges e = (slice_index_or edges e (0, 0)).1
 
 -- the first edge into each note is Watched, any other is Idle
 abbrev pub first_watch : List (ℕ × ℕ) → ℕ → ℕ
-first_watch edges e = cond (leads_in (take e edges) (later_end edges e)) 0 1
+first_watch edges e = cond (leads_in (take e edges) (later_end edges e)) IDLE WATCHED
 
 -- no note has run; the cells are those handed in
 abbrev pub opening_words : {J : Type 0} → Plan J → List ℕ → Words

@@ -1,4 +1,6 @@
 -- What each kind of step tells the worker that makes it: the view before and after, and what was found.
+-- st is the step, m the seat before it, r the number found in the word, n the seat after it; d is what the seat does, t its note,
+-- e an edge from note p to note t, j a job, a an address, x the place of a resource. M is what jobs mean.
 use Rattle.std.specs.Prelude.{◌≡◌, ◌≢◌, ℕ, ◌+◌, ◌<◌, ◌∷◌, length, Option, Some, true, false, slice_get}
 use Rattle.atomic_table.specs.Table.{Me, Step, rest}
 use Rattle.cs_cells.specs.Cells.{cell, signed}
@@ -11,6 +13,7 @@ use Rattle.cs_rule.specs.Counts.{listed}
 use Rattle.cs_rule.specs.Words.{status_at, watch_at, turn_at, cell_at}
 use Rattle.cs_rule.specs.declared.view.Doing.{Doing}
 use Rattle.cs_rule.specs.declared.view.View.{View}
+use Rattle.cs_rule.specs.declared.words.TheConstants.{AVAILABLE, IDLE}
 
 -- a seat's view and the slots that it has taken, and what a step tells of it before, of the number found and of it after
 abbrev pub Sat : Type 0 → Type 0
@@ -43,7 +46,7 @@ module _ {J : Type 0} where
 
   abbrev pub watched : Tells J
   watched st m r n = (e p t : ℕ) → st.word ≡ watch_at m.0.plan e → Edge m.0.plan.edges e p t
-      → (r ≡ 0 → n ≡ (settled m.0, m.1)) × (r ≢ 0 → n ≡ (passed m.0 t e, m.1))
+      → (r ≡ IDLE → n ≡ (settled m.0, m.1)) × (r ≢ IDLE → n ≡ (passed m.0 t e, m.1))
 
   abbrev pub opens : Tells J
   opens st m r n = (t : ℕ) → st.word ≡ status_at m.0.plan t → n ≡ (opened m.0 t, m.1)
@@ -52,7 +55,7 @@ module _ {J : Type 0} (M : Meaning J) where
   -- note t was Available and is this seat's now, or it was found otherwise
   abbrev pub claimed : Tells J
   claimed st m r n = (t : ℕ) → st.word ≡ status_at m.0.plan t
-      → (r ≡ 1 → n ≡ (began M m.0 t, m.1)) × (r ≢ 1 → n ≡ (missed m.0 t, m.1))
+      → (r ≡ AVAILABLE → n ≡ (began M m.0 t, m.1)) × (r ≢ AVAILABLE → n ≡ (missed m.0 t, m.1))
 
   -- the cell found is the image's
   abbrev pub looked : Tells J

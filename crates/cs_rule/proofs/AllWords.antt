@@ -2,7 +2,7 @@
 use Rattle.std.proofs.Common.{◌≡◌, ℕ, suc, ◌+◌, ◌<◌, List, [], ◌∷◌, ◌++◌, length, set, sym, ap, ◌∙◌, arith, zero-add}
 use Rattle.std.proofs.lemmas.List.{get_or_append_left, get_or-append-add, set-append_left, length-set}
 use Rattle.cs_rule.specs.Plans.{edge_count, area_count}
-use Rattle.cs_rule.specs.Words.{Words, at, row_of, IsSized, status_at, watch_at, own_at, turn_at, cell_at}
+use Rattle.cs_rule.specs.Words.{Words, at, all_words, IsSized, status_at, watch_at, own_at, turn_at, cell_at}
 use Rattle.cs_rule.specs.declared.view.Plan.{Plan}
 
 set-append-add : (xs ys : List ℕ) (i x : ℕ) → set (xs ++ ys) (length xs + i) x ≡ xs ++ set ys i x
@@ -34,53 +34,56 @@ module _ {J : Type 0} (k : Plan J) (w : Words) (s : IsSized k w) where
   abbrev after_status : List ℕ
   after_status = w.watch ++ after_watch
 
-  to_status : (i : ℕ) → at (row_of k.notes w) (1 + (k.notes + i)) ≡ at after_status i
+  to_status : (i : ℕ) → at (all_words k.notes w) (1 + (k.notes + i)) ≡ at after_status i
   to_status i = one_get k.notes (w.status ++ after_status) (k.notes + i) ∙ past_get w.status after_status k.notes i s.status
 
-  to_watch : (i : ℕ) → at (row_of k.notes w) (1 + (k.notes + (edge_count k + i))) ≡ at after_watch i
+  to_watch : (i : ℕ) → at (all_words k.notes w) (1 + (k.notes + (edge_count k + i))) ≡ at after_watch i
   to_watch i = to_status (edge_count k + i) ∙ past_get w.watch after_watch (edge_count k) i s.watch
 
-  to_own : (i : ℕ) → at (row_of k.notes w) (1 + (k.notes + (edge_count k + (k.notes + i)))) ≡ at after_own i
+  to_own : (i : ℕ) → at (all_words k.notes w) (1 + (k.notes + (edge_count k + (k.notes + i)))) ≡ at after_own i
   to_own i = to_watch (k.notes + i) ∙ past_get w.own after_own k.notes i s.own
 
-  pub get_status : (t : ℕ) → t < k.notes → at (row_of k.notes w) (status_at k t) ≡ at w.status t
+  pub get_status : (t : ℕ) → t < k.notes → at (all_words k.notes w) (status_at k t) ≡ at w.status t
   get_status t low = one_get k.notes (w.status ++ after_status) t ∙ get_or_append_left w.status after_status 0 t (omega (arith, s.status))
 
-  pub get_watch : (e : ℕ) → e < edge_count k → at (row_of k.notes w) (watch_at k e) ≡ at w.watch e
+  pub get_watch : (e : ℕ) → e < edge_count k → at (all_words k.notes w) (watch_at k e) ≡ at w.watch e
   get_watch e low = to_status e ∙ get_or_append_left w.watch after_watch 0 e (omega (arith, s.watch))
 
-  pub get_own : (t : ℕ) → t < k.notes → at (row_of k.notes w) (own_at k t) ≡ at w.own t
+  pub get_own : (t : ℕ) → t < k.notes → at (all_words k.notes w) (own_at k t) ≡ at w.own t
   get_own t low = to_watch t ∙ get_or_append_left w.own after_own 0 t (omega (arith, s.own))
 
-  pub get_turn : (r : ℕ) → r < area_count k → at (row_of k.notes w) (turn_at k r) ≡ at w.turns r
+  pub get_turn : (r : ℕ) → r < area_count k → at (all_words k.notes w) (turn_at k r) ≡ at w.turns r
   get_turn r low = to_own r ∙ get_or_append_left w.turns w.cells 0 r (omega (arith, s.turns))
 
-  pub get_cell : (a : ℕ) → at (row_of k.notes w) (cell_at k a) ≡ at w.cells a
+  pub get_cell : (a : ℕ) → at (all_words k.notes w) (cell_at k a) ≡ at w.cells a
   get_cell a = to_own (area_count k + a) ∙ past_get w.turns w.cells (area_count k) a s.turns
 
-  set_past_status : (i x : ℕ) → set (row_of k.notes w) (1 + (k.notes + i)) x ≡ k.notes ∷ w.status ++ set after_status i x
+  set_past_status : (i x : ℕ) → set (all_words k.notes w) (1 + (k.notes + i)) x ≡ k.notes ∷ w.status ++ set after_status i x
   set_past_status i x = one_set k.notes (w.status ++ after_status) (k.notes + i) x ∙ ap (λ r. k.notes ∷ r) (past_set w.status after_status k.notes i x s.status)
 
-  set_past_watch : (i x : ℕ) → set (row_of k.notes w) (1 + (k.notes + (edge_count k + i))) x ≡ k.notes ∷ w.status ++ (w.watch ++ set after_watch i x)
+  set_past_watch : (i x : ℕ) → set (all_words k.notes w) (1 + (k.notes + (edge_count k + i))) x ≡ k.notes ∷ w.status ++ (w.watch ++ set after_watch i x)
   set_past_watch i x = set_past_status (edge_count k + i) x ∙ ap (λ r. k.notes ∷ w.status ++ r) (past_set w.watch after_watch (edge_count k) i x s.watch)
 
-  set_past_own : (i x : ℕ) → set (row_of k.notes w) (1 + (k.notes + (edge_count k + (k.notes + i)))) x ≡ k.notes ∷ w.status ++ (w.watch ++ (w.own ++ set after_own i x))
+  set_past_own : (i x : ℕ)
+      → set (all_words k.notes w) (1 + (k.notes + (edge_count k + (k.notes + i)))) x ≡ k.notes ∷ w.status ++ (w.watch ++ (w.own ++ set after_own i x))
   set_past_own i x = set_past_watch (k.notes + i) x ∙ ap (λ r. k.notes ∷ w.status ++ (w.watch ++ r)) (past_set w.own after_own k.notes i x s.own)
 
-  pub set_status : (t x : ℕ) → t < k.notes → set (row_of k.notes w) (status_at k t) x ≡ row_of k.notes (record w { status = set w.status t x })
-  set_status t x low = one_set k.notes (w.status ++ after_status) t x ∙ ap (λ r. k.notes ∷ r) (set-append_left w.status after_status t x (omega (arith, s.status)))
+  pub set_status : (t x : ℕ) → t < k.notes → set (all_words k.notes w) (status_at k t) x ≡ all_words k.notes (record w { status = set w.status t x })
+  set_status t x low = one_set k.notes (w.status ++ after_status) t x
+      ∙ ap (λ r. k.notes ∷ r) (set-append_left w.status after_status t x (omega (arith, s.status)))
 
-  pub set_watch : (e x : ℕ) → e < edge_count k → set (row_of k.notes w) (watch_at k e) x ≡ row_of k.notes (record w { watch = set w.watch e x })
+  pub set_watch : (e x : ℕ) → e < edge_count k → set (all_words k.notes w) (watch_at k e) x ≡ all_words k.notes (record w { watch = set w.watch e x })
   set_watch e x low = set_past_status e x ∙ ap (λ r. k.notes ∷ w.status ++ r) (set-append_left w.watch after_watch e x (omega (arith, s.watch)))
 
-  pub set_own : (t x : ℕ) → t < k.notes → set (row_of k.notes w) (own_at k t) x ≡ row_of k.notes (record w { own = set w.own t x })
+  pub set_own : (t x : ℕ) → t < k.notes → set (all_words k.notes w) (own_at k t) x ≡ all_words k.notes (record w { own = set w.own t x })
   set_own t x low = set_past_watch t x ∙ ap (λ r. k.notes ∷ w.status ++ (w.watch ++ r)) (set-append_left w.own after_own t x (omega (arith, s.own)))
 
-  pub set_turn : (r x : ℕ) → r < area_count k → set (row_of k.notes w) (turn_at k r) x ≡ row_of k.notes (record w { turns = set w.turns r x })
+  pub set_turn : (r x : ℕ) → r < area_count k → set (all_words k.notes w) (turn_at k r) x ≡ all_words k.notes (record w { turns = set w.turns r x })
   set_turn r x low = set_past_own r x ∙ ap (λ z. k.notes ∷ w.status ++ (w.watch ++ (w.own ++ z))) (set-append_left w.turns w.cells r x (omega (arith, s.turns)))
 
-  pub set_cell_word : (a x : ℕ) → set (row_of k.notes w) (cell_at k a) x ≡ row_of k.notes (record w { cells = set w.cells a x })
-  set_cell_word a x = set_past_own (area_count k + a) x ∙ ap (λ z. k.notes ∷ w.status ++ (w.watch ++ (w.own ++ z))) (past_set w.turns w.cells (area_count k) a x s.turns)
+  pub set_cell_word : (a x : ℕ) → set (all_words k.notes w) (cell_at k a) x ≡ all_words k.notes (record w { cells = set w.cells a x })
+  set_cell_word a x = set_past_own (area_count k + a) x
+      ∙ ap (λ z. k.notes ∷ w.status ++ (w.watch ++ (w.own ++ z))) (past_set w.turns w.cells (area_count k) a x s.turns)
 
   pub sized_status : (t x : ℕ) → IsSized k (record w { status = set w.status t x })
   sized_status t x = record { status = length-set w.status t x ∙ s.status; watch = s.watch; own = s.own; turns = s.turns; cells = s.cells }

@@ -1,0 +1,20 @@
+-- What a layout keeps, so that a resource is found without a look at all areas.
+use Rattle.std.specs.Prelude.{◌≡◌, ℕ, List, map, None}
+use Rattle.cs_base.specs.Rates.{res_kind, res_number}
+use Rattle.cs_base.specs.declared.resource.Res.{Res}
+use Rattle.cs_cells.specs.Areas.{IsLaid, limit_passed, word_count}
+use Rattle.cs_cells.specs.declared.footprint.Area.{Area}
+
+-- a resource's kind and its number among those of the kind
+abbrev pub key : Res → ℕ × ℕ
+key res = (res_kind res, res_number res)
+
+abbrev pub keys_of : List Area → List (ℕ × ℕ)
+keys_of areas = map (λ a. key a.res) areas
+
+-- what a layout keeps of its areas: their resources by number, and the number of words
+pub record IsIndexed (areas : List Area) (index : List (ℕ × ℕ)) (count : ℕ) : Type 0 where
+  pub laid : IsLaid areas
+  pub within : limit_passed areas ≡ None
+  pub keys : index ≡ keys_of areas
+  pub words : count ≡ word_count areas

@@ -1,0 +1,5 @@
+pub mod Growing
+pub mod Index
+pub mod Nearest
+pub mod Sets
+pub mod Touched

@@ -1,0 +1,14 @@
+// A cycle worked out.
+ghost use Rattle.cs_graph.specs.Conflict.{Conflict, Near};
+ghost use Rattle.cs_graph.specs.Examples.{small_cycle, small_graph};
+ghost use Rattle.cs_graph.specs.Graph.{IsGraphOf};
+
+/// A cycle by hand: a note that writes a resource, two that read it, and one that writes it again.
+/// It does nothing: its clauses are what the definitions give there.
+pub fn graph_examples()
+    ensures conflict { Conflict small_cycle 0 3 }
+    // The last note waits for the readers, which waited for the first.
+    ensures farther { ¬ (Near small_cycle 0 3) }
+    ensures readers { ¬ (Conflict small_cycle 1 2) }
+    ensures graph { IsGraphOf small_cycle small_graph }
+{}
