@@ -9,13 +9,13 @@ use Rattle.cs_cells.specs.Meaning.{Meaning, Frames}
 use Rattle.cs_cells.specs.Serial.{serial_cells, serial_jobs}
 use Rattle.cs_rule.specs.Ending.{IsLast, cells_in}
 use Rattle.cs_rule.specs.Rule.{Holds}
-use Rattle.cs_rule.specs.Words.{cell_at, row_length}
+use Rattle.cs_rule.specs.Words.{cell_at, word_total}
 use Rattle.cs_rule.specs.declared.view.Plan.{Plan}
 use Rattle.cs_rule.specs.declared.view.View.{View}
 use Rattle.cs_rule.proofs.Closing.{ends_serial, same_homes}
 use mathlib.Core.Option.{some}
 use lib.ListN.{get_elem?}
-use Rattle.cs_board.specs.Made.{jobs_in}
+use Rattle.cs_board.specs.inner.Slots.{jobs_in}
 use Rattle.cs_board.proofs.Slotting.{jobs_in-append}
 
 module _ {A : Type 0} where
@@ -29,13 +29,15 @@ module _ {A : Type 0} where
   take_got xs i x h = let e : i + 1 ≡ suc i = omega arith in ap (λ j. take j xs) e ∙ took xs i x h
 
 -- one more place is empty, and those after it are full as before
-pub emptied_more : (fs : List Bool) (i : ℕ) → i < length fs → ((k : ℕ) → k < i → get_or fs k false ≡ false) → (k : ℕ) → k < i + 1 → get_or (set fs i false) k false ≡ false
+pub emptied_more : (fs : List Bool) (i : ℕ) → i < length fs → ((k : ℕ) → k < i → get_or fs k false ≡ false) → (k : ℕ) → k < i + 1
+    → get_or (set fs i false) k false ≡ false
 emptied_more fs i low before k l = ⊎_elim
     (λ (e : k ≡ i). ap (λ j. get_or (set fs i false) j false) e ∙ get_or-set_same fs i false false low)
     (λ (n : k ≢ i). get_or-set_other fs i k false false n ∙ before k (omega arith))
     (cases_eq k i)
 
-pub full_more : (fs : List Bool) (i n : ℕ) → ((k : ℕ) → i ≤ k → k < n → get_or fs k false ≡ true) → (k : ℕ) → i + 1 ≤ k → k < n → get_or (set fs i false) k false ≡ true
+pub full_more : (fs : List Bool) (i n : ℕ) → ((k : ℕ) → i ≤ k → k < n → get_or fs k false ≡ true) → (k : ℕ) → i + 1 ≤ k → k < n
+    → get_or (set fs i false) k false ≡ true
 full_more fs i n after k l m = get_or-set_other fs i k false false (λ e. omega arith) ∙ after k (omega arith) m
 
 module _ {J : Type 0} where
@@ -52,7 +54,8 @@ module _ {J : Type 0} where
   home_at (x ∷ js) (suc t) j h = home_at js t j h
 
 -- What a closed table has, where the last seat's view was the last one's
-pub ends : {J : Type 0} (M : Meaning J) (F : Frames M) (k : Plan J) (id : ℕ) (v : View J) (ws : List ℕ) (xs : List (Option J)) → Final (Seen (Holds M k) id v) ws xs → IsLast v
+pub ends : {J : Type 0} (M : Meaning J) (F : Frames M) (k : Plan J) (id : ℕ) (v : View J) (ws : List ℕ) (xs : List (Option J))
+    → Final (Seen (Holds M k) id v) ws xs → IsLast v
     → (values (cells_in k ws) ≡ serial_cells M k.jobs k.cells) × (xs ≡ map Some (serial_jobs M k.jobs k.cells))
 ends M F k id v ws xs f last =
     let s = f.0 in
@@ -67,5 +70,5 @@ pub last_view : {J : Type 0} (v w : View J) → v ≡ w → IsIdle v → v.owes 
 last_view v w e idle owes first out = subst IsLast e (record { first = first; doing = idle.doing; closing = idle.closing; moving = idle.moving; owes = owes; out = out })
 
 -- the cells begin where the words end but for them
-pub first_cell : {J : Type 0} (k : Plan J) (made count : ℕ) → made ≡ row_length k → length k.cells ≡ count → made - count ≡ cell_at k 0
+pub first_cell : {J : Type 0} (k : Plan J) (made count : ℕ) → made ≡ word_total k → length k.cells ≡ count → made - count ≡ cell_at k 0
 first_cell k made count a b = omega (arith, a, b)

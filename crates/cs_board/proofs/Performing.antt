@@ -1,8 +1,11 @@
 -- A view whose image alone changed, and the note that has run.
 use Rattle.std.proofs.Common.{◌≡◌, ℕ, suc, ◌+◌, [], Option, Some, None, refl, sym, ap, ◌∙◌, subst, arith, slice_get, true}
-use Rattle.cs_board.specs.Banks.{bare, imageless}
-use Rattle.cs_board.specs.Board.{IsViewOf}
-use Rattle.cs_board.specs.Places.{deed, deed_in}
+use Rattle.atomic_table.specs.declared.shared.Seat.{Seat}
+use Rattle.std.proofs.lemmas.Option.{same_Some}
+use Rattle.cs_board.specs.inner.Banks.{bare, imageless, frame_of, IsAtWork}
+use Rattle.cs_board.specs.Board.{plan, IsViewOf}
+use Rattle.cs_board.specs.inner.Sittings.{deed, deed_in, IsSittingOf}
+use Rattle.cs_board.specs.declared.board.Board.{Board}
 use Rattle.cs_cells.specs.Cells.{Cells}
 use Rattle.cs_cells.specs.Meaning.{Meaning, Uses, Writes}
 use Rattle.cs_cells.proofs.SerialRun.{before-suc}
@@ -12,9 +15,6 @@ use Rattle.cs_rule.specs.Views.{does}
 use Rattle.cs_rule.specs.declared.view.Doing.{Doing}
 use Rattle.cs_rule.specs.declared.view.Plan.{Plan}
 use Rattle.cs_rule.specs.declared.view.View.{View}
-
-some_is : {A : Type 0} {p q : A} → Some p ≡ Some q → p ≡ q
-some_is e = cc
 
 module _ {J : Type 0} where
   same_but : (v w : View J) (o : Option Doing) → w.doing ≡ o → imageless w ≡ imageless v → w ≡ record v { doing = o }
@@ -26,7 +26,7 @@ module _ {J : Type 0} where
       go : (o : Option Doing) → w.doing ≡ o → w ≡ does v (record d { image = X })
       go None e = absurd (let z : None ≡ Some (record d { image = [] }) = sym (ap bare e) ∙ ap (λ y. y.doing) h ∙ ap bare doing in cc)
       go (Some f) e =
-          let z : record f { image = [] } ≡ record d { image = [] } = some_is (sym (ap bare e) ∙ ap (λ y. y.doing) h ∙ ap bare doing) in
+          let z : record f { image = [] } ≡ record d { image = [] } = same_Some _ _ (sym (ap bare e) ∙ ap (λ y. y.doing) h ∙ ap bare doing) in
           let pic : f.image ≡ X = sym (ap (λ y. (deed_in y).image) e) ∙ image in
           let f_is : f ≡ record d { image = X } = λ i. record (z i) { image = pic i } in
           same_but v w (Some f) e h ∙ ap (λ y. does v y) f_is
@@ -34,6 +34,16 @@ module _ {J : Type 0} where
   -- a view that knows the board's plan knows it whatever its image is
   pub view_bare : (k : Plan J) (v : View J) → IsViewOf k v → IsViewOf k (imageless v)
   view_bare k v h = record { plan = h.plan; live = h.live; owes_in = h.owes_in }
+
+-- a seat that does a note is at work, whatever its image is
+pub works_at : {J : Type 0} (M : Meaning J) (board : Board J) (sitting : Seat (Option J) (View J)) (name : ℕ) (d : Doing) → IsSittingOf M board sitting
+    → sitting.me.0.doing ≡ Some d → IsAtWork M (frame_of board sitting name)
+works_at M board sitting name d h doing = let e = ap bare doing in record {
+  whole = h.whole;
+  table = h.table;
+  knows = view_bare (plan board) sitting.me.0 h.knows;
+  doing = e ∙ ap (λ o. Some (deed_in o)) (sym e);
+}
 
 module _ {J : Type 0} (M : Meaning J) (k : Plan J) (whole : IsPlan M k) (t : ℕ) (j : J) (at_ : slice_get k.jobs t ≡ Some j) where
   pub used_of : (a : ℕ) → Uses M j a → uses_at M k t a ≡ true

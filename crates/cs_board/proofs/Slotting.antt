@@ -1,7 +1,7 @@
 -- Jobs that go into slots one by one from the last, and come back.
 use Rattle.std.proofs.Common.{◌≡◌, List, [], ◌∷◌, ◌++◌, map, reverse, Option, Some, None, refl, sym, ap, ◌∙◌, append_assoc, append-nil}
 use Rattle.std.proofs.lemmas.List.{reverse-append}
-use Rattle.cs_board.specs.Made.{jobs_in}
+use Rattle.cs_board.specs.inner.Slots.{jobs_in}
 
 module _ {J : Type 0} where
   back_to_front : (js : List J) (j : J) → reverse (js ++ j ∷ []) ≡ j ∷ reverse js

@@ -5,11 +5,11 @@ use mathlib.Core.Option.{none}
 use Rattle.atomic_table.specs.Table.{step}
 use Rattle.atomic_table.specs.declared.shared.Seat.{Seat}
 use Rattle.cs_board.specs.Board.{plan, IsViewOf}
-use Rattle.cs_board.specs.Places.{IsPlaceOf, tried, stopped}
+use Rattle.cs_board.specs.inner.Sittings.{IsSittingOf, tried, stopped}
 use Rattle.cs_board.specs.declared.board.Board.{Board}
 use Rattle.cs_cells.specs.Meaning.{Meaning}
 use Rattle.cs_graph.specs.Graph.{Edge}
-use Rattle.cs_rule.specs.Told.{Sat, claimed, watched, closed}
+use Rattle.cs_rule.specs.Plays.{Sat, claimed, watched, closed}
 use Rattle.cs_rule.specs.Views.{does, ended, shut, opened}
 use Rattle.cs_rule.specs.Words.{watch_at}
 use Rattle.cs_rule.specs.declared.view.Doing.{Doing}
@@ -51,8 +51,9 @@ module _ {J : Type 0} where
   }
 
   -- a seat of the board after a step
-  pub place_after : (M : Meaning J) (b : Board J) (s s' : Seat (Option J) (View J)) (w : View J) (c : List (ℕ × Option J)) → IsPlaceOf M b s → s'.table_id ≡ s.table_id → s'.me ≡ (w, c)
-      → IsViewOf (plan b) w → IsPlaceOf M b s'
+  pub place_after : (M : Meaning J) (b : Board J) (s s' : Seat (Option J) (View J)) (w : View J) (c : List (ℕ × Option J)) → IsSittingOf M b s
+      → s'.table_id ≡ s.table_id → s'.me ≡ (w, c)
+      → IsViewOf (plan b) w → IsSittingOf M b s'
   place_after M b s s' w c h table me knows = record { whole = h.whole; table = table ∙ h.table; knows = subst (IsViewOf (plan b)) (sym (ap (λ z. z.0) me)) knows }
 
 module _ {J : Type 0} (M : Meaning J) where
@@ -63,7 +64,8 @@ module _ {J : Type 0} (M : Meaning J) where
       (cases_eq r 1)
 
 module _ {J : Type 0} where
-  pub told_stopped : (k : Plan J) (slots e q t r : ℕ) (m n : Sat J) → m.0.plan ≡ k → Edge k.edges e q t → watched (step slots (watch_at k e) 0 1 none) m r n → n ≡ (stopped (eqb r 0) m.0 t e, m.1)
+  pub told_stopped : (k : Plan J) (slots e q t r : ℕ) (m n : Sat J) → m.0.plan ≡ k → Edge k.edges e q t
+      → watched (step slots (watch_at k e) 0 1 none) m r n → n ≡ (stopped (eqb r 0) m.0 t e, m.1)
   told_stopped k slots e q t r m n plan_is edge told =
       let edge' : Edge m.0.plan.edges e q t = subst (λ z. Edge z.edges e q t) (sym plan_is) edge in
       let word : watch_at k e ≡ watch_at m.0.plan e = ap (λ z. watch_at z e) (sym plan_is) in
@@ -72,6 +74,7 @@ module _ {J : Type 0} where
       (λ z. (told e q t word edge').1 z ∙ ap (λ b. (stopped b m.0 t e, m.1)) (sym (ne_eqb r 0 z)))
       (cases_eq r 0)
 
-  pub told_shut : (k : Plan J) (slots e q t r : ℕ) (m n : Sat J) → m.0.plan ≡ k → Edge k.edges e q t → closed (step slots (watch_at k e) 2 0 none) m r n → n ≡ (shut m.0 e q t r, m.1)
+  pub told_shut : (k : Plan J) (slots e q t r : ℕ) (m n : Sat J) → m.0.plan ≡ k → Edge k.edges e q t → closed (step slots (watch_at k e) 2 0 none) m r n
+      → n ≡ (shut m.0 e q t r, m.1)
   told_shut k slots e q t r m n plan_is edge told =
       told e q t (ap (λ z. watch_at z e) (sym plan_is)) (subst (λ z. Edge z.edges e q t) (sym plan_is) edge)

@@ -2,7 +2,7 @@
 use Rattle.std.proofs.Common.{◌≡◌, ◌≢◌, ℕ, zero, suc, ◌+◌, ◌<◌, ◌≤◌, ◌⊎◌, ⊎_elim, List, [], ◌∷◌, ◌++◌, length, Bool, true, false, Option, Some, None, refl, sym, ap, ◌∙◌, subst, arith, slice_get, IfNone, is_some}
 use Rattle.std.proofs.lemmas.Bool.{cases_eq}
 use Rattle.cs_board.specs.Board.{IsIdle, IsViewOf, FoundSince}
-use Rattle.cs_board.specs.Places.{Has, Tries, AllTried, tried}
+use Rattle.cs_board.specs.inner.Sittings.{HasClaimed, Tries, AllTried, tried}
 use Rattle.cs_cells.specs.Meaning.{Meaning}
 use Rattle.cs_rule.specs.Counts.{times, without}
 use Rattle.cs_rule.specs.Facts.{owed}
@@ -22,7 +22,7 @@ get_last (z ∷ xs) x = get_last xs x
 
 module _ {J : Type 0} where
   pub tries_none : (v : View J) → Tries v v
-  tries_none v = record { more = omega arith; found = λ n t h. h; owes = λ t. omega arith; mine = refl; place = record { first = refl; number = refl; out = refl; made = refl } }
+  tries_none v = record { more = omega arith; found = λ n t h. h; owes = λ t. omega arith; mine = refl; seat = record { first = refl; number = refl; out = refl; made = refl } }
 
   pub tries_join : (u v w : View J) → Tries u v → Tries v w → Tries u w
   tries_join u v w a b = record {
@@ -30,11 +30,12 @@ module _ {J : Type 0} where
     found = λ n t h. b.found n t (a.found n t h);
     owes = λ t. omega (arith, a.owes t, b.owes t);
     mine = b.mine ∙ a.mine;
-    place = record { first = b.place.first ∙ a.place.first; number = b.place.number ∙ a.place.number; out = b.place.out ∙ a.place.out; made = b.place.made ∙ a.place.made };
+    seat = record { first = b.seat.first ∙ a.seat.first; number = b.seat.number ∙ a.seat.number; out = b.seat.out ∙ a.seat.out; made = b.seat.made ∙ a.seat.made };
   }
 
   -- tries of one range of notes and then of another
-  pub all_join : (u v w : View J) (a b c d : ℕ) → Tries u v → Tries v w → AllTried u v a b → AllTried v w c d → (t : ℕ) → ((a ≤ t) × (t < b)) ⊎ ((c ≤ t) × (t < d)) → FoundSince u.tries w t × (owed t w ≡ 0)
+  pub all_join : (u v w : View J) (a b c d : ℕ) → Tries u v → Tries v w → AllTried u v a b → AllTried v w c d → (t : ℕ)
+      → ((a ≤ t) × (t < b)) ⊎ ((c ≤ t) × (t < d)) → FoundSince u.tries w t × (owed t w ≡ 0)
   all_join u v w a b c d p q x y t h = ⊎_elim
       (λ l. let r = x t l.0 l.1 in (q.found u.tries t r.0, omega (arith, r.1, q.owes t)))
       (λ l. let r = y t l.0 l.1 in ((r.0.0, r.0.1, r.0.2, omega (arith, r.0.3, p.more)), r.1))
@@ -46,13 +47,13 @@ module _ {J : Type 0} where
 
 module _ {J : Type 0} (M : Meaning J) where
   pub tries_more : (u v : View J) (b : Bool) (t : ℕ) → Tries u v → Tries u (tried M b v t)
-  tries_more u v true t h = tries_join u v (began M v t) h (record { more = omega arith; found = λ n x q. q; owes = λ x. times-without_le x t v.owes; mine = refl; place = record { first = refl; number = refl; out = refl; made = refl } })
+  tries_more u v true t h = tries_join u v (began M v t) h (record { more = omega arith; found = λ n x q. q; owes = λ x. times-without_le x t v.owes; mine = refl; seat = record { first = refl; number = refl; out = refl; made = refl } })
   tries_more u v false t h = tries_join u v (missed v t) h (record {
     more = omega arith;
     found = λ n x q. (q.0, q.1, get_longer v.found ((t, v.tries + 1) ∷ []) q.0 (x, q.1) q.2, q.3);
     owes = λ x. times-without_le x t v.owes;
     mine = refl;
-    place = record { first = refl; number = refl; out = refl; made = refl };
+    seat = record { first = refl; number = refl; out = refl; made = refl };
   })
 
   pub all_more : (u v : View J) (from t : ℕ) → Tries u v → AllTried u v from t → AllTried u (missed v t) from (t + 1)
@@ -72,7 +73,7 @@ module _ {J : Type 0} (M : Meaning J) where
   pub idle_missed : (v : View J) (t : ℕ) → IsIdle v → IsIdle (missed v t)
   idle_missed v t h = record { doing = h.doing; closing = h.closing; moving = h.moving }
 
-  pub has_began : (k : Plan J) (v : View J) (t : ℕ) → t < k.notes → v.plan ≡ k → IsIdle v → Has M k (began M v t) t
+  pub has_began : (k : Plan J) (v : View J) (t : ℕ) → t < k.notes → v.plan ≡ k → IsIdle v → HasClaimed M k (began M v t) t
   has_began k v t low plan h = record { within = low; doing = ap (λ z. Some (fresh M z t)) plan; closing = h.closing; moving = h.moving }
 
 -- a view that owes nothing of any note owes nothing

@@ -1,9 +1,10 @@
 -- The places of a note's footprint, one by one.
+use Rattle.cs_base.specs.Limits.{most_resources}
 use Rattle.std.proofs.Common.{◌≡◌, ℕ, zero, suc, ◌+◌, ◌-◌, ◌<◌, ◌≤◌, List, [], ◌∷◌, length, get_or, take, true, Option, Some, None, refl, sym, ap, ◌∙◌, subst, arith, slice_get}
 use Rattle.std.proofs.lemmas.Option.{slice_get_within, get_or_from_slice_get}
 use Rattle.std.specs.List.{Contains}
 use Rattle.std.specs.List.Sorted.{IsStrictlyIncreasing}
-use Rattle.cs_board.specs.Places.{deed, deed_in, ran_out}
+use Rattle.cs_board.specs.inner.Sittings.{deed, deed_in, ran_out}
 use Rattle.cs_cells.specs.Meaning.{Meaning}
 use Rattle.cs_rule.specs.Counts.{one, listed}
 use Rattle.cs_rule.specs.Facts.{turned_in}
@@ -36,7 +37,7 @@ module _ {J : Type 0} (M : Meaning J) (k : Plan J) (whole : IsPlan M k) (t : ℕ
       go None e = λ i l. absurd (omega arith)
       go (Some j) e = (whole.footprints t j e).uses
 
-  pub few_used : length (places_used M k t) ≤ 4096
+  pub few_used : length (places_used M k t) ≤ most_resources
   few_used = omega (arith, whole.few, increasing_few (places_used M k t) (area_count k) used_rises (λ i l. used_place M k whole t (at (places_used M k t) i) (contains_there (places_used M k t) i l)))
 
   pub used_there : (xs : List ℕ) (i : ℕ) → xs ≡ places_used M k t → i < length xs → (at xs i < area_count k) × (listed (places_used M k t) (at xs i) ≡ true)
@@ -53,7 +54,8 @@ module _ {J : Type 0} (M : Meaning J) (k : Plan J) (whole : IsPlan M k) (t : ℕ
   few_writers r = count_le (λ u. listed (places_written M k u) r) t
 
   -- before the own turn a turn word counts the earlier writers alone
-  pub look_before : (v : View J) (r x : ℕ) → v.doing ≡ Some (ran_out M k t 0) → x ≡ writers_before M k (deed v).note r + turned_in M k r v.doing → x ≡ writers_before M k t r
+  pub look_before : (v : View J) (r x : ℕ) → v.doing ≡ Some (ran_out M k t 0) → x ≡ writers_before M k (deed v).note r + turned_in M k r v.doing
+      → x ≡ writers_before M k t r
   look_before v r x e h =
       let a : writers_before M k (deed v).note r + turned_in M k r v.doing ≡ writers_before M k t r + 0 = ap (λ o. writers_before M k (deed_in o).note r + turned_in M k r o) e in
       omega arith

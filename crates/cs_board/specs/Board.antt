@@ -40,18 +40,22 @@ module _ {J : Type 0} where
   abbrev pub HasRoom : Plan J → View J → BoardSeat J → Type 0
   HasRoom k v seat = MatchOption seat.room (v.first ≡ false) (λ jobs. (v.first ≡ true) × (jobs.items ≡ []) × (k.notes ≤ vec_capacity jobs))
 
-  -- it runs nothing and has nothing to finish
-  pub record IsIdle (v : View J) : Type 0 where
-    pub doing : v.doing ≡ None
+  -- it does this, or nothing, and has nothing to finish
+  pub record DoesOnly (v : View J) (what : Option Doing) : Type 0 where
+    pub doing : v.doing ≡ what
     pub closing : v.closing ≡ None
     pub moving : v.moving ≡ None
+
+  -- it runs nothing and has nothing to finish
+  abbrev pub IsIdle : View J → Type 0
+  IsIdle v = DoesOnly v None
 
   -- the note that the seat does
   abbrev pub note_of : View J → ℕ
   note_of v = note_in v.doing
 
   -- which seat it is, and what it knows of the others
-  pub record SamePlace (v w : View J) : Type 0 where
+  pub record SameSeat (v w : View J) : Type 0 where
     pub first : w.first ≡ v.first
     pub number : w.number ≡ v.number
     pub out : w.out ≡ v.out
@@ -76,16 +80,12 @@ module _ {J : Type 0} (M : Meaning J) where
   run_through k t = record { note = t; phase = 1 + length (places_written M k t); held = false; image = before_at M k (t + 1) }
 
   -- it has claimed a note and not run it: the note's cells are those of the serial run
-  pub record IsClaimed (v : View J) : Type 0 where
-    pub doing : v.doing ≡ Some (fresh M v.plan (note_of v))
-    pub closing : v.closing ≡ None
-    pub moving : v.moving ≡ None
+  abbrev pub IsClaimed : View J → Type 0
+  IsClaimed v = DoesOnly v (Some (fresh M v.plan (note_of v)))
 
   -- the note that it claimed has run: its cells are those after it in the serial run
-  pub record HasRun (v : View J) : Type 0 where
-    pub doing : v.doing ≡ Some (run_through v.plan (note_of v))
-    pub closing : v.closing ≡ None
-    pub moving : v.moving ≡ None
+  abbrev pub HasRun : View J → Type 0
+  HasRun v = DoesOnly v (Some (run_through v.plan (note_of v)))
 
   -- over the resources that note t uses, how many earlier notes write each, added up
   abbrev pub turns_before : Plan J → ℕ → ℕ

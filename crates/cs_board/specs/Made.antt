@@ -1,5 +1,5 @@
--- What a board is made of, and what lies in its slots.
-use Rattle.std.specs.Prelude.{ℕ, List, [], ◌∷◌, length, Option, Some, None}
+-- What a board is made of.
+use Rattle.std.specs.Prelude.{ℕ, List, length}
 use Rattle.cs_cells.specs.Cells.{values}
 use Rattle.cs_cells.specs.declared.footprint.Area.{Area}
 use Rattle.cs_graph.specs.Graph.{Dependencies}
@@ -14,9 +14,3 @@ plan_from graph layout loaded = record {
   jobs = loaded.1;
   cells = values loaded.0;
 }
-
--- the jobs that lie in these slots
-abbrev pub jobs_in : {J : Type 0} → List (Option J) → List J
-jobs_in [] = []
-jobs_in (None ∷ slots) = jobs_in slots
-jobs_in (Some job ∷ slots) = job ∷ jobs_in slots

@@ -1,7 +1,7 @@
 // The board and its seats.
 ghost use Rattle.std.specs.Prelude.{◌≡◌, ◌≤◌, []};
 ghost use Rattle.std.specs.Vec.{vec_capacity};
-ghost use Rattle.cs_board.specs.Built.{IsBuilt};
+ghost use Rattle.cs_board.specs.inner.Built.{IsBuilt};
 ghost use Rattle.cs_rule.specs.Keys.{plan_of};
 
 use crate::wires::Wires;
@@ -10,8 +10,8 @@ use cs_cells::Job;
 use cs_rule::{Key, Rule, View};
 use std::alloc::Global;
 
-/// What one worker steps with. A seat is used by one thread at a time; `Board::new` gives the first, and
-/// `Board::split` the others. It holds no job between two calls.
+/// What one worker steps with. A seat is used by one thread at a time; `Board::new` gives the
+/// first, and `Board::split` the others. It holds no job between two calls.
 pub struct BoardSeat<J> {
     pub(crate) badge: Badge<View<J>>,
     /// The note that it claimed last.
@@ -25,7 +25,7 @@ pub struct BoardSeat<J> {
 }
 
 /// A seat in the midst of a call.
-pub(crate) type Place<J> = Seat<Option<J>, View<J>>;
+pub(crate) type Sitting<J> = Seat<Option<J>, View<J>>;
 
 /// The board of one control cycle, which all its workers share.
 pub struct Board<J: Job> {

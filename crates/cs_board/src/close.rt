@@ -2,7 +2,7 @@
 ghost use Rattle.std.specs.Prelude.{◌≡◌, ◌+◌, ◌<◌, ◌≤◌, ◌++◌, ◌∷◌, ℕ, [], length, drop, true, false, slice_index_or};
 ghost use Rattle.std.specs.Mem.Slots.{slots_items, slots_filled, slots_len, IsFull};
 ghost use Rattle.std.specs.Vec.{vec_capacity};
-ghost use Rattle.cs_board.specs.Made.{jobs_in};
+ghost use Rattle.cs_board.specs.inner.Slots.{jobs_in};
 ghost use Rattle.cs_cells.specs.Cells.{values};
 ghost use Rattle.cs_cells.specs.Serial.{serial_cells, serial_jobs};
 
@@ -16,8 +16,8 @@ use std::alloc::Global;
 impl<J: Job> Board<J> {
     ghost use Rattle.cs_board.specs.Board.{plan, view, IsSeatOf, IsIdle};
 
-    /// The cells and jobs of the whole cycle, as the serial run leaves them. The seat is the first one, whose last
-    /// claim answered None and which has joined every other seat.
+    /// The cells and jobs of the whole cycle, as the serial run leaves them. The seat is the first
+    /// one, whose last claim answered None and which has joined every other seat.
     pub fn close(self, seat: BoardSeat<J>) -> Receipt<J>
         requires seat { IsSeatOf J.means self seat }
         requires idle { IsIdle (view seat) }

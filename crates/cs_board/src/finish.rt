@@ -1,52 +1,56 @@
 // Finishing a note: it is Done, its edges are closed, and its watchers move on.
 ghost use Rattle.std.specs.Prelude.{◌≡◌, ◌+◌, ◌<◌, ℕ, ◌∷◌, [], ◌++◌, Some, None};
-ghost use Rattle.cs_board.specs.Board.{plan, view, IsSeatOf, IsIdle, HasRun, SamePlace, note_of};
-ghost use Rattle.cs_board.specs.Places.{IsPlaceOf, Beside, ClosesAt};
-ghost use Rattle.cs_board.specs.Wires.{IsNextOut};
+ghost use Rattle.cs_board.specs.Board.{plan, view, IsSeatOf, IsIdle, HasRun, SameSeat, note_of};
+ghost use Rattle.cs_board.specs.inner.Sittings.{IsSittingOf, Beside, ClosesAt};
+ghost use Rattle.cs_board.specs.inner.Wires.{IsNextOut};
 ghost use Rattle.cs_graph.specs.Graph.{Edge};
 ghost use Rattle.cs_rule.specs.Views.{closing_from};
 
-use crate::board::{Board, BoardSeat, Place};
+use crate::board::{Board, BoardSeat, Sitting};
 use cs_cells::Job;
+use cs_rule::WATCHED;
 
 impl<J: Job> Board<J> {
-    /// A note that was found watching this edge watches the next one that isn't closed, or is opened where there is
-    /// none. It answers whether it was opened.
-    fn move_on(&self, place: &mut Place<J>, edge: u32, note: u32) -> bool
-        requires place { IsPlaceOf J.means self.now place.old }
+    /// A note that was found watching this edge watches the next one that isn't closed, or is
+    /// opened where there is none. It answers whether it was opened.
+    fn move_on(&self, sitting: &mut Sitting<J>, edge: u32, note: u32) -> bool
+        requires sitting { IsSittingOf J.means self.now sitting.old }
         requires edge { (p : ℕ) × Edge (plan self.now).edges edge p note }
-        requires moving { place.old.me.0.moving ≡ Some (record { note = note; place = edge + 1 }) }
-        ensures place { IsPlaceOf J.means self.now place.new }
-        ensures carries { place.new.me.1 ≡ place.old.me.1 }
-        ensures moving { place.new.me.0.moving ≡ None }
-        ensures closing { place.new.me.0.closing ≡ place.old.me.0.closing }
-        ensures beside { Beside place.old.me.0 place.new.me.0 }
+        requires moving { sitting.old.me.0.moving ≡ Some (record { note = note; from = edge + 1 }) }
+        ensures sitting { IsSittingOf J.means self.now sitting.new }
+        ensures carries { sitting.new.me.1 ≡ sitting.old.me.1 }
+        ensures moving { sitting.new.me.0.moving ≡ None }
+        ensures closing { sitting.new.me.0.closing ≡ sitting.old.me.0.closing }
+        ensures beside { Beside sitting.old.me.0 sitting.new.me.0 }
     {
         let mut last = edge;
         while let Some(next) = self.wires.next_in(last, note) {
-            if self.watch_edge(place, next, note) {
+            if self.watch_edge(sitting, next, note) {
                 return false;
             }
             last = next;
         }
-        self.open_note(place, note);
+        self.open_note(sitting, note);
         true
     }
 
-    /// Closes an edge from the note, and moves its watcher on. It answers the watcher, if that was opened.
-    fn close_one(&self, place: &mut Place<J>, edge: u32, note: u32) -> Option<u32>
-        requires place { IsPlaceOf J.means self.now place.old }
-        requires closing { ClosesAt (plan self.now) place.old.me.0 note edge }
-        requires moving { place.old.me.0.moving ≡ None }
-        ensures place { IsPlaceOf J.means self.now place.new }
-        ensures carries { place.new.me.1 ≡ place.old.me.1 }
-        ensures moving { place.new.me.0.moving ≡ None }
-        ensures closing { place.new.me.0.closing
+    /// Closes an edge from the note, and moves its watcher on. It answers the watcher, if that was
+    /// opened.
+    fn close_one(&self, sitting: &mut Sitting<J>, edge: u32, note: u32) -> Option<u32>
+        requires sitting { IsSittingOf J.means self.now sitting.old }
+        requires closing { ClosesAt (plan self.now) sitting.old.me.0 note edge }
+        requires moving { sitting.old.me.0.moving ≡ None }
+        ensures sitting { IsSittingOf J.means self.now sitting.new }
+        ensures carries { sitting.new.me.1 ≡ sitting.old.me.1 }
+        ensures moving { sitting.new.me.0.moving ≡ None }
+        ensures closing { sitting.new.me.0.closing
             ≡ closing_from (plan self.now).edges note (edge + 1) }
-        ensures beside { Beside place.old.me.0 place.new.me.0 }
+        ensures beside { Beside sitting.old.me.0 sitting.new.me.0 }
     {
         let (_, watcher) = self.wires.ends(edge);
-        if self.close_edge(place, edge, note, watcher) == 1 && self.move_on(place, edge, watcher) {
+        if self.close_edge(sitting, edge, note, watcher) == WATCHED
+            && self.move_on(sitting, edge, watcher)
+        {
             Some(watcher)
         } else {
             None
@@ -56,28 +60,29 @@ impl<J: Job> Board<J> {
 
 impl<J: Job> Board<J> {
     /// Closes all edges from the note. It answers the first watcher that it opened.
-    fn close_all(&self, place: &mut Place<J>, note: u32) -> Option<u32>
-        requires place { IsPlaceOf J.means self.now place.old }
+    fn close_all(&self, sitting: &mut Sitting<J>, note: u32) -> Option<u32>
+        requires sitting { IsSittingOf J.means self.now sitting.old }
         requires note { note < (plan self.now).notes }
-        requires closing { place.old.me.0.closing ≡ closing_from (plan self.now).edges note 0 }
-        requires moving { place.old.me.0.moving ≡ None }
-        ensures place { IsPlaceOf J.means self.now place.new }
-        ensures carries { place.new.me.1 ≡ place.old.me.1 }
-        ensures moving { place.new.me.0.moving ≡ None }
-        ensures closing { place.new.me.0.closing ≡ None }
-        ensures beside { Beside place.old.me.0 place.new.me.0 }
+        requires closing { sitting.old.me.0.closing ≡ closing_from (plan self.now).edges note 0 }
+        requires moving { sitting.old.me.0.moving ≡ None }
+        ensures sitting { IsSittingOf J.means self.now sitting.new }
+        ensures carries { sitting.new.me.1 ≡ sitting.old.me.1 }
+        ensures moving { sitting.new.me.0.moving ≡ None }
+        ensures closing { sitting.new.me.0.closing ≡ None }
+        ensures beside { Beside sitting.old.me.0 sitting.new.me.0 }
     {
         let mut opened = None;
         let mut next = self.wires.first_out(note);
         while let Some(edge) = next {
-            let watcher = self.close_one(place, edge, note);
+            let watcher = self.close_one(sitting, edge, note);
             opened = opened.or(watcher);
             next = self.wires.next_out(edge, note);
         }
         opened
     }
 
-    /// The note that has run is Done. Each note that waited for it alone becomes Available and is owed by this seat.
+    /// The note that has run is Done. Each note that waited for it alone becomes Available and is
+    /// owed by this seat.
     pub fn finish(&self, seat: &mut BoardSeat<J>)
         requires seat { IsSeatOf J.means self.now seat.old }
         requires ran { HasRun J.means (view seat.old) }
@@ -86,14 +91,14 @@ impl<J: Job> Board<J> {
         ensures mine { (view seat.new).mine ≡ (view seat.old).mine ++ note_of (view seat.old) ∷ [] }
         ensures tries { ((view seat.new).tries ≡ (view seat.old).tries)
             × ((view seat.new).found ≡ (view seat.old).found) }
-        ensures same { SamePlace (view seat.old) (view seat.new) }
+        ensures same { SameSeat (view seat.old) (view seat.new) }
     {
         let note = seat.note;
-        let mut place = self.sit(seat);
-        self.store_done(&mut place, note);
-        let opened = self.close_all(&mut place, note);
+        let mut sitting = self.sit(seat);
+        self.store_done(&mut sitting, note);
+        let opened = self.close_all(&mut sitting, note);
         seat.aim(opened);
-        self.rise(seat, place);
+        self.rise(seat, sitting);
     }
 }
 

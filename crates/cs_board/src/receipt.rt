@@ -5,7 +5,8 @@ use crate::loaded::Loaded;
 use cs_cells::Job;
 use std::marker::Model;
 
-/// The cells and the jobs of a cycle after all its notes. `Board::close` alone makes one. Contracts see the two lists.
+/// The cells and the jobs of a cycle after all its notes. `Board::close` alone makes one. Contracts
+/// see the two lists.
 pub struct Receipt<J> {
     pub(crate) notes: u32,
     pub(crate) loaded: Loaded<J>,

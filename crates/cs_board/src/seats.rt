@@ -1,11 +1,11 @@
 // Seats: sitting down for a call, splitting one off and taking one in.
 ghost use Rattle.std.specs.Prelude.{◌≡◌, ◌<◌, ℕ, [], Some, true, false, IfSome};
 ghost use Rattle.cs_board.specs.Board.{plan, view, IsSeatOf, IsIdle, HasRoom};
-ghost use Rattle.cs_board.specs.Places.{IsPlaceOf};
+ghost use Rattle.cs_board.specs.inner.Sittings.{IsSittingOf};
 ghost use Rattle.cs_rule.specs.Views.{kept_view, given_view, joined};
 ghost use Rattle.cs_rule.specs.declared.view.Doing.{Doing};
 
-use crate::board::{Board, BoardSeat, Place};
+use crate::board::{Board, BoardSeat, Sitting};
 use atomic_table::Badge;
 use cs_cells::Job;
 use cs_rule::{Gather, Split};
@@ -13,9 +13,9 @@ use std::mem;
 
 impl<J: Job> Board<J> {
     /// The seat begins a call.
-    pub(crate) fn sit(&self, seat: &mut BoardSeat<J>) -> Place<J>
+    pub(crate) fn sit(&self, seat: &mut BoardSeat<J>) -> Sitting<J>
         requires { IsSeatOf J.means self.now seat.old }
-        ensures place { IsPlaceOf J.means self.now result }
+        ensures sitting { IsSittingOf J.means self.now result }
         ensures me { result.me ≡ (view seat.old, []) }
         ensures room { HasRoom (plan self.now) (view seat.old) seat.new }
         ensures note { seat.new.note ≡ seat.old.note }
@@ -24,17 +24,17 @@ impl<J: Job> Board<J> {
     }
 
     /// The seat ends a call.
-    pub(crate) fn rise(&self, seat: &mut BoardSeat<J>, place: Place<J>)
-        requires place { IsPlaceOf J.means self.now place }
-        requires carries { place.me.1 ≡ [] }
-        requires note { (d : Doing) → place.me.0.doing ≡ Some d → (d.note ≡ seat.old.note)
+    pub(crate) fn rise(&self, seat: &mut BoardSeat<J>, sitting: Sitting<J>)
+        requires sitting { IsSittingOf J.means self.now sitting }
+        requires carries { sitting.me.1 ≡ [] }
+        requires note { (d : Doing) → sitting.me.0.doing ≡ Some d → (d.note ≡ seat.old.note)
             × (d.note < (plan self.now).notes) }
-        requires room { HasRoom (plan self.now) place.me.0 seat.old }
+        requires room { HasRoom (plan self.now) sitting.me.0 seat.old }
         ensures seat { IsSeatOf J.means self.now seat.new }
-        ensures view { view seat.new ≡ place.me.0 }
+        ensures view { view seat.new ≡ sitting.me.0 }
         ensures same { (seat.new.note ≡ seat.old.note) × (seat.new.room ≡ seat.old.room) }
     {
-        seat.badge = place.into_badge();
+        seat.badge = sitting.into_badge();
     }
 
     /// A new seat of the board, split off the first one.
@@ -46,9 +46,9 @@ impl<J: Job> Board<J> {
         ensures other { IsSeatOf J.means self.now result }
         ensures new { view result ≡ given_view (view seat.old) }
     {
-        let mut place = self.sit(seat);
-        let other = self.table.shared.split_seat::<Split>(&mut place);
-        self.rise(seat, place);
+        let mut sitting = self.sit(seat);
+        let other = self.table.shared.split_seat::<Split>(&mut sitting);
+        self.rise(seat, sitting);
         BoardSeat {
             badge: other.into_badge(),
             note: 0,
@@ -58,7 +58,8 @@ impl<J: Job> Board<J> {
         }
     }
 
-    /// The first seat takes in another, which runs nothing and owes nothing, as after a claim that answered None.
+    /// The first seat takes in another, which runs nothing and owes nothing, as after a claim that
+    /// answered None.
     pub fn join(&self, seat: &mut BoardSeat<J>, other: BoardSeat<J>)
         requires seat { IsSeatOf J.means self.now seat.old }
         requires first { (view seat.old).first ≡ true }
@@ -69,7 +70,7 @@ impl<J: Job> Board<J> {
         ensures seat { IsSeatOf J.means self.now seat.new }
         ensures view { view seat.new ≡ joined (view seat.old) (view other) }
     {
-        let mut place = self.sit(seat);
+        let mut sitting = self.sit(seat);
         let BoardSeat {
             badge,
             note: _,
@@ -80,7 +81,7 @@ impl<J: Job> Board<J> {
         let None = room else { unreachable!() };
         self.table
             .shared
-            .join_seat::<Gather>(&mut place, badge.into_seat());
-        self.rise(seat, place);
+            .join_seat::<Gather>(&mut sitting, badge.into_seat());
+        self.rise(seat, sitting);
     }
 }

@@ -1,11 +1,12 @@
 // The jobs of a cycle, on their way into the slots and back.
 ghost use Rattle.std.specs.Prelude.{◌≡◌, ◌≤◌, [], map, length, Some, IfOk, IfErr};
 ghost use Rattle.std.specs.Vec.{vec_capacity};
-ghost use Rattle.cs_board.specs.Made.{jobs_in};
+ghost use Rattle.cs_board.specs.inner.Slots.{jobs_in};
 
 use std::alloc::Global;
 
-/// Each job in a slot, in order, and the emptied vector with its room. Err is want of memory, with the jobs.
+/// Each job in a slot, in order, and the emptied vector with its room. Err is want of memory, with
+/// the jobs.
 pub(crate) fn in_slots<J>(
     alloc: Global,
     mut jobs: Vec<J>,

@@ -1,7 +1,7 @@
 // The steps on the board's words, one function each.
 ghost use Rattle.std.specs.Prelude.{◌≡◌, ◌+◌, ◌-◌, ◌<◌, ◌≤◌, ℕ, [], ◌∷◌, Some, None, true, false, slice_get};
 ghost use Rattle.cs_board.specs.Board.{plan, IsIdle, run_through};
-ghost use Rattle.cs_board.specs.Places.{IsPlaceOf, ClosesAt, MovesAt, MovesOut, deed, out, tried, stopped, ran_out};
+ghost use Rattle.cs_board.specs.inner.Sittings.{IsSittingOf, ClosesAt, MovesAt, MovesOut, deed, job_out, tried, stopped, ran_out};
 ghost use Rattle.cs_graph.specs.Graph.{Edge};
 ghost use Rattle.cs_rule.specs.Counts.{listed};
 ghost use Rattle.cs_rule.specs.Facts.{turned_in};
@@ -9,9 +9,12 @@ ghost use Rattle.cs_rule.specs.Plans.{edge_count, area_count, places_used, place
 ghost use Rattle.cs_rule.specs.Views.{fresh, does, next_phase, ended, shut, opened};
 ghost use Rattle.cs_rule.specs.Words.{watch_at, own_at, turn_at, cell_at};
 
-use crate::board::{Board, Place};
+use crate::board::{Board, Sitting};
 use cs_cells::Job;
-use cs_rule::{Claim, Close, Finish, Give, LookTurn, Open, Take, Turn, Watch};
+use cs_rule::{
+    AVAILABLE, CLOSED, Claim, Close, DONE, Finish, Give, IDLE, IN_PROGRESS, LookTurn, Open, Take,
+    Turn, WATCHED, Watch,
+};
 
 impl<J: Job> Board<J> {
     fn watch_word(&self, edge: u32) -> usize
@@ -43,142 +46,164 @@ impl<J: Job> Board<J> {
     }
 
     /// One try to claim a note.
-    pub(crate) fn try_note(&self, place: &mut Place<J>, note: u32) -> bool
-        requires place { IsPlaceOf J.means self.now place.old }
-        requires idle { IsIdle place.old.me.0 }
+    pub(crate) fn try_note(&self, sitting: &mut Sitting<J>, note: u32) -> bool
+        requires sitting { IsSittingOf J.means self.now sitting.old }
+        requires idle { IsIdle sitting.old.me.0 }
         requires note { note < (plan self.now).notes }
-        ensures place { IsPlaceOf J.means self.now place.new }
-        ensures me { place.new.me ≡ (tried J.means result place.old.me.0 note, place.old.me.1) }
+        ensures sitting { IsSittingOf J.means self.now sitting.new }
+        ensures me { sitting.new.me
+            ≡ (tried J.means result sitting.old.me.0 note, sitting.old.me.1) }
     {
         self.table
             .shared
-            .compare_exchange::<Claim>(place, 1 + note as usize, 1, 2)
-            == 1
+            .compare_exchange::<Claim>(sitting, 1 + note as usize, AVAILABLE, IN_PROGRESS)
+            == AVAILABLE
     }
 
     /// The job of the note that was claimed leaves its slot.
-    pub(crate) fn reach_job(&self, place: &mut Place<J>, note: u32)
-        requires place { IsPlaceOf J.means self.now place.old }
+    pub(crate) fn reach_job(&self, sitting: &mut Sitting<J>, note: u32)
+        requires sitting { IsSittingOf J.means self.now sitting.old }
         requires note { note < (plan self.now).notes }
-        requires doing { place.old.me.0.doing ≡ Some (fresh J.means (plan self.now) note) }
-        ensures place { IsPlaceOf J.means self.now place.new }
+        requires doing { sitting.old.me.0.doing ≡ Some (fresh J.means (plan self.now) note) }
+        ensures sitting { IsSittingOf J.means self.now sitting.new }
         ensures me { (j : J) × (slice_get (plan self.now).jobs note ≡ Some j)
-            × (place.new.me ≡ (does place.old.me.0 (out (fresh J.means (plan self.now) note)), (note, Some j) ∷ place.old.me.1)) }
+            × (sitting.new.me ≡ (
+              does sitting.old.me.0 (job_out (fresh J.means
+                  (plan self.now) note)),
+              (note, Some j) ∷ sitting.old.me.1,
+            )) }
     {
-        self.table.shared.load::<Take>(place, 0);
+        self.table.shared.load::<Take>(sitting, 0);
     }
 
     /// A look at a turn word.
-    pub(crate) fn look_turn(&self, place: &mut Place<J>, area: u32) -> u64
-        requires place { IsPlaceOf J.means self.now place.old }
+    pub(crate) fn look_turn(&self, sitting: &mut Sitting<J>, area: u32) -> u64
+        requires sitting { IsSittingOf J.means self.now sitting.old }
         requires area { area < area_count (plan self.now) }
-        requires doing { place.old.me.0.doing ≡ Some (deed place.old.me.0) }
-        requires used { listed (places_used J.means (plan self.now) (deed place.old.me.0).note) area
+        requires doing { sitting.old.me.0.doing ≡ Some (deed sitting.old.me.0) }
+        requires used { listed (places_used J.means (plan self.now)
+            (deed sitting.old.me.0).note) area
             ≡ true }
-        ensures place { IsPlaceOf J.means self.now place.new }
-        ensures me { place.new.me ≡ place.old.me }
+        ensures sitting { IsSittingOf J.means self.now sitting.new }
+        ensures me { sitting.new.me ≡ sitting.old.me }
         ensures value { result
-            ≡ writers_before J.means (plan self.now) (deed place.old.me.0).note area
-            + turned_in J.means (plan self.now) area place.old.me.0.doing }
+            ≡ writers_before J.means (plan self.now) (deed sitting.old.me.0).note area
+            + turned_in J.means (plan self.now) area sitting.old.me.0.doing }
     {
         let word = self.turn_word(area);
-        self.table.shared.load::<LookTurn>(place, word)
+        self.table.shared.load::<LookTurn>(sitting, word)
     }
 
     /// The own turn of a note that has run.
-    pub(crate) fn turn_own(&self, place: &mut Place<J>, note: u32)
-        requires place { IsPlaceOf J.means self.now place.old }
+    pub(crate) fn turn_own(&self, sitting: &mut Sitting<J>, note: u32)
+        requires sitting { IsSittingOf J.means self.now sitting.old }
         requires note { note < (plan self.now).notes }
-        requires doing { place.old.me.0.doing ≡ Some (ran_out J.means (plan self.now) note 0) }
-        ensures place { IsPlaceOf J.means self.now place.new }
-        ensures me { place.new.me
-            ≡ (does place.old.me.0 (ran_out J.means (plan self.now) note 1), place.old.me.1) }
+        requires doing { sitting.old.me.0.doing ≡ Some (ran_out J.means (plan self.now) note 0) }
+        ensures sitting { IsSittingOf J.means self.now sitting.new }
+        ensures me { sitting.new.me
+            ≡ (does sitting.old.me.0 (ran_out J.means (plan self.now) note 1), sitting.old.me.1) }
     {
         let word = self.own_word(note);
-        self.table.shared.store::<Turn>(place, word, 1);
+        self.table.shared.store::<Turn>(sitting, word, 1);
     }
 
-    /// The next turn of the note, on a resource that it writes, whose turn word has this value after it.
-    pub(crate) fn turn_to(&self, place: &mut Place<J>, area: u32, value: u64)
-        requires place { IsPlaceOf J.means self.now place.old }
+    /// The next turn of the note, on a resource that it writes, whose turn word has this value
+    /// after it.
+    pub(crate) fn turn_to(&self, sitting: &mut Sitting<J>, area: u32, value: u64)
+        requires sitting { IsSittingOf J.means self.now sitting.old }
         requires area { area < area_count (plan self.now) }
-        requires doing { place.old.me.0.doing ≡ Some (deed place.old.me.0) }
-        requires held { (deed place.old.me.0).held ≡ true }
-        requires begun { 1 ≤ (deed place.old.me.0).phase }
-        requires next { slice_get (places_written J.means (plan self.now) (deed place.old.me.0).note) ((deed place.old.me.0).phase - 1) ≡ Some area }
+        requires doing { sitting.old.me.0.doing ≡ Some (deed sitting.old.me.0) }
+        requires held { (deed sitting.old.me.0).held ≡ true }
+        requires begun { 1 ≤ (deed sitting.old.me.0).phase }
+        requires next { slice_get (places_written J.means (plan self.now)
+            (deed sitting.old.me.0).note) ((deed sitting.old.me.0).phase - 1) ≡ Some area }
         requires value { value
-            ≡ writers_before J.means (plan self.now) (deed place.old.me.0).note area + 1 }
-        ensures place { IsPlaceOf J.means self.now place.new }
-        ensures me { place.new.me
-            ≡ (does place.old.me.0 (next_phase (deed place.old.me.0)), place.old.me.1) }
+            ≡ writers_before J.means (plan self.now) (deed sitting.old.me.0).note area + 1 }
+        ensures sitting { IsSittingOf J.means self.now sitting.new }
+        ensures me { sitting.new.me
+            ≡ (does sitting.old.me.0 (next_phase (deed sitting.old.me.0)), sitting.old.me.1) }
     {
         let word = self.turn_word(area);
-        self.table.shared.store::<Turn>(place, word, value);
+        self.table.shared.store::<Turn>(sitting, word, value);
     }
 
     /// The job of a note that has run and made its turns comes home.
-    pub(crate) fn leave_job(&self, place: &mut Place<J>, note: u32)
-        requires place { IsPlaceOf J.means self.now place.old }
-        requires phase { 1 ≤ (deed place.old.me.0).phase }
-        requires doing { place.old.me.0.doing
-            ≡ Some (ran_out J.means (plan self.now) note (deed place.old.me.0).phase) }
+    pub(crate) fn leave_job(&self, sitting: &mut Sitting<J>, note: u32)
+        requires sitting { IsSittingOf J.means self.now sitting.old }
+        requires phase { 1 ≤ (deed sitting.old.me.0).phase }
+        requires doing { sitting.old.me.0.doing
+            ≡ Some (ran_out J.means (plan self.now) note (deed sitting.old.me.0).phase) }
         requires job { (j : J) × (slice_get (plan self.now).jobs note ≡ Some j)
-            × (place.old.me.1 ≡ (note, Some (J.means.after j (before_at J.means (plan self.now) note))) ∷ []) }
-        ensures place { IsPlaceOf J.means self.now place.new }
-        ensures me { place.new.me
-            ≡ (does place.old.me.0 (record (deed place.old.me.0) { held = false }), []) }
+            × (sitting.old.me.1 ≡ (
+              note,
+              Some (J.means.after j (before_at J.means
+                  (plan self.now) note)),
+            ) ∷ []) }
+        ensures sitting { IsSittingOf J.means self.now sitting.new }
+        ensures me { sitting.new.me
+            ≡ (does sitting.old.me.0 (record (deed sitting.old.me.0) { held = false }), []) }
     {
-        self.table.shared.load::<Give>(place, 0);
+        self.table.shared.load::<Give>(sitting, 0);
     }
 
     /// The note is Done.
-    pub(crate) fn store_done(&self, place: &mut Place<J>, note: u32)
-        requires place { IsPlaceOf J.means self.now place.old }
+    pub(crate) fn store_done(&self, sitting: &mut Sitting<J>, note: u32)
+        requires sitting { IsSittingOf J.means self.now sitting.old }
         requires note { note < (plan self.now).notes }
-        requires doing { place.old.me.0.doing ≡ Some (run_through J.means (plan self.now) note) }
-        ensures place { IsPlaceOf J.means self.now place.new }
-        ensures me { place.new.me ≡ (ended place.old.me.0 note, place.old.me.1) }
+        requires doing { sitting.old.me.0.doing ≡ Some (run_through J.means (plan self.now) note) }
+        ensures sitting { IsSittingOf J.means self.now sitting.new }
+        ensures me { sitting.new.me ≡ (ended sitting.old.me.0 note, sitting.old.me.1) }
     {
         self.table
             .shared
-            .store::<Finish>(place, 1 + note as usize, 3);
+            .store::<Finish>(sitting, 1 + note as usize, DONE);
     }
 
     /// An edge from the note is closed. It answers what the watch word was.
-    pub(crate) fn close_edge(&self, place: &mut Place<J>, edge: u32, note: u32, watcher: u32) -> u64
-        requires place { IsPlaceOf J.means self.now place.old }
+    pub(crate) fn close_edge(
+        &self,
+        sitting: &mut Sitting<J>,
+        edge: u32,
+        note: u32,
+        watcher: u32,
+    ) -> u64
+        requires sitting { IsSittingOf J.means self.now sitting.old }
         requires edge { Edge (plan self.now).edges edge note watcher }
-        requires closing { ClosesAt (plan self.now) place.old.me.0 note edge }
-        requires moving { place.old.me.0.moving ≡ None }
-        ensures place { IsPlaceOf J.means self.now place.new }
-        ensures me { place.new.me ≡ (shut place.old.me.0 edge note watcher result, place.old.me.1) }
+        requires closing { ClosesAt (plan self.now) sitting.old.me.0 note edge }
+        requires moving { sitting.old.me.0.moving ≡ None }
+        ensures sitting { IsSittingOf J.means self.now sitting.new }
+        ensures me { sitting.new.me
+            ≡ (shut sitting.old.me.0 edge note watcher result, sitting.old.me.1) }
     {
         let word = self.watch_word(edge);
-        self.table.shared.swap::<Close>(place, word, 2)
+        self.table.shared.swap::<Close>(sitting, word, CLOSED)
     }
 
     /// A waiting note watches its next edge, unless that is closed.
-    pub(crate) fn watch_edge(&self, place: &mut Place<J>, edge: u32, note: u32) -> bool
-        requires place { IsPlaceOf J.means self.now place.old }
-        requires moving { MovesAt (plan self.now) place.old.me.0 note edge }
-        ensures place { IsPlaceOf J.means self.now place.new }
-        ensures me { place.new.me ≡ (stopped result place.old.me.0 note edge, place.old.me.1) }
+    pub(crate) fn watch_edge(&self, sitting: &mut Sitting<J>, edge: u32, note: u32) -> bool
+        requires sitting { IsSittingOf J.means self.now sitting.old }
+        requires moving { MovesAt (plan self.now) sitting.old.me.0 note edge }
+        ensures sitting { IsSittingOf J.means self.now sitting.new }
+        ensures me { sitting.new.me
+            ≡ (stopped result sitting.old.me.0 note edge, sitting.old.me.1) }
     {
         let word = self.watch_word(edge);
         self.table
             .shared
-            .compare_exchange::<Watch>(place, word, 0, 1)
-            == 0
+            .compare_exchange::<Watch>(sitting, word, IDLE, WATCHED)
+            == IDLE
     }
 
     /// A waiting note that has passed all edges into it is Available.
-    pub(crate) fn open_note(&self, place: &mut Place<J>, note: u32)
-        requires place { IsPlaceOf J.means self.now place.old }
+    pub(crate) fn open_note(&self, sitting: &mut Sitting<J>, note: u32)
+        requires sitting { IsSittingOf J.means self.now sitting.old }
         requires note { note < (plan self.now).notes }
-        requires moving { MovesOut (plan self.now) place.old.me.0 note }
-        ensures place { IsPlaceOf J.means self.now place.new }
-        ensures me { place.new.me ≡ (opened place.old.me.0 note, place.old.me.1) }
+        requires moving { MovesOut (plan self.now) sitting.old.me.0 note }
+        ensures sitting { IsSittingOf J.means self.now sitting.new }
+        ensures me { sitting.new.me ≡ (opened sitting.old.me.0 note, sitting.old.me.1) }
     {
-        self.table.shared.store::<Open>(place, 1 + note as usize, 1);
+        self.table
+            .shared
+            .store::<Open>(sitting, 1 + note as usize, AVAILABLE);
     }
 }

@@ -1,17 +1,19 @@
 // The edges of a cycle, so that a note's own are found without a look at the others.
 ghost use Rattle.std.specs.Prelude.{◌≡◌, ◌+◌, ◌<◌, ◌≤◌, ◌^◌, ℕ, length, IfSome, IfNone, IfOk};
 ghost use Rattle.cs_graph.specs.Graph.{Edge};
-ghost use Rattle.cs_board.specs.Chains.{LeadsForward, StandTogether, IsChained};
-ghost use Rattle.cs_board.specs.Wires.{IsNextOut, NoneOut, NoneIn};
-ghost use Rattle.cs_rule.specs.Opening.{first_watch};
+ghost use Rattle.cs_board.specs.inner.Wires.{IsChained};
+ghost use Rattle.cs_rule.specs.Plans.{LeadsForward, StandTogether};
+ghost use Rattle.cs_board.specs.inner.Wires.{IsNextOut, NoneOut, NoneIn};
+ghost use Rattle.cs_rule.specs.inner.Opening.{first_watch};
 
 use cs_base::OutOfMemory;
 use cs_graph::Graph;
+use cs_rule::{IDLE, WATCHED};
 use std::alloc::Global;
 use std::marker::Model;
 
-/// The edges in the order of the later note, the first edge that leads from each note, and for each edge the next
-/// one from the same note. The number of edges stands for none.
+/// The edges in the order of the later note, the first edge that leads from each note, and for each
+/// edge the next one from the same note. The number of edges stands for none.
 #[derive(Drop)]
 pub struct Wires {
     edges: Vec<(u32, u32)>,
@@ -21,7 +23,7 @@ pub struct Wires {
 
 impl Model for Wires {
     ghost use Rattle.std.specs.Prelude.{length};
-    ghost use Rattle.cs_board.specs.Wires.{Wiring, IsWired};
+    ghost use Rattle.cs_board.specs.inner.Wires.{Wiring, IsWired};
 
     ghost Value = { Wiring };
 
@@ -105,9 +107,9 @@ impl Wires {
     {
         let (_, note) = self.edges[edge as usize];
         if edge > 0 && self.edges[edge as usize - 1].1 == note {
-            0
+            IDLE
         } else {
-            1
+            WATCHED
         }
     }
 

@@ -3,7 +3,7 @@ ghost use Rattle.std.specs.Prelude.{◌≡◌, ◌+◌, ◌<◌, ℕ, [], All, l
 ghost use Rattle.std.specs.Vec.{vec_capacity};
 ghost use Rattle.cs_board.specs.Board.{view};
 ghost use Rattle.cs_board.specs.declared.board.BoardSeat.{BoardSeat};
-ghost use Rattle.cs_crew.specs.Crew.{IsReady, IsDone, IsThrough, Leads, IsNumbered};
+ghost use Rattle.cs_crew.specs.inner.Crew.{IsReady, IsDone, IsThrough, IsFirst, IsNumbered};
 
 use crate::worker::work;
 use cs_board::{Board, BoardSeat};
@@ -21,7 +21,7 @@ pub(crate) fn seat_all<J: Job>(
     others: u32,
 ) -> Vec<BoardSeat<J>>
     requires ready { IsReady J.means board.now first }
-    requires alone { Leads 0 (view first) × ((view first).made ≡ 0) }
+    requires alone { IsFirst 0 (view first) × ((view first).made ≡ 0) }
     requires room { (seats.items ≡ []) × (others < vec_capacity seats) }
     ensures ready { All (λ s. IsReady J.means board.now s) result.items }
     ensures numbered { IsNumbered result.items }
@@ -35,7 +35,8 @@ pub(crate) fn seat_all<J: Job>(
     seats
 }
 
-/// Each worker at its seat, in a thread of its own where one can be made; the caller is one of them.
+/// Each worker at its seat, in a thread of its own where one can be made; the caller is one of
+/// them.
 pub(crate) fn work_all<J: Job + Send, G: Gate + Sync, R: Threads + Wait + Sync>(
     rt: &R,
     board: &Board<J>,
@@ -46,7 +47,8 @@ pub(crate) fn work_all<J: Job + Send, G: Gate + Sync, R: Threads + Wait + Sync>(
     requires ready { All (λ s. IsReady J.means board.now s) seats.old.items }
     requires some { 0 < length seats.old.items }
     ensures count { length seats.new.items ≡ length seats.old.items }
-    ensures each { (k : ℕ) (d : BoardSeat J.row.Denot) → k < length seats.old.items → IsThrough J.means
+    ensures each { (k : ℕ) (d : BoardSeat J.row.Denot) → k < length seats.old.items
+        → IsThrough J.means
         board.now (slice_index_or seats.old.items k d) (slice_index_or seats.new.items k d) }
 {
     let threads = seats.len();
@@ -64,7 +66,7 @@ pub(crate) fn join_all<J: Job>(board: &Board<J>, mut seats: Vec<BoardSeat<J>>) -
     requires numbered { IsNumbered seats.items }
     requires some { 0 < length seats.items }
     ensures done { IsDone J.means board.now result }
-    ensures alone { Leads 0 (view result) }
+    ensures alone { IsFirst 0 (view result) }
 {
     let Some(mut first) = seats.pop() else {
         unreachable!()

@@ -23,10 +23,10 @@ use std::thread::Threads;
 /// the jobs as if the notes had run one by one in serial order.
 ///
 /// `graph` is that of the jobs' footprints, `layout` that of each job, and `loaded` has one job for
-/// each note, in serial order, and one word for each cell. `workers` is 1 to 32; no more are started
-/// than there are notes, and the caller is one of them. `gate` is called with `cycle` and the note's
-/// place before each note is run. Err is want of memory before any note has run, and hands all back
-/// unchanged.
+/// each note, in serial order, and one word for each cell. `workers` is 1 to 32; no more are
+/// started than there are notes, and the caller is one of them. `gate` is called with `cycle` and
+/// the note's place before each note is run. Err is want of memory before any note has run, and
+/// hands all back unchanged.
 pub fn run_cycle<J: Job + Send, G: Gate + Sync, R: Threads + Wait + Sync>(
     rt: &R,
     alloc: Global,
@@ -43,7 +43,8 @@ pub fn run_cycle<J: Job + Send, G: Gate + Sync, R: Threads + Wait + Sync>(
     requires words { length loaded.0 ≡ word_count layout.now }
     requires areas { All (λ j. J.means.areas j ≡ layout.now) loaded.1 }
     requires footprints { All (λ j. IsFootprint (length layout.now) (J.means.foot j)) loaded.1 }
-    ensures cells { IfOk result (λ r. values r.0 ≡ serial_cells J.means loaded.1 (values loaded.0)) }
+    ensures cells { IfOk result (λ r. values r.0
+        ≡ serial_cells J.means loaded.1 (values loaded.0)) }
     ensures jobs { IfOk result (λ r. r.1 ≡ serial_jobs J.means loaded.1 (values loaded.0)) }
     ensures notes { IfOk result (λ r. length r.1 ≡ length loaded.1) }
     ensures back { IfErr result (λ l. l ≡ loaded) }

@@ -1,5 +1,5 @@
 // What one worker does.
-ghost use Rattle.cs_crew.specs.Crew.{IsReady, IsThrough};
+ghost use Rattle.cs_crew.specs.inner.Crew.{IsReady, IsThrough};
 
 use cs_base::Steps;
 use cs_board::{Board, BoardSeat};

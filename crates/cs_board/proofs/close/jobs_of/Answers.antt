@@ -1,6 +1,6 @@
 use Rattle.std.proofs.Common.{◌+◌, ◌++◌, ◌∷◌, [], ap, sym, ◌∙◌, take, length, length-append, get_or, false, ◌<◌, arith}
 use Rattle.std.specs.Mem.Slots.{slots_items, slots_filled, slots_len, slots_counts}
-use Rattle.cs_board.specs.Made.{jobs_in}
+use Rattle.cs_board.specs.inner.Slots.{jobs_in}
 use Rattle.cs_board.proofs.Ending.{emptied_more, full_more, one_kept, at_most_one}
 use Rattle.cs_board.proofs.close.jobs_of.Goals as goal
 
@@ -13,7 +13,8 @@ loop-slot-preserved g c =
     let others = c.take.ensures.others in
     let low : i < length (slots_filled old) = omega (arith, c.loop-slot-test.true, c.slot_count-slot-end.ensures, inv.5, (slots_counts old).1) in (
       omega (arith, c.loop-slot-test.true),
-      c.keep.ensures.items ∙ ap (λ z. z ++ jobs_in (c.take.result ∷ [])) inv.1 ∙ sym (one_kept (slots_items old) i c.take.result c.take.ensures.value) ∙ ap (λ z. jobs_in (take (i + 1) z)) (sym others.0),
+      c.keep.ensures.items ∙ ap (λ z. z ++ jobs_in (c.take.result ∷ [])) inv.1 ∙ sym (one_kept (slots_items old) i c.take.result c.take.ensures.value)
+          ∙ ap (λ z. jobs_in (take (i + 1) z)) (sym others.0),
       omega (arith, inv.2, ap length c.keep.ensures.items, length-append c.loop-slot.room.items (jobs_in (c.take.result ∷ [])), at_most_one c.take.result),
       omega (arith, inv.3, others.2, c.keep.ensures.room),
       others.0 ∙ inv.4,

@@ -1,7 +1,7 @@
 use Rattle.std.proofs.Common.{◌≡◌, ◌≤◌, ◌<◌, ℕ, take, length, true, false, get_or}
 use Rattle.std.specs.Vec.{vec_capacity}
 use Rattle.std.specs.Mem.Slots.{slots_items, slots_filled, slots_len}
-use Rattle.cs_board.specs.Made.{jobs_in}
+use Rattle.cs_board.specs.inner.Slots.{jobs_in}
 use Rattle.cs_board.proofs.close.jobs_of.Given as goal
 
 abbrev pub invariant-loop-slot : goal.invariant-loop-slot

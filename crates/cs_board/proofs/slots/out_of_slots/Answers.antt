@@ -1,5 +1,5 @@
 use Rattle.std.proofs.Common.{◌++◌, ◌∷◌, [], reverse, length, length-append, arith, ap, ◌∙◌}
-use Rattle.cs_board.specs.Made.{jobs_in}
+use Rattle.cs_board.specs.inner.Slots.{jobs_in}
 use Rattle.cs_board.proofs.Slotting.{one_out, none_out}
 use Rattle.cs_board.proofs.slots.out_of_slots.Goals as goal
 

@@ -1,6 +1,6 @@
 use Rattle.std.proofs.Common.{◌≡◌, ◌≤◌, ◌+◌, ◌++◌, reverse, length}
 use Rattle.std.specs.Vec.{vec_capacity}
-use Rattle.cs_board.specs.Made.{jobs_in}
+use Rattle.cs_board.specs.inner.Slots.{jobs_in}
 use Rattle.cs_board.proofs.slots.out_of_slots.Given as goal
 
 abbrev pub invariant-loop-slot : goal.invariant-loop-slot

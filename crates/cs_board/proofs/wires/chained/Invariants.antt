@@ -1,5 +1,5 @@
 use Rattle.std.proofs.Common.{◌≡◌, ◌≤◌, length}
-use Rattle.cs_board.specs.Chains.{IsChained}
+use Rattle.cs_board.specs.inner.Wires.{IsChained}
 use Rattle.cs_board.proofs.wires.chained.Given as goal
 
 abbrev pub invariant-loop-edge : goal.invariant-loop-edge

@@ -1,7 +1,7 @@
 use Rattle.std.proofs.Common.{subst, sym, ◌∙◌, slice_index_or, slice_set, arith, ◌<◌, length}
 use Rattle.std.proofs.lemmas.Option.{slice_get-get_or}
 use Rattle.std.proofs.lemmas.List.{get_or_default}
-use Rattle.cs_board.specs.Chains.{IsChained}
+use Rattle.cs_board.specs.inner.Wires.{IsChained}
 use Rattle.cs_board.proofs.Chaining.{links}
 use Rattle.cs_board.proofs.wires.link.Goals as goal
 

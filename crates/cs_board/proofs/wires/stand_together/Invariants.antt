@@ -1,5 +1,5 @@
 use Rattle.std.proofs.Common.{◌<◌, ◌≤◌, ℕ}
-use Rattle.cs_board.specs.Chains.{StandTogether}
+use Rattle.cs_rule.specs.Plans.{StandTogether}
 use Rattle.cs_board.proofs.wires.stand_together.Given as goal
 
 abbrev pub invariant-loop-note : goal.invariant-loop-note

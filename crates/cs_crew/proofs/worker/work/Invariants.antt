@@ -1,8 +1,8 @@
-use Rattle.cs_board.specs.Board.{view, SamePlace}
-use Rattle.cs_crew.specs.Crew.{IsReady}
+use Rattle.cs_board.specs.Board.{view, SameSeat}
+use Rattle.cs_crew.specs.inner.Crew.{IsReady}
 use Rattle.cs_crew.proofs.worker.work.Given as goal
 
 abbrev pub invariant-loop : goal.invariant-loop
 invariant-loop g l =
     (goal.iterator-loop g).can_next l.iterator' × (goal.iterator-loop g).is_finite l.iterator'
-    × IsReady g.J.Job.means l.board l.seat × SamePlace (view l.fn.seat) (view l.seat)
+    × IsReady g.J.Job.means l.board l.seat × SameSeat (view l.fn.seat) (view l.seat)

@@ -4,7 +4,7 @@ use Rattle.cs_cells.specs.Cells.{values}
 use Rattle.cs_cells.specs.Serial.{serial_jobs}
 use Rattle.cs_cells.proofs.SerialRun.{length-serial_jobs}
 use Rattle.cs_board.specs.Board.{plan, view, first_of}
-use Rattle.cs_board.specs.Made.{jobs_in}
+use Rattle.cs_board.specs.inner.Slots.{jobs_in}
 use Rattle.cs_board.proofs.Ending.{ends, last_view, first_cell}
 use Rattle.cs_board.proofs.Slotting.{jobs_in-some}
 use Rattle.cs_board.proofs.board.Board.close.Goals as goal

@@ -5,20 +5,20 @@ use Rattle.cs_board.proofs.board.Board.close_all.Goals as goal
 
 pub loop-next-init : goal.loop-next-init
 loop-next-init g c = record {
-  place = c.requires.place;
+  sitting = c.requires.sitting;
   carries = refl;
   moving = c.requires.moving;
-  closing = closing_next (plan c.args.self.now) c.args.place.now.me.0 c.args.self.now.wires.edges c.args.note 0 c.first_out-next.result c.args.self.now.built.edges c.requires.closing c.first_out-next.ensures.none c.first_out-next.ensures.some;
-  beside = beside_same c.args.place.now.me.0;
+  closing = closing_next (plan c.args.self.now) c.args.sitting.now.me.0 c.args.self.now.wires.edges c.args.note 0 c.first_out-next.result c.args.self.now.built.edges c.requires.closing c.first_out-next.ensures.none c.first_out-next.ensures.some;
+  beside = beside_same c.args.sitting.now.me.0;
 }
 
 pub loop-next-preserved : goal.loop-next-preserved
 loop-next-preserved g c =
     let r = c.close_one-watcher in
     record {
-      place = r.ensures.place;
+      sitting = r.ensures.sitting;
       carries = r.ensures.carries ∙ c.loop-next.invariant.carries;
       moving = r.ensures.moving;
-      closing = closing_next (plan c.args.self.now) r.new.place.me.0 c.args.self.now.wires.edges c.args.note (c.in-Some.edge + 1) c.next_out-next.result c.args.self.now.built.edges r.ensures.closing c.next_out-next.ensures.none c.next_out-next.ensures.some;
-      beside = beside_join c.args.place.now.me.0 c.loop-next.place.me.0 r.new.place.me.0 c.loop-next.invariant.beside r.ensures.beside;
+      closing = closing_next (plan c.args.self.now) r.new.sitting.me.0 c.args.self.now.wires.edges c.args.note (c.in-Some.edge + 1) c.next_out-next.result c.args.self.now.built.edges r.ensures.closing c.next_out-next.ensures.none c.next_out-next.ensures.some;
+      beside = beside_join c.args.sitting.now.me.0 c.loop-next.sitting.me.0 r.new.sitting.me.0 c.loop-next.invariant.beside r.ensures.beside;
     }

@@ -9,13 +9,13 @@ use Rattle.cs_board.proofs.board.Board.close_edge.Goals as goal
 pub swap-requires : goal.swap-requires
 swap-requires g c =
     let i = c.requires.closing in (
-      c.requires.place.table,
+      c.requires.sitting.table,
       omega (arith, c.watch_word-word.ensures, slice_get_within _ c.args.edge _ c.requires.edge, c.args.self.now.built.words),
-      rw c.watch_word-word.ensures (closes_edge g.J.Job.means (plan c.args.self.now) g.met.J.Job.frames c.args.self.now.table.shared.table_id.slots c.args.place.now.id c.args.place.now.me c.requires.place.knows.plan c.args.edge c.args.note c.args.watcher i.0 c.requires.edge i.1 c.requires.moving i.2.low i.2.first c.requires.place.knows.live),
+      rw c.watch_word-word.ensures (closes_edge g.J.Job.means (plan c.args.self.now) g.met.J.Job.frames c.args.self.now.table.shared.table_id.slots c.args.sitting.now.id c.args.sitting.now.me c.requires.sitting.knows.plan c.args.edge c.args.note c.args.watcher i.0 c.requires.edge i.1 c.requires.moving i.2.low i.2.first c.requires.sitting.knows.live),
     )
 
-pub returns-clause-place : goal.returns-clause-place
-returns-clause-place g c =
-    place_after g.J.Job.means c.args.self.now c.args.place.now c.swap.new.seat (shut c.args.place.now.me.0 c.args.edge c.args.note c.args.watcher c.swap.result) c.args.place.now.me.1 c.requires.place c.swap.ensures.0
-    (told_shut (plan c.args.self.now) c.args.self.now.table.shared.table_id.slots c.args.edge c.args.note c.args.watcher c.swap.result c.args.place.now.me c.swap.new.seat.me c.requires.place.knows.plan c.requires.edge (rw c.watch_word-word.ensures at c.swap.ensures.2))
-    (view_shut (plan c.args.self.now) c.args.place.now.me.0 c.args.edge c.args.note c.args.watcher c.swap.result c.requires.place.knows)
+pub returns-clause-sitting : goal.returns-clause-sitting
+returns-clause-sitting g c =
+    place_after g.J.Job.means c.args.self.now c.args.sitting.now c.swap.new.seat (shut c.args.sitting.now.me.0 c.args.edge c.args.note c.args.watcher c.swap.result) c.args.sitting.now.me.1 c.requires.sitting c.swap.ensures.0
+    (told_shut (plan c.args.self.now) c.args.self.now.table.shared.table_id.slots c.args.edge c.args.note c.args.watcher c.swap.result c.args.sitting.now.me c.swap.new.seat.me c.requires.sitting.knows.plan c.requires.edge (rw c.watch_word-word.ensures at c.swap.ensures.2))
+    (view_shut (plan c.args.self.now) c.args.sitting.now.me.0 c.args.edge c.args.note c.args.watcher c.swap.result c.requires.sitting.knows)

@@ -2,7 +2,7 @@ use Rattle.std.proofs.Common.{rules, ◌≡◌, ◌<◌, length, true, sym, ap, 
 use mir.Val.{SFits}
 use Rattle.std.proofs.lemmas.Int.{to_z-of_z}
 use Rattle.cs_board.specs.Board.{plan}
-use Rattle.cs_board.specs.Places.{deed}
+use Rattle.cs_board.specs.inner.Sittings.{deed}
 use Rattle.cs_rule.specs.Plans.{uses_at}
 use Rattle.cs_rule.specs.Words.{cell_at}
 use Rattle.cs_rule.proofs.Allowed.{looks}
@@ -11,17 +11,17 @@ use Rattle.cs_board.proofs.board.Board.look_cell.Goals as goal
 
 pub load-requires : goal.load-requires
 load-requires g c =
-    let low = (used_within g.J.Job.means (plan c.args.self.now) c.requires.place.whole (deed c.args.place.now.me.0).note c.args.addr c.requires.used).0 in (
-      c.requires.place.table,
+    let low = (used_within g.J.Job.means (plan c.args.self.now) c.requires.sitting.whole (deed c.args.sitting.now.me.0).note c.args.addr c.requires.used).0 in (
+      c.requires.sitting.table,
       omega (arith, low, c.cell_word-word.ensures, c.args.self.now.built.words),
-      rw c.cell_word-word.ensures (looks g.J.Job.means (plan c.args.self.now) g.met.J.Job.frames c.args.self.now.table.shared.table_id.slots c.args.place.now.id c.args.place.now.me c.requires.place.knows.plan c.args.addr),
+      rw c.cell_word-word.ensures (looks g.J.Job.means (plan c.args.self.now) g.met.J.Job.frames c.args.self.now.table.shared.table_id.slots c.args.sitting.now.id c.args.sitting.now.me c.requires.sitting.knows.plan c.args.addr),
     )
 
 pub returns-clause-value : goal.returns-clause-value
 returns-clause-value g c =
-    let low = (used_within g.J.Job.means (plan c.args.self.now) c.requires.place.whole (deed c.args.place.now.me.0).note c.args.addr c.requires.used).0 in
+    let low = (used_within g.J.Job.means (plan c.args.self.now) c.requires.sitting.whole (deed c.args.sitting.now.me.0).note c.args.addr c.requires.used).0 in
     let fits : SFits w64 c.cast_signed.result = search rules in
     to_z-of_z w64 c.cast_signed.result fits ∙ c.cast_signed.ensures
-    ∙ c.load.ensures.2.1 c.args.addr (deed c.args.place.now.me.0) (c.cell_word-word.ensures ∙ ap (λ z. cell_at z c.args.addr) (sym c.requires.place.knows.plan))
-    (subst (λ z. c.args.addr < length z.cells) (sym c.requires.place.knows.plan) low) c.requires.doing
-    (subst (λ z. uses_at g.J.Job.means z (deed c.args.place.now.me.0).note c.args.addr ≡ true) (sym c.requires.place.knows.plan) c.requires.used)
+    ∙ c.load.ensures.2.1 c.args.addr (deed c.args.sitting.now.me.0) (c.cell_word-word.ensures ∙ ap (λ z. cell_at z c.args.addr) (sym c.requires.sitting.knows.plan))
+    (subst (λ z. c.args.addr < length z.cells) (sym c.requires.sitting.knows.plan) low) c.requires.doing
+    (subst (λ z. uses_at g.J.Job.means z (deed c.args.sitting.now.me.0).note c.args.addr ≡ true) (sym c.requires.sitting.knows.plan) c.requires.used)

@@ -5,7 +5,7 @@ use Rattle.cs_board.proofs.board.Board.look_turn.Goals as goal
 
 pub load-requires : goal.load-requires
 load-requires g c = (
-  c.requires.place.table,
+  c.requires.sitting.table,
   omega (arith, c.turn_word-word.ensures, c.requires.area, c.args.self.now.built.words),
-  rw c.turn_word-word.ensures (looks_at_turn g.J.Job.means (plan c.args.self.now) g.met.J.Job.frames c.args.self.now.table.shared.table_id.slots c.args.place.now.id c.args.place.now.me c.requires.place.knows.plan c.args.area),
+  rw c.turn_word-word.ensures (looks_at_turn g.J.Job.means (plan c.args.self.now) g.met.J.Job.frames c.args.self.now.table.shared.table_id.slots c.args.sitting.now.id c.args.sitting.now.me c.requires.sitting.knows.plan c.args.area),
 )

@@ -1,14 +1,14 @@
 use Rattle.std.proofs.Common.{◌≡◌, ◌*◌, ◌≤◌, take}
 use Rattle.std.specs.List.{sum_by}
 use Rattle.cs_board.specs.Board.{plan}
-use Rattle.cs_board.specs.Places.{IsPlaceOf}
+use Rattle.cs_board.specs.inner.Sittings.{IsSittingOf}
 use Rattle.cs_rule.specs.Plans.{places_used, writers_before}
 use Rattle.cs_board.proofs.board.Board.look_turns.Given as goal
 
 abbrev pub invariant-loop-area : goal.invariant-loop-area
 invariant-loop-area g l = record {
-  place : IsPlaceOf g.J.Job.means l.self l.place;
-  me : l.place.me ≡ l.initial.place.me;
+  sitting : IsSittingOf g.J.Job.means l.self l.sitting;
+  me : l.sitting.me ≡ l.initial.sitting.me;
   turns : l.turns ≡ sum_by (λ r. writers_before g.J.Job.means (plan l.self) l.note r) (take l.area-index (places_used g.J.Job.means (plan l.self) l.note));
   few : l.turns ≤ l.area-index * 4294967296;
 }

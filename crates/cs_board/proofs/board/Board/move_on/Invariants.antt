@@ -1,17 +1,17 @@
 use Rattle.std.proofs.Common.{◌≡◌, ℕ, ◌+◌, ◌-◌, length, Some}
 use Rattle.cs_board.specs.Board.{plan}
-use Rattle.cs_board.specs.Places.{IsPlaceOf, Beside}
+use Rattle.cs_board.specs.inner.Sittings.{IsSittingOf, Beside}
 use Rattle.cs_graph.specs.Graph.{Edge}
 use Rattle.cs_board.proofs.board.Board.move_on.Given as goal
 
 abbrev pub invariant-loop-next : goal.invariant-loop-next
 invariant-loop-next g l = record {
-  place : IsPlaceOf g.J.Job.means l.self l.place;
-  carries : l.place.me.1 ≡ l.initial.place.me.1;
+  sitting : IsSittingOf g.J.Job.means l.self l.sitting;
+  carries : l.sitting.me.1 ≡ l.initial.sitting.me.1;
   edge : (p : ℕ) × Edge (plan l.self).edges l.last p l.note;
-  moving : l.place.me.0.moving ≡ Some (record { note = l.note; place = l.last + 1 });
-  closing : l.place.me.0.closing ≡ l.initial.place.me.0.closing;
-  beside : Beside l.initial.place.me.0 l.place.me.0;
+  moving : l.sitting.me.0.moving ≡ Some (record { note = l.note; from = l.last + 1 });
+  closing : l.sitting.me.0.closing ≡ l.initial.sitting.me.0.closing;
+  beside : Beside l.initial.sitting.me.0 l.sitting.me.0;
 }
 
 abbrev pub decreases-loop-next : goal.decreases-loop-next

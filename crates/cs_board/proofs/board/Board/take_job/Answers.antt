@@ -6,4 +6,4 @@ pub exchange-requires : goal.exchange-requires
 exchange-requires g c =
     let j = c.reach_job.ensures.me in
     let e = ap (λ z. z.1) j.2 in
-    (c.reach_job.ensures.place.table, (Some j.0, e ∙ ap (λ r. (c.args.note, Some j.0) ∷ r) (sym (ap rest e))))
+    (c.reach_job.ensures.sitting.table, (Some j.0, e ∙ ap (λ r. (c.args.note, Some j.0) ∷ r) (sym (ap rest e))))

@@ -1,23 +1,23 @@
 use Rattle.std.proofs.Common.{◌≡◌, ◌+◌, false, sym, ap, ◌∙◌, subst, arith}
 use Rattle.cs_board.specs.Board.{IsIdle}
-use Rattle.cs_board.specs.Places.{Tries, AllTried, tried}
+use Rattle.cs_board.specs.inner.Sittings.{Tries, AllTried, tried}
 use Rattle.cs_board.proofs.Trying.{tries_more, all_more, idle_missed}
 use Rattle.cs_rule.specs.Views.{missed}
 use Rattle.cs_board.proofs.board.Board.try_range.Goals as goal
 
 pub returns-then-try_note-clause-tries : goal.returns-then-try_note-clause-tries
 returns-then-try_note-clause-tries g c =
-    subst (Tries c.args.place.now.me.0) (sym (ap (λ z. z.0) c.try_note.ensures.me))
-    (tries_more g.J.Job.means c.args.place.now.me.0 c.loop-note.place.me.0 c.try_note.result c.loop-note.note c.loop-note.invariant.tries)
+    subst (Tries c.args.sitting.now.me.0) (sym (ap (λ z. z.0) c.try_note.ensures.me))
+    (tries_more g.J.Job.means c.args.sitting.now.me.0 c.loop-note.sitting.me.0 c.try_note.result c.loop-note.note c.loop-note.invariant.tries)
 
 pub loop-note-preserved : goal.loop-note-preserved
 loop-note-preserved g c =
-    let u = c.args.place.now.me.0 in
-    let v = c.loop-note.place.me.0 in
+    let u = c.args.sitting.now.me.0 in
+    let v = c.loop-note.sitting.me.0 in
     let i = c.loop-note.invariant in
-    let is : c.try_note.new.place.me.0 ≡ missed v c.loop-note.note = ap (λ z. z.0) c.try_note.ensures.me ∙ ap (λ b. tried g.J.Job.means b v c.loop-note.note) c.if-try_note.false in
+    let is : c.try_note.new.sitting.me.0 ≡ missed v c.loop-note.note = ap (λ z. z.0) c.try_note.ensures.me ∙ ap (λ b. tried g.J.Job.means b v c.loop-note.note) c.if-try_note.false in
     record {
-      place = c.try_note.ensures.place;
+      sitting = c.try_note.ensures.sitting;
       carries = ap (λ z. z.1) c.try_note.ensures.me ∙ i.carries;
       idle = subst IsIdle (sym is) (idle_missed g.J.Job.means v c.loop-note.note i.idle);
       tried = subst (λ w. AllTried u w c.args.from (c.loop-note.note + 1)) (sym is) (all_more g.J.Job.means u v c.args.from c.loop-note.note i.tries i.tried);

@@ -1,17 +1,17 @@
 use Rattle.std.proofs.Common.{◌≡◌, ◌≢◌, ◌<◌, ◌≤◌, ℕ, sym, ◌∙◌, arith, ⊎_elim}
 use Rattle.std.proofs.lemmas.Bool.{cases_lt, cases_eq}
 use Rattle.cs_board.specs.Board.{plan, IsIdle}
-use Rattle.cs_board.specs.Places.{AllTried, AllBut}
+use Rattle.cs_board.specs.inner.Sittings.{AllTried, AllBut}
 use Rattle.cs_board.proofs.Trying.{carry, tries_none, tries_join, if_none_map, at_none}
 use Rattle.cs_board.proofs.board.Board.try_round.Goals as goal
 
 pub returns-clause-none : goal.returns-clause-none
 returns-clause-none g c =
     let n : ℕ = (plan c.args.self.now).notes in
-    let u = c.args.place.now.me.0 in
-    let v = c.try_first.new.place.me.0 in
-    let w = c.try_others-won.new.place.me.0 in
-    let x = c.try_others.new.place.me.0 in
+    let u = c.args.sitting.now.me.0 in
+    let v = c.try_first.new.sitting.me.0 in
+    let w = c.try_others-won.new.sitting.me.0 in
+    let x = c.try_others.new.sitting.me.0 in
     let first = c.try_first.ensures.lost c.if-try_first.false in
     let second = at_none c.try_others-won.result (IsIdle w × AllBut c.args.opened v w c.args.next c.args.self.now.notes) (sym c.is_some.ensures ∙ c.if-is_some.false) c.try_others-won.ensures.none in
     let same = c.args.self.now.built.notes in

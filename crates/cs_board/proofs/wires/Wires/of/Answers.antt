@@ -1,6 +1,6 @@
 use Rattle.std.proofs.Common.{arith, ap, subst, sym, ◌∙◌, length}
 use Rattle.cs_board.proofs.Chaining.{wired}
-use Rattle.cs_board.specs.Chains.{IsChained}
+use Rattle.cs_board.specs.inner.Wires.{IsChained}
 use Rattle.cs_board.proofs.wires.Wires.of.Goals as goal
 
 pub invariant_of-result : goal.invariant_of-result

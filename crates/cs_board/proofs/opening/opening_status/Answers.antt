@@ -1,6 +1,6 @@
 use Rattle.std.proofs.Common.{arith}
 use Rattle.cs_rule.proofs.Opening.{status_waits, status_free}
-use Rattle.cs_board.proofs.row.opening_status.Goals as goal
+use Rattle.cs_board.proofs.opening.opening_status.Goals as goal
 
 pub returns-then-into : goal.returns-then-into
 returns-then-into c = let first = (c.in_edges-into.ensures c.in_edges-into.result.start).0 (omega arith, c.if-into.true) in

@@ -1,6 +1,7 @@
 -- The edges of a cycle by the note that they leave.
 use Rattle.std.specs.Prelude.{◌≡◌, ℕ, ◌+◌, ◌<◌, ◌≤◌, ◌^◌, List, length, slice_index}
 use Rattle.cs_graph.specs.Graph.{Edge}
+use Rattle.cs_rule.specs.Plans.{LeadsForward, StandTogether}
 
 pub record Wiring : Type 0 where
   pub notes : ℕ
@@ -26,10 +27,15 @@ pub record Points (edges : List (ℕ × ℕ)) (p i e : ℕ) : Type 0 where
   pub some : e < length edges → IsNextOut edges p i e
   pub none : length edges ≤ e → NoneOut edges p i
 
-pub record IsWired (edges : List (ℕ × ℕ)) (first_out next_out : List ℕ) : Type 0 where
-  pub forward : (e p t : ℕ) → Edge edges e p t → (p < t) × (t < length first_out)
-  pub together : (e f g p q t : ℕ) → Edge edges e p t → Edge edges g q t → e ≤ f → f ≤ g → (r : ℕ) × Edge edges f r t
-  pub first : (p : ℕ) → p < length first_out → Points edges p 0 (slice_index first_out p)
+-- the edges from number i on are chained: for each note the first of them, for each of them the next one from its note
+pub record IsChained (edges : List (ℕ × ℕ)) (i : ℕ) (first_out next_out : List ℕ) : Type 0 where
   pub each : length next_out ≡ length edges
-  pub next : (e p t : ℕ) → Edge edges e p t → Points edges p (e + 1) (slice_index next_out e)
+  pub first : (p : ℕ) → p < length first_out → Points edges p i (slice_index first_out p)
+  pub next : (e p t : ℕ) → i ≤ e → Edge edges e p t → Points edges p (e + 1) (slice_index next_out e)
+
+-- what holds of the edges of every board: they are a graph's, and all are chained
+pub record IsWired (edges : List (ℕ × ℕ)) (first_out next_out : List ℕ) : Type 0 where
+  pub forward : LeadsForward edges (length first_out)
+  pub together : (t : ℕ) → StandTogether edges t
+  pub chained : IsChained edges 0 first_out next_out
   pub few : length edges < 2 ^ 31

@@ -3,7 +3,7 @@ use Rattle.std.specs.Prelude.{◌≡◌, ℕ, List, [], Option, Some, None, true
 use Rattle.atomic_table.specs.Seated.{TableId}
 use Rattle.atomic_table.specs.declared.shared.Seat.{Seat}
 use Rattle.cs_board.specs.Board.{plan, IsViewOf}
-use Rattle.cs_board.specs.Places.{deed}
+use Rattle.cs_board.specs.inner.Sittings.{deed}
 use Rattle.cs_board.specs.declared.board.Board.{Board}
 use Rattle.cs_cells.specs.Meaning.{Meaning}
 use Rattle.cs_rule.specs.Plans.{IsPlan, uses_at, writes_at}
@@ -30,30 +30,31 @@ pub record Frame (J : Type 0) : Type 0 where
 
 module _ {J : Type 0} where
   abbrev pub frame_of : Board J → Seat (Option J) (View J) → ℕ → Frame J
-  frame_of board place name = record {
+  frame_of board sitting name = record {
     name = name;
     board = board;
-    table_id = place.table_id;
-    id = place.id;
-    view = imageless place.me.0;
-    carried = place.me.1;
+    table_id = sitting.table_id;
+    id = sitting.id;
+    view = imageless sitting.me.0;
+    carried = sitting.me.1;
   }
 
 module _ {J : Type 0} (M : Meaning J) where
-  -- the seat of the board does a note that uses the cell
-  pub record CanGet (r : Frame J) (a : ℕ) : Type 0 where
+  -- the seat of the board does a note
+  pub record IsAtWork (r : Frame J) : Type 0 where
     pub whole : IsPlan M (plan r.board)
     pub table : r.table_id ≡ r.board.table.shared.table_id
     pub knows : IsViewOf (plan r.board) r.view
     pub doing : r.view.doing ≡ Some (deed r.view)
+
+  -- the note uses the cell
+  pub record CanGet (r : Frame J) (a : ℕ) : Type 0 where
+    pub works : IsAtWork r
     pub uses : uses_at M (plan r.board) (deed r.view).note a ≡ true
 
-  -- and the note, which has not run yet, writes it
+  -- the note, which has not run yet, writes the cell
   pub record CanSet (r : Frame J) (a : ℕ) : Type 0 where
-    pub whole : IsPlan M (plan r.board)
-    pub table : r.table_id ≡ r.board.table.shared.table_id
-    pub knows : IsViewOf (plan r.board) r.view
-    pub doing : r.view.doing ≡ Some (deed r.view)
+    pub works : IsAtWork r
     pub held : (deed r.view).held ≡ true
     pub phase : (deed r.view).phase ≡ 0
     pub writes : writes_at M (plan r.board) (deed r.view).note a ≡ true

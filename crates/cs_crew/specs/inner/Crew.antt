@@ -1,6 +1,6 @@
 -- What the seats of a cycle's workers are.
 use Rattle.std.specs.Prelude.{◌≡◌, ℕ, zero, suc, ◌+◌, ◌-◌, ◌<◌, List, [], ◌∷◌, length, true, false, slice_index_or}
-use Rattle.cs_board.specs.Board.{view, IsSeatOf, IsIdle, SamePlace}
+use Rattle.cs_board.specs.Board.{view, IsSeatOf, IsIdle, SameSeat}
 use Rattle.cs_board.specs.declared.board.Board.{Board}
 use Rattle.cs_board.specs.declared.board.BoardSeat.{BoardSeat}
 use Rattle.cs_cells.specs.Meaning.{Meaning}
@@ -13,21 +13,21 @@ down (suc n) = n ∷ down n
 
 module _ {J : Type 0} where
   -- the first seat, from which n others were split off that it hasn't taken in again
-  pub record Leads (n : ℕ) (v : View J) : Type 0 where
+  pub record IsFirst (n : ℕ) (v : View J) : Type 0 where
     pub first : v.first ≡ true
     pub out : v.out ≡ down n
 
   -- the seat that was split off after n others
-  pub record Follows (n : ℕ) (v : View J) : Type 0 where
+  pub record IsOther (n : ℕ) (v : View J) : Type 0 where
     pub later : v.first ≡ false
     pub number : v.number ≡ n
 
   -- the seats in the order in which they were split off, and the first one at the end
   pub record IsNumbered (seats : List (BoardSeat J)) : Type 0 where
     pub others : (k : ℕ) (d : BoardSeat J) → k + 1 < length seats
-        → Follows k (view (slice_index_or seats k d))
+        → IsOther k (view (slice_index_or seats k d))
     pub last : (d : BoardSeat J) → 0 < length seats
-        → Leads (length seats - 1) (view (slice_index_or seats (length seats - 1) d))
+        → IsFirst (length seats - 1) (view (slice_index_or seats (length seats - 1) d))
 
 module _ {J : Type 0} (M : Meaning J) where
   -- a seat of the board that runs nothing and has nothing to finish
@@ -44,4 +44,4 @@ module _ {J : Type 0} (M : Meaning J) where
   -- the seat of a worker before and after its work
   pub record IsThrough (board : Board J) (before after : BoardSeat J) : Type 0 where
     pub done : IsDone board after
-    pub place : SamePlace (view before) (view after)
+    pub seat : SameSeat (view before) (view after)

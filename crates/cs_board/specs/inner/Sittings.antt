@@ -1,8 +1,8 @@
 -- A seat in the midst of a call.
 use Rattle.std.specs.Prelude.{◌≡◌, ◌≢◌, ℕ, ◌+◌, ◌<◌, ◌≤◌, [], Bool, true, false, cond, Option, Some, None}
 use Rattle.atomic_table.specs.declared.shared.Seat.{Seat}
-use Rattle.cs_board.specs.Board.{plan, IsViewOf, SamePlace, FoundSince}
-use Rattle.cs_board.specs.Wires.{IsNextOut, NoneIn}
+use Rattle.cs_board.specs.Board.{plan, IsViewOf, SameSeat, FoundSince}
+use Rattle.cs_board.specs.inner.Wires.{IsNextOut, NoneIn}
 use Rattle.cs_board.specs.declared.board.Board.{Board}
 use Rattle.cs_cells.specs.Meaning.{Meaning}
 use Rattle.cs_graph.specs.Graph.{Edge}
@@ -18,8 +18,8 @@ deed_in None = record { note = 0; phase = 0; held = false; image = [] }
 deed_in (Some d) = d
 
 -- the job is out of its slot
-abbrev pub out : Doing → Doing
-out d = record d { held = true }
+abbrev pub job_out : Doing → Doing
+job_out d = record d { held = true }
 
 module _ {J : Type 0} where
   -- what the view does, where it does a note
@@ -28,19 +28,19 @@ module _ {J : Type 0} where
 
   -- the note is being closed, and this is its next edge
   abbrev pub ClosesAt : Plan J → View J → ℕ → ℕ → Type 0
-  ClosesAt k v note e = (i : ℕ) × (v.closing ≡ Some (record { note = note; place = i })) × IsNextOut k.edges note i e
+  ClosesAt k v note e = (i : ℕ) × (v.closing ≡ Some (record { note = note; from = i })) × IsNextOut k.edges note i e
 
   -- the note is being moved, and this is its next edge
   pub record MovesAt (k : Plan J) (v : View J) (note e : ℕ) : Type 0 where
     pub from : ℕ
-    pub moving : v.moving ≡ Some (record { note = note; place = from })
+    pub moving : v.moving ≡ Some (record { note = note; from = from })
     pub low : from ≤ e
     pub edge : (q : ℕ) × Edge k.edges e q note
     pub first : (g r : ℕ) → Edge k.edges g r note → from ≤ g → e ≤ g
 
   -- the note is being moved and has passed all edges into it
   abbrev pub MovesOut : Plan J → View J → ℕ → Type 0
-  MovesOut k v note = (i : ℕ) × (v.moving ≡ Some (record { note = note; place = i })) × NoneIn k.edges note i
+  MovesOut k v note = (i : ℕ) × (v.moving ≡ Some (record { note = note; from = i })) × NoneIn k.edges note i
 
   -- it watches the edge, or has passed it
   abbrev pub stopped : Bool → View J → ℕ → ℕ → View J
@@ -52,7 +52,7 @@ module _ {J : Type 0} where
     pub tries : w.tries ≡ v.tries
     pub found : w.found ≡ v.found
     pub mine : w.mine ≡ v.mine
-    pub place : SamePlace v w
+    pub seat : SameSeat v w
 
   -- what tries change: notes are found, and no note is owed that wasn't
   pub record Tries (v w : View J) : Type 0 where
@@ -60,7 +60,7 @@ module _ {J : Type 0} where
     pub found : (tries t : ℕ) → FoundSince tries v t → FoundSince tries w t
     pub owes : (t : ℕ) → owed t w ≤ owed t v
     pub mine : w.mine ≡ v.mine
-    pub place : SamePlace v w
+    pub seat : SameSeat v w
 
   -- each note from `from` on and below `to` was tried and found other than Available
   abbrev pub AllTried : View J → View J → ℕ → ℕ → Type 0
@@ -72,10 +72,10 @@ module _ {J : Type 0} where
 
 module _ {J : Type 0} (M : Meaning J) where
   -- a seat of this board
-  pub record IsPlaceOf (board : Board J) (place : Seat (Option J) (View J)) : Type 0 where
+  pub record IsSittingOf (board : Board J) (sitting : Seat (Option J) (View J)) : Type 0 where
     pub whole : IsPlan M (plan board)
-    pub table : place.table_id ≡ board.table.shared.table_id
-    pub knows : IsViewOf (plan board) place.me.0
+    pub table : sitting.table_id ≡ board.table.shared.table_id
+    pub knows : IsViewOf (plan board) sitting.me.0
 
   -- a try of note t that won it, or not
   abbrev pub tried : Bool → View J → ℕ → View J
@@ -86,7 +86,7 @@ module _ {J : Type 0} (M : Meaning J) where
   ran_out k t phase = record { note = t; phase = phase; held = true; image = before_at M k (t + 1) }
 
   -- note t was claimed, and nothing else is to be done
-  pub record Has (k : Plan J) (v : View J) (t : ℕ) : Type 0 where
+  pub record HasClaimed (k : Plan J) (v : View J) (t : ℕ) : Type 0 where
     pub within : t < k.notes
     pub doing : v.doing ≡ Some (fresh M k t)
     pub closing : v.closing ≡ None

@@ -1,0 +1,5 @@
+pub mod Banks
+pub mod Built
+pub mod Sittings
+pub mod Slots
+pub mod Wires
