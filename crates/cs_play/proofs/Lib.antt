@@ -1,0 +1,12 @@
+pub mod Frames
+pub mod Played
+pub mod Readings
+pub mod Saying
+pub mod Voices
+pub mod Refusals
+pub mod Heads
+pub mod Loads
+pub mod Orchestras
+pub mod Firsts
+pub mod Runs
+pub mod SixLines

@@ -1,0 +1,11 @@
+pub mod Load
+pub mod Mix
+pub mod Orchestra
+pub mod Refusal
+pub mod Run
+pub mod Sound
+pub mod Status
+pub mod Talk
+pub mod Texts
+pub mod Words
+pub mod inner
