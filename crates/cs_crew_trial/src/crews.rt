@@ -3,7 +3,7 @@ ghost use Rattle.std.specs.Prelude.{◌≡◌, ◌≤◌, length, All, Some, IfO
 ghost use Rattle.cs_cells.specs.Areas.{word_count};
 
 use cs_board::{Loaded, Receipt, Tally};
-use cs_cells::{Job, Layout};
+use cs_cells::{Area, Job, Layout};
 use cs_crew::run_cycle;
 use cs_edge::Gate;
 use cs_trial::{Foot, adding, graph_of, laid};
@@ -14,8 +14,8 @@ use std::thread::Threads;
 /// The number of the control cycle that is played.
 pub const CYCLE: u32 = 7;
 
-/// The cycle of the jobs, run by so many workers. Where there is no memory for it, where there are more than 512 jobs,
-/// or where a footprint isn't in order, the jobs come back.
+/// The cycle of the jobs, run by so many workers. Where there is no memory for it, where there are
+/// more jobs than notes may be active, or where a footprint isn't in order, the jobs come back.
 pub fn crewed<J: Job + Send, G: Gate + Sync, R: Threads + Wait + Sync>(
     rt: &R,
     alloc: Global,
@@ -44,7 +44,7 @@ pub fn after<J: Job + Drop>(played: Result<Receipt<J>, Loaded<J>>) -> Option<Loa
     }
 }
 
-/// The words that so many workers leave, who run jobs that add 1.
+/// The words that so many workers leave, who run jobs that add 1. None where the cycle wasn't run.
 pub fn add_by_crew<G: Gate + Sync, R: Threads + Wait + Sync>(
     rt: &R,
     alloc: Global,
@@ -56,9 +56,33 @@ pub fn add_by_crew<G: Gate + Sync, R: Threads + Wait + Sync>(
 ) -> Option<Vec<u64>>
     requires { (1 ≤ workers) × (workers ≤ 32) }
 {
-    let (areas, layout) = laid(alloc, lengths)?;
-    let loaded = adding(alloc, &areas, &layout, feet, before)?;
-    let Loaded { words, jobs } = after(crewed(rt, alloc, workers, &layout, loaded, gate))?;
-    drop(jobs);
-    Some(words)
+    match laid(alloc, lengths) {
+        Some((areas, layout)) => { add_on(rt, alloc, workers, &areas, &layout, feet, before, gate) }
+        None => None,
+    }
+}
+
+fn add_on<G: Gate + Sync, R: Threads + Wait + Sync>(
+    rt: &R,
+    alloc: Global,
+    workers: u32,
+    areas: &[Area],
+    layout: &Layout,
+    feet: &[Foot],
+    before: &[u64],
+    gate: &G,
+) -> Option<Vec<u64>>
+    requires workers { (1 ≤ workers) × (workers ≤ 32) }
+    requires areas { layout.now ≡ areas.now }
+{
+    let loaded = adding(alloc, areas, layout, feet, before)?;
+    words_after(crewed(rt, alloc, workers, layout, loaded, gate))
+}
+
+/// The words that a cycle left, or None where it wasn't run.
+pub fn words_after<J: Job + Drop>(played: Result<Receipt<J>, Loaded<J>>) -> Option<Vec<u64>> {
+    match after(played) {
+        Some(Loaded { words, jobs: _ }) => Some(words),
+        None => None,
+    }
 }

@@ -3,7 +3,8 @@ use crate::crews::CYCLE;
 use cs_edge::Gate;
 use std::sync::atomic::{AtomicU64, Ordering};
 
-/// Holds whichever of two notes comes first until the other has come, or for a thousand million turns.
+/// Holds whichever of two notes comes first until the other has come, or for a thousand million
+/// turns.
 #[derive(Drop)]
 pub struct Meeting {
     arrived: AtomicU64,
@@ -39,8 +40,8 @@ impl Gate for Meeting {
     }
 }
 
-/// Counts calls, and marks one that has another cycle's number, or that came when another number of notes had run than
-/// there are before the note.
+/// Counts calls, and marks one that has another cycle's number, or that came when another number of
+/// notes had run than there are before the note.
 #[derive(Drop)]
 pub struct Watcher<'t> {
     runs: &'t AtomicU64,

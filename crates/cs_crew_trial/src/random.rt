@@ -1,5 +1,5 @@
 // Random small cycles of fixed seeds, and whether a crew plays them as the fold does.
-ghost use Rattle.std.specs.Prelude.{◌≡◌, ◌<◌, ◌≤◌, length};
+ghost use Rattle.std.specs.Prelude.{◌≡◌, ◌<◌, ◌≤◌, All, IfSome, length};
 ghost use Rattle.cs_cells.specs.Areas.{word_count};
 
 use crate::crews::{after, crewed};
@@ -7,7 +7,7 @@ use cs_base::Places;
 use cs_board::Loaded;
 use cs_cells::{Area, Footprint, Layout};
 use cs_edge::OpenGate;
-use cs_trial::{Mini, Op, Part, laid, minis, play};
+use cs_trial::{Mini, Op, Part, laid, minis, play, words_of};
 use std::alloc::{AllocError, Global};
 use std::sync::Wait;
 use std::thread::Threads;
@@ -113,6 +113,50 @@ fn are_alike(notes: &[Mini<'_>], others: &[Mini<'_>]) -> bool {
     notes.len() == others.len()
 }
 
+/// The words and the notes that the fold leaves.
+fn folded<'t>(
+    alloc: Global,
+    layout: &Layout,
+    areas: &'t [Area],
+    parts: &'t [Part],
+    opening: &[u64],
+) -> Option<Loaded<Mini<'t>>>
+    requires areas { layout.now ≡ areas.now }
+    requires words { length opening.now ≡ word_count layout.now }
+{
+    let loaded = loaded_of(alloc, layout, areas, parts, opening)?;
+    let Loaded {
+        mut words,
+        mut jobs,
+    } = loaded;
+    play(layout, jobs.as_mut_slice(), &mut words);
+    Some(Loaded { words, jobs })
+}
+
+/// The notes of these parts and the words before them. None is want of memory.
+fn loaded_of<'t>(
+    alloc: Global,
+    layout: &Layout,
+    areas: &'t [Area],
+    parts: &'t [Part],
+    opening: &[u64],
+) -> Option<Loaded<Mini<'t>>>
+    requires areas { layout.now ≡ areas.now }
+    requires words { length opening.now ≡ word_count layout.now }
+    ensures words { IfSome result (λ l. length l.0 ≡ word_count layout.now) }
+    ensures areas { IfSome result (λ l. All (λ j. j.areas ≡ layout.now) l.1) }
+{
+    let words = words_of(alloc, layout, opening)?;
+    match minis(alloc, areas, parts) {
+        Ok(Some(jobs)) => Some(Loaded { words, jobs }),
+        _ => None,
+    }
+}
+
+fn same(loaded: &Loaded<Mini<'_>>, other: &Loaded<Mini<'_>>) -> bool {
+    loaded.words.as_slice() == other.words.as_slice() && are_alike(&loaded.jobs, &other.jobs)
+}
+
 /// Whether so many workers leave the words and the notes that the fold leaves.
 fn agrees<R: Threads + Wait + Sync>(
     rt: &R,
@@ -122,57 +166,96 @@ fn agrees<R: Threads + Wait + Sync>(
     areas: &[Area],
     parts: &[Part],
     opening: &[u64],
-) -> Result<bool, AllocError>
+    fold: &Loaded<Mini<'_>>,
+) -> bool
     requires workers { (1 ≤ workers) × (workers ≤ 32) }
     requires areas { layout.now ≡ areas.now }
     requires words { length opening.now ≡ word_count layout.now }
 {
-    let Some(jobs) = minis(alloc, areas, parts)? else {
-        return Ok(false);
+    let Some(loaded) = loaded_of(alloc, layout, areas, parts, opening) else {
+        return false;
     };
-    let Some(mut fold) = minis(alloc, areas, parts)? else {
-        return Ok(false);
-    };
-    let mut words = Vec::from_slice(alloc, opening)?;
-    play(layout, fold.as_mut_slice(), &mut words);
-    let loaded = Loaded {
-        words: Vec::from_slice(alloc, opening)?,
-        jobs,
-    };
-    let played = after(crewed(rt, alloc, workers, layout, loaded, &OpenGate::new()));
-    let Some(played) = played else {
-        return Ok(false);
-    };
-    Ok(played.words.as_slice() == words.as_slice() && are_alike(&played.jobs, &fold))
+    match after(crewed(rt, alloc, workers, layout, loaded, &OpenGate::new())) {
+        Some(played) => same(&played, fold),
+        None => false,
+    }
 }
 
-/// Whether crews of 1, 2, 3, 8 and 32 workers leave what the fold leaves, in the cycle of this seed.
-pub fn plays_as_fold<R: Threads + Wait + Sync>(
+/// Whether crews of 1, 2, 3, 8 and 32 workers leave what the fold leaves.
+fn all_agree<R: Threads + Wait + Sync>(
     rt: &R,
     alloc: Global,
-    seed: u64,
-) -> Result<bool, AllocError> {
-    let mut dice = Dice::new(seed);
-    let count = 1 + dice.roll(6);
-    let lengths = draw_numbers(alloc, &mut dice, count, 4)?;
-    let Some((areas, layout)) = laid(alloc, lengths.as_slice()) else {
-        return Ok(false);
+    layout: &Layout,
+    areas: &[Area],
+    parts: &[Part],
+    opening: &[u64],
+) -> bool
+    requires areas { layout.now ≡ areas.now }
+    requires words { length opening.now ≡ word_count layout.now }
+{
+    let Some(fold) = folded(alloc, layout, areas, parts, opening) else {
+        return false;
     };
-    let mut parts = Vec::new(alloc);
-    for _ in 0..dice.roll(16) {
-        parts.push(draw_part(alloc, &mut dice, areas.as_slice())?)?;
-    }
-    let mut opening = Vec::new(alloc);
-    for _ in 0..layout.words() {
-        opening.push(u64::from(dice.roll(1_000)))?;
-    }
-    if opening.len() != layout.words() as usize {
-        return Ok(false);
-    }
     for workers in [1, 2, 3, 8, 32] {
-        if !agrees(rt, alloc, workers, &layout, &areas, &parts, &opening)? {
-            return Ok(false);
+        if !agrees(rt, alloc, workers, layout, areas, parts, opening, &fold) {
+            return false;
         }
     }
-    Ok(true)
+    true
+}
+
+fn draw_parts(alloc: Global, dice: &mut Dice, areas: &[Area]) -> Result<Vec<Part>, AllocError> {
+    let mut parts = Vec::new(alloc);
+    for _ in 0..dice.roll(16) {
+        parts.push(draw_part(alloc, dice, areas)?)?;
+    }
+    Ok(parts)
+}
+
+fn draw_words(alloc: Global, dice: &mut Dice, count: u32) -> Result<Vec<u64>, AllocError> {
+    let mut words = Vec::new(alloc);
+    for _ in 0..count {
+        words.push(u64::from(dice.roll(1_000)))?;
+    }
+    Ok(words)
+}
+
+fn plays_on<R: Threads + Wait + Sync>(
+    rt: &R,
+    alloc: Global,
+    dice: &mut Dice,
+    areas: &[Area],
+    layout: &Layout,
+) -> bool
+    requires { layout.now ≡ areas.now }
+{
+    let (Ok(parts), Ok(opening)) = (
+        draw_parts(alloc, dice, areas),
+        draw_words(alloc, dice, layout.words()),
+    ) else {
+        return false;
+    };
+    opening.len() == layout.words() as usize
+        && all_agree(rt, alloc, layout, areas, &parts, &opening)
+}
+
+/// Areas of one to six resources, and their layout.
+fn draw_layout(alloc: Global, dice: &mut Dice) -> Option<(Vec<Area>, Layout)>
+    ensures { IfSome result (λ l. l.1 ≡ l.0.items) }
+{
+    let count = 1 + dice.roll(6);
+    match draw_numbers(alloc, dice, count, 4) {
+        Ok(lengths) => laid(alloc, lengths.as_slice()),
+        Err(_) => None,
+    }
+}
+
+/// Whether crews of 1, 2, 3, 8 and 32 workers leave what the fold leaves, in the cycle of this
+/// seed.
+pub fn plays_as_fold<R: Threads + Wait + Sync>(rt: &R, alloc: Global, seed: u64) -> bool {
+    let mut dice = Dice::new(seed);
+    match draw_layout(alloc, &mut dice) {
+        Some((areas, layout)) => plays_on(rt, alloc, &mut dice, &areas, &layout),
+        None => false,
+    }
 }

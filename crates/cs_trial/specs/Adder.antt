@@ -36,7 +36,7 @@ adding = record {
   foot = λ j. j.foot;
   after = λ j c. j;
   leaves = λ j c. add_all j.addrs c;
-  sound = IsAdder;
+  valid = IsAdder;
 }
 
 length-add_all : (rest : List ℕ) (c : Cells) → length (add_all rest c) ≡ length c
@@ -80,7 +80,7 @@ adding_frames = record {
   cells = λ j c d s same. add_all-agrees (Uses adding j) j.addrs c d (λ k a l. (s k a l).used) same;
   others = λ j c a s out. add_all-others (Writes adding j) j.addrs c a (λ k a l. (s k a l).written) out;
   long = λ j c. length-add_all j.addrs c;
-  sound_after = λ j c s. s;
+  valid_after = λ j c s. s;
   foot_after = λ j c. refl;
   areas_after = λ j c. refl;
 }

@@ -42,7 +42,7 @@ small = record {
   foot = λ j. j.foot;
   after = λ j c. record j { regs = (steps j.ops (j.regs, c)).0 };
   leaves = λ j c. (steps j.ops (j.regs, c)).1;
-  sound = IsSmall;
+  valid = IsSmall;
 }
 
 -- what one op needs of a bank and of the registers

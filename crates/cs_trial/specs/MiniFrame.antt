@@ -68,7 +68,7 @@ small_frames = record {
   cells = λ j c d s same. (steps_alike j j.ops (j.regs, c) (j.regs, d) s (record { regs = refl; cells = same })).cells;
   others = λ j c a s out. steps-others j j.ops (j.regs, c) a s out;
   long = λ j c. (steps-long j.ops (j.regs, c)).1;
-  sound_after = λ j c s. small_still j (steps j.ops (j.regs, c)).0 (steps-long j.ops (j.regs, c)).0 s;
+  valid_after = λ j c s. small_still j (steps j.ops (j.regs, c)).0 (steps-long j.ops (j.regs, c)).0 s;
   foot_after = λ j c. refl;
   areas_after = λ j c. refl;
 }

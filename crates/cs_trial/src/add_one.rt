@@ -23,12 +23,13 @@ impl<'t> Model for AddOne<'t> {
 
     ghost view = { λ j. record { areas = j.areas.now; foot = j.foot; addrs = j.addrs.items } };
 
-    ghost invariant = { λ j. IsAdder record { areas = j.areas.now; foot = j.foot; addrs = j.addrs.items } };
+    ghost invariant = { λ j. IsAdder record
+        { areas = j.areas.now; foot = j.foot; addrs = j.addrs.items } };
 }
 
 impl<'t> AddOne<'t> {
-    /// A job on the resources that the footprint writes, or None where an area of them has a cell that the
-    /// footprint doesn't use or that lies past the greatest address.
+    /// A job on the resources that the footprint writes, or None where an area of them has a cell
+    /// that the footprint doesn't use or that lies past the greatest address.
     pub fn new(
         alloc: Global,
         areas: &'t [Area],
@@ -79,7 +80,8 @@ impl<'t> Job for AddOne<'t> {
 fn add_one<B: Bank>(bank: &mut B, addr: u32)
     requires get { B.can_get (B.rest bank.old) addr }
     requires set { B.can_set (B.rest bank.old) addr }
-    ensures cells { B.cells bank.new ≡ slice_set (B.cells bank.old) addr (more (cell (B.cells bank.old) addr)) }
+    ensures cells { B.cells bank.new
+        ≡ slice_set (B.cells bank.old) addr (more (cell (B.cells bank.old) addr)) }
     ensures rest { B.rest bank.new ≡ B.rest bank.old }
 {
     let value = bank.get(addr);

@@ -1,13 +1,19 @@
-// What no clause of a board says: that notes are given out, by which seat and after how many tries; and its rows.
+// What no clause of a board says: that notes are given out, by which seat and after how many tries;
+// and its rows.
 ghost use Rattle.std.specs.Prelude.{◌≡◌};
+ghost use Rattle.cs_board.specs.Board.{plan, view, IsSeatOf};
+ghost use Rattle.cs_rule.specs.Views.{opening_view};
 
 use crate::{Foot, Phase, Players, adding, laid, opened, play_alone, play_out, single};
-use cs_board::{Loaded, Tally};
+use cs_base::MOST_NOTES;
+use cs_board::{Board, BoardSeat, Loaded, Tally};
+use cs_cells::{Area, Job, Layout};
 use std::alloc::Global;
 use std::sync::Wait;
 use std::test::Fail;
 
-/// What a cycle left that one seat played: its notes with what each run answered, and the number of tries.
+/// What a cycle left that one seat played: its notes with what each run answered, and the number of
+/// tries.
 #[derive(Drop)]
 struct Played {
     log: Vec<(u32, u64)>,
@@ -16,7 +22,47 @@ struct Played {
     counted: (u64, u64),
 }
 
+// What one seat leaves that plays a board.
+fn finished<J: Job + Drop, R: Wait>(
+    rt: &R,
+    alloc: Global,
+    board: Board<J>,
+    seat: BoardSeat<J>,
+) -> Played
+    requires seat { IsSeatOf J.means board seat }
+    requires opens { view seat ≡ opening_view (plan board) }
+{
+    let mut log = Vec::new(alloc);
+    let (receipt, tries) = play_alone(rt, board, seat, &mut log);
+    let mut tally = Tally::new();
+    let Loaded { words, jobs } = tally.add(receipt);
+    drop(jobs);
+    Played {
+        log,
+        tries,
+        words,
+        counted: (tally.cycles(), tally.notes()),
+    }
+}
+
 // None where there is no board for the jobs.
+fn play_on<R: Wait>(
+    rt: &R,
+    alloc: Global,
+    areas: &[Area],
+    layout: &Layout,
+    feet: &[Foot],
+    before: &[u64],
+) -> Option<Played>
+    requires { layout.now ≡ areas.now }
+{
+    let loaded = adding(alloc, areas, layout, feet, before)?;
+    match opened(alloc, layout, loaded) {
+        Ok((board, seat)) => Some(finished(rt, alloc, board, seat)),
+        Err(_) => None,
+    }
+}
+
 fn play_one<R: Wait>(
     rt: &R,
     alloc: Global,
@@ -24,25 +70,14 @@ fn play_one<R: Wait>(
     feet: &[Foot],
     before: &[u64],
 ) -> Option<Played> {
-    let (areas, layout) = laid(alloc, lengths)?;
-    let loaded = adding(alloc, &areas, &layout, feet, before)?;
-    let Ok((board, seat)) = opened(alloc, &layout, loaded) else {
-        return None;
-    };
-    let mut log = Vec::new(alloc);
-    let (receipt, tries) = play_alone(rt, board, seat, &mut log);
-    let mut tally = Tally::new();
-    let Loaded { words, jobs } = tally.add(receipt);
-    drop(jobs);
-    Some(Played {
-        log,
-        tries,
-        words,
-        counted: (tally.cycles(), tally.notes()),
-    })
+    match laid(alloc, lengths) {
+        Some((areas, layout)) => play_on(rt, alloc, &areas, &layout, feet, before),
+        None => None,
+    }
 }
 
-/// Areas' lengths, footprints and words of a cycle; and its notes with what each run answers, and the words after it.
+/// Areas' lengths, footprints and words of a cycle; and its notes with what each run answers, and
+/// the words after it.
 type Row = (
     &'static [u32],
     &'static [Foot<'static>],
@@ -70,56 +105,108 @@ const ROWS: [Row; 3] = [
     ),
 ];
 
+// Whether a cycle's notes are logged so, and leave these words.
+fn plays<R: Wait>(rt: &R, alloc: Global, row: Row) -> bool {
+    let (lengths, feet, before, log, after) = row;
+    match play_one(rt, alloc, lengths, feet, before) {
+        Some(played) => {
+            played.log.as_slice() == log
+                && played.words.as_slice() == after
+                && played.counted == (1, log.len() as u64)
+        }
+        None => false,
+    }
+}
+
 #[test]
 fn one_seat(rt: HostRuntime) -> Result<(), Fail> {
-    for (lengths, feet, before, log, after) in ROWS {
-        let played = play_one(&rt, rt.alloc(), lengths, feet, before).expect(&rt, "a board");
-        assert_eq!(rt; played.log.as_slice(), log);
-        assert_eq!(rt; played.words.as_slice(), after);
-        assert_eq!(rt; played.counted, (1, log.len() as u64));
+    for row in ROWS {
+        assert!(rt; plays(&rt, rt.alloc(), row), "{} notes", row.1.len());
     }
     Ok(())
+}
+
+// The first and the last word that notes leave, one on each of these places, and the number of
+// tries.
+fn ends<R: Wait>(rt: &R, alloc: Global, places: &[u32]) -> Option<(Option<u64>, Option<u64>, u64)> {
+    match single(alloc, places) {
+        Ok(feet) => ends_of(rt, alloc, &feet),
+        Err(_) => None,
+    }
+}
+
+fn ends_of<R: Wait>(
+    rt: &R,
+    alloc: Global,
+    feet: &[Foot],
+) -> Option<(Option<u64>, Option<u64>, u64)> {
+    match play_one(rt, alloc, &[1; MOST_NOTES], feet, &[0; MOST_NOTES]) {
+        Some(played) => Some((
+            played.words.first().copied(),
+            played.words.last().copied(),
+            played.tries,
+        )),
+        None => None,
+    }
 }
 
 // 512 notes that wait for none, and 512 in a chain: at most two tries a note.
 #[test]
 fn one_seat_of_512(rt: HostRuntime) -> Result<(), Fail> {
-    let alloc = rt.alloc();
-    let lengths = vec![in alloc; 1; 512]?;
-    let before = vec![in alloc; 0; 512]?;
-    let apart: Vec<u32> = (0..512).collect(alloc)?;
-    let chain = vec![in alloc; 0; 512]?;
-    for (places, first, last) in [(&apart, 1, 1), (&chain, 512, 0)] {
-        let feet = single(alloc, places)?;
-        let played = play_one(&rt, alloc, &lengths, &feet, &before).expect(&rt, "a board");
-        assert_eq!(rt; played.words.first(), Some(&first));
-        assert_eq!(rt; played.words.last(), Some(&last));
-        assert!(rt; played.tries <= 1_024, "{} tries", played.tries);
+    let apart: Vec<u32> = (0..512).collect(rt.alloc())?;
+    for (places, first, last) in [(apart.as_slice(), 1, 1), (&[0; MOST_NOTES], 512, 0)] {
+        let (begin, end, tries) = ends(&rt, rt.alloc(), places).expect(&rt, "a board");
+        assert_eq!(rt; (begin, end), (Some(first), Some(last)));
+        assert!(rt; tries <= 1_024, "{tries} tries");
     }
     Ok(())
 }
 
-// Whether two seats that make these calls are then so far as is said. One resource of one cell.
-fn play_calls<R: Wait>(
+// Whether two seats that make these calls are then so far as is said.
+fn calls_are<J: Job + Drop, R: Wait>(
     rt: &R,
-    alloc: Global,
-    feet: &[Foot],
+    board: Board<J>,
+    seat: BoardSeat<J>,
     calls: &[(bool, Phase)],
-) -> Option<bool> {
-    let (areas, layout) = laid(alloc, &[1])?;
-    let loaded = adding(alloc, &areas, &layout, feet, &[0])?;
-    let Ok((board, seat)) = opened(alloc, &layout, loaded) else {
-        return None;
-    };
+) -> bool
+    requires seat { IsSeatOf J.means board seat }
+    requires opens { view seat ≡ opening_view (plan board) }
+{
     let mut players = Players::seated(&board, seat);
     let mut right = true;
     for (second, phase) in calls {
         players.turn(&board, *second);
         right = right && players.phase(*second) == *phase;
     }
-    let receipt = play_out(rt, board, players);
-    Tally::new().add(receipt);
-    Some(right)
+    Tally::new().add(play_out(rt, board, players));
+    right
+}
+
+// The same of a board for these notes, on one resource of one cell.
+fn calls_on<R: Wait>(
+    rt: &R,
+    alloc: Global,
+    areas: &[Area],
+    layout: &Layout,
+    feet: &[Foot],
+    calls: &[(bool, Phase)],
+) -> bool
+    requires { layout.now ≡ areas.now }
+{
+    let Some(loaded) = adding(alloc, areas, layout, feet, &[0]) else {
+        return false;
+    };
+    match opened(alloc, layout, loaded) {
+        Ok((board, seat)) => calls_are(rt, board, seat, calls),
+        Err(_) => false,
+    }
+}
+
+fn play_calls<R: Wait>(rt: &R, alloc: Global, feet: &[Foot], calls: &[(bool, Phase)]) -> bool {
+    match laid(alloc, &[1]) {
+        Some((areas, layout)) => calls_on(rt, alloc, &areas, &layout, feet, calls),
+        None => false,
+    }
 }
 
 /// One note before another: whose call comes next, and how far that seat is afterwards.
@@ -143,7 +230,7 @@ const FORK: [(bool, Phase); 5] = [
 #[test]
 fn two_seats(rt: HostRuntime) -> Result<(), Fail> {
     let feet: [Foot; 3] = [(&[0], &[0]), (&[0], &[]), (&[0], &[])];
-    assert_eq!(rt; play_calls(&rt, rt.alloc(), &feet[..2], &CHAIN), Some(true));
-    assert_eq!(rt; play_calls(&rt, rt.alloc(), &feet, &FORK), Some(true));
+    assert!(rt; play_calls(&rt, rt.alloc(), &feet[..2], &CHAIN));
+    assert!(rt; play_calls(&rt, rt.alloc(), &feet, &FORK));
     Ok(())
 }

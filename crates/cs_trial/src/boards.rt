@@ -8,14 +8,14 @@ ghost use Rattle.cs_graph.specs.Graph.{IsFit};
 ghost use Rattle.cs_rule.specs.Plans.{IsFootprint};
 ghost use Rattle.cs_rule.specs.Views.{opening_view};
 
-use cs_base::Items;
+use cs_base::{Items, MOST_NOTES};
 use cs_board::{Board, BoardSeat, Loaded};
 use cs_cells::{Feet, Footprint, Job, Layout};
 use cs_graph::Graph;
 use std::alloc::{AllocError, Global};
 
-/// The board of the jobs and its first seat. Where there is no memory for it, where there are more than 512 jobs, or
-/// where a footprint isn't in order, the jobs come back.
+/// The board of the jobs and its first seat. Where there is no memory for it, where there are more
+/// jobs than notes may be active, or where a footprint isn't in order, the jobs come back.
 pub fn opened<J: Job>(
     alloc: Global,
     layout: &Layout,
@@ -23,7 +23,8 @@ pub fn opened<J: Job>(
 ) -> Result<(Board<J>, BoardSeat<J>), Loaded<J>>
     requires words { length loaded.0 ≡ word_count layout.now }
     requires areas { All (λ j. J.means.areas j ≡ layout.now) loaded.1 }
-    ensures seat { IfOk result (λ b. IsSeatOf J.means b.0 b.1 × (view b.1 ≡ opening_view (plan b.0))) }
+    ensures seat { IfOk result (λ b. IsSeatOf J.means b.0 b.1 × (view b.1
+        ≡ opening_view (plan b.0))) }
     ensures back { IfErr result (λ l. l ≡ loaded) }
 {
     let Some(graph) = graph_of(alloc, layout, &loaded.jobs) else {
@@ -32,18 +33,19 @@ pub fn opened<J: Job>(
     Board::new(alloc, &graph, layout, loaded)
 }
 
-/// The graph of the jobs' footprints. None where there is no memory for it, where there are more than 512 jobs, or
-/// where a footprint isn't in order.
+/// The graph of the jobs' footprints. None where there is no memory for it, where there are more
+/// jobs than notes may be active, or where a footprint isn't in order.
 pub fn graph_of<J: Job>(alloc: Global, layout: &Layout, jobs: &[J]) -> Option<Graph>
     ensures notes { IfSome result (λ g. length g.levels ≡ length jobs.now) }
     ensures fit { IfSome result (λ g. IsFit (map J.means.foot jobs.now) g.edges) }
-    ensures orderly { IsSome result → All (λ j. IsFootprint (length layout.now) (J.means.foot j)) jobs.now }
+    ensures orderly { IsSome result
+        → All (λ j. IsFootprint (length layout.now) (J.means.foot j)) jobs.now }
 {
     if !are_orderly(jobs, layout.len()) {
         return None;
     }
     let feet = feet_of(alloc, jobs).ok()?;
-    if feet.len() > 512 {
+    if feet.len() > MOST_NOTES {
         return None;
     }
     Graph::build(alloc, &feet).ok()

@@ -47,7 +47,8 @@ pub fn areas_of(alloc: Global, lengths: &[u32]) -> Result<Option<Vec<Area>>, All
     Ok(Some(areas))
 }
 
-/// Areas of these lengths, and their layout. None where there is no memory, or where they pass a limit.
+/// Areas of these lengths, and their layout. None where there is no memory, or where they pass a
+/// limit.
 pub fn laid(alloc: Global, lengths: &[u32]) -> Option<(Vec<Area>, Layout)>
     ensures { IfSome result (λ l. l.1 ≡ l.0.items) }
 {
@@ -87,8 +88,8 @@ pub fn adders<'t>(
     Ok(Some(jobs))
 }
 
-/// Jobs that add 1, one for each footprint, and the words before them. None where there is no memory, or where there
-/// are not as many words as the layout's.
+/// Jobs that add 1, one for each footprint, and the words before them. None where there is no
+/// memory, or where there are not as many words as the layout's.
 pub fn adding<'t>(
     alloc: Global,
     areas: &'t [Area],
@@ -107,7 +108,8 @@ pub fn adding<'t>(
     Some(Loaded { words, jobs })
 }
 
-/// A copy of these words. None where there is no memory, or where there are not as many as the layout's.
+/// A copy of these words. None where there is no memory, or where there are not as many as the
+/// layout's.
 pub fn words_of(alloc: Global, layout: &Layout, before: &[u64]) -> Option<Vec<u64>>
     ensures { IfSome result (λ v. length v.items ≡ word_count layout.now) }
 {

@@ -1,12 +1,14 @@
-//! Small jobs on which cells and dispatch are tried, what a trial is set up with, and the trials of the board.
-//! Nothing of the product stands on this crate.
+//! Small jobs on which cells and dispatch are tried, what a trial is set up with, and the trials of
+//! the board. Nothing of the product stands on this crate.
 //!
-//! The one contract: jobs of two kinds meet `Job` of cs_cells, one that adds 1 to each cell that it writes
-//! (`AddOne`) and one with registers and shared code (`Mini`), and `opened` gives any jobs a board.
+//! The one contract: jobs of two kinds meet `Job` of cs_cells, one that adds 1 to each cell that it
+//! writes (`AddOne`) and one with registers and shared code (`Mini`), and `opened` gives any jobs a
+//! board.
 //!
-//! Which graphs and orders the tests try may change without anyone above noticing. In reading order: `covers`,
-//! `add_one`, `mini`, `parts`, `fixtures`, `boards`, `players`; then the tests: `tests` (cells), `board_tests` (the
-//! rows of a board), `order_tests` (small graphs by every order of two seats' calls).
+//! Which graphs and orders the tests try may change without anyone above noticing. In reading
+//! order: `covers`, `add_one`, `mini`, `parts`, `fixtures`, `boards`, `players`; then the tests:
+//! `tests` (cells), `graph_tests`, `board_tests` (the rows of a board), `order_tests` (small graphs
+//! by every order of two seats' calls).
 #![tactic(auto)]
 
 mod add_one;
@@ -26,6 +28,8 @@ pub use players::{Phase, Players, play_alone, play_out, play_two, step};
 
 #[cfg(test)]
 mod board_tests;
+#[cfg(test)]
+mod graph_tests;
 #[cfg(test)]
 mod order_tests;
 #[cfg(test)]

@@ -30,19 +30,21 @@ impl<'t> Model for Mini<'t> {
 
     ghost view = { λ j. record { areas = j.areas.now; foot = j.foot.now; ops = j.ops.now; regs = j.regs.items } };
 
-    ghost invariant = { λ j. IsSmall record { areas = j.areas.now; foot = j.foot.now; ops = j.ops.now; regs = j.regs.items } };
+    ghost invariant = { λ j. IsSmall record
+        { areas = j.areas.now; foot = j.foot.now; ops = j.ops.now; regs = j.regs.items } };
 }
 
 impl<'t> Mini<'t> {
-    /// A note with these registers, or None where an op names a register that isn't there, or a cell that the
-    /// footprint doesn't let it read or write.
+    /// A note with these registers, or None where an op names a register that isn't there, or a
+    /// cell that the footprint doesn't let it read or write.
     pub fn new(
         areas: &'t [Area],
         foot: &'t Footprint,
         ops: &'t [Op],
         regs: Vec<i64>,
     ) -> Option<Mini<'t>>
-        ensures { IfSome result (λ j. (j.areas ≡ areas.now) × (j.foot ≡ foot.now) × (j.ops ≡ ops.now) × (j.regs ≡ regs.items)) }
+        ensures { IfSome result (λ j. (j.areas ≡ areas.now) × (j.foot ≡ foot.now) × (j.ops
+            ≡ ops.now) × (j.regs ≡ regs.items)) }
     {
         for op in ops {
             if !fits(areas, foot, regs.len(), *op) {
@@ -100,7 +102,8 @@ impl<'t> Job for Mini<'t> {
 }
 
 fn run_op<B: Bank>(op: Op, regs: &mut Vec<i64>, bank: &mut B)
-    requires { MayDo (B.can_get (B.rest bank.old)) (B.can_set (B.rest bank.old)) (length regs.old.items) op }
+    requires { MayDo (B.can_get (B.rest bank.old)) (B.can_set (B.rest bank.old))
+        (length regs.old.items) op }
     ensures regs { regs.new.items ≡ (step op (regs.old.items, B.cells bank.old)).0 }
     ensures cells { B.cells bank.new ≡ (step op (regs.old.items, B.cells bank.old)).1 }
     ensures rest { B.rest bank.new ≡ B.rest bank.old }

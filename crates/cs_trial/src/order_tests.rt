@@ -1,14 +1,19 @@
-// All small graphs, by every order of the calls of two seats: each leaves what the serial run leaves.
-ghost use Rattle.std.specs.Prelude.{◌≡◌};
+// All small graphs, by every order of the calls of two seats: each leaves what the serial run
+// leaves.
+ghost use Rattle.std.specs.Prelude.{◌≡◌, All, IfSome, length};
+ghost use Rattle.cs_board.specs.Board.{plan, view, IsSeatOf};
+ghost use Rattle.cs_cells.specs.Areas.{word_count};
+ghost use Rattle.cs_rule.specs.Views.{opening_view};
 
-use crate::{Op, Part, foot, laid, minis, opened, play_two, words_of};
-use cs_board::{Loaded, Tally};
-use cs_cells::{Area, Layout};
+use crate::{Mini, Op, Part, foot, laid, minis, opened, play_two, words_of};
+use cs_board::{Board, BoardSeat, Loaded, Tally};
+use cs_cells::{Area, Job, Layout};
 use std::alloc::{AllocError, Global};
 use std::sync::Wait;
 use std::test::Fail;
 
-/// The pairs of four notes, each with the place of its own resource, where the second waits for the first.
+/// The pairs of four notes, each with the place of its own resource, where the second waits for the
+/// first.
 const PAIRS: [(u32, u32, u32); 6] = [
     (0, 0, 1),
     (1, 0, 2),
@@ -54,7 +59,8 @@ fn parts_of(alloc: Global, notes: u32, pairs: u32) -> Result<Vec<Part>, AllocErr
     Ok(parts)
 }
 
-// What the serial run leaves: the later note's number in each pair's resource, and each note's in its own.
+// What the serial run leaves: the later note's number in each pair's resource, and each note's in
+// its own.
 fn serial_words(alloc: Global, notes: u32, pairs: u32) -> Result<Vec<u64>, AllocError> {
     let mut words = Vec::new(alloc);
     let mut left = pairs;
@@ -72,53 +78,95 @@ fn serial_words(alloc: Global, notes: u32, pairs: u32) -> Result<Vec<u64>, Alloc
     Ok(words)
 }
 
-// What the notes leave by one order of calls.
-fn play_small<R: Wait>(
+// Whether the notes leave these words by one order of calls.
+fn leaves<J: Job + Drop, R: Wait>(
+    rt: &R,
+    board: Board<J>,
+    seat: BoardSeat<J>,
+    order: u32,
+    serial: &[u64],
+) -> bool
+    requires seat { IsSeatOf J.means board seat }
+    requires opens { view seat ≡ opening_view (plan board) }
+{
+    let receipt = play_two(rt, board, seat, order);
+    let Loaded { words, jobs } = Tally::new().add(receipt);
+    drop(jobs);
+    words.as_slice() == serial
+}
+
+fn loaded_of<'t>(
+    alloc: Global,
+    layout: &Layout,
+    areas: &'t [Area],
+    parts: &'t [Part],
+) -> Option<Loaded<Mini<'t>>>
+    requires { layout.now ≡ areas.now }
+    ensures words { IfSome result (λ l. length l.0 ≡ word_count layout.now) }
+    ensures areas { IfSome result (λ l. All (λ j. j.areas ≡ layout.now) l.1) }
+{
+    let words = words_of(alloc, layout, &[0; 10])?;
+    match minis(alloc, areas, parts) {
+        Ok(Some(jobs)) => Some(Loaded { words, jobs }),
+        _ => None,
+    }
+}
+
+fn is_serial_by<R: Wait>(
     rt: &R,
     alloc: Global,
     layout: &Layout,
     areas: &[Area],
     parts: &[Part],
     order: u32,
-) -> Option<Vec<u64>>
+    serial: &[u64],
+) -> bool
     requires { layout.now ≡ areas.now }
 {
-    let Ok(Some(jobs)) = minis(alloc, areas, parts) else {
-        return None;
+    let Some(loaded) = loaded_of(alloc, layout, areas, parts) else {
+        return false;
     };
-    let words = words_of(alloc, layout, &[0; 10])?;
-    let Ok((board, seat)) = opened(alloc, layout, Loaded { words, jobs }) else {
-        return None;
-    };
-    let receipt = play_two(rt, board, seat, order);
-    let Loaded { words, jobs } = Tally::new().add(receipt);
-    drop(jobs);
-    Some(words)
+    match opened(alloc, layout, loaded) {
+        Ok((board, seat)) => leaves(rt, board, seat, order, serial),
+        Err(_) => false,
+    }
 }
 
 // Whether each of these orders of calls leaves what the serial run leaves.
-fn is_serial<R: Wait>(
+fn are_serial<R: Wait>(
     rt: &R,
     alloc: Global,
-    notes: u32,
-    pairs: u32,
+    layout: &Layout,
+    areas: &[Area],
+    parts: &[Part],
     orders: u32,
-) -> Result<bool, AllocError> {
-    let Some((areas, layout)) = laid(alloc, &[1; 10]) else {
-        return Ok(false);
-    };
-    let parts = parts_of(alloc, notes, pairs)?;
-    let serial = serial_words(alloc, notes, pairs)?;
+    serial: &[u64],
+) -> bool
+    requires { layout.now ≡ areas.now }
+{
     for order in 0..orders {
-        let played = play_small(rt, alloc, &layout, &areas, &parts, order);
-        if !matches!(&played, Some(words) if words.as_slice() == serial.as_slice()) {
-            return Ok(false);
+        if !is_serial_by(rt, alloc, layout, areas, parts, order, serial) {
+            return false;
         }
     }
-    Ok(true)
+    true
 }
 
-// All graphs of up to four notes, by every order of the claims, runs and finishes that the notes need.
+fn is_serial<R: Wait>(rt: &R, alloc: Global, notes: u32, pairs: u32, orders: u32) -> bool {
+    let (Ok(parts), Ok(serial)) = (
+        parts_of(alloc, notes, pairs),
+        serial_words(alloc, notes, pairs),
+    ) else {
+        return false;
+    };
+    match laid(alloc, &[1; 10]) {
+        Some((areas, layout)) => are_serial(rt, alloc, &layout, &areas, &parts, orders, &serial),
+        None => false,
+    }
+}
+
+// All graphs of up to four notes, by every order of the claims, runs and finishes that the notes
+// need.
 #[test]
 fn small_graphs_by_every_order(rt: HostRuntime) -> Result<(), Fail> {
     for (notes, graphs, orders) in [
@@ -129,7 +177,7 @@ fn small_graphs_by_every_order(rt: HostRuntime) -> Result<(), Fail> {
         (4, 64, 4_096),
     ] {
         for pairs in 0..graphs {
-            let right = is_serial(&rt, rt.alloc(), notes, pairs, orders)?;
+            let right = is_serial(&rt, rt.alloc(), notes, pairs, orders);
             assert!(rt; right, "{notes} notes, pairs {pairs}");
         }
     }

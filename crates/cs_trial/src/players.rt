@@ -1,6 +1,6 @@
 // One seat or two that play a cycle, call by call.
 ghost use Rattle.std.specs.Prelude.{◌≡◌, [], ◌∷◌, true, false};
-ghost use Rattle.cs_board.specs.Board.{plan, view, IsSeatOf, IsIdle, SamePlace};
+ghost use Rattle.cs_board.specs.Board.{plan, view, IsSeatOf, IsIdle, SameSeat};
 ghost use Rattle.cs_rule.specs.Views.{opening_view};
 ghost use Rattle.cs_trial.specs.Playing.{Stands, ArePlaying};
 ghost use Rattle.cs_trial.specs.declared.players.Phase.TheVariants as phase_is;
@@ -10,7 +10,8 @@ use cs_board::{Board, BoardSeat, Receipt};
 use cs_cells::Job;
 use std::sync::Wait;
 
-/// How far a seat is: it may claim, it has claimed this note, its note has run, or its last claim answered None.
+/// How far a seat is: it may claim, it has claimed this note, its note has run, or its last claim
+/// answered None.
 #[derive(Clone, Copy, Debug, PartialEq, Eq)]
 pub enum Phase {
     Free,
@@ -33,7 +34,7 @@ fn claimed<J: Job>(board: &Board<J>, seat: &mut BoardSeat<J>) -> Phase
     requires idle { IsIdle (view seat.old) }
     ensures seat { IsSeatOf J.means board.now seat.new }
     ensures stands { Stands J.means result (view seat.new) }
-    ensures same { SamePlace (view seat.old) (view seat.new) }
+    ensures same { SameSeat (view seat.old) (view seat.new) }
 {
     match board.claim(seat, &mut Steps::new()) {
         Some(note) => Phase::Claimed(note),
@@ -47,7 +48,7 @@ pub fn step<J: Job>(board: &Board<J>, seat: &mut BoardSeat<J>, phase: Phase) -> 
     requires stands { Stands J.means phase (view seat.old) }
     ensures seat { IsSeatOf J.means board.now seat.new }
     ensures stands { Stands J.means result (view seat.new) }
-    ensures same { SamePlace (view seat.old) (view seat.new) }
+    ensures same { SameSeat (view seat.old) (view seat.new) }
 {
     match phase {
         Phase::Free => claimed(board, seat),
@@ -124,9 +125,9 @@ impl<J: Job> Players<J> {
     }
 }
 
-/// Both seats play to the end. The lowest twelve bits of `order` say whose call comes next, 1 for the second seat;
-/// a seat that finds no note to claim passes on to the other. So twelve bits say each order of the calls of four notes,
-/// of which each is claimed, run and finished.
+/// Both seats play to the end. The lowest twelve bits of `order` say whose call comes next, 1 for
+/// the second seat; a seat that finds no note to claim passes on to the other. So twelve bits say
+/// each order of the calls of four notes, of which each is claimed, run and finished.
 pub fn play_two<J: Job, R: Wait>(
     rt: &R,
     board: Board<J>,
@@ -159,8 +160,8 @@ pub fn play_out<J: Job, R: Wait>(rt: &R, board: Board<J>, mut players: Players<J
     unreachable!()
 }
 
-/// One seat plays to the end. `log` gets each note with what its run answered, as far as there is memory; the number
-/// of tries comes back with the receipt.
+/// One seat plays to the end. `log` gets each note with what its run answered, as far as there is
+/// memory; the number of tries comes back with the receipt.
 pub fn play_alone<J: Job, R: Wait>(
     rt: &R,
     board: Board<J>,

@@ -1,0 +1,119 @@
+// The case that is being made.
+use crate::line::{Object, Piece, Shown};
+use crate::text::add_piece;
+use std::alloc::{AllocError, Global};
+
+/// What a line of text is added to.
+#[derive(Clone, Copy)]
+enum Filling {
+    Orchestra,
+    Score,
+    Words,
+}
+
+/// What holds for one case alone; a call's number is 0 where none fails.
+#[derive(Clone, Copy)]
+pub struct Once {
+    pub shelf_fails: u32,
+    pub wav_fails: u32,
+    pub talk_fails: u32,
+    pub wav_room: u32,
+    pub talk_room: u32,
+    pub has_words: bool,
+    pub hex: bool,
+    pub calls: bool,
+    pub twice: bool,
+}
+
+impl Once {
+    fn new() -> Once {
+        Once {
+            shelf_fails: 0,
+            wav_fails: 0,
+            talk_fails: 0,
+            wav_room: u32::MAX,
+            talk_room: u32::MAX,
+            has_words: false,
+            hex: false,
+            calls: false,
+            twice: false,
+        }
+    }
+
+    pub fn fail(&mut self, object: Object, call: u32) {
+        match object {
+            Object::Shelf => self.shelf_fails = call,
+            Object::Wav => self.wav_fails = call,
+            Object::Talk => self.talk_fails = call,
+        }
+    }
+
+    /// A shelf gives all that it is asked for.
+    pub fn limit(&mut self, object: Object, most: u32) {
+        match object {
+            Object::Shelf => {}
+            Object::Wav => self.wav_room = most,
+            Object::Talk => self.talk_room = most,
+        }
+    }
+
+    pub fn show(&mut self, what: Shown) {
+        match what {
+            Shown::Hex => self.hex = true,
+            Shown::Calls => self.calls = true,
+        }
+    }
+}
+
+/// Two texts, which stay until others are begun, and what holds for the next case alone.
+#[derive(Drop)]
+pub struct Desk {
+    pub orchestra: Vec<u8>,
+    pub score: Vec<u8>,
+    /// The words, one a line.
+    pub words: Vec<u8>,
+    pub once: Once,
+    filling: Filling,
+}
+
+impl Desk {
+    pub fn new(alloc: Global) -> Desk {
+        Desk {
+            orchestra: Vec::new(alloc),
+            score: Vec::new(alloc),
+            words: Vec::new(alloc),
+            once: Once::new(),
+            filling: Filling::Orchestra,
+        }
+    }
+
+    pub fn begin_orchestra(&mut self) {
+        self.orchestra.clear();
+        self.filling = Filling::Orchestra;
+    }
+
+    pub fn begin_score(&mut self) {
+        self.score.clear();
+        self.filling = Filling::Score;
+    }
+
+    pub fn begin_words(&mut self) {
+        self.words.clear();
+        self.once.has_words = true;
+        self.filling = Filling::Words;
+    }
+
+    /// What held for the last case alone is forgotten.
+    pub fn forget(&mut self) {
+        self.once = Once::new();
+    }
+
+    /// Adds to what was begun last.
+    pub fn add(&mut self, piece: Piece<'_>) -> Result<(), AllocError> {
+        match self.filling {
+            Filling::Orchestra => add_piece(&mut self.orchestra, piece),
+            Filling::Score => add_piece(&mut self.score, piece),
+            Filling::Words => add_piece(&mut self.words, piece),
+        }
+    }
+}

@@ -1,0 +1,152 @@
+// What a line of a case file says.
+
+/// One of the three objects that a run is given.
+#[derive(Clone, Copy)]
+pub enum Object {
+    Shelf,
+    Wav,
+    Talk,
+}
+
+/// What a case's line shows besides the samples.
+#[derive(Clone, Copy)]
+pub enum Shown {
+    /// The sound file's bytes, in place of its samples.
+    Hex,
+    /// The calls made on the three objects.
+    Calls,
+}
+
+/// A text that is added so many times, with or without a line feed behind it.
+#[derive(Clone, Copy)]
+pub struct Piece<'a> {
+    pub times: u32,
+    pub text: &'a [u8],
+    pub feed: bool,
+}
+
+#[derive(Clone, Copy)]
+pub enum Line<'a> {
+    /// A comment or a blank line.
+    Nothing,
+    /// A new orchestra, from a file where a path is given.
+    Orchestra(&'a [u8]),
+    /// A new score, likewise.
+    Score(&'a [u8]),
+    /// The words of the case follow.
+    Words,
+    Text(Piece<'a>),
+    /// That call of the object fails.
+    Fail(Object, u32),
+    /// The object takes so many bytes a write at most.
+    Room(Object, u32),
+    Show(Shown),
+    /// The case runs twice on one shelf.
+    Twice,
+    /// The case of this name runs.
+    Play(&'a [u8]),
+    /// None of these.
+    Wrong,
+}
+
+pub fn line_of(line: &[u8]) -> Line<'_> {
+    let digits = count_digits(line);
+    let (front, rest) = line.split_at(digits.min(line.len()));
+    match rest {
+        [b'|', text @ ..] => Line::Text(piece_of(front, text, true)),
+        [b'>', text @ ..] => Line::Text(piece_of(front, text, false)),
+        _ => line_of_word(line),
+    }
+}
+
+fn line_of_word(line: &[u8]) -> Line<'_> {
+    let (word, rest) = parted(line);
+    match word {
+        b"" => Line::Nothing,
+        b"orc" => Line::Orchestra(rest),
+        b"sco" => Line::Score(rest),
+        b"words" => Line::Words,
+        b"fail" => fail_of(rest),
+        b"room" => room_of(rest),
+        b"hex" => Line::Show(Shown::Hex),
+        b"calls" => Line::Show(Shown::Calls),
+        b"twice" => Line::Twice,
+        b"play" => Line::Play(rest),
+        _ => comment_or_wrong(word),
+    }
+}
+
+fn comment_or_wrong(word: &[u8]) -> Line<'_> {
+    match word {
+        [b'#', ..] => Line::Nothing,
+        _ => Line::Wrong,
+    }
+}
+
+fn fail_of(rest: &[u8]) -> Line<'_> {
+    let (name, number) = parted(rest);
+    match object_of(name) {
+        Some(object) => Line::Fail(object, number_of(number)),
+        None => Line::Wrong,
+    }
+}
+
+// `room 7` is the sound file's.
+fn room_of(rest: &[u8]) -> Line<'_> {
+    let (name, number) = parted(rest);
+    match object_of(name) {
+        Some(object) => Line::Room(object, number_of(number)),
+        None => Line::Room(Object::Wav, number_of(name)),
+    }
+}
+
+fn object_of(name: &[u8]) -> Option<Object> {
+    match name {
+        b"shelf" => Some(Object::Shelf),
+        b"wav" => Some(Object::Wav),
+        b"talk" => Some(Object::Talk),
+        _ => None,
+    }
+}
+
+// One blank behind the sign is left out; no number is once.
+fn piece_of<'a>(number: &'a [u8], text: &'a [u8], feed: bool) -> Piece<'a> {
+    let text = match text {
+        [b' ', rest @ ..] => rest,
+        _ => text,
+    };
+    let times = if number.is_empty() {
+        1
+    } else {
+        number_of(number)
+    };
+    Piece { times, text, feed }
+}
+
+// The first word, and what stands behind its blank.
+fn parted(text: &[u8]) -> (&[u8], &[u8]) {
+    let mut parts = text.splitn(2, |byte| *byte == b' ');
+    let word = parts.next().unwrap_or(&[]);
+    let rest = parts.next().unwrap_or(&[]);
+    (word, rest)
+}
+
+fn count_digits(text: &[u8]) -> usize {
+    let mut count = 0usize;
+    for byte in text {
+        if !byte.is_ascii_digit() {
+            break;
+        }
+        count = count.saturating_add(1);
+    }
+    count
+}
+
+fn number_of(digits: &[u8]) -> u32 {
+    let mut number = 0u32;
+    for digit in digits {
+        let value = u32::from(digit.wrapping_sub(b'0'));
+        number = number.saturating_mul(10).saturating_add(value);
+    }
+    number
+}

@@ -1,0 +1,118 @@
+//! Trials of the program. A case is two texts that go through the public call `csplay` over objects in memory; it comes
+//! out as one line, and the crate's `stdout` has the lines that must come. The case files stand in data/, whose README.md
+//! says how a case is written; the words of the program, the crate's `args`, name them in the order in which they run.
+//!
+//! Nothing is proved of the answers here, only that the trials are safe.
+//!
+//! In reading order: `line` (what a line of a case file says), `text` (its escapes), `desk` (the case that is being
+//! made), `play` (the runs of a case), `show` (its line) and `wave` (the samples in it).
+#![tactic(auto)]
+
+mod desk;
+mod line;
+mod play;
+mod show;
+mod text;
+mod wave;
+
+use crate::desk::Desk;
+use crate::line::{Line, line_of};
+use crate::play::play;
+use crate::show::add_shown;
+use std::io::Write;
+use std::rt::Files;
+use std::sync::Wait;
+use std::thread::Threads;
+use std::{env, fs, io};
+
+fn main(rt: HostRuntime) -> io::Result<()> {
+    let names: Vec<String> = env::args(&rt)?.skip(1).collect(rt.alloc())?;
+    for name in &names {
+        run_named(&rt, name)?;
+    }
+    Ok(())
+}
+
+// The cases of a file, under a line with its name.
+fn run_named<R: Files + Print + AllocGlobal + Threads + Wait + Sync>(
+    rt: &R,
+    name: &str,
+) -> io::Result<()> {
+    let text = fs::read(rt, name)?;
+    println!(rt; "== {name}")?;
+    run_file(rt, &text)
+}
+
+fn run_file<R: Files + Print + AllocGlobal + Threads + Wait + Sync>(
+    rt: &R,
+    text: &[u8],
+) -> io::Result<()> {
+    let mut desk = Desk::new(rt.alloc());
+    for line in text.split(|byte| *byte == b'\n') {
+        follow(rt, line, &mut desk)?;
+    }
+    Ok(())
+}
+
+// Does what a line of a case file says.
+fn follow<R: Files + Print + AllocGlobal + Threads + Wait + Sync>(
+    rt: &R,
+    line: &[u8],
+    desk: &mut Desk,
+) -> io::Result<()> {
+    match line_of(line) {
+        Line::Nothing => {}
+        Line::Orchestra(path) => {
+            desk.begin_orchestra();
+            add_file(rt, path, &mut desk.orchestra)?;
+        }
+        Line::Score(path) => {
+            desk.begin_score();
+            add_file(rt, path, &mut desk.score)?;
+        }
+        Line::Words => desk.begin_words(),
+        Line::Text(piece) => desk.add(piece)?,
+        Line::Fail(object, call) => desk.once.fail(object, call),
+        Line::Room(object, most) => desk.once.limit(object, most),
+        Line::Show(what) => desk.once.show(what),
+        Line::Twice => desk.once.twice = true,
+        Line::Play(name) => {
+            say(rt, name, desk)?;
+            desk.forget();
+        }
+        Line::Wrong => say_wrong(rt, line)?,
+    }
+    Ok(())
+}
+
+// Adds the bytes of a file; no path adds nothing.
+fn add_file<R: Files + AllocGlobal>(rt: &R, path: &[u8], to: &mut Vec<u8>) -> io::Result<()> {
+    let Ok(path) = str::from_utf8(path) else {
+        return Ok(());
+    };
+    if path.is_empty() {
+        return Ok(());
+    }
+    let text = fs::read(rt, path)?;
+    to.extend_from_slice(&text)?;
+    Ok(())
+}
+
+// Runs a case and prints its line.
+fn say<R: Print + AllocGlobal + Threads + Wait + Sync>(
+    rt: &R,
+    name: &[u8],
+    desk: &Desk,
+) -> io::Result<()> {
+    let mut out = String::new(rt.alloc());
+    play(rt, name, desk, &mut out)?;
+    io::writer(rt).write_all(out.as_bytes())
+}
+
+fn say_wrong<R: Print + AllocGlobal>(rt: &R, line: &[u8]) -> io::Result<()> {
+    let mut out = String::new(rt.alloc());
+    out.push_str("not understood: ")?;
+    add_shown(&mut out, line)?;
+    out.push('\n')?;
+    io::writer(rt).write_all(out.as_bytes())
+}

@@ -1,0 +1,130 @@
+// The line of a case.
+use crate::desk::Once;
+use crate::wave::{add_hex, add_wave};
+use cs_edge::{MemShelf, MemSink, Move};
+use itoa::Buffer;
+use std::alloc::AllocError;
+
+/// What a run left.
+#[derive(Clone, Copy)]
+pub struct Outcome<'a> {
+    pub status: u8,
+    pub shelf: &'a MemShelf,
+    pub wav: &'a MemSink,
+    pub talk: &'a MemSink,
+}
+
+/// Writes a case's line: its name, the status, the line on talk, and the sound file where one was begun.
+pub fn add_line(
+    out: &mut String,
+    name: &[u8],
+    once: Once,
+    outcome: Outcome<'_>,
+) -> Result<(), AllocError> {
+    add_shown(out, name)?;
+    out.push_str(": ")?;
+    add_number(out, u64::from(outcome.status))?;
+    add_talk(out, outcome.talk.taken())?;
+    if !outcome.wav.moves().is_empty() {
+        add_sound(out, outcome.wav.taken(), once.hex)?;
+    }
+    if once.calls {
+        add_calls(out, "; shelf", outcome.shelf.moves())?;
+        add_calls(out, "; wav", outcome.wav.moves())?;
+        add_calls(out, "; talk", outcome.talk.moves())?;
+    }
+    out.push('\n')
+}
+
+// What talk has: a last line feed isn't shown, and a line without one is cut.
+fn add_talk(out: &mut String, talk: &[u8]) -> Result<(), AllocError> {
+    if talk.is_empty() {
+        return Ok(());
+    }
+    out.push(' ')?;
+    match talk.strip_suffix(b"\n") {
+        Some(line) => add_shown(out, line),
+        None => {
+            add_shown(out, talk)?;
+            out.push_str(" (cut)")
+        }
+    }
+}
+
+fn add_sound(out: &mut String, wav: &[u8], hex: bool) -> Result<(), AllocError> {
+    if !hex {
+        return add_wave(out, wav);
+    }
+    out.push_str(", ")?;
+    for byte in wav {
+        add_hex(out, *byte)?;
+    }
+    Ok(())
+}
+
+/// Writes bytes as they are; a line feed as a stroke, and what can't be seen as an escape.
+pub fn add_shown(out: &mut String, bytes: &[u8]) -> Result<(), AllocError> {
+    for byte in bytes {
+        match *byte {
+            b'\n' => out.push_str(" / ")?,
+            b'`' => out.push_str("`60")?,
+            b' '..=b'~' => out.push(char::from(*byte))?,
+            _ => {
+                out.push('`')?;
+                add_hex(out, *byte)?;
+            }
+        }
+    }
+    Ok(())
+}
+
+pub fn add_number(out: &mut String, number: u64) -> Result<(), AllocError> {
+    let mut digits = Buffer::new();
+    out.push_str(digits.format(number))
+}
+
+// The calls made on an object, equal ones together; none is nothing.
+fn add_calls(out: &mut String, object: &str, moves: &[Move]) -> Result<(), AllocError> {
+    if moves.is_empty() {
+        return Ok(());
+    }
+    out.push_str(object)?;
+    let mut before = "";
+    let mut times = 0u64;
+    for made in moves {
+        let kind = kind_of(made);
+        if kind != before {
+            add_times(out, before, times)?;
+            times = 0;
+        }
+        if let Move::Begin(name) = made {
+            out.push_str(" begin ")?;
+            add_shown(out, name.as_str().as_bytes())?;
+        }
+        before = kind;
+        times = times.saturating_add(1);
+    }
+    add_times(out, before, times)
+}
+
+// A begin is written at once, with its name.
+fn kind_of(made: &Move) -> &'static str {
+    match made {
+        Move::Begin(_) => "",
+        Move::Read => " read",
+        Move::Write => " write",
+        Move::End => " end",
+    }
+}
+
+fn add_times(out: &mut String, kind: &str, times: u64) -> Result<(), AllocError> {
+    if kind.is_empty() {
+        return Ok(());
+    }
+    out.push_str(kind)?;
+    if times > 1 {
+        out.push_str(" x ")?;
+        add_number(out, times)?;
+    }
+    Ok(())
+}

@@ -1,0 +1,63 @@
+// The escapes in a text: behind a grave accent stand two hexadecimal digits, which are a byte, or `#`, the number of the
+// time that the text is added.
+use crate::line::Piece;
+use itoa::Buffer;
+use std::alloc::AllocError;
+
+/// How far an escape is read.
+#[derive(Clone, Copy)]
+enum Escape {
+    None,
+    Begun,
+    /// Its first digit.
+    Digit(u8),
+}
+
+/// Adds a text so many times.
+pub fn add_piece(to: &mut Vec<u8>, piece: Piece<'_>) -> Result<(), AllocError> {
+    for number in 0..piece.times {
+        add_text(to, piece.text, number.saturating_add(1))?;
+        if piece.feed {
+            to.push(b'\n')?;
+        }
+    }
+    Ok(())
+}
+
+fn add_text(to: &mut Vec<u8>, text: &[u8], number: u32) -> Result<(), AllocError> {
+    let mut escape = Escape::None;
+    for byte in text {
+        escape = add_byte(to, escape, *byte, number)?;
+    }
+    Ok(())
+}
+
+// Adds what a byte is behind this much of an escape, and answers how far an escape is read behind it.
+fn add_byte(to: &mut Vec<u8>, escape: Escape, byte: u8, number: u32) -> Result<Escape, AllocError> {
+    match (escape, byte) {
+        (Escape::None, b'`') => return Ok(Escape::Begun),
+        (Escape::None, _) => to.push(byte)?,
+        (Escape::Begun, b'#') => add_number(to, number)?,
+        (Escape::Begun, _) => return Ok(Escape::Digit(byte)),
+        (Escape::Digit(high), _) => to.push(byte_of(high, byte))?,
+    }
+    Ok(Escape::None)
+}
+
+fn add_number(to: &mut Vec<u8>, number: u32) -> Result<(), AllocError> {
+    let mut digits = Buffer::new();
+    to.extend_from_slice(digits.format(number).as_bytes())
+}
+
+fn byte_of(high: u8, low: u8) -> u8 {
+    value_of(high).wrapping_mul(16).wrapping_add(value_of(low))
+}
+
+fn value_of(digit: u8) -> u8 {
+    match digit {
+        b'0'..=b'9' => digit.wrapping_sub(b'0'),
+        b'a'..=b'f' => digit.wrapping_sub(b'a').wrapping_add(10),
+        b'A'..=b'F' => digit.wrapping_sub(b'A').wrapping_add(10),
+        _ => 0,
+    }
+}

@@ -1,0 +1,151 @@
+// The samples of a sound file, as runs of equal frames.
+use crate::show::add_number;
+use std::alloc::AllocError;
+
+/// Behind so many runs only their number and a sum of the file follow.
+const MOST_RUNS: u64 = 20;
+
+/// The length of the header.
+const HEADER: usize = 44;
+
+/// How the frames of a file are laid out.
+#[derive(Clone, Copy)]
+struct Layout {
+    /// The bytes of a sample.
+    width: usize,
+    /// The bytes of a frame.
+    frame: usize,
+}
+
+/// Writes a file's rate, its bytes, and its samples.
+pub fn add_wave(out: &mut String, wav: &[u8]) -> Result<(), AllocError> {
+    if wav.len() >= HEADER {
+        out.push_str(", sr ")?;
+        add_number(out, number_at(wav, 24, 4))?;
+    }
+    out.push_str(", ")?;
+    add_number(out, wav.len() as u64)?;
+    out.push_str(" bytes")?;
+    match wav.get(HEADER..) {
+        Some([]) | None => Ok(()),
+        Some(samples) => {
+            out.push_str(": ")?;
+            let runs = add_runs(out, samples, layout_of(wav))?;
+            add_rest(out, runs, wav)
+        }
+    }
+}
+
+fn layout_of(wav: &[u8]) -> Layout {
+    Layout {
+        width: (number_at(wav, 34, 2) / 8) as usize,
+        frame: number_at(wav, 32, 2) as usize,
+    }
+}
+
+// A number of so many bytes at a place, the lowest byte first.
+fn number_at(bytes: &[u8], at: usize, width: usize) -> u64 {
+    let mut number = 0u64;
+    for place in (0..width).rev() {
+        let byte = bytes.get(at.saturating_add(place)).copied().unwrap_or(0);
+        number = number.wrapping_mul(256).wrapping_add(u64::from(byte));
+    }
+    number
+}
+
+// Writes the first runs, and answers how many there are.
+fn add_runs(out: &mut String, samples: &[u8], layout: Layout) -> Result<u64, AllocError> {
+    let mut last: &[u8] = &[];
+    let mut times = 0u64;
+    let mut runs = 0u64;
+    for frame in samples.chunks(layout.frame.max(1)) {
+        if frame != last && times > 0 {
+            add_run(out, last, times, runs, layout)?;
+            runs = runs.saturating_add(1);
+            times = 0;
+        }
+        last = frame;
+        times = times.saturating_add(1);
+    }
+    add_run(out, last, times, runs, layout)?;
+    Ok(runs.saturating_add(1))
+}
+
+fn add_run(
+    out: &mut String,
+    frame: &[u8],
+    times: u64,
+    run: u64,
+    layout: Layout,
+) -> Result<(), AllocError> {
+    if run >= MOST_RUNS {
+        return Ok(());
+    }
+    if run > 0 {
+        out.push_str(", ")?;
+    }
+    add_number(out, times)?;
+    out.push_str(" x ")?;
+    add_frame(out, frame, layout)
+}
+
+// The values of a frame's channels, in order.
+fn add_frame(out: &mut String, frame: &[u8], layout: Layout) -> Result<(), AllocError> {
+    for (channel, sample) in frame.chunks(layout.width.max(1)).enumerate() {
+        if channel > 0 {
+            out.push('/')?;
+        }
+        add_signed(out, value_of(sample))?;
+    }
+    Ok(())
+}
+
+// A sample of two or three bytes.
+fn value_of(sample: &[u8]) -> i64 {
+    match sample {
+        [low, high] => i64::from(i16::from_le_bytes([*low, *high])),
+        [low, middle, high] => i64::from(i32::from_le_bytes([0, *low, *middle, *high])) / 256,
+        _ => 0,
+    }
+}
+
+fn add_signed(out: &mut String, value: i64) -> Result<(), AllocError> {
+    if value < 0 {
+        out.push('-')?;
+    }
+    add_number(out, value.unsigned_abs())
+}
+
+// Where not all runs are shown: how many there are, and the Adler-32 sum of the file.
+fn add_rest(out: &mut String, runs: u64, wav: &[u8]) -> Result<(), AllocError> {
+    if runs <= MOST_RUNS {
+        return Ok(());
+    }
+    out.push_str(" .. of ")?;
+    add_number(out, runs)?;
+    out.push_str(" runs, adler32 ")?;
+    for byte in adler32(wav).to_be_bytes() {
+        add_hex(out, byte)?;
+    }
+    Ok(())
+}
+
+fn adler32(bytes: &[u8]) -> u32 {
+    let mut low = 1u32;
+    let mut high = 0u32;
+    for byte in bytes {
+        low = low.wrapping_add(u32::from(*byte)) % 65_521;
+        high = high.wrapping_add(low) % 65_521;
+    }
+    high.wrapping_mul(65_536).wrapping_add(low)
+}
+
+/// Writes a byte as two hexadecimal digits.
+pub fn add_hex(out: &mut String, byte: u8) -> Result<(), AllocError> {
+    out.push(digit_of(byte / 16))?;
+    out.push(digit_of(byte % 16))
+}
+
+fn digit_of(value: u8) -> char {
+    char::from_digit(u32::from(value), 16).unwrap_or('?')
+}
