@@ -1,11 +1,12 @@
 use Rattle.std.specs.Prelude.{ℕ, ℤ, pos, List, Bool, length, take, ◌+◌, ◌-◌, ◌*◌, ◌/◌, ◌^◌, ◌==◌, ◌&&◌, nat_le, nat_lt, Option, Some, None, if◌then◌else◌}
 use Rattle.std.specs.List.{before_first, after_first, list_all}
 use Rattle.std.specs.Char.{is_ascii_digit}
+use Rattle.std.specs.Str.{byte}
 use Rattle.std.specs.Str.Parse.{digits_value}
 use Rattle.cs_base.specs.declared.decimal.Decimal.{Decimal}
 
 abbrev pub is_point : ℕ → Bool
-is_point byte = byte == 46
+is_point b = b == byte "."
 
 -- what stands before the first point of a text, or all of it where it has none
 abbrev pub before_point : List ℕ → List ℕ

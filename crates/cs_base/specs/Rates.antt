@@ -1,5 +1,5 @@
 -- How rates stand to each other, and when two resources are the same.
-use Rattle.std.specs.Prelude.{ℕ, Bool, List, [], ◌∷◌, ◌&&◌, ◌==◌, nat_le, if◌then◌else◌}
+use Rattle.std.specs.Prelude.{ℕ, Bool, true, false, List, [], ◌∷◌, ◌&&◌, ◌==◌, nat_le, if◌then◌else◌}
 use Rattle.cs_base.specs.declared.resource.Rate.{Rate}
 use Rattle.cs_base.specs.declared.resource.Rate.TheVariants as rate
 use Rattle.cs_base.specs.declared.resource.Res.{Res}
@@ -10,6 +10,18 @@ abbrev pub how_often : Rate → ℕ
 how_often rate.Init = 0
 how_often rate.Control = 1
 how_often rate.Audio = 2
+
+abbrev pub is_init : Rate → Bool
+is_init rate.Init = true
+is_init _ = false
+
+abbrev pub is_control : Rate → Bool
+is_control rate.Control = true
+is_control _ = false
+
+abbrev pub is_audio : Rate → Bool
+is_audio rate.Audio = true
+is_audio _ = false
 
 abbrev pub same_rate : Rate → Rate → Bool
 same_rate r s = how_often r == how_often s
@@ -48,6 +60,17 @@ res_number (res.ZakA n) = n
 res_number (res.Control n) = n
 res_number (res.Sound n) = n
 res_number (res.Table n) = n
+
+-- how often a resource changes: a variable as often as its name says, a table at any frame
+abbrev pub res_rate : Res → Rate
+res_rate (res.Gi n) = rate.Init
+res_rate (res.Gk n) = rate.Control
+res_rate (res.Ga n) = rate.Audio
+res_rate (res.ZakK n) = rate.Control
+res_rate (res.ZakA n) = rate.Audio
+res_rate (res.Control n) = rate.Control
+res_rate (res.Sound n) = rate.Audio
+res_rate (res.Table n) = rate.Audio
 
 abbrev pub same_res : Res → Res → Bool
 same_res r s = res_kind r == res_kind s && res_number r == res_number s

@@ -1,5 +1,5 @@
 ghost use Rattle.std.specs.Prelude.{◌≡◌};
-ghost use Rattle.cs_base.specs.Rates.{how_often, same_rate, within, faster, fastest, res_kind, res_number, same_res};
+ghost use Rattle.cs_base.specs.Rates.{how_often, is_init, is_control, is_audio, same_rate, within, faster, fastest, res_kind, res_number, res_rate, same_res};
 
 /// How often a value changes: once a note, once a control cycle, or once a frame.
 #[derive(Clone, Copy, Debug, PartialEq, Eq)]
@@ -10,6 +10,27 @@ pub enum Rate {
 }
 
 impl Rate {
+    /// Whether a value of this rate is known when the note begins.
+    pub fn is_init(self) -> bool
+        ensures { result ≡ is_init self }
+    {
+        matches!(self, Rate::Init)
+    }
+
+    /// Whether a value of this rate changes once a control cycle.
+    pub fn is_control(self) -> bool
+        ensures { result ≡ is_control self }
+    {
+        matches!(self, Rate::Control)
+    }
+
+    /// Whether a value of this rate changes once a frame: it is a sound.
+    pub fn is_audio(self) -> bool
+        ensures { result ≡ is_audio self }
+    {
+        matches!(self, Rate::Audio)
+    }
+
     /// Whether the two are the same rate.
     pub fn same(self, other: Rate) -> bool
         ensures { result ≡ same_rate self other }
@@ -57,14 +78,14 @@ impl Rate {
 /// resource the place in its space, that of a table the table's number.
 #[derive(Clone, Copy, Debug, PartialEq, Eq)]
 pub enum Res {
-    Gi(u32),
-    Gk(u32),
-    Ga(u32),
-    ZakK(u32),
-    ZakA(u32),
-    Control(u32),
-    Sound(u32),
-    Table(u32),
+    Gi(usize),
+    Gk(usize),
+    Ga(usize),
+    ZakK(usize),
+    ZakA(usize),
+    Control(usize),
+    Sound(usize),
+    Table(usize),
 }
 
 impl Res {
@@ -92,7 +113,7 @@ impl Res {
     }
 
     /// Its number among those of its kind.
-    pub fn number(self) -> u32
+    pub fn number(self) -> usize
         ensures { result ≡ res_number self }
     {
         match self {
@@ -104,6 +125,17 @@ impl Res {
             Res::Control(n) => n,
             Res::Sound(n) => n,
             Res::Table(n) => n,
+        }
+    }
+
+    /// How often it changes: a variable as often as its name says, a table at any frame.
+    pub fn rate(self) -> Rate
+        ensures { result ≡ res_rate self }
+    {
+        match self {
+            Res::Gi(_) => Rate::Init,
+            Res::Gk(_) | Res::ZakK(_) | Res::Control(_) => Rate::Control,
+            Res::Ga(_) | Res::ZakA(_) | Res::Sound(_) | Res::Table(_) => Rate::Audio,
         }
     }
 }

@@ -1,6 +1,7 @@
-use Rattle.std.specs.Prelude.{ℕ, Bool, true, List, [], ◌∷◌, ◌-◌, ◌%◌, ◌&&◌, ◌==◌, codes, length, nat_le, slice_get, Option, Some, None, if◌then◌else◌}
+use Rattle.std.specs.Prelude.{ℕ, Bool, true, false, not, List, [], ◌∷◌, ◌-◌, ◌%◌, ◌&&◌, ◌||◌, ◌==◌, codes, length, filter, nat_le, slice_get, Option, Some, None, if◌then◌else◌}
 use Rattle.std.specs.Str.{bytes_eq}
 use Rattle.std.specs.Option.{unwrap_or}
+use Rattle.cs_base.specs.Rates.{within, is_init, is_audio}
 use Rattle.cs_base.specs.declared.resource.Rate.{Rate}
 use Rattle.cs_base.specs.declared.resource.Rate.TheVariants as rate
 use Rattle.cs_words.specs.declared.catalogue.Opcode.{Opcode}
@@ -181,3 +182,51 @@ takes_count r n = nat_le (length r.fixed) n && may_follow r.more (n - length r.f
 -- how many results an opcode has: one, or none
 abbrev pub result_count : Row → ℕ
 result_count r = if length r.results == 0 then 0 else 1
+
+-- A letter takes a value of a rate, where the result's rate is the bound.
+abbrev pub takes : Letter → Rate → Rate → Bool
+takes letter.Init bound r = is_init r
+takes letter.Table bound r = is_init r
+takes letter.Control bound r = within r bound && not (is_audio r)
+takes letter.Place bound r = within r bound && not (is_audio r)
+takes letter.Audio bound r = is_audio r
+takes letter.Held bound r = within r bound
+takes letter.Any bound r = true
+takes letter.Text bound r = false
+
+abbrev pub is_text : Letter → Bool
+is_text letter.Text = true
+is_text _ = false
+
+-- settled: what it takes is known when the note begins
+abbrev pub is_settled : Letter → Bool
+is_settled letter.Init = true
+is_settled letter.Table = true
+is_settled _ = false
+
+-- moving: what it takes may change while the note sounds
+abbrev pub is_moving : Letter → Bool
+is_moving l = not (is_settled l || is_text l)
+
+-- of the arguments that must be given, those that are settled, and those that may change while the note sounds
+abbrev pub settled_letters : Row → List Letter
+settled_letters r = filter is_settled r.fixed
+
+abbrev pub moving_letters : Row → List Letter
+moving_letters r = filter is_moving r.fixed
+
+-- whether all that may follow the arguments that must be given is settled
+abbrev pub follows_settled : More → Bool
+follows_settled more.Nothing = true
+follows_settled (more.Perhaps l) = is_settled l
+follows_settled (more.Each l) = is_settled l
+follows_settled (more.Pairs l m) = is_settled l && is_settled m
+
+-- whether so many settled arguments may follow those that must be given; in no row does a pair mix settled and moving ones
+abbrev pub may_follow_settled : More → ℕ → Bool
+may_follow_settled m n = if follows_settled m then may_follow m n else n == 0
+
+-- whether an opcode takes so many settled arguments
+abbrev pub unit_takes : Row → ℕ → Bool
+unit_takes r n =
+    nat_le (length (settled_letters r)) n && may_follow_settled r.more (n - length (settled_letters r))

@@ -1,4 +1,4 @@
-use Rattle.std.specs.Prelude.{ℕ, List, [], ◌∷◌, codes, Option, Some, None}
+use Rattle.std.specs.Prelude.{ℕ, Bool, true, false, List, [], ◌∷◌, codes, Option, Some, None}
 use Rattle.std.specs.Option.{unwrap_or}
 use Rattle.cs_words.specs.Tables.{looked_up}
 use Rattle.cs_words.specs.declared.sign.BinOp.{BinOp}
@@ -49,3 +49,18 @@ operator_or None other = other
 -- what a sign is
 unfoldable pub sign_of : List ℕ → Sign
 sign_of bytes = operator_or (operator_of bytes) (unwrap_or (plain_sign bytes) sign.Beyond)
+
+-- `+`, `-`, `*`, `/` and `%`; the other operators give truth values
+abbrev pub is_arithmetic : BinOp → Bool
+is_arithmetic op.Add = true
+is_arithmetic op.Sub = true
+is_arithmetic op.Mul = true
+is_arithmetic op.Div = true
+is_arithmetic op.Rem = true
+is_arithmetic _ = false
+
+-- `&&` and `||`
+abbrev pub is_logic : BinOp → Bool
+is_logic op.And = true
+is_logic op.Or = true
+is_logic _ = false

@@ -1,6 +1,6 @@
 // The catalogue: one row an opcode, which says all that the layers above ask of it.
-ghost use Rattle.std.specs.Prelude.{◌≡◌};
-ghost use Rattle.cs_words.specs.Catalogue.{row, row_of, named, catalogued, letter_at, takes_count, further, may_follow, result_count};
+ghost use Rattle.std.specs.Prelude.{◌≡◌, length, filter};
+ghost use Rattle.cs_words.specs.Catalogue.{row, row_of, named, catalogued, letter_at, takes_count, further, may_follow, result_count, takes, is_text, is_settled, is_moving, settled_letters, moving_letters, follows_settled, may_follow_settled, unit_takes};
 
 use cs_base::Rate;
 use std::marker::Model;
@@ -65,6 +65,43 @@ pub enum Letter {
     Any,
     /// `s`: a quoted text.
     Text,
+}
+
+impl Letter {
+    /// Whether it takes a value of a rate, where the result's rate is the bound.
+    pub fn takes(self, bound: Rate, rate: Rate) -> bool
+        ensures { result ≡ takes self bound rate }
+    {
+        match self {
+            Letter::Init | Letter::Table => rate.is_init(),
+            Letter::Control | Letter::Place => rate.within(bound) && !rate.is_audio(),
+            Letter::Audio => rate.is_audio(),
+            Letter::Held => rate.within(bound),
+            Letter::Any => true,
+            Letter::Text => false,
+        }
+    }
+
+    /// Whether it takes a quoted text.
+    pub fn is_text(self) -> bool
+        ensures { result ≡ is_text self }
+    {
+        matches!(self, Letter::Text)
+    }
+
+    /// Whether what it takes is known when the note begins.
+    pub fn is_settled(self) -> bool
+        ensures { result ≡ is_settled self }
+    {
+        matches!(self, Letter::Init | Letter::Table)
+    }
+
+    /// Whether what it takes may change while the note sounds.
+    pub fn is_moving(self) -> bool
+        ensures { result ≡ is_moving self }
+    {
+        !self.is_settled() && !self.is_text()
+    }
 }
 
 /// What may follow the arguments that must be given.
@@ -328,6 +365,13 @@ impl Signature {
         self.results
     }
 
+    /// What it takes as the arguments that must be given, in order.
+    pub fn fixed(&self) -> &'static [Letter]
+        ensures { result.now ≡ self.now.fixed }
+    {
+        self.fixed
+    }
+
     /// How it is performed.
     pub fn shape(&self) -> Shape
         ensures { result ≡ self.now.shape }
@@ -349,6 +393,28 @@ impl Signature {
         count >= self.fixed.len() && self.more.may_follow(count - self.fixed.len())
     }
 
+    /// How many of the arguments that must be given are settled: known when the note begins.
+    pub fn settled_count(&self) -> usize
+        ensures { result ≡ length (settled_letters self.now) }
+    {
+        settled_among(self.fixed)
+    }
+
+    /// How many of the arguments that must be given may change while the note sounds.
+    pub fn moving_count(&self) -> usize
+        ensures { result ≡ length (moving_letters self.now) }
+    {
+        moving_among(self.fixed)
+    }
+
+    /// Whether it takes so many settled arguments.
+    pub fn takes_settled(&self, count: usize) -> bool
+        ensures { result ≡ unit_takes self.now count }
+    {
+        let least = self.settled_count();
+        count >= least && self.more.may_follow_settled(count - least)
+    }
+
     /// What it takes as the argument at this place, counted from 0; `Letter::Any` past the last that it takes.
     pub fn letter(&self, place: usize) -> Letter
         ensures { result ≡ letter_at self.now place }
@@ -358,6 +424,32 @@ impl Signature {
             None => self.more.letter(place - self.fixed.len()),
         }
     }
+}
+
+// How many of these letters are settled.
+fn settled_among(letters: &[Letter]) -> usize
+    ensures { result ≡ length (filter is_settled letters.now) }
+{
+    let mut count: usize = 0;
+    for letter in letters {
+        if letter.is_settled() {
+            count += 1;
+        }
+    }
+    count
+}
+
+// How many of these letters are moving.
+fn moving_among(letters: &[Letter]) -> usize
+    ensures { result ≡ length (filter is_moving letters.now) }
+{
+    let mut count: usize = 0;
+    for letter in letters {
+        if letter.is_moving() {
+            count += 1;
+        }
+    }
+    count
 }
 
 impl More {
@@ -370,6 +462,28 @@ impl More {
             More::Perhaps(_) => count <= 1,
             More::Each(_) => true,
             More::Pairs(_, _) => count % 2 == 0,
+        }
+    }
+
+    /// Whether all that may follow is settled.
+    fn is_settled(self) -> bool
+        ensures { result ≡ follows_settled self }
+    {
+        match self {
+            More::Nothing => true,
+            More::Perhaps(letter) | More::Each(letter) => letter.is_settled(),
+            More::Pairs(first, second) => first.is_settled() && second.is_settled(),
+        }
+    }
+
+    /// Whether so many settled arguments may follow those that must be given.
+    fn may_follow_settled(self, count: usize) -> bool
+        ensures { result ≡ may_follow_settled self count }
+    {
+        if self.is_settled() {
+            self.may_follow(count)
+        } else {
+            count == 0
         }
     }
 

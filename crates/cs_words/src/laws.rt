@@ -1,12 +1,14 @@
 // What holds of the tables: calls that do nothing, whose contracts are the laws.
-ghost use Rattle.std.specs.Prelude.{◌≡◌, ◌≤◌, ℕ, List, length, true, false, slice_get, Some};
+ghost use Rattle.std.specs.Prelude.{◌≡◌, ◌≤◌, ℕ, List, [], ◌∷◌, length, true, false, slice_get, Some};
 ghost use Rattle.std.specs.List.{All};
-ghost use Rattle.cs_words.specs.Catalogue.{row_of, catalogued};
+ghost use Rattle.cs_words.specs.Catalogue.{row_of, catalogued, settled_letters, moving_letters, unit_takes};
 ghost use Rattle.cs_words.specs.NameSets.{has, place_of, seen};
 ghost use Rattle.cs_words.specs.Names.{is_name};
 ghost use Rattle.cs_words.specs.Signs.{operators, plain_signs, sign_of};
 ghost use Rattle.cs_words.specs.Words.{keywords, headers, functions, foreign_words, word_of};
+ghost use Rattle.cs_words.specs.declared.catalogue.Letter.TheVariants as letter;
 ghost use Rattle.cs_words.specs.declared.catalogue.Opcode.{Opcode};
+ghost use Rattle.cs_words.specs.declared.catalogue.Opcode.TheVariants as op;
 ghost use Rattle.cs_words.specs.declared.sign.Sign.TheVariants as sign;
 ghost use Rattle.cs_words.specs.declared.word.Word.TheVariants as word;
 
@@ -45,4 +47,15 @@ pub fn names_have_places()
         → has names m ≡ true → has (seen names n) m ≡ true }
     ensures kept { (names : List (List ℕ)) (m n : List ℕ)
         → has names m ≡ true → place_of (seen names n) m ≡ place_of names m }
+{}
+
+/// How many settled arguments some opcodes take, computed by the definitions: `oscil` a table and perhaps a phase,
+/// `linseg` three numbers and any number of pairs, `linen` its three durations, `out` none.
+pub fn settled_arguments()
+    ensures oscil { (unit_takes (row_of op.Oscil) 0 ≡ false) × (unit_takes (row_of op.Oscil) 1 ≡ true)
+        × (unit_takes (row_of op.Oscil) 2 ≡ true) × (unit_takes (row_of op.Oscil) 3 ≡ false) }
+    ensures linseg { (unit_takes (row_of op.Linseg) 4 ≡ false) × (unit_takes (row_of op.Linseg) 5 ≡ true) }
+    ensures linen { settled_letters (row_of op.Linen) ≡ letter.Init ∷ letter.Init ∷ letter.Init ∷ [] }
+    ensures amplitude { moving_letters (row_of op.Linen) ≡ letter.Held ∷ [] }
+    ensures out { (unit_takes (row_of op.Out) 0 ≡ true) × (unit_takes (row_of op.Out) 1 ≡ false) }
 {}

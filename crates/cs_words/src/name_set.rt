@@ -1,29 +1,24 @@
 // Different names, in the order in which they were first seen.
-ghost use Rattle.std.specs.Prelude.{◌≡◌, [], ◌∷◌, OnOk, OnErr};
+ghost use Rattle.std.specs.Prelude.{◌≡◌, [], OnOk, OnErr, IfOk};
 ghost use Rattle.cs_words.specs.NameSets.{has, place_of, seen};
 
-use cs_base::OutOfMemory;
+use cs_base::{Items, Name, Names, OutOfMemory};
 use indexmap::IndexSet;
 use std::alloc::Global;
 use std::marker::Model;
 
-/// The greatest number of names in a set: each has a place of 32 bits.
-const MOST_NAMES: usize = 4_294_967_295;
-
-/// Different names of a text, in the order in which they were first seen; at most 2^32 - 1.
+/// Different names of a text, in the order in which they were first seen.
 #[derive(Drop)]
 pub struct NameSet<'s> {
     names: IndexSet<&'s [u8]>,
 }
 
 impl<'s> Model for NameSet<'s> {
-    ghost use Rattle.std.specs.Prelude.{ℕ, List, length, map, ◌<◌, ◌^◌};
+    ghost use Rattle.std.specs.Prelude.{ℕ, List, map};
 
     ghost Value = { List (List ℕ) };
 
     ghost view = { λ s. map (λ n. n.now) s.names.keys };
-
-    ghost invariant = { λ s. length s.names.keys < 2 ^ 32 };
 }
 
 impl<'s> NameSet<'s> {
@@ -44,21 +39,35 @@ impl<'s> NameSet<'s> {
     }
 
     /// The place of a name, counted from 0, or their number where it isn't among them.
-    pub fn place(&self, name: &[u8]) -> u32
+    pub fn place(&self, name: &[u8]) -> usize
         ensures { result ≡ place_of self.now name.now }
     {
-        self.names.get_index_of(name).unwrap_or(self.names.len()) as u32
+        self.names.get_index_of(name).unwrap_or(self.names.len())
     }
 
-    /// Adds a name at the end, unless it is among these; a set that is full refuses it as want of memory.
+    /// Adds a name at the end, unless it is among these; where memory is refused, nothing is added.
     pub fn add(&mut self, name: &'s [u8]) -> Result<(), OutOfMemory>
         ensures ok { OnOk result (self.new ≡ seen self.old name.now) }
         ensures err { OnErr result (self.new ≡ self.old) }
     {
-        if self.names.len() >= MOST_NAMES && !self.names.contains(name) {
-            return Err(OutOfMemory);
-        }
         self.names.insert(name)?;
         Ok(())
     }
+
+    /// The names in their order, copied out of the text.
+    pub fn to_names(&self, alloc: Global) -> Result<Names, OutOfMemory>
+        ensures { IfOk result (λ made. made ≡ self.now) }
+    {
+        let mut made = Names::new(alloc);
+        for name in self.names.as_slice() {
+            made.push(copy_of(alloc, name)?)?;
+        }
+        Ok(made)
+    }
+}
+
+fn copy_of(alloc: Global, name: &[u8]) -> Result<Name, OutOfMemory>
+    ensures { IfOk result (λ made. made ≡ name.now) }
+{
+    Ok(Items::from_vec(name.to_vec(alloc)?))
 }

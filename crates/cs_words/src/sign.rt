@@ -1,6 +1,6 @@
 // Which sign is what.
 ghost use Rattle.std.specs.Prelude.{◌≡◌};
-ghost use Rattle.cs_words.specs.Signs.{sign_of, plain_sign, operator_of};
+ghost use Rattle.cs_words.specs.Signs.{sign_of, plain_sign, operator_of, is_arithmetic, is_logic};
 
 use crate::table::looked_up;
 
@@ -20,6 +20,25 @@ pub enum BinOp {
     Mul,
     Div,
     Rem,
+}
+
+impl BinOp {
+    /// Whether it is `+`, `-`, `*`, `/` or `%`; the other operators give truth values.
+    pub fn is_arithmetic(self) -> bool
+        ensures { result ≡ is_arithmetic self }
+    {
+        matches!(
+            self,
+            BinOp::Add | BinOp::Sub | BinOp::Mul | BinOp::Div | BinOp::Rem
+        )
+    }
+
+    /// Whether it is `&&` or `||`.
+    pub fn is_logic(self) -> bool
+        ensures { result ≡ is_logic self }
+    {
+        matches!(self, BinOp::And | BinOp::Or)
+    }
 }
 
 /// What a sign is.
