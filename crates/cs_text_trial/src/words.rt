@@ -165,7 +165,7 @@ fn place_after(
     alloc: Global,
     names: &[&'static str],
     name: &str,
-) -> Result<(u32, u32), OutOfMemory> {
+) -> Result<(usize, usize), OutOfMemory> {
     let mut set = NameSet::new(alloc);
     for seen in names {
         set.add(seen.as_bytes())?;

@@ -1,5 +1,5 @@
 -- What a call answers, from what its calls answered.
-use Rattle.std.proofs.Common.{◌≡◌, ◌∙◌, ◌<◌, ◌+◌, ◌++◌, ℕ, List, [], ◌∷◌, Option, Some, None, Result, Ok, Err, sym, ap, subst, drop, get_or, length, refl, Vec, Global}
+use Rattle.std.proofs.Common.{◌≡◌, ◌∙◌, ◌<◌, ◌+◌, ◌++◌, ℕ, List, [], ◌∷◌, Option, Some, None, Result, Ok, Err, sym, ap, subst, drop, get_or, length, Vec, Global}
 use Rattle.std.specs.Option.{option_or}
 use Rattle.std.specs.Result.{IsErrAnd, IfOk}
 use Rattle.std.proofs.lemmas.List.{drop_more}
@@ -9,16 +9,16 @@ use Rattle.cs_base.specs.declared.fault.OrcFault.{OrcFault}
 use Rattle.cs_grammar.specs.declared.tree.Arm.{Arm, out-Arm}
 use Rattle.cs_grammar.specs.declared.tree.OrcStmt.{OrcStmt}
 use Rattle.cs_grammar.specs.Tree as tree
-use Rattle.cs_typing.specs.declared.call.Setting.{Setting}
+use Rattle.cs_typed.specs.declared.setting.Setting.{Setting}
 use Rattle.cs_typing.specs.Known.{Known}
 use Rattle.cs_typing.specs.Expressions.{typed_expression}
 use Rattle.cs_typing.specs.Settings.{at}
 use Rattle.cs_typing.specs.Statements.{condition_fault, fault, known, typed_statement, block_fault, known_block, typed_block, arms_fault, known_arms, typed_arms}
-use Rattle.cs_typing.specs.TypedTree as typed
-use Rattle.cs_typing.specs.declared.tree.TypedStmt.{TypedStmt}
-use Rattle.cs_typing.specs.declared.tree.TypedArm.{TypedArm, out-TypedArm}
-use Rattle.cs_typing.specs.inner.Answers.{Gives, arm_fault, GivesArms}
-use Rattle.cs_typing.proofs.Joined.{with_arms, one_more_arm, arms_with, one_more_stmt, then_nothing}
+use Rattle.cs_typed.specs.TypedTree as typed
+use Rattle.cs_typed.specs.declared.tree.TypedStmt.{TypedStmt}
+use Rattle.cs_typed.specs.declared.tree.TypedArm.{TypedArm, out-TypedArm}
+use Rattle.cs_typing.specs.inner.Answers.{arm_fault}
+use Rattle.cs_typing.proofs.Joined.{with_arms, one_more_arm, one_more_stmt}
 
 -- what vectors are in the tree
 abbrev pub arms_of : Vec TypedArm Global → List TypedArm

@@ -1,5 +1,5 @@
 -- Statements cut at the line of an instrument, and the parts of an orchestra one after the other.
-use Rattle.std.proofs.Common.{◌≡◌, ◌∙◌, ◌+◌, ◌++◌, ℕ, suc, Bool, true, false, List, [], ◌∷◌, map, take, drop, cond, nat_lt, Option, Some, None, if◌then◌else◌, refl, sym, ap, arith}
+use Rattle.std.proofs.Common.{◌≡◌, ◌∙◌, ◌+◌, ◌++◌, ℕ, suc, Bool, true, false, List, [], ◌∷◌, map, take, drop, cond, nat_lt, Some, None, if◌then◌else◌, refl, sym, ap, arith}
 use Rattle.std.specs.Option.{option_or}
 use Rattle.std.specs.List.{prefix_len}
 use Rattle.std.proofs.lemmas.List.{append-nil, append_assoc}
@@ -9,11 +9,11 @@ use Rattle.cs_grammar.specs.declared.tree.OrcStmt.{OrcStmt}
 use Rattle.cs_grammar.specs.declared.tree.StmtWhat.{StmtWhat}
 use Rattle.cs_grammar.specs.declared.tree.StmtWhat.TheVariants.{Set, AddTo, Call, Choose'}
 use Rattle.cs_grammar.specs.Tree as tree
-use Rattle.cs_typing.specs.declared.tree.TypedStmt.{TypedStmt}
+use Rattle.cs_typed.specs.declared.tree.TypedStmt.{TypedStmt}
 use Rattle.cs_typing.specs.Known.{Table, Shared, Known, known_with}
-use Rattle.cs_typing.specs.Typing.{line_of, before, from, Item, alone, body, items, item_fault, items_fault, known_item, known_items, typed_outside, typed_instrument, typed_instruments}
+use Rattle.cs_typing.specs.Typing.{line_of, before, from, Item, alone, body, items, item_fault, items_fault, known_item, typed_outside, typed_instrument, typed_instruments}
 use Rattle.cs_typing.specs.Statements.{known_block, typed_block}
-use Rattle.cs_typing.specs.TypedTree as typed
+use Rattle.cs_typed.specs.TypedTree as typed
 use Rattle.cs_typing.specs.inner.Walk.{Made, nothing, after_item, after_items}
 
 line_of_what : (line : ℕ) (w : StmtWhat) → line_of (tree.of_what line w) ≡ line

@@ -1,8 +1,8 @@
 -- Typed arms in front of others.
 use Rattle.std.proofs.Common.{◌≡◌, ◌++◌, List, [], ◌∷◌, refl, ap}
-use Rattle.cs_typing.specs.declared.tree.TypedArm.{TypedArm, out-TypedArm}
-use Rattle.cs_typing.specs.declared.tree.TypedStmt.{TypedStmt}
-use Rattle.cs_typing.specs.TypedTree.{Arms, arm, otherwise, Block, no_stmt, andthen, expression, statement, block, arms, then_block}
+use Rattle.cs_typed.specs.declared.tree.TypedArm.{TypedArm, out-TypedArm}
+use Rattle.cs_typed.specs.declared.tree.TypedStmt.{TypedStmt}
+use Rattle.cs_typed.specs.TypedTree.{Arms, arm, otherwise, Block, no_stmt, andthen, expression, statement, block, arms, then_block}
 
 abbrev pub with_arms : List TypedArm → Arms → Arms
 with_arms [] rest = rest

@@ -9,5 +9,4 @@ pub mod RatedExpressions
 pub mod Renaming
 pub mod Rows
 pub mod SettingRows
-pub mod Trees
 pub mod Zaks

@@ -1,9 +1,9 @@
 -- The typed instruments of an orchestra that was read have no `zakinit`.
-use Rattle.std.proofs.Common.{◌≡◌, ◌≢◌, ◌∙◌, ℕ, ◌+◌, List, [], ◌∷◌, codes, Option, Some, None, sym, ap}
+use Rattle.std.proofs.Common.{◌≢◌, ℕ, ◌+◌, List, [], ◌∷◌, codes, Option, Some, None, sym, ap}
 use Rattle.std.specs.List.{All}
 use Rattle.std.proofs.lemmas.List.Elements.{All-cons, All-nil, All-head, All-tail}
 use Rattle.cs_words.proofs.Apart.{found_so}
-use Rattle.cs_words.specs.Catalogue.{catalogued, row_of}
+use Rattle.cs_words.specs.Catalogue.{catalogued}
 use Rattle.cs_words.specs.declared.catalogue.Opcode.{Opcode}
 use Rattle.cs_words.specs.declared.catalogue.Opcode.TheVariants as op
 use Rattle.cs_grammar.specs.declared.scope.Place.TheVariants as place
@@ -13,7 +13,7 @@ use Rattle.cs_typing.specs.Calls.{typed_call}
 use Rattle.cs_typing.specs.Known.{Known}
 use Rattle.cs_typing.specs.Statements.{known, known_block, typed_statement, typed_block, typed_arms}
 use Rattle.cs_typing.specs.Typing.{alone, body, items, before, from, entered, known_item, first_known, typed_instrument, typed_instruments, typed_of}
-use Rattle.cs_typing.specs.WellRated.{HasNoZakinit, BlockHasNoZakinit, ArmsHaveNoZakinit}
+use Rattle.cs_typed.specs.WellRated.{HasNoZakinit, BlockHasNoZakinit, ArmsHaveNoZakinit}
 
 call_lacks : (line : ℕ) (n : Known) (o : Option Opcode) (results : List (List ℕ)) (args : List Argument) → o ≢ Some op.Zakinit → HasNoZakinit (typed_call line n o results args)
 call_lacks line n None results args h = tt

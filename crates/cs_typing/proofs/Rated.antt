@@ -5,7 +5,7 @@ use Rattle.std.specs.Option.{option_or}
 use Rattle.std.proofs.lemmas.Bool.{and_parts}
 use Rattle.std.proofs.lemmas.List.Elements.{All-cons, All-nil}
 use Rattle.cs_base.proofs.Rates.{within_faster, within_chain}
-use Rattle.cs_base.specs.Rates.{within, faster}
+use Rattle.cs_base.specs.Rates.{within, faster, is_init, is_audio}
 use Rattle.cs_base.specs.declared.fault.OrcFault.{OrcFault}
 use Rattle.cs_base.specs.declared.fault.OrcKind.{OrcKind}
 use Rattle.cs_base.specs.declared.fault.OrcKind.TheVariants as orc
@@ -13,15 +13,16 @@ use Rattle.cs_base.specs.declared.resource.Rate.TheVariants as rate
 use Rattle.cs_words.specs.Catalogue.{catalogued}
 use Rattle.cs_words.specs.Names.{name_rate}
 use Rattle.cs_grammar.specs.Tree.{Expression, Statement, set, add_to, call, choose, Block, no_stmt, andthen, Arms, otherwise, arm, Orchestra}
-use Rattle.cs_typing.specs.declared.call.Setting.{Setting}
+use Rattle.cs_typed.specs.Places.{outside, inside}
+use Rattle.cs_typed.specs.declared.setting.Setting.{Setting}
 use Rattle.cs_typing.specs.Calls.{call_fault}
-use Rattle.cs_typing.specs.Expressions.{is_init, is_audio, is_value, is_condition, rate_of, reads_known, typed_expression}
+use Rattle.cs_typing.specs.Expressions.{is_value, is_condition, rate_of, reads_known, typed_expression}
 use Rattle.cs_typing.specs.Known.{Known, variable}
 use Rattle.cs_typing.specs.Settings.{at, header, settings_fault}
 use Rattle.cs_typing.specs.Statements.{set_fault, condition_fault, sum_with, fault, block_fault, arms_fault, known, known_block, all_init, typed_statement, typed_block, typed_arms}
-use Rattle.cs_typing.specs.Typing.{Item, alone, body, items, entered, known_item, outside, inside, item_fault, items_fault, first_known, type_fault, typed_outside, typed_instrument, typed_instruments, typed_of}
-use Rattle.cs_typing.specs.TypedTree as typed
-use Rattle.cs_typing.specs.WellRated.{node_rate, IsRatedSet, all_still, IsRatedStatement, IsRatedBlock, IsRatedArms, IsWellRated}
+use Rattle.cs_typing.specs.Typing.{Item, alone, body, items, entered, known_item, item_fault, items_fault, first_known, type_fault, typed_outside, typed_instrument, typed_instruments, typed_of}
+use Rattle.cs_typed.specs.TypedTree as typed
+use Rattle.cs_typed.specs.WellRated.{node_rate, IsRatedSet, all_still, IsRatedStatement, IsRatedBlock, IsRatedArms, IsWellRated}
 use Rattle.cs_typing.proofs.RatedExpressions.{node_is, variable_rate, no_sound, value_rated, condition_rated}
 use Rattle.cs_typing.proofs.RatedCalls.{call_rated}
 

@@ -7,11 +7,12 @@ use Rattle.std.proofs.lemmas.Bool.{and_parts, and_from}
 use Rattle.std.proofs.lemmas.Bool.Decides.{nat_tests}
 use Rattle.std.proofs.lemmas.List.{length-map}
 use Rattle.std.proofs.lemmas.List.Elements.{All-cons, All-nil}
-use Rattle.cs_base.specs.Rates.{same_rate}
+use Rattle.cs_base.specs.Rates.{same_rate, is_init, is_audio}
 use Rattle.cs_base.specs.declared.fault.OrcKind.TheVariants as orc
 use Rattle.cs_base.specs.declared.resource.Rate.{Rate}
 use Rattle.cs_base.specs.declared.resource.Rate.TheVariants as rate
-use Rattle.cs_words.specs.Catalogue.{Row, row_of, letter_at, further, takes_count, result_count}
+use Rattle.cs_words.specs.Catalogue.{Row, row_of, letter_at, further, takes_count, result_count, takes, is_text}
+use Rattle.cs_words.specs.Names.{name_rate}
 use Rattle.cs_words.specs.declared.catalogue.Letter.{Letter}
 use Rattle.cs_words.specs.declared.catalogue.More.{More}
 use Rattle.cs_words.specs.declared.catalogue.More.TheVariants as more
@@ -20,14 +21,15 @@ use Rattle.cs_words.specs.declared.catalogue.Opcode.TheVariants as op
 use Rattle.cs_words.specs.declared.catalogue.Shape.{Shape}
 use Rattle.cs_words.specs.declared.catalogue.Shape.TheVariants as shape
 use Rattle.cs_grammar.specs.Tree.{Argument, value, text}
-use Rattle.cs_typing.specs.declared.call.Setting.{Setting}
+use Rattle.cs_typed.specs.Places.{stands_outside, is_starting, is_writing}
+use Rattle.cs_typed.specs.declared.setting.Setting.{Setting}
 use Rattle.cs_typing.specs.declared.known.Channel.{Channel}
 use Rattle.cs_typing.specs.declared.known.Channel.TheVariants as channel
-use Rattle.cs_typing.specs.Calls.{takes, is_text, fits, all_fit, bound_of, may_result, is_sound, is_even, stands_outside, kind_of, any_sound, channel_use, text_of, is_too_wide, all_known, rates_agree, counts_agree, row_fault, call_fault, is_starting, is_writing, is_still, call_rate, typed_arguments, typed_call}
-use Rattle.cs_typing.specs.Expressions.{is_init, is_audio, is_value, rate_of, typed_expression}
+use Rattle.cs_typing.specs.Calls.{fits, all_fit, bound_of, may_result, is_sound, is_even, kind_of, any_sound, channel_use, text_of, is_too_wide, all_known, rates_agree, counts_agree, row_fault, call_fault, is_still, call_rate, typed_arguments, typed_call}
+use Rattle.cs_typing.specs.Expressions.{is_value, rate_of, typed_expression}
 use Rattle.cs_typing.specs.Known.{Known, Shared, variable, channel_of, clashes}
-use Rattle.cs_typing.specs.TypedTree as typed
-use Rattle.cs_typing.specs.WellRated.{var_rate, is_variable, is_channel, node_rate, IsRatedArgument, row_left, fits_letter, fit_letters, bound_by, may_give, goes_beyond, stores_evenly, keeps_still, is_of_sound, done_at, IsRatedCall, IsRatedStatement}
+use Rattle.cs_typed.specs.TypedTree as typed
+use Rattle.cs_typed.specs.WellRated.{var_rate, is_variable, is_channel, node_rate, IsRatedArgument, row_left, fits_letter, fit_letters, bound_by, may_give, goes_beyond, stores_evenly, suits_channel, keeps_still, is_of_sound, done_at, IsRatedCall, IsRatedStatement}
 use Rattle.cs_typing.proofs.RatedExpressions.{node_is, variable_rate, not_true, value_rated}
 
 -- ---- letters that take no text
@@ -244,6 +246,55 @@ done_right n role sh [] args =
     (if is_writing sh && list_all is_still args then rate.Init else (if b then rate.Audio else rate.Control))) (sound_right n role args))
 done_right n role sh (name ∷ rest) args = ap (λ r. if is_starting sh then rate.Init else r) (sym (variable_rate n name).0)
 
+-- ---- a channel suits its use
+
+sound_agrees : (a b : Bool) → b ≡ a → (if a then b else not b) ≡ true
+sound_agrees true b h = h
+sound_agrees false b h = ap not h
+
+channel_rate : (s : Shared) (b : Bool) (name : List ℕ) → is_audio (var_rate (channel_of s (kind_of b) name)) ≡ b
+channel_rate s true name = refl
+channel_rate s false name = refl
+
+or_none : (b : Bool) → (b || (false || false)) ≡ b
+or_none true = refl
+or_none false = refl
+
+past_two : (m : ℕ) → (suc (suc (suc m)) - 2 == 0) ≡ false
+past_two m = grind (arith, nat_tests)
+
+suits_right : (n : Known) (o : Opcode) (results : List (List ℕ)) (args : List Argument) → takes_count (row_of o) (length args) ≡ true
+    → suits_channel (row_of o).shape (map (variable n) results) (typed_arguments n (channel_use (row_of o).shape results args) args) ≡ true
+suits_right n op.Chnget [] args c = refl
+suits_right n op.Chnget (name ∷ names) [] c = refl
+suits_right n op.Chnget (name ∷ names) (value x ∷ rest) c = refl
+suits_right n op.Chnget (name ∷ names) (text t ∷ rest) c =
+    let sound = is_audio (name_rate name) in
+    sound_agrees (is_audio (var_rate (variable n name))) (is_audio (var_rate (channel_of n.shared (kind_of sound) t)))
+    (channel_rate n.shared sound t ∙ sym (ap is_audio (variable_rate n name).0))
+suits_right n op.Chnset results [] c = refl
+suits_right n op.Chnset results (text t ∷ rest) c = refl
+suits_right n op.Chnset results (value x ∷ []) c = refl
+suits_right n op.Chnset results (value x ∷ value y ∷ rest) c = refl
+suits_right n op.Chnset results (value x ∷ text t ∷ []) c =
+    let sound = any_sound (value x ∷ text t ∷ []) in
+    sound_agrees (is_audio (node_rate (typed_expression n x))) (is_audio (var_rate (channel_of n.shared (kind_of sound) t)))
+    (channel_rate n.shared sound t ∙ or_none (is_audio (rate_of x)) ∙ sym (ap is_audio (node_is n x)))
+suits_right n op.Chnset results (value x ∷ text t ∷ a ∷ rest) c =
+    let m = length rest in
+    let none : (suc (suc (suc m)) - 2 == 0) ≡ true = (and_parts (nat_le 2 (suc (suc (suc m)))) (suc (suc (suc m)) - 2 == 0) c).1 in
+    let never : false ≡ true = sym (past_two m) ∙ none in
+    absurd (cc never)
+suits_right n op.Chnmix results [] c = refl
+suits_right n op.Chnmix results (text t ∷ rest) c = refl
+suits_right n op.Chnmix results (value x ∷ []) c = refl
+suits_right n op.Chnmix results (value x ∷ value y ∷ rest) c = refl
+suits_right n op.Chnmix results (value x ∷ text t ∷ rest) c = refl
+suits_right n op.Chnclear results [] c = refl
+suits_right n op.Chnclear results (value x ∷ rest) c = refl
+suits_right n op.Chnclear results (text t ∷ rest) c = refl
+suits_right n o results args c = refl
+
 -- ---- a call without a fault
 
 no_rule_broken : (a b c d e : Bool)
@@ -282,6 +333,7 @@ row_rated s n o results args h =
       letters = ap (λ b. fit_letters (row_left o) b 0 (typed_arguments n role args)) (sym (bound_right n results)) ∙ letters.0;
       parts = parts_rated n role row (bound_of results) args 0 inner.0;
       channels = channels_right n s o (bound_of results) results args inner.0 right.2;
+      suits = suits_right n o results args counts.1;
       even = stores_right n o (bound_of results) results args inner.0 middle.1;
       place = outer.1;
     }

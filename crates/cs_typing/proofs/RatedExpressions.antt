@@ -2,16 +2,17 @@
 use Rattle.std.proofs.Common.{◌≡◌, ◌∙◌, ℕ, Bool, true, false, not, ◌&&◌, ◌||◌, if◌then◌else◌, List, refl, sym, ap}
 use Rattle.std.proofs.lemmas.Bool.{and_parts}
 use Rattle.cs_base.proofs.Tests.{by_test}
-use Rattle.cs_base.specs.Rates.{faster}
+use Rattle.cs_base.specs.Rates.{faster, is_audio, res_rate}
 use Rattle.cs_base.specs.declared.resource.Rate.{Rate}
 use Rattle.cs_base.specs.declared.resource.Rate.TheVariants as rate
+use Rattle.cs_words.specs.Signs.{is_arithmetic, is_logic}
 use Rattle.cs_words.specs.Names.{name_rate, is_global}
 use Rattle.cs_words.specs.declared.word.Func.TheVariants as func
 use Rattle.cs_grammar.specs.Tree.{Expression, number, var, field, head, neg, pair, pick, apply}
-use Rattle.cs_typing.specs.declared.tree.Var.TheVariants as variable_of
-use Rattle.cs_typing.specs.Expressions.{is_audio, is_arithmetic, is_logic, is_control_name, is_value, is_condition, rate_of, typed_expression}
+use Rattle.cs_typed.specs.declared.tree.Var.TheVariants as variable_of
+use Rattle.cs_typing.specs.Expressions.{is_control_name, is_value, is_condition, rate_of, typed_expression}
 use Rattle.cs_typing.specs.Known.{Known, variable, global, place_in}
-use Rattle.cs_typing.specs.WellRated.{res_rate, var_rate, is_variable, node_rate, is_read_once, IsRated}
+use Rattle.cs_typed.specs.WellRated.{var_rate, is_variable, node_rate, is_read_once, IsRated}
 
 -- the rate beside the typed form is that of the text
 pub node_is : (n : Known) (e : Expression) → node_rate (typed_expression n e) ≡ rate_of e

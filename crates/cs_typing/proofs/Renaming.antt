@@ -5,11 +5,12 @@ use Rattle.std.specs.Str.{bytes_eq}
 use Rattle.std.specs.Option.{option_or}
 use Rattle.std.proofs.lemmas.List.{length-map, map-append}
 use Rattle.std.proofs.lemmas.Slice.Eq.{bytes_eq-Decides}
-use Rattle.cs_base.specs.Rates.{within, faster, same_rate}
+use Rattle.cs_base.specs.Rates.{within, faster, same_rate, is_init, is_control, is_audio}
 use Rattle.cs_base.specs.declared.fault.OrcKind.TheVariants as orc
 use Rattle.cs_base.specs.declared.resource.Rate.{Rate}
 use Rattle.cs_base.specs.declared.resource.Rate.TheVariants as rate
-use Rattle.cs_words.specs.Catalogue.{Row, row_of, catalogued, letter_at, takes_count, result_count}
+use Rattle.cs_words.specs.Signs.{is_arithmetic, is_logic}
+use Rattle.cs_words.specs.Catalogue.{Row, row_of, catalogued, letter_at, takes_count, result_count, takes}
 use Rattle.cs_words.specs.NameSets.{has, place_of, seen}
 use Rattle.cs_words.specs.Names.{name_rate, is_global}
 use Rattle.cs_words.specs.declared.catalogue.Letter.{Letter}
@@ -18,17 +19,18 @@ use Rattle.cs_words.specs.declared.catalogue.Shape.{Shape}
 use Rattle.cs_words.specs.declared.catalogue.Shape.TheVariants as shape
 use Rattle.cs_words.specs.declared.word.Func.TheVariants as func
 use Rattle.cs_grammar.specs.Tree.{Expression, number, var, field, head, neg, pair, pick, apply, Argument, value, text, Statement, set, add_to, call, choose, Block, no_stmt, andthen, Arms, otherwise, arm}
-use Rattle.cs_typing.specs.declared.call.Setting.{Setting}
+use Rattle.cs_typed.specs.Places.{stands_outside, is_starting, is_writing}
+use Rattle.cs_typed.specs.declared.setting.Setting.{Setting}
 use Rattle.cs_typing.specs.declared.known.Channel.{Channel}
-use Rattle.cs_typing.specs.declared.tree.Var.{Var}
-use Rattle.cs_typing.specs.declared.tree.Var.TheVariants as variant
-use Rattle.cs_typing.specs.Calls.{takes, fits, all_fit, bound_of, may_result, is_sound, any_sound, is_even, stands_outside, kind_of, channel_use, text_of, is_too_wide, argument_known, all_known, rates_agree, counts_agree, row_fault, call_fault, row_known, call_known, is_starting, is_writing, is_still, plain_rate, call_rate, typed_argument, typed_arguments, typed_row, typed_call}
-use Rattle.cs_typing.specs.Expressions.{is_init, is_control, is_audio, applied_rate, is_arithmetic, is_logic, is_control_name, is_value, is_condition, rate_of, reads_known, typed_expression}
+use Rattle.cs_typed.specs.declared.tree.Var.{Var}
+use Rattle.cs_typed.specs.declared.tree.Var.TheVariants as variant
+use Rattle.cs_typing.specs.Calls.{fits, all_fit, bound_of, may_result, is_sound, any_sound, is_even, kind_of, channel_use, text_of, is_too_wide, argument_known, all_known, rates_agree, counts_agree, row_fault, call_fault, row_known, call_known, is_still, plain_rate, call_rate, typed_argument, typed_arguments, typed_row, typed_call}
+use Rattle.cs_typing.specs.Expressions.{applied_rate, is_control_name, is_value, is_condition, rate_of, reads_known, typed_expression}
 use Rattle.cs_typing.specs.Known.{Table, of_rate, with_name, in_table, place_in, added, Known, known_with, knows, after_giving, given, given_all, use_channel, clashes, global, variable}
 use Rattle.cs_typing.specs.Renaming.{IsRenaming, renamed_name, renamed_expression, renamed_argument, renamed, renamed_block, renamed_arms, renamed_table, renamed_known}
 use Rattle.cs_typing.specs.Settings.{at}
 use Rattle.cs_typing.specs.Statements.{set_fault, condition_fault, sum_with, known, known_block, known_arms, fault, block_fault, arms_fault, all_init, typed_statement, typed_block, typed_arms}
-use Rattle.cs_typing.specs.TypedTree as typed
+use Rattle.cs_typed.specs.TypedTree as typed
 
 same_truth : (b c : Bool) → (b ≡ true → c ≡ true) → (c ≡ true → b ≡ true) → b ≡ c
 same_truth true c p q = sym (p refl)

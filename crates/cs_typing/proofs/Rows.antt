@@ -1,21 +1,16 @@
 -- Worked rows of the definition, by computation.
-use Rattle.std.proofs.Common.{◌≡◌, ℕ, ◌*◌, ℤ, pos, List, [], ◌∷◌, codes, Option, Some, None, Result, Ok, Err, refl}
+use Rattle.std.proofs.Common.{◌≡◌, ℕ, ◌*◌, ℤ, pos, List, [], ◌∷◌, codes, Option, Some, None, refl}
 use Rattle.cs_base.specs.declared.fault.OrcFault.{OrcFault}
 use Rattle.cs_base.specs.declared.fault.OrcKind.{OrcKind}
 use Rattle.cs_base.specs.declared.fault.OrcKind.TheVariants as orc
-use Rattle.cs_base.specs.declared.resource.Rate.TheVariants as rate
-use Rattle.cs_base.specs.declared.resource.Res.TheVariants as res
 use Rattle.cs_words.specs.Catalogue.{catalogued}
-use Rattle.cs_words.specs.declared.catalogue.Opcode.TheVariants as opcode
 use Rattle.cs_words.specs.declared.sign.BinOp.TheVariants as op
 use Rattle.cs_words.specs.declared.word.Func.TheVariants as func
 use Rattle.cs_words.specs.declared.word.HeadName.TheVariants as head
 use Rattle.cs_grammar.specs.declared.tree.HeadLine.{HeadLine}
-use Rattle.cs_grammar.specs.Tree.{Expression, number, var, field, neg, pair, pick, apply, Argument, value, text, Statement, set, add_to, call, choose, Block, no_stmt, andthen, Arms, otherwise, arm, Instrument, Orchestra}
-use Rattle.cs_typing.specs.Typing.{type_fault, typed_of, typing}
+use Rattle.cs_grammar.specs.Tree.{Expression, number, var, field, pair, apply, value, text, Statement, set, add_to, call, choose, Block, no_stmt, andthen, otherwise, arm, Instrument, Orchestra}
+use Rattle.cs_typing.specs.Typing.{type_fault}
 use Rattle.cs_typing.specs.Settings.{zaks_of_block, zak_places}
-use Rattle.cs_typing.specs.TypedTree as typed
-use Rattle.cs_typing.specs.declared.tree.Var.TheVariants as variable
 
 -- texts in few signs: a header line, an instrument at its line, an orchestra, a literal, a variable, statements
 abbrev line : ℕ → head.the_data → ℤ → HeadLine

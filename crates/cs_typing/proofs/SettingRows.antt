@@ -1,5 +1,5 @@
 -- Worked rows of the settings, by computation.
-use Rattle.std.proofs.Common.{◌≡◌, ℕ, ◌*◌, ◌+◌, ℤ, pos, negsuc, Bool, true, false, List, [], ◌∷◌, codes, Option, Some, None, refl}
+use Rattle.std.proofs.Common.{◌≡◌, ℕ, ◌*◌, ◌+◌, ℤ, pos, negsuc, true, false, [], ◌∷◌, codes, Option, Some, None, refl}
 use Rattle.cs_base.specs.declared.fault.OrcFault.{OrcFault}
 use Rattle.cs_base.specs.declared.fault.OrcKind.{OrcKind}
 use Rattle.cs_base.specs.declared.fault.OrcKind.TheVariants as orc
@@ -7,7 +7,7 @@ use Rattle.cs_words.specs.Catalogue.{catalogued}
 use Rattle.cs_words.specs.declared.sign.BinOp.TheVariants as op
 use Rattle.cs_words.specs.declared.word.HeadName.TheVariants as head
 use Rattle.cs_grammar.specs.declared.tree.HeadLine.{HeadLine}
-use Rattle.cs_grammar.specs.Tree.{Expression, number, neg, Argument, value, text, Statement, call, choose, pair, Block, no_stmt, andthen, otherwise, arm}
+use Rattle.cs_grammar.specs.Tree.{number, neg, Argument, value, Statement, call, choose, pair, no_stmt, andthen, otherwise, arm}
 use Rattle.cs_typing.specs.Settings.{in_range, header, settings_fault, zaks_of_block, zak_places}
 
 -- a header line of a number in 65,536ths, a whole one, a `zakinit`, and a broken rule

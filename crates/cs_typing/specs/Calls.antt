@@ -1,39 +1,24 @@
 use Rattle.std.specs.Prelude.{ℕ, Bool, true, false, not, List, [], ◌∷◌, ◌++◌, ◌&&◌, ◌||◌, ◌+◌, ◌==◌, length, map, nat_lt, Option, Some, None, if◌then◌else◌}
 use Rattle.std.specs.List.{list_any, list_all}
-use Rattle.cs_base.specs.Rates.{same_rate, within}
+use Rattle.cs_base.specs.Rates.{is_init, is_audio, same_rate}
 use Rattle.cs_base.specs.declared.fault.OrcKind.{OrcKind}
 use Rattle.cs_base.specs.declared.fault.OrcKind.TheVariants as orc
 use Rattle.cs_base.specs.declared.resource.Rate.{Rate}
 use Rattle.cs_base.specs.declared.resource.Rate.TheVariants as rate
-use Rattle.cs_words.specs.Catalogue.{Row, row_of, letter_at, takes_count, result_count}
+use Rattle.cs_words.specs.Catalogue.{Row, row_of, letter_at, takes, is_text, takes_count, result_count}
 use Rattle.cs_words.specs.Names.{name_rate}
 use Rattle.cs_words.specs.declared.catalogue.Letter.{Letter}
-use Rattle.cs_words.specs.declared.catalogue.Letter.TheVariants as letter
 use Rattle.cs_words.specs.declared.catalogue.Opcode.{Opcode}
 use Rattle.cs_words.specs.declared.catalogue.Shape.{Shape}
 use Rattle.cs_words.specs.declared.catalogue.Shape.TheVariants as shape
 use Rattle.cs_grammar.specs.Tree.{Argument, value, text}
-use Rattle.cs_typing.specs.declared.call.Setting.{Setting}
-use Rattle.cs_typing.specs.Expressions.{is_init, is_audio, is_value, rate_of, reads_known, typed_expression}
-use Rattle.cs_typing.specs.Known.{Shared, Known, known_with, given_all, use_channel, clashes, channel_of, variable}
-use Rattle.cs_typing.specs.TypedTree as typed
+use Rattle.cs_typed.specs.Places.{is_writing, is_starting, stands_outside}
+use Rattle.cs_typed.specs.declared.setting.Setting.{Setting}
+use Rattle.cs_typing.specs.Expressions.{is_value, rate_of, reads_known, typed_expression}
+use Rattle.cs_typing.specs.Known.{Known, known_with, given_all, use_channel, clashes, channel_of, variable}
+use Rattle.cs_typed.specs.TypedTree as typed
 use Rattle.cs_typing.specs.declared.known.Channel.{Channel}
 use Rattle.cs_typing.specs.declared.known.Channel.TheVariants as channel
-
--- A letter takes a value of a rate, where the result's rate is the bound.
-abbrev pub takes : Letter → Rate → Rate → Bool
-takes letter.Init bound r = is_init r
-takes letter.Table bound r = is_init r
-takes letter.Control bound r = within r bound && not (is_audio r)
-takes letter.Place bound r = within r bound && not (is_audio r)
-takes letter.Audio bound r = is_audio r
-takes letter.Held bound r = within r bound
-takes letter.Any bound r = true
-takes letter.Text bound r = false
-
-abbrev pub is_text : Letter → Bool
-is_text letter.Text = true
-is_text _ = false
 
 -- a letter takes an argument
 abbrev pub fits : Letter → Rate → Argument → Bool
@@ -68,12 +53,6 @@ is_even shape.Store [] = true
 is_even shape.Store (a ∷ []) = true
 is_even shape.Store (a ∷ b ∷ rest) = if is_sound a then is_sound b else not (is_sound b)
 is_even _ args = true
-
--- what may stand outside instruments
-abbrev pub stands_outside : Shape → Bool
-stands_outside shape.Init = true
-stands_outside shape.ZakInit = true
-stands_outside _ = false
 
 -- a channel of sounds, or else of control values
 abbrev pub kind_of : Bool → Channel
@@ -140,19 +119,6 @@ row_known n row results args =
 abbrev pub call_known : Known → Option Opcode → List (List ℕ) → List Argument → Known
 call_known n None results args = given_all n results
 call_known n (Some opcode) results args = row_known n (row_of opcode) results args
-
--- what is done once, as the note begins, whatever its arguments
-abbrev pub is_starting : Shape → Bool
-is_starting shape.Init = true
-is_starting shape.ZakInit = true
-is_starting shape.Ask = true
-is_starting _ = false
-
--- what is done once where all its arguments are known when the note begins
-abbrev pub is_writing : Shape → Bool
-is_writing shape.Store = true
-is_writing shape.ChannelPut = true
-is_writing _ = false
 
 -- a text, or a value that is known when the note begins
 abbrev pub is_still : Argument → Bool

@@ -1,27 +1,14 @@
-use Rattle.std.specs.Prelude.{ℕ, Bool, true, false, not, List, ◌&&◌, if◌then◌else◌}
-use Rattle.cs_base.specs.Rates.{within, faster}
+use Rattle.std.specs.Prelude.{Bool, true, false, not, ◌&&◌, if◌then◌else◌}
+use Rattle.cs_base.specs.Rates.{is_control, is_audio, faster}
 use Rattle.cs_base.specs.declared.resource.Rate.{Rate}
 use Rattle.cs_base.specs.declared.resource.Rate.TheVariants as rate
 use Rattle.cs_words.specs.Names.{name_rate}
-use Rattle.cs_words.specs.declared.sign.BinOp.{BinOp}
-use Rattle.cs_words.specs.declared.sign.BinOp.TheVariants as op
+use Rattle.cs_words.specs.Signs.{is_arithmetic, is_logic}
 use Rattle.cs_words.specs.declared.word.Func.{Func}
 use Rattle.cs_words.specs.declared.word.Func.TheVariants as func
 use Rattle.cs_grammar.specs.Tree.{Expression, number, var, field, head, neg, pair, pick, apply}
 use Rattle.cs_typing.specs.Known.{Known, knows, variable}
-use Rattle.cs_typing.specs.TypedTree as typed
-
-abbrev pub is_init : Rate → Bool
-is_init rate.Init = true
-is_init _ = false
-
-abbrev pub is_control : Rate → Bool
-is_control rate.Control = true
-is_control _ = false
-
-abbrev pub is_audio : Rate → Bool
-is_audio rate.Audio = true
-is_audio _ = false
+use Rattle.cs_typed.specs.TypedTree as typed
 
 -- the rate of a function's value: `i` of a variable is known when the note begins
 abbrev pub applied_rate : Func → Rate → Rate
@@ -38,21 +25,6 @@ rate_of (neg a) = rate_of a
 rate_of (pair o a b) = faster (rate_of a) (rate_of b)
 rate_of (pick c a b) = faster (rate_of c) (faster (rate_of a) (rate_of b))
 rate_of (apply f a) = applied_rate f (rate_of a)
-
--- `+`, `-`, `*`, `/` and `%`; the other operators give truth values
-abbrev pub is_arithmetic : BinOp → Bool
-is_arithmetic op.Add = true
-is_arithmetic op.Sub = true
-is_arithmetic op.Mul = true
-is_arithmetic op.Div = true
-is_arithmetic op.Rem = true
-is_arithmetic _ = false
-
--- `&&` and `||`
-abbrev pub is_logic : BinOp → Bool
-is_logic op.And = true
-is_logic op.Or = true
-is_logic _ = false
 
 -- the name of a variable of the control rate
 abbrev pub is_control_name : Expression → Bool

@@ -1,4 +1,4 @@
-use Rattle.std.specs.Prelude.{ℕ, Bool, true, false, List, [], ◌∷◌, Option, Some, None, if◌then◌else◌}
+use Rattle.std.specs.Prelude.{ℕ, Bool, false, List, [], ◌∷◌, Option, Some, None, if◌then◌else◌}
 use Rattle.cs_base.specs.declared.resource.Rate.{Rate}
 use Rattle.cs_base.specs.declared.resource.Rate.TheVariants as rate
 use Rattle.cs_base.specs.declared.resource.Res.{Res}
@@ -7,8 +7,8 @@ use Rattle.cs_words.specs.Names.{name_rate, is_global}
 use Rattle.cs_words.specs.NameSets.{has, place_of, seen}
 use Rattle.cs_typing.specs.declared.known.Channel.{Channel}
 use Rattle.cs_typing.specs.declared.known.Channel.TheVariants as channel
-use Rattle.cs_typing.specs.declared.tree.Var.{Var}
-use Rattle.cs_typing.specs.declared.tree.Var.TheVariants as var
+use Rattle.cs_typed.specs.declared.tree.Var.{Var}
+use Rattle.cs_typed.specs.declared.tree.Var.TheVariants as var
 
 -- names of variables by their rates, each list in the order in which they were first given
 pub record Table : Type 0 where

@@ -5,6 +5,4 @@ pub mod Known
 pub mod Renaming
 pub mod Settings
 pub mod Statements
-pub mod TypedTree
 pub mod Typing
-pub mod WellRated

@@ -11,18 +11,12 @@ use Rattle.cs_words.specs.declared.word.HeadName.{HeadName}
 use Rattle.cs_words.specs.declared.word.HeadName.TheVariants as head
 use Rattle.cs_grammar.specs.declared.tree.HeadLine.{HeadLine}
 use Rattle.cs_grammar.specs.Tree.{number, Argument, value, text, Statement, set, add_to, call, choose, Block, no_stmt, andthen, Arms, otherwise, arm}
+use Rattle.cs_typed.specs.Places.{Header}
 
 -- a kind of fault at a line
 abbrev pub at : ℕ → Option OrcKind → Option OrcFault
 at line None = None
 at line (Some kind) = Some (record { line = line; kind = kind })
-
--- What holds for a whole piece: frames a second, frames a control cycle, channels, and the value of full scale in 65,536ths.
-pub record Header : Type 0 where
-  pub sr : ℕ
-  pub ksmps : ℕ
-  pub nchnls : ℕ
-  pub dbfs : ℤ
 
 -- the whole of a number, as the numbers of a text have it
 abbrev pub whole : ℤ → ℕ

@@ -1,6 +1,6 @@
-use Rattle.std.specs.Prelude.{ℕ, Bool, true, false, not, List, [], ◌∷◌, ◌&&◌, ◌||◌, Option, Some, None, if◌then◌else◌}
-use Rattle.std.specs.Option.{option_map, option_or}
-use Rattle.cs_base.specs.Rates.{within}
+use Rattle.std.specs.Prelude.{ℕ, Bool, true, not, List, ◌&&◌, ◌||◌, Option, Some, None, if◌then◌else◌}
+use Rattle.std.specs.Option.{option_or}
+use Rattle.cs_base.specs.Rates.{is_init, within}
 use Rattle.cs_base.specs.declared.fault.OrcFault.{OrcFault}
 use Rattle.cs_base.specs.declared.fault.OrcKind.{OrcKind}
 use Rattle.cs_base.specs.declared.fault.OrcKind.TheVariants as orc
@@ -10,12 +10,12 @@ use Rattle.cs_words.specs.Catalogue.{catalogued}
 use Rattle.cs_words.specs.Names.{name_rate}
 use Rattle.cs_words.specs.declared.sign.BinOp.TheVariants as op
 use Rattle.cs_grammar.specs.Tree.{Expression, var, pair, Statement, set, add_to, call, choose, Block, no_stmt, andthen, Arms, otherwise, arm}
-use Rattle.cs_typing.specs.declared.call.Setting.{Setting}
+use Rattle.cs_typed.specs.declared.setting.Setting.{Setting}
 use Rattle.cs_typing.specs.Calls.{call_fault, call_known, typed_call}
-use Rattle.cs_typing.specs.Expressions.{is_init, is_value, is_condition, rate_of, reads_known, typed_expression}
+use Rattle.cs_typing.specs.Expressions.{is_value, is_condition, rate_of, reads_known, typed_expression}
 use Rattle.cs_typing.specs.Known.{Known, given, variable}
 use Rattle.cs_typing.specs.Settings.{at}
-use Rattle.cs_typing.specs.TypedTree as typed
+use Rattle.cs_typed.specs.TypedTree as typed
 
 -- a value that a variable may take
 abbrev pub may_set : Setting → List ℕ → Expression → Bool

@@ -1,13 +1,13 @@
-use Rattle.std.specs.Prelude.{ℕ, Bool, true, false, List, [], ◌∷◌, ◌+◌, nat_lt, Option, Some, None, Result, Ok, Err, if◌then◌else◌}
+use Rattle.std.specs.Prelude.{ℕ, List, [], ◌∷◌, nat_lt, Option, Some, None, Result, Ok, Err, if◌then◌else◌}
 use Rattle.std.specs.Option.{option_or}
 use Rattle.cs_base.specs.declared.fault.OrcFault.{OrcFault}
 use Rattle.cs_words.specs.Names.{is_global}
 use Rattle.cs_grammar.specs.Tree.{Statement, set, add_to, call, choose, Block, no_stmt, andthen, Arms, otherwise, arm, Instrument, Orchestra}
-use Rattle.cs_typing.specs.declared.call.Setting.{Setting}
+use Rattle.cs_typed.specs.Places.{outside, inside}
 use Rattle.cs_typing.specs.Known.{Table, no_names, added, Shared, Known, known_with}
 use Rattle.cs_typing.specs.Settings.{header, settings_fault, zaks_of_block, zak_places}
 use Rattle.cs_typing.specs.Statements.{block_fault, known_block, typed_block}
-use Rattle.cs_typing.specs.TypedTree as typed
+use Rattle.cs_typed.specs.TypedTree as typed
 
 -- the global variables that statements give, after those before
 abbrev pub given_global : Table → List ℕ → Table
@@ -79,12 +79,6 @@ known_item n (body i) = left n (known_block (entered n) i.body)
 abbrev pub known_items : Known → List Item → Known
 known_items n [] = n
 known_items n (x ∷ rest) = known_items (known_item n x) rest
-
-abbrev pub outside : ℕ → Setting
-outside channels = record { inside = false; channels = channels }
-
-abbrev pub inside : ℕ → Setting
-inside channels = record { inside = true; channels = channels }
 
 abbrev pub item_fault : ℕ → Known → Item → Option OrcFault
 item_fault channels n (alone b) = block_fault (outside channels) n b

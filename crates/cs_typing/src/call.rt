@@ -4,54 +4,28 @@ ghost use Rattle.std.specs.List.{list_all};
 ghost use Rattle.cs_base.specs.declared.fault.Or.TheVariants as or;
 ghost use Rattle.cs_words.specs.Catalogue.{catalogued};
 ghost use Rattle.cs_grammar.specs.Tree.{argument};
-ghost use Rattle.cs_typing.specs.Calls.{takes, is_text, fits, all_fit, bound_of, may_result, is_sound, any_sound, is_even, stands_outside, kind_of, channel_use, text_of, is_too_wide, argument_known, all_known, rates_agree, counts_agree, row_fault, is_starting, is_writing, is_still, plain_rate, call_rate, typed_argument, typed_arguments, typed_row, call_fault, call_known, typed_call};
+ghost use Rattle.cs_typed.specs.Places.{stands_outside, is_starting, is_writing};
+ghost use Rattle.cs_typing.specs.Calls.{fits, all_fit, bound_of, may_result, is_sound, any_sound, is_even, kind_of, channel_use, text_of, is_too_wide, argument_known, all_known, rates_agree, counts_agree, row_fault, is_still, plain_rate, call_rate, typed_argument, typed_arguments, typed_row, call_fault, call_known, typed_call};
 ghost use Rattle.cs_typing.specs.Known.{known_with, variable, given_all};
 ghost use Rattle.cs_typing.specs.Settings.{at};
-ghost use Rattle.cs_typing.specs.TypedTree as typed;
+ghost use Rattle.cs_typed.specs.TypedTree as typed;
 ghost use Rattle.cs_typing.specs.inner.Answers.{Gives};
 
-use crate::expr::{is_audio, is_init, is_value, rate_of, reads_known, typed_expression};
+use crate::expr::{is_value, rate_of, reads_known, typed_expression};
 use crate::known::{Channel, Shared, Table, give};
-use crate::tree::{TypedArg, TypedArgs, TypedStmt, TypedWhat, Vars};
 use cs_base::{Name, Or, OrcFault, OrcKind, OutOfMemory, Rate};
 use cs_grammar::Arg;
+use cs_typed::{Setting, TypedArg, TypedArgs, TypedStmt, TypedWhat, Vars};
 use cs_words::{Letter, Opcode, Shape, Signature, find_opcode, name_rate, signature_of};
 use std::alloc::Global;
-
-/// Where a statement stands: inside an instrument or outside of all, and how many channels the piece has.
-#[derive(Clone, Copy)]
-pub struct Setting {
-    pub inside: bool,
-    pub channels: u32,
-}
-
-// Whether a letter takes a value of a rate, where the result's rate is the bound.
-fn takes(letter: Letter, bound: Rate, rate: Rate) -> bool
-    ensures { result ≡ takes letter bound rate }
-{
-    match letter {
-        Letter::Init | Letter::Table => is_init(rate),
-        Letter::Control | Letter::Place => rate.within(bound) && !is_audio(rate),
-        Letter::Audio => is_audio(rate),
-        Letter::Held => rate.within(bound),
-        Letter::Any => true,
-        Letter::Text => false,
-    }
-}
-
-fn is_text(letter: Letter) -> bool
-    ensures { result ≡ is_text letter }
-{
-    matches!(letter, Letter::Text)
-}
 
 // Whether a letter takes an argument.
 fn fits(letter: Letter, bound: Rate, arg: &Arg) -> bool
     ensures { result ≡ fits letter bound (argument arg.now) }
 {
     match arg {
-        Arg::Value(e) => is_value(e) && takes(letter, bound, rate_of(e)),
-        Arg::Text(_) => is_text(letter),
+        Arg::Value(e) => is_value(e) && letter.takes(bound, rate_of(e)),
+        Arg::Text(_) => letter.is_text(),
     }
 }
 
@@ -108,7 +82,7 @@ fn is_sound(arg: &Arg) -> bool
     ensures { result ≡ is_sound (argument arg.now) }
 {
     match arg {
-        Arg::Value(e) => is_audio(rate_of(e)),
+        Arg::Value(e) => rate_of(e).is_audio(),
         Arg::Text(_) => false,
     }
 }
@@ -157,7 +131,7 @@ fn channel_use(shape: Shape, results: &[Name], args: &[Arg]) -> Option<Channel>
     ensures { result ≡ channel_use shape results.now (map argument args.now) }
 {
     match shape {
-        Shape::ChannelGet => Some(kind_of(is_audio(bound_of(results)))),
+        Shape::ChannelGet => Some(kind_of(bound_of(results).is_audio())),
         Shape::ChannelPut => Some(kind_of(any_sound(args))),
         Shape::ChannelMix | Shape::ChannelClear => Some(Channel::Sound),
         _ => None,
@@ -269,7 +243,7 @@ fn is_still(arg: &Arg) -> bool
     ensures { result ≡ is_still (argument arg.now) }
 {
     match arg {
-        Arg::Value(e) => is_init(rate_of(e)),
+        Arg::Value(e) => rate_of(e).is_init(),
         Arg::Text(_) => true,
     }
 }

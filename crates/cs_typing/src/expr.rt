@@ -3,34 +3,16 @@ ghost use Rattle.std.specs.Prelude.{◌≡◌, IfOk};
 ghost use Rattle.cs_grammar.specs.Tree.{expression};
 ghost use Rattle.cs_base.specs.Rates.{faster};
 ghost use Rattle.cs_base.specs.declared.resource.Rate.TheVariants as rate;
-ghost use Rattle.cs_typing.specs.Expressions.{is_init, is_control, is_audio, rate_of, applied_rate, is_arithmetic, is_logic, is_control_name, is_value, is_condition, reads_known, typed_expression};
+ghost use Rattle.cs_typing.specs.Expressions.{rate_of, applied_rate, is_control_name, is_value, is_condition, reads_known, typed_expression};
 ghost use Rattle.cs_typing.specs.Known.{known_with};
-ghost use Rattle.cs_typing.specs.TypedTree as typed;
+ghost use Rattle.cs_typed.specs.TypedTree as typed;
 
 use crate::known::{Shared, Table};
-use crate::tree::{TypedExpr, TypedPart};
 use cs_base::{OutOfMemory, Rate};
 use cs_grammar::Expr;
+use cs_typed::{TypedExpr, TypedPart};
 use cs_words::{BinOp, Func, name_rate};
 use std::alloc::Global;
-
-pub fn is_init(rate: Rate) -> bool
-    ensures { result ≡ is_init rate }
-{
-    matches!(rate, Rate::Init)
-}
-
-fn is_control(rate: Rate) -> bool
-    ensures { result ≡ is_control rate }
-{
-    matches!(rate, Rate::Control)
-}
-
-pub fn is_audio(rate: Rate) -> bool
-    ensures { result ≡ is_audio rate }
-{
-    matches!(rate, Rate::Audio)
-}
 
 /// The rate of an expression: the fastest of its parts.
 pub fn rate_of(e: &Expr) -> Rate
@@ -47,27 +29,12 @@ pub fn rate_of(e: &Expr) -> Rate
     }
 }
 
-fn is_arithmetic(op: BinOp) -> bool
-    ensures { result ≡ is_arithmetic op }
-{
-    matches!(
-        op,
-        BinOp::Add | BinOp::Sub | BinOp::Mul | BinOp::Div | BinOp::Rem
-    )
-}
-
-fn is_logic(op: BinOp) -> bool
-    ensures { result ≡ is_logic op }
-{
-    matches!(op, BinOp::And | BinOp::Or)
-}
-
 // The name of a variable of the control rate.
 fn is_control_name(e: &Expr) -> bool
     ensures { result ≡ is_control_name (expression e.now) }
 {
     match e {
-        Expr::Var(name) => is_control(name_rate(name.as_slice())),
+        Expr::Var(name) => name_rate(name.as_slice()).is_control(),
         _ => false,
     }
 }
@@ -80,10 +47,10 @@ pub fn is_value(e: &Expr) -> bool
     match e {
         Expr::Number(_) | Expr::Var(_) | Expr::Field(_) | Expr::Head(_) => true,
         Expr::Neg(a) => is_value(a),
-        Expr::Pair(op, a, b) => is_arithmetic(*op) && is_value(a) && is_value(b),
+        Expr::Pair(op, a, b) => op.is_arithmetic() && is_value(a) && is_value(b),
         Expr::Pick(c, a, b) => is_condition(c) && is_value(a) && is_value(b),
         Expr::Call(Func::I, a) => is_control_name(a),
-        Expr::Call(Func::Cpspch, a) => is_value(a) && !is_audio(rate_of(a)),
+        Expr::Call(Func::Cpspch, a) => is_value(a) && !rate_of(a).is_audio(),
         Expr::Call(_, a) => is_value(a),
     }
 }
@@ -95,11 +62,11 @@ pub fn is_condition(e: &Expr) -> bool
 {
     match e {
         Expr::Pair(op, a, b) => {
-            if is_logic(*op) {
+            if op.is_logic() {
                 is_condition(a) && is_condition(b)
             } else {
-                !is_arithmetic(*op)
-                    && (is_value(a) && is_value(b) && !is_audio(rate_of(a).faster(rate_of(b))))
+                !op.is_arithmetic()
+                    && (is_value(a) && is_value(b) && !rate_of(a).faster(rate_of(b)).is_audio())
             }
         }
         _ => false,

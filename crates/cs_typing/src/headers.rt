@@ -2,7 +2,7 @@
 ghost use Rattle.std.specs.Prelude.{◌≡◌, ◌≤◌, ◌<◌, ◌^◌, ◌<ℤ◌, pos, [], Some, None};
 ghost use Rattle.cs_words.specs.declared.word.HeadName.TheVariants as head;
 ghost use Rattle.cs_typing.specs.Settings.{at, raw_of, whole, is_whole_to, is_above_zero, in_range, same_head, header_fault, headers_fault, header_of, whole_or, value_or, rate_of_frames, ksmps_of, header, is_product, kr_agrees, kr_fault};
-ghost use Rattle.cs_typing.specs.TypedTree.{header_of_head};
+ghost use Rattle.cs_typed.specs.TypedTree.{header_of_head};
 ghost use Rattle.cs_typing.specs.inner.Settled.{is_given};
 
 use cs_base::{Head, Num, OrcFault, OrcKind};

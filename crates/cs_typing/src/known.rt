@@ -2,12 +2,11 @@
 ghost use Rattle.std.specs.Prelude.{◌≡◌, OnOk, IfOk, []};
 ghost use Rattle.cs_typing.specs.Known.{no_names, of_rate, in_table, place_in, added, known_with, knows, variable, after_giving, clashes, channel_of, use_channel, global};
 ghost use Rattle.cs_typing.specs.Typing.{shared_names};
-ghost use Rattle.cs_typing.specs.TypedTree as typed;
+ghost use Rattle.cs_typed.specs.TypedTree as typed;
 
-use crate::names::NameList;
-use crate::tree::{Globals, Var};
 use cs_base::{Names, OutOfMemory, Rate, Res};
-use cs_words::{is_global, name_rate};
+use cs_typed::{Globals, Var};
+use cs_words::{NameSet, is_global, name_rate};
 use std::alloc::Global;
 use std::marker::Model;
 
@@ -21,9 +20,9 @@ pub enum Channel {
 /// Names of variables by their rates, each list in the order in which they were first given.
 #[derive(Drop)]
 pub struct Table<'t> {
-    init: NameList<'t>,
-    control: NameList<'t>,
-    audio: NameList<'t>,
+    init: NameSet<'t>,
+    control: NameSet<'t>,
+    audio: NameSet<'t>,
 }
 
 impl<'t> Model for Table<'t> {
@@ -40,14 +39,14 @@ impl<'t> Table<'t> {
         ensures { result ≡ no_names }
     {
         Table {
-            init: NameList::new(alloc),
-            control: NameList::new(alloc),
-            audio: NameList::new(alloc),
+            init: NameSet::new(alloc),
+            control: NameSet::new(alloc),
+            audio: NameSet::new(alloc),
         }
     }
 
     /// The names of a rate.
-    pub fn of_rate(&self, rate: Rate) -> &NameList<'t>
+    pub fn of_rate(&self, rate: Rate) -> &NameSet<'t>
         ensures { result.now ≡ of_rate rate self.now }
     {
         match rate {
@@ -65,7 +64,7 @@ impl<'t> Table<'t> {
     }
 
     /// The number of a name among those of its rate; a new name has the next.
-    pub fn place(&self, name: &[u8]) -> u32
+    pub fn place(&self, name: &[u8]) -> usize
         ensures { result ≡ place_in self.now name.now }
     {
         self.of_rate(name_rate(name)).place(name)
@@ -85,12 +84,13 @@ impl<'t> Table<'t> {
 
 impl<'t> Table<'t> {
     /// The names of each rate, copied: of the initialisation, of the control rate, of the audio rate.
-    fn copied(&self, alloc: Global) -> Result<(Names, Names, Names), OutOfMemory>
-        ensures { IfOk result (λ made. (made.0 ≡ self.now.init) × (made.1 ≡ self.now.control) × (made.2 ≡ self.now.audio)) }
+    fn to_names(&self, alloc: Global) -> Result<(Names, Names, Names), OutOfMemory>
+        ensures { IfOk result (λ made. (made.0 ≡ self.now.init)
+            × (made.1 ≡ self.now.control) × (made.2 ≡ self.now.audio)) }
     {
-        let init = self.init.copied(alloc)?;
-        let control = self.control.copied(alloc)?;
-        Ok((init, control, self.audio.copied(alloc)?))
+        let init = self.init.to_names(alloc)?;
+        let control = self.control.to_names(alloc)?;
+        Ok((init, control, self.audio.to_names(alloc)?))
     }
 }
 
@@ -98,8 +98,8 @@ impl<'t> Table<'t> {
 #[derive(Drop)]
 pub struct Shared<'t> {
     globals: Table<'t>,
-    control: NameList<'t>,
-    sound: NameList<'t>,
+    control: NameSet<'t>,
+    sound: NameSet<'t>,
 }
 
 impl<'t> Model for Shared<'t> {
@@ -117,8 +117,8 @@ impl<'t> Shared<'t> {
     {
         Shared {
             globals,
-            control: NameList::new(alloc),
-            sound: NameList::new(alloc),
+            control: NameSet::new(alloc),
+            sound: NameSet::new(alloc),
         }
     }
 
@@ -183,8 +183,8 @@ impl<'t> Shared<'t> {
     fn channels(&self, alloc: Global) -> Result<(Names, Names), OutOfMemory>
         ensures { IfOk result (λ made. (made.0 ≡ self.now.control) × (made.1 ≡ self.now.sound)) }
     {
-        let control = self.control.copied(alloc)?;
-        Ok((control, self.sound.copied(alloc)?))
+        let control = self.control.to_names(alloc)?;
+        Ok((control, self.sound.to_names(alloc)?))
     }
 
     /// All names, copied.
@@ -192,7 +192,7 @@ impl<'t> Shared<'t> {
         ensures { IfOk result (λ made. typed.shared_names made ≡ shared_names self.now) }
     {
         let (control, sound) = self.channels(alloc)?;
-        let (gi, gk, ga) = self.globals.copied(alloc)?;
+        let (gi, gk, ga) = self.globals.to_names(alloc)?;
         Ok(Globals {
             gi,
             gk,
@@ -204,7 +204,7 @@ impl<'t> Shared<'t> {
 }
 
 // A global variable of a rate, by its number.
-fn global(rate: Rate, number: u32) -> Res
+fn global(rate: Rate, number: usize) -> Res
     ensures { result ≡ global rate number }
 {
     match rate {

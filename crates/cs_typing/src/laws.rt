@@ -3,12 +3,12 @@ ghost use Rattle.std.specs.List.{All};
 ghost use Rattle.std.specs.Prelude.{ℕ, ◌≡◌, List, None};
 ghost use Rattle.cs_grammar.specs.Tree.{Orchestra, Statement, Block};
 ghost use Rattle.cs_grammar.specs.WellFormed.{IsWellFormed};
-ghost use Rattle.cs_typing.specs.declared.call.Setting.{Setting};
+ghost use Rattle.cs_typed.specs.declared.setting.Setting.{Setting};
 ghost use Rattle.cs_typing.specs.Known.{Known};
 ghost use Rattle.cs_typing.specs.Renaming.{IsRenaming, renamed, renamed_block, renamed_known};
 ghost use Rattle.cs_typing.specs.Statements.{known, known_block, fault, block_fault, typed_statement, typed_block};
 ghost use Rattle.cs_typing.specs.Typing.{type_fault, typed_of};
-ghost use Rattle.cs_typing.specs.WellRated.{IsWellRated, BlockHasNoZakinit};
+ghost use Rattle.cs_typed.specs.WellRated.{IsWellRated, BlockHasNoZakinit};
 
 /// What an orchestra without a fault becomes agrees with the rules of rates: each part of an expression changes as often as its
 /// fastest part, an `if` is done once exactly where all its conditions are known when the note begins, the arguments of a call fit

@@ -6,9 +6,9 @@
 //! order of the text. What it answers agrees with the rules of rates (`typing_is_well_rated`), and no `zakinit` stands in an
 //! instrument (`instruments_have_no_zakinit`). How names are looked up may be changed without anyone above noticing.
 //!
-//! To be read in this order: `tree` (what is made), `names` and `known` (names and their numbers), `expr`, `call`, `stmt`
-//! (what is judged where it stands), `headers`, `zak` and `settle` (what holds for the whole piece), `globals` (the
-//! variables that all instruments share), `orc` (the parts in the order of the text), `laws`.
+//! To be read in this order: `known` (names and their numbers), `expr`, `call`, `stmt` (what is judged where it stands),
+//! `headers`, `zak` and `settle` (what holds for the whole piece), `globals` (the variables that all instruments share),
+//! `orc` (the parts in the order of the text), `laws`. What is made, the typed tree, is the layer below.
 #![tactic(auto)]
 
 mod call;
@@ -17,16 +17,14 @@ mod globals;
 mod headers;
 mod known;
 mod laws;
-mod names;
 mod orc;
 mod settle;
 mod stmt;
-mod tree;
 mod zak;
 
-pub use laws::{instruments_have_no_zakinit, typing_is_well_rated};
-pub use orc::type_orc;
-pub use tree::{
+pub use cs_typed::{
     Globals, TypedArg, TypedArgs, TypedArm, TypedArms, TypedExpr, TypedInstr, TypedOrc, TypedPart,
     TypedStmt, TypedStmts, TypedWhat, Var, Vars,
 };
+pub use laws::{instruments_have_no_zakinit, typing_is_well_rated};
+pub use orc::type_orc;

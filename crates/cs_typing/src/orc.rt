@@ -5,22 +5,22 @@ ghost use Rattle.std.specs.Prelude.{nat_lt};
 ghost use Rattle.cs_base.specs.declared.fault.Or.TheVariants as or;
 ghost use Rattle.cs_base.specs.declared.fault.OrcFault.{OrcFault};
 ghost use Rattle.cs_grammar.specs.Tree as tree;
+ghost use Rattle.cs_typed.specs.Places.{inside};
 ghost use Rattle.cs_typing.specs.Known.{known_with, no_names};
 ghost use Rattle.cs_typing.specs.Statements.{block_fault, known_block, typed_block};
-ghost use Rattle.cs_typing.specs.TypedTree as typed;
-ghost use Rattle.cs_typing.specs.TypedTree.{header_of_head};
-ghost use Rattle.cs_typing.specs.Typing.{items, items_fault, item_fault, known_item, known_items, alone, body, inside, typed_outside, typed_instruments, first_known, shared_names, type_fault, typed_of};
+ghost use Rattle.cs_typed.specs.TypedTree as typed;
+ghost use Rattle.cs_typed.specs.TypedTree.{header_of_head};
+ghost use Rattle.cs_typing.specs.Typing.{items, items_fault, item_fault, known_item, known_items, alone, body, typed_outside, typed_instruments, first_known, shared_names, type_fault, typed_of};
 ghost use Rattle.cs_typing.specs.inner.Answers.{Gives};
 ghost use Rattle.cs_typing.specs.inner.Walk.{Judged, GivesOrc, parts_fault, typed_by, made_of, nothing, after_item, after_items};
 
-use crate::call::Setting;
 use crate::globals::all_globals;
 use crate::known::{Shared, Table};
 use crate::settle::{Setup, settings};
 use crate::stmt::block;
-use crate::tree::{Globals, TypedInstr, TypedOrc, TypedStmts};
 use cs_base::{Items, Numbers, Or, OrcFault, OutOfMemory};
 use cs_grammar::{Instr, Orc, OrcStmt};
+use cs_typed::{Globals, Setting, TypedInstr, TypedOrc, TypedStmts};
 use std::alloc::Global;
 
 /// What is made of the parts so far: typed statements of the code outside instruments, and typed instruments.

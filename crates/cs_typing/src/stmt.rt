@@ -7,15 +7,16 @@ ghost use Rattle.cs_typing.specs.Expressions.{typed_expression};
 ghost use Rattle.cs_typing.specs.Known.{known_with, variable, after_giving};
 ghost use Rattle.cs_typing.specs.Settings.{at};
 ghost use Rattle.cs_typing.specs.Statements.{may_set, set_fault, sum_with, condition_fault, fault, block_fault, arms_fault, known, known_block, known_arms, typed_statement, typed_block, typed_arms, choice_rate, all_init};
-ghost use Rattle.cs_typing.specs.TypedTree as typed;
+ghost use Rattle.cs_typed.specs.TypedTree as typed;
+ghost use Rattle.cs_typed.specs.declared.tree.Var.{Var};
 ghost use Rattle.cs_typing.specs.inner.Answers.{Gives, GivesArm, GivesArms};
 
-use crate::call::{Setting, broken, call};
-use crate::expr::{is_condition, is_init, is_value, rate_of, reads_known, typed_expression};
+use crate::call::{broken, call};
+use crate::expr::{is_condition, is_value, rate_of, reads_known, typed_expression};
 use crate::known::{Shared, Table, give};
-use crate::tree::{TypedArm, TypedArms, TypedExpr, TypedStmt, TypedStmts, TypedWhat};
 use cs_base::{Or, OrcFault, OrcKind, Rate};
 use cs_grammar::{Arm, Expr, OrcStmt, StmtWhat};
+use cs_typed::{Setting, TypedArm, TypedArms, TypedExpr, TypedStmt, TypedStmts, TypedWhat, Var};
 use cs_words::name_rate;
 use std::alloc::Global;
 
@@ -25,7 +26,7 @@ fn may_set(setting: Setting, name: &[u8], e: &Expr) -> bool
 {
     is_value(e)
         && rate_of(e).within(name_rate(name))
-        && (setting.inside || is_init(name_rate(name)))
+        && (setting.inside || name_rate(name).is_init())
 }
 
 // The first rule that an assignment breaks.
@@ -53,7 +54,7 @@ fn may_add(setting: Setting, name: &[u8], e: &Expr) -> bool
 {
     is_value(e)
         && name_rate(name).faster(rate_of(e)).within(name_rate(name))
-        && (setting.inside || is_init(name_rate(name)))
+        && (setting.inside || name_rate(name).is_init())
 }
 
 // The first rule that `name += e` breaks: it is `name = name + e`.
@@ -87,11 +88,38 @@ fn condition_fault<'t>(
 {
     if !reads_known(shared, locals, e) {
         Some(OrcKind::Undefined)
-    } else if !(is_condition(e) && (setting.inside || is_init(rate_of(e)))) {
+    } else if !(is_condition(e) && (setting.inside || rate_of(e).is_init())) {
         Some(OrcKind::RateMismatch)
     } else {
         None
     }
+}
+
+// The variable and the typed value of an assignment that has no fault; the variable is known from
+// then on.
+fn assigned<'t>(
+    alloc: Global,
+    shared: &Shared<'t>,
+    locals: &mut Table<'t>,
+    line: u32,
+    fault: Option<OrcKind>,
+    name: &'t [u8],
+    e: &Expr,
+) -> Result<(Var, TypedExpr), Or<OrcFault>>
+    ensures gives { Gives {A = Var × typed.Expression} (λ m. (m.0, typed.expression m.1))
+        result (at line fault) (
+          variable (known_with shared.now locals.old) name.now,
+          typed_expression (known_with shared.now locals.old) (tree.expression e.now),
+        ) }
+    ensures known { OnOk result (locals.new ≡ after_giving locals.old name.now) }
+{
+    if let Some(kind) = fault {
+        return Err(broken(line, kind));
+    }
+    let var = shared.variable(locals, name);
+    let value = typed_expression(alloc, shared, locals, e)?;
+    give(locals, name)?;
+    Ok((var, value))
 }
 
 // `name = e`
@@ -105,17 +133,14 @@ fn set<'t>(
     e: &Expr,
 ) -> Result<TypedStmt, Or<OrcFault>>
     ensures gives { Gives typed.statement result
-        (at line (set_fault setting (known_with shared.now locals.old) name.now (tree.expression e.now)))
+        (at line (set_fault setting (known_with shared.now locals.old) name.now
+        (tree.expression e.now)))
         (typed.set line (name_rate name.now) (variable (known_with shared.now locals.old) name.now)
         (typed_expression (known_with shared.now locals.old) (tree.expression e.now))) }
     ensures known { OnOk result (locals.new ≡ after_giving locals.old name.now) }
 {
-    if let Some(kind) = set_fault(setting, shared, locals, name, e) {
-        return Err(broken(line, kind));
-    }
-    let var = shared.variable(locals, name);
-    let value = typed_expression(alloc, shared, locals, e)?;
-    give(locals, name)?;
+    let fault = set_fault(setting, shared, locals, name, e);
+    let (var, value) = assigned(alloc, shared, locals, line, fault, name, e)?;
     Ok(TypedStmt {
         line,
         rate: name_rate(name),
@@ -134,17 +159,15 @@ fn add_to<'t>(
     e: &Expr,
 ) -> Result<TypedStmt, Or<OrcFault>>
     ensures gives { Gives typed.statement result
-        (at line (set_fault setting (known_with shared.now locals.old) name.now (sum_with name.now (tree.expression e.now))))
-        (typed.add_to line (name_rate name.now) (variable (known_with shared.now locals.old) name.now)
+        (at line (set_fault setting (known_with shared.now locals.old) name.now
+        (sum_with name.now (tree.expression e.now))))
+        (typed.add_to line (name_rate name.now)
+        (variable (known_with shared.now locals.old) name.now)
         (typed_expression (known_with shared.now locals.old) (tree.expression e.now))) }
     ensures known { OnOk result (locals.new ≡ after_giving locals.old name.now) }
 {
-    if let Some(kind) = sum_fault(setting, shared, locals, name, e) {
-        return Err(broken(line, kind));
-    }
-    let var = shared.variable(locals, name);
-    let value = typed_expression(alloc, shared, locals, e)?;
-    give(locals, name)?;
+    let fault = sum_fault(setting, shared, locals, name, e);
+    let (var, value) = assigned(alloc, shared, locals, line, fault, name, e)?;
     Ok(TypedStmt {
         line,
         rate: name_rate(name),
@@ -157,7 +180,7 @@ fn all_init(list: &[Arm]) -> bool
     ensures { (els : tree.Block) → result ≡ all_init (tree.arms els list.now) }
 {
     for arm in list {
-        if !is_init(rate_of(&arm.cond)) {
+        if !rate_of(&arm.cond).is_init() {
             return false;
         }
     }

@@ -5,13 +5,13 @@ use Rattle.cs_base.specs.declared.fault.OrcFault.{OrcFault}
 use Rattle.std.specs.Option.{option_or}
 use Rattle.cs_grammar.specs.declared.tree.Arm.{Arm, out-Arm}
 use Rattle.cs_grammar.specs.Tree.{Block, arms, block, expression}
-use Rattle.cs_typing.specs.declared.call.Setting.{Setting}
-use Rattle.cs_typing.specs.declared.tree.TypedArm.{TypedArm, out-TypedArm}
+use Rattle.cs_typed.specs.declared.setting.Setting.{Setting}
+use Rattle.cs_typed.specs.declared.tree.TypedArm.{TypedArm, out-TypedArm}
 use Rattle.cs_typing.specs.Expressions.{typed_expression}
 use Rattle.cs_typing.specs.Settings.{at}
 use Rattle.cs_typing.specs.Known.{Known}
 use Rattle.cs_typing.specs.Statements.{condition_fault, block_fault, arms_fault, known_block, known_arms, typed_block, typed_arms}
-use Rattle.cs_typing.specs.TypedTree as typed
+use Rattle.cs_typed.specs.TypedTree as typed
 
 -- An answer: the typed form, where there is no fault, or else the fault. Want of memory says nothing.
 abbrev pub Gives : {T A : Type 0} → (T → A) → Result T (Or OrcFault) → Option OrcFault → A → Type 0

@@ -4,10 +4,11 @@ use Rattle.std.specs.Option.{option_or}
 use Rattle.cs_words.specs.declared.word.HeadName.{HeadName}
 use Rattle.cs_grammar.specs.declared.tree.HeadLine.{HeadLine}
 use Rattle.cs_grammar.specs.Tree.{Argument}
+use Rattle.cs_typed.specs.Places.{Header}
 use Rattle.cs_typing.specs.declared.settle.Setup.{Setup}
 use Rattle.cs_typing.specs.declared.zak.Zaks.{Zaks}
-use Rattle.cs_typing.specs.TypedTree.{header_of_head}
-use Rattle.cs_typing.specs.Settings.{Header, same_head, at, Zak, zak_fault, sizes}
+use Rattle.cs_typed.specs.TypedTree.{header_of_head}
+use Rattle.cs_typing.specs.Settings.{same_head, at, Zak, zak_fault, sizes}
 
 -- a header line among these gives a name
 abbrev pub is_given : List HeadLine → HeadName → Bool

@@ -4,11 +4,11 @@ use Rattle.cs_base.specs.declared.fault.Or.TheVariants as or
 use Rattle.cs_base.specs.declared.fault.OrcFault.{OrcFault}
 use Rattle.cs_typing.specs.Known.{Table, no_names, Known}
 use Rattle.cs_typing.specs.Statements.{known_block, typed_block}
-use Rattle.cs_typing.specs.Settings.{Header}
 use Rattle.cs_typing.specs.Typing.{Item, alone, body, items, items_fault, known_item, known_items, first_known, shared_names, typed_instrument, typed_outside, typed_instruments}
 use Rattle.cs_grammar.specs.Tree.{Orchestra}
-use Rattle.cs_typing.specs.declared.tree.TypedOrc.{TypedOrc}
-use Rattle.cs_typing.specs.TypedTree as typed
+use Rattle.cs_typed.specs.Places.{Header}
+use Rattle.cs_typed.specs.declared.tree.TypedOrc.{TypedOrc}
+use Rattle.cs_typed.specs.TypedTree as typed
 use Rattle.cs_typing.specs.declared.orc.Done.{Done}
 
 -- what is made of the parts of an orchestra so far: the variables and the typed statements of the code outside instruments, and

@@ -1,5 +1,4 @@
-use Rattle.std.proofs.Common.{◌≡◌, drop, map}
-use Rattle.cs_grammar.specs.Tree.{argument}
+use Rattle.std.proofs.Common.{◌≡◌, drop}
 use Rattle.cs_typing.specs.Calls.{may_result}
 use Rattle.std.specs.List.{list_all}
 use Rattle.cs_typing.proofs.call.all_may_result.Given as goal

@@ -1,8 +1,5 @@
-use Rattle.std.proofs.Common.{◌≡◌, ◌++◌, drop, map}
-use Rattle.cs_grammar.specs.Tree.{argument}
-use Rattle.cs_typing.specs.Calls.{call_rate}
-use Rattle.cs_typing.specs.Known.{known_with, variable, given_all, Shared}
-use Rattle.cs_typing.specs.TypedTree as typed
+use Rattle.std.proofs.Common.{◌≡◌, drop}
+use Rattle.cs_typing.specs.Known.{known_with, given_all, Shared}
 use Rattle.cs_typing.proofs.call.give_all.Given as goal
 
 abbrev pub invariant-loop-name : goal.invariant-loop-name

@@ -1,8 +1,8 @@
 use Rattle.std.proofs.Common.{◌≡◌, ◌++◌, drop, map}
 use Rattle.cs_grammar.specs.Tree.{argument}
 use Rattle.cs_typing.specs.Calls.{typed_arguments}
-use Rattle.cs_typing.specs.Known.{known_with, variable, given_all, Shared}
-use Rattle.cs_typing.specs.TypedTree as typed
+use Rattle.cs_typing.specs.Known.{known_with}
+use Rattle.cs_typed.specs.TypedTree as typed
 use Rattle.cs_typing.proofs.call.typed_arguments.Given as goal
 
 abbrev pub invariant-loop-arg : goal.invariant-loop-arg

@@ -1,9 +1,8 @@
-use Rattle.std.proofs.Common.{◌≡◌, ◌∙◌, List, map, ap}
+use Rattle.std.proofs.Common.{◌≡◌, ◌∙◌, map, ap}
 use Rattle.cs_grammar.specs.Tree as tree
 use Rattle.cs_typing.specs.Known.{known_with, no_names}
 use Rattle.cs_typing.specs.Typing.{items, typed_outside, typed_instruments}
-use Rattle.cs_typing.specs.TypedTree as typed
-use Rattle.cs_typing.specs.declared.orc.Done.{Done}
+use Rattle.cs_typed.specs.TypedTree as typed
 use Rattle.cs_typing.specs.inner.Walk.{made_of, nothing, after_items}
 use Rattle.cs_typing.proofs.Answers.{if_ok}
 use Rattle.cs_typing.proofs.Cut.{all_zero, all_instrs}

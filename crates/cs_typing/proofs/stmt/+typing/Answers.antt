@@ -1,17 +1,16 @@
-use Rattle.std.proofs.Common.{◌≡◌, ◌∙◌, ◌+◌, arith, drop, rules, sym, ap, None, Some, Err}
+use Rattle.std.proofs.Common.{◌≡◌, ◌∙◌, ◌+◌, arith, drop, rules, sym, ap, Err}
 use Rattle.std.proofs.lemmas.List.{drop_all}
-use Rattle.cs_base.specs.declared.fault.Or.TheVariants as or
 use Rattle.cs_grammar.specs.Tree as tree
 use Rattle.cs_grammar.specs.declared.tree.StmtWhat.TheViews.{the_lemmas}
 use Rattle.cs_grammar.proofs.Rows.{block_is, arms_is}
-use Rattle.cs_typing.specs.declared.tree.TypedWhat.TheViews.{the_lemmas as typed_lemmas}
-use Rattle.cs_typing.specs.declared.tree.TypedWhat.TheBlock.{hidden-the_row-TypedStmt-1, hidden-the_row-TypedArm-0}
-use Rattle.cs_typing.proofs.Trees.{typed_block_is, typed_arms_is}
+use Rattle.cs_typed.specs.declared.tree.TypedWhat.TheViews.{the_lemmas as typed_lemmas}
+use Rattle.cs_typed.specs.declared.tree.TypedWhat.TheBlock.{hidden-the_row-TypedStmt-1, hidden-the_row-TypedArm-0}
+use Rattle.cs_typed.proofs.Trees.{typed_block_is, typed_arms_is}
 use Rattle.cs_typing.specs.Known.{known_with}
 use Rattle.cs_typing.specs.Statements.{block_fault, arms_fault, known_block, known_arms, typed_block, typed_arms, fault, known, typed_statement, choice_rate}
-use Rattle.cs_typing.specs.TypedTree as typed
+use Rattle.cs_typed.specs.TypedTree as typed
 use Rattle.cs_typing.specs.inner.Answers.{Gives, GivesArm, GivesArms}
-use Rattle.cs_typing.proofs.Answers.{dropped, rest_fault, rest_typed, rest_known, first_fault, failed, rest_arms_fault, rest_arms_typed, rest_arms_known, first_arm_fault, arms_of, block_of}
+use Rattle.cs_typing.proofs.Answers.{dropped, rest_fault, rest_typed, rest_known, failed, rest_arms_fault, rest_arms_typed, rest_arms_known, first_arm_fault, arms_of, block_of}
 use Rattle.cs_typing.proofs.Joined.{with_arms, arms_with, then_nothing}
 use Rattle.cs_typing.proofs.stmt.+typing.Goals as goal
 

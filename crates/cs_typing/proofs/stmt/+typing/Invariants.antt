@@ -2,7 +2,7 @@ use Rattle.std.proofs.Common.{◌≡◌, drop}
 use Rattle.cs_grammar.specs.Tree as tree
 use Rattle.cs_typing.specs.Known.{known_with}
 use Rattle.cs_typing.specs.Statements.{block_fault, arms_fault, known_block, known_arms, typed_block, typed_arms}
-use Rattle.cs_typing.specs.TypedTree as typed
+use Rattle.cs_typed.specs.TypedTree as typed
 use Rattle.cs_typing.proofs.Joined.{with_arms}
 use Rattle.cs_typing.proofs.stmt.+typing.Given as goal
 

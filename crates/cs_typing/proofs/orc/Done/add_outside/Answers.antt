@@ -1,9 +1,9 @@
 use Rattle.std.proofs.Common.{◌≡◌, ◌∙◌, map, ap}
 use Rattle.cs_grammar.specs.Tree as tree
-use Rattle.cs_typing.specs.Known.{Known, known_with}
+use Rattle.cs_typing.specs.Known.{known_with}
 use Rattle.cs_typing.specs.Statements.{known_block, typed_block}
-use Rattle.cs_typing.specs.TypedTree as typed
-use Rattle.cs_typing.specs.inner.Walk.{Made, made_is}
+use Rattle.cs_typed.specs.TypedTree as typed
+use Rattle.cs_typing.specs.inner.Walk.{made_is}
 use Rattle.cs_typing.proofs.Cut.{joined_blocks}
 use Rattle.cs_typing.proofs.orc.Done.add_outside.Goals as goal
 

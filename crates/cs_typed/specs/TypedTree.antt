@@ -5,20 +5,20 @@ use Rattle.cs_words.specs.declared.catalogue.Opcode.{Opcode}
 use Rattle.cs_words.specs.declared.sign.BinOp.{BinOp}
 use Rattle.cs_words.specs.declared.word.Func.{Func}
 use Rattle.cs_words.specs.declared.word.HeadName.{HeadName}
-use Rattle.cs_typing.specs.Settings.{Header}
-use Rattle.cs_typing.specs.declared.tree.Globals.{Globals}
-use Rattle.cs_typing.specs.declared.tree.TypedArg.{TypedArg}
-use Rattle.cs_typing.specs.declared.tree.TypedArg.TheVariants.{Value, Text}
-use Rattle.cs_typing.specs.declared.tree.TypedArm.{TypedArm, TypedArm', out-TypedArm}
-use Rattle.cs_typing.specs.declared.tree.TypedExpr.{TypedExpr}
-use Rattle.cs_typing.specs.declared.tree.TypedInstr.{TypedInstr}
-use Rattle.cs_typing.specs.declared.tree.TypedOrc.{TypedOrc}
-use Rattle.cs_typing.specs.declared.tree.TypedPart.{TypedPart}
-use Rattle.cs_typing.specs.declared.tree.TypedPart.TheVariants.{Number, Var, Field, Head as HeadName', Neg', Pair', Pick', Call'}
-use Rattle.cs_typing.specs.declared.tree.TypedStmt.{TypedStmt}
-use Rattle.cs_typing.specs.declared.tree.TypedWhat.{TypedWhat, Row_of-TypedArm, end_of-TypedArm, more_of-TypedArm, Row_of-TypedStmt, end_of-TypedStmt, more_of-TypedStmt}
-use Rattle.cs_typing.specs.declared.tree.TypedWhat.TheVariants.{Set, AddTo, Call, Choose'}
-use Rattle.cs_typing.specs.declared.tree.Var.{Var as Variable}
+use Rattle.cs_typed.specs.Places.{Header}
+use Rattle.cs_typed.specs.declared.tree.Globals.{Globals}
+use Rattle.cs_typed.specs.declared.tree.TypedArg.{TypedArg}
+use Rattle.cs_typed.specs.declared.tree.TypedArg.TheVariants.{Value, Text}
+use Rattle.cs_typed.specs.declared.tree.TypedArm.{TypedArm, TypedArm', out-TypedArm}
+use Rattle.cs_typed.specs.declared.tree.TypedExpr.{TypedExpr}
+use Rattle.cs_typed.specs.declared.tree.TypedInstr.{TypedInstr}
+use Rattle.cs_typed.specs.declared.tree.TypedOrc.{TypedOrc}
+use Rattle.cs_typed.specs.declared.tree.TypedPart.{TypedPart}
+use Rattle.cs_typed.specs.declared.tree.TypedPart.TheVariants.{Number, Var, Field, Head as HeadName', Neg', Pair', Pick', Call'}
+use Rattle.cs_typed.specs.declared.tree.TypedStmt.{TypedStmt}
+use Rattle.cs_typed.specs.declared.tree.TypedWhat.{TypedWhat, Row_of-TypedArm, end_of-TypedArm, more_of-TypedArm, Row_of-TypedStmt, end_of-TypedStmt, more_of-TypedStmt}
+use Rattle.cs_typed.specs.declared.tree.TypedWhat.TheVariants.{Set, AddTo, Call, Choose'}
+use Rattle.cs_typed.specs.declared.tree.Var.{Var as Variable}
 
 -- The typed tree as the definitions see it, without boxes' addresses and vectors' capacities. An expression has its rate first.
 pub data Expression : Type 0 where

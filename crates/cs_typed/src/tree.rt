@@ -5,7 +5,7 @@ use cs_words::{BinOp, Func, HeadName, Opcode};
 /// A variable: one of the note's own, by its rate and its number among the names of that rate; or what notes share.
 #[derive(Clone, Copy, PartialEq, Eq)]
 pub enum Var {
-    Local(Rate, u32),
+    Local(Rate, usize),
     Global(Res),
 }
 

@@ -1,10 +1,10 @@
 -- The rows of statements and arms in the code's typed tree, read as its lists.
 use Rattle.std.proofs.Common.{◌≡◌, rules}
 use mathlib.Core.Former.{Count}
-use Rattle.cs_typing.specs.declared.tree.TypedArm.{TypedArm'}
-use Rattle.cs_typing.specs.declared.tree.TypedWhat.{Row_of-TypedArm, end_of-TypedArm, more_of-TypedArm, Row_of-TypedStmt, end_of-TypedStmt, more_of-TypedStmt, items-the_row-TypedStmt, items-the_row-TypedArm}
-use Rattle.cs_typing.specs.declared.tree.TypedWhat.TheViews.{the_lemmas}
-use Rattle.cs_typing.specs.TypedTree.{Block, block, arms, of_block, of_arms}
+use Rattle.cs_typed.specs.declared.tree.TypedArm.{TypedArm'}
+use Rattle.cs_typed.specs.declared.tree.TypedWhat.{Row_of-TypedArm, end_of-TypedArm, more_of-TypedArm, Row_of-TypedStmt, end_of-TypedStmt, more_of-TypedStmt, items-the_row-TypedStmt, items-the_row-TypedArm}
+use Rattle.cs_typed.specs.declared.tree.TypedWhat.TheViews.{the_lemmas}
+use Rattle.cs_typed.specs.TypedTree.{Block, block, arms, of_block, of_arms}
 
 pub typed_block_is : (n : Count) (row : Row_of-TypedStmt n) → of_block row ≡ block (items-the_row-TypedStmt n row)
 typed_block_is _ end_of-TypedStmt = search (rules, the_lemmas)

@@ -1,35 +1,22 @@
 use Rattle.std.specs.Prelude.{ℕ, Bool, true, false, not, List, [], ◌∷◌, ◌≡◌, ◌≢◌, ◌+◌, ◌&&◌, ◌||◌, length, nat_lt, if◌then◌else◌}
 use Rattle.std.specs.List.{All, list_any, list_all}
-use Rattle.cs_base.specs.Rates.{same_rate, within, faster}
+use Rattle.cs_base.specs.Rates.{is_init, is_control, is_audio, same_rate, within, faster, res_rate}
 use Rattle.cs_base.specs.declared.resource.Rate.{Rate}
 use Rattle.cs_base.specs.declared.resource.Rate.TheVariants as rate
-use Rattle.cs_base.specs.declared.resource.Res.{Res}
 use Rattle.cs_base.specs.declared.resource.Res.TheVariants as res
-use Rattle.cs_words.specs.Catalogue.{Row, row_of, letter_at, takes_count, result_count}
+use Rattle.cs_words.specs.Catalogue.{Row, row_of, letter_at, takes, is_text, takes_count, result_count}
+use Rattle.cs_words.specs.Signs.{is_arithmetic}
 use Rattle.cs_words.specs.declared.catalogue.Letter.{Letter}
 use Rattle.cs_words.specs.declared.catalogue.Opcode.{Opcode}
 use Rattle.cs_words.specs.declared.catalogue.Opcode.TheVariants as op
 use Rattle.cs_words.specs.declared.catalogue.Shape.{Shape}
 use Rattle.cs_words.specs.declared.catalogue.Shape.TheVariants as shape
 use Rattle.cs_words.specs.declared.word.Func.TheVariants as func
-use Rattle.cs_typing.specs.declared.call.Setting.{Setting}
-use Rattle.cs_typing.specs.declared.tree.Var.{Var}
-use Rattle.cs_typing.specs.declared.tree.Var.TheVariants as var
-use Rattle.cs_typing.specs.Calls.{takes, is_text, stands_outside, is_starting, is_writing}
-use Rattle.cs_typing.specs.Expressions.{is_init, is_control, is_audio, is_arithmetic}
-use Rattle.cs_typing.specs.Typing.{outside, inside}
-use Rattle.cs_typing.specs.TypedTree as typed
-
--- how often what notes share changes
-abbrev pub res_rate : Res → Rate
-res_rate (res.Gi k) = rate.Init
-res_rate (res.Gk k) = rate.Control
-res_rate (res.Ga k) = rate.Audio
-res_rate (res.ZakK k) = rate.Control
-res_rate (res.ZakA k) = rate.Audio
-res_rate (res.Control k) = rate.Control
-res_rate (res.Sound k) = rate.Audio
-res_rate (res.Table k) = rate.Audio
+use Rattle.cs_typed.specs.declared.setting.Setting.{Setting}
+use Rattle.cs_typed.specs.declared.tree.Var.{Var}
+use Rattle.cs_typed.specs.declared.tree.Var.TheVariants as var
+use Rattle.cs_typed.specs.Places.{outside, inside, stands_outside, is_starting, is_writing}
+use Rattle.cs_typed.specs.TypedTree as typed
 
 abbrev pub var_rate : Var → Rate
 var_rate (var.Local r k) = r
@@ -139,6 +126,18 @@ done_at sh [] args =
     else (if list_any is_of_sound args then rate.Audio else rate.Control))
 done_at sh (v ∷ vs) args = if is_starting sh then rate.Init else var_rate v
 
+-- whether both are sounds, or neither
+abbrev pub both_sound : Rate → Rate → Bool
+both_sound r s = if is_audio r then is_audio s else not (is_audio s)
+
+-- a channel of sounds gives and takes sounds, any other gives and takes what is held
+abbrev pub suits_channel : Shape → List Var → List typed.Argument → Bool
+suits_channel shape.ChannelGet (v ∷ vs) (typed.text c ∷ rest) = both_sound (var_rate v) (var_rate c)
+suits_channel shape.ChannelPut vs (typed.value e ∷ typed.text c ∷ rest) = both_sound (node_rate e) (var_rate c)
+suits_channel shape.ChannelMix vs (typed.value e ∷ typed.text c ∷ rest) = is_audio (var_rate c)
+suits_channel shape.ChannelClear vs (typed.text c ∷ rest) = is_audio (var_rate c)
+suits_channel _ vs args = true
+
 -- A call agrees with the row of its opcode.
 pub record IsRatedCall (s : Setting) (r : Rate) (vs : List Var) (opcode : Opcode) (args : List typed.Argument) : Type 0 where
   pub done : r ≡ done_at (row_of opcode).shape vs args
@@ -148,6 +147,7 @@ pub record IsRatedCall (s : Setting) (r : Rate) (vs : List Var) (opcode : Opcode
   pub letters : fit_letters (row_left opcode) (bound_by vs) 0 args ≡ true
   pub parts : All IsRatedArgument args
   pub channels : goes_beyond s (row_of opcode).shape args ≡ false
+  pub suits : suits_channel (row_of opcode).shape vs args ≡ true
   pub even : stores_evenly (row_of opcode).shape args ≡ true
   pub place : (s.inside || stands_outside (row_of opcode).shape) ≡ true
 
