@@ -1,0 +1,6 @@
+pub mod Curves
+pub mod Inputs
+pub mod Loops
+pub mod Oscillators
+pub mod Phases
+pub mod Quotients

@@ -1,0 +1,28 @@
+-- What is read of a table: its points with the guard point behind the last of them, as cs_gen's `curve_of` has it.
+use Rattle.std.specs.Prelude.{◌≡◌, ℕ, ◌+◌, ◌-◌, Bool, true, ◌==◌, List, length, ℤ, pos, ◌+ℤ◌, ◌-ℤ◌, ◌*ℤ◌}
+use Rattle.std.specs.List.{list_any}
+use Rattle.cs_base.specs.Numbers.{floor_div, one}
+use Rattle.cs_gen.specs.Faults.{lengths}
+use Rattle.cs_signal.specs.Operands.{argument}
+
+-- how many points a curve has before its guard point
+abbrev pub curve_len : List ℤ → ℕ
+curve_len points = length points - 1
+
+-- the powers of two that a table's length may be
+abbrev pub is_len : ℕ → Bool
+is_len n = list_any (λ len. n == len) lengths
+
+-- the points of a curve: a power of two of them, from 2 to 65,536, and the guard point
+pub record IsCurve (points : List ℤ) : Type 0 where
+  pub guarded : length points ≡ curve_len points + 1
+  pub power : is_len (curve_len points) ≡ true
+
+-- on the way from p to q, so many 65,536ths of it, rounded down
+abbrev pub on_the_way : ℤ → ℤ → ℕ → ℤ
+on_the_way p q fraction = p +ℤ floor_div ((q -ℤ p) *ℤ pos fraction) one
+
+-- between the point at a place and the next one, which behind the last point is the guard point
+unfoldable pub between_points : List ℤ → ℕ → ℕ → ℤ
+between_points points place fraction =
+    on_the_way (argument points place) (argument points (place + 1)) fraction

@@ -1,0 +1,9 @@
+pub mod Blocks
+pub mod Filters
+pub mod Formulas
+pub mod Histories
+pub mod Levels
+pub mod Pieces
+pub mod Ramps
+pub mod Rings
+pub mod Walks

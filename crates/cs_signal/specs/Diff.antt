@@ -1,0 +1,21 @@
+-- diff: how much its input has risen since the step before.
+use Rattle.std.specs.Prelude.{◌≡◌, List, ℤ, pos}
+use Rattle.cs_base.specs.Numbers.{difference_of}
+use Rattle.cs_base.specs.declared.resource.Rate.{Rate}
+use Rattle.cs_signal.specs.History.{ago, now}
+use Rattle.cs_signal.specs.Operands.{argument}
+use Rattle.cs_signal.specs.Pace.{Pace}
+
+-- the input less the input before; the input before the first is 0
+abbrev pub diff_of : Rate → Pace → List ℤ → List (List ℤ) → ℤ
+diff_of rate pace init steps = difference_of (now 0 steps) (ago 0 1 steps)
+
+-- the unit keeps the input before
+abbrev pub diff_start : Rate → Pace → List ℤ → ℤ
+diff_start rate pace init = pos 0
+
+abbrev pub diff_step : ℤ → List ℤ → ℤ × ℤ
+diff_step before inputs = (argument inputs 0, difference_of (argument inputs 0) before)
+
+abbrev pub DiffStands : ℤ → Rate → Pace → List ℤ → List (List ℤ) → Type 0
+DiffStands before rate pace init steps = before ≡ now 0 steps

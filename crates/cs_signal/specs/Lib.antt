@@ -1,0 +1,16 @@
+pub mod Biquad
+pub mod Delay
+pub mod Diff
+pub mod Downsamp
+pub mod History
+pub mod Integ
+pub mod Interp
+pub mod Limit
+pub mod Line
+pub mod Linen
+pub mod Linseg
+pub mod Operands
+pub mod Pace
+pub mod Samphold
+pub mod Steps
+pub mod inner

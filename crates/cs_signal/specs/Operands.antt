@@ -1,0 +1,18 @@
+-- What a unit is given: its arguments, and these over a control cycle.
+use Rattle.std.specs.Prelude.{ℕ, ◌≡◌, List, length, ℤ, pos, slice_index_or}
+use Rattle.cs_signal.specs.declared.operand.Operand.{Operand}
+use Rattle.cs_signal.specs.declared.operand.Operand.TheVariants.{Held, Row}
+
+-- an argument by its place, counted from 0; one that is missing is 0
+abbrev pub argument : List ℤ → ℕ → ℤ
+argument arguments k = slice_index_or arguments k (pos 0)
+
+-- an operand's value at frame j of the cycle
+abbrev pub operand_at : Operand → ℕ → ℤ
+operand_at (Held value) j = value
+operand_at (Row values) j = argument values.now j
+
+-- an operand has a value for each of n frames
+abbrev pub Lasts : ℕ → Operand → Type 0
+Lasts n (Held value) = Unit {0}
+Lasts n (Row values) = length values.now ≡ n

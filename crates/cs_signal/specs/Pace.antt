@@ -1,0 +1,45 @@
+-- How long a time is in steps of a unit.
+use Rattle.std.specs.Prelude.{ℕ, ◌-◌, ◌*◌, ◌^◌, min, List, length, ℤ, pos, negsuc, ◌*ℤ◌}
+use Rattle.cs_base.specs.Numbers.{floor_div, one}
+use Rattle.cs_base.specs.declared.head.Head.{Head}
+use Rattle.cs_base.specs.declared.resource.Rate.{Rate}
+use Rattle.cs_base.specs.declared.resource.Rate.TheVariants as rate
+
+-- what a unit needs of a piece's header: frames a second, and frames a control cycle
+pub record Pace : Type 0 where
+  pub sr : ℕ
+  pub ksmps : ℕ
+
+abbrev pub pace_of : Head → Pace
+pace_of head = record { sr = head.sr; ksmps = head.ksmps }
+
+-- a count: what is below 0 counts as 0
+abbrev pub from_zero : ℤ → ℕ
+from_zero (pos n) = n
+from_zero (negsuc n) = 0
+
+-- a time in whole samples, rounded down
+abbrev pub samples_of : Pace → ℤ → ℕ
+samples_of pace time = from_zero (floor_div (time *ℤ pos pace.sr) one)
+
+-- a time in whole control cycles, rounded down
+abbrev pub cycles_of : Pace → ℤ → ℕ
+cycles_of pace time = from_zero (floor_div (time *ℤ pos pace.sr) (pos (65536 * pace.ksmps)))
+
+-- a time in steps: of a sample each at audio rate, else of a control cycle each
+abbrev pub steps_of : Rate → Pace → ℤ → ℕ
+steps_of rate.Init pace time = cycles_of pace time
+steps_of rate.Control pace time = cycles_of pace time
+steps_of rate.Audio pace time = samples_of pace time
+
+-- the number at which the count of a unit's steps stays
+abbrev pub last_number : ℕ
+last_number = 2 ^ 63 - 1
+
+-- the number of a step that comes after so many others
+abbrev pub number_after : ℕ → ℕ
+number_after n = min n last_number
+
+-- the number of the last of some steps, the first being 0
+abbrev pub number_of_last : {A : Type 0} → List A → ℕ
+number_of_last steps = number_after (length steps - 1)

@@ -1,0 +1,6 @@
+-- What private clauses alone cite.
+pub mod Level
+pub mod Pieces
+pub mod Ramp
+pub mod Ring
+pub mod Walk

@@ -1,0 +1,77 @@
+// `interp`: a control value as a sound, on a straight line from one control cycle's value to the next.
+ghost use Rattle.std.specs.Prelude.{◌≡◌, ◌+◌, ◌%◌, ◌<◌, ◌≤◌, ◌∷◌, [], List, ℤ, length};
+ghost use Rattle.cs_base.specs.declared.resource.Rate.{Rate};
+ghost use Rattle.cs_signal.specs.Interp.{interp_start, interp_step};
+ghost use Rattle.cs_signal.specs.Operands.{operand_at, Lasts};
+ghost use Rattle.cs_signal.specs.Pace.{pace_of};
+ghost use Rattle.cs_signal.specs.Steps.{run};
+
+use crate::Operand;
+use crate::line::part_way;
+use cs_base::{Head, Num};
+use std::marker::Model;
+
+/// An `interp` of a note: the samples of a control cycle, the value of the cycle before, which is 0 before the first,
+/// and the place in its cycle of the sample to come.
+#[derive(Drop)]
+pub struct Interp {
+    ksmps: u64,
+    before: Num,
+    sample: u64,
+}
+
+impl Model for Interp {
+    ghost use Rattle.std.specs.Prelude.{◌≤◌, ◌<◌};
+    ghost use Rattle.cs_signal.specs.Interp.{InterpState};
+
+    ghost Value = { InterpState };
+
+    ghost view = { λ unit. record { ksmps = unit.ksmps; before = unit.before; sample = unit.sample } };
+
+    ghost invariant = { λ unit. (1 ≤ unit.ksmps) × (unit.ksmps ≤ 4096) × (unit.sample < unit.ksmps) };
+}
+
+impl Interp {
+    /// One that has no step behind it.
+    pub fn start(head: &Head) -> Interp
+        ensures { (rate : Rate) (init : List ℤ) → result ≡ interp_start rate (pace_of head.now) init }
+    {
+        Interp {
+            ksmps: u64::from(head.ksmps),
+            before: Num::of_raw(0),
+            sample: 0,
+        }
+    }
+
+    /// One step: `x` is the value of the control cycle.
+    pub fn step(&mut self, x: Num) -> Num
+        ensures { (self.new, result) ≡ interp_step self.old (x ∷ []) }
+    {
+        let value = part_way(self.before, x, self.sample + 1, self.ksmps);
+        self.sample = after(self.sample, self.ksmps);
+        if self.sample == 0 {
+            self.before = x;
+        }
+        value
+    }
+
+    /// A step for each frame of `out`.
+    pub fn block(&mut self, x: &Operand, out: &mut [Num])
+        requires { Lasts (length out.old) x.now }
+        ensures { (self.new, out.new) ≡ run interp_step (λ j. operand_at x.now j ∷ []) self.old 0 (length out.old) }
+    {
+        for j in 0..out.len() {
+            out[j] = self.step(x.at(j));
+        }
+    }
+}
+
+// The place after this one in a cycle.
+fn after(sample: u64, ksmps: u64) -> u64
+    requires low { sample < ksmps }
+    requires high { ksmps ≤ 4096 }
+    ensures value { result ≡ (sample + 1) % ksmps }
+    ensures within { result < ksmps }
+{
+    if sample + 1 == ksmps { 0 } else { sample + 1 }
+}

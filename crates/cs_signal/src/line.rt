@@ -1,0 +1,137 @@
+// `line`: a straight line through two values, without end.
+ghost use Rattle.std.specs.Prelude.{◌≡◌, ◌<◌, ◌≤◌, ◌+◌, ◌^◌, ◌∷◌, [], length, map, pos, ◌+ℤ◌, ◌-ℤ◌, ◌*ℤ◌, unsigned_abs};
+ghost use Rattle.cs_base.specs.Numbers.{clamp, floor_div};
+ghost use Rattle.cs_signal.specs.Line.{LineState, line_start, line_step, part_way};
+ghost use Rattle.cs_signal.specs.Pace.{pace_of, last_number};
+ghost use Rattle.cs_signal.specs.Steps.{run};
+
+use crate::operand::argument;
+use crate::pace::{next_number, steps};
+use crate::ramp::ramp;
+use cs_base::{Head, Num, Rate};
+use std::marker::Model;
+
+/// A `line` of a note: its way, and the number of the step to come.
+#[derive(Drop)]
+pub struct Line {
+    from: Num,
+    to: Num,
+    way: u64,
+    number: u64,
+}
+
+impl Model for Line {
+    ghost use Rattle.std.specs.Prelude.{◌≤◌, ◌<◌, ◌^◌};
+    ghost use Rattle.cs_signal.specs.Line.{LineState};
+    ghost use Rattle.cs_signal.specs.Pace.{last_number};
+
+    ghost Value = { LineState };
+
+    ghost view = { λ unit. record { from = unit.from; to = unit.to; way = unit.way; number = unit.number } };
+
+    ghost invariant = { λ unit. (1 ≤ unit.way) × (unit.way < 2 ^ 49) × (unit.number ≤ last_number) };
+}
+
+impl Line {
+    /// One that has no step behind it, from its settled arguments: the first value, the duration, the second value.
+    pub fn start(rate: Rate, head: &Head, init: &[Num]) -> Line
+        ensures { result ≡ line_start rate (pace_of head.now) init.now }
+    {
+        Line {
+            from: argument(init, 0),
+            to: argument(init, 2),
+            way: steps(argument(init, 1), rate, head).max(1),
+            number: 0,
+        }
+    }
+
+    /// One step.
+    pub fn step(&mut self) -> Num
+        ensures { (self.new, result) ≡ line_step self.old [] }
+    {
+        let value = part_way(self.from, self.to, self.number, self.way);
+        self.number = next_number(self.number);
+        value
+    }
+
+    /// A step for each frame of `out`.
+    pub fn block(&mut self, out: &mut [Num])
+        ensures { (self.new, out.new) ≡ run line_step (λ j. []) self.old 0 (length out.old) }
+    {
+        let count = out.len() as u64;
+        if count <= i64::MAX as u64 - self.number {
+            ramp(self.from, self.to, self.number, self.way, out);
+            self.number += count;
+        } else {
+            self.frames(out);
+        }
+    }
+
+    fn frames(&mut self, out: &mut [Num])
+        ensures { (self.new, out.new) ≡ run line_step (λ j. []) self.old 0 (length out.old) }
+    {
+        for j in 0..out.len() {
+            out[j] = self.step();
+        }
+    }
+}
+
+/// The value at part `n` of `d` of the way from one value to another, rounded down and brought into range.
+pub(crate) fn part_way(from: Num, to: Num, n: u64, d: u64) -> Num
+    requires some { 1 ≤ d }
+    requires number { n ≤ last_number }
+    ensures { result ≡ clamp (part_way from to n d) }
+{
+    raised(from.raw(), part(rise(from, to), n, d))
+}
+
+// A value that is raised, brought into range.
+#[inline(always)]
+pub(crate) fn raised(from: i64, by: i128) -> Num
+    requires { unsigned_abs by < 2 ^ 120 }
+    ensures { result ≡ clamp (from +ℤ by) }
+{
+    Num::of_wide(i128::from(from) + by)
+}
+
+// How far it is from one value to another.
+pub(crate) fn rise(from: Num, to: Num) -> i64
+    ensures value { result ≡ to -ℤ from }
+    ensures bounded { unsigned_abs result < 2 ^ 48 }
+{
+    to.raw() - from.raw()
+}
+
+// So many parts of a rise, rounded down: a product of 48 and 63 bits.
+fn part(rise: i64, n: u64, d: u64) -> i128
+    requires some { 1 ≤ d }
+    requires number { n ≤ last_number }
+    requires bounded { unsigned_abs rise < 2 ^ 48 }
+    ensures value { result ≡ floor_div (rise *ℤ pos n) (pos d) }
+    ensures bounded { unsigned_abs result < 2 ^ 111 }
+{
+    quotient(times(rise, n), d)
+}
+
+pub(crate) fn times(rise: i64, n: u64) -> i128
+    requires number { n ≤ last_number }
+    requires bounded { unsigned_abs rise < 2 ^ 48 }
+    ensures value { result ≡ rise *ℤ pos n }
+    ensures bounded { unsigned_abs result < 2 ^ 111 }
+{
+    i128::from(rise) * i128::from(n)
+}
+
+pub(crate) fn quotient(n: i128, d: u64) -> i128
+    requires some { 1 ≤ d }
+    requires bounded { unsigned_abs n < 2 ^ 111 }
+    ensures value { result ≡ floor_div n (pos d) }
+    ensures bounded { unsigned_abs result ≤ unsigned_abs n }
+{
+    // Where both fit into 64 bits, a short division does.
+    if i64::MIN as i128 <= n && n <= i64::MAX as i128 && d <= i64::MAX as u64 {
+        i128::from((n as i64).div_euclid(d as i64))
+    } else {
+        n.div_euclid(i128::from(d))
+    }
+}

@@ -1,0 +1,162 @@
+// `linen`: an amplitude under a straight rise and a straight decay.
+ghost use Rattle.std.specs.Prelude.{ℕ, ◌≡◌, ◌<◌, ◌≤◌, ◌*◌, ◌/◌, ◌^◌, ◌∷◌, [], true, length, map, pos, ◌-ℤ◌, ◌*ℤ◌, unsigned_abs};
+ghost use Rattle.std.specs.List.{range_with_len};
+ghost use Rattle.cs_base.specs.Numbers.{clamp, floor_div, one, product_of};
+ghost use Rattle.cs_signal.specs.Linen.{linen_start, linen_step, up_at, down_at};
+ghost use Rattle.cs_signal.specs.Operands.{operand_at, Lasts};
+ghost use Rattle.cs_signal.specs.Pace.{pace_of, last_number};
+ghost use Rattle.cs_signal.specs.Steps.{run};
+ghost use Rattle.cs_signal.specs.inner.Level.{IsLevel};
+
+use crate::Operand;
+use crate::operand::argument;
+use crate::pace::{next_number, steps};
+use cs_base::{Head, Num, Rate};
+use std::marker::Model;
+
+/// A `linen` of a note: its times in steps, and the number of the step to come.
+#[derive(Drop)]
+pub struct Linen {
+    rise: u64,
+    duration: u64,
+    decay: u64,
+    number: u64,
+}
+
+impl Model for Linen {
+    ghost use Rattle.std.specs.Prelude.{◌≤◌, ◌<◌, ◌^◌};
+    ghost use Rattle.cs_signal.specs.Linen.{LinenState};
+    ghost use Rattle.cs_signal.specs.Pace.{last_number};
+
+    ghost Value = { LinenState };
+
+    ghost view = { λ unit. record { rise = unit.rise; duration = unit.duration; decay = unit.decay; number = unit.number } };
+
+    ghost invariant = { λ unit. (unit.rise < 2 ^ 49) × (unit.duration < 2 ^ 49) × (unit.decay < 2 ^ 49) × (unit.number ≤ last_number) };
+}
+
+impl Linen {
+    /// One that has no step behind it, from its settled arguments: the times of rise, duration and decay.
+    pub fn start(rate: Rate, head: &Head, init: &[Num]) -> Linen
+        ensures { result ≡ linen_start rate (pace_of head.now) init.now }
+    {
+        Linen {
+            rise: steps(argument(init, 0), rate, head),
+            duration: steps(argument(init, 1), rate, head),
+            decay: steps(argument(init, 2), rate, head),
+            number: 0,
+        }
+    }
+
+    /// One step.
+    pub fn step(&mut self, x: Num) -> Num
+        ensures { (self.new, result) ≡ linen_step self.old (x ∷ []) }
+    {
+        let up = up_at(self.rise, self.number);
+        let down = down_at(self.duration, self.decay, self.number);
+        self.number = next_number(self.number);
+        x.mul(up.mul(down))
+    }
+
+    /// A step for each frame of `out`.
+    pub fn block(&mut self, x: &Operand, out: &mut [Num])
+        requires { Lasts (length out.old) x.now }
+        ensures { (self.new, out.new) ≡ run linen_step (λ j. operand_at x.now j ∷ []) self.old 0 (length out.old) }
+    {
+        let count = out.len() as u64;
+        if self.is_level(count) {
+            level(x, out);
+            self.number += count;
+        } else {
+            self.frames(x, out);
+        }
+    }
+
+    // Whether so many steps to come lie after the rise and before the decay.
+    fn is_level(&self, count: u64) -> bool
+        ensures { result ≡ true → IsLevel self.now count }
+    {
+        count <= i64::MAX as u64 - self.number
+            && self.rise <= self.number
+            && (self.decay == 0 || self.number + count + self.decay <= self.duration)
+    }
+
+    fn frames(&mut self, x: &Operand, out: &mut [Num])
+        ensures { (self.new, out.new) ≡ run linen_step (λ j. operand_at x.now j ∷ []) self.old 0 (length out.old) }
+    {
+        for j in 0..out.len() {
+            out[j] = self.step(x.at(j));
+        }
+    }
+}
+
+// The amplitude while both factors are one.
+fn level(x: &Operand, out: &mut [Num])
+    ensures { out.new ≡ map (λ j. product_of (operand_at x.now j) one) (range_with_len 0 (length out.old)) }
+{
+    for j in 0..out.len() {
+        out[j] = x.at(j).mul(Num::of_raw(65_536));
+    }
+}
+
+// The factor of the rise, from 0 to one.
+fn up_at(rise: u64, n: u64) -> Num
+    requires wide { rise < 2 ^ 49 }
+    ensures { result ≡ up_at rise n }
+{
+    if rise <= n {
+        Num::of_raw(65_536)
+    } else {
+        Num::exact(part_of_one(n, rise) as i64)
+    }
+}
+
+fn part_of_one(n: u64, rise: u64) -> u64
+    requires within { n < rise }
+    requires wide { rise < 2 ^ 49 }
+    ensures value { result ≡ 65536 * n / rise }
+    ensures bounded { result ≤ 65536 }
+{
+    (65_536 * u128::from(n) / u128::from(rise)) as u64
+}
+
+// The factor of the decay, one or less.
+fn down_at(duration: u64, decay: u64, n: u64) -> Num
+    requires wide_duration { duration < 2 ^ 49 }
+    requires wide_decay { decay < 2 ^ 49 }
+    requires number { n ≤ last_number }
+    ensures { result ≡ down_at duration decay n }
+{
+    if decay == 0 || n + decay < duration {
+        Num::of_raw(65_536)
+    } else {
+        falling(duration, decay, n)
+    }
+}
+
+fn falling(duration: u64, decay: u64, n: u64) -> Num
+    requires some { 0 < decay }
+    requires wide_duration { duration < 2 ^ 49 }
+    requires wide_decay { decay < 2 ^ 49 }
+    requires number { n ≤ last_number }
+    ensures { result ≡ clamp (floor_div (one *ℤ (pos duration -ℤ pos n)) (pos decay)) }
+{
+    Num::of_wide(fallen(left(duration, n), decay))
+}
+
+fn left(duration: u64, n: u64) -> i128
+    requires wide { duration < 2 ^ 49 }
+    requires number { n ≤ last_number }
+    ensures value { result ≡ pos duration -ℤ pos n }
+    ensures bounded { unsigned_abs result < 2 ^ 64 }
+{
+    i128::from(duration) - i128::from(n)
+}
+
+fn fallen(left: i128, decay: u64) -> i128
+    requires some { 0 < decay }
+    requires bounded { unsigned_abs left < 2 ^ 64 }
+    ensures { result ≡ floor_div (one *ℤ left) (pos decay) }
+{
+    (65_536 * left).div_euclid(i128::from(decay))
+}

@@ -1,0 +1,36 @@
+// What a unit is given over a control cycle.
+ghost use Rattle.std.specs.Prelude.{◌≡◌, ◌<◌, length};
+ghost use Rattle.cs_signal.specs.Operands.{argument, operand_at, Lasts};
+
+use cs_base::Num;
+
+/// An argument of a unit over a control cycle: a value that is held, or one value a frame.
+#[derive(Clone, Copy)]
+pub enum Operand<'r> {
+    Held(Num),
+    Row(&'r [Num]),
+}
+
+impl Operand<'_> {
+    /// Its value at a frame of the cycle; 0 where its row has none.
+    #[inline(always)]
+    pub fn at(&self, frame: usize) -> Num
+        ensures { result ≡ operand_at self.now frame }
+    {
+        match self {
+            Operand::Held(value) => *value,
+            Operand::Row(values) => argument(values, frame),
+        }
+    }
+}
+
+/// An argument by its place, counted from 0; one that is missing is 0.
+pub fn argument(arguments: &[Num], place: usize) -> Num
+    ensures { result ≡ argument arguments.now place }
+{
+    if place < arguments.len() {
+        arguments[place]
+    } else {
+        Num::of_raw(0)
+    }
+}

@@ -1,0 +1,71 @@
+// How long a time is in steps of a unit.
+ghost use Rattle.std.specs.Prelude.{◌≡◌, ◌<◌, ◌≤◌, ◌+◌, ◌*◌, ◌^◌, max, pos, ◌*ℤ◌, unsigned_abs};
+ghost use Rattle.cs_base.specs.Numbers.{IsRaw, floor_div, one};
+ghost use Rattle.cs_signal.specs.Pace.{from_zero, pace_of, samples_of, cycles_of, steps_of, number_after};
+
+use cs_base::{Head, Num, Rate};
+
+/// A time of so many seconds in whole samples, rounded down; none where it is below 0.
+pub fn samples(time: Num, head: &Head) -> u64
+    ensures value { result ≡ samples_of (pace_of head.now) time }
+    ensures bounded { result < 2 ^ 49 }
+{
+    counted(times(time, head.sr), 65_536)
+}
+
+/// A time of so many seconds in whole control cycles, rounded down; none where it is below 0.
+pub fn cycles(time: Num, head: &Head) -> u64
+    ensures value { result ≡ cycles_of (pace_of head.now) time }
+    ensures bounded { result < 2 ^ 49 }
+{
+    counted(times(time, head.sr), 65_536 * head.ksmps)
+}
+
+/// A time of so many seconds in steps of a unit: of a sample each at audio rate, else of a control cycle each.
+pub fn steps(time: Num, rate: Rate, head: &Head) -> u64
+    ensures value { result ≡ steps_of rate (pace_of head.now) time }
+    ensures bounded { result < 2 ^ 49 }
+{
+    match rate {
+        Rate::Audio => samples(time, head),
+        Rate::Init | Rate::Control => cycles(time, head),
+    }
+}
+
+/// How many samples a delay of so many seconds is long: at least one.
+pub fn delay_samples(time: Num, head: &Head) -> u64
+    ensures value { result ≡ max 1 (samples_of (pace_of head.now) time) }
+    ensures bounded { result < 2 ^ 49 }
+{
+    samples(time, head).max(1)
+}
+
+/// The number of the step after this one: it stays at 2^63 - 1.
+pub(crate) fn next_number(number: u64) -> u64
+    ensures { result ≡ number_after (number + 1) }
+{
+    if number < i64::MAX as u64 {
+        number + 1
+    } else {
+        i64::MAX as u64
+    }
+}
+
+// The exact product.
+fn times(time: Num, rate: u32) -> i128
+    requires { rate ≤ 192000 }
+    ensures value { result ≡ time *ℤ pos rate }
+    ensures bounded { unsigned_abs result < 2 ^ 65 }
+{
+    i128::from(time.raw()) * i128::from(rate)
+}
+
+// The exact quotient rounded down, as a count.
+fn counted(n: i128, d: u32) -> u64
+    requires low { 65536 ≤ d }
+    requires bounded { unsigned_abs n < 2 ^ 65 }
+    ensures value { result ≡ from_zero (floor_div n (pos d)) }
+    ensures bounded { result < 2 ^ 49 }
+{
+    n.div_euclid(i128::from(d)).max(0) as u64
+}

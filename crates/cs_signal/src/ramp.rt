@@ -1,0 +1,105 @@
+// A straight line through many steps, by sums alone.
+ghost use Rattle.std.specs.Prelude.{◌≡◌, ◌<◌, ◌≤◌, ◌+◌, ◌^◌, length, pos, ◌+ℤ◌, ◌-ℤ◌, ◌*ℤ◌, unsigned_abs};
+ghost use Rattle.cs_base.specs.Numbers.{clamp};
+ghost use Rattle.cs_signal.specs.Pace.{last_number};
+ghost use Rattle.cs_signal.specs.inner.Ramp.{IsAdvanced, IsParted, ramp_of};
+
+use crate::line::{quotient, raised, rise, times};
+use cs_base::Num;
+
+// A number as so many times a divisor and a rest below it.
+#[derive(Clone, Copy)]
+struct Parts {
+    whole: i128,
+    rest: u64,
+}
+
+/// The values at parts `n`, `n + 1` and so on of `d` of the way from one value to another, as many as `out` has.
+pub(crate) fn ramp(from: Num, to: Num, n: u64, d: u64, out: &mut [Num])
+    requires some { 1 ≤ d }
+    requires wide { d ≤ 2 ^ 63 }
+    requires number { n ≤ last_number }
+    ensures { out.new ≡ ramp_of from to n d (length out.old) }
+{
+    let step = rise_of(from, to, d);
+    let mut at = part_of(from, to, n, d);
+    for j in 0..out.len() {
+        out[j] = value_at(from, at);
+        at = advanced(at, step, d);
+    }
+}
+
+// The parts of a way.
+fn rise_of(from: Num, to: Num, d: u64) -> Parts
+    requires some { 1 ≤ d }
+    ensures parts { IsParted (to -ℤ from) d result.whole result.rest }
+    ensures bounded { unsigned_abs result.whole < 2 ^ 48 }
+{
+    parted(i128::from(rise(from, to)), d)
+}
+
+// The parts of a way, so many times.
+fn part_of(from: Num, to: Num, n: u64, d: u64) -> Parts
+    requires some { 1 ≤ d }
+    requires number { n ≤ last_number }
+    ensures parts { IsParted ((to -ℤ from) *ℤ pos n) d result.whole result.rest }
+    ensures bounded { unsigned_abs result.whole < 2 ^ 111 }
+{
+    parted(times(rise(from, to), n), d)
+}
+
+// The value above another.
+#[inline(always)]
+fn value_at(from: Num, at: Parts) -> Num
+    requires { unsigned_abs at.whole < 2 ^ 120 }
+    ensures { result ≡ clamp (from +ℤ at.whole) }
+{
+    raised(from.raw(), at.whole)
+}
+
+fn parted(n: i128, d: u64) -> Parts
+    requires some { 1 ≤ d }
+    requires bounded { unsigned_abs n < 2 ^ 111 }
+    ensures parts { IsParted n d result.whole result.rest }
+    ensures bounded { unsigned_abs result.whole ≤ unsigned_abs n }
+{
+    Parts {
+        whole: quotient(n, d),
+        rest: n.rem_euclid(i128::from(d)) as u64,
+    }
+}
+
+// The parts of the sum of two numbers.
+#[inline(always)]
+fn advanced(at: Parts, by: Parts, d: u64) -> Parts
+    requires at { at.rest < d }
+    requires by { by.rest < d }
+    requires wide { d ≤ 2 ^ 63 }
+    requires far { unsigned_abs at.whole < 2 ^ 120 }
+    requires near { unsigned_abs by.whole < 2 ^ 48 }
+    ensures sum { IsAdvanced d at.whole at.rest by.whole by.rest result.whole result.rest }
+    ensures bounded { unsigned_abs result.whole ≤ unsigned_abs at.whole + 2 ^ 49 }
+{
+    let rest = at.rest + by.rest;
+    if rest < d {
+        Parts {
+            whole: plus(at.whole, by.whole),
+            rest,
+        }
+    } else {
+        Parts {
+            whole: plus(plus(at.whole, by.whole), 1),
+            rest: rest - d,
+        }
+    }
+}
+
+#[inline(always)]
+fn plus(x: i128, y: i128) -> i128
+    requires x { unsigned_abs x < 2 ^ 121 }
+    requires y { unsigned_abs y < 2 ^ 48 }
+    ensures value { result ≡ x +ℤ y }
+    ensures bounded { unsigned_abs result ≤ unsigned_abs x + unsigned_abs y }
+{
+    x + y
+}

@@ -1,0 +1,138 @@
+// A unit of any opcode.
+ghost use Rattle.std.specs.Prelude.{◌≡◌, IfOk, OnErr, true};
+ghost use Rattle.cs_signal.specs.Pace.{pace_of};
+ghost use Rattle.cs_ugen.specs.Units.{IsUnitOpcode, opcode_of, takes_memory, unit_start};
+
+use cs_base::{Head, Num, OutOfMemory, Rate};
+use cs_osc::{Oscil, Oscili, Phasor, Table, Tablei};
+use cs_signal::{
+    Biquad, Delay, Diff, Downsamp, Integ, Interp, Limit, Line, Linen, Linseg, Samphold,
+};
+use cs_words::Opcode;
+use std::alloc::Global;
+use std::marker::Model;
+
+/// The state of one opcode of one note.
+#[derive(Drop)]
+pub struct Unit {
+    pub(crate) kind: Kind,
+}
+
+#[derive(Drop)]
+pub(crate) enum Kind {
+    Oscil(Oscil),
+    Oscili(Oscili),
+    Phasor(Phasor),
+    Line(Line),
+    Linseg(Linseg),
+    Linen(Linen),
+    Delay(Delay),
+    Biquad(Biquad),
+    Table(Table),
+    Tablei(Tablei),
+    Integ(Integ),
+    Diff(Diff),
+    Samphold(Samphold),
+    Limit(Limit),
+    Interp(Interp),
+    Downsamp(Downsamp),
+}
+
+impl Model for Unit {
+    ghost use Rattle.cs_ugen.specs.declared.unit.Kind.{Kind};
+
+    ghost Value = { Kind };
+
+    ghost view = { λ u. u.kind };
+}
+
+impl Unit {
+    /// A unit that has no step behind it. It takes all its memory now: only `delay` and `linseg` take any.
+    pub fn start(
+        alloc: Global,
+        opcode: Opcode,
+        rate: Rate,
+        head: &Head,
+        settled: &[Num],
+    ) -> Result<Unit, OutOfMemory>
+        requires { IsUnitOpcode opcode }
+        ensures unit { IfOk result (λ u. u ≡ unit_start opcode rate (pace_of head.now) settled.now) }
+        ensures memory { OnErr result (takes_memory opcode ≡ true) }
+    {
+        match opcode {
+            Opcode::Oscil => Ok(Unit {
+                kind: Kind::Oscil(Oscil::start(rate, head, settled)),
+            }),
+            Opcode::Oscili => Ok(Unit {
+                kind: Kind::Oscili(Oscili::start(rate, head, settled)),
+            }),
+            Opcode::Phasor => Ok(Unit {
+                kind: Kind::Phasor(Phasor::start(rate, head, settled)),
+            }),
+            Opcode::Line => Ok(Unit {
+                kind: Kind::Line(Line::start(rate, head, settled)),
+            }),
+            Opcode::Linseg => Ok(Unit {
+                kind: Kind::Linseg(Linseg::start(alloc, rate, head, settled)?),
+            }),
+            Opcode::Linen => Ok(Unit {
+                kind: Kind::Linen(Linen::start(rate, head, settled)),
+            }),
+            Opcode::Delay => Ok(Unit {
+                kind: Kind::Delay(Delay::start(alloc, head, settled)?),
+            }),
+            Opcode::Biquad => Ok(Unit {
+                kind: Kind::Biquad(Biquad::start()),
+            }),
+            Opcode::Table => Ok(Unit {
+                kind: Kind::Table(Table::start()),
+            }),
+            Opcode::Tablei => Ok(Unit {
+                kind: Kind::Tablei(Tablei::start()),
+            }),
+            Opcode::Integ => Ok(Unit {
+                kind: Kind::Integ(Integ::start()),
+            }),
+            Opcode::Diff => Ok(Unit {
+                kind: Kind::Diff(Diff::start()),
+            }),
+            Opcode::Samphold => Ok(Unit {
+                kind: Kind::Samphold(Samphold::start()),
+            }),
+            Opcode::Limit => Ok(Unit {
+                kind: Kind::Limit(Limit::start()),
+            }),
+            Opcode::Interp => Ok(Unit {
+                kind: Kind::Interp(Interp::start(head)),
+            }),
+            Opcode::Downsamp => Ok(Unit {
+                kind: Kind::Downsamp(Downsamp::start()),
+            }),
+            _ => unreachable!(),
+        }
+    }
+
+    /// Its opcode.
+    pub fn opcode(&self) -> Opcode
+        ensures { result ≡ opcode_of self.now }
+    {
+        match &self.kind {
+            Kind::Oscil(_) => Opcode::Oscil,
+            Kind::Oscili(_) => Opcode::Oscili,
+            Kind::Phasor(_) => Opcode::Phasor,
+            Kind::Line(_) => Opcode::Line,
+            Kind::Linseg(_) => Opcode::Linseg,
+            Kind::Linen(_) => Opcode::Linen,
+            Kind::Delay(_) => Opcode::Delay,
+            Kind::Biquad(_) => Opcode::Biquad,
+            Kind::Table(_) => Opcode::Table,
+            Kind::Tablei(_) => Opcode::Tablei,
+            Kind::Integ(_) => Opcode::Integ,
+            Kind::Diff(_) => Opcode::Diff,
+            Kind::Samphold(_) => Opcode::Samphold,
+            Kind::Limit(_) => Opcode::Limit,
+            Kind::Interp(_) => Opcode::Interp,
+            Kind::Downsamp(_) => Opcode::Downsamp,
+        }
+    }
+}
