@@ -1,0 +1,17 @@
+-- Instruments and their numbers.
+use Rattle.std.specs.Prelude.{ℕ, List, [], ◌∷◌, Option, Some, None, map, ◌==◌, if◌then◌else◌}
+use Rattle.cs_ir.specs.declared.op.Code.{Code}
+
+-- An instrument: its number, what a note of it runs as it begins, and what it runs in each control cycle.
+pub record Numbered : Type 0 where
+  pub number : ℕ
+  pub init : Code
+  pub perf : Code
+
+abbrev pub numbers_of : List Numbered → List ℕ
+numbers_of list = map (λ (i : Numbered). i.number) list
+
+-- the instrument of a number, where there is one
+abbrev pub numbered : ℕ → List Numbered → Option Numbered
+numbered n [] = None
+numbered n (i ∷ rest) = if i.number == n then Some i else numbered n rest

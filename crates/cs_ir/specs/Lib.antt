@@ -1,0 +1,10 @@
+pub mod Asks
+pub mod Instruments
+pub mod Machine
+pub mod Operands
+pub mod Resources
+pub mod Units
+pub mod Validity
+pub mod Values
+pub mod Waves
+pub mod Worlds

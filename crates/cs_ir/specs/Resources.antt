@@ -1,0 +1,98 @@
+-- Which of what notes share an op may read or write.
+use Rattle.std.specs.Prelude.{ℕ, Bool, true, false, ◌&&◌, List, [], ◌∷◌, map, nat_le, if◌then◌else◌}
+use Rattle.std.specs.List.{filter, flat_map, list_any, range_with_len}
+use Rattle.cs_base.specs.declared.resource.Res.{Res}
+use Rattle.cs_base.specs.declared.resource.Res.TheVariants as res
+use Rattle.cs_words.specs.Catalogue.{row_of}
+use Rattle.cs_words.specs.declared.catalogue.Opcode.{Opcode}
+use Rattle.cs_words.specs.declared.catalogue.Letter.{Letter}
+use Rattle.cs_words.specs.declared.catalogue.Letter.TheVariants as letter
+use Rattle.cs_words.specs.declared.catalogue.Shape.{Shape}
+use Rattle.cs_words.specs.declared.catalogue.Shape.TheVariants as shape
+use Rattle.cs_words.specs.declared.catalogue.Space.{Space}
+use Rattle.cs_words.specs.declared.catalogue.Space.TheVariants as space
+use Rattle.cs_ir.specs.declared.op.Act.{Act}
+use Rattle.cs_ir.specs.declared.op.Act.TheVariants as act
+use Rattle.cs_ir.specs.declared.op.Op.{Op}
+use Rattle.cs_ir.specs.declared.op.Reach.{Reach}
+use Rattle.cs_ir.specs.declared.op.Reach.TheVariants as reach
+
+-- how many places each zak space has
+pub record Spaces : Type 0 where
+  pub control : ℕ
+  pub audio : ℕ
+
+abbrev pub places_of : Spaces → Space → ℕ
+places_of spaces space.Control = spaces.control
+places_of spaces space.Audio = spaces.audio
+
+abbrev pub zak_place : Space → ℕ → Res
+zak_place space.Control n = res.ZakK n
+zak_place space.Audio n = res.ZakA n
+
+-- what a piece has beside its variables and channels: its zak spaces, and the numbers of its live tables
+pub record Stock : Type 0 where
+  pub spaces : Spaces
+  pub live : List ℕ
+
+-- whether a number lies within a reach
+abbrev pub reaches : Reach → ℕ → Bool
+reaches reach.Nothing n = false
+reaches (reach.Span first last) n = nat_le first n && nat_le n last
+reaches reach.Any n = true
+
+-- the live tables, and the places of a space of so many, that lie within a reach
+abbrev pub tables_within : Stock → Reach → List Res
+tables_within stock r = map res.Table (filter (reaches r) stock.live)
+
+abbrev pub places_within : Stock → Space → Reach → List Res
+places_within stock s r = map (zak_place s) (filter (reaches r) (range_with_len 0 (places_of stock.spaces s)))
+
+-- a table's number is among the arguments
+abbrev pub is_table : Letter → Bool
+is_table letter.Table = true
+is_table _ = false
+
+abbrev pub takes_table : Opcode → Bool
+takes_table opcode = list_any is_table (row_of opcode).fixed
+
+-- What a unit may touch, by its shape, and what of it it may write. A unit that writes may also read.
+abbrev pub shape_uses : Stock → Shape → Bool → Reach → List Res
+shape_uses stock shape.Unit table r = if table then tables_within stock r else []
+shape_uses stock shape.Store table r = tables_within stock r
+shape_uses stock (shape.ZakGet s) table r = places_within stock s r
+shape_uses stock (shape.ZakPut s) table r = places_within stock s r
+shape_uses stock shape.ZakMix table r = places_within stock space.Audio r
+shape_uses stock (shape.ZakClear s) table r = places_within stock s r
+shape_uses stock _ table r = []
+
+abbrev pub is_store : Shape → Bool
+is_store shape.Store = true
+is_store (shape.ZakPut s) = true
+is_store shape.ZakMix = true
+is_store (shape.ZakClear s) = true
+is_store _ = false
+
+abbrev pub unit_uses : Stock → Opcode → Reach → List Res
+unit_uses stock opcode r = shape_uses stock (row_of opcode).shape (takes_table opcode) r
+
+abbrev pub unit_writes : Stock → Opcode → Reach → List Res
+unit_writes stock opcode r = if is_store (row_of opcode).shape then unit_uses stock opcode r else []
+
+-- what an op may read or write, and what it may write
+abbrev pub act_uses : Stock → Act → List Res
+act_uses stock (act.Load g) = g ∷ []
+act_uses stock (act.Save g) = g ∷ []
+act_uses stock (act.Unit opcode u r) = unit_uses stock opcode r
+act_uses stock _ = []
+
+abbrev pub act_writes : Stock → Act → List Res
+act_writes stock (act.Save g) = g ∷ []
+act_writes stock (act.Unit opcode u r) = unit_writes stock opcode r
+act_writes stock _ = []
+
+abbrev pub ops_use : Stock → List Op → List Res
+ops_use stock ops = flat_map (λ o. act_uses stock o.act) ops
+
+abbrev pub ops_write : Stock → List Op → List Res
+ops_write stock ops = flat_map (λ o. act_writes stock o.act) ops

@@ -1,0 +1,138 @@
+-- Which codes can be run: what an op names is there, and what it reads is what its act takes.
+use Rattle.std.specs.Prelude.{ℕ, Bool, true, false, not, ◌&&◌, ◌||◌, ◌==◌, ◌+◌, ◌∷◌, [], List, length, nat_lt, nat_le, if◌then◌else◌}
+use Rattle.std.specs.List.{list_all, list_any}
+use Rattle.cs_base.specs.Rates.{is_init, is_control, is_audio, same_rate, within, res_rate}
+use Rattle.cs_base.specs.declared.resource.Rate.{Rate}
+use Rattle.cs_base.specs.declared.resource.Rate.TheVariants as rate
+use Rattle.cs_words.specs.Catalogue.{Row, row_of, result_count, takes, moving_letters, unit_takes}
+use Rattle.cs_words.specs.Signs.{is_arithmetic}
+use Rattle.cs_words.specs.declared.catalogue.Letter.{Letter}
+use Rattle.cs_words.specs.declared.catalogue.Shape.{Shape}
+use Rattle.cs_words.specs.declared.catalogue.Shape.TheVariants as shape
+use Rattle.cs_words.specs.declared.sign.BinOp.{BinOp}
+use Rattle.cs_words.specs.declared.word.Func.{Func}
+use Rattle.cs_words.specs.declared.word.Func.TheVariants as func
+use Rattle.cs_ir.specs.Machine.{gives}
+use Rattle.cs_ir.specs.Units.{is_started, is_unit}
+use Rattle.cs_ir.specs.declared.op.Act.{Act}
+use Rattle.cs_ir.specs.declared.op.Act.TheVariants as act
+use Rattle.cs_ir.specs.declared.op.Code.{Code}
+use Rattle.cs_ir.specs.declared.op.Op.{Op}
+use Rattle.cs_ir.specs.declared.register.Counts.{Counts}
+use Rattle.cs_ir.specs.declared.register.Reg.{Reg}
+
+-- how many registers of a rate there are, and whether a register is one of them
+abbrev pub count_of : Counts → Rate → ℕ
+count_of counts rate.Init = counts.i
+count_of counts rate.Control = counts.k
+count_of counts rate.Audio = counts.a
+
+abbrev pub has_register : Counts → Reg → Bool
+has_register counts q = nat_lt q.index (count_of counts q.rate)
+
+-- whether an act writes its op's register; of `Start` and of a unit without a result the register tells the rate alone
+abbrev pub writes : Act → Bool
+writes (act.Save g) = false
+writes (act.Start opcode u) = false
+writes (act.Unit opcode u reach) = gives opcode
+writes (act.Jump to) = false
+writes (act.Unless to) = false
+writes (act.Out c) = false
+writes act.OutAt = false
+writes act.Turnoff = false
+writes act.Ask = false
+writes _ = true
+
+-- Of a code that ends at a place, what an act at a place names is there: a unit, or a later op or the end to go on at.
+abbrev pub finds : Counts → ℕ → ℕ → Act → Bool
+finds counts end place (act.Start opcode u) = nat_lt u counts.units
+finds counts end place (act.Unit opcode u reach) = nat_lt u counts.units
+finds counts end place (act.Jump to) = nat_lt place to && nat_le to end
+finds counts end place (act.Unless to) = nat_lt place to && nat_le to end
+finds counts end place _ = true
+
+-- an operator takes and gives sounds where it computes, but a truth value is no sound
+abbrev pub suits_operator : BinOp → Rate → Bool
+suits_operator b r = is_arithmetic b || not (is_audio r)
+
+-- a function gives what changes as often as what it takes, but `i` reads once, and a pitch is no sound
+abbrev pub suits_function : Func → Rate → Rate → Bool
+suits_function func.I r x = is_init r && is_control x
+suits_function func.Cpspch r x = within x r && not (is_audio r)
+suits_function _ r x = within x r
+
+-- a unit's rate is one that its opcode's result may have; without a result it has any
+abbrev pub may_run_at : Row → Rate → Bool
+may_run_at row r = result_count row == 0 || list_any (same_rate r) row.results
+
+-- the rate that bounds what a unit takes: its own, or none where it has no result
+abbrev pub bound_at : Row → Rate → Rate
+bound_at row r = if result_count row == 0 then rate.Audio else r
+
+-- letters take what these registers hold, one each
+abbrev pub take_all : List Letter → Rate → List Reg → Bool
+take_all [] bound [] = true
+take_all (l ∷ ls) bound (x ∷ xs) = takes l bound x.rate && take_all ls bound xs
+take_all _ bound _ = false
+
+-- a table is stored to sample by sample where the unit and all that it takes are sounds, or else at values that are held
+abbrev pub as_sounds : Rate → Reg → Bool
+as_sounds r x = if is_audio r then is_audio x.rate else not (is_audio x.rate)
+
+abbrev pub stores_at : Shape → Rate → List Reg → Bool
+stores_at shape.Store r xs = list_all (as_sounds r) xs
+stores_at _ r xs = true
+
+-- what doesn't change after the note has begun
+abbrev pub is_still : Reg → Bool
+is_still x = is_init x.rate
+
+-- a unit is started with settled values, and run with those that move
+abbrev pub starts_with : Row → Rate → List Reg → Bool
+starts_with row r xs =
+    is_started row.shape && unit_takes row (length xs) && list_all is_still xs && may_run_at row r
+
+abbrev pub runs_with : Row → Rate → List Reg → Bool
+runs_with row r xs =
+    is_unit row.shape && take_all (moving_letters row) (bound_at row r) xs && stores_at row.shape r xs && may_run_at row r
+
+-- whether an act takes what these registers hold, where its op's register has the first rate
+abbrev pub takes_from : Act → Rate → List Reg → Bool
+takes_from (act.Const n) r [] = true
+takes_from (act.Field k) r [] = true
+takes_from (act.Head h) r [] = true
+takes_from act.Copy r (x ∷ []) = within x.rate r
+takes_from act.Neg r (x ∷ []) = within x.rate r
+takes_from (act.Pair b) r (x ∷ y ∷ []) = within x.rate r && within y.rate r && suits_operator b r
+takes_from act.Pick r (c ∷ x ∷ y ∷ []) =
+    not (is_audio c.rate) && within c.rate r && within x.rate r && within y.rate r
+takes_from (act.Call f) r (x ∷ []) = suits_function f r x.rate
+takes_from (act.Load g) r [] = within r (res_rate g)
+takes_from (act.Save g) r (x ∷ []) = within x.rate (res_rate g)
+takes_from (act.Start opcode u) r xs = starts_with (row_of opcode) r xs
+takes_from (act.Unit opcode u reach) r xs = runs_with (row_of opcode) r xs
+takes_from (act.Jump to) r [] = true
+takes_from (act.Unless to) r (x ∷ []) = not (is_audio x.rate)
+takes_from (act.Out c) r (x ∷ []) = is_audio x.rate
+takes_from act.OutAt r (x ∷ y ∷ []) = not (is_audio x.rate) && is_audio y.rate
+takes_from act.Turnoff r [] = true
+takes_from act.Ask r xs = nat_le 3 (length xs) && list_all is_still xs
+takes_from _ r xs = false
+
+-- An op at a place of a code that ends at a place: it writes and reads registers that are there, finds what it names, and
+-- takes what it reads.
+abbrev pub is_fine : Counts → ℕ → ℕ → Op → Bool
+is_fine counts end place op =
+    (not (writes op.act) || has_register counts op.into)
+    && list_all (has_register counts) op.from
+    && finds counts end place op.act
+    && takes_from op.act op.into.rate op.from
+
+-- the ops from a place on
+abbrev pub fine_from : Counts → ℕ → ℕ → List Op → Bool
+fine_from counts end place [] = true
+fine_from counts end place (op ∷ ops) = is_fine counts end place op && fine_from counts end (place + 1) ops
+
+-- A code that can be run: each of its ops is fine at its place.
+abbrev pub valid : Code → Bool
+valid c = fine_from c.counts (length c.ops.items) 0 c.ops.items

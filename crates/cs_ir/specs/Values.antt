@@ -1,0 +1,62 @@
+-- What operators and functions make of numbers, in whole 65,536ths.
+use Rattle.std.specs.Prelude.{ℕ, ℤ, pos, Bool, not, ◌&&◌, ◌||◌, ◌+◌, ◌*◌, ◌^◌, ◌%◌, ◌/◌, ◌*ℤ◌, ◌+ℤ◌, List, [], ◌∷◌, slice_index_or, unsigned_abs, if◌then◌else◌}
+use Rattle.std.specs.Int.{int_max, int_min, int_rem_euclid}
+use Rattle.std.specs.Ordering.{int_eq}
+use Rattle.std.specs.Prelude.{int_lt}
+use Rattle.cs_base.specs.Numbers.{one, floor_div, sum_of, difference_of, product_of, quotient_of, remainder_of, floor_of, int_of, frac_of, abs_of}
+use Rattle.cs_words.specs.declared.sign.BinOp.{BinOp}
+use Rattle.cs_words.specs.declared.sign.BinOp.TheVariants as op
+use Rattle.cs_words.specs.declared.word.Func.{Func}
+use Rattle.cs_words.specs.declared.word.Func.TheVariants as func
+
+-- A condition is a value: 0 doesn't hold, anything else does. A comparison gives 1 or 0.
+abbrev pub holds : ℤ → Bool
+holds z = not (int_eq z (pos 0))
+
+abbrev pub truth : Bool → ℤ
+truth b = if b then one else pos 0
+
+abbrev pub negated : ℤ → ℤ
+negated z = difference_of (pos 0) z
+
+-- what an operator makes of two values
+abbrev pub combined : BinOp → ℤ → ℤ → ℤ
+combined op.Or x y = truth (holds x || holds y)
+combined op.And x y = truth (holds x && holds y)
+combined op.Less x y = truth (int_lt x y)
+combined op.Greater x y = truth (int_lt y x)
+combined op.LessEqual x y = truth (not (int_lt y x))
+combined op.GreaterEqual x y = truth (not (int_lt x y))
+combined op.Equal x y = truth (int_eq x y)
+combined op.NotEqual x y = truth (not (int_eq x y))
+combined op.Add x y = sum_of x y
+combined op.Sub x y = difference_of x y
+combined op.Mul x y = product_of x y
+combined op.Div x y = quotient_of x y
+combined op.Rem x y = remainder_of x y
+
+-- thousandths of a hertz of the twelve semitones from middle C upwards
+abbrev pub semitones : List ℕ
+semitones =
+    261626 ∷ 277183 ∷ 293665 ∷ 311127 ∷ 329628 ∷ 349228 ∷ 369994 ∷ 391995 ∷ 415305 ∷ 440000 ∷ 466164 ∷ 493883 ∷ []
+
+-- the semitones of an octave and pitch class: the hundredths, rounded to a whole number
+abbrev pub pitch_class : ℤ → ℕ
+pitch_class x = unsigned_abs (floor_div ((int_rem_euclid x one *ℤ pos 100) +ℤ pos 32768) one)
+
+-- its octave, from 0 to 20; twelve of its semitones are one more
+abbrev pub octave : ℤ → ℕ → ℕ
+octave x class = unsigned_abs (int_max (pos 0) (int_min (floor_div x one +ℤ pos (class / 12)) (pos 20)))
+
+-- Hertz of an octave and pitch class, rounded down once: octave 8 begins at middle C, each further one doubles.
+abbrev pub cpspch_of : ℤ → ℤ
+cpspch_of x = floor_div (pos (slice_index_or semitones (pitch_class x % 12) 0 * 2 ^ (octave x (pitch_class x) + 8))) (pos 1000)
+
+-- what a function makes of a value; `i` reads its variable as it is
+abbrev pub applied : Func → ℤ → ℤ
+applied func.Int x = int_of x
+applied func.Frac x = frac_of x
+applied func.Abs x = abs_of x
+applied func.Floor x = floor_of x
+applied func.Cpspch x = cpspch_of x
+applied func.I x = x

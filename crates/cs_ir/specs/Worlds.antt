@@ -1,0 +1,24 @@
+-- What notes share and what opcodes do, as code and meaning see it.
+use Rattle.std.specs.Prelude.{ℕ, ℤ, Bool, List}
+use Rattle.cs_base.specs.declared.resource.Rate.{Rate}
+use Rattle.cs_base.specs.declared.resource.Res.{Res}
+use Rattle.cs_words.specs.declared.catalogue.Opcode.{Opcode}
+use Rattle.cs_words.specs.declared.word.HeadName.{HeadName}
+use Rattle.cs_ir.specs.Waves.{Wave}
+use Rattle.cs_ir.specs.declared.op.Reach.{Reach}
+
+-- A world, by what a note can do in it. Its states W hold what notes share, the note's units, its output, whether it was turned
+-- off, what it asked for, and whether its initialisation was refused. A unit has a number, the place in the text of its opcode.
+pub record World (W : Type 0) : Type 0 where
+  pub ksmps : ℕ
+  pub field : ℕ → ℤ
+  pub head : HeadName → ℤ
+  pub load : Res → W → Wave
+  pub save : Res → Wave → W → W
+  pub start : Opcode → Rate → ℕ → List ℤ → W → W
+  pub does : Opcode → Rate → ℕ → Reach → List Wave → W → W × Wave
+  pub out : ℕ → Wave → W → W
+  pub out_at : Wave → Wave → W → W
+  pub turnoff : W → W
+  pub ask : List ℤ → W → W
+  pub refused : W → Bool

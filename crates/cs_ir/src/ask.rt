@@ -1,0 +1,58 @@
+// What a note may ask for: another note.
+ghost use Rattle.std.specs.Prelude.{◌≡◌, drop, IfOk};
+ghost use Rattle.cs_base.specs.Numbers.{floor_div, one};
+ghost use Rattle.cs_ir.specs.Asks.{ask_of, value_at};
+
+use cs_base::{Num, Nums, OutOfMemory};
+use std::alloc::Global;
+
+/// A note that a note asks for as it begins.
+#[derive(Drop)]
+pub struct Ask {
+    /// The number of its instrument.
+    pub number: i64,
+    /// Seconds from now until it begins.
+    pub when: Num,
+    /// Seconds that it lasts.
+    pub dur: Num,
+    /// Its p-fields from p4 on.
+    pub more: Nums,
+}
+
+impl Ask {
+    /// What these values ask for; one that is missing counts as 0.
+    pub fn of(alloc: Global, values: &[Num]) -> Result<Ask, OutOfMemory>
+        ensures { IfOk result (λ a. a ≡ ask_of values.now) }
+    {
+        Ok(Ask {
+            number: number_of(value_at(values, 0)),
+            when: value_at(values, 1),
+            dur: value_at(values, 2),
+            more: Nums::from_vec(more_of(values).to_vec(alloc)?),
+        })
+    }
+}
+
+fn number_of(value: Num) -> i64
+    ensures { result ≡ floor_div value one }
+{
+    value.raw().div_euclid(65_536)
+}
+
+fn more_of(values: &[Num]) -> &[Num]
+    ensures { result.now ≡ drop 3 values.now }
+{
+    match values.get(3..) {
+        Some(more) => more,
+        None => &[],
+    }
+}
+
+fn value_at(values: &[Num], place: usize) -> Num
+    ensures { result ≡ value_at values.now place }
+{
+    match values.get(place) {
+        Some(value) => *value,
+        None => Num::exact(0),
+    }
+}

@@ -1,0 +1,146 @@
+// Instruments, and how one is found by its number.
+ghost use Rattle.std.specs.Prelude.{◌≡◌, true, IfOk, IfSome, Some, None, IsNone};
+ghost use Rattle.std.specs.List.Sorted.{IsPermutation, IsStrictlyIncreasing};
+ghost use Rattle.std.specs.List.{IsDistinct};
+ghost use Rattle.std.specs.Prelude.{eqb};
+ghost use Rattle.cs_ir.specs.Instruments.{numbered, numbers_of};
+ghost use Rattle.cs_ir.specs.Validity.{valid};
+
+use crate::{Code, ValidCode};
+use cs_base::OutOfMemory;
+use std::alloc::Global;
+use std::marker::Model;
+use std::sync::Arc;
+
+/// What the notes of an instrument run: one code as they begin, another in each control cycle, over the same registers
+/// and units.
+#[derive(Drop)]
+pub struct Body {
+    init: ValidCode,
+    perf: ValidCode,
+    ghost counts: { init.counts ≡ perf.counts },
+}
+
+impl Body {
+    pub fn new(init: ValidCode, perf: ValidCode) -> Body
+        requires { init.counts ≡ perf.counts }
+        ensures init { result.init ≡ init }
+        ensures perf { result.perf ≡ perf }
+    {
+        Body { init, perf }
+    }
+}
+
+/// An instrument under one of its numbers. All numbers of a body share its codes.
+#[derive(Drop)]
+pub struct Instrument {
+    number: u32,
+    body: Arc<Body, Global>,
+}
+
+impl Model for Instrument {
+    ghost use Rattle.cs_ir.specs.Instruments.{Numbered};
+
+    ghost Value = { Numbered };
+
+    ghost view = { λ i. record { number = i.number; init = i.body.value.init; perf = i.body.value.perf } };
+}
+
+impl Instrument {
+    /// A body under a number.
+    pub fn new(number: u32, body: &Arc<Body, Global>) -> Result<Instrument, OutOfMemory>
+        ensures number { IfOk result (λ i. i.number ≡ number) }
+        ensures init { IfOk result (λ i. i.init ≡ body.now.value.init) }
+        ensures perf { IfOk result (λ i. i.perf ≡ body.now.value.perf) }
+    {
+        Ok(Instrument {
+            number,
+            body: Arc::try_clone(body)?,
+        })
+    }
+
+    pub fn number(&self) -> u32
+        ensures { result ≡ self.now.number }
+    {
+        self.number
+    }
+
+    /// What a note runs as it begins.
+    pub fn init(&self) -> &Code
+        ensures same { result.now ≡ self.now.init }
+        ensures valid { valid result.now ≡ true }
+        ensures counts { result.now.counts ≡ self.now.perf.counts }
+    {
+        self.body.init.code()
+    }
+
+    /// What a note runs in each control cycle.
+    pub fn perf(&self) -> &Code
+        ensures same { result.now ≡ self.now.perf }
+        ensures valid { valid result.now ≡ true }
+        ensures counts { result.now.counts ≡ self.now.init.counts }
+    {
+        self.body.perf.code()
+    }
+}
+
+/// The instruments of an orchestra, by ascending number.
+#[derive(Drop)]
+pub struct Instruments {
+    numbers: Vec<u32>,
+    items: Vec<Instrument>,
+}
+
+impl Model for Instruments {
+    ghost use Rattle.std.specs.Prelude.{◌≡◌, List};
+    ghost use Rattle.std.specs.List.Sorted.{IsStrictlyIncreasing};
+    ghost use Rattle.cs_ir.specs.Instruments.{Numbered, numbers_of};
+
+    ghost Value = { List Numbered };
+
+    ghost view = { λ l. l.items.items };
+
+    ghost invariant = { λ l. (l.numbers.items ≡ numbers_of l.items.items) × IsStrictlyIncreasing (numbers_of l.items.items) };
+}
+
+impl Instruments {
+    /// Instruments in any order, no two of one number, brought into the order of their numbers.
+    pub fn of(alloc: Global, mut items: Vec<Instrument>) -> Result<Instruments, OutOfMemory>
+        requires { IsDistinct eqb (numbers_of items.items) }
+        ensures same { IfOk result (λ l. IsPermutation items.items l) }
+        ensures ascending { IfOk result (λ l. IsStrictlyIncreasing (numbers_of l)) }
+    {
+        items.sort_unstable_by_key(|item: &Instrument| item.number());
+        let numbers = numbers_of(alloc, &items)?;
+        Ok(Instruments { numbers, items })
+    }
+
+    /// All of them, by ascending number.
+    pub fn as_slice(&self) -> &[Instrument]
+        ensures same { result.now ≡ self.now }
+        ensures ascending { IsStrictlyIncreasing (numbers_of self.now) }
+    {
+        &self.items
+    }
+
+    /// The instrument of a number.
+    pub fn find(&self, number: u32) -> Option<&Instrument>
+        ensures found { IfSome result (λ i. numbered number self.now ≡ Some i.now) }
+        ensures none { IsNone result → numbered number self.now ≡ None }
+    {
+        match self.numbers.binary_search(&number) {
+            Ok(place) => Some(&self.items[place]),
+            Err(_) => None,
+        }
+    }
+}
+
+fn numbers_of(alloc: Global, items: &[Instrument]) -> Result<Vec<u32>, OutOfMemory>
+    ensures { IfOk result (λ v. v.items ≡ numbers_of items.now) }
+{
+    let mut numbers = Vec::with_capacity(alloc, items.len())?;
+    for item in items {
+        numbers.push(item.number)?;
+    }
+    Ok(numbers)
+}

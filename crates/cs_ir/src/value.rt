@@ -1,0 +1,127 @@
+// What operators and functions make of numbers.
+ghost use Rattle.std.specs.Prelude.{◌≡◌, ◌≤◌, ◌*◌, ◌+◌, ◌^◌, ◌/◌, ◌%◌, slice_index_or, pos, unsigned_abs};
+ghost use Rattle.std.specs.Int.{int_max, int_min};
+ghost use Rattle.cs_ir.specs.Values.{holds, truth, negated, combined, applied, semitones, pitch_class, octave, cpspch_of};
+
+use cs_base::Num;
+use cs_words::{BinOp, Func};
+
+/// Thousandths of a hertz of the twelve semitones from middle C upwards.
+const SEMITONES: [u64; 12] = [
+    261_626, 277_183, 293_665, 311_127, 329_628, 349_228, 369_994, 391_995, 415_305, 440_000,
+    466_164, 493_883,
+];
+
+/// Whether a condition holds: 0 doesn't, any other value does.
+pub fn holds(x: Num) -> bool
+    ensures { result ≡ holds x }
+{
+    x.raw() != 0
+}
+
+/// 1 where it is true, else 0.
+pub fn truth(is_true: bool) -> Num
+    ensures { result ≡ truth is_true }
+{
+    Num::exact(if is_true { 65_536 } else { 0 })
+}
+
+/// What an operator makes of two values.
+pub fn combine(operator: BinOp, x: Num, y: Num) -> Num
+    ensures { result ≡ combined operator x y }
+{
+    match operator {
+        BinOp::Or => truth(holds(x) || holds(y)),
+        BinOp::And => truth(holds(x) && holds(y)),
+        BinOp::Less => truth(x.raw() < y.raw()),
+        BinOp::Greater => truth(x.raw() > y.raw()),
+        BinOp::LessEqual => truth(x.raw() <= y.raw()),
+        BinOp::GreaterEqual => truth(x.raw() >= y.raw()),
+        BinOp::Equal => truth(x.raw() == y.raw()),
+        BinOp::NotEqual => truth(x.raw() != y.raw()),
+        BinOp::Add => x.add(y),
+        BinOp::Sub => x.sub(y),
+        BinOp::Mul => x.mul(y),
+        BinOp::Div => x.div(y),
+        BinOp::Rem => x.rem(y),
+    }
+}
+
+/// The negative of a value.
+pub fn negate(x: Num) -> Num
+    ensures { result ≡ negated x }
+{
+    Num::exact(0).sub(x)
+}
+
+/// What a function makes of a value.
+pub fn apply(function: Func, x: Num) -> Num
+    ensures { result ≡ applied function x }
+{
+    match function {
+        Func::Int => x.int(),
+        Func::Frac => x.frac(),
+        Func::Abs => x.abs(),
+        Func::Floor => x.floor(),
+        Func::Cpspch => cpspch(x),
+        Func::I => x,
+    }
+}
+
+// The frequency of an octave and pitch class.
+fn cpspch(x: Num) -> Num
+    ensures { result ≡ cpspch_of x }
+{
+    let class = pitch_class(x.raw());
+    Num::exact(hertz(semitone(class), octave(x.raw(), class)) as i64)
+}
+
+// The semitones of an octave and pitch class.
+fn pitch_class(raw: i64) -> usize
+    ensures value { result ≡ pitch_class raw }
+    ensures small { result ≤ 100 }
+{
+    let hundredths = raw.rem_euclid(65_536) * 100;
+    (hundredths + 32_768).div_euclid(65_536).unsigned_abs() as usize
+}
+
+// Its octave, with 12 semitones as one more.
+fn octave(raw: i64, class: usize) -> usize
+    requires small { class ≤ 100 }
+    ensures value { result ≡ octave raw class }
+    ensures small { result ≤ 20 }
+{
+    bounded(raw.div_euclid(65_536) + (class / 12) as i64)
+}
+
+// A number brought into 0 to 20.
+fn bounded(octave: i64) -> usize
+    ensures value { result ≡ unsigned_abs (int_max (pos 0) (int_min octave (pos 20))) }
+    ensures small { result ≤ 20 }
+{
+    if octave < 0 {
+        return 0;
+    }
+    if octave > 20 {
+        return 20;
+    }
+    octave as usize
+}
+
+// Thousandths of a hertz of a semitone in the octave of middle C.
+fn semitone(class: usize) -> u64
+    ensures value { result ≡ slice_index_or semitones (class % 12) 0 }
+    ensures small { result ≤ 493883 }
+{
+    SEMITONES[class % 12]
+}
+
+// Hertz, in 65,536ths, of a semitone in an octave.
+fn hertz(thousandths: u64, octave: usize) -> u64
+    requires semitone { thousandths ≤ 493883 }
+    requires octave { octave ≤ 20 }
+    ensures value { result ≡ thousandths * 2 ^ (octave + 8) / 1000 }
+    ensures small { result ≤ 140737488355327 }
+{
+    thousandths * 2u64.pow(octave as u32 + 8) / 1_000
+}
