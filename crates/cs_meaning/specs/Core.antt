@@ -1,0 +1,127 @@
+-- What each statement of the typed tree is short for.
+use Rattle.std.specs.Prelude.{ℕ, ℤ, pos, Bool, ◌&&◌, ◌+◌, ◌-◌, List, [], ◌∷◌, nat_lt, nat_le, min, unsigned_abs, if◌then◌else◌}
+use Rattle.cs_base.specs.Numbers.{floor_div, one}
+use Rattle.cs_base.specs.declared.resource.Rate.{Rate}
+use Rattle.cs_base.specs.declared.resource.Rate.TheVariants as rate
+use Rattle.cs_words.specs.Catalogue.{Row, row_of, letter_at, is_settled}
+use Rattle.cs_words.specs.declared.catalogue.Opcode.{Opcode}
+use Rattle.cs_words.specs.declared.catalogue.Shape.{Shape}
+use Rattle.cs_words.specs.declared.catalogue.Shape.TheVariants as shape
+use Rattle.cs_words.specs.declared.catalogue.Space.TheVariants as space
+use Rattle.cs_words.specs.declared.sign.BinOp.TheVariants as op
+use Rattle.cs_typed.specs.TypedTree as typed
+use Rattle.cs_typed.specs.TypedTree.{Expression, number, var, pair}
+use Rattle.cs_typed.specs.declared.tree.Var.{Var as Variable}
+use Rattle.cs_ir.specs.Resources.{Spaces, places_of, takes_table}
+use Rattle.cs_ir.specs.declared.op.Reach.{Reach}
+use Rattle.cs_ir.specs.declared.op.Reach.TheVariants as reach
+
+-- The core of the language. A statement of rate Init is done once, as the note begins; any other in each control cycle.
+mutual
+  pub data Stmt : Type 0 where
+    -- a variable or a channel takes a value
+    set : Rate → Variable → Expression → Stmt
+    -- a unit: its result if it has one, what it may touch, the arguments that move, and those that are settled as the note begins
+    unit : Rate → List Variable → Opcode → Reach → List Expression → List Expression → Stmt
+    -- values for the output channels from the first on; and pairs of a channel's number and a value for it
+    out : Rate → List Expression → Stmt
+    out_at : Rate → List Expression → Stmt
+    -- asks for a note
+    ask : List Expression → Stmt
+    turnoff : Rate → Stmt
+    nothing : Stmt
+    choose : Rate → Arms → Stmt
+
+  pub data Block : Type 0 where
+    no_stmt : Block
+    andthen : Stmt → Block → Block
+
+  pub data Arms : Type 0 where
+    otherwise : Block → Arms
+    arm : Expression → Block → Arms → Arms
+
+-- the values among arguments; and of them those that are settled as the note begins, and those that move
+abbrev pub values_of : List typed.Argument → List Expression
+values_of [] = []
+values_of (typed.value e ∷ rest) = e ∷ values_of rest
+values_of (typed.text v ∷ rest) = values_of rest
+
+abbrev pub settled : Row → ℕ → List typed.Argument → List Expression
+settled row n [] = []
+settled row n (typed.value e ∷ rest) =
+    if is_settled (letter_at row n) then e ∷ settled row (n + 1) rest else settled row (n + 1) rest
+settled row n (typed.text v ∷ rest) = settled row (n + 1) rest
+
+abbrev pub moving : Row → ℕ → List typed.Argument → List Expression
+moving row n [] = []
+moving row n (typed.value e ∷ rest) =
+    if is_settled (letter_at row n) then moving row (n + 1) rest else e ∷ moving row (n + 1) rest
+moving row n (typed.text v ∷ rest) = moving row (n + 1) rest
+
+-- the whole number below a literal
+abbrev pub whole_below : ℤ → ℕ
+whole_below v = unsigned_abs (floor_div v one)
+
+-- A literal table number names its table, the first of the settled arguments; another may name any.
+abbrev pub table_reach : List Expression → Reach
+table_reach (number r v ∷ rest) = reach.Span (whole_below v) (whole_below v)
+table_reach _ = reach.Any
+
+-- A literal index names its place, where the space has it; another may name any.
+abbrev pub place_reach : ℕ → Expression → Reach
+place_reach places (number r v) =
+    if nat_lt (whole_below v) places then reach.Span (whole_below v) (whole_below v) else reach.Nothing
+place_reach places _ = reach.Any
+
+-- Two literal bounds name the places of the space between them; others may name any.
+abbrev pub span_reach : ℕ → Expression → Expression → Reach
+span_reach places (number r v) (number q w) =
+    if nat_lt (whole_below v) places && nat_le (whole_below v) (whole_below w)
+    then reach.Span (whole_below v) (min (whole_below w) (places - 1)) else reach.Nothing
+span_reach places _ _ = reach.Any
+
+-- what a unit may touch, by its shape, whether it takes a table, and its arguments
+abbrev pub reach_of : Spaces → Shape → Bool → List Expression → List Expression → Reach
+reach_of spaces shape.Unit table xs is = if table then table_reach is else reach.Nothing
+reach_of spaces shape.Store table xs is = table_reach is
+reach_of spaces (shape.ZakGet s) table (x ∷ xs) is = place_reach (places_of spaces s) x
+reach_of spaces (shape.ZakPut s) table (v ∷ x ∷ xs) is = place_reach (places_of spaces s) x
+reach_of spaces shape.ZakMix table (v ∷ x ∷ xs) is = place_reach (places_of spaces space.Audio) x
+reach_of spaces (shape.ZakClear s) table (x ∷ y ∷ xs) is = span_reach (places_of spaces s) x y
+reach_of spaces _ table xs is = reach.Nothing
+
+-- what a variable or a channel has, and that with something added
+abbrev pub plus : Rate → Variable → Expression → Expression
+plus r v e = pair r op.Add (var r v) e
+
+-- what a call is short for, by its shape
+abbrev pub core_call : Spaces → Rate → List Variable → Opcode → Shape → List typed.Argument → Stmt
+core_call spaces r (v ∷ vs) opcode shape.Init (typed.value e ∷ args) = set rate.Init v e
+core_call spaces r vs opcode shape.Out args = out r (values_of args)
+core_call spaces r vs opcode shape.OutAt args = out_at r (values_of args)
+core_call spaces r vs opcode shape.Turnoff args = turnoff r
+core_call spaces r vs opcode shape.ZakInit args = nothing
+core_call spaces r (v ∷ vs) opcode shape.ChannelGet (typed.text c ∷ args) = set r v (var r c)
+core_call spaces r vs opcode shape.ChannelPut (typed.value e ∷ typed.text c ∷ args) = set r c e
+core_call spaces r vs opcode shape.ChannelMix (typed.value e ∷ typed.text c ∷ args) = set r c (plus rate.Audio c e)
+core_call spaces r vs opcode shape.ChannelClear (typed.text c ∷ args) = set r c (number rate.Init (pos 0))
+core_call spaces r vs opcode shape.Ask args = ask (values_of args)
+core_call spaces r vs opcode sh args =
+    let xs = moving (row_of opcode) 0 args in let is = settled (row_of opcode) 0 args in
+    unit r vs opcode (reach_of spaces sh (takes_table opcode) xs is) xs is
+
+-- A statement, the statements of a block, and the arms of an `if`. `x += e` is `x = x + e`.
+abbrev mutual
+  pub core_stmt : Spaces → typed.Statement → Stmt
+  core_stmt spaces (typed.set line r v e) = set r v e
+  core_stmt spaces (typed.add_to line r v e) = set r v (plus r v e)
+  core_stmt spaces (typed.call line r vs opcode args) = core_call spaces r vs opcode (row_of opcode).shape args
+  core_stmt spaces (typed.choose line r list) = choose r (core_arms spaces list)
+
+  pub core : Spaces → typed.Block → Block
+  core spaces typed.no_stmt = no_stmt
+  core spaces (typed.andthen s rest) = andthen (core_stmt spaces s) (core spaces rest)
+
+  pub core_arms : Spaces → typed.Arms → Arms
+  core_arms spaces (typed.otherwise b) = otherwise (core spaces b)
+  core_arms spaces (typed.arm c b rest) = arm c (core spaces b) (core_arms spaces rest)

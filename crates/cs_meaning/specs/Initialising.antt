@@ -1,0 +1,82 @@
+-- What a note does as it begins.
+use Rattle.std.specs.Prelude.{ℕ, ℤ, true, ◌==◌, List, [], ◌∷◌, if◌then◌else◌}
+use Rattle.cs_base.specs.declared.resource.Rate.{Rate}
+use Rattle.cs_words.specs.Catalogue.{row_of}
+use Rattle.cs_words.specs.declared.catalogue.Opcode.{Opcode}
+use Rattle.cs_typed.specs.TypedTree.{Expression, number, var, field, head, neg, pair, pick, apply}
+use Rattle.cs_typed.specs.declared.tree.Var.{Var as Variable}
+use Rattle.cs_ir.specs.Units.{is_started}
+use Rattle.cs_ir.specs.Values.{holds}
+use Rattle.cs_ir.specs.Waves.{if_init, first_values}
+use Rattle.cs_ir.specs.Worlds.{World}
+use Rattle.cs_ir.specs.declared.op.Reach.{Reach}
+use Rattle.cs_meaning.specs.Core.{Stmt, Block, Arms, set, unit, out, out_at, ask, turnoff, nothing, choose, no_stmt, andthen, otherwise, arm}
+use Rattle.cs_meaning.specs.Notes.{Note, Place, moved_to, past, past_parts, past_stmt, past_block, assign, value, values, first_value, done}
+
+-- once something was refused nothing more is done
+abbrev pub going : {W : Type 0} → World W → Note W → Note W → Note W
+going o t next = if o.refused t.world then t else next
+
+abbrev pub put_kept : {W : Type 0} → ℕ → ℤ → Note W → Note W
+put_kept at z t = record t { kept = λ n. if n == at then z else t.kept n }
+
+-- The outermost parts of an expression that don't change are worked out and kept, in the order of the text.
+abbrev pub keep : {W : Type 0} → World W → ℕ → Expression → Note W → Note W
+keep o at (number r n) t = if_init r (put_kept at (first_value o t (number r n)) t) t
+keep o at (var r v) t = if_init r (put_kept at (first_value o t (var r v)) t) t
+keep o at (field r k) t = if_init r (put_kept at (first_value o t (field r k)) t) t
+keep o at (head r h) t = if_init r (put_kept at (first_value o t (head r h)) t) t
+keep o at (neg r a) t = if_init r (put_kept at (first_value o t (neg r a)) t) (keep o at a t)
+keep o at (pair r b x y) t =
+    if_init r (put_kept at (first_value o t (pair r b x y)) t) (keep o (past at x) y (keep o at x t))
+keep o at (pick r c x y) t =
+    if_init r (put_kept at (first_value o t (pick r c x y)) t)
+    (keep o (past (past at c) x) y (keep o (past at c) x (keep o at c t)))
+keep o at (apply r f x) t = if_init r (put_kept at (first_value o t (apply r f x)) t) (keep o at x t)
+
+abbrev pub keep_all : {W : Type 0} → World W → ℕ → List Expression → Note W → Note W
+keep_all o at [] t = t
+keep_all o at (e ∷ es) t = keep_all o (past at e) es (keep o at e t)
+
+-- A unit is started with its settled arguments. What only reads or writes zak places has no state.
+abbrev pub started : {W : Type 0} → World W → Rate → Opcode → ℕ → List Expression → Note W → Note W
+started o r opcode u is t =
+    if is_started (row_of opcode).shape
+    then moved_to (o.start opcode r u (first_values (values o t true 0 is)) t.world) t else t
+
+-- a unit runs once, as the note begins
+abbrev pub run_once : {W : Type 0} → World W → Rate → List Variable → Opcode → ℕ → Reach → List Expression → Note W → Note W
+run_once o r vs opcode u reach xs t = done o r vs (o.does opcode r u reach (values o t true 0 xs) t.world) t
+
+-- Initialisation: every statement of rate Init, the starting of every unit, and the parts that are kept, in the order of the text.
+abbrev mutual
+  pub init_stmt : {W : Type 0} → World W → Place → Stmt → Note W → Note W
+  init_stmt o p (set r v e) t = going o t (if_init r (assign o v (value o t true 0 e) t) (keep o p.part e t))
+  init_stmt o p (unit r vs opcode reach xs is) t =
+      going o t (if_init r
+      (let s = started o r opcode p.unit is t in going o s (run_once o r vs opcode p.unit reach xs s))
+      (started o r opcode p.unit is (keep_all o p.part xs t)))
+  init_stmt o p (out r es) t = going o t (keep_all o p.part es t)
+  init_stmt o p (out_at r es) t = going o t (keep_all o p.part es t)
+  init_stmt o p (ask es) t = going o t (moved_to (o.ask (first_values (values o t true 0 es)) t.world) t)
+  init_stmt o p (turnoff r) t = t
+  init_stmt o p nothing t = t
+  init_stmt o p (choose r arms) t = going o t (if_init r (init_first o p arms t) (init_all o p arms t))
+
+  pub init_block : {W : Type 0} → World W → Place → Block → Note W → Note W
+  init_block o p no_stmt t = t
+  init_block o p (andthen s b) t = init_block o (past_stmt p s) b (init_stmt o p s t)
+
+  -- an `if` that is decided once: the first arm whose condition holds, which is kept for all cycles
+  pub init_first : {W : Type 0} → World W → Place → Arms → Note W → Note W
+  init_first o p (otherwise b) t = init_block o p b t
+  init_first o p (arm c b rest) t =
+      let s = keep o p.part c t in let q = past_parts (past p.part c) p in
+      if holds (s.kept p.part) then init_block o q b s else init_first o (past_block q b) rest s
+
+  -- any other `if` chooses nothing yet: all its arms are initialised
+  pub init_all : {W : Type 0} → World W → Place → Arms → Note W → Note W
+  init_all o p (otherwise b) t = init_block o p b t
+  init_all o p (arm c b rest) t =
+      let q = past_parts (past p.part c) p in
+      going o t (init_all o (past_block q b) rest (init_block o q b (keep o p.part c t)))
