@@ -1,0 +1,174 @@
+-- The codes of a block are what is promised of an instrument, and instruments are added in the order of the text.
+use Rattle.std.proofs.Common.{◌≡◌, ℕ, ◌+◌, ◌<◌, ◌≤◌, max, true, List, [], ◌∷◌, ◌++◌, length, map, take, get_or, refl, sym, ◌∙◌, ap, ap₂, subst, arith, append_assoc, append-nil}
+use Rattle.std.specs.List.{All, AllZip}
+use Rattle.std.proofs.lemmas.Grind.{flat_map-append}
+use Rattle.std.proofs.lemmas.List.{map_more, map-append, get_or-map, length-map}
+use Rattle.cs_base.specs.declared.resource.Rate.{Rate}
+use Rattle.cs_base.specs.declared.resource.Rate.TheVariants as rate
+use Rattle.cs_ir.specs.Instruments.{Numbered, numbers_of}
+use Rattle.cs_ir.specs.Resources.{Spaces, ops_use, ops_write}
+use Rattle.cs_ir.specs.Validity.{count_of, fine_from}
+use Rattle.cs_ir.specs.declared.op.Code.{Code}
+use Rattle.cs_ir.specs.declared.op.Op.{Op}
+use Rattle.cs_ir.specs.declared.register.Counts.{Counts}
+use Rattle.cs_meaning.specs.Core.{core}
+use Rattle.cs_meaning.specs.Notes.{start, past_block}
+use Rattle.cs_typed.specs.TypedTree as typed
+use Rattle.cs_typed.specs.WellRated.{IsRatedBlock}
+use Rattle.cs_typed.specs.declared.setting.Setting.{Setting}
+use Rattle.cs_typed.specs.declared.tree.TypedInstr.{TypedInstr}
+use Rattle.cs_code.specs.Lowered.{IsCodeOf, IsNumberedCode, numbered_with, bodies, all_numbers}
+use Rattle.cs_code.specs.Means.{Means}
+use Rattle.cs_code.specs.Names.{block_units, AllNamed}
+use Rattle.cs_code.specs.inner.Census.{Roomy}
+use Rattle.cs_code.specs.inner.Code.{init_block_code, perf_block_code}
+use Rattle.cs_code.specs.inner.Counted.{reached, no_registers}
+use Rattle.cs_code.specs.inner.Frames.{Frame}
+use Rattle.cs_code.specs.inner.Limits.{ops_limit, block_limit, parts_of}
+use Rattle.cs_code.proofs.Inside.{Fits}
+use Rattle.cs_code.proofs.Means.{means_by_frame}
+use Rattle.cs_code.proofs.Resources.{block_use, block_write}
+use Rattle.cs_code.proofs.Validity.{units_counted, init_valid, perf_valid, init_named_rated, perf_named_rated}
+
+-- counts that reach two codes reach each of them
+reaches_first : (units : ℕ) (g h : Rate → ℕ) (r : Rate) → g r ≤ count_of (reached (no_registers units) (λ q. max (g q) (h q))) r
+reaches_first units g h rate.Init = omega arith
+reaches_first units g h rate.Control = omega arith
+reaches_first units g h rate.Audio = omega arith
+
+reaches_second : (units : ℕ) (g h : Rate → ℕ) (r : Rate) → h r ≤ count_of (reached (no_registers units) (λ q. max (g q) (h q))) r
+reaches_second units g h rate.Init = omega arith
+reaches_second units g h rate.Control = omega arith
+reaches_second units g h rate.Audio = omega arith
+
+-- What the making of two codes answers.
+pub record Made (spaces : Spaces) (t : typed.Block) (f : Frame) (counts : Counts) (init perf : List Op) : Type 0 where
+  pub room : Roomy f (core spaces t)
+  pub init_is : init ≡ init_block_code f 0 start (core spaces t)
+  pub perf_is : perf ≡ perf_block_code f 0 start (core spaces t)
+  pub counts_are : counts ≡ reached (no_registers (past_block start (core spaces t)).unit) (λ r. max (ops_limit r init) (ops_limit r perf))
+
+module _ (spaces : Spaces) (s : Setting) (t : typed.Block) (rated : IsRatedBlock s t) (f : Frame) (counts : Counts) (init perf : List Op)
+    (made : Made spaces t f counts init perf) where
+  units_are : counts.units ≡ (past_block start (core spaces t)).unit
+  units_are = ap (λ (c : Counts). c.units) made.counts_are
+
+  init_reached : (r : Rate) → ops_limit r init ≤ count_of counts r
+  init_reached r =
+      subst (λ c. ops_limit r init ≤ count_of c r) (sym made.counts_are)
+      (reaches_first (past_block start (core spaces t)).unit (λ q. ops_limit q init) (λ q. ops_limit q perf) r)
+
+  perf_reached : (r : Rate) → ops_limit r perf ≤ count_of counts r
+  perf_reached r =
+      subst (λ c. ops_limit r perf ≤ count_of c r) (sym made.counts_are)
+      (reaches_second (past_block start (core spaces t)).unit (λ q. ops_limit q init) (λ q. ops_limit q perf) r)
+
+  pub made_init_valid : fine_from counts (length init) 0 init ≡ true
+  made_init_valid =
+      let units : (past_block start (core spaces t)).unit ≤ counts.units = (let e = units_are in omega arith) in
+      subst (λ ops. fine_from counts (length ops) 0 ops ≡ true) (sym made.init_is)
+      (init_valid spaces s t rated f counts units (λ r. subst (λ ops. ops_limit r ops ≤ count_of counts r) made.init_is (init_reached r)))
+
+  pub made_perf_valid : fine_from counts (length perf) 0 perf ≡ true
+  made_perf_valid =
+      let units : (past_block start (core spaces t)).unit ≤ counts.units = (let e = units_are in omega arith) in
+      subst (λ ops. fine_from counts (length ops) 0 ops ≡ true) (sym made.perf_is)
+      (perf_valid spaces s t rated f counts units (λ r. subst (λ ops. ops_limit r ops ≤ count_of counts r) made.perf_is (perf_reached r)))
+
+  made_means : Means (core spaces t) init perf
+  made_means =
+      let fits : Fits f (λ r. block_limit r (core spaces t)) (parts_of (core spaces t)) =
+      record { locals = made.room.locals; below = made.room.below; room = made.room.room } in
+      subst (λ ops. Means (core spaces t) ops perf) (sym made.init_is)
+      (subst (λ ops. Means (core spaces t) (init_block_code f 0 start (core spaces t)) ops) (sym made.perf_is) (means_by_frame spaces s t rated f fits))
+
+  -- the promise of an instrument, of any two codes with these ops and counts
+  pub made_code : (a b : Code) → a.ops.items ≡ init → a.counts ≡ counts → b.ops.items ≡ perf → b.counts ≡ counts → IsCodeOf spaces s.channels t a b
+  made_code a b ops_a counts_a ops_b counts_b = record {
+    means = subst (λ ops. Means (core spaces t) ops b.ops.items) (sym ops_a) (subst (λ ops. Means (core spaces t) init ops) (sym ops_b) made_means);
+    init_valid = ap (λ c. fine_from c (length a.ops.items) 0 a.ops.items) counts_a
+        ∙ ap (λ ops. fine_from counts (length ops) 0 ops) ops_a ∙ made_init_valid;
+    perf_valid = ap (λ c. fine_from c (length b.ops.items) 0 b.ops.items) counts_b
+        ∙ ap (λ ops. fine_from counts (length ops) 0 ops) ops_b ∙ made_perf_valid;
+    counts = counts_a ∙ sym counts_b;
+    units = ap (λ (c : Counts). c.units) counts_a ∙ units_are ∙ units_counted (core spaces t);
+    init_names = subst (AllNamed s.channels (block_units (core spaces t))) (sym (ops_a ∙ made.init_is)) (init_named_rated spaces s t f);
+    perf_names = subst (AllNamed s.channels (block_units (core spaces t))) (sym (ops_b ∙ made.perf_is)) (perf_named_rated spaces s t rated f);
+    uses = λ stock. ap (ops_use stock) (ops_b ∙ made.perf_is) ∙ block_use stock f 0 start (core spaces t);
+    writes = λ stock. ap (ops_write stock) (ops_b ∙ made.perf_is) ∙ block_write stock f 0 start (core spaces t);
+  }
+
+-- ---- lists side by side
+
+module _ {A B : Type 0} (R : A → B → Type 0) where
+  pub zip_append : (xs ys : List A) (us bs : List B) → AllZip R xs us → AllZip R ys bs → AllZip R (xs ++ ys) (us ++ bs)
+  zip_append [] ys [] bs h k = k
+  zip_append [] ys (a ∷ us) bs h k = absurd h
+  zip_append (x ∷ xs) ys [] bs h k = absurd h
+  zip_append (x ∷ xs) ys (a ∷ us) bs h k = (h.0, zip_append xs ys us bs h.1 k)
+
+  pub zip_one : (xs : List A) (us : List B) (x : A) (a : B) → AllZip R xs us → R x a → AllZip R (xs ++ x ∷ []) (us ++ a ∷ [])
+  zip_one xs us x a h k = zip_append xs (x ∷ []) us (a ∷ []) h (k, tt)
+
+-- ---- instruments in the order of the text
+
+-- the same codes
+pub code_same : (spaces : Spaces) (channels : ℕ) (t : typed.Block) (a b init perf : Code) → a ≡ init → b ≡ perf → IsCodeOf spaces channels t init perf
+    → IsCodeOf spaces channels t a b
+code_same spaces channels t a b init perf e h code =
+    subst (λ x. IsCodeOf spaces channels t x b) (sym e) (subst (λ x. IsCodeOf spaces channels t init x) (sym h) code)
+
+-- a body under one number more
+pub one_numbered : (spaces : Spaces) (channels : ℕ) (t : typed.Block) (ps : List (ℕ × typed.Block)) (ns : List ℕ) (i d : ℕ) (list : List Numbered) (x : Numbered)
+    → i < length ns → AllZip (IsNumberedCode spaces channels) (ps ++ numbered_with t (take i ns)) list → x.number ≡ get_or ns i d
+    → IsCodeOf spaces channels t x.init x.perf
+    → AllZip (IsNumberedCode spaces channels) (ps ++ numbered_with t (take (i + 1) ns)) (list ++ x ∷ [])
+one_numbered spaces channels t ps ns i d list x low h number code =
+    let with : ℕ → ℕ × typed.Block = λ n. (n, t) in
+    let more : ps ++ numbered_with t (take (i + 1) ns) ≡ (ps ++ numbered_with t (take i ns)) ++ with (get_or ns i d) ∷ [] =
+    ap (λ l. ps ++ l) (map_more with ns i d low) ∙ sym (append_assoc ps (numbered_with t (take i ns)) (with (get_or ns i d) ∷ [])) in
+    subst (λ l. AllZip (IsNumberedCode spaces channels) l (list ++ x ∷ [])) (sym more)
+    (zip_one (IsNumberedCode spaces channels) (ps ++ numbered_with t (take i ns)) list (with (get_or ns i d)) x h (number, code))
+
+pub none_numbered : (spaces : Spaces) (channels : ℕ) (ps : List (ℕ × typed.Block)) (list : List Numbered) → AllZip (IsNumberedCode spaces channels) ps list
+    → AllZip (IsNumberedCode spaces channels) (ps ++ []) list
+none_numbered spaces channels ps list h = subst (λ l. AllZip (IsNumberedCode spaces channels) l list) (sym (append-nil ps)) h
+
+-- the bodies of one instrument more
+pub bodies_more : (xs : List TypedInstr) (i : ℕ) (x : TypedInstr) → i < length xs → x ≡ get_or xs i x
+    → bodies (map typed.instrument (take (i + 1) xs)) ≡ bodies (map typed.instrument (take i xs)) ++ numbered_with (typed.block x.body.items) x.numbers
+bodies_more xs i x low is =
+    let of : typed.Instrument → List (ℕ × typed.Block) = λ (y : typed.Instrument). numbered_with y.body y.numbers in
+    let before : List typed.Instrument = map typed.instrument (take i xs) in
+    ap bodies (map_more typed.instrument xs i x low)
+    ∙ flat_map-append of before (typed.instrument (get_or xs i x) ∷ [])
+    ∙ ap (λ y. bodies before ++ (of (typed.instrument y) ++ [])) (sym is)
+    ∙ ap (λ l. bodies before ++ l) (append-nil (of (typed.instrument x)))
+
+-- a fact on all instruments, at one of them
+pub at_instrument : (P : typed.Instrument → Type 0) (xs : List TypedInstr) (i : ℕ) (x : TypedInstr) → All P (map typed.instrument xs) → i < length xs
+    → x ≡ get_or xs i x → P (typed.instrument x)
+at_instrument P xs i x all low is =
+    let long : length (map typed.instrument xs) ≡ length xs = length-map xs typed.instrument in
+    subst P (get_or-map typed.instrument xs i x (typed.instrument x) low ∙ ap typed.instrument (sym is)) (all i (typed.instrument x) (omega arith))
+
+-- numbers of instruments are those of the text
+zip_numbers : (spaces : Spaces) (channels : ℕ) (ps : List (ℕ × typed.Block)) (list : List Numbered) → AllZip (IsNumberedCode spaces channels) ps list
+    → numbers_of list ≡ map (λ (p : ℕ × typed.Block). p.0) ps
+zip_numbers spaces channels [] [] h = refl
+zip_numbers spaces channels [] (x ∷ list) h = absurd h
+zip_numbers spaces channels (p ∷ ps) [] h = absurd h
+zip_numbers spaces channels (p ∷ ps) (x ∷ list) h = ap₂ ◌∷◌ h.0.0 (zip_numbers spaces channels ps list h.1)
+
+numbers_with : (t : typed.Block) (ns : List ℕ) → map (λ (p : ℕ × typed.Block). p.0) (numbered_with t ns) ≡ ns
+numbers_with t [] = refl
+numbers_with t (n ∷ ns) = ap (λ l. n ∷ l) (numbers_with t ns)
+
+bodies_numbers : (is : List typed.Instrument) → map (λ (p : ℕ × typed.Block). p.0) (bodies is) ≡ all_numbers is
+bodies_numbers [] = refl
+bodies_numbers (x ∷ is) =
+    map-append (λ (p : ℕ × typed.Block). p.0) (numbered_with x.body x.numbers) (bodies is) ∙ ap₂ ◌++◌ (numbers_with x.body x.numbers) (bodies_numbers is)
+
+pub same_numbers : (spaces : Spaces) (channels : ℕ) (is : List typed.Instrument) (list : List Numbered) → AllZip (IsNumberedCode spaces channels) (bodies is) list
+    → numbers_of list ≡ all_numbers is
+same_numbers spaces channels is list h = zip_numbers spaces channels (bodies is) list h ∙ bodies_numbers is

@@ -1,0 +1,369 @@
+-- What the code of a note names: its units as what they are, and channels that the piece has.
+use Rattle.std.proofs.Common.{◌≡◌, ℕ, zero, suc, ◌+◌, ◌<◌, ◌≤◌, Bool, true, false, List, [], ◌∷◌, ◌++◌, length, Option, Some, None, if◌then◌else◌, slice_get, refl, sym, ◌∙◌, ap, subst, arith, length-append}
+use Rattle.std.specs.Prelude.{slice_index_or}
+use Rattle.cs_base.proofs.Rates.{same_rate_is}
+use Rattle.cs_base.specs.Rates.{same_rate}
+use Rattle.cs_base.specs.declared.resource.Rate.{Rate}
+use Rattle.cs_base.specs.declared.resource.Rate.TheVariants as rate
+use Rattle.cs_words.specs.Catalogue.{row_of}
+use Rattle.cs_words.specs.declared.catalogue.Opcode.{Opcode}
+use Rattle.cs_ir.specs.Units.{is_started}
+use Rattle.cs_ir.specs.Waves.{if_init}
+use Rattle.cs_ir.specs.declared.op.Act.TheVariants as act
+use Rattle.cs_ir.specs.declared.op.Op.{Op}
+use Rattle.cs_ir.specs.declared.op.Reach.{Reach}
+use Rattle.cs_ir.specs.declared.register.Reg.{Reg}
+use Rattle.cs_meaning.specs.Core.{Stmt, Block, Arms, set, unit, out, out_at, ask, turnoff, nothing, choose, no_stmt, andthen, otherwise, arm}
+use Rattle.cs_meaning.specs.Notes.{Place, reg, start, past, past_parts, past_stmt, past_block, past_arms}
+use Rattle.cs_typed.specs.TypedTree.{Expression, number, var, field, head, neg, pair, pick, apply}
+use Rattle.cs_typed.specs.WellRated.{node_rate}
+use Rattle.cs_typed.specs.declared.tree.Var.{Var as Variable}
+use Rattle.cs_typed.specs.declared.tree.Var.TheVariants.{Local, Global}
+use Rattle.cs_code.specs.Names.{UnitKind, stmt_units, block_units, arms_units, Names, AllNamed}
+use Rattle.cs_code.specs.inner.Frames.{Frame, op_of, kept_reg, temp, direct, spot, spots}
+use Rattle.cs_code.specs.inner.Code.{unless_there, copied, own, code, operand_code, operands_code, kept_code, keep_code, keep_all_code, set_code, target, given_code, start_code, unit_code, out_ops, out_at_ops, arm_code, init_code, init_block_code, first_code, all_code, perf_code, perf_block_code, perf_arms_code}
+
+-- ---- places in lists
+
+front_at : {A : Type 0} (a b : List A) (i : ℕ) (x : A) → slice_get a i ≡ Some x → slice_get (a ++ b) i ≡ Some x
+front_at [] b i x h = absurd (cc)
+front_at (y ∷ a) b zero x h = h
+front_at (y ∷ a) b (suc i) x h = front_at a b i x h
+
+back_at : {A : Type 0} (a b : List A) (i : ℕ) (x : A) → slice_get b i ≡ Some x → slice_get (a ++ b) (length a + i) ≡ Some x
+back_at [] b i x h = ap (slice_get b) (let e : 0 + i ≡ i = omega arith in e) ∙ h
+back_at (y ∷ a) b i x h =
+    let e : length (y ∷ a) + i ≡ suc (length a + i) = omega arith in
+    ap (slice_get ((y ∷ a) ++ b)) e ∙ back_at a b i x h
+
+-- a part of a list stands at a place of the whole
+abbrev pub At : List UnitKind → ℕ → List UnitKind → Type 0
+At units k part = (i : ℕ) (x : UnitKind) → slice_get part i ≡ Some x → slice_get units (k + i) ≡ Some x
+
+at_front : (units : List UnitKind) (k : ℕ) (a b : List UnitKind) → At units k (a ++ b) → At units k a
+at_front units k a b h = λ i x e. h i x (front_at a b i x e)
+
+at_back : (units : List UnitKind) (k n : ℕ) (a b : List UnitKind) → n ≡ k + length a → At units k (a ++ b) → At units n b
+at_back units k n a b is h = λ i x e.
+    let same : n + i ≡ k + (length a + i) = omega arith in
+    ap (slice_get units) same ∙ h (length a + i) x (back_at a b i x e)
+
+at_one : (units : List UnitKind) (k : ℕ) (x : UnitKind) → At units k (x ∷ []) → slice_get units k ≡ Some x
+at_one units k x h = ap (slice_get units) (let e : k ≡ k + 0 = omega arith in e) ∙ h 0 x refl
+
+-- ---- numbers of units
+
+mutual
+  stmt_count : (p : Place) (s : Stmt) → (past_stmt p s).unit ≡ p.unit + length (stmt_units s)
+  stmt_count p (set r v e) = omega arith
+  stmt_count p (unit r vs opcode reach xs is) = refl
+  stmt_count p (out r es) = omega arith
+  stmt_count p (out_at r es) = omega arith
+  stmt_count p (ask es) = omega arith
+  stmt_count p (turnoff r) = omega arith
+  stmt_count p nothing = omega arith
+  stmt_count p (choose r arms) = arms_count p arms
+
+  pub block_count : (p : Place) (b : Block) → (past_block p b).unit ≡ p.unit + length (block_units b)
+  block_count p no_stmt = omega arith
+  block_count p (andthen s b) =
+      let first = stmt_count p s in
+      let rest = block_count (past_stmt p s) b in
+      let both = length-append (stmt_units s) (block_units b) in
+      omega arith
+
+  arms_count : (p : Place) (arms : Arms) → (past_arms p arms).unit ≡ p.unit + length (arms_units arms)
+  arms_count p (otherwise b) = block_count p b
+  arms_count p (arm c b rest) =
+      let q : Place = past_parts (past p.part c) p in
+      let first = block_count q b in
+      let others = arms_count (past_block q b) rest in
+      let both = length-append (block_units b) (arms_units rest) in
+      omega arith
+
+-- ---- channels: no more values go out than there are
+
+abbrev mutual
+  pub Narrow : ℕ → Stmt → Type 0
+  Narrow channels (out r es) = length es ≤ channels
+  Narrow channels (choose r arms) = NarrowArms channels arms
+  Narrow channels (set r v e) = Unit {0}
+  Narrow channels (unit r vs opcode reach xs is) = Unit {0}
+  Narrow channels (out_at r es) = Unit {0}
+  Narrow channels (ask es) = Unit {0}
+  Narrow channels (turnoff r) = Unit {0}
+  Narrow channels nothing = Unit {0}
+
+  pub NarrowBlock : ℕ → Block → Type 0
+  NarrowBlock channels no_stmt = Unit {0}
+  NarrowBlock channels (andthen s b) = Narrow channels s × NarrowBlock channels b
+
+  pub NarrowArms : ℕ → Arms → Type 0
+  NarrowArms channels (otherwise b) = NarrowBlock channels b
+  NarrowArms channels (arm c b rest) = NarrowBlock channels b × NarrowArms channels rest
+
+-- a unit's result is written at the unit's rate
+pub target_rate : (f : Frame) (r : Rate) (vs : List Variable) → (target f r vs).rate ≡ r
+target_rate f r [] = refl
+target_rate f r (Global g ∷ vs) = refl
+target_rate f r (Local q x ∷ vs) = into (same_rate q r) refl
+  where
+    into : (b : Bool) → same_rate q r ≡ b → (if b then reg q x else temp f r 0).rate ≡ r
+    into true e = same_rate_is q r e
+    into false e = refl
+
+length_spots : (f : Frame) (whole : Bool) (at : ℕ) (es : List Expression) (d : ℕ) → length (spots f whole at es d) ≡ length es
+length_spots f whole at [] d = refl
+length_spots f whole at (e ∷ es) d = ap suc (length_spots f whole (past at e) es (d + 1))
+
+module _ (channels : ℕ) (units : List UnitKind) where
+  -- each op names what there is
+  abbrev pub Each : List Op → Type 0
+  Each [] = Unit {0}
+  Each (op ∷ ops) = Names channels units op.act op.into.rate × Each ops
+
+  each_all : (ops : List Op) → Each ops → AllNamed channels units ops
+  each_all [] h = λ k d low. absurd (omega arith)
+  each_all (op ∷ ops) h = at (each_all ops h.1)
+    where
+      at : AllNamed channels units ops → (k : ℕ) (d : Op) → k < length (op ∷ ops)
+          → Names channels units (slice_index_or (op ∷ ops) k d).act (slice_index_or (op ∷ ops) k d).into.rate
+      at rest zero d low = h.0
+      at rest (suc k) d low = rest k d (omega arith)
+
+  both : (a b : List Op) → Each a → Each b → Each (a ++ b)
+  both [] b h k = k
+  both (op ∷ a) b h k = (h.0, both a b h.1 k)
+
+  unless_named : (there : Option Reg) (ops : List Op) → Each ops → Each (unless_there there ops)
+  unless_named (Some q) ops h = tt
+  unless_named None ops h = h
+
+  copied_named : (there : Option Reg) (x : Reg) (ops : List Op) → Each ops → Each (copied there x ops)
+  copied_named (Some q) x ops h = (tt, tt)
+  copied_named None x ops h = h
+
+  own_named : (f : Frame) (whole : Bool) (e : Expression) (at : ℕ) (x : Reg) (d : ℕ) → Each (own f whole at e x d)
+  own_named f whole (number r n) at x d = (tt, tt)
+  own_named f whole (var r (Local q n)) at x d = (tt, tt)
+  own_named f whole (var r (Global g)) at x d = (tt, tt)
+  own_named f whole (field r k) at x d = (tt, tt)
+  own_named f whole (head r k) at x d = (tt, tt)
+  own_named f whole (neg r a) at x d =
+      both (operand_code f whole at a d) (op_of act.Neg x (spot f whole at a d ∷ []) ∷ [])
+      (unless_named (direct f whole at a) (own f whole at a (temp f (node_rate a) d) (d + 1)) (own_named f whole a at (temp f (node_rate a) d) (d + 1))) (tt, tt)
+  own_named f whole (pair r b y z) at x d =
+      let last : List Op = op_of (act.Pair b) x (spots f whole at (y ∷ z ∷ []) d) ∷ [] in
+      let second : List Op = operand_code f whole (past at y) z (d + 1) in
+      both (operand_code f whole at y d) (second ++ last)
+      (unless_named (direct f whole at y) (own f whole at y (temp f (node_rate y) d) (d + 1)) (own_named f whole y at (temp f (node_rate y) d) (d + 1)))
+      (both second last
+      (unless_named (direct f whole (past at y) z) (own f whole (past at y) z (temp f (node_rate z) (d + 1)) (d + 1 + 1))
+      (own_named f whole z (past at y) (temp f (node_rate z) (d + 1)) (d + 1 + 1))) (tt, tt))
+  own_named f whole (pick r c y z) at x d =
+      let last : List Op = op_of act.Pick x (spots f whole at (c ∷ y ∷ z ∷ []) d) ∷ [] in
+      let second : List Op = operand_code f whole (past at c) y (d + 1) in
+      let third : List Op = operand_code f whole (past (past at c) y) z (d + 1 + 1) in
+      both (operand_code f whole at c d) (second ++ (third ++ last))
+      (unless_named (direct f whole at c) (own f whole at c (temp f (node_rate c) d) (d + 1)) (own_named f whole c at (temp f (node_rate c) d) (d + 1)))
+      (both second (third ++ last)
+      (unless_named (direct f whole (past at c) y) (own f whole (past at c) y (temp f (node_rate y) (d + 1)) (d + 1 + 1))
+      (own_named f whole y (past at c) (temp f (node_rate y) (d + 1)) (d + 1 + 1)))
+      (both third last
+      (unless_named (direct f whole (past (past at c) y) z) (own f whole (past (past at c) y) z (temp f (node_rate z) (d + 1 + 1)) (d + 1 + 1 + 1))
+      (own_named f whole z (past (past at c) y) (temp f (node_rate z) (d + 1 + 1)) (d + 1 + 1 + 1))) (tt, tt)))
+  own_named f whole (apply r g a) at x d =
+      both (operand_code f whole at a d) (op_of (act.Call g) x (spot f whole at a d ∷ []) ∷ [])
+      (unless_named (direct f whole at a) (own f whole at a (temp f (node_rate a) d) (d + 1)) (own_named f whole a at (temp f (node_rate a) d) (d + 1))) (tt, tt)
+
+  code_named : (f : Frame) (whole : Bool) (e : Expression) (at : ℕ) (x : Reg) (d : ℕ) → Each (code f whole at e x d)
+  code_named f whole e at x d = copied_named (direct f whole at e) x (own f whole at e x d) (own_named f whole e at x d)
+
+  operand_named : (f : Frame) (whole : Bool) (e : Expression) (at d : ℕ) → Each (operand_code f whole at e d)
+  operand_named f whole e at d =
+      unless_named (direct f whole at e) (own f whole at e (temp f (node_rate e) d) (d + 1)) (own_named f whole e at (temp f (node_rate e) d) (d + 1))
+
+  operands_named : (f : Frame) (whole : Bool) (es : List Expression) (at d : ℕ) → Each (operands_code f whole at es d)
+  operands_named f whole [] at d = tt
+  operands_named f whole (e ∷ es) at d =
+      both (operand_code f whole at e d) (operands_code f whole (past at e) es (d + 1)) (operand_named f whole e at d) (operands_named f whole es (past at e) (d + 1))
+
+  when_init : (r : Rate) (once each : List Op) → Each once → Each each → Each (if_init r once each)
+  when_init rate.Init once each h k = h
+  when_init rate.Control once each h k = k
+  when_init rate.Audio once each h k = k
+
+  kept_named : (f : Frame) (at : ℕ) (e : Expression) → Each (kept_code f at e)
+  kept_named f at e = code_named f true e 0 (kept_reg f at) 0
+
+  keep_named : (f : Frame) (e : Expression) (at : ℕ) → Each (keep_code f at e)
+  keep_named f (number r n) at = when_init r (kept_code f at (number r n)) [] (kept_named f at (number r n)) tt
+  keep_named f (var r v) at = when_init r (kept_code f at (var r v)) [] (kept_named f at (var r v)) tt
+  keep_named f (field r k) at = when_init r (kept_code f at (field r k)) [] (kept_named f at (field r k)) tt
+  keep_named f (head r k) at = when_init r (kept_code f at (head r k)) [] (kept_named f at (head r k)) tt
+  keep_named f (neg r a) at = when_init r (kept_code f at (neg r a)) (keep_code f at a) (kept_named f at (neg r a)) (keep_named f a at)
+  keep_named f (pair r b y z) at =
+      when_init r (kept_code f at (pair r b y z)) (keep_code f at y ++ keep_code f (past at y) z) (kept_named f at (pair r b y z))
+      (both (keep_code f at y) (keep_code f (past at y) z) (keep_named f y at) (keep_named f z (past at y)))
+  keep_named f (pick r c y z) at =
+      when_init r (kept_code f at (pick r c y z)) (keep_code f at c ++ (keep_code f (past at c) y ++ keep_code f (past (past at c) y) z))
+      (kept_named f at (pick r c y z))
+      (both (keep_code f at c) (keep_code f (past at c) y ++ keep_code f (past (past at c) y) z) (keep_named f c at)
+      (both (keep_code f (past at c) y) (keep_code f (past (past at c) y) z) (keep_named f y (past at c)) (keep_named f z (past (past at c) y))))
+  keep_named f (apply r g a) at = when_init r (kept_code f at (apply r g a)) (keep_code f at a) (kept_named f at (apply r g a)) (keep_named f a at)
+
+  keep_all_named : (f : Frame) (es : List Expression) (at : ℕ) → Each (keep_all_code f at es)
+  keep_all_named f [] at = tt
+  keep_all_named f (e ∷ es) at =
+      both (keep_code f at e) (keep_all_code f (past at e) es) (keep_named f e at) (keep_all_named f es (past at e))
+
+  set_named : (f : Frame) (whole : Bool) (at : ℕ) (v : Variable) (e : Expression) → Each (set_code f whole at v e)
+  set_named f whole at (Local q n) e = by_rate (same_rate (node_rate e) q)
+    where
+      by_rate : (b : Bool) → Each (if b then code f whole at e (reg q n) 0
+          else operand_code f whole at e 0 ++ (op_of act.Copy (reg q n) (spot f whole at e 0 ∷ []) ∷ []))
+      by_rate true = code_named f whole e at (reg q n) 0
+      by_rate false =
+          both (operand_code f whole at e 0) (op_of act.Copy (reg q n) (spot f whole at e 0 ∷ []) ∷ []) (operand_named f whole e at 0) (tt, tt)
+  set_named f whole at (Global g) e =
+      both (operand_code f whole at e 0) (op_of (act.Save g) (spot f whole at e 0) (spot f whole at e 0 ∷ []) ∷ []) (operand_named f whole e at 0) (tt, tt)
+
+  given_named : (f : Frame) (r : Rate) (vs : List Variable) → Each (given_code f r vs)
+  given_named f r [] = tt
+  given_named f r (Local q n ∷ vs) = by_rate (same_rate q r)
+    where
+      by_rate : (b : Bool) → Each (if b then [] else op_of act.Copy (reg q n) (temp f r 0 ∷ []) ∷ [])
+      by_rate true = tt
+      by_rate false = (tt, tt)
+  given_named f r (Global g ∷ vs) = (tt, tt)
+
+  start_named : (f : Frame) (r : Rate) (opcode : Opcode) (u : ℕ) (is : List Expression) → slice_get units u ≡ Some (record { opcode = opcode; rate = r })
+      → Each (start_code f r opcode u is)
+  start_named f r opcode u is here = when (is_started (row_of opcode).shape)
+    where
+      when : (b : Bool) → Each (if b then operands_code f true 0 is 0 ++ (op_of (act.Start opcode u) (reg r 0) (spots f true 0 is 0) ∷ []) else [])
+      when true = both (operands_code f true 0 is 0) (op_of (act.Start opcode u) (reg r 0) (spots f true 0 is 0) ∷ []) (operands_named f true is 0 0) (here, tt)
+      when false = tt
+
+  unit_named : (f : Frame) (whole : Bool) (at : ℕ) (r : Rate) (vs : List Variable) (opcode : Opcode) (u : ℕ) (reach : Reach) (xs : List Expression)
+      → slice_get units u ≡ Some (record { opcode = opcode; rate = r }) → Each (unit_code f whole at r vs opcode u reach xs)
+  unit_named f whole at r vs opcode u reach xs here =
+      both (operands_code f whole at xs 0) (op_of (act.Unit opcode u reach) (target f r vs) (spots f whole at xs 0) ∷ given_code f r vs)
+      (operands_named f whole xs at 0)
+      (subst (λ q. slice_get units u ≡ Some (record { opcode = opcode; rate = q })) (sym (target_rate f r vs)) here, given_named f r vs)
+
+  out_named : (c : ℕ) (qs : List Reg) → c + length qs ≤ channels → Each (out_ops c qs)
+  out_named c [] h = tt
+  out_named c (q ∷ qs) h = (omega arith, out_named (c + 1) qs (omega arith))
+
+  out_at_named : (qs : List Reg) → Each (out_at_ops qs)
+  out_at_named [] = tt
+  out_at_named (p ∷ []) = tt
+  out_at_named (p ∷ (q ∷ qs)) = (tt, out_at_named qs)
+
+  arm_named : (place : ℕ) (before : List Op) (q : Reg) (body rest : List Op) → Each before → Each body → Each rest → Each (arm_code place before q body rest)
+  arm_named place before q body rest h k l =
+      let jump : Op = op_of (act.Jump (place + length before + 1 + length body + 1 + length rest)) q [] in
+      let test : Op = op_of (act.Unless (place + length before + 1 + length body + 1)) q (q ∷ []) in
+      both before (test ∷ (body ++ (jump ∷ rest))) h (tt, both body (jump ∷ rest) k (tt, l))
+
+  mutual
+    init_named : (f : Frame) (place : ℕ) (p : Place) (s : Stmt) → At units p.unit (stmt_units s) → Each (init_code f place p s)
+    init_named f place p (set r v e) h = when_init r (set_code f true 0 v e) (keep_code f p.part e) (set_named f true 0 v e) (keep_named f e p.part)
+    init_named f place p (unit r vs opcode reach xs is) h =
+        let here = at_one units p.unit (record { opcode = opcode; rate = r }) h in
+        let begins : List Op = start_code f r opcode p.unit is in
+        let runs : List Op = unit_code f true 0 r vs opcode p.unit reach xs in
+        when_init r (begins ++ runs) (keep_all_code f p.part xs ++ begins)
+        (both begins runs (start_named f r opcode p.unit is here) (unit_named f true 0 r vs opcode p.unit reach xs here))
+        (both (keep_all_code f p.part xs) begins (keep_all_named f xs p.part) (start_named f r opcode p.unit is here))
+    init_named f place p (out r es) h = keep_all_named f es p.part
+    init_named f place p (out_at r es) h = keep_all_named f es p.part
+    init_named f place p (ask es) h =
+        both (operands_code f true 0 es 0) (op_of act.Ask (reg rate.Init 0) (spots f true 0 es 0) ∷ []) (operands_named f true es 0 0) (tt, tt)
+    init_named f place p (turnoff r) h = tt
+    init_named f place p nothing h = tt
+    init_named f place p (choose r arms) h =
+        when_init r (first_code f place p arms) (all_code f place p arms) (first_named f place p arms h) (all_named f place p arms h)
+
+    pub init_block_named : (f : Frame) (place : ℕ) (p : Place) (b : Block) → At units p.unit (block_units b) → Each (init_block_code f place p b)
+    init_block_named f place p no_stmt h = tt
+    init_block_named f place p (andthen s b) h =
+        both (init_code f place p s) (init_block_code f (place + length (init_code f place p s)) (past_stmt p s) b)
+        (init_named f place p s (at_front units p.unit (stmt_units s) (block_units b) h))
+        (init_block_named f (place + length (init_code f place p s)) (past_stmt p s) b
+        (at_back units p.unit (past_stmt p s).unit (stmt_units s) (block_units b) (stmt_count p s) h))
+
+    first_named : (f : Frame) (place : ℕ) (p : Place) (arms : Arms) → At units p.unit (arms_units arms) → Each (first_code f place p arms)
+    first_named f place p (otherwise b) h = init_block_named f place p b h
+    first_named f place p (arm c b rest) h =
+        let before : List Op = keep_code f p.part c in
+        let q : Place = past_parts (past p.part c) p in
+        let body : List Op = init_block_code f (place + length before + 1) q b in
+        arm_named place before (kept_reg f p.part) body (first_code f (place + length before + 1 + length body + 1) (past_block q b) rest)
+        (keep_named f c p.part)
+        (init_block_named f (place + length before + 1) q b (at_front units p.unit (block_units b) (arms_units rest) h))
+        (first_named f (place + length before + 1 + length body + 1) (past_block q b) rest
+        (at_back units p.unit (past_block q b).unit (block_units b) (arms_units rest) (block_count q b) h))
+
+    all_named : (f : Frame) (place : ℕ) (p : Place) (arms : Arms) → At units p.unit (arms_units arms) → Each (all_code f place p arms)
+    all_named f place p (otherwise b) h = init_block_named f place p b h
+    all_named f place p (arm c b rest) h =
+        let before : List Op = keep_code f p.part c in
+        let q : Place = past_parts (past p.part c) p in
+        let body : List Op = init_block_code f (place + length before) q b in
+        let others : List Op = all_code f (place + length before + length body) (past_block q b) rest in
+        both before (body ++ others) (keep_named f c p.part)
+        (both body others (init_block_named f (place + length before) q b (at_front units p.unit (block_units b) (arms_units rest) h))
+        (all_named f (place + length before + length body) (past_block q b) rest
+        (at_back units p.unit (past_block q b).unit (block_units b) (arms_units rest) (block_count q b) h)))
+
+  mutual
+    perf_named : (f : Frame) (place : ℕ) (p : Place) (s : Stmt) → At units p.unit (stmt_units s) → Narrow channels s → Each (perf_code f place p s)
+    perf_named f place p (set r v e) h n = when_init r [] (set_code f false p.part v e) tt (set_named f false p.part v e)
+    perf_named f place p (unit r vs opcode reach xs is) h n =
+        when_init r [] (unit_code f false p.part r vs opcode p.unit reach xs) tt
+        (unit_named f false p.part r vs opcode p.unit reach xs (at_one units p.unit (record { opcode = opcode; rate = r }) h))
+    perf_named f place p (out r es) h n =
+        both (operands_code f false p.part es 0) (out_ops 0 (spots f false p.part es 0)) (operands_named f false es p.part 0)
+        (out_named 0 (spots f false p.part es 0) (let l = length_spots f false p.part es 0 in omega arith))
+    perf_named f place p (out_at r es) h n =
+        both (operands_code f false p.part es 0) (out_at_ops (spots f false p.part es 0)) (operands_named f false es p.part 0)
+        (out_at_named (spots f false p.part es 0))
+    perf_named f place p (ask es) h n = tt
+    perf_named f place p (turnoff r) h n = (tt, tt)
+    perf_named f place p nothing h n = tt
+    perf_named f place p (choose r arms) h n = perf_arms_named f place p arms h n
+
+    pub perf_block_named : (f : Frame) (place : ℕ) (p : Place) (b : Block) → At units p.unit (block_units b) → NarrowBlock channels b
+        → Each (perf_block_code f place p b)
+    perf_block_named f place p no_stmt h n = tt
+    perf_block_named f place p (andthen s b) h n =
+        both (perf_code f place p s) (perf_block_code f (place + length (perf_code f place p s)) (past_stmt p s) b)
+        (perf_named f place p s (at_front units p.unit (stmt_units s) (block_units b) h) n.0)
+        (perf_block_named f (place + length (perf_code f place p s)) (past_stmt p s) b
+        (at_back units p.unit (past_stmt p s).unit (stmt_units s) (block_units b) (stmt_count p s) h) n.1)
+
+    perf_arms_named : (f : Frame) (place : ℕ) (p : Place) (arms : Arms) → At units p.unit (arms_units arms) → NarrowArms channels arms
+        → Each (perf_arms_code f place p arms)
+    perf_arms_named f place p (otherwise b) h n = perf_block_named f place p b h n
+    perf_arms_named f place p (arm c b rest) h n =
+        let before : List Op = operand_code f false p.part c 0 in
+        let q : Place = past_parts (past p.part c) p in
+        let body : List Op = perf_block_code f (place + length before + 1) q b in
+        arm_named place before (spot f false p.part c 0) body (perf_arms_code f (place + length before + 1 + length body + 1) (past_block q b) rest)
+        (operand_named f false c p.part 0)
+        (perf_block_named f (place + length before + 1) q b (at_front units p.unit (block_units b) (arms_units rest) h) n.0)
+        (perf_arms_named f (place + length before + 1 + length body + 1) (past_block q b) rest
+        (at_back units p.unit (past_block q b).unit (block_units b) (arms_units rest) (block_count q b) h) n.1)
+
+pub whole_at : (units : List UnitKind) → At units 0 units
+whole_at units = λ i x e. ap (slice_get units) (let z : 0 + i ≡ i = omega arith in z) ∙ e
+
+pub init_names : (channels : ℕ) (f : Frame) (b : Block) → AllNamed channels (block_units b) (init_block_code f 0 start b)
+init_names channels f b =
+    each_all channels (block_units b) (init_block_code f 0 start b) (init_block_named channels (block_units b) f 0 start b (whole_at (block_units b)))
+
+pub perf_names : (channels : ℕ) (f : Frame) (b : Block) → NarrowBlock channels b → AllNamed channels (block_units b) (perf_block_code f 0 start b)
+perf_names channels f b narrow =
+    each_all channels (block_units b) (perf_block_code f 0 start b) (perf_block_named channels (block_units b) f 0 start b (whole_at (block_units b)) narrow)

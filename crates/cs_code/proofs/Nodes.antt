@@ -1,0 +1,84 @@
+-- Nodes of expressions.
+use Rattle.std.proofs.Common.{◌≡◌, ◌+◌, ◌∷◌, ℕ, Bool, true, false, [], Some, None, refl, ap}
+use Rattle.std.proofs.lemmas.Option.{none-some}
+use Rattle.cs_base.specs.declared.resource.Rate.{Rate}
+use Rattle.cs_base.specs.declared.resource.Rate.TheVariants as rate
+use Rattle.cs_ir.specs.Waves.{if_init}
+use Rattle.cs_ir.specs.declared.op.Act.TheVariants as act
+use Rattle.cs_ir.specs.declared.register.Reg.{Reg}
+use Rattle.cs_meaning.specs.Notes.{past}
+use Rattle.cs_typed.specs.TypedTree.{Expression, of_part, number, var, field, head, neg, pair, pick, apply}
+use Rattle.cs_typed.specs.WellRated.{node_rate}
+use Rattle.cs_typed.specs.declared.tree.TypedPart.{TypedPart}
+use Rattle.cs_typed.specs.declared.tree.TypedPart.TheVariants.{Number, Var, Field, Head as HeadName', Neg', Pair', Pick', Call'}
+use Rattle.cs_code.specs.inner.Code.{own, code, operand_code, unless_there, copied, keep_code, kept_code}
+use Rattle.cs_code.specs.inner.Emitted.{parts_code, parts_past}
+use Rattle.cs_code.specs.inner.Frames.{Frame, op_of, direct, kept_or, spot, temp, reg_or}
+
+pub rate_of_part : (r : Rate) (w : TypedPart) → node_rate (of_part r w) ≡ r
+rate_of_part r (Number v) = refl
+rate_of_part r (Var v) = refl
+rate_of_part r (Field k) = refl
+rate_of_part r (HeadName' h) = refl
+rate_of_part r (Neg' p ra a) = refl
+rate_of_part r (Pair' op p ra a q rb b) = refl
+rate_of_part r (Pick' p rc c q ra a s rb b) = refl
+rate_of_part r (Call' f p ra a) = refl
+
+-- a value that stands somewhere already, and one that doesn't
+pub there_code : (f : Frame) (w : Bool) (at : ℕ) (e : Expression) (d : ℕ) (q : Reg) → direct f w at e ≡ Some q → operand_code f w at e d ≡ []
+there_code f w at e d q h = ap (λ o. unless_there o (own f w at e (temp f (node_rate e) d) (d + 1))) h
+
+pub there_spot : (f : Frame) (w : Bool) (at : ℕ) (e : Expression) (d : ℕ) (q : Reg) → direct f w at e ≡ Some q → spot f w at e d ≡ q
+there_spot f w at e d q h = ap (λ o. reg_or o (temp f (node_rate e) d)) h
+
+pub there_copied : (f : Frame) (w : Bool) (at : ℕ) (e : Expression) (x : Reg) (d : ℕ) (q : Reg) → direct f w at e ≡ Some q → code f w at e x d
+    ≡ op_of act.Copy x (q ∷ []) ∷ []
+there_copied f w at e x d q h = ap (λ o. copied o x (own f w at e x d)) h
+
+pub made_code : (f : Frame) (w : Bool) (at : ℕ) (e : Expression) (d : ℕ) → direct f w at e ≡ None → operand_code f w at e d
+    ≡ own f w at e (temp f (node_rate e) d) (d + 1)
+made_code f w at e d h = ap (λ o. unless_there o (own f w at e (temp f (node_rate e) d) (d + 1))) h
+
+pub made_spot : (f : Frame) (w : Bool) (at : ℕ) (e : Expression) (d : ℕ) → direct f w at e ≡ None → spot f w at e d ≡ temp f (node_rate e) d
+made_spot f w at e d h = ap (λ o. reg_or o (temp f (node_rate e) d)) h
+
+pub made_copied : (f : Frame) (w : Bool) (at : ℕ) (e : Expression) (x : Reg) (d : ℕ) → direct f w at e ≡ None → code f w at e x d ≡ own f w at e x d
+made_copied f w at e x d h = ap (λ o. copied o x (own f w at e x d)) h
+
+inner_past : (f : Frame) (w : Bool) (r : Rate) (at parts : ℕ) (q : Reg) → kept_or f w r at None ≡ Some q → if_init r (at + 1) parts ≡ if_init r (at + 1) at
+inner_past f true r at parts q h = absurd (none-some q h)
+inner_past f false rate.Init at parts q h = refl
+inner_past f false rate.Control at parts q h = absurd (none-some q h)
+inner_past f false rate.Audio at parts q h = absurd (none-some q h)
+
+pub there_past : (f : Frame) (w : Bool) (at : ℕ) (e : Expression) (q : Reg) → direct f w at e ≡ Some q → past at e ≡ if_init (node_rate e) (at + 1) at
+there_past f w at (number r n) q h = refl
+there_past f w at (var r v) q h = refl
+there_past f w at (field r k) q h = refl
+there_past f w at (head r n) q h = refl
+there_past f w at (neg r a) q h = inner_past f w r at (past at a) q h
+there_past f w at (pair r o a b) q h = inner_past f w r at (past (past at a) b) q h
+there_past f w at (pick r c a b) q h = inner_past f w r at (past (past (past at c) a) b) q h
+there_past f w at (apply r g a) q h = inner_past f w r at (past at a) q h
+
+-- an expression is kept as a whole or by its parts
+pub keep_splits : (f : Frame) (at : ℕ) (e : Expression) → keep_code f at e ≡ if_init (node_rate e) (kept_code f at e) (parts_code f at e)
+keep_splits f at (number r n) = refl
+keep_splits f at (var r v) = refl
+keep_splits f at (field r k) = refl
+keep_splits f at (head r n) = refl
+keep_splits f at (neg r a) = refl
+keep_splits f at (pair r o a b) = refl
+keep_splits f at (pick r c a b) = refl
+keep_splits f at (apply r g a) = refl
+
+pub past_splits : (at : ℕ) (e : Expression) → past at e ≡ if_init (node_rate e) (at + 1) (parts_past at e)
+past_splits at (number r n) = refl
+past_splits at (var r v) = refl
+past_splits at (field r k) = refl
+past_splits at (head r n) = refl
+past_splits at (neg r a) = refl
+past_splits at (pair r o a b) = refl
+past_splits at (pick r c a b) = refl
+past_splits at (apply r g a) = refl

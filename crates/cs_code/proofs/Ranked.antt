@@ -1,0 +1,92 @@
+-- Rates of expressions and statements, as far as their code needs them.
+use Rattle.std.proofs.Common.{◌≡◌, ◌≤◌, true, false, List, [], ◌∷◌, length, map}
+use Rattle.cs_base.specs.Rates.{is_audio, within, res_rate}
+use Rattle.cs_base.specs.declared.resource.Rate.{Rate}
+use Rattle.cs_base.specs.declared.resource.Rate.TheVariants as rate
+use Rattle.cs_words.specs.Catalogue.{row_of, moving_letters, unit_takes}
+use Rattle.cs_words.specs.declared.catalogue.Opcode.{Opcode}
+use Rattle.cs_ir.specs.Units.{is_unit}
+use Rattle.cs_ir.specs.Validity.{suits_operator, suits_function, take_all, stores_at, may_run_at, bound_at}
+use Rattle.cs_ir.specs.declared.register.Reg.{Reg}
+use Rattle.cs_meaning.specs.Core.{Stmt, Block, Arms, set, unit, out, out_at, ask, turnoff, nothing, choose, no_stmt, andthen, otherwise, arm}
+use Rattle.cs_meaning.specs.Notes.{reg}
+use Rattle.cs_typed.specs.TypedTree.{Expression, number, var, field, head, neg, pair, pick, apply}
+use Rattle.cs_typed.specs.WellRated.{node_rate, var_rate}
+use Rattle.cs_typed.specs.declared.tree.Var.{Var as Variable}
+use Rattle.cs_typed.specs.declared.tree.Var.TheVariants.{Local, Global}
+
+-- No part changes faster than the whole, and what notes share changes as often as it is read.
+abbrev pub Ranked : Expression → Type 0
+Ranked (number r n) = Unit {0}
+Ranked (var r (Local q n)) = q ≡ r
+Ranked (var r (Global g)) = within r (res_rate g) ≡ true
+Ranked (field r k) = Unit {0}
+Ranked (head r h) = Unit {0}
+Ranked (neg r a) = (within (node_rate a) r ≡ true) × Ranked a
+Ranked (pair r o a b) =
+    (within (node_rate a) r ≡ true) × (within (node_rate b) r ≡ true) × (suits_operator o r ≡ true) × Ranked a × Ranked b
+Ranked (pick r c a b) =
+    (is_audio (node_rate c) ≡ false) × (within (node_rate c) r ≡ true) × (within (node_rate a) r ≡ true) × (within (node_rate b) r ≡ true)
+    × Ranked c × Ranked a × Ranked b
+Ranked (apply r g a) = (suits_function g r (node_rate a) ≡ true) × Ranked a
+
+abbrev pub AllRanked : List Expression → Type 0
+AllRanked [] = Unit {0}
+AllRanked (e ∷ es) = Ranked e × AllRanked es
+
+-- all are known when the note begins; all are sounds; they are pairs of a held value and a sound
+abbrev pub AllInit : List Expression → Type 0
+AllInit [] = Unit {0}
+AllInit (e ∷ es) = (node_rate e ≡ rate.Init) × AllInit es
+
+abbrev pub AllSound : List Expression → Type 0
+AllSound [] = Unit {0}
+AllSound (e ∷ es) = (is_audio (node_rate e) ≡ true) × AllSound es
+
+abbrev pub Paired : List Expression → Type 0
+Paired [] = Unit {0}
+Paired (c ∷ []) = Unit {0}
+Paired (c ∷ (e ∷ es)) = (is_audio (node_rate c) ≡ false) × (is_audio (node_rate e) ≡ true) × Paired es
+
+-- a register of each one's rate
+abbrev pub rated : List Expression → List Reg
+rated es = map (λ e. reg (node_rate e) 0) es
+
+-- a variable takes a value that changes no more often than itself
+abbrev pub RankedSet : Variable → Expression → Type 0
+RankedSet v e = (within (node_rate e) (var_rate v) ≡ true) × Ranked e
+
+abbrev pub GivenTo : Rate → List Variable → Type 0
+GivenTo r [] = Unit {0}
+GivenTo r (v ∷ vs) = within r (var_rate v) ≡ true
+
+-- A unit's arguments fit the letters of its opcode.
+pub record RankedUnit (r : Rate) (vs : List Variable) (opcode : Opcode) (xs is : List Expression) : Type 0 where
+  pub is_one : is_unit (row_of opcode).shape ≡ true
+  pub count : unit_takes (row_of opcode) (length is) ≡ true
+  pub settled : AllInit is
+  pub moving : take_all (moving_letters (row_of opcode)) (bound_at (row_of opcode) r) (rated xs) ≡ true
+  pub even : stores_at (row_of opcode).shape r (rated xs) ≡ true
+  pub runs : may_run_at (row_of opcode) r ≡ true
+  pub given : GivenTo r vs
+  pub parts : AllRanked xs
+  pub settled_parts : AllRanked is
+
+abbrev mutual
+  pub RankedStmt : Stmt → Type 0
+  RankedStmt (set r v e) = RankedSet v e
+  RankedStmt (unit r vs opcode reach xs is) = RankedUnit r vs opcode xs is
+  RankedStmt (out r es) = AllSound es × AllRanked es
+  RankedStmt (out_at r es) = Paired es × AllRanked es
+  RankedStmt (ask es) = (3 ≤ length es) × AllInit es × AllRanked es
+  RankedStmt (turnoff r) = Unit {0}
+  RankedStmt nothing = Unit {0}
+  RankedStmt (choose r arms) = RankedArms arms
+
+  pub RankedBlock : Block → Type 0
+  RankedBlock no_stmt = Unit {0}
+  RankedBlock (andthen s b) = RankedStmt s × RankedBlock b
+
+  pub RankedArms : Arms → Type 0
+  RankedArms (otherwise b) = RankedBlock b
+  RankedArms (arm c b rest) = (is_audio (node_rate c) ≡ false) × Ranked c × RankedBlock b × RankedArms rest

@@ -1,0 +1,36 @@
+-- Counts that reach further.
+use Rattle.std.proofs.Common.{◌≡◌, ◌∙◌, ◌+◌, ◌<◌, ℕ, List, max, length, drop, get_or, arith, sym, ap}
+use Rattle.std.proofs.Math.Nat.{max-zero}
+use Rattle.cs_base.specs.declared.resource.Rate.{Rate}
+use Rattle.cs_base.specs.declared.resource.Rate.TheVariants as rate
+use Rattle.cs_ir.specs.declared.register.Counts.{Counts}
+use Rattle.cs_ir.specs.declared.register.Reg.{Reg}
+use Rattle.cs_code.specs.inner.Counted.{reached}
+use Rattle.cs_code.specs.inner.Limits.{reg_limit, regs_limit}
+use Rattle.std.proofs.lemmas.List.{drop_more}
+
+pub max_none : (n : ℕ) → max n 0 ≡ n
+max_none n = max-zero n
+
+max_assoc : (a b c : ℕ) → max (max a b) c ≡ max a (max b c)
+max_assoc a b c = omega arith
+
+pub reached_two : (c : Counts) (g h : Rate → ℕ) → reached (reached c g) h ≡ reached c (λ r. max (g r) (h r))
+reached_two c g h = λ j. record {
+  i = max_assoc c.i (g rate.Init) (h rate.Init) j;
+  k = max_assoc c.k (g rate.Control) (h rate.Control) j;
+  a = max_assoc c.a (g rate.Audio) (h rate.Audio) j;
+  units = c.units;
+}
+
+-- one more of some
+pub reached_step : (c now : Counts) (g h : Rate → ℕ) → now ≡ reached c g → reached now h ≡ reached c (λ r. max (g r) (h r))
+reached_step c now g h e = ap (λ m. reached m h) e ∙ reached_two c g h
+
+-- one register more, of those from a place on
+pub regs_more : (c now total : Counts) (qs : List Reg) (i : ℕ) (d : Reg) → i < length qs → now ≡ reached c (λ r. reg_limit r (get_or qs i d))
+    → reached c (λ r. regs_limit r (drop i qs)) ≡ total → reached now (λ r. regs_limit r (drop (i + 1) qs)) ≡ total
+regs_more c now total qs i d lt made was =
+    reached_step c now (λ r. reg_limit r (get_or qs i d)) (λ r. regs_limit r (drop (i + 1) qs)) made
+    ∙ sym (ap (λ xs. reached c (λ r. regs_limit r xs)) (drop_more qs i d lt))
+    ∙ was

@@ -1,0 +1,90 @@
+-- What a unit may touch, by what is known of its arguments.
+use Rattle.std.proofs.Common.{◌≡◌, ◌∷◌, ℕ, ℤ, Bool, List, [], cond, refl, sym, ap}
+use Rattle.cs_base.specs.declared.resource.Rate.{Rate}
+use Rattle.cs_ir.specs.Resources.{Spaces, places_of}
+use Rattle.cs_ir.specs.declared.op.Reach.TheVariants as reach
+use Rattle.cs_meaning.specs.Core.{table_reach, place_reach, span_reach, reach_of}
+use Rattle.cs_typed.specs.TypedTree.{Expression, number, var, field, head, neg, pair, pick, apply}
+use Rattle.cs_words.specs.declared.catalogue.Shape.{Shape}
+use Rattle.cs_words.specs.declared.catalogue.Shape.TheVariants as shape
+use Rattle.cs_words.specs.declared.catalogue.Space.TheVariants as space
+use Rattle.cs_code.specs.declared.reach.Known.TheVariants as known
+use Rattle.cs_code.specs.inner.Emitted.{known_of, known_at, table_known, place_known, span_known, reach_known}
+
+table_by : (is : List Expression) → table_reach is ≡ table_known (known_at is 0)
+table_by [] = refl
+table_by (number r v ∷ es) = refl
+table_by (var r v ∷ es) = refl
+table_by (field r k ∷ es) = refl
+table_by (head r h ∷ es) = refl
+table_by (neg r a ∷ es) = refl
+table_by (pair r o a b ∷ es) = refl
+table_by (pick r c a b ∷ es) = refl
+table_by (apply r g a ∷ es) = refl
+
+place_by : (places : ℕ) (e : Expression) → place_reach places e ≡ place_known places (known_of e)
+place_by places (number r v) = refl
+place_by places (var r v) = refl
+place_by places (field r k) = refl
+place_by places (head r h) = refl
+place_by places (neg r a) = refl
+place_by places (pair r o a b) = refl
+place_by places (pick r c a b) = refl
+place_by places (apply r g a) = refl
+
+-- a first bound that is no literal
+any_by : (places : ℕ) (e : Expression) → span_known places known.Other (known_of e) ≡ reach.Any
+any_by places (number r v) = refl
+any_by places (var r v) = refl
+any_by places (field r k) = refl
+any_by places (head r h) = refl
+any_by places (neg r a) = refl
+any_by places (pair r o a b) = refl
+any_by places (pick r c a b) = refl
+any_by places (apply r g a) = refl
+
+literal_by : (places : ℕ) (r : Rate) (v : ℤ) (e : Expression) → span_reach places (number r v) e ≡ span_known places (known_of (number r v)) (known_of e)
+literal_by places q w (number r v) = refl
+literal_by places q w (var r v) = refl
+literal_by places q w (field r k) = refl
+literal_by places q w (head r h) = refl
+literal_by places q w (neg r a) = refl
+literal_by places q w (pair r o a b) = refl
+literal_by places q w (pick r c a b) = refl
+literal_by places q w (apply r g a) = refl
+
+span_by : (places : ℕ) (e x : Expression) → span_reach places e x ≡ span_known places (known_of e) (known_of x)
+span_by places (number r v) x = literal_by places r v x
+span_by places (var r v) x = sym (any_by places x)
+span_by places (field r k) x = sym (any_by places x)
+span_by places (head r h) x = sym (any_by places x)
+span_by places (neg r a) x = sym (any_by places x)
+span_by places (pair r o a b) x = sym (any_by places x)
+span_by places (pick r c a b) x = sym (any_by places x)
+span_by places (apply r g a) x = sym (any_by places x)
+
+pub reach_by_known : (spaces : Spaces) (sh : Shape) (table : Bool) (xs is : List Expression) → reach_of spaces sh table xs is
+    ≡ reach_known spaces sh table (known_at is 0) (known_at xs 0) (known_at xs 1)
+reach_by_known spaces shape.Unit table xs is = ap (λ r. cond table r reach.Nothing) (table_by is)
+reach_by_known spaces shape.Store table xs is = table_by is
+reach_by_known spaces (shape.ZakGet s) table [] is = refl
+reach_by_known spaces (shape.ZakGet s) table (x ∷ xs) is = place_by (places_of spaces s) x
+reach_by_known spaces (shape.ZakPut s) table [] is = refl
+reach_by_known spaces (shape.ZakPut s) table (v ∷ []) is = refl
+reach_by_known spaces (shape.ZakPut s) table (v ∷ x ∷ xs) is = place_by (places_of spaces s) x
+reach_by_known spaces shape.ZakMix table [] is = refl
+reach_by_known spaces shape.ZakMix table (v ∷ []) is = refl
+reach_by_known spaces shape.ZakMix table (v ∷ x ∷ xs) is = place_by (places_of spaces space.Audio) x
+reach_by_known spaces (shape.ZakClear s) table [] is = refl
+reach_by_known spaces (shape.ZakClear s) table (x ∷ []) is = refl
+reach_by_known spaces (shape.ZakClear s) table (x ∷ y ∷ xs) is = span_by (places_of spaces s) x y
+reach_by_known spaces shape.Init table xs is = refl
+reach_by_known spaces shape.Out table xs is = refl
+reach_by_known spaces shape.OutAt table xs is = refl
+reach_by_known spaces shape.Turnoff table xs is = refl
+reach_by_known spaces shape.ZakInit table xs is = refl
+reach_by_known spaces shape.ChannelGet table xs is = refl
+reach_by_known spaces shape.ChannelPut table xs is = refl
+reach_by_known spaces shape.ChannelMix table xs is = refl
+reach_by_known spaces shape.ChannelClear table xs is = refl
+reach_by_known spaces shape.Ask table xs is = refl

@@ -1,0 +1,20 @@
+use Rattle.std.proofs.Common.{◌≡◌, ◌++◌, drop, map}
+use Rattle.cs_meaning.specs.Notes.{past_all}
+use Rattle.cs_typed.specs.TypedTree.{argument}
+use Rattle.cs_words.specs.Catalogue.{row_of}
+use Rattle.cs_code.specs.inner.Code.{operands_code}
+use Rattle.cs_code.specs.inner.Emitted.{frame_of, picked}
+use Rattle.cs_code.specs.inner.Frames.{spots}
+use Rattle.cs_code.proofs.args.gather.Given as goal
+
+-- what is made, and what the rest will make
+abbrev pub invariant-loop-arg : goal.invariant-loop-arg
+invariant-loop-arg l =
+    (l.place ≡ l.arg-index)
+    × (l.ops.items ++ operands_code (frame_of l.bases) l.whole l.free.next (picked l.which (row_of l.opcode) l.place (map argument
+    (drop l.arg-index l.args))) l.free.d
+    ≡ l.initial.ops.items ++ operands_code (frame_of l.bases) l.whole l.at (picked l.which (row_of l.opcode) 0 (map argument l.args)) 0)
+    × (l.regs.items ++ spots (frame_of l.bases) l.whole l.free.next (picked l.which (row_of l.opcode) l.place (map argument (drop l.arg-index l.args))) l.free.d
+    ≡ l.initial.regs.items ++ spots (frame_of l.bases) l.whole l.at (picked l.which (row_of l.opcode) 0 (map argument l.args)) 0)
+    × (past_all l.free.next (picked l.which (row_of l.opcode) l.place (map argument (drop l.arg-index l.args)))
+    ≡ past_all l.at (picked l.which (row_of l.opcode) 0 (map argument l.args)))

@@ -1,0 +1,7 @@
+use Rattle.std.proofs.Common.{arith}
+use Rattle.cs_code.proofs.Reached.{regs_more}
+use Rattle.cs_code.proofs.counts.with_regs.Goals as goal
+
+pub loop-reg-preserved : goal.loop-reg-preserved
+loop-reg-preserved c =
+    regs_more c.loop-reg.all c.in_ok-all.all _ c.args.regs.now c.loop-reg.reg-index _ (omega arith) c.in_ok-all.ensures c.loop-reg.invariant

@@ -1,0 +1,4 @@
+pub mod Lowered
+pub mod Means
+pub mod Names
+pub mod inner

@@ -1,0 +1,51 @@
+-- What an orchestra is performed by.
+use Rattle.std.specs.Prelude.{ℕ, true, ◌≡◌, List, length, map}
+use Rattle.std.specs.List.{AllZip, flat_map}
+use Rattle.std.specs.List.Sorted.{IsPermutation, IsStrictlyIncreasing}
+use Rattle.cs_ir.specs.Instruments.{Numbered, numbers_of}
+use Rattle.cs_ir.specs.Resources.{Spaces, Stock, ops_use, ops_write}
+use Rattle.cs_ir.specs.Validity.{valid}
+use Rattle.cs_ir.specs.declared.op.Code.{Code}
+use Rattle.cs_meaning.specs.Core.{core}
+use Rattle.cs_meaning.specs.Uses.{block_uses, block_writes}
+use Rattle.cs_typed.specs.TypedTree as typed
+use Rattle.cs_code.specs.Means.{Means}
+use Rattle.cs_code.specs.Names.{block_units, AllNamed}
+
+-- The two codes of a block, in a piece with such zak spaces and so many channels: they mean its statements, can be run on the
+-- same registers and units, name what there is, and the performance uses and may write exactly what the statements do.
+pub record IsCodeOf (spaces : Spaces) (channels : ℕ) (body : typed.Block) (init perf : Code) : Type 0 where
+  pub means : Means (core spaces body) init.ops.items perf.ops.items
+  pub init_valid : valid init ≡ true
+  pub perf_valid : valid perf ≡ true
+  pub counts : init.counts ≡ perf.counts
+  pub units : init.counts.units ≡ length (block_units (core spaces body))
+  pub init_names : AllNamed channels (block_units (core spaces body)) init.ops.items
+  pub perf_names : AllNamed channels (block_units (core spaces body)) perf.ops.items
+  pub uses : (stock : Stock) → ops_use stock perf.ops.items ≡ block_uses stock (core spaces body)
+  pub writes : (stock : Stock) → ops_write stock perf.ops.items ≡ block_writes stock (core spaces body)
+
+-- the zak spaces of a piece
+abbrev pub spaces_in : typed.Orchestra → Spaces
+spaces_in o = record { control = o.zak_k; audio = o.zak_a }
+
+-- the numbers of all instruments, and the body of each, in the order of the text
+abbrev pub all_numbers : List typed.Instrument → List ℕ
+all_numbers is = flat_map (λ (i : typed.Instrument). i.numbers) is
+
+abbrev pub numbered_with : typed.Block → List ℕ → List (ℕ × typed.Block)
+numbered_with body ns = map (λ n. (n, body)) ns
+
+abbrev pub bodies : List typed.Instrument → List (ℕ × typed.Block)
+bodies is = flat_map (λ (i : typed.Instrument). numbered_with i.body i.numbers) is
+
+-- an instrument with this number, and with codes of this body
+abbrev pub IsNumberedCode : Spaces → ℕ → ℕ × typed.Block → Numbered → Type 0
+IsNumberedCode spaces channels p i = (i.number ≡ p.0) × IsCodeOf spaces channels p.1 i.init i.perf
+
+-- The instruments of an orchestra, by ascending number: for each number in the text one, with codes of its body.
+pub record AreInstrumentsOf (o : typed.Orchestra) (l : List Numbered) : Type 0 where
+  pub in_text : List Numbered
+  pub each : AllZip (IsNumberedCode (spaces_in o) o.head.nchnls) (bodies o.instrs) in_text
+  pub same : IsPermutation in_text l
+  pub ascending : IsStrictlyIncreasing (numbers_of l)

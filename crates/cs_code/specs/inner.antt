@@ -1,0 +1,7 @@
+-- What only clauses of private functions cite: the code that is made, as functions of the tree.
+pub mod Census
+pub mod Code
+pub mod Counted
+pub mod Emitted
+pub mod Frames
+pub mod Limits

@@ -1,0 +1,193 @@
+-- The code of expressions and statements.
+use Rattle.std.specs.Prelude.{ℕ, Bool, true, false, ◌+◌, ◌++◌, List, [], ◌∷◌, length, Option, Some, None, if◌then◌else◌}
+use Rattle.cs_base.specs.Rates.{same_rate}
+use Rattle.cs_base.specs.declared.resource.Rate.{Rate}
+use Rattle.cs_base.specs.declared.resource.Rate.TheVariants as rate
+use Rattle.cs_words.specs.Catalogue.{row_of}
+use Rattle.cs_words.specs.declared.catalogue.Opcode.{Opcode}
+use Rattle.cs_ir.specs.Units.{is_started}
+use Rattle.cs_ir.specs.Waves.{if_init}
+use Rattle.cs_ir.specs.declared.op.Act.TheVariants as act
+use Rattle.cs_ir.specs.declared.op.Op.{Op}
+use Rattle.cs_ir.specs.declared.op.Reach.{Reach}
+use Rattle.cs_ir.specs.declared.register.Reg.{Reg}
+use Rattle.cs_meaning.specs.Core.{Stmt, Block, Arms, set, unit, out, out_at, ask, turnoff, nothing, choose, no_stmt, andthen, otherwise, arm}
+use Rattle.cs_meaning.specs.Notes.{reg, past, past_parts, past_stmt, past_block, Place}
+use Rattle.cs_typed.specs.TypedTree.{Expression, number, var, field, head, neg, pair, pick, apply}
+use Rattle.cs_typed.specs.WellRated.{node_rate}
+use Rattle.cs_typed.specs.declared.tree.Var.{Var as Variable}
+use Rattle.cs_typed.specs.declared.tree.Var.TheVariants.{Local, Global}
+use Rattle.cs_code.specs.inner.Frames.{Frame, op_of, kept_reg, temp, direct, spot, spots}
+
+-- nothing where a value stands already, else its code; and a copy of what stands already, else the code
+abbrev pub unless_there : Option Reg → List Op → List Op
+unless_there (Some q) code = []
+unless_there None code = code
+
+abbrev pub copied : Option Reg → Reg → List Op → List Op
+copied (Some q) x code = op_of act.Copy x (q ∷ []) ∷ []
+copied None x code = code
+
+-- a variable's value into a register
+abbrev pub look_code : Variable → Reg → List Op
+look_code (Local q n) x = op_of act.Copy x (reg q n ∷ []) ∷ []
+look_code (Global g) x = op_of (act.Load g) x [] ∷ []
+
+-- The value of an expression that stands nowhere yet, into a register: its operands first, each where it stands or into the
+-- temporary of its rate from d on, and then its own op.
+abbrev pub own : Frame → Bool → ℕ → Expression → Reg → ℕ → List Op
+own f whole at (number r n) x d = op_of (act.Const n) x [] ∷ []
+own f whole at (var r v) x d = look_code v x
+own f whole at (field r k) x d = op_of (act.Field k) x [] ∷ []
+own f whole at (head r h) x d = op_of (act.Head h) x [] ∷ []
+own f whole at (neg r a) x d =
+    unless_there (direct f whole at a) (own f whole at a (temp f (node_rate a) d) (d + 1))
+    ++ (op_of act.Neg x (spot f whole at a d ∷ []) ∷ [])
+own f whole at (pair r b y z) x d =
+    unless_there (direct f whole at y) (own f whole at y (temp f (node_rate y) d) (d + 1))
+    ++ (unless_there (direct f whole (past at y) z) (own f whole (past at y) z (temp f (node_rate z) (d + 1)) (d + 1 + 1))
+    ++ (op_of (act.Pair b) x (spot f whole at y d ∷ spot f whole (past at y) z (d + 1) ∷ []) ∷ []))
+own f whole at (pick r c y z) x d =
+    unless_there (direct f whole at c) (own f whole at c (temp f (node_rate c) d) (d + 1))
+    ++ (unless_there (direct f whole (past at c) y) (own f whole (past at c) y (temp f (node_rate y) (d + 1)) (d + 1 + 1))
+    ++ (unless_there (direct f whole (past (past at c) y) z) (own f whole (past (past at c) y) z (temp f (node_rate z) (d + 1 + 1)) (d + 1 + 1 + 1))
+    ++ (op_of act.Pick x (spot f whole at c d ∷ spot f whole (past at c) y (d + 1) ∷ spot f whole (past (past at c) y) z (d + 1 + 1) ∷ []) ∷ [])))
+own f whole at (apply r g a) x d =
+    unless_there (direct f whole at a) (own f whole at a (temp f (node_rate a) d) (d + 1))
+    ++ (op_of (act.Call g) x (spot f whole at a d ∷ []) ∷ [])
+
+-- the value of an expression into a register, by a copy where it stands already; and what makes it stand somewhere
+abbrev pub code : Frame → Bool → ℕ → Expression → Reg → ℕ → List Op
+code f whole at e x d = copied (direct f whole at e) x (own f whole at e x d)
+
+abbrev pub operand_code : Frame → Bool → ℕ → Expression → ℕ → List Op
+operand_code f whole at e d =
+    unless_there (direct f whole at e) (own f whole at e (temp f (node_rate e) d) (d + 1))
+
+abbrev pub operands_code : Frame → Bool → ℕ → List Expression → ℕ → List Op
+operands_code f whole at [] d = []
+operands_code f whole at (e ∷ es) d = operand_code f whole at e d ++ operands_code f whole (past at e) es (d + 1)
+
+-- the outermost parts that don't change, each into its register
+abbrev pub kept_code : Frame → ℕ → Expression → List Op
+kept_code f at e = code f true 0 e (kept_reg f at) 0
+
+abbrev pub keep_code : Frame → ℕ → Expression → List Op
+keep_code f at (number r n) = if_init r (kept_code f at (number r n)) []
+keep_code f at (var r v) = if_init r (kept_code f at (var r v)) []
+keep_code f at (field r k) = if_init r (kept_code f at (field r k)) []
+keep_code f at (head r h) = if_init r (kept_code f at (head r h)) []
+keep_code f at (neg r a) = if_init r (kept_code f at (neg r a)) (keep_code f at a)
+keep_code f at (pair r b y z) =
+    if_init r (kept_code f at (pair r b y z)) (keep_code f at y ++ keep_code f (past at y) z)
+keep_code f at (pick r c y z) =
+    if_init r (kept_code f at (pick r c y z))
+    (keep_code f at c ++ (keep_code f (past at c) y ++ keep_code f (past (past at c) y) z))
+keep_code f at (apply r g a) = if_init r (kept_code f at (apply r g a)) (keep_code f at a)
+
+abbrev pub keep_all_code : Frame → ℕ → List Expression → List Op
+keep_all_code f at [] = []
+keep_all_code f at (e ∷ es) = keep_code f at e ++ keep_all_code f (past at e) es
+
+-- A variable takes a value: a local one of the same rate by the value's own last op, any other by a copy or a store.
+abbrev pub set_code : Frame → Bool → ℕ → Variable → Expression → List Op
+set_code f whole at (Local q n) e =
+    if same_rate (node_rate e) q then code f whole at e (reg q n) 0
+    else operand_code f whole at e 0 ++ (op_of act.Copy (reg q n) (spot f whole at e 0 ∷ []) ∷ [])
+set_code f whole at (Global g) e =
+    operand_code f whole at e 0 ++ (op_of (act.Save g) (spot f whole at e 0) (spot f whole at e 0 ∷ []) ∷ [])
+
+-- where a unit's result goes, and what is left to do then
+abbrev pub target : Frame → Rate → List Variable → Reg
+target f r (Local q n ∷ vs) = if same_rate q r then reg q n else temp f r 0
+target f r _ = temp f r 0
+
+abbrev pub given_code : Frame → Rate → List Variable → List Op
+given_code f r [] = []
+given_code f r (Local q n ∷ vs) = if same_rate q r then [] else op_of act.Copy (reg q n) (temp f r 0 ∷ []) ∷ []
+given_code f r (Global g ∷ vs) = op_of (act.Save g) (temp f r 0) (temp f r 0 ∷ []) ∷ []
+
+-- a unit is started, and runs
+abbrev pub start_code : Frame → Rate → Opcode → ℕ → List Expression → List Op
+start_code f r opcode u is =
+    if is_started (row_of opcode).shape
+    then operands_code f true 0 is 0 ++ (op_of (act.Start opcode u) (reg r 0) (spots f true 0 is 0) ∷ []) else []
+
+abbrev pub unit_code : Frame → Bool → ℕ → Rate → List Variable → Opcode → ℕ → Reach → List Expression → List Op
+unit_code f whole at r vs opcode u reach xs =
+    operands_code f whole at xs 0
+    ++ (op_of (act.Unit opcode u reach) (target f r vs) (spots f whole at xs 0) ∷ given_code f r vs)
+
+-- values go out: to the channels from one on, and in pairs of a channel's number and a value
+abbrev pub out_ops : ℕ → List Reg → List Op
+out_ops c [] = []
+out_ops c (q ∷ qs) = op_of (act.Out c) q (q ∷ []) ∷ out_ops (c + 1) qs
+
+abbrev pub out_at_ops : List Reg → List Op
+out_at_ops (p ∷ q ∷ qs) = op_of act.OutAt q (p ∷ q ∷ []) ∷ out_at_ops qs
+out_at_ops _ = []
+
+-- An arm at a place: its condition, a jump over the body where it doesn't hold, the body, a jump over the rest, the rest.
+abbrev pub arm_code : ℕ → List Op → Reg → List Op → List Op → List Op
+arm_code place cond q body rest =
+    cond ++ (op_of (act.Unless (place + length cond + 1 + length body + 1)) q (q ∷ [])
+    ∷ (body ++ (op_of (act.Jump (place + length cond + 1 + length body + 1 + length rest)) q [] ∷ rest)))
+
+-- the initialisation of statements whose code begins at a place
+abbrev mutual
+  pub init_code : Frame → ℕ → Place → Stmt → List Op
+  init_code f place p (set r v e) = if_init r (set_code f true 0 v e) (keep_code f p.part e)
+  init_code f place p (unit r vs opcode reach xs is) =
+      if_init r (start_code f r opcode p.unit is ++ unit_code f true 0 r vs opcode p.unit reach xs)
+      (keep_all_code f p.part xs ++ start_code f r opcode p.unit is)
+  init_code f place p (out r es) = keep_all_code f p.part es
+  init_code f place p (out_at r es) = keep_all_code f p.part es
+  init_code f place p (ask es) = operands_code f true 0 es 0 ++ (op_of act.Ask (reg rate.Init 0) (spots f true 0 es 0) ∷ [])
+  init_code f place p (turnoff r) = []
+  init_code f place p nothing = []
+  init_code f place p (choose r arms) = if_init r (first_code f place p arms) (all_code f place p arms)
+
+  pub init_block_code : Frame → ℕ → Place → Block → List Op
+  init_block_code f place p no_stmt = []
+  init_block_code f place p (andthen s b) =
+      init_code f place p s ++ init_block_code f (place + length (init_code f place p s)) (past_stmt p s) b
+
+  pub first_code : Frame → ℕ → Place → Arms → List Op
+  first_code f place p (otherwise b) = init_block_code f place p b
+  first_code f place p (arm c b rest) =
+      let cond = keep_code f p.part c in let q = past_parts (past p.part c) p in
+      let body = init_block_code f (place + length cond + 1) q b in
+      arm_code place cond (kept_reg f p.part) body
+      (first_code f (place + length cond + 1 + length body + 1) (past_block q b) rest)
+
+  pub all_code : Frame → ℕ → Place → Arms → List Op
+  all_code f place p (otherwise b) = init_block_code f place p b
+  all_code f place p (arm c b rest) =
+      let cond = keep_code f p.part c in let q = past_parts (past p.part c) p in
+      let body = init_block_code f (place + length cond) q b in
+      cond ++ (body ++ all_code f (place + length cond + length body) (past_block q b) rest)
+
+-- the performance of statements whose code begins at a place
+abbrev mutual
+  pub perf_code : Frame → ℕ → Place → Stmt → List Op
+  perf_code f place p (set r v e) = if_init r [] (set_code f false p.part v e)
+  perf_code f place p (unit r vs opcode reach xs is) = if_init r [] (unit_code f false p.part r vs opcode p.unit reach xs)
+  perf_code f place p (out r es) = operands_code f false p.part es 0 ++ out_ops 0 (spots f false p.part es 0)
+  perf_code f place p (out_at r es) = operands_code f false p.part es 0 ++ out_at_ops (spots f false p.part es 0)
+  perf_code f place p (ask es) = []
+  perf_code f place p (turnoff r) = op_of act.Turnoff (reg rate.Init 0) [] ∷ []
+  perf_code f place p nothing = []
+  perf_code f place p (choose r arms) = perf_arms_code f place p arms
+
+  pub perf_block_code : Frame → ℕ → Place → Block → List Op
+  perf_block_code f place p no_stmt = []
+  perf_block_code f place p (andthen s b) =
+      perf_code f place p s ++ perf_block_code f (place + length (perf_code f place p s)) (past_stmt p s) b
+
+  pub perf_arms_code : Frame → ℕ → Place → Arms → List Op
+  perf_arms_code f place p (otherwise b) = perf_block_code f place p b
+  perf_arms_code f place p (arm c b rest) =
+      let cond = operand_code f false p.part c 0 in let q = past_parts (past p.part c) p in
+      let body = perf_block_code f (place + length cond + 1) q b in
+      arm_code place cond (spot f false p.part c 0) body
+      (perf_arms_code f (place + length cond + 1 + length body + 1) (past_block q b) rest)

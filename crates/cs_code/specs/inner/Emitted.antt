@@ -1,0 +1,192 @@
+-- What the functions that make code work on, in the words of the definitions.
+use Rattle.std.specs.Prelude.{ℕ, Bool, true, false, not, zero, suc, ◌+◌, ◌-◌, ◌&&◌, ◌++◌, List, [], ◌∷◌, length, min, nat_lt, nat_le, Option, Some, None, if◌then◌else◌}
+use Rattle.cs_base.specs.Rates.{is_init}
+use Rattle.cs_base.specs.declared.resource.Rate.{Rate}
+use Rattle.cs_base.specs.declared.resource.Rate.TheVariants as rate
+use Rattle.cs_ir.specs.Resources.{Spaces, places_of, takes_table}
+use Rattle.cs_ir.specs.declared.op.Act.TheVariants as act
+use Rattle.cs_ir.specs.declared.op.Op.{Op}
+use Rattle.cs_ir.specs.declared.op.Reach.{Reach}
+use Rattle.cs_ir.specs.declared.op.Reach.TheVariants as reach
+use Rattle.cs_ir.specs.declared.register.Reg.{Reg}
+use Rattle.cs_meaning.specs.Core.{plus, whole_below, moving, settled, reach_of, Stmt, Block, Arms, unit}
+use Rattle.cs_meaning.specs.Notes.{past, past_parts, Place}
+use Rattle.cs_typed.specs.TypedTree as typed
+use Rattle.cs_typed.specs.TypedTree.{Expression, number, var, field, head, neg, pair, pick, apply}
+use Rattle.cs_typed.specs.declared.tree.Var.{Var as Variable}
+use Rattle.cs_words.specs.Catalogue.{Row, row_of, letter_at, is_settled}
+use Rattle.cs_words.specs.declared.catalogue.Letter.{Letter}
+use Rattle.cs_words.specs.declared.catalogue.Opcode.{Opcode}
+use Rattle.cs_words.specs.declared.catalogue.Shape.{Shape}
+use Rattle.cs_words.specs.declared.catalogue.Shape.TheVariants as shape
+use Rattle.cs_code.specs.declared.args.Which.{Which}
+use Rattle.cs_code.specs.declared.args.Which.TheVariants as which
+use Rattle.cs_code.specs.declared.pieces.Piece.{Piece}
+use Rattle.cs_code.specs.declared.frame.Bases.{Bases}
+use Rattle.cs_code.specs.declared.frame.Pass.{Pass}
+use Rattle.cs_code.specs.declared.frame.Pass.TheVariants as pass
+use Rattle.cs_code.specs.declared.frame.Step.{Step}
+use Rattle.cs_code.specs.declared.frame.Zak.{Zak}
+use Rattle.cs_code.specs.declared.reach.Known.{Known}
+use Rattle.cs_code.specs.declared.reach.Known.TheVariants as known
+use Rattle.cs_code.specs.inner.Code.{keep_code, operand_code, arm_code, init_code, init_block_code, first_code, perf_code, perf_block_code, perf_arms_code}
+use Rattle.cs_code.specs.inner.Frames.{Frame, op_of, kept_reg, spot}
+
+-- a frame, from its four numbers
+abbrev pub base_of : Bases → Rate → ℕ
+base_of b rate.Init = b.init
+base_of b rate.Control = b.control
+base_of b rate.Audio = b.audio
+
+abbrev pub frame_of : Bases → Frame
+frame_of b = record { kept = b.kept; base = base_of b }
+
+abbrev pub place_of : Step → Place
+place_of p = record { part = p.part; unit = p.unit }
+
+abbrev pub spaces_of : Zak → Spaces
+spaces_of z = record { control = z.control; audio = z.audio }
+
+-- a value, or what a variable has and the value added to it
+abbrev pub with_sum : Rate → Option Variable → Expression → Expression
+with_sum r None e = e
+with_sum r (Some v) e = plus r v e
+
+-- the code of the kept parts of an expression that changes, and the number after theirs
+abbrev pub parts_code : Frame → ℕ → Expression → List Op
+parts_code f at (neg r a) = keep_code f at a
+parts_code f at (pair r b y z) = keep_code f at y ++ keep_code f (past at y) z
+parts_code f at (pick r c y z) = keep_code f at c ++ (keep_code f (past at c) y ++ keep_code f (past (past at c) y) z)
+parts_code f at (apply r g a) = keep_code f at a
+parts_code f at _ = []
+
+abbrev pub parts_past : ℕ → Expression → ℕ
+parts_past at (neg r a) = past at a
+parts_past at (pair r o a b) = past (past at a) b
+parts_past at (pick r c a b) = past (past (past at c) a) b
+parts_past at (apply r f a) = past at a
+parts_past at _ = at
+
+-- the values among arguments from a place on that have such a letter: settled, moving, or any
+abbrev pub is_picked : Which → Letter → Bool
+is_picked which.Settled l = is_settled l
+is_picked which.Moving l = not (is_settled l)
+is_picked which.All l = true
+
+abbrev pub picked : Which → Row → ℕ → List typed.Argument → List Expression
+picked w row n [] = []
+picked w row n (typed.value e ∷ rest) =
+    if is_picked w (letter_at row n) then e ∷ picked w row (n + 1) rest else picked w row (n + 1) rest
+picked w row n (typed.text v ∷ rest) = picked w row (n + 1) rest
+
+-- an argument, where it is taken
+abbrev pub taken : Bool → typed.Argument → List Expression
+taken b (typed.value e) = if b then e ∷ [] else []
+taken b (typed.text v) = []
+
+-- what stands in both passes, by the pass
+abbrev pub pass_code : Pass → Frame → ℕ → Place → Stmt → List Op
+pass_code pass.Initialisation f place p s = init_code f place p s
+pass_code pass.Performance f place p s = perf_code f place p s
+
+abbrev pub pass_block_code : Pass → Frame → ℕ → Place → Block → List Op
+pass_block_code pass.Initialisation f place p b = init_block_code f place p b
+pass_block_code pass.Performance f place p b = perf_block_code f place p b
+
+-- the code of an `if` of which one arm is done, and of the condition of an arm
+abbrev pub chosen_code : Pass → Frame → ℕ → Place → Arms → List Op
+chosen_code pass.Initialisation f place p arms = first_code f place p arms
+chosen_code pass.Performance f place p arms = perf_arms_code f place p arms
+
+abbrev pub cond_code : Pass → Frame → ℕ → Expression → List Op
+cond_code pass.Initialisation f at c = keep_code f at c
+cond_code pass.Performance f at c = operand_code f false at c 0
+
+abbrev pub cond_reg : Pass → Frame → ℕ → Expression → Reg
+cond_reg pass.Initialisation f at c = kept_reg f at
+cond_reg pass.Performance f at c = spot f false at c 0
+
+-- An arm that is to be joined to others: the code of its condition, where the condition stands, the code of its body.
+pub record Branch : Type 0 where
+  pub cond : List Op
+  pub q : Reg
+  pub body : List Op
+
+abbrev pub branch_of : Piece → Branch
+branch_of p = record { cond = p.cond.items; q = p.holds; body = p.body.items }
+
+-- the place after an arm, and after arms
+abbrev pub past_branch : ℕ → Branch → ℕ
+past_branch place b = place + length b.cond + 1 + length b.body + 1
+
+abbrev pub after : ℕ → List Branch → ℕ
+after place [] = place
+after place (b ∷ bs) = after (past_branch place b) bs
+
+-- arms joined, and the statements after `else`
+abbrev pub chain : ℕ → List Branch → List Op → List Op
+chain place [] els = els
+chain place (b ∷ bs) els = arm_code place b.cond b.q b.body (chain (past_branch place b) bs els)
+
+-- an arm whose jump goes to an end
+abbrev pub joined : ℕ → Branch → ℕ → List Op
+joined place b end =
+    b.cond ++ (op_of (act.Unless (past_branch place b)) b.q (b.q ∷ [])
+    ∷ (b.body ++ (op_of (act.Jump end) b.q [] ∷ [])))
+
+-- an arm that is initialised whatever its condition is
+abbrev pub each_arm_code : Frame → ℕ → Place → Expression → Block → List Op
+each_arm_code f place p c b =
+    keep_code f p.part c
+    ++ init_block_code f (place + length (keep_code f p.part c)) (past_parts (past p.part c) p) b
+
+-- what is known of one of some expressions, counted from 0: of a literal the whole number below it
+abbrev pub known_of : Expression → Known
+known_of (number r v) = known.Literal (whole_below v)
+known_of _ = known.Other
+
+abbrev pub known_at : List Expression → ℕ → Known
+known_at [] k = known.Missing
+known_at (e ∷ es) zero = known_of e
+known_at (e ∷ es) (suc k) = known_at es k
+
+-- what may be touched by what is known
+abbrev pub table_known : Known → Reach
+table_known (known.Literal n) = reach.Span n n
+table_known _ = reach.Any
+
+abbrev pub place_known : ℕ → Known → Reach
+place_known places (known.Literal n) = if nat_lt n places then reach.Span n n else reach.Nothing
+place_known places known.Other = reach.Any
+place_known places known.Missing = reach.Nothing
+
+abbrev pub span_known : ℕ → Known → Known → Reach
+span_known places k known.Missing = reach.Nothing
+span_known places (known.Literal n) (known.Literal m) =
+    if nat_lt n places && nat_le n m then reach.Span n (min m (places - 1)) else reach.Nothing
+span_known places _ _ = reach.Any
+
+abbrev pub reach_known : Spaces → Shape → Bool → Known → Known → Known → Reach
+reach_known spaces shape.Unit table t x y = if table then table_known t else reach.Nothing
+reach_known spaces shape.Store table t x y = table_known t
+reach_known spaces (shape.ZakGet s) table t x y = place_known (places_of spaces s) x
+reach_known spaces (shape.ZakPut s) table t x y = place_known (places_of spaces s) y
+reach_known spaces shape.ZakMix table t x y = place_known spaces.audio y
+reach_known spaces (shape.ZakClear s) table t x y = span_known (places_of spaces s) x y
+reach_known spaces _ table t x y = reach.Nothing
+
+-- a call that is a unit
+abbrev pub plain_unit : Spaces → Rate → List Variable → Opcode → Shape → List typed.Argument → Stmt
+plain_unit spaces r vs opcode sh args =
+    let xs = moving (row_of opcode) 0 args in let is = settled (row_of opcode) 0 args in
+    unit r vs opcode (reach_of spaces sh (takes_table opcode) xs is) xs is
+
+-- whether the arms of an `if` are all initialised, while nothing is chosen yet
+abbrev pub takes_all : Pass → Rate → Bool
+takes_all pass.Initialisation r = not (is_init r)
+takes_all pass.Performance r = false
+
+-- the channel that the first of some arguments names
+abbrev pub channel_of : List typed.Argument → Option Variable
+channel_of (typed.text c ∷ args) = Some c
+channel_of _ = None

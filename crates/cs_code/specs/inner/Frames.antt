@@ -1,0 +1,51 @@
+-- Where a note's values stand among the registers.
+use Rattle.std.specs.Prelude.{ℕ, Bool, true, false, ◌+◌, List, [], ◌∷◌, Option, Some, None}
+use Rattle.cs_base.specs.declared.resource.Rate.{Rate}
+use Rattle.cs_base.specs.declared.resource.Rate.TheVariants as rate
+use Rattle.cs_ir.specs.Waves.{if_init}
+use Rattle.cs_ir.specs.declared.op.Act.{Act}
+use Rattle.cs_ir.specs.declared.op.Op.{Op}
+use Rattle.cs_ir.specs.declared.register.Reg.{Reg}
+use Rattle.cs_meaning.specs.Notes.{reg, past}
+use Rattle.cs_typed.specs.TypedTree.{Expression, var}
+use Rattle.cs_typed.specs.WellRated.{node_rate}
+use Rattle.cs_typed.specs.declared.tree.Var.TheVariants.{Local}
+
+-- Locals stand from register 0 on, then, at rate Init, the kept values, then what is worked out in between.
+pub record Frame : Type 0 where
+  pub kept : ℕ
+  pub base : Rate → ℕ
+
+abbrev pub op_of : Act → Reg → List Reg → Op
+op_of act into from = record { act = act; into = into; from = from }
+
+abbrev pub kept_reg : Frame → ℕ → Reg
+kept_reg f at = reg rate.Init (f.kept + at)
+
+abbrev pub temp : Frame → Rate → ℕ → Reg
+temp f r d = reg r (f.base r + d)
+
+-- a local variable's register
+abbrev pub local_of : Expression → Option Reg
+local_of (var r (Local q n)) = Some (reg q n)
+local_of _ = None
+
+-- Where a value stands already: a kept one in its register, a local variable in its own.
+abbrev pub kept_or : Frame → Bool → Rate → ℕ → Option Reg → Option Reg
+kept_or f true r at own = own
+kept_or f false r at own = if_init r (Some (kept_reg f at)) own
+
+abbrev pub direct : Frame → Bool → ℕ → Expression → Option Reg
+direct f whole at e = kept_or f whole (node_rate e) at (local_of e)
+
+abbrev pub reg_or : Option Reg → Reg → Reg
+reg_or (Some q) r = q
+reg_or None r = r
+
+-- where a value stands once its operand code has run
+abbrev pub spot : Frame → Bool → ℕ → Expression → ℕ → Reg
+spot f whole at e d = reg_or (direct f whole at e) (temp f (node_rate e) d)
+
+abbrev pub spots : Frame → Bool → ℕ → List Expression → ℕ → List Reg
+spots f whole at [] d = []
+spots f whole at (e ∷ es) d = spot f whole at e d ∷ spots f whole (past at e) es (d + 1)

@@ -1,0 +1,199 @@
+// The code of a call's arguments. Which of them are settled as the note begins the letters of the
+// catalogue say.
+ghost use Rattle.std.specs.Prelude.{◌≡◌, ◌+◌, ◌++◌, [], length, map, IfOk, OnOk};
+ghost use Rattle.cs_meaning.specs.Notes.{past_all};
+ghost use Rattle.cs_typed.specs.TypedTree.{argument};
+ghost use Rattle.cs_words.specs.Catalogue.{row_of, letter_at};
+ghost use Rattle.cs_code.specs.inner.Code.{operands_code, keep_all_code};
+ghost use Rattle.cs_code.specs.inner.Emitted.{frame_of, is_picked, picked, taken};
+ghost use Rattle.cs_code.specs.inner.Frames.{spots};
+
+use crate::expr::{keep, operand};
+use crate::frame::{Bases, add};
+use cs_base::OutOfMemory;
+use cs_ir::{Op, Reg};
+use cs_typed::TypedArg;
+use cs_words::{Letter, Opcode, signature_of};
+use std::alloc::Global;
+
+/// Which arguments of a call: those that are settled as the note begins, those that may move, or
+/// all.
+#[derive(Clone, Copy)]
+pub enum Which {
+    Settled,
+    Moving,
+    All,
+}
+
+/// Where arguments stand, in order, and the number of the next kept value.
+#[derive(Drop)]
+pub struct Gathered {
+    pub regs: Vec<Reg>,
+    pub next: usize,
+}
+
+/// The number of the next kept value, and that of the next temporary.
+#[derive(Clone, Copy)]
+struct Free {
+    next: usize,
+    d: usize,
+}
+
+impl Which {
+    fn picks(self, letter: Letter) -> bool
+        ensures { result ≡ is_picked self letter }
+    {
+        match self {
+            Which::Settled => letter.is_settled(),
+            Which::Moving => !letter.is_settled(),
+            Which::All => true,
+        }
+    }
+}
+
+/// Whether the argument at a place, counted from 0, is one of these.
+pub fn picks(which: Which, opcode: Opcode, place: usize) -> bool
+    ensures { result ≡ is_picked which (letter_at (row_of opcode) place) }
+{
+    which.picks(signature_of(opcode).letter(place))
+}
+
+/// The code of the arguments that are picked, into temporaries from 0 on where they stand nowhere
+/// yet.
+pub fn operands(
+    alloc: Global,
+    ops: &mut Vec<Op>,
+    bases: Bases,
+    whole: bool,
+    at: usize,
+    which: Which,
+    opcode: Opcode,
+    args: &[TypedArg],
+) -> Result<Gathered, OutOfMemory>
+    ensures ops { OnOk result (ops.new.items ≡ ops.old.items
+        ++ operands_code (frame_of bases) whole at (picked which (row_of opcode) 0
+        (map argument args.now)) 0) }
+    ensures regs { IfOk result (λ g. g.regs.items
+        ≡ spots (frame_of bases) whole at (picked which (row_of opcode) 0
+        (map argument args.now)) 0) }
+    ensures next { IfOk result (λ g. g.next ≡ past_all at (picked which (row_of opcode) 0
+        (map argument args.now))) }
+{
+    let mut regs = Vec::new(alloc);
+    let next = gather(ops, &mut regs, bases, whole, at, which, opcode, args)?;
+    Ok(Gathered { regs, next })
+}
+
+// The same, to registers that are appended.
+fn gather(
+    ops: &mut Vec<Op>,
+    regs: &mut Vec<Reg>,
+    bases: Bases,
+    whole: bool,
+    at: usize,
+    which: Which,
+    opcode: Opcode,
+    args: &[TypedArg],
+) -> Result<usize, OutOfMemory>
+    ensures ops { OnOk result (ops.new.items ≡ ops.old.items
+        ++ operands_code (frame_of bases) whole at (picked which (row_of opcode) 0
+        (map argument args.now)) 0) }
+    ensures regs { OnOk result (regs.new.items ≡ regs.old.items
+        ++ spots (frame_of bases) whole at (picked which (row_of opcode) 0
+        (map argument args.now)) 0) }
+    ensures next { IfOk result (λ n. n ≡ past_all at (picked which (row_of opcode) 0
+        (map argument args.now))) }
+{
+    let mut free = Free { next: at, d: 0 };
+    let mut place = 0;
+    for arg in args {
+        let take = picks(which, opcode, place);
+        free = one_operand(ops, regs, bases, whole, free, take, arg)?;
+        place = add(place, 1)?;
+    }
+    Ok(free.next)
+}
+
+// One argument, where it is taken.
+#[tactic(auto, using(crate::proofs::Lists::append_nothing))]
+fn one_operand(
+    ops: &mut Vec<Op>,
+    regs: &mut Vec<Reg>,
+    bases: Bases,
+    whole: bool,
+    free: Free,
+    take: bool,
+    arg: &TypedArg,
+) -> Result<Free, OutOfMemory>
+    ensures ops { OnOk result (ops.new.items ≡ ops.old.items
+        ++ operands_code (frame_of bases) whole free.next (taken take (argument arg.now)) free.d) }
+    ensures regs { OnOk result (regs.new.items ≡ regs.old.items
+        ++ spots (frame_of bases) whole free.next (taken take (argument arg.now)) free.d) }
+    ensures next { IfOk result (λ r. r.next ≡ past_all free.next (taken take (argument arg.now))) }
+    ensures d { IfOk result (λ r. r.d ≡ free.d + length (taken take (argument arg.now))) }
+{
+    match arg {
+        TypedArg::Value(e) => {
+            if take {
+                let spot = operand(ops, bases, whole, free.next, e, free.d)?;
+                regs.push(spot.reg)?;
+                Ok(Free {
+                    next: spot.next,
+                    d: add(free.d, 1)?,
+                })
+            } else {
+                Ok(free)
+            }
+        }
+        TypedArg::Text(_) => Ok(free),
+    }
+}
+
+/// The parts that are kept of the arguments that are picked; answers the number of the next kept
+/// value.
+pub fn keep_all(
+    ops: &mut Vec<Op>,
+    bases: Bases,
+    at: usize,
+    which: Which,
+    opcode: Opcode,
+    args: &[TypedArg],
+) -> Result<usize, OutOfMemory>
+    ensures ops { OnOk result (ops.new.items ≡ ops.old.items
+        ++ keep_all_code (frame_of bases) at (picked which (row_of opcode) 0
+        (map argument args.now))) }
+    ensures next { IfOk result (λ n. n ≡ past_all at (picked which (row_of opcode) 0
+        (map argument args.now))) }
+{
+    let mut next = at;
+    let mut place = 0;
+    for arg in args {
+        next = keep_one(ops, bases, next, picks(which, opcode, place), arg)?;
+        place = add(place, 1)?;
+    }
+    Ok(next)
+}
+
+#[tactic(auto, using(crate::proofs::Lists::append_nothing))]
+fn keep_one(
+    ops: &mut Vec<Op>,
+    bases: Bases,
+    at: usize,
+    take: bool,
+    arg: &TypedArg,
+) -> Result<usize, OutOfMemory>
+    ensures ops { OnOk result (ops.new.items ≡ ops.old.items
+        ++ keep_all_code (frame_of bases) at (taken take (argument arg.now))) }
+    ensures next { IfOk result (λ n. n ≡ past_all at (taken take (argument arg.now))) }
+{
+    match arg {
+        TypedArg::Value(e) => {
+            if take {
+                keep(ops, bases, at, e)
+            } else {
+                Ok(at)
+            }
+        }
+        TypedArg::Text(_) => Ok(at),
+    }
+}

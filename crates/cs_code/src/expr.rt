@@ -1,0 +1,216 @@
+// The code of expressions. Each call appends to `ops`.
+ghost use Rattle.std.specs.Prelude.{◌≡◌, ◌+◌, ◌++◌, IfOk, OnOk};
+ghost use Rattle.cs_meaning.specs.Notes.{past};
+ghost use Rattle.cs_typed.specs.TypedTree.{expression};
+ghost use Rattle.cs_code.specs.inner.Code.{own, code, operand_code, look_code, keep_code};
+ghost use Rattle.cs_code.specs.inner.Code.{kept_code};
+ghost use Rattle.cs_code.specs.inner.Emitted.{frame_of, with_sum, parts_code, parts_past};
+ghost use Rattle.cs_code.specs.inner.Frames.{local_of, direct, spot, kept_reg};
+
+use crate::frame::{Bases, Spot, add, kept_reg, next_of, push, temp};
+use cs_base::{OutOfMemory, Rate};
+use cs_ir::{Act, Op, Operands, Reg};
+use cs_typed::{TypedExpr, TypedPart, Var};
+use cs_words::BinOp;
+
+// The register of a local variable.
+fn local_of(e: &TypedExpr) -> Option<Reg>
+    ensures { result ≡ local_of (expression e.now) }
+{
+    match &e.what {
+        TypedPart::Var(Var::Local(rate, index)) => Some(Reg {
+            rate: *rate,
+            index: *index,
+        }),
+        _ => None,
+    }
+}
+
+// Where a value stands already.
+#[tactic(auto, using(crate::proofs::Nodes::rate_of_part))]
+fn direct(bases: Bases, whole: bool, at: usize, e: &TypedExpr) -> Result<Option<Reg>, OutOfMemory>
+    ensures { IfOk result (λ q. q ≡ direct (frame_of bases) whole at (expression e.now)) }
+{
+    if !whole && e.rate.is_init() {
+        Ok(Some(kept_reg(bases, at)?))
+    } else {
+        Ok(local_of(e))
+    }
+}
+
+// A variable's value into a register.
+fn look(ops: &mut Vec<Op>, v: Var, into: Reg) -> Result<(), OutOfMemory>
+    ensures { OnOk result (ops.new.items ≡ ops.old.items ++ look_code v into) }
+{
+    match v {
+        Var::Local(rate, index) => push(ops, Act::Copy, into, Operands::one(Reg { rate, index })),
+        Var::Global(res) => push(ops, Act::Load(res), into, Operands::none()),
+    }
+}
+
+// The value of an expression that stands nowhere yet, into a register; answers the number of the
+// next kept value.
+#[cycle(expr)]
+fn own(
+    ops: &mut Vec<Op>,
+    bases: Bases,
+    whole: bool,
+    at: usize,
+    e: &TypedExpr,
+    into: Reg,
+    d: usize,
+) -> Result<usize, OutOfMemory>
+    ensures ops { OnOk result (ops.new.items ≡ ops.old.items
+        ++ own (frame_of bases) whole at (expression e.now) into d) }
+    ensures next { IfOk result (λ n. n ≡ past at (expression e.now)) }
+{
+    match &e.what {
+        TypedPart::Number(value) => {
+            push(ops, Act::Const(*value), into, Operands::none())?;
+            next_of(e.rate, at, at)
+        }
+        TypedPart::Var(v) => {
+            look(ops, *v, into)?;
+            next_of(e.rate, at, at)
+        }
+        TypedPart::Field(field) => {
+            push(ops, Act::Field(*field), into, Operands::none())?;
+            next_of(e.rate, at, at)
+        }
+        TypedPart::Head(name) => {
+            push(ops, Act::Head(*name), into, Operands::none())?;
+            next_of(e.rate, at, at)
+        }
+        TypedPart::Neg(a) => {
+            let a = operand(ops, bases, whole, at, a, d)?;
+            push(ops, Act::Neg, into, Operands::one(a.reg))?;
+            next_of(e.rate, at, a.next)
+        }
+        TypedPart::Pair(op, a, b) => {
+            let a = operand(ops, bases, whole, at, a, d)?;
+            let b = operand(ops, bases, whole, a.next, b, add(d, 1)?)?;
+            push(ops, Act::Pair(*op), into, Operands::two(a.reg, b.reg))?;
+            next_of(e.rate, at, b.next)
+        }
+        TypedPart::Pick(c, a, b) => {
+            let second = add(d, 1)?;
+            let c = operand(ops, bases, whole, at, c, d)?;
+            let a = operand(ops, bases, whole, c.next, a, second)?;
+            let b = operand(ops, bases, whole, a.next, b, add(second, 1)?)?;
+            push(ops, Act::Pick, into, Operands::three(c.reg, a.reg, b.reg))?;
+            next_of(e.rate, at, b.next)
+        }
+        TypedPart::Call(func, a) => {
+            let a = operand(ops, bases, whole, at, a, d)?;
+            push(ops, Act::Call(*func), into, Operands::one(a.reg))?;
+            next_of(e.rate, at, a.next)
+        }
+    }
+}
+
+/// What makes the value of an expression stand somewhere: nothing, or its code into the temporary
+/// `d` of its rate.
+#[cycle(expr)]
+#[tactic(auto, using(crate::proofs::Nodes::rate_of_part, crate::proofs::Nodes::there_code, crate::proofs::Nodes::there_spot, crate::proofs::Nodes::there_past, crate::proofs::Nodes::made_code, crate::proofs::Nodes::made_spot,))]
+pub fn operand(
+    ops: &mut Vec<Op>,
+    bases: Bases,
+    whole: bool,
+    at: usize,
+    e: &TypedExpr,
+    d: usize,
+) -> Result<Spot, OutOfMemory>
+    ensures ops { OnOk result (ops.new.items ≡ ops.old.items
+        ++ operand_code (frame_of bases) whole at (expression e.now) d) }
+    ensures spot { IfOk result (λ s. s.reg ≡ spot (frame_of bases) whole at (expression e.now) d) }
+    ensures next { IfOk result (λ s. s.next ≡ past at (expression e.now)) }
+{
+    match direct(bases, whole, at, e)? {
+        Some(reg) => Ok(Spot {
+            reg,
+            next: next_of(e.rate, at, at)?,
+        }),
+        None => {
+            let reg = temp(bases, e.rate, d)?;
+            let next = own(ops, bases, whole, at, e, reg, add(d, 1)?)?;
+            Ok(Spot { reg, next })
+        }
+    }
+}
+
+/// The value of an expression into a register, by a copy where it stands already.
+#[tactic(auto, using(crate::proofs::Nodes::rate_of_part, crate::proofs::Nodes::there_copied, crate::proofs::Nodes::made_copied, crate::proofs::Nodes::there_past,))]
+pub fn code(
+    ops: &mut Vec<Op>,
+    bases: Bases,
+    whole: bool,
+    at: usize,
+    e: &TypedExpr,
+    into: Reg,
+) -> Result<usize, OutOfMemory>
+    ensures ops { OnOk result (ops.new.items ≡ ops.old.items
+        ++ code (frame_of bases) whole at (expression e.now) into 0) }
+    ensures next { IfOk result (λ n. n ≡ past at (expression e.now)) }
+{
+    match direct(bases, whole, at, e)? {
+        Some(reg) => {
+            push(ops, Act::Copy, into, Operands::one(reg))?;
+            next_of(e.rate, at, at)
+        }
+        None => own(ops, bases, whole, at, e, into, 0),
+    }
+}
+
+// An expression that doesn't change is worked out as a whole and kept.
+fn kept(ops: &mut Vec<Op>, bases: Bases, at: usize, e: &TypedExpr) -> Result<usize, OutOfMemory>
+    ensures ops { OnOk result (ops.new.items ≡ ops.old.items
+        ++ kept_code (frame_of bases) at (expression e.now)) }
+    ensures next { IfOk result (λ n. n ≡ at + 1) }
+{
+    code(ops, bases, true, 0, e, kept_reg(bases, at)?)?;
+    add(at, 1)
+}
+
+/// The outermost parts that don't change, each into its register; answers the number of the next
+/// kept value.
+#[cycle(keep)]
+#[tactic(auto, using(crate::proofs::Nodes::rate_of_part, crate::proofs::Nodes::keep_splits, crate::proofs::Nodes::past_splits,))]
+pub fn keep(ops: &mut Vec<Op>, bases: Bases, at: usize, e: &TypedExpr) -> Result<usize, OutOfMemory>
+    ensures ops { OnOk result (ops.new.items ≡ ops.old.items
+        ++ keep_code (frame_of bases) at (expression e.now)) }
+    ensures next { IfOk result (λ n. n ≡ past at (expression e.now)) }
+{
+    match e.rate {
+        Rate::Init => kept(ops, bases, at, e),
+        Rate::Control | Rate::Audio => keep_parts(ops, bases, at, e),
+    }
+}
+
+// Those of the parts of an expression that changes.
+#[cycle(keep)]
+fn keep_parts(
+    ops: &mut Vec<Op>,
+    bases: Bases,
+    at: usize,
+    e: &TypedExpr,
+) -> Result<usize, OutOfMemory>
+    ensures ops { OnOk result (ops.new.items ≡ ops.old.items
+        ++ parts_code (frame_of bases) at (expression e.now)) }
+    ensures next { IfOk result (λ n. n ≡ parts_past at (expression e.now)) }
+{
+    match &e.what {
+        TypedPart::Number(_) | TypedPart::Var(_) | TypedPart::Field(_) | TypedPart::Head(_) => {
+            Ok(at)
+        }
+        TypedPart::Neg(a) | TypedPart::Call(_, a) => keep(ops, bases, at, a),
+        TypedPart::Pair(_, a, b) => {
+            let next = keep(ops, bases, at, a)?;
+            keep(ops, bases, next, b)
+        }
+        TypedPart::Pick(c, a, b) => {
+            let next = keep(ops, bases, at, c)?;
+            let next = keep(ops, bases, next, a)?;
+            keep(ops, bases, next, b)
+        }
+    }
+}

@@ -1,0 +1,30 @@
+//! The code of notes: from the typed tree two flat codes for each instrument, one that a note runs as it begins and one for
+//! each control cycle.
+//!
+//! Its one contract is `lower`'s: for each number in the text one instrument, whose codes mean the tree (specs/Means.antt) in
+//! every piece, use and write what it does, and are valid (specs/Lowered.antt). Which ops are made is the crate's own
+//! (specs/inner/Code.antt) and may be changed without anyone above noticing.
+//!
+//! To be read in this order: `frame` (where values stand among the registers), `expr` and `value` (expressions), `args`,
+//! `reach` and `unit` (calls of units), `init` and `perf` (simple statements in either pass), `call` (what a call is short
+//! for), `pieces` (arms that are joined), `stmt` (statements, blocks, arms), `census` (local variables), `counts`
+//! (registers in use), `codes` (both codes of a block), `orchestra` (`lower`: codes checked, and instruments by number).
+#![tactic(auto)]
+
+mod args;
+mod call;
+mod census;
+mod codes;
+mod counts;
+mod expr;
+mod frame;
+mod init;
+mod orchestra;
+mod perf;
+mod pieces;
+mod reach;
+mod stmt;
+mod unit;
+mod value;
+
+pub use orchestra::{Lowered, lower};

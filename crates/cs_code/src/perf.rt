@@ -1,0 +1,165 @@
+// The performance of simple statements.
+ghost use Rattle.std.specs.Prelude.{◌≡◌, ◌++◌, [], ◌∷◌, map, IfOk, OnOk};
+ghost use Rattle.cs_base.specs.declared.resource.Rate.TheVariants as rate;
+ghost use Rattle.cs_ir.specs.declared.op.Act.TheVariants as act;
+ghost use Rattle.cs_meaning.specs.Core.{set, unit, out, out_at};
+ghost use Rattle.cs_meaning.specs.Notes.{reg, past_stmt};
+ghost use Rattle.cs_typed.specs.TypedTree.{argument, expression};
+ghost use Rattle.cs_words.specs.Catalogue.{row_of};
+ghost use Rattle.cs_code.specs.declared.args.Which.TheVariants as which;
+ghost use Rattle.cs_code.specs.inner.Code.{perf_code, out_ops, out_at_ops};
+ghost use Rattle.cs_code.specs.inner.Emitted.{frame_of, place_of, with_sum, picked};
+ghost use Rattle.cs_code.specs.inner.Frames.{op_of};
+
+use crate::args::{Which, operands};
+use crate::frame::{Bases, Step, add, push};
+use crate::unit::{Run, run_unit};
+use crate::value::set;
+use cs_base::{OutOfMemory, Rate};
+use cs_ir::{Act, Op, Operands, Reg};
+use cs_typed::{TypedArg, TypedExpr, Var};
+use cs_words::Opcode;
+use std::alloc::Global;
+
+/// A variable takes a value in each cycle.
+pub fn assign(
+    ops: &mut Vec<Op>,
+    bases: Bases,
+    p: Step,
+    done: Rate,
+    to: Var,
+    rate: Rate,
+    plus: Option<Var>,
+    e: &TypedExpr,
+) -> Result<Step, OutOfMemory>
+    ensures ops { OnOk result (ops.new.items ≡ ops.old.items
+        ++ perf_code (frame_of bases) 0 (place_of p) (set done to (with_sum rate plus
+        (expression e.now)))) }
+    ensures next { IfOk result (λ q. place_of q
+        ≡ past_stmt (place_of p) (set done to (with_sum rate plus (expression e.now)))) }
+{
+    match done {
+        Rate::Init => Ok(p),
+        Rate::Control | Rate::Audio => Ok(Step {
+            part: set(ops, bases, false, p.part, to, rate, plus, e)?,
+            unit: p.unit,
+        }),
+    }
+}
+
+/// A unit runs in each cycle.
+pub fn unit(
+    alloc: Global,
+    ops: &mut Vec<Op>,
+    bases: Bases,
+    p: Step,
+    run: Run,
+    results: &[Var],
+    args: &[TypedArg],
+) -> Result<Step, OutOfMemory>
+    requires { run.unit ≡ p.unit }
+    ensures ops { OnOk result (ops.new.items ≡ ops.old.items
+        ++ perf_code (frame_of bases) 0 (place_of p) (unit run.rate results.now run.opcode run.reach
+        (picked which.Moving (row_of run.opcode) 0 (map argument args.now)) [])) }
+    ensures next { IfOk result (λ q. place_of q
+        ≡ past_stmt (place_of p) (unit run.rate results.now run.opcode run.reach
+        (picked which.Moving (row_of run.opcode) 0 (map argument args.now)) [])) }
+{
+    let unit = add(p.unit, 1)?;
+    match run.rate {
+        Rate::Init => Ok(Step { part: p.part, unit }),
+        Rate::Control | Rate::Audio => {
+            let part = run_unit(alloc, ops, bases, false, p.part, run, results, args)?;
+            Ok(Step { part, unit })
+        }
+    }
+}
+
+// Values to the channels from one on.
+fn out_ops(ops: &mut Vec<Op>, regs: &[Reg]) -> Result<(), OutOfMemory>
+    ensures { OnOk result (ops.new.items ≡ ops.old.items ++ out_ops 0 regs.now) }
+{
+    let mut channel = 0;
+    for reg in regs {
+        push(ops, Act::Out(channel), *reg, Operands::one(*reg))?;
+        channel = add(channel, 1)?;
+    }
+    Ok(())
+}
+
+// Pairs of a channel's number and a value for it.
+fn out_at_ops(ops: &mut Vec<Op>, regs: &[Reg]) -> Result<(), OutOfMemory>
+    ensures { OnOk result (ops.new.items ≡ ops.old.items ++ out_at_ops regs.now) }
+{
+    let mut channel = None;
+    for reg in regs {
+        channel = match channel {
+            None => Some(*reg),
+            Some(number) => {
+                push(ops, Act::OutAt, *reg, Operands::two(number, *reg))?;
+                None
+            }
+        };
+    }
+    Ok(())
+}
+
+/// Values go out, to the channels from the first on.
+pub fn out(
+    alloc: Global,
+    ops: &mut Vec<Op>,
+    bases: Bases,
+    p: Step,
+    opcode: Opcode,
+    args: &[TypedArg],
+) -> Result<Step, OutOfMemory>
+    ensures ops { OnOk result (ops.new.items ≡ ops.old.items
+        ++ perf_code (frame_of bases) 0 (place_of p) (out rate.Audio (picked which.All
+        (row_of opcode) 0 (map argument args.now)))) }
+    ensures next { IfOk result (λ q. place_of q
+        ≡ past_stmt (place_of p) (out rate.Audio (picked which.All (row_of opcode) 0
+        (map argument args.now)))) }
+{
+    let found = operands(alloc, ops, bases, false, p.part, Which::All, opcode, args)?;
+    out_ops(ops, &found.regs)?;
+    Ok(Step {
+        part: found.next,
+        unit: p.unit,
+    })
+}
+
+/// Values go out, each to the channel of its number.
+pub fn out_at(
+    alloc: Global,
+    ops: &mut Vec<Op>,
+    bases: Bases,
+    p: Step,
+    opcode: Opcode,
+    args: &[TypedArg],
+) -> Result<Step, OutOfMemory>
+    ensures ops { OnOk result (ops.new.items ≡ ops.old.items
+        ++ perf_code (frame_of bases) 0 (place_of p) (out_at rate.Audio (picked which.All
+        (row_of opcode) 0 (map argument args.now)))) }
+    ensures next { IfOk result (λ q. place_of q
+        ≡ past_stmt (place_of p) (out_at rate.Audio (picked which.All (row_of opcode) 0
+        (map argument args.now)))) }
+{
+    let found = operands(alloc, ops, bases, false, p.part, Which::All, opcode, args)?;
+    out_at_ops(ops, &found.regs)?;
+    Ok(Step {
+        part: found.next,
+        unit: p.unit,
+    })
+}
+
+/// Ends the note with this cycle.
+pub fn turnoff(ops: &mut Vec<Op>) -> Result<(), OutOfMemory>
+    ensures { OnOk result (ops.new.items ≡ ops.old.items
+        ++ op_of act.Turnoff (reg rate.Init 0) [] ∷ []) }
+{
+    let into = Reg {
+        rate: Rate::Init,
+        index: 0,
+    };
+    push(ops, Act::Turnoff, into, Operands::none())
+}

@@ -1,0 +1,169 @@
+// Which tables, or which zak places, a unit may touch, by the literals among its arguments.
+ghost use Rattle.std.specs.Prelude.{◌≡◌, map, IfOk};
+ghost use Rattle.cs_ir.specs.Resources.{places_of, takes_table};
+ghost use Rattle.cs_meaning.specs.Core.{whole_below, reach_of, table_reach, place_reach};
+ghost use Rattle.cs_meaning.specs.Core.{span_reach};
+ghost use Rattle.cs_typed.specs.TypedTree.{argument, expression};
+ghost use Rattle.cs_words.specs.Catalogue.{row_of};
+ghost use Rattle.cs_code.specs.declared.args.Which.TheVariants as which;
+ghost use Rattle.cs_code.specs.inner.Emitted.{spaces_of, picked, known_at, known_of, table_known};
+ghost use Rattle.cs_code.specs.inner.Emitted.{place_known, span_known, reach_known};
+ghost use Rattle.std.specs.Prelude.{if◌then◌else◌};
+ghost use Rattle.cs_ir.specs.declared.op.Reach.TheVariants as reach;
+
+use crate::args::{Which, picks};
+use crate::frame::{Zak, add};
+use cs_base::{Num, OutOfMemory};
+use cs_ir::Reach;
+use cs_typed::{TypedArg, TypedExpr, TypedPart};
+use cs_words::{Opcode, Shape, Space, signature_of};
+
+/// What is known of an argument: nothing where there is none, and of a literal the whole number
+/// below it.
+#[derive(Clone, Copy)]
+pub enum Known {
+    Missing,
+    Literal(usize),
+    Other,
+}
+
+/// What a unit may touch.
+#[tactic(auto, using(crate::proofs::Reaches::reach_by_known))]
+pub fn reach_of(zak: Zak, opcode: Opcode, args: &[TypedArg]) -> Result<Reach, OutOfMemory>
+    ensures { IfOk result (λ r. r ≡ reach_of (spaces_of zak) (row_of opcode).shape
+        (takes_table opcode)
+        (picked which.Moving (row_of opcode) 0 (map argument args.now)) (picked which.Settled
+        (row_of opcode) 0 (map argument args.now))) }
+{
+    let table = known_at(Which::Settled, opcode, args, 0)?;
+    let first = known_at(Which::Moving, opcode, args, 0)?;
+    let second = known_at(Which::Moving, opcode, args, 1)?;
+    Ok(reach_by(zak, opcode, table, first, second))
+}
+
+// What a unit may touch, by what is known of its first settled argument and of its first two that
+// may move.
+fn reach_by(zak: Zak, opcode: Opcode, table: Known, first: Known, second: Known) -> Reach
+    ensures { result ≡ reach_known (spaces_of zak) (row_of opcode).shape
+        (takes_table opcode) table first second }
+{
+    match signature_of(opcode).shape() {
+        Shape::Unit => if_table(opcode, table),
+        Shape::Store => table_of(table),
+        Shape::ZakGet(space) => place_of(places_of(zak, space), first),
+        Shape::ZakPut(space) => place_of(places_of(zak, space), second),
+        Shape::ZakMix => place_of(zak.audio, second),
+        Shape::ZakClear(space) => span_of(places_of(zak, space), first, second),
+        _ => Reach::Nothing,
+    }
+}
+
+fn if_table(opcode: Opcode, table: Known) -> Reach
+    ensures { result ≡ (if takes_table opcode then table_known table else reach.Nothing) }
+{
+    if takes_table(opcode) {
+        table_of(table)
+    } else {
+        Reach::Nothing
+    }
+}
+
+// Whether a table's number is among the arguments.
+fn takes_table(opcode: Opcode) -> bool
+    ensures { result ≡ takes_table opcode }
+{
+    matches!(
+        opcode,
+        Opcode::Oscil | Opcode::Oscili | Opcode::Table | Opcode::Tablei | Opcode::Tablew
+    )
+}
+
+fn places_of(zak: Zak, space: Space) -> usize
+    ensures { result ≡ places_of (spaces_of zak) space }
+{
+    match space {
+        Space::Control => zak.control,
+        Space::Audio => zak.audio,
+    }
+}
+
+fn table_of(table: Known) -> Reach
+    ensures { result ≡ table_known table }
+{
+    match table {
+        Known::Literal(n) => Reach::Span(n, n),
+        Known::Missing | Known::Other => Reach::Any,
+    }
+}
+
+fn place_of(places: usize, place: Known) -> Reach
+    ensures { result ≡ place_known places place }
+{
+    match place {
+        Known::Literal(n) => if n < places {
+            Reach::Span(n, n)
+        } else {
+            Reach::Nothing
+        },
+        Known::Other => Reach::Any,
+        Known::Missing => Reach::Nothing,
+    }
+}
+
+fn span_of(places: usize, first: Known, last: Known) -> Reach
+    ensures { result ≡ span_known places first last }
+{
+    match (first, last) {
+        (Known::Literal(n), Known::Literal(m)) => {
+            if n < places && n <= m {
+                Reach::Span(n, m.min(places - 1))
+            } else {
+                Reach::Nothing
+            }
+        }
+        (_, Known::Missing) => Reach::Nothing,
+        _ => Reach::Any,
+    }
+}
+
+// What is known of one of the arguments that are picked, counted from 0.
+fn known_at(
+    which: Which,
+    opcode: Opcode,
+    args: &[TypedArg],
+    number: usize,
+) -> Result<Known, OutOfMemory>
+    ensures { IfOk result (λ k. k ≡ known_at (picked which (row_of opcode) 0
+        (map argument args.now)) number) }
+{
+    let mut left = number;
+    let mut place = 0;
+    for arg in args {
+        if let TypedArg::Value(e) = arg {
+            if picks(which, opcode, place) {
+                if left == 0 {
+                    return Ok(known_of(e));
+                }
+                left -= 1;
+            }
+        }
+        place = add(place, 1)?;
+    }
+    Ok(Known::Missing)
+}
+
+fn known_of(e: &TypedExpr) -> Known
+    ensures { result ≡ known_of (expression e.now) }
+{
+    match &e.what {
+        TypedPart::Number(value) => Known::Literal(whole_below(*value)),
+        _ => Known::Other,
+    }
+}
+
+// The whole number below a literal.
+fn whole_below(value: Num) -> usize
+    ensures { result ≡ whole_below value }
+{
+    value.raw().div_euclid(65536).unsigned_abs() as usize
+}

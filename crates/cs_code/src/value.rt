@@ -1,0 +1,295 @@
+// The code of a value that a variable takes: an expression, or the sum of what a variable has and
+// an expression.
+ghost use Rattle.std.specs.Prelude.{◌≡◌, ◌+◌, ◌++◌, IfOk, OnOk, None};
+ghost use Rattle.cs_meaning.specs.Core.{plus};
+ghost use Rattle.cs_meaning.specs.Notes.{past};
+ghost use Rattle.cs_typed.specs.TypedTree.{expression, var};
+ghost use Rattle.cs_typed.specs.WellRated.{node_rate};
+ghost use Rattle.cs_typed.specs.declared.tree.Var.TheVariants.{Local};
+ghost use Rattle.cs_code.specs.inner.Code.{own, code, operand_code, keep_code, kept_code, set_code};
+ghost use Rattle.cs_code.specs.inner.Emitted.{frame_of, with_sum};
+ghost use Rattle.cs_code.specs.inner.Frames.{kept_or, spot};
+
+use crate::expr::{code, keep, operand};
+use crate::frame::{Bases, Spot, add, kept_reg, next_of, push, temp};
+use cs_base::{OutOfMemory, Rate};
+use cs_ir::{Act, Op, Operands, Reg};
+use cs_typed::{TypedExpr, TypedPart, Var};
+use cs_words::BinOp;
+
+// What makes a variable's value stand somewhere.
+fn variable(
+    ops: &mut Vec<Op>,
+    bases: Bases,
+    whole: bool,
+    at: usize,
+    rate: Rate,
+    v: Var,
+    d: usize,
+) -> Result<Spot, OutOfMemory>
+    ensures ops { OnOk result (ops.new.items ≡ ops.old.items
+        ++ operand_code (frame_of bases) whole at (var rate v) d) }
+    ensures spot { IfOk result (λ s. s.reg ≡ spot (frame_of bases) whole at (var rate v) d) }
+    ensures next { IfOk result (λ s. s.next ≡ past at (var rate v)) }
+{
+    let e = TypedExpr {
+        rate,
+        what: TypedPart::Var(v),
+    };
+    operand(ops, bases, whole, at, &e, d)
+}
+
+// A sum that stands nowhere yet, into a register.
+fn sum_own(
+    ops: &mut Vec<Op>,
+    bases: Bases,
+    whole: bool,
+    at: usize,
+    rate: Rate,
+    v: Var,
+    e: &TypedExpr,
+    into: Reg,
+    d: usize,
+) -> Result<usize, OutOfMemory>
+    ensures ops { OnOk result (ops.new.items ≡ ops.old.items
+        ++ own (frame_of bases) whole at (plus rate v (expression e.now)) into d) }
+    ensures next { IfOk result (λ n. n ≡ past at (plus rate v (expression e.now))) }
+{
+    let x = variable(ops, bases, whole, at, rate, v, d)?;
+    let y = operand(ops, bases, whole, x.next, e, add(d, 1)?)?;
+    push(
+        ops,
+        Act::Pair(BinOp::Add),
+        into,
+        Operands::two(x.reg, y.reg),
+    )?;
+    next_of(rate, at, y.next)
+}
+
+// Where a sum stands already: where it was kept.
+fn sum_direct(bases: Bases, whole: bool, rate: Rate, at: usize) -> Result<Option<Reg>, OutOfMemory>
+    ensures { IfOk result (λ q. q ≡ kept_or (frame_of bases) whole rate at None) }
+{
+    if !whole && rate.is_init() {
+        Ok(Some(kept_reg(bases, at)?))
+    } else {
+        Ok(None)
+    }
+}
+
+#[tactic(auto, using(crate::proofs::Nodes::there_code, crate::proofs::Nodes::there_spot, crate::proofs::Nodes::there_past, crate::proofs::Nodes::made_code, crate::proofs::Nodes::made_spot,))]
+fn sum_operand(
+    ops: &mut Vec<Op>,
+    bases: Bases,
+    whole: bool,
+    at: usize,
+    rate: Rate,
+    v: Var,
+    e: &TypedExpr,
+) -> Result<Spot, OutOfMemory>
+    ensures ops { OnOk result (ops.new.items ≡ ops.old.items
+        ++ operand_code (frame_of bases) whole at (plus rate v (expression e.now)) 0) }
+    ensures spot { IfOk result (λ s. s.reg ≡ spot (frame_of bases) whole at (plus rate v
+        (expression e.now)) 0) }
+    ensures next { IfOk result (λ s. s.next ≡ past at (plus rate v (expression e.now))) }
+{
+    match sum_direct(bases, whole, rate, at)? {
+        Some(reg) => Ok(Spot {
+            reg,
+            next: next_of(rate, at, at)?,
+        }),
+        None => {
+            let reg = temp(bases, rate, 0)?;
+            let next = sum_own(ops, bases, whole, at, rate, v, e, reg, add(0, 1)?)?;
+            Ok(Spot { reg, next })
+        }
+    }
+}
+
+#[tactic(auto, using(crate::proofs::Nodes::there_copied, crate::proofs::Nodes::made_copied, crate::proofs::Nodes::there_past,))]
+fn sum_code(
+    ops: &mut Vec<Op>,
+    bases: Bases,
+    whole: bool,
+    at: usize,
+    rate: Rate,
+    v: Var,
+    e: &TypedExpr,
+    into: Reg,
+) -> Result<usize, OutOfMemory>
+    ensures ops { OnOk result (ops.new.items ≡ ops.old.items
+        ++ code (frame_of bases) whole at (plus rate v (expression e.now)) into 0) }
+    ensures next { IfOk result (λ n. n ≡ past at (plus rate v (expression e.now))) }
+{
+    match sum_direct(bases, whole, rate, at)? {
+        Some(reg) => {
+            push(ops, Act::Copy, into, Operands::one(reg))?;
+            next_of(rate, at, at)
+        }
+        None => sum_own(ops, bases, whole, at, rate, v, e, into, 0),
+    }
+}
+
+fn sum_kept(
+    ops: &mut Vec<Op>,
+    bases: Bases,
+    at: usize,
+    rate: Rate,
+    v: Var,
+    e: &TypedExpr,
+) -> Result<usize, OutOfMemory>
+    ensures ops { OnOk result (ops.new.items ≡ ops.old.items
+        ++ kept_code (frame_of bases) at (plus rate v (expression e.now))) }
+    ensures next { IfOk result (λ n. n ≡ at + 1) }
+{
+    sum_code(ops, bases, true, 0, rate, v, e, kept_reg(bases, at)?)?;
+    add(at, 1)
+}
+
+// The kept parts of a sum.
+fn sum_keep(
+    ops: &mut Vec<Op>,
+    bases: Bases,
+    at: usize,
+    rate: Rate,
+    v: Var,
+    e: &TypedExpr,
+) -> Result<usize, OutOfMemory>
+    ensures ops { OnOk result (ops.new.items ≡ ops.old.items
+        ++ keep_code (frame_of bases) at (plus rate v (expression e.now))) }
+    ensures next { IfOk result (λ n. n ≡ past at (plus rate v (expression e.now))) }
+{
+    match rate {
+        Rate::Init => sum_kept(ops, bases, at, rate, v, e),
+        Rate::Control | Rate::Audio => keep(ops, bases, at, e),
+    }
+}
+
+/// The kept parts of a value; answers the number of the next kept value.
+pub fn keep_value(
+    ops: &mut Vec<Op>,
+    bases: Bases,
+    at: usize,
+    rate: Rate,
+    plus: Option<Var>,
+    e: &TypedExpr,
+) -> Result<usize, OutOfMemory>
+    ensures ops { OnOk result (ops.new.items ≡ ops.old.items
+        ++ keep_code (frame_of bases) at (with_sum rate plus (expression e.now))) }
+    ensures next { IfOk result (λ n. n ≡ past at (with_sum rate plus (expression e.now))) }
+{
+    match plus {
+        None => keep(ops, bases, at, e),
+        Some(v) => sum_keep(ops, bases, at, rate, v, e),
+    }
+}
+
+// How often a value changes.
+#[tactic(auto, using(crate::proofs::Nodes::rate_of_part))]
+fn rate_of(rate: Rate, plus: Option<Var>, e: &TypedExpr) -> Rate
+    ensures { result ≡ node_rate (with_sum rate plus (expression e.now)) }
+{
+    match plus {
+        None => e.rate,
+        Some(_) => rate,
+    }
+}
+
+fn value_operand(
+    ops: &mut Vec<Op>,
+    bases: Bases,
+    whole: bool,
+    at: usize,
+    rate: Rate,
+    plus: Option<Var>,
+    e: &TypedExpr,
+) -> Result<Spot, OutOfMemory>
+    ensures ops { OnOk result (ops.new.items ≡ ops.old.items
+        ++ operand_code (frame_of bases) whole at (with_sum rate plus (expression e.now)) 0) }
+    ensures spot { IfOk result (λ s. s.reg ≡ spot (frame_of bases) whole at (with_sum rate plus
+        (expression e.now)) 0) }
+    ensures next { IfOk result (λ s. s.next ≡ past at (with_sum rate plus (expression e.now))) }
+{
+    match plus {
+        None => operand(ops, bases, whole, at, e, 0),
+        Some(v) => sum_operand(ops, bases, whole, at, rate, v, e),
+    }
+}
+
+fn value_code(
+    ops: &mut Vec<Op>,
+    bases: Bases,
+    whole: bool,
+    at: usize,
+    rate: Rate,
+    plus: Option<Var>,
+    e: &TypedExpr,
+    into: Reg,
+) -> Result<usize, OutOfMemory>
+    ensures ops { OnOk result (ops.new.items ≡ ops.old.items
+        ++ code (frame_of bases) whole at (with_sum rate plus (expression e.now)) into 0) }
+    ensures next { IfOk result (λ n. n ≡ past at (with_sum rate plus (expression e.now))) }
+{
+    match plus {
+        None => code(ops, bases, whole, at, e, into),
+        Some(v) => sum_code(ops, bases, whole, at, rate, v, e, into),
+    }
+}
+
+/// A variable takes a value; answers the number of the next kept value.
+pub fn set(
+    ops: &mut Vec<Op>,
+    bases: Bases,
+    whole: bool,
+    at: usize,
+    to: Var,
+    rate: Rate,
+    plus: Option<Var>,
+    e: &TypedExpr,
+) -> Result<usize, OutOfMemory>
+    ensures ops { OnOk result (ops.new.items ≡ ops.old.items
+        ++ set_code (frame_of bases) whole at to (with_sum rate plus (expression e.now))) }
+    ensures next { IfOk result (λ n. n ≡ past at (with_sum rate plus (expression e.now))) }
+{
+    match to {
+        Var::Local(own, index) => set_local(
+            ops,
+            bases,
+            whole,
+            at,
+            Reg { rate: own, index },
+            rate,
+            plus,
+            e,
+        ),
+        Var::Global(res) => {
+            let spot = value_operand(ops, bases, whole, at, rate, plus, e)?;
+            push(ops, Act::Save(res), spot.reg, Operands::one(spot.reg))?;
+            Ok(spot.next)
+        }
+    }
+}
+
+fn set_local(
+    ops: &mut Vec<Op>,
+    bases: Bases,
+    whole: bool,
+    at: usize,
+    to: Reg,
+    rate: Rate,
+    plus: Option<Var>,
+    e: &TypedExpr,
+) -> Result<usize, OutOfMemory>
+    ensures ops { OnOk result (ops.new.items ≡ ops.old.items
+        ++ set_code (frame_of bases) whole at (Local to.rate to.index) (with_sum rate plus
+        (expression e.now))) }
+    ensures next { IfOk result (λ n. n ≡ past at (with_sum rate plus (expression e.now))) }
+{
+    if rate_of(rate, plus, e).same(to.rate) {
+        value_code(ops, bases, whole, at, rate, plus, e, to)
+    } else {
+        let spot = value_operand(ops, bases, whole, at, rate, plus, e)?;
+        push(ops, Act::Copy, to, Operands::one(spot.reg))?;
+        Ok(spot.next)
+    }
+}
