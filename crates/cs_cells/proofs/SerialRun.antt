@@ -1,5 +1,5 @@
 -- What follows from the frame law alone, for any kind of job.
-use Rattle.std.proofs.Common.{◌≡◌, ℕ, zero, suc, ◌+◌, ◌-◌, ◌<◌, ◌≤◌, List, [], ◌∷◌, length, slice_get, Some, refl, sym, ◌∙◌, ap, subst, arith}
+use Rattle.std.proofs.Common.{◌≡◌, ℕ, zero, suc, ◌+◌, ◌-◌, ◌<◌, ◌≤◌, List, [], ◌∷◌, map, length, slice_get, Some, refl, sym, ◌∙◌, ap, subst, arith}
 use Rattle.cs_cells.specs.Cells.{Cells, cell, Agree}
 use Rattle.cs_cells.specs.Meaning.{Meaning, Frames, Uses, Writes}
 use Rattle.cs_cells.specs.Serial.{serial_cells, serial_jobs, before, AllValid, IsQuiet, LastWriter, AsSerial}
@@ -28,6 +28,19 @@ module _ {J : Type 0} (M : Meaning J) (F : Frames M) where
   length-before js c zero = refl
   length-before [] c (suc t) = refl
   length-before (x ∷ js) c (suc t) = length-before js (M.leaves x c) t ∙ F.long x c
+
+  -- a serial run leaves the footprints and the areas of its jobs, and the number of cells
+  pub foot-serial_jobs : (js : List J) (c : Cells) → map M.foot (serial_jobs M js c) ≡ map M.foot js
+  foot-serial_jobs [] c = refl
+  foot-serial_jobs (x ∷ js) c = ap (λ f. f ∷ map M.foot (serial_jobs M js (M.leaves x c))) (F.foot_after x c) ∙ ap (λ fs. M.foot x ∷ fs) (foot-serial_jobs js (M.leaves x c))
+
+  pub areas-serial_jobs : (js : List J) (c : Cells) → map M.areas (serial_jobs M js c) ≡ map M.areas js
+  areas-serial_jobs [] c = refl
+  areas-serial_jobs (x ∷ js) c = ap (λ f. f ∷ map M.areas (serial_jobs M js (M.leaves x c))) (F.areas_after x c) ∙ ap (λ fs. M.areas x ∷ fs) (areas-serial_jobs js (M.leaves x c))
+
+  pub length-serial_cells : (js : List J) (c : Cells) → length (serial_cells M js c) ≡ length c
+  length-serial_cells [] c = refl
+  length-serial_cells (x ∷ js) c = length-serial_cells js (M.leaves x c) ∙ F.long x c
 
   -- a job that does not write a cell leaves it
   pub passed_by : (js : List J) (c : Cells) → AllValid M js → (t a : ℕ) → ((j : J) → slice_get js t ≡ Some j → ¬ (Writes M j a))

@@ -1,4 +1,4 @@
-use Rattle.std.specs.Prelude.{◌≡◌, ℕ, List, length, true}
+use Rattle.std.specs.Prelude.{◌≡◌, ◌||◌, ℕ, List, length, true}
 use Rattle.cs_cells.specs.declared.footprint.Area.{Area}
 use Rattle.cs_cells.specs.declared.footprint.Footprint.{Footprint}
 use Rattle.cs_cells.specs.Cells.{Cells, cell, covers, Agree}
@@ -12,9 +12,9 @@ pub record Meaning (J : Type 0) : Type 1 where
   pub valid : J → Type 0
 
 module _ {J : Type 0} (M : Meaning J) where
-  -- the job's footprint has the cell's resource among those used
+  -- the job's footprint has the cell's resource among those used or written: whatever is written counts as used
   abbrev pub Uses : J → ℕ → Type 0
-  Uses j a = covers (M.areas j) (M.foot j).uses a ≡ true
+  Uses j a = (covers (M.areas j) (M.foot j).uses a || covers (M.areas j) (M.foot j).writes a) ≡ true
 
   -- the job's footprint has the cell's resource among those written
   abbrev pub Writes : J → ℕ → Type 0

@@ -1,4 +1,4 @@
-use cs_base::{Items, Places, Res};
+use cs_base::{Places, Res};
 
 /// A resource's cells in a layout: `length` cells from the address `first` on.
 #[derive(Clone, Copy, Debug, PartialEq, Eq)]
@@ -9,12 +9,9 @@ pub struct Area {
 }
 
 /// What a note may touch, as places of areas in a layout, ascending, each once. Whatever is written
-/// is also used.
+/// counts as used.
 #[derive(Debug, Drop)]
 pub struct Footprint {
     pub uses: Places,
     pub writes: Places,
 }
-
-/// The footprints of a list of notes, in the notes' order.
-pub type Feet = Items<Footprint>;

@@ -15,7 +15,7 @@ use std::marker::Model;
 #[derive(Drop)]
 pub struct Layout {
     areas: Vec<Area>,
-    keys: IndexSet<(u8, u32)>,
+    keys: IndexSet<(u8, usize)>,
     words: u32,
 }
 
@@ -111,7 +111,7 @@ fn end_of(area: Area) -> u64
     u64::from(area.first) + u64::from(area.length)
 }
 
-fn key_of(res: Res) -> (u8, u32)
+fn key_of(res: Res) -> (u8, usize)
     ensures { result ≡ key res }
 {
     (res.kind(), res.number())
@@ -125,7 +125,7 @@ fn passed(limit: Limit) -> Or<LimitHit>
 }
 
 /// The resources by number, each at the place of its area.
-fn index(alloc: Global, areas: &[Area]) -> Result<IndexSet<(u8, u32)>, AllocFailed<(u8, u32)>>
+fn index(alloc: Global, areas: &[Area]) -> Result<IndexSet<(u8, usize)>, AllocFailed<(u8, usize)>>
     requires { IsLaid areas.now }
     ensures { IfOk result (λ s. s.keys ≡ keys_of areas.now) }
 {

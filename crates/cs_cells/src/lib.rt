@@ -20,7 +20,7 @@ mod serial;
 
 pub use bank::{Bank, PlainBank};
 pub use examples::layout_examples;
-pub use footprint::{Area, Feet, Footprint};
+pub use footprint::{Area, Footprint};
 pub use job::Job;
 pub use layout::Layout;
 pub use serial::{run_all, serial_laws};

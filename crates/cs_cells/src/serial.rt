@@ -1,5 +1,5 @@
 // Jobs that run one after another, and what follows from the frame law alone.
-ghost use Rattle.std.specs.Prelude.{◌≡◌, ℕ, List, All, slice_get, Some};
+ghost use Rattle.std.specs.Prelude.{◌≡◌, ℕ, List, All, map, length, slice_get, Some};
 ghost use Rattle.cs_cells.specs.Cells.{Cells, Agree};
 ghost use Rattle.cs_cells.specs.Meaning.{Uses, Writes};
 ghost use Rattle.cs_cells.specs.Serial.{serial_cells, serial_jobs, before, AllValid, LastWriter, AsSerial};
@@ -21,12 +21,18 @@ pub fn run_all<J: Job, B: Bank>(jobs: &mut [J], bank: &mut B)
     }
 }
 
-/// The two laws of the serial run, of any jobs and any cells. It does nothing: its clauses are the
-/// laws.
+/// The laws of the serial run, of any jobs and any cells: the two on which any order of running
+/// rests, and what no run changes. It does nothing: its clauses are the laws.
 pub fn serial_laws<J: Job>()
     ensures last_writer { (js : List J) (c : Cells) → AllValid J.means js
         → LastWriter J.means js c }
     ensures as_serial { (js : List J) (c : Cells) (t : ℕ) (j : J) (d : Cells)
         → AllValid J.means js → slice_get js t ≡ Some j
         → Agree (Uses J.means j) d (before J.means js c t) → AsSerial J.means js c t j d }
+    ensures footprints { (js : List J) (c : Cells)
+        → map J.means.foot (serial_jobs J.means js c) ≡ map J.means.foot js }
+    ensures areas { (js : List J) (c : Cells)
+        → map J.means.areas (serial_jobs J.means js c) ≡ map J.means.areas js }
+    ensures count { (js : List J) (c : Cells)
+        → length (serial_cells J.means js c) ≡ length c }
 {}

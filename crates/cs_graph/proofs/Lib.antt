@@ -1,8 +1,8 @@
 pub mod ReadAt
+pub mod ChainLemmas
 pub mod ConflictLemmas
 pub mod DrawLemmas
 pub mod EdgeLemmas
-pub mod EndLemmas
 pub mod GrownLemmas
 pub mod NearestLemmas
 pub mod SetLemmas

@@ -1,4 +1,4 @@
-use Rattle.std.specs.Prelude.{◌≡◌, ℕ, ◌+◌, ◌<◌, ◌⊎◌, ◌↔◌, List, length, slice_get, slice_index, Some}
+use Rattle.std.specs.Prelude.{◌≡◌, ℕ, ◌+◌, ◌<◌, ◌≤◌, ◌⊎◌, ◌↔◌, List, length, slice_get, slice_index, Some}
 use Rattle.std.specs.List.{AllPairs}
 use Rattle.cs_cells.specs.declared.footprint.Footprint.{Footprint}
 use Rattle.cs_graph.specs.Conflict.{Conflict, Near, IsLevel}
@@ -15,6 +15,34 @@ Edge edges e p t = slice_get edges e ≡ Some (p, t)
 -- by the later note, and for one later note by the earlier one
 abbrev pub ComesBefore : ℕ × ℕ → ℕ × ℕ → Type 0
 ComesBefore e f = (e.1 < f.1) ⊎ ((e.1 ≡ f.1) × (e.0 < f.0))
+
+-- each edge leads from an earlier note to a later one of n
+abbrev pub LeadsForward : List (ℕ × ℕ) → ℕ → Type 0
+LeadsForward edges n = (e p t : ℕ) → Edge edges e p t → (p < t) × (t < n)
+
+-- between two edges into note t there are only edges into it
+abbrev pub StandTogether : List (ℕ × ℕ) → ℕ → Type 0
+StandTogether edges t = (e f g p q : ℕ) → Edge edges e p t → Edge edges g q t → e ≤ f → f ≤ g → (r : ℕ) × Edge edges f r t
+
+-- no edge from number i on leads from note p
+abbrev pub NoneOut : List (ℕ × ℕ) → ℕ → ℕ → Type 0
+NoneOut edges p i = (e t : ℕ) → Edge edges e p t → e < i
+
+-- no edge from number i on leads to note t
+abbrev pub NoneIn : List (ℕ × ℕ) → ℕ → ℕ → Type 0
+NoneIn edges t i = (e p : ℕ) → Edge edges e p t → e < i
+
+-- edge e is the first from number i on that leads from note p
+pub record IsNextOut (edges : List (ℕ × ℕ)) (p i e : ℕ) : Type 0 where
+  pub low : i ≤ e
+  pub below : e < length edges
+  pub edge : (t : ℕ) × Edge edges e p t
+  pub first : (f t : ℕ) → Edge edges f p t → i ≤ f → e ≤ f
+
+-- the depth of a cycle is the greatest level of its notes, and 0 without notes
+pub record IsDepth (levels : List ℕ) (depth : ℕ) : Type 0 where
+  pub above : (t : ℕ) → slice_index levels t ≤ depth
+  pub reached : (depth ≡ 0) ⊎ ((t : ℕ) × (t < length levels) × (slice_index levels t ≡ depth))
 
 -- a way along one or more edges leads from note p to note t
 pub data Reaches (edges : List (ℕ × ℕ)) : ℕ → ℕ → Type 0 where

@@ -1,102 +1,81 @@
-// The graph of a control cycle's footprints.
+// The graph of a control cycle's jobs.
 ghost use Rattle.cs_base.specs.Limits.{most_notes};
-ghost use Rattle.std.specs.Prelude.{◌≡◌, ◌*◌, ◌+◌, ◌<◌, ◌≤◌, ◌↔◌, ℕ, length, slice_index, IfOk, OnOk};
-ghost use Rattle.std.specs.List.{Contains};
-ghost use Rattle.std.specs.List.Sorted.{IsStrictlyIncreasing};
-ghost use Rattle.cs_graph.specs.Graph.{IsGraphOf, IsFit, IsLevelled, Edge};
-ghost use Rattle.cs_graph.specs.inner.Growing.{IsGrown};
+ghost use Rattle.std.specs.Prelude.{◌≡◌, ◌*◌, ◌+◌, ◌-◌, ◌<◌, ◌≤◌, ◌^◌, ◌↔◌, ℕ, map, length, slice_index, IfOk, IfSome, IfNone};
+ghost use Rattle.std.specs.List.{AllPairs};
+ghost use Rattle.cs_graph.specs.Graph.{IsGraphOf, IsFit, IsLevelled, IsDepth, Edge, ComesBefore, LeadsForward, StandTogether, IsNextOut, NoneOut, NoneIn};
+ghost use Rattle.cs_graph.specs.inner.Index.{AreEnds};
 
-use crate::nearest::{Known, nearest};
-use crate::node::{Node, add_edges};
-use crate::touched::{SharersByPlace, meet};
+use crate::chains::chained;
+use crate::growing::{Growing, grow};
 use cs_base::OutOfMemory;
-use cs_cells::{Feet, Footprint};
+use cs_cells::Job;
 use std::alloc::Global;
-use std::collections::HashMap;
 use std::marker::Model;
 use std::ops::Range;
 
 /// Which notes of a control cycle wait for which: an edge leads from each note to the later ones
 /// that conflict with it and that no longer chain of conflicts joins to it. Edges are numbered by
-/// the later note, then by the earlier.
-#[derive(Debug, Drop)]
+/// the later note, then by the earlier. It stays the same as long as the same notes are active, and
+/// can be shared meanwhile.
+#[derive(Drop)]
 pub struct Graph {
     edges: Vec<(u32, u32)>,
     levels: Vec<u32>,
-    nodes: Vec<Node>,
+    depth: u32,
+    /// For each note the first edge into it and the one behind the last.
+    into: Vec<(u32, u32)>,
+    /// For each note the first edge from it. The number of edges stands for none.
+    first_out: Vec<u32>,
+    /// For each edge the next one from the same note.
+    next_out: Vec<u32>,
 }
 
 impl Model for Graph {
     ghost use Rattle.cs_graph.specs.Graph.{Dependencies};
+    ghost use Rattle.cs_graph.specs.inner.Index.{IsStored};
 
     ghost Value = { Dependencies };
 
-    ghost use Rattle.cs_graph.specs.inner.Index.{IsStored};
-
     ghost view = { λ g. record { edges = g.edges.items; levels = g.levels.items } };
 
-    ghost invariant = { λ g. IsStored g.edges.items g.levels.items g.nodes.items };
-}
-
-/// A graph as far as it is built.
-#[derive(Drop)]
-pub struct Growing {
-    by_place: SharersByPlace,
-    known: Vec<Known>,
-    edges: Vec<(u32, u32)>,
-    levels: Vec<u32>,
-    nodes: Vec<Node>,
-}
-
-impl Growing {
-    fn add_note(&mut self, alloc: Global, feet: &[Footprint], note: u32) -> Result<(), OutOfMemory>
-        requires small { note < most_notes }
-        requires within { note < length feet.now }
-        requires grown { IsGrown feet.now note self.old }
-        ensures { OnOk result (IsGrown feet.now (note + 1) self.new) }
-    {
-        let met = meet(&mut self.by_place, feet, note)?;
-        let found = nearest(&met, note, &self.known);
-        let first_in = self.edges.len() as u32;
-        self.nodes.push(Node::new(alloc, first_in))?;
-        add_edges(&mut self.edges, &mut self.nodes, &found.near, note)?;
-        self.levels.push(found.known.level)?;
-        self.known.push(found.known)?;
-        Ok(())
-    }
+    ghost invariant = { λ g. IsStored g.edges.items g.levels.items g.depth g.into.items g.first_out.items g.next_out.items };
 }
 
 impl Graph {
-    /// The graph of footprints in serial order, of at most as many notes as a cycle may have.
-    pub fn build(alloc: Global, feet: &Feet) -> Result<Graph, OutOfMemory>
-        requires { length feet.now ≤ most_notes }
-        ensures graph { IfOk result (λ graph. IsGraphOf feet.now graph) }
-        // Each earlier conflicting note is reached along the nearest ones.
-        ensures fit { IfOk result (λ graph. IsFit feet.now graph.edges) }
+    /// The graph of jobs in serial order, as many as a cycle may have notes.
+    pub fn of_jobs<J: Job>(alloc: Global, jobs: &[J]) -> Result<Graph, OutOfMemory>
+        requires { length jobs.now ≤ most_notes }
+        ensures graph { IfOk result (λ graph. IsGraphOf (map J.means.foot jobs.now) graph) }
+        // Each edge is a conflict, and each conflict is reached along edges.
+        ensures fit { IfOk result (λ graph. IsFit (map J.means.foot jobs.now) graph.edges) }
         // The levels by the rule on the earlier conflicting notes.
-        ensures levelled { IfOk result (λ graph. IsLevelled feet.now graph.levels) }
+        ensures levelled { IfOk result (λ graph. IsLevelled (map J.means.foot jobs.now) graph.levels) }
     {
-        let feet = feet.as_slice();
-        let mut growing = Growing {
-            by_place: HashMap::new(alloc),
-            known: Vec::new(alloc),
-            edges: Vec::new(alloc),
-            levels: Vec::new(alloc),
-            nodes: Vec::new(alloc),
-        };
-        for note in 0..feet.len() as u32 {
-            growing.add_note(alloc, feet, note)?;
-        }
+        let graph = Graph::link(alloc, grow(alloc, jobs)?)?;
+        Ok(graph)
+    }
+
+    /// The graph of what is known once all notes are taken in.
+    fn link(alloc: Global, growing: Growing) -> Result<Graph, OutOfMemory>
+        requires ends { AreEnds growing.edges.items growing.levels.items growing.depth growing.into.items }
+        ensures edges { IfOk result (λ graph. graph.edges ≡ growing.edges.items) }
+        ensures levels { IfOk result (λ graph. graph.levels ≡ growing.levels.items) }
+    {
         let Growing {
             edges,
             levels,
-            nodes,
+            depth,
+            into,
             ..
         } = growing;
+        let (first_out, next_out) = chained(alloc, &edges, levels.len() as u32)?;
         Ok(Graph {
             edges,
             levels,
-            nodes,
+            depth,
+            into,
+            first_out,
+            next_out,
         })
     }
 
@@ -108,26 +87,6 @@ impl Graph {
         self.levels.len() as u32
     }
 
-    /// The nearest earlier notes that a note conflicts with, ascending.
-    pub fn preds(&self, note: u32) -> &[u32]
-        requires { note < length self.now.levels }
-        ensures each { (p : ℕ) → Contains result.now p ↔ ((e : ℕ) × Edge self.now.edges e p note) }
-        ensures ascending { IsStrictlyIncreasing result.now }
-    {
-        let node = &self.nodes[note as usize];
-        node.preds.as_slice()
-    }
-
-    /// The later notes of which a note is a nearest earlier one, ascending.
-    pub fn succs(&self, note: u32) -> &[u32]
-        requires { note < length self.now.levels }
-        ensures each { (t : ℕ) → Contains result.now t ↔ ((e : ℕ) × Edge self.now.edges e note t) }
-        ensures ascending { IsStrictlyIncreasing result.now }
-    {
-        let node = &self.nodes[note as usize];
-        node.succs.as_slice()
-    }
-
     /// 0 without an earlier conflicting note, else one more than the greatest level of these.
     pub fn level(&self, note: u32) -> u32
         requires { note < length self.now.levels }
@@ -136,13 +95,50 @@ impl Graph {
         self.levels[note as usize]
     }
 
+    /// The greatest level, 0 without notes.
+    pub fn depth(&self) -> u32
+        ensures { IsDepth self.now.levels result }
+    {
+        self.depth
+    }
+
+    /// How many workers can have a note to run at once, at most: as many as there are notes, less
+    /// the greatest level.
+    pub fn useful_workers(&self) -> u32
+        ensures { (depth : ℕ) × IsDepth self.now.levels depth
+            × (result + depth ≡ length self.now.levels) }
+    {
+        self.len() - self.depth
+    }
+
     /// All edges, each from an earlier note to a later one, in the order of the later note and then
     /// of the earlier one.
     pub fn edges(&self) -> &[(u32, u32)]
         ensures edges { result.now ≡ self.now.edges }
         ensures few { length result.now ≤ most_notes * most_notes }
+        ensures ordered { AllPairs ComesBefore self.now.edges }
+        ensures forward { LeadsForward self.now.edges (length self.now.levels) }
+        // Between two edges into a note there are only edges into it.
+        ensures together { (t : ℕ) → StandTogether self.now.edges t }
     {
         &self.edges
+    }
+
+    /// The number of edges.
+    pub fn edge_count(&self) -> u32
+        ensures count { result ≡ length self.now.edges }
+        ensures few { result ≤ most_notes * most_notes }
+    {
+        self.edges.len() as u32
+    }
+
+    /// The notes that an edge joins, the earlier one first.
+    pub fn ends(&self, edge: u32) -> (u32, u32)
+        requires { edge < length self.now.edges }
+        ensures edge { Edge self.now.edges edge result.0 result.1 }
+        ensures forward { (result.0 < result.1) × (result.1 < length self.now.levels) }
+    {
+        self.edges[edge as usize]
     }
 
     /// The numbers of the edges that lead to a note.
@@ -151,17 +147,48 @@ impl Graph {
         ensures { (e : ℕ) → ((result.start ≤ e) × (e < result.end))
             ↔ ((p : ℕ) × Edge self.now.edges e p note) }
     {
-        let node = &self.nodes[note as usize];
-        node.first_in..node.first_in + node.preds.len() as u32
+        let (first, end) = self.into[note as usize];
+        first..end
     }
 
-    /// The numbers of the edges that lead from a note, ascending.
-    pub fn out_edges(&self, note: u32) -> &[u32]
-        requires { note < length self.now.levels }
-        ensures each { (e : ℕ) → Contains result.now e ↔ ((t : ℕ) × Edge self.now.edges e note t) }
-        ensures ascending { IsStrictlyIncreasing result.now }
+    /// The edge after this one, if it leads to the same note; if not, none after it does.
+    pub fn next_in(&self, edge: u32, note: u32) -> Option<u32>
+        requires { (p : ℕ) × Edge self.now.edges edge p note }
+        ensures some { IfSome result (λ next. (next ≡ edge + 1)
+            × ((p : ℕ) × Edge self.now.edges next p note)) }
+        ensures none { IfNone result (NoneIn self.now.edges note (edge + 1)) }
     {
-        let node = &self.nodes[note as usize];
-        node.out_edges.as_slice()
+        let (_, end) = self.into[note as usize];
+        let next = edge + 1;
+        if next < end { Some(next) } else { None }
+    }
+
+    /// The first edge that leads from a note.
+    pub fn first_out(&self, note: u32) -> Option<u32>
+        requires { note < length self.now.levels }
+        ensures some { IfSome result (IsNextOut self.now.edges note 0) }
+        ensures none { IfNone result (NoneOut self.now.edges note 0) }
+    {
+        self.named(self.first_out[note as usize])
+    }
+
+    /// The next edge that leads from the note from which this one does.
+    pub fn next_out(&self, edge: u32, note: u32) -> Option<u32>
+        requires { (t : ℕ) × Edge self.now.edges edge note t }
+        ensures some { IfSome result (IsNextOut self.now.edges note (edge + 1)) }
+        ensures none { IfNone result (NoneOut self.now.edges note (edge + 1)) }
+    {
+        self.named(self.next_out[edge as usize])
+    }
+
+    fn named(&self, edge: u32) -> Option<u32>
+        ensures some { IfSome result (λ e. (e ≡ edge) × (e < length self.now.edges)) }
+        ensures none { IfNone result (length self.now.edges ≤ edge) }
+    {
+        if edge < self.edge_count() {
+            Some(edge)
+        } else {
+            None
+        }
     }
 }

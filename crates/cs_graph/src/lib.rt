@@ -3,18 +3,21 @@
 //!
 //! The one contract: the edges of a `Graph` are exactly the nearest conflicts, those that no longer
 //! chain of conflicts joins, in the order of the later note; along them each conflict is reached
-//! (`Graph::build`). The look-ups cost the note's own edges alone.
+//! (`Graph::of_jobs`). The look-ups cost the note's own edges alone, and a graph serves as long as
+//! the same notes are active.
 //!
-//! How conflicts are found and how farther ones are dropped may change without anyone above
-//! noticing: now each place has the notes so far that touch it, as sets of bits, and each note the
-//! set of notes that lead to it. In reading order: `note_set`, `touched`, `nearest`, `node`,
-//! `graph`; `examples` works a small cycle out.
+//! How conflicts are found, how farther ones are dropped and how edges are chained may change
+//! without anyone above noticing: now each place has the notes so far that touch it, as sets of
+//! bits, and each note the set of notes that lead to it. In reading order: `note_set`, `touched`,
+//! `nearest`, `draw`, `growing`, `chains`, `graph`; `examples` works a small cycle out.
 #![tactic(auto)]
 
+mod chains;
+mod draw;
 mod examples;
 mod graph;
+mod growing;
 mod nearest;
-mod node;
 mod note_set;
 mod touched;
 

@@ -1,13 +1,16 @@
 -- A graph that is built so far, for the first notes of a list of footprints.
 use Rattle.cs_base.specs.Limits.{most_notes}
-use Rattle.std.specs.Prelude.{◌≡◌, ℕ, ◌+◌, ◌*◌, ◌<◌, ◌≤◌, ◌↔◌, ◌⊎◌, List, length, slice_index}
+use Rattle.std.specs.Prelude.{◌≡◌, ℕ, ◌+◌, ◌*◌, ◌<◌, ◌≤◌, ◌↔◌, ◌⊎◌, true, List, length, slice_index}
+use Rattle.std.specs.List.{All, AllPairs}
 use Rattle.cs_cells.specs.declared.footprint.Footprint.{Footprint}
 use Rattle.cs_graph.specs.Conflict.{Conflict, Leads, Near}
-use Rattle.cs_graph.specs.inner.Index.{IsIndexed, HasEdge}
+use Rattle.cs_graph.specs.Graph.{Edge, ComesBefore, IsDepth}
+use Rattle.cs_graph.specs.inner.Index.{HasEdge, AreInto, range_at}
 use Rattle.cs_graph.specs.inner.Nearest.{known_at, LeadsIn}
+use Rattle.cs_graph.specs.inner.Sets.{has}
 use Rattle.cs_graph.specs.inner.Touched.{IsTouchedBy}
 use Rattle.cs_graph.specs.declared.nearest.Known.{Known}
-use Rattle.cs_graph.specs.declared.graph.Growing.{Growing}
+use Rattle.cs_graph.specs.declared.growing.Growing.{Growing}
 
 -- what is known of each of the first n notes
 pub record IsKnown (feet : List Footprint) (n : ℕ) (known : List Known) : Type 0 where
@@ -24,12 +27,25 @@ pub record IsDrawn (feet : List Footprint) (n : ℕ) (edges : List (ℕ × ℕ))
   pub near : (p t : ℕ) → t < n → Near feet p t → HasEdge edges p t
   pub rest : (p t : ℕ) → t < n → Conflict feet p t → HasEdge edges p t ⊎ ((q : ℕ) × Leads feet p q × Conflict feet q t)
 
+-- behind the old edges stand those to note t from the notes of a set below p
+pub record AreDrawnTo (old : List (ℕ × ℕ)) (near : List ℕ) (t p : ℕ) (edges : List (ℕ × ℕ)) : Type 0 where
+  pub ends : (a b : ℕ) → HasEdge edges a b ↔ (HasEdge old a b ⊎ ((b ≡ t) × (a < p) × (has near a ≡ true)))
+  pub kept : (e a b : ℕ) → Edge old e a b → Edge edges e a b
+  pub behind : (e a b : ℕ) → Edge edges e a b → Edge old e a b ⊎ ((length old ≤ e) × (b ≡ t))
+  pub before : All (λ e. ComesBefore e (p, t)) edges
+  pub ordered : AllPairs ComesBefore edges
+  pub long : length old ≤ length edges
+  pub few : length edges ≤ length old + p
+
 pub record IsGrown (feet : List Footprint) (n : ℕ) (growing : Growing) : Type 0 where
   pub touched : IsTouchedBy feet n growing.by_place
   pub known : IsKnown feet n growing.known.items
   pub levels : length growing.levels.items ≡ n
   pub level : (q : ℕ) → q < n → slice_index growing.levels.items q ≡ (known_at growing.known.items q).level
-  pub nodes : length growing.nodes.items ≡ n
-  pub indexed : IsIndexed growing.edges.items growing.nodes.items
+  pub depth_is : IsDepth growing.levels.items growing.depth
+  pub low : growing.depth ≤ n
+  pub into : length growing.into.items ≡ n
+  pub ranges : (q : ℕ) → q < n → AreInto growing.edges.items q (range_at growing.into.items q).0 (range_at growing.into.items q).1
+  pub ordered : AllPairs ComesBefore growing.edges.items
   pub drawn : IsDrawn feet n growing.edges.items
   pub few : length growing.edges.items ≤ most_notes * n

@@ -1,49 +1,43 @@
--- What is kept for each note so that a look-up costs its own edges alone.
+-- What a graph keeps so that a look-up costs a note's own edges alone.
 use Rattle.cs_base.specs.Limits.{most_notes}
-use Rattle.std.specs.Prelude.{◌*◌, ◌≡◌, ℕ, ◌+◌, ◌<◌, ◌≤◌, ◌↔◌, ◌==◌, List, [], map, length, slice_index_or}
-use Rattle.std.specs.List.{Contains, AllPairs, filter}
-use Rattle.cs_graph.specs.Graph.{Edge, ComesBefore}
-use Rattle.cs_graph.specs.declared.node.Node.{Node}
-
--- the earlier notes of the edges that lead to note t, in the edges' order
-abbrev pub preds_of : List (ℕ × ℕ) → ℕ → List ℕ
-preds_of edges t = map (λ e. e.0) (filter (λ e. e.1 == t) edges)
-
--- the later notes of the edges that lead from note p
-abbrev pub succs_of : List (ℕ × ℕ) → ℕ → List ℕ
-succs_of edges p = map (λ e. e.1) (filter (λ e. e.0 == p) edges)
-
-abbrev pub node_at : List Node → ℕ → Node
-node_at nodes q = slice_index_or nodes q (record { preds = []; succs = []; out_edges = []; first_in = 0 })
-
--- the edges that lead to note q are those from number `first` on, as many as there are predecessors
-pub record IsInOf (edges : List (ℕ × ℕ)) (q : ℕ) (preds : List ℕ) (first : ℕ) : Type 0 where
-  pub ends : preds ≡ preds_of edges q
-  pub numbers : (e : ℕ) → ((first ≤ e) × (e < first + length preds)) ↔ ((p : ℕ) × Edge edges e p q)
-  pub low : first + length preds ≤ length edges
-
--- the edges that lead from note q
-pub record IsOutOf (edges : List (ℕ × ℕ)) (q : ℕ) (succs outs : List ℕ) : Type 0 where
-  pub ends : succs ≡ succs_of edges q
-  pub numbers : (e : ℕ) → Contains outs e ↔ ((t : ℕ) × Edge edges e q t)
-  pub up : AllPairs (λ d e. d < e) outs
-
--- the edges are in order, and each note's node tells of its own
-pub record IsIndexed (edges : List (ℕ × ℕ)) (nodes : List Node) : Type 0 where
-  pub into : (q : ℕ) → q < length nodes → IsInOf edges q (node_at nodes q).preds (node_at nodes q).first_in
-  pub out : (q : ℕ) → q < length nodes → IsOutOf edges q (node_at nodes q).succs (node_at nodes q).out_edges
-  pub ordered : AllPairs ComesBefore edges
-
--- the edges into note t are the last ones so far
-abbrev pub IsOpen : List (ℕ × ℕ) → List Node → ℕ → Type 0
-IsOpen edges nodes t = (node_at nodes t).first_in + length (node_at nodes t).preds ≡ length edges
+use Rattle.std.specs.Prelude.{◌*◌, ◌≡◌, ℕ, ◌+◌, ◌<◌, ◌≤◌, ◌↔◌, List, length, slice_index, slice_index_or}
+use Rattle.std.specs.List.{AllPairs}
+use Rattle.cs_graph.specs.Graph.{Edge, ComesBefore, LeadsForward, IsNextOut, NoneOut, IsDepth}
 
 abbrev pub HasEdge : List (ℕ × ℕ) → ℕ → ℕ → Type 0
 HasEdge edges p t = (e : ℕ) × Edge edges e p t
 
--- what holds of the parts of every graph
-pub record IsStored (edges : List (ℕ × ℕ)) (levels : List ℕ) (nodes : List Node) : Type 0 where
-  pub indexed : IsIndexed edges nodes
-  pub each : length nodes ≡ length levels
+-- the edges that lead to note t are those from number `first` on and before `end_`
+abbrev pub AreInto : List (ℕ × ℕ) → ℕ → ℕ → ℕ → Type 0
+AreInto edges t first end_ = (e : ℕ) → ((first ≤ e) × (e < end_)) ↔ ((p : ℕ) × Edge edges e p t)
+
+abbrev pub range_at : List (ℕ × ℕ) → ℕ → ℕ × ℕ
+range_at into t = slice_index_or into t (0, 0)
+
+-- what is kept of the notes: the edges in order, the greatest level, and for each note the range of the edges into it
+pub record AreEnds (edges : List (ℕ × ℕ)) (levels : List ℕ) (depth : ℕ) (into : List (ℕ × ℕ)) : Type 0 where
+  pub forward : LeadsForward edges (length levels)
+  pub ordered : AllPairs ComesBefore edges
+  pub each : length into ≡ length levels
+  pub ranges : (t : ℕ) → t < length into → AreInto edges t (range_at into t).0 (range_at into t).1
+  pub depth_is : IsDepth levels depth
+  pub low : depth ≤ length levels
   pub notes : length levels ≤ most_notes
   pub few : length edges ≤ most_notes * most_notes
+
+-- the number e stands for the first edge from number i on that leads from note p, or for none
+pub record Points (edges : List (ℕ × ℕ)) (p i e : ℕ) : Type 0 where
+  pub some : e < length edges → IsNextOut edges p i e
+  pub none : length edges ≤ e → NoneOut edges p i
+
+-- the edges from number i on are chained: for each note the first of them, for each of them the next one from its note
+pub record IsChained (edges : List (ℕ × ℕ)) (i : ℕ) (first_out next_out : List ℕ) : Type 0 where
+  pub each : length next_out ≡ length edges
+  pub first : (p : ℕ) → p < length first_out → Points edges p i (slice_index first_out p)
+  pub next : (e p t : ℕ) → i ≤ e → Edge edges e p t → Points edges p (e + 1) (slice_index next_out e)
+
+-- what holds of the parts of every graph
+pub record IsStored (edges : List (ℕ × ℕ)) (levels : List ℕ) (depth : ℕ) (into : List (ℕ × ℕ)) (first_out next_out : List ℕ) : Type 0 where
+  pub ends : AreEnds edges levels depth into
+  pub outs : length first_out ≡ length levels
+  pub chained : IsChained edges 0 first_out next_out

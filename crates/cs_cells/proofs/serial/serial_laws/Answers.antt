@@ -1,4 +1,4 @@
-use Rattle.cs_cells.proofs.SerialRun.{last_writer, as_serial}
+use Rattle.cs_cells.proofs.SerialRun.{last_writer, as_serial, foot-serial_jobs, areas-serial_jobs, length-serial_cells}
 use Rattle.cs_cells.proofs.serial.serial_laws.Goals as goal
 
 pub returns-clause-last_writer : goal.returns-clause-last_writer
@@ -6,3 +6,12 @@ returns-clause-last_writer g c js c' s = last_writer g.J.Job.means g.met.J.Job.f
 
 pub returns-clause-as_serial : goal.returns-clause-as_serial
 returns-clause-as_serial g c js c' t j d s at same = as_serial g.J.Job.means g.met.J.Job.frames js c' t j d s at same
+
+pub returns-clause-footprints : goal.returns-clause-footprints
+returns-clause-footprints g c js c' = foot-serial_jobs g.J.Job.means g.met.J.Job.frames js c'
+
+pub returns-clause-areas : goal.returns-clause-areas
+returns-clause-areas g c js c' = areas-serial_jobs g.J.Job.means g.met.J.Job.frames js c'
+
+pub returns-clause-count : goal.returns-clause-count
+returns-clause-count g c js c' = length-serial_cells g.J.Job.means g.met.J.Job.frames js c'

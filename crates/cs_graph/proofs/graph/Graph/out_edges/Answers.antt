@@ -1,9 +1,0 @@
-use Rattle.std.proofs.Common.{◌<◌, length}
-use Rattle.cs_graph.proofs.EdgeLemmas.{node_out}
-use Rattle.cs_graph.proofs.graph.Graph.out_edges.Goals as goal
-
-pub returns-clause-each : goal.returns-clause-each
-returns-clause-each c =
-    let within : c.args.note < length c.self.inside.levels.items = rw (← c.self.view_is) at c.requires in
-    rw (← c.self.view_is, c.as_slice.ensures)
-    (node_out c.self.inside.edges.items c.self.inside.levels.items c.self.inside.nodes.items c.self.invariant c.args.note within _ c.index-node.ensures).numbers
