@@ -1,74 +1,93 @@
--- What is taken out of a closed table.
-use Rattle.std.proofs.Common.{◌≡◌, ◌≢◌, ℕ, zero, suc, ◌+◌, ◌-◌, ◌<◌, ◌≤◌, ⊎_elim, Bool, true, false, List, [], ◌∷◌, ◌++◌, take, map, length, get_or, set, Option, Some, None, sym, ap, ◌∙◌, subst, arith, slice_get, get_or-set_same, get_or-set_other}
-use Rattle.std.proofs.lemmas.Bool.{cases_eq}
-use Rattle.std.proofs.lemmas.List.{length-map}
-use Rattle.atomic_table.specs.Table.{Final, Seen}
+-- The end of a cycle: what a board at rest has, and what the next cycle finds.
+use Rattle.std.proofs.Common.{◌≡◌, ℕ, zero, suc, ◌+◌, ◌<◌, ◌≤◌, List, [], ◌∷◌, ◌++◌, map, length, get_or, take, drop, true, false, Some, None, refl, sym, ap, ◌∙◌, subst, arith, slice_get}
+use Rattle.std.proofs.lemmas.Option.{same_Some, slice_get_within, slice_get-get_or}
+use Rattle.std.specs.List.{Contains}
+use Rattle.atomic_table.specs.Seated.{TableId}
+use Rattle.atomic_table.specs.declared.shared.Seat.{Seat}
 use Rattle.cs_board.specs.Board.{IsIdle}
-use Rattle.cs_cells.specs.Cells.{values}
+use Rattle.cs_board.specs.inner.Resting.{IsSole, IsResting, IsCleared, areas_in, known_in}
+use Rattle.cs_base.specs.Limits.{most_resources}
+use Rattle.cs_cells.specs.Areas.{IsLaid, word_count}
 use Rattle.cs_cells.specs.Meaning.{Meaning, Frames}
-use Rattle.cs_cells.specs.Serial.{serial_cells, serial_jobs}
-use Rattle.cs_rule.specs.Ending.{IsLast, cells_in}
-use Rattle.cs_rule.specs.Rule.{Holds}
-use Rattle.cs_rule.specs.Words.{cell_at, word_total}
+use Rattle.cs_cells.specs.Serial.{serial_jobs}
+use Rattle.cs_cells.proofs.SerialRun.{foot-serial_jobs, length-serial_jobs}
+use Rattle.cs_rule.specs.Counts.{listed}
+use Rattle.cs_rule.specs.Ending.{IsLast}
+use Rattle.cs_rule.specs.Plans.{IsPlan, area_count, writes_of, places_written}
+use Rattle.cs_rule.specs.declared.view.Berth.{Berth}
 use Rattle.cs_rule.specs.declared.view.Plan.{Plan}
 use Rattle.cs_rule.specs.declared.view.View.{View}
-use Rattle.cs_rule.proofs.Closing.{ends_serial, same_homes}
-use mathlib.Core.Option.{some}
-use lib.ListN.{get_elem?}
-use Rattle.cs_board.specs.inner.Slots.{jobs_in}
-use Rattle.cs_board.proofs.Slotting.{jobs_in-append}
+use Rattle.cs_rule.proofs.Conflicts.{used_place, written_used}
+use Rattle.cs_board.proofs.Laying.{drop_one}
 
-module _ {A : Type 0} where
-  took : (xs : List A) (i : ℕ) (x : A) → get_elem? xs i ≡ some x → take (suc i) xs ≡ take i xs ++ x ∷ []
-  took [] i x h = absurd (cc)
-  took (y ∷ ys) zero x h = let e : y ≡ x = cc in ap (λ z. z ∷ []) e
-  took (y ∷ ys) (suc i) x h = ap (λ z. y ∷ z) (took ys i x h)
+pub took : {A : Type 0} (xs : List A) (i : ℕ) (x : A) → slice_get xs i ≡ Some x → take (i + 1) xs ≡ take i xs ++ x ∷ []
+took xs i x h = let e : i + 1 ≡ suc i = omega arith in ap (λ j. take j xs) e ∙ go xs i x h
+  where
+    go : {A : Type 0} (xs : List A) (i : ℕ) (x : A) → slice_get xs i ≡ Some x → take (suc i) xs ≡ take i xs ++ x ∷ []
+    go [] i x h = absurd (cc)
+    go (y ∷ ys) zero x h = ap (λ z. z ∷ []) (same_Some _ _ h)
+    go (y ∷ ys) (suc i) x h = ap (λ z. y ∷ z) (go ys i x h)
 
-  -- one more of the list is taken
-  pub take_got : (xs : List A) (i : ℕ) (x : A) → get_elem? xs i ≡ some x → take (i + 1) xs ≡ take i xs ++ x ∷ []
-  take_got xs i x h = let e : i + 1 ≡ suc i = omega arith in ap (λ j. take j xs) e ∙ took xs i x h
+map_at : {A B : Type 0} (f : A → B) (xs : List A) (i : ℕ) (x : A) → slice_get xs i ≡ Some x → slice_get (map f xs) i ≡ Some (f x)
+map_at f [] i x h = absurd (cc)
+map_at f (y ∷ ys) zero x h = ap Some (ap f (same_Some _ _ h))
+map_at f (y ∷ ys) (suc i) x h = map_at f ys i x h
 
--- one more place is empty, and those after it are full as before
-pub emptied_more : (fs : List Bool) (i : ℕ) → i < length fs → ((k : ℕ) → k < i → get_or fs k false ≡ false) → (k : ℕ) → k < i + 1
-    → get_or (set fs i false) k false ≡ false
-emptied_more fs i low before k l = ⊎_elim
-    (λ (e : k ≡ i). ap (λ j. get_or (set fs i false) j false) e ∙ get_or-set_same fs i false false low)
-    (λ (n : k ≢ i). get_or-set_other fs i k false false n ∙ before k (omega arith))
-    (cases_eq k i)
+pub there : {A : Type 0} (xs : List A) (i : ℕ) → i < length xs → (x : A) × (slice_get xs i ≡ Some x)
+there [] i l = absurd (omega arith)
+there (x ∷ xs) zero l = (x, refl)
+there (x ∷ xs) (suc i) l = there xs i (omega arith)
 
-pub full_more : (fs : List Bool) (i n : ℕ) → ((k : ℕ) → i ≤ k → k < n → get_or fs k false ≡ true) → (k : ℕ) → i + 1 ≤ k → k < n
-    → get_or (set fs i false) k false ≡ true
-full_more fs i n after k l m = get_or-set_other fs i k false false (λ e. omega arith) ∙ after k (omega arith) m
+past : {A : Type 0} (xs : List A) (i : ℕ) → length xs ≤ i → slice_get xs i ≡ None
+past [] i l = refl
+past (x ∷ xs) zero l = absurd (omega arith)
+past (x ∷ xs) (suc i) l = past xs i (omega arith)
 
-module _ {J : Type 0} where
-  pub one_kept : (xs : List (Option J)) (i : ℕ) (o : Option J) → get_elem? xs i ≡ some o → jobs_in (take (i + 1) xs) ≡ jobs_in (take i xs) ++ jobs_in (o ∷ [])
-  one_kept xs i o h = ap jobs_in (take_got xs i o h) ∙ jobs_in-append (take i xs) (o ∷ [])
+pub last_view : {J : Type 0} (v w : View J) → v ≡ w → IsIdle v → v.owes ≡ [] → v.first ≡ true → v.out ≡ [] → v.rest ≡ None → IsLast w
+last_view v w e idle owes first out playing = subst IsLast e (record { first = first; doing = idle.doing; closing = idle.closing; moving = idle.moving; owes = owes; out = out; playing = playing })
 
-  pub at_most_one : (o : Option J) → length (jobs_in (o ∷ [])) ≤ 1
-  at_most_one None = omega arith
-  at_most_one (Some j) = omega arith
+module _ {J : Type 0} (M : Meaning J) (F : Frames M) (k : Plan J) (whole : IsPlan M k) where
+  abbrev left_jobs : List J
+  left_jobs = serial_jobs M k.jobs k.cells
 
-  home_at : (js : List J) (t : ℕ) (j : J) → slice_get js t ≡ Some j → get_elem? (map (λ x. some (Some x)) js) t ≡ some (some (Some j))
-  home_at [] t j h = absurd (cc)
-  home_at (x ∷ js) zero j h = ap (λ o. some (some o)) h
-  home_at (x ∷ js) (suc t) j h = home_at js t j h
+  pub left_long : length left_jobs ≡ k.notes
+  left_long = length-serial_jobs M k.jobs k.cells ∙ whole.jobs
 
--- What a closed table has, where the last seat's view was the last one's
-pub ends : {J : Type 0} (M : Meaning J) (F : Frames M) (k : Plan J) (id : ℕ) (v : View J) (ws : List ℕ) (xs : List (Option J))
-    → Final (Seen (Holds M k) id v) ws xs → IsLast v
-    → (values (cells_in k ws) ≡ serial_cells M k.jobs k.cells) × (xs ≡ map Some (serial_jobs M k.jobs k.cells))
-ends M F k id v ws xs f last =
-    let s = f.0 in
-    let serial = ends_serial M F k s f.1.0 (id, v, f.1.1, last) in
-    let js = serial_jobs M k.jobs k.cells in
-    let long : length xs ≡ length js = sym f.3 ∙ ap length serial.jobs ∙ length-map js (λ j. some (Some j)) in (
-      ap (λ z. values (cells_in k z)) (sym f.2) ∙ serial.cells,
-      same_homes Some xs js long (λ t j at_. f.4 t (Some j) (ap (λ z. get_elem? z t) serial.jobs ∙ home_at js t j at_)),
-    )
+  -- the job that a note leaves has the note's footprint
+  pub left_writes : (t : ℕ) (j : J) → slice_get left_jobs t ≡ Some j → (M.foot j).writes ≡ places_written M k t
+  left_writes t j at_ =
+      let low : t < length k.jobs = omega (arith, slice_get_within left_jobs t j at_, length-serial_jobs M k.jobs k.cells) in
+      let i = there k.jobs t low in
+      let same_ : Some (M.foot j) ≡ Some (M.foot i.0) = sym (map_at M.foot left_jobs t j at_) ∙ ap (λ z. slice_get z t) (foot-serial_jobs M F k.jobs k.cells) ∙ map_at M.foot k.jobs t i.0 i.1 in
+      ap (λ z. z.writes) (same_Some _ _ same_) ∙ ap (writes_of M) (sym i.1)
 
-pub last_view : {J : Type 0} (v w : View J) → v ≡ w → IsIdle v → v.owes ≡ [] → v.first ≡ true → v.out ≡ [] → IsLast w
-last_view v w e idle owes first out = subst IsLast e (record { first = first; doing = idle.doing; closing = idle.closing; moving = idle.moving; owes = owes; out = out })
+  -- no note past the last writes
+  pub none_past : (u r : ℕ) → length left_jobs ≤ u → listed (places_written M k u) r ≡ false
+  none_past u r l = ap (λ o. listed (writes_of M o) r) (past k.jobs u (omega (arith, l, length-serial_jobs M k.jobs k.cells)))
 
--- the cells begin where the words end but for them
-pub first_cell : {J : Type 0} (k : Plan J) (made count : ℕ) → made ≡ word_total k → length k.cells ≡ count → made - count ≡ cell_at k 0
-first_cell k made count a b = omega (arith, a, b)
+  -- the next of the places that a note writes
+  pub next_written : (t : ℕ) (items : List ℕ) (i : ℕ) → items ≡ places_written M k t → i < length items
+      → (get_or items i 0 < area_count k) × (drop i (places_written M k t) ≡ get_or items i 0 ∷ drop (i + 1) (places_written M k t))
+  next_written t items i is low =
+      let at_ : slice_get items i ≡ Some (get_or items i 0) = slice_get-get_or items i 0 low in
+      let c : Contains items (get_or items i 0) = (i, low, default items i low) in (
+        used_place M k whole t (get_or items i 0) (written_used M k whole t (get_or items i 0) (subst (λ l. Contains l (get_or items i 0)) is c)),
+        subst (λ l. drop i l ≡ get_or items i 0 ∷ drop (i + 1) l) is (drop_one items i (get_or items i 0) at_),
+      )
+    where
+      default : (xs : List ℕ) (i : ℕ) → i < length xs → get_or xs i (get_or xs i 0) ≡ get_or xs i 0
+      default [] i l = absurd (omega arith)
+      default (x ∷ xs) zero l = refl
+      default (x ∷ xs) (suc i) l = default xs i (omega arith)
+
+-- the seat of the desk after a cycle
+pub rests_again : {J : Type 0} (M : Meaning J) (k : Plan J) (r c : ℕ) (id : TableId) (s : Seat (Berth J) (View J)) → IsPlan M k → IsSole id s → areas_in s ≡ k.areas
+    → area_count k ≡ r → length k.cells ≡ c → IsCleared k.areas id.words id.slots (known_in s) → IsResting r c id s
+rests_again M k r c id s whole sole areas areas_made cells_made cleared = record {
+  sole = sole;
+  laid = subst IsLaid (sym areas) whole.laid;
+  few = subst (λ z. length z ≤ most_resources) (sym areas) whole.few;
+  areas = ap length areas ∙ areas_made;
+  cells = ap word_count areas ∙ sym whole.cells ∙ cells_made;
+  cleared = subst (λ z. IsCleared z id.words id.slots (known_in s)) (sym areas) cleared;
+}

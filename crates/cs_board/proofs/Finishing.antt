@@ -1,7 +1,7 @@
 -- The edges of a note that is closed, one by one.
 use Rattle.std.proofs.Common.{◌≡◌, ℕ, zero, suc, ◌-◌, ◌<◌, List, [], ◌∷◌, false, cond, Option, Some, None, refl, sym, ap, ◌∙◌, subst, arith, ◌||◌, ne_eqb, IfNone, IfSome, MatchOption}
 use Rattle.cs_board.specs.inner.Sittings.{Beside, ClosesAt}
-use Rattle.cs_board.specs.inner.Wires.{IsNextOut, NoneOut}
+use Rattle.cs_graph.specs.Graph.{IsNextOut, NoneOut}
 use Rattle.cs_graph.specs.Graph.{Edge}
 use Rattle.cs_rule.specs.Plans.{leads_out}
 use Rattle.cs_rule.specs.Views.{closing_from}

@@ -1,9 +1,10 @@
 pub mod Stepping
 pub mod Trying
 pub mod Finishing
-pub mod Chaining
-pub mod Slotting
-pub mod Making
-pub mod Ending
 pub mod Performing
 pub mod Turning
+pub mod Sole
+pub mod Laying
+pub mod Ending
+pub mod Opening
+pub mod Making

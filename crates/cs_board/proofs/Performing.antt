@@ -1,5 +1,5 @@
 -- A view whose image alone changed, and the note that has run.
-use Rattle.std.proofs.Common.{◌≡◌, ℕ, suc, ◌+◌, [], Option, Some, None, refl, sym, ap, ◌∙◌, subst, arith, slice_get, true}
+use Rattle.std.proofs.Common.{◌≡◌, ℕ, suc, ◌+◌, [], Option, Some, None, refl, sym, ap, ◌∙◌, subst, arith, slice_get, true, ◌||◌}
 use Rattle.atomic_table.specs.declared.shared.Seat.{Seat}
 use Rattle.std.proofs.lemmas.Option.{same_Some}
 use Rattle.cs_board.specs.inner.Banks.{bare, imageless, frame_of, IsAtWork}
@@ -12,6 +12,7 @@ use Rattle.cs_cells.proofs.SerialRun.{before-suc}
 use Rattle.cs_cells.specs.Cells.{covers}
 use Rattle.cs_rule.specs.Plans.{IsPlan, before_at, uses_at, writes_at, uses_of, writes_of}
 use Rattle.cs_rule.specs.Views.{does}
+use Rattle.cs_rule.specs.declared.view.Berth.{Berth}
 use Rattle.cs_rule.specs.declared.view.Doing.{Doing}
 use Rattle.cs_rule.specs.declared.view.Plan.{Plan}
 use Rattle.cs_rule.specs.declared.view.View.{View}
@@ -33,10 +34,10 @@ module _ {J : Type 0} where
 
   -- a view that knows the board's plan knows it whatever its image is
   pub view_bare : (k : Plan J) (v : View J) → IsViewOf k v → IsViewOf k (imageless v)
-  view_bare k v h = record { plan = h.plan; live = h.live; owes_in = h.owes_in }
+  view_bare k v h = record { plan = h.plan; live = h.live; owes_in = h.owes_in; playing = h.playing }
 
 -- a seat that does a note is at work, whatever its image is
-pub works_at : {J : Type 0} (M : Meaning J) (board : Board J) (sitting : Seat (Option J) (View J)) (name : ℕ) (d : Doing) → IsSittingOf M board sitting
+pub works_at : {J : Type 0} (M : Meaning J) (board : Board J) (sitting : Seat (Berth J) (View J)) (name : ℕ) (d : Doing) → IsSittingOf M board sitting
     → sitting.me.0.doing ≡ Some d → IsAtWork M (frame_of board sitting name)
 works_at M board sitting name d h doing = let e = ap bare doing in record {
   whole = h.whole;
@@ -47,7 +48,8 @@ works_at M board sitting name d h doing = let e = ap bare doing in record {
 
 module _ {J : Type 0} (M : Meaning J) (k : Plan J) (whole : IsPlan M k) (t : ℕ) (j : J) (at_ : slice_get k.jobs t ≡ Some j) where
   pub used_of : (a : ℕ) → Uses M j a → uses_at M k t a ≡ true
-  used_of a u = subst (λ o. covers k.areas (uses_of M o) a ≡ true) (sym at_) (subst (λ z. covers z (M.foot j).uses a ≡ true) (whole.layout t j at_) u)
+  used_of a u = subst (λ o. (covers k.areas (uses_of M o) a || covers k.areas (writes_of M o) a) ≡ true) (sym at_)
+      (subst (λ z. (covers z (M.foot j).uses a || covers z (M.foot j).writes a) ≡ true) (whole.layout t j at_) u)
 
   pub written_of : (a : ℕ) → Writes M j a → writes_at M k t a ≡ true
   written_of a u = subst (λ o. covers k.areas (writes_of M o) a ≡ true) (sym at_) (subst (λ z. covers z (M.foot j).writes a ≡ true) (whole.layout t j at_) u)

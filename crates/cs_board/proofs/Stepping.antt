@@ -1,5 +1,5 @@
 -- A place after a step, and the board's numbers.
-use Rattle.std.proofs.Common.{◌≡◌, ◌≢◌, ℕ, zero, suc, ◌+◌, ◌<◌, ⊎_elim, List, [], ◌∷◌, length, Bool, true, false, Option, Some, refl, sym, ap, ◌∙◌, subst, arith, slice_get, eqb, eq-eqb, ne_eqb}
+use Rattle.std.proofs.Common.{◌≡◌, ◌≢◌, ℕ, zero, suc, ◌<◌, ⊎_elim, List, [], ◌∷◌, length, Bool, true, false, Some, refl, sym, ap, ◌∙◌, subst, arith, slice_get, eqb, eq-eqb, ne_eqb}
 use Rattle.std.proofs.lemmas.Bool.{cases_eq}
 use mathlib.Core.Option.{none}
 use Rattle.atomic_table.specs.Table.{step}
@@ -11,7 +11,8 @@ use Rattle.cs_cells.specs.Meaning.{Meaning}
 use Rattle.cs_graph.specs.Graph.{Edge}
 use Rattle.cs_rule.specs.Plays.{Sat, claimed, watched, closed}
 use Rattle.cs_rule.specs.Views.{does, ended, shut, opened}
-use Rattle.cs_rule.specs.Words.{watch_at}
+use Rattle.cs_rule.specs.Words.{watch_at, status_at}
+use Rattle.cs_rule.specs.declared.view.Berth.{Berth}
 use Rattle.cs_rule.specs.declared.view.Doing.{Doing}
 use Rattle.cs_rule.specs.declared.view.Plan.{Plan}
 use Rattle.cs_rule.specs.declared.view.View.{View}
@@ -24,21 +25,21 @@ job_there (j ∷ js) (suc t) l = job_there js t (omega arith)
 
 module _ {J : Type 0} where
   pub view_tried : (M : Meaning J) (k : Plan J) (v : View J) (b : Bool) (t : ℕ) → IsViewOf k v → IsViewOf k (tried M b v t)
-  view_tried M k v true t h = record { plan = h.plan; live = h.live; owes_in = λ u z. h.owes_in u (omega (arith, z, times-without_le u t v.owes)) }
-  view_tried M k v false t h = record { plan = h.plan; live = h.live; owes_in = λ u z. h.owes_in u (omega (arith, z, times-without_le u t v.owes)) }
+  view_tried M k v true t h = record { plan = h.plan; live = h.live; owes_in = λ u z. h.owes_in u (omega (arith, z, times-without_le u t v.owes)); playing = h.playing }
+  view_tried M k v false t h = record { plan = h.plan; live = h.live; owes_in = λ u z. h.owes_in u (omega (arith, z, times-without_le u t v.owes)); playing = h.playing }
 
   pub view_does : (k : Plan J) (v : View J) (d : Doing) → IsViewOf k v → IsViewOf k (does v d)
-  view_does k v d h = record { plan = h.plan; live = h.live; owes_in = h.owes_in }
+  view_does k v d h = record { plan = h.plan; live = h.live; owes_in = h.owes_in; playing = h.playing }
 
   pub view_ended : (k : Plan J) (v : View J) (t : ℕ) → IsViewOf k v → IsViewOf k (ended v t)
-  view_ended k v t h = record { plan = h.plan; live = h.live; owes_in = h.owes_in }
+  view_ended k v t h = record { plan = h.plan; live = h.live; owes_in = h.owes_in; playing = h.playing }
 
   pub view_shut : (k : Plan J) (v : View J) (e p t x : ℕ) → IsViewOf k v → IsViewOf k (shut v e p t x)
-  view_shut k v e p t x h = record { plan = h.plan; live = h.live; owes_in = h.owes_in }
+  view_shut k v e p t x h = record { plan = h.plan; live = h.live; owes_in = h.owes_in; playing = h.playing }
 
   pub view_stopped : (k : Plan J) (v : View J) (b : Bool) (t e : ℕ) → IsViewOf k v → IsViewOf k (stopped b v t e)
-  view_stopped k v true t e h = record { plan = h.plan; live = h.live; owes_in = h.owes_in }
-  view_stopped k v false t e h = record { plan = h.plan; live = h.live; owes_in = h.owes_in }
+  view_stopped k v true t e h = record { plan = h.plan; live = h.live; owes_in = h.owes_in; playing = h.playing }
+  view_stopped k v false t e h = record { plan = h.plan; live = h.live; owes_in = h.owes_in; playing = h.playing }
 
   pub view_opened : (k : Plan J) (v : View J) (t : ℕ) → t < k.notes → IsViewOf k v → IsViewOf k (opened v t)
   view_opened k v t low h = record {
@@ -48,19 +49,23 @@ module _ {J : Type 0} where
         (λ (e : u ≡ t). omega arith)
         (λ (n : u ≢ t). h.owes_in u (omega (arith, z, times-snoc u v.owes t, same_no t u (λ y. n (sym y)))))
         (cases_eq u t);
+    playing = h.playing;
   }
 
   -- a seat of the board after a step
-  pub place_after : (M : Meaning J) (b : Board J) (s s' : Seat (Option J) (View J)) (w : View J) (c : List (ℕ × Option J)) → IsSittingOf M b s
+  pub place_after : (M : Meaning J) (b : Board J) (s s' : Seat (Berth J) (View J)) (w : View J) (c : List (ℕ × Berth J)) → IsSittingOf M b s
       → s'.table_id ≡ s.table_id → s'.me ≡ (w, c)
       → IsViewOf (plan b) w → IsSittingOf M b s'
   place_after M b s s' w c h table me knows = record { whole = h.whole; table = table ∙ h.table; knows = subst (IsViewOf (plan b)) (sym (ap (λ z. z.0) me)) knows }
 
 module _ {J : Type 0} (M : Meaning J) where
-  pub told_tried : (slots t r : ℕ) (m n : Sat J) → claimed M (step slots (1 + t) 1 2 none) m r n → n ≡ (tried M (eqb r 1) m.0 t, m.1)
-  told_tried slots t r m n told = ⊎_elim
-      (λ e. (told t refl).0 e ∙ ap (λ b. (tried M b m.0 t, m.1)) (sym (eq-eqb r 1 e)))
-      (λ e. (told t refl).1 e ∙ ap (λ b. (tried M b m.0 t, m.1)) (sym (ne_eqb r 1 e)))
+  pub told_tried : (k : Plan J) (slots t r : ℕ) (m n : Sat J) → m.0.plan ≡ k → claimed M (step slots (status_at k t) 1 2 none) m r n
+      → n ≡ (tried M (eqb r 1) m.0 t, m.1)
+  told_tried k slots t r m n plan_is told =
+      let word : status_at k t ≡ status_at m.0.plan t = ap (λ z. status_at z t) (sym plan_is) in
+      ⊎_elim
+      (λ e. (told t word).0 e ∙ ap (λ b. (tried M b m.0 t, m.1)) (sym (eq-eqb r 1 e)))
+      (λ e. (told t word).1 e ∙ ap (λ b. (tried M b m.0 t, m.1)) (sym (ne_eqb r 1 e)))
       (cases_eq r 1)
 
 module _ {J : Type 0} where

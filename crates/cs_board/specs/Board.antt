@@ -2,11 +2,12 @@
 use Rattle.std.specs.Prelude.{◌≡◌, ℕ, ◌+◌, ◌<◌, ◌≤◌, List, [], ◌∷◌, length, true, false, Option, Some, None, MatchOption, slice_get}
 use Rattle.std.specs.List.{sum_by}
 use Rattle.std.specs.Vec.{vec_capacity}
+use Rattle.atomic_table.specs.Seated.{TableId}
 use Rattle.cs_cells.specs.Meaning.{Meaning}
+use Rattle.cs_board.specs.Seen.{plan_seen}
 use Rattle.cs_board.specs.declared.board.Board.{Board}
 use Rattle.cs_board.specs.declared.board.BoardSeat.{BoardSeat}
 use Rattle.cs_rule.specs.Facts.{owed}
-use Rattle.cs_rule.specs.Keys.{plan_of}
 use Rattle.cs_rule.specs.Plans.{IsPlan, before_at, places_used, places_written, writers_before}
 use Rattle.cs_rule.specs.Views.{newcomer, no_plan, fresh}
 use Rattle.cs_rule.specs.declared.view.Doing.{Doing}
@@ -18,13 +19,17 @@ note_in None = 0
 note_in (Some d) = d.note
 
 module _ {J : Type 0} where
-  -- with what the board's cycle began
-  abbrev pub plan : Board J → Plan J
-  plan board = plan_of board.table.shared.key
-
   abbrev pub first_of : List (View J) → View J
   first_of [] = newcomer no_plan 0
   first_of (v ∷ vs) = v
+
+  -- with what the board's cycle began
+  abbrev pub plan : Board J → Plan J
+  plan board = plan_seen board.opening.value
+
+  -- which table it is
+  abbrev pub name : Board J → TableId
+  name board = board.frame.table.shared.table_id
 
   -- what the seat knows
   abbrev pub view : BoardSeat J → View J
@@ -35,6 +40,7 @@ module _ {J : Type 0} where
     pub plan : v.plan ≡ k
     pub live : v.spent ≡ false
     pub owes_in : (t : ℕ) → 0 < owed t v → t < k.notes
+    pub playing : v.rest ≡ None
 
   -- the first seat has room for the jobs at the end
   abbrev pub HasRoom : Plan J → View J → BoardSeat J → Type 0
@@ -66,14 +72,14 @@ module _ {J : Type 0} where
   FoundSince tries v t = (i : ℕ) × (n : ℕ) × (slice_get v.found i ≡ Some (t, n)) × (tries < n)
 
 module _ {J : Type 0} (M : Meaning J) where
-  -- a seat of this board, from its `new` or a `split`
-  pub record IsSeatOf (board : Board J) (seat : BoardSeat J) : Type 0 where
-    pub whole : IsPlan M (plan board)
-    pub table : seat.badge.table_id ≡ board.table.shared.table_id
+  -- a seat of the board with this plan and this table, from `open` or a `split`
+  pub record IsSeatOf (k : Plan J) (table_id : TableId) (seat : BoardSeat J) : Type 0 where
+    pub whole : IsPlan M k
+    pub table : seat.badge.table_id ≡ table_id
     pub one : seat.badge.views ≡ view seat ∷ []
-    pub knows : IsViewOf (plan board) (view seat)
-    pub note : (d : Doing) → (view seat).doing ≡ Some d → (d.note ≡ seat.note) × (d.note < (plan board).notes)
-    pub room : HasRoom (plan board) (view seat) seat
+    pub knows : IsViewOf k (view seat)
+    pub note : (d : Doing) → (view seat).doing ≡ Some d → (d.note ≡ seat.note) × (d.note < k.notes)
+    pub room : HasRoom k (view seat) seat
 
   -- a note that has run, every turn made
   abbrev pub run_through : Plan J → ℕ → Doing

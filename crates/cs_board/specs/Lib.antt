@@ -1,3 +1,4 @@
+pub mod Seen
 pub mod Board
-pub mod Made
+pub mod Desk
 pub mod inner

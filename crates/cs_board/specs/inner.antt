@@ -1,5 +1,4 @@
 pub mod Banks
 pub mod Built
+pub mod Resting
 pub mod Sittings
-pub mod Slots
-pub mod Wires

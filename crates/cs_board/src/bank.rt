@@ -23,7 +23,11 @@ impl<J: Job> Board<J> {
             ≡ sitting.old.id) }
     {
         let word = self.cell_word(addr);
-        self.table.shared.load::<Look>(sitting, word).cast_signed()
+        self.frame
+            .table
+            .shared
+            .load::<Look>(sitting, word)
+            .cast_signed()
     }
 
     /// A cell that the note writes is set, before it has run.
@@ -44,7 +48,8 @@ impl<J: Job> Board<J> {
             ≡ sitting.old.id) }
     {
         let word = self.cell_word(addr);
-        self.table
+        self.frame
+            .table
             .shared
             .store::<Set>(sitting, word, value.cast_unsigned());
     }

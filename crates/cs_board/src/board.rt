@@ -1,16 +1,17 @@
 // The board and its seats.
-ghost use Rattle.std.specs.Prelude.{◌≡◌, ◌≤◌, []};
-ghost use Rattle.std.specs.Vec.{vec_capacity};
+ghost use Rattle.std.specs.Prelude.{◌≡◌};
+ghost use Rattle.cs_board.specs.Seen.{plan_seen};
 ghost use Rattle.cs_board.specs.inner.Built.{IsBuilt};
-ghost use Rattle.cs_rule.specs.Keys.{plan_of};
 
-use crate::wires::Wires;
 use atomic_table::{Badge, Seat, Table};
 use cs_cells::Job;
-use cs_rule::{Key, Rule, View};
+use cs_graph::Graph;
+use cs_rule::{Berth, Key, Rule, View};
 use std::alloc::Global;
+use std::snapshot::Snapshot;
+use std::sync::Arc;
 
-/// What one worker steps with. A seat is used by one thread at a time; `Board::new` gives the
+/// What one worker steps with. A seat is used by one thread at a time; `Desk::open` gives the
 /// first, and `Board::split` the others. It holds no job between two calls.
 pub struct BoardSeat<J> {
     pub(crate) badge: Badge<View<J>>,
@@ -25,17 +26,40 @@ pub struct BoardSeat<J> {
 }
 
 /// A seat in the midst of a call.
-pub(crate) type Sitting<J> = Seat<Option<J>, View<J>>;
+pub(crate) type Sitting<J> = Seat<Berth<J>, View<J>>;
+
+/// The words and slots of a whole performance.
+pub(crate) type Berths<J> = Table<Berth<J>, View<J>, Key, Rule, Global>;
+
+/// The table of a board that is played. It is a struct by itself, since the proof that a board may
+/// be shared by threads goes field by field.
+#[derive(Drop)]
+pub(crate) struct Frame<J: Job> {
+    pub(crate) table: Berths<J>,
+}
 
 /// The board of one control cycle, which all its workers share.
+#[derive(Drop)]
 pub struct Board<J: Job> {
-    pub(crate) table: Table<Option<J>, View<J>, Key<J>, Rule, Global>,
-    pub(crate) wires: Wires,
+    pub(crate) frame: Frame<J>,
+    pub(crate) graph: Arc<Graph, Global>,
+    /// What the first seat knew at the opening.
+    pub(crate) opening: Snapshot<Badge<View<J>>>,
     pub(crate) notes: u32,
     pub(crate) areas: u32,
     pub(crate) cells: u32,
-    /// The emptied vector of the cells, with its room.
-    pub(crate) room: Vec<u64>,
-    ghost built: { IsBuilt (plan_of table.shared.key) wires notes areas cells table.shared.table_id.words table.shared.table_id.slots },
-    ghost roomy: { (room.items ≡ []) × (cells ≤ vec_capacity room) },
+    ghost built: { IsBuilt (plan_seen opening.value) graph.value notes areas cells frame.table.shared.table_id.words frame.table.shared.table_id.slots },
+}
+
+impl<J: Job> Board<J> {
+    ghost use Rattle.std.specs.Prelude.{◌≡◌, length};
+    ghost use Rattle.cs_board.specs.Board.{plan};
+
+    /// The graph of the cycle.
+    pub(crate) fn graph(&self) -> &Graph
+        ensures edges { result.now.edges ≡ (plan self.now).edges }
+        ensures notes { length result.now.levels ≡ (plan self.now).notes }
+    {
+        &self.graph
+    }
 }

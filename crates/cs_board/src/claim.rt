@@ -1,6 +1,6 @@
 // Claiming a note.
 ghost use Rattle.std.specs.Prelude.{◌≡◌, ◌+◌, ◌-◌, ◌*◌, ◌<◌, ◌≤◌, ◌^◌, ℕ, [], true, false, IfSome, IfNone};
-ghost use Rattle.cs_board.specs.Board.{plan, view, IsSeatOf, IsIdle, IsClaimed, SameSeat, FoundSince, note_of};
+ghost use Rattle.cs_board.specs.Board.{plan, name, view, IsSeatOf, IsIdle, IsClaimed, SameSeat, FoundSince, note_of};
 ghost use Rattle.cs_board.specs.inner.Sittings.{IsSittingOf, HasClaimed, Tries, AllTried, AllBut};
 
 use crate::board::{Board, BoardSeat, Sitting};
@@ -136,10 +136,10 @@ impl<J: Job> Board<J> {
     /// otherwise. It tries each note at most once, first one that the seat itself has opened, and
     /// then goes round from where the last claim left off. Each try is a step that is counted.
     pub fn claim(&self, seat: &mut BoardSeat<J>, steps: &mut Steps) -> Option<u32>
-        requires seat { IsSeatOf J.means self.now seat.old }
+        requires seat { IsSeatOf J.means (plan self.now) (name self.now) seat.old }
         requires idle { IsIdle (view seat.old) }
         requires steps { steps.old.count ≤ 2 ^ 63 }
-        ensures seat { IsSeatOf J.means self.now seat.new }
+        ensures seat { IsSeatOf J.means (plan self.now) (name self.now) seat.new }
         // The note is this seat's, with the cells that the serial run has before it.
         ensures some { IfSome result (λ t. IsClaimed J.means (view seat.new)
             × (note_of (view seat.new) ≡ t) × (t < (plan self.now).notes)) }

@@ -1,9 +1,8 @@
 // Finishing a note: it is Done, its edges are closed, and its watchers move on.
-ghost use Rattle.std.specs.Prelude.{◌≡◌, ◌+◌, ◌<◌, ℕ, ◌∷◌, [], ◌++◌, Some, None};
-ghost use Rattle.cs_board.specs.Board.{plan, view, IsSeatOf, IsIdle, HasRun, SameSeat, note_of};
+ghost use Rattle.std.specs.Prelude.{◌≡◌, ◌+◌, ◌<◌, ℕ, ◌∷◌, [], ◌++◌, Some, None, IfSome, IfNone};
+ghost use Rattle.cs_board.specs.Board.{plan, name, view, IsSeatOf, IsIdle, HasRun, SameSeat, note_of};
 ghost use Rattle.cs_board.specs.inner.Sittings.{IsSittingOf, Beside, ClosesAt};
-ghost use Rattle.cs_board.specs.inner.Wires.{IsNextOut};
-ghost use Rattle.cs_graph.specs.Graph.{Edge};
+ghost use Rattle.cs_graph.specs.Graph.{Edge, IsNextOut, NoneOut};
 ghost use Rattle.cs_rule.specs.Views.{closing_from};
 
 use crate::board::{Board, BoardSeat, Sitting};
@@ -24,7 +23,7 @@ impl<J: Job> Board<J> {
         ensures beside { Beside sitting.old.me.0 sitting.new.me.0 }
     {
         let mut last = edge;
-        while let Some(next) = self.wires.next_in(last, note) {
+        while let Some(next) = self.graph().next_in(last, note) {
             if self.watch_edge(sitting, next, note) {
                 return false;
             }
@@ -47,7 +46,7 @@ impl<J: Job> Board<J> {
             ≡ closing_from (plan self.now).edges note (edge + 1) }
         ensures beside { Beside sitting.old.me.0 sitting.new.me.0 }
     {
-        let (_, watcher) = self.wires.ends(edge);
+        let (_, watcher) = self.graph().ends(edge);
         if self.close_edge(sitting, edge, note, watcher) == WATCHED
             && self.move_on(sitting, edge, watcher)
         {
@@ -55,6 +54,26 @@ impl<J: Job> Board<J> {
         } else {
             None
         }
+    }
+}
+
+impl<J: Job> Board<J> {
+    /// The first edge from a note.
+    fn first_out(&self, note: u32) -> Option<u32>
+        requires { note < (plan self.now).notes }
+        ensures some { IfSome result (IsNextOut (plan self.now).edges note 0) }
+        ensures none { IfNone result (NoneOut (plan self.now).edges note 0) }
+    {
+        self.graph().first_out(note)
+    }
+
+    /// The next edge from the note from which this one leads.
+    fn next_out(&self, edge: u32, note: u32) -> Option<u32>
+        requires { (t : ℕ) × Edge (plan self.now).edges edge note t }
+        ensures some { IfSome result (IsNextOut (plan self.now).edges note (edge + 1)) }
+        ensures none { IfNone result (NoneOut (plan self.now).edges note (edge + 1)) }
+    {
+        self.graph().next_out(edge, note)
     }
 }
 
@@ -72,11 +91,11 @@ impl<J: Job> Board<J> {
         ensures beside { Beside sitting.old.me.0 sitting.new.me.0 }
     {
         let mut opened = None;
-        let mut next = self.wires.first_out(note);
+        let mut next = self.first_out(note);
         while let Some(edge) = next {
             let watcher = self.close_one(sitting, edge, note);
             opened = opened.or(watcher);
-            next = self.wires.next_out(edge, note);
+            next = self.next_out(edge, note);
         }
         opened
     }
@@ -84,9 +103,9 @@ impl<J: Job> Board<J> {
     /// The note that has run is Done. Each note that waited for it alone becomes Available and is
     /// owed by this seat.
     pub fn finish(&self, seat: &mut BoardSeat<J>)
-        requires seat { IsSeatOf J.means self.now seat.old }
+        requires seat { IsSeatOf J.means (plan self.now) (name self.now) seat.old }
         requires ran { HasRun J.means (view seat.old) }
-        ensures seat { IsSeatOf J.means self.now seat.new }
+        ensures seat { IsSeatOf J.means (plan self.now) (name self.now) seat.new }
         ensures idle { IsIdle (view seat.new) }
         ensures mine { (view seat.new).mine ≡ (view seat.old).mine ++ note_of (view seat.old) ∷ [] }
         ensures tries { ((view seat.new).tries ≡ (view seat.old).tries)

@@ -1,51 +1,43 @@
 // What a cycle leaves, and how many cycles and notes there were.
 ghost use Rattle.std.specs.Prelude.{◌≡◌, ◌+◌, ◌≤◌, ◌^◌, length};
 
-use crate::loaded::Loaded;
 use cs_cells::Job;
 use std::marker::Model;
 
-/// The cells and the jobs of a cycle after all its notes. `Board::close` alone makes one. Contracts
-/// see the two lists.
+/// The jobs of a cycle after all its notes, in serial order. `Board::rest` alone makes one.
+/// Contracts see the list of the jobs.
 pub struct Receipt<J> {
     pub(crate) notes: u32,
-    pub(crate) loaded: Loaded<J>,
+    pub(crate) jobs: Vec<J>,
 }
 
 impl<J> Model for Receipt<J> {
-    ghost use Rattle.std.specs.Prelude.{◌≡◌, ℕ, List, length};
+    ghost use Rattle.std.specs.Prelude.{◌≡◌, List, length};
 
-    ghost Value = { List ℕ × List J };
+    ghost Value = { List J };
 
-    ghost view = { λ r. r.loaded };
+    ghost view = { λ r. r.jobs.items };
 
-    ghost invariant = { λ r. r.notes ≡ length r.loaded.1 };
+    ghost invariant = { λ r. r.notes ≡ length r.jobs.items };
 }
 
 impl<J> Receipt<J> {
     /// The number of notes.
     pub fn notes(&self) -> u32
-        ensures { result ≡ length self.now.1 }
+        ensures { result ≡ length self.now }
     {
         self.notes
     }
 
-    /// The words of the cells, by address.
-    pub fn words(&self) -> &[u64]
-        ensures { result.now ≡ self.now.0 }
-    {
-        &self.loaded.words
-    }
-
     /// The jobs, in serial order.
     pub fn jobs(&self) -> &[J]
-        ensures { result.now ≡ self.now.1 }
+        ensures { result.now ≡ self.now }
     {
-        &self.loaded.jobs
+        &self.jobs
     }
 }
 
-/// How many cycles were closed, and how many notes they had. `add` alone changes one.
+/// How many cycles were played to their end, and how many notes they had. `add` alone changes one.
 #[derive(Debug, Drop)]
 pub struct Tally {
     cycles: u64,
@@ -63,17 +55,17 @@ impl Tally {
         }
     }
 
-    /// Counts the cycle and its notes, and hands back its cells and jobs.
-    pub fn add<J: Job>(&mut self, receipt: Receipt<J>) -> Loaded<J>
+    /// Counts the cycle and its notes, and hands back its jobs.
+    pub fn add<J: Job>(&mut self, receipt: Receipt<J>) -> Vec<J>
         requires room { (self.old.cycles ≤ 2 ^ 63) × (self.old.notes ≤ 2 ^ 63) }
-        ensures loaded { result ≡ receipt }
+        ensures jobs { result.items ≡ receipt }
         ensures cycles { self.new.cycles ≡ self.old.cycles + 1 }
-        ensures notes { self.new.notes ≡ self.old.notes + length receipt.1 }
+        ensures notes { self.new.notes ≡ self.old.notes + length receipt }
     {
-        let Receipt { notes, loaded } = receipt;
+        let Receipt { notes, jobs } = receipt;
         self.cycles += 1;
         self.notes += u64::from(notes);
-        loaded
+        jobs
     }
 
     /// The number of cycles.

@@ -1,12 +1,14 @@
 // Running a note that was claimed.
 ghost use Rattle.std.specs.Prelude.{◌≡◌, ◌+◌, ◌-◌, ◌<◌, ◌≤◌, [], ◌∷◌, Some, None, true, false, length, slice_get};
-ghost use Rattle.cs_board.specs.Board.{plan, view, IsSeatOf, IsClaimed, HasRun, SameSeat, note_of, turns_before};
+ghost use Rattle.cs_board.specs.Board.{plan, name, view, IsSeatOf, IsClaimed, HasRun, SameSeat, note_of, turns_before};
 ghost use Rattle.cs_board.specs.inner.Sittings.{IsSittingOf, deed, job_out, ran_out};
 ghost use Rattle.cs_rule.specs.Plans.{places_used, places_written, before_at};
 ghost use Rattle.cs_rule.specs.Views.{does, fresh, next_phase};
+ghost use Rattle.cs_rule.specs.declared.view.Berth.TheVariants.{Vacant};
 
 use crate::board::{Board, BoardSeat, Sitting};
 use cs_cells::Job;
+use cs_rule::Berth;
 
 impl<J: Job> Board<J> {
     /// Takes the job of the note that was claimed out of its slot.
@@ -20,14 +22,19 @@ impl<J: Job> Board<J> {
         ensures me { sitting.new.me
             ≡ (
               does sitting.old.me.0 (job_out (fresh J.means (plan self.now) note)),
-              (note, None) ∷ [],
+              (note, Vacant) ∷ [],
             ) }
     {
         self.reach_job(sitting, note);
-        self.table
+        let held = self
+            .frame
+            .table
             .shared
-            .exchange(sitting, note as usize, None)
-            .unwrap()
+            .exchange(sitting, note as usize, Berth::Vacant);
+        let Berth::Full(job) = held else {
+            unreachable!()
+        };
+        job
     }
 
     /// Puts the job of a note that has run back into its slot.
@@ -36,7 +43,7 @@ impl<J: Job> Board<J> {
         requires phase { 1 ≤ (deed sitting.old.me.0).phase }
         requires doing { sitting.old.me.0.doing
             ≡ Some (ran_out J.means (plan self.now) note (deed sitting.old.me.0).phase) }
-        requires carries { sitting.old.me.1 ≡ (note, None) ∷ [] }
+        requires carries { sitting.old.me.1 ≡ (note, Vacant) ∷ [] }
         requires job { (j : J) × (slice_get (plan self.now).jobs note ≡ Some j)
             × (job ≡ J.means.after j (before_at J.means (plan self.now) note)) }
         ensures sitting { IsSittingOf J.means self.now sitting.new }
@@ -44,10 +51,11 @@ impl<J: Job> Board<J> {
             ≡ (does sitting.old.me.0 (record (deed sitting.old.me.0) { held = false }), []) }
     {
         let held = self
+            .frame
             .table
             .shared
-            .exchange(sitting, note as usize, Some(job));
-        let None = held else { unreachable!() };
+            .exchange(sitting, note as usize, Berth::Full(job));
+        let Berth::Vacant = held else { unreachable!() };
         self.leave_job(sitting, note);
     }
 
@@ -105,9 +113,9 @@ impl<J: Job> Board<J> {
     /// Runs the note that was claimed, on the cells of the serial run. It answers how many earlier
     /// notes write each resource that the note uses, added up over these resources.
     pub fn run(&self, seat: &mut BoardSeat<J>) -> u64
-        requires seat { IsSeatOf J.means self.now seat.old }
+        requires seat { IsSeatOf J.means (plan self.now) (name self.now) seat.old }
         requires claimed { IsClaimed J.means (view seat.old) }
-        ensures seat { IsSeatOf J.means self.now seat.new }
+        ensures seat { IsSeatOf J.means (plan self.now) (name self.now) seat.new }
         ensures ran { HasRun J.means (view seat.new) }
         ensures note { note_of (view seat.new) ≡ note_of (view seat.old) }
         ensures turns { result ≡ turns_before J.means (plan self.now) (note_of (view seat.old)) }

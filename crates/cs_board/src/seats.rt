@@ -1,6 +1,6 @@
 // Seats: sitting down for a call, splitting one off and taking one in.
 ghost use Rattle.std.specs.Prelude.{◌≡◌, ◌<◌, ℕ, [], Some, true, false, IfSome};
-ghost use Rattle.cs_board.specs.Board.{plan, view, IsSeatOf, IsIdle, HasRoom};
+ghost use Rattle.cs_board.specs.Board.{plan, name, view, IsSeatOf, IsIdle, HasRoom};
 ghost use Rattle.cs_board.specs.inner.Sittings.{IsSittingOf};
 ghost use Rattle.cs_rule.specs.Views.{kept_view, given_view, joined};
 ghost use Rattle.cs_rule.specs.declared.view.Doing.{Doing};
@@ -14,7 +14,7 @@ use std::mem;
 impl<J: Job> Board<J> {
     /// The seat begins a call.
     pub(crate) fn sit(&self, seat: &mut BoardSeat<J>) -> Sitting<J>
-        requires { IsSeatOf J.means self.now seat.old }
+        requires { IsSeatOf J.means (plan self.now) (name self.now) seat.old }
         ensures sitting { IsSittingOf J.means self.now result }
         ensures me { result.me ≡ (view seat.old, []) }
         ensures room { HasRoom (plan self.now) (view seat.old) seat.new }
@@ -30,30 +30,30 @@ impl<J: Job> Board<J> {
         requires note { (d : Doing) → sitting.me.0.doing ≡ Some d → (d.note ≡ seat.old.note)
             × (d.note < (plan self.now).notes) }
         requires room { HasRoom (plan self.now) sitting.me.0 seat.old }
-        ensures seat { IsSeatOf J.means self.now seat.new }
+        ensures seat { IsSeatOf J.means (plan self.now) (name self.now) seat.new }
         ensures view { view seat.new ≡ sitting.me.0 }
         ensures same { (seat.new.note ≡ seat.old.note) × (seat.new.room ≡ seat.old.room) }
     {
         seat.badge = sitting.into_badge();
     }
 
-    /// A new seat of the board, split off the first one.
-    pub fn split(&self, seat: &mut BoardSeat<J>) -> BoardSeat<J>
-        requires seat { IsSeatOf J.means self.now seat.old }
+    /// A new seat of the board, split off the first one. Its rounds over the notes begin at `from`.
+    pub fn split(&self, seat: &mut BoardSeat<J>, from: u32) -> BoardSeat<J>
+        requires seat { IsSeatOf J.means (plan self.now) (name self.now) seat.old }
         requires first { (view seat.old).first ≡ true }
-        ensures seat { IsSeatOf J.means self.now seat.new }
+        ensures seat { IsSeatOf J.means (plan self.now) (name self.now) seat.new }
         ensures view { view seat.new ≡ kept_view (view seat.old) }
-        ensures other { IsSeatOf J.means self.now result }
+        ensures other { IsSeatOf J.means (plan self.now) (name self.now) result }
         ensures new { view result ≡ given_view (view seat.old) }
     {
         let mut sitting = self.sit(seat);
-        let other = self.table.shared.split_seat::<Split>(&mut sitting);
+        let other = self.frame.table.shared.split_seat::<Split>(&mut sitting);
         self.rise(seat, sitting);
         BoardSeat {
             badge: other.into_badge(),
             note: 0,
             opened: None,
-            next: 0,
+            next: from,
             room: None,
         }
     }
@@ -61,13 +61,13 @@ impl<J: Job> Board<J> {
     /// The first seat takes in another, which runs nothing and owes nothing, as after a claim that
     /// answered None.
     pub fn join(&self, seat: &mut BoardSeat<J>, other: BoardSeat<J>)
-        requires seat { IsSeatOf J.means self.now seat.old }
+        requires seat { IsSeatOf J.means (plan self.now) (name self.now) seat.old }
         requires first { (view seat.old).first ≡ true }
-        requires other { IsSeatOf J.means self.now other }
+        requires other { IsSeatOf J.means (plan self.now) (name self.now) other }
         requires later { (view other).first ≡ false }
         requires idle { IsIdle (view other) }
         requires owes { (view other).owes ≡ [] }
-        ensures seat { IsSeatOf J.means self.now seat.new }
+        ensures seat { IsSeatOf J.means (plan self.now) (name self.now) seat.new }
         ensures view { view seat.new ≡ joined (view seat.old) (view other) }
     {
         let mut sitting = self.sit(seat);
@@ -79,7 +79,8 @@ impl<J: Job> Board<J> {
             room,
         } = other;
         let None = room else { unreachable!() };
-        self.table
+        self.frame
+            .table
             .shared
             .join_seat::<Gather>(&mut sitting, badge.into_seat());
         self.rise(seat, sitting);

@@ -5,9 +5,10 @@ ghost use Rattle.cs_board.specs.inner.Sittings.{IsSittingOf, ClosesAt, MovesAt, 
 ghost use Rattle.cs_graph.specs.Graph.{Edge};
 ghost use Rattle.cs_rule.specs.Counts.{listed};
 ghost use Rattle.cs_rule.specs.Facts.{turned_in};
-ghost use Rattle.cs_rule.specs.Plans.{edge_count, area_count, places_used, places_written, before_at, writers_before};
+ghost use Rattle.cs_rule.specs.Plans.{area_count, places_used, places_written, before_at, writers_before};
 ghost use Rattle.cs_rule.specs.Views.{fresh, does, next_phase, ended, shut, opened};
-ghost use Rattle.cs_rule.specs.Words.{watch_at, own_at, turn_at, cell_at};
+ghost use Rattle.cs_rule.specs.Words.{watch_at, own_at, status_at, turn_at, cell_at};
+ghost use Rattle.cs_rule.specs.declared.view.Berth.TheVariants.{Full};
 
 use crate::board::{Board, Sitting};
 use cs_cells::Job;
@@ -18,31 +19,33 @@ use cs_rule::{
 
 impl<J: Job> Board<J> {
     fn watch_word(&self, edge: u32) -> usize
-        requires { edge < edge_count (plan self.now) }
         ensures { result ≡ watch_at (plan self.now) edge }
     {
-        1 + self.notes as usize + edge as usize
+        1 + self.cells as usize + self.areas as usize + 2 * self.notes as usize + edge as usize
     }
 
-    pub(crate) fn own_word(&self, note: u32) -> usize
+    fn own_word(&self, note: u32) -> usize
         ensures { result ≡ own_at (plan self.now) note }
     {
-        1 + self.notes as usize + self.wires.len() as usize + note as usize
+        1 + self.cells as usize + self.areas as usize + self.notes as usize + note as usize
     }
 
-    fn turn_word(&self, area: u32) -> usize
+    pub(crate) fn status_word(&self, note: u32) -> usize
+        ensures { result ≡ status_at (plan self.now) note }
+    {
+        1 + self.cells as usize + self.areas as usize + note as usize
+    }
+
+    pub(crate) fn turn_word(&self, area: u32) -> usize
         ensures { result ≡ turn_at (plan self.now) area }
     {
-        1 + 2 * self.notes as usize + self.wires.len() as usize + area as usize
+        1 + self.cells as usize + area as usize
     }
 
     pub(crate) fn cell_word(&self, addr: u32) -> usize
-        ensures { result ≡ cell_at (plan self.now) addr }
+        ensures { result ≡ cell_at addr }
     {
-        1 + 2 * self.notes as usize
-            + self.wires.len() as usize
-            + self.areas as usize
-            + addr as usize
+        1 + addr as usize
     }
 
     /// One try to claim a note.
@@ -54,9 +57,11 @@ impl<J: Job> Board<J> {
         ensures me { sitting.new.me
             ≡ (tried J.means result sitting.old.me.0 note, sitting.old.me.1) }
     {
-        self.table
+        let word = self.status_word(note);
+        self.frame
+            .table
             .shared
-            .compare_exchange::<Claim>(sitting, 1 + note as usize, AVAILABLE, IN_PROGRESS)
+            .compare_exchange::<Claim>(sitting, word, AVAILABLE, IN_PROGRESS)
             == AVAILABLE
     }
 
@@ -70,10 +75,10 @@ impl<J: Job> Board<J> {
             × (sitting.new.me ≡ (
               does sitting.old.me.0 (job_out (fresh J.means
                   (plan self.now) note)),
-              (note, Some j) ∷ sitting.old.me.1,
+              (note, Full j) ∷ sitting.old.me.1,
             )) }
     {
-        self.table.shared.load::<Take>(sitting, 0);
+        self.frame.table.shared.load::<Take>(sitting, 0);
     }
 
     /// A look at a turn word.
@@ -91,7 +96,7 @@ impl<J: Job> Board<J> {
             + turned_in J.means (plan self.now) area sitting.old.me.0.doing }
     {
         let word = self.turn_word(area);
-        self.table.shared.load::<LookTurn>(sitting, word)
+        self.frame.table.shared.load::<LookTurn>(sitting, word)
     }
 
     /// The own turn of a note that has run.
@@ -104,7 +109,7 @@ impl<J: Job> Board<J> {
             ≡ (does sitting.old.me.0 (ran_out J.means (plan self.now) note 1), sitting.old.me.1) }
     {
         let word = self.own_word(note);
-        self.table.shared.store::<Turn>(sitting, word, 1);
+        self.frame.table.shared.store::<Turn>(sitting, word, 1);
     }
 
     /// The next turn of the note, on a resource that it writes, whose turn word has this value
@@ -124,7 +129,7 @@ impl<J: Job> Board<J> {
             ≡ (does sitting.old.me.0 (next_phase (deed sitting.old.me.0)), sitting.old.me.1) }
     {
         let word = self.turn_word(area);
-        self.table.shared.store::<Turn>(sitting, word, value);
+        self.frame.table.shared.store::<Turn>(sitting, word, value);
     }
 
     /// The job of a note that has run and made its turns comes home.
@@ -136,14 +141,14 @@ impl<J: Job> Board<J> {
         requires job { (j : J) × (slice_get (plan self.now).jobs note ≡ Some j)
             × (sitting.old.me.1 ≡ (
               note,
-              Some (J.means.after j (before_at J.means
+              Full (J.means.after j (before_at J.means
                   (plan self.now) note)),
             ) ∷ []) }
         ensures sitting { IsSittingOf J.means self.now sitting.new }
         ensures me { sitting.new.me
             ≡ (does sitting.old.me.0 (record (deed sitting.old.me.0) { held = false }), []) }
     {
-        self.table.shared.load::<Give>(sitting, 0);
+        self.frame.table.shared.load::<Give>(sitting, 0);
     }
 
     /// The note is Done.
@@ -154,9 +159,8 @@ impl<J: Job> Board<J> {
         ensures sitting { IsSittingOf J.means self.now sitting.new }
         ensures me { sitting.new.me ≡ (ended sitting.old.me.0 note, sitting.old.me.1) }
     {
-        self.table
-            .shared
-            .store::<Finish>(sitting, 1 + note as usize, DONE);
+        let word = self.status_word(note);
+        self.frame.table.shared.store::<Finish>(sitting, word, DONE);
     }
 
     /// An edge from the note is closed. It answers what the watch word was.
@@ -176,7 +180,7 @@ impl<J: Job> Board<J> {
             ≡ (shut sitting.old.me.0 edge note watcher result, sitting.old.me.1) }
     {
         let word = self.watch_word(edge);
-        self.table.shared.swap::<Close>(sitting, word, CLOSED)
+        self.frame.table.shared.swap::<Close>(sitting, word, CLOSED)
     }
 
     /// A waiting note watches its next edge, unless that is closed.
@@ -188,7 +192,8 @@ impl<J: Job> Board<J> {
             ≡ (stopped result sitting.old.me.0 note edge, sitting.old.me.1) }
     {
         let word = self.watch_word(edge);
-        self.table
+        self.frame
+            .table
             .shared
             .compare_exchange::<Watch>(sitting, word, IDLE, WATCHED)
             == IDLE
@@ -202,8 +207,10 @@ impl<J: Job> Board<J> {
         ensures sitting { IsSittingOf J.means self.now sitting.new }
         ensures me { sitting.new.me ≡ (opened sitting.old.me.0 note, sitting.old.me.1) }
     {
-        self.table
+        let word = self.status_word(note);
+        self.frame
+            .table
             .shared
-            .store::<Open>(sitting, 1 + note as usize, AVAILABLE);
+            .store::<Open>(sitting, word, AVAILABLE);
     }
 }

@@ -6,7 +6,7 @@ use Rattle.std.proofs.lemmas.List.{length_push}
 use Rattle.std.proofs.lemmas.List.Elements.{All-push}
 use Rattle.cs_board.specs.Board.{view}
 use Rattle.cs_board.specs.declared.board.BoardSeat.{BoardSeat}
-use Rattle.cs_crew.specs.inner.Crew.{down, IsFirst, IsOther, IsNumbered}
+use Rattle.cs_crew.specs.inner.Numbered.{down, IsFirst, IsOther, IsNumbered}
 use Rattle.cs_crew.proofs.Numbers.{before_last, at_last, all_before, all_last, without_greatest}
 use Rattle.cs_rule.specs.Counts.{without}
 use Rattle.cs_rule.specs.Views.{kept_view, given_view, joined}

@@ -1,9 +1,10 @@
 // A seat for each worker, and the workers at them.
-ghost use Rattle.std.specs.Prelude.{◌≡◌, ◌+◌, ◌<◌, ℕ, [], All, length, slice_index_or};
+ghost use Rattle.std.specs.Prelude.{◌≡◌, ◌+◌, ◌<◌, ◌≤◌, ℕ, [], All, length, slice_index_or};
 ghost use Rattle.std.specs.Vec.{vec_capacity};
 ghost use Rattle.cs_board.specs.Board.{view};
 ghost use Rattle.cs_board.specs.declared.board.BoardSeat.{BoardSeat};
-ghost use Rattle.cs_crew.specs.inner.Crew.{IsReady, IsDone, IsThrough, IsFirst, IsNumbered};
+ghost use Rattle.cs_crew.specs.Crew.{IsReady, IsDone, IsThrough};
+ghost use Rattle.cs_crew.specs.inner.Numbered.{IsFirst, IsNumbered};
 
 use crate::worker::work;
 use cs_board::{Board, BoardSeat};
@@ -13,22 +14,28 @@ use std::sync::Wait;
 use std::thread;
 use std::thread::Threads;
 
-/// Splits so many seats off the first one, and puts them into the list, the first one last.
+/// Splits so many seats off the first one, and puts them into the list, the first one last. Each
+/// begins its rounds over the notes at another place.
 pub(crate) fn seat_all<J: Job>(
     board: &Board<J>,
     mut first: BoardSeat<J>,
     mut seats: Vec<BoardSeat<J>>,
     others: u32,
+    notes: u32,
 ) -> Vec<BoardSeat<J>>
     requires ready { IsReady J.means board.now first }
     requires alone { IsFirst 0 (view first) × ((view first).made ≡ 0) }
     requires room { (seats.items ≡ []) × (others < vec_capacity seats) }
+    requires few { others ≤ 31 }
     ensures ready { All (λ s. IsReady J.means board.now s) result.items }
     ensures numbered { IsNumbered result.items }
     ensures count { length result.items ≡ others + 1 }
 {
+    let stride = notes / (others + 1);
+    let mut from = 0;
     for _ in 0..others {
-        let other = board.split(&mut first);
+        from = stride.saturating_add(from);
+        let other = board.split(&mut first, from);
         seats.push_reserved(other);
     }
     seats.push_reserved(first);

@@ -1,11 +1,11 @@
 //! The crew of a control cycle: 1 to 32 workers that run its notes over one board.
 //!
-//! The one contract: `run_cycle` answers a receipt with the cells and the jobs of the serial run,
-//! for every number of workers and every interleaving of their steps.
+//! The one contract: `run_cycle` answers a receipt with the jobs, and the desk with the cells, of
+//! the serial run, for every number of workers and every interleaving of their steps.
 //!
-//! How many threads are started, and which worker runs which note, may change without anyone above
-//! noticing. In reading order: `worker` (claim, run, finish), `crew` (a seat for each worker),
-//! `cycle`.
+//! How many threads are started, which worker runs which note, and how long one waits for a note
+//! before it leaves, may change without anyone above noticing. In reading order: `worker` (claim,
+//! run, finish), `crew` (a seat for each worker), `cycle`.
 #![tactic(auto)]
 
 mod crew;
@@ -13,3 +13,4 @@ mod cycle;
 mod worker;
 
 pub use cycle::run_cycle;
+pub use worker::work;

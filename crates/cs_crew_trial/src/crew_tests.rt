@@ -1,13 +1,13 @@
 // What no clause of a crew says: that a cycle's end is that of the fold also in numbers worked out,
 // that two workers run at once, and when the gate is called.
-ghost use Rattle.std.specs.Prelude.{◌≡◌, ◌≤◌};
+ghost use Rattle.std.specs.Prelude.{◌≡◌, ◌≤◌, length, All};
+ghost use Rattle.cs_cells.specs.Areas.{word_count};
 
 use crate::{Meeting, Watcher, add_by_crew, counting_jobs, crewed, plays_as_fold, words_after};
 use cs_base::MOST_NOTES;
-use cs_board::{Loaded, Receipt};
 use cs_cells::{Area, Job, Layout};
 use cs_edge::OpenGate;
-use cs_trial::{Foot, laid, single, words_of};
+use cs_trial::{Foot, Loaded, laid, single, words_of};
 use std::alloc::Global;
 use std::sync::Wait;
 use std::sync::atomic::AtomicU64;
@@ -32,7 +32,7 @@ fn meet<R: Threads + Wait + Sync>(
 ) -> (bool, bool)
     requires { (1 ≤ workers) × (workers ≤ 32) }
 {
-    let gate = Meeting::new();
+    let gate = Meeting::new(0, 1_000_000_000);
     let feet: [Foot; 2] = [(&[0], &[0]), (&[1], &[1])];
     let right = match add_by_crew(rt, alloc, workers, &[1, 1], &feet, &[5, 7], &gate) {
         Some(words) => words.as_slice() == after,
@@ -49,6 +49,32 @@ fn independent_notes_meet(rt: HostRuntime) -> Result<(), Fail> {
             (true, true),
             "{workers} workers"
         );
+    }
+    Ok(())
+}
+
+/// One note that writes what two others read, each of which writes a word of its own.
+const READERS: [Foot<'static>; 3] = [(&[0], &[0]), (&[0, 1], &[1]), (&[0, 2], &[2])];
+
+// Whether the readers of one such cycle ran at once.
+fn readers_ran<R: Threads + Wait + Sync>(rt: &R, alloc: Global, workers: u32) -> bool
+    requires { (1 ≤ workers) × (workers ≤ 32) }
+{
+    let gate = Meeting::new(1, 1_000_000);
+    let words = add_by_crew(rt, alloc, workers, &[1, 1, 1], &READERS, &[0, 0, 0], &gate);
+    words.is_some() && gate.took_place()
+}
+
+// A worker that finds no note at first stays, and so the readers meet. A machine may be so busy
+// that it leaves before the writer is done: then the next cycle tells.
+#[test]
+fn readers_meet_after_their_writer(rt: HostRuntime) -> Result<(), Fail> {
+    for workers in [2, 4] {
+        let mut met = false;
+        for _ in 0..100 {
+            met = met || readers_ran(&rt, rt.alloc(), workers);
+        }
+        assert!(rt; met, "{workers} workers");
     }
     Ok(())
 }
@@ -80,7 +106,7 @@ fn count_on<R: Threads + Wait + Sync>(
     }
 }
 
-fn first_after<J: Job + Drop>(played: Result<Receipt<J>, Loaded<J>>) -> Option<u64> {
+fn first_after<J: Job + Drop>(played: Option<Loaded<J>>) -> Option<u64> {
     match words_after(played) {
         Some(words) => words.first().copied(),
         None => None,

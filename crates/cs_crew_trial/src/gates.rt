@@ -3,17 +3,21 @@ use crate::crews::CYCLE;
 use cs_edge::Gate;
 use std::sync::atomic::{AtomicU64, Ordering};
 
-/// Holds whichever of two notes comes first until the other has come, or for a thousand million
+/// Of the notes from one on it holds whichever comes first until another has come, or for so many
 /// turns.
 #[derive(Drop)]
 pub struct Meeting {
+    from: u32,
+    turns: u64,
     arrived: AtomicU64,
     met: AtomicU64,
 }
 
 impl Meeting {
-    pub fn new() -> Meeting {
+    pub fn new(from: u32, turns: u64) -> Meeting {
         Meeting {
+            from,
+            turns,
             arrived: AtomicU64::new(0),
             met: AtomicU64::new(0),
         }
@@ -26,11 +30,11 @@ impl Meeting {
 }
 
 impl Gate for Meeting {
-    fn before(&self, _cycle: u32, _note: u32) {
-        if self.arrived.fetch_add(1, Ordering::SeqCst) != 0 {
+    fn before(&self, _cycle: u32, note: u32) {
+        if note < self.from || self.arrived.fetch_add(1, Ordering::SeqCst) != 0 {
             return;
         }
-        for _ in 0..1_000_000_000u64 {
+        for _ in 0..self.turns {
             if self.arrived.load(Ordering::SeqCst) >= 2 {
                 self.met.store(1, Ordering::SeqCst);
                 return;

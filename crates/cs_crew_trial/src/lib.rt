@@ -2,11 +2,11 @@
 //! several workers run at once, and when the gate is called. Nothing of the product stands on this
 //! crate.
 //!
-//! The one contract: `crewed` meets each condition of `run_cycle`, for any jobs on a layout, and
-//! `after` hands back what the receipt has.
+//! The one contract: `crewed` meets each condition of `run_cycle`, for any jobs on a layout; and
+//! `play_cycles`, a caller that goes by the clauses of `run_cycle` alone, plays cycle after cycle.
 //!
-//! Which cycles are tried may change without anyone above noticing. In reading order: `crews` (a
-//! cycle of any jobs), `counted` (jobs whose runs are counted), `gates` (gates that tell what the
+//! Which cycles are tried may change without anyone above noticing. In reading order: `crews` (one
+//! cycle of any jobs, and several), `counted` (jobs whose runs are counted), `gates` (gates that tell what the
 //! workers did), `random` (cycles of fixed seeds beside the serial fold), and the tests.
 #![tactic(auto)]
 
@@ -16,7 +16,7 @@ mod gates;
 mod random;
 
 pub use counted::{Counted, counting_jobs};
-pub use crews::{CYCLE, add_by_crew, after, crewed, words_after};
+pub use crews::{CYCLE, add_by_crew, crewed, play_cycles, words_after};
 pub use gates::{Meeting, Watcher};
 pub use random::{Dice, plays_as_fold};
 

@@ -2,12 +2,11 @@
 ghost use Rattle.std.specs.Prelude.{◌≡◌, ◌<◌, ◌≤◌, All, IfSome, length};
 ghost use Rattle.cs_cells.specs.Areas.{word_count};
 
-use crate::crews::{after, crewed};
+use crate::crews::crewed;
 use cs_base::Places;
-use cs_board::Loaded;
 use cs_cells::{Area, Footprint, Layout};
 use cs_edge::OpenGate;
-use cs_trial::{Mini, Op, Part, laid, minis, play, words_of};
+use cs_trial::{Loaded, Mini, Op, Part, laid, minis, play, words_of};
 use std::alloc::{AllocError, Global};
 use std::sync::Wait;
 use std::thread::Threads;
@@ -175,7 +174,7 @@ fn agrees<R: Threads + Wait + Sync>(
     let Some(loaded) = loaded_of(alloc, layout, areas, parts, opening) else {
         return false;
     };
-    match after(crewed(rt, alloc, workers, layout, loaded, &OpenGate::new())) {
+    match crewed(rt, alloc, workers, layout, loaded, &OpenGate::new()) {
         Some(played) => same(&played, fold),
         None => false,
     }

@@ -1,8 +1,9 @@
 -- No note is lost, and what lies on the board at the end is the serial run.
-use Rattle.std.proofs.Common.{◌≡◌, ◌≢◌, ℕ, zero, suc, ◌+◌, ◌<◌, ◌⊎◌, inl, inr, ⊎_elim, pos, List, [], ◌∷◌, ◌++◌, map, length, get_or, drop, true, false, Option, Some, None, refl, sym, ap, ◌∙◌, subst, arith, ◌==◌, ◌&&◌, not, slice_get, ext_get_or, drop_at, drop-drop, eq-eqb}
-use Rattle.std.proofs.lemmas.Bool.{cases_Bool, cases_eq}
+use Rattle.std.proofs.Common.{◌≡◌, ◌≢◌, ℕ, zero, suc, ◌+◌, ◌-◌, ◌<◌, ◌≤◌, ◌⊎◌, inl, inr, ⊎_elim, pos, List, [], ◌∷◌, ◌++◌, map, length, get_or, take, drop, replicate, true, false, Some, None, refl, sym, ap, ◌∙◌, subst, arith, ◌==◌, ◌&&◌, not, slice_get, ext_get_or, eq-eqb}
+use Rattle.std.proofs.Math.Seq.{take-append_seam}
+use Rattle.std.proofs.lemmas.Bool.{cases_Bool, cases_eq, and_right}
 use Rattle.std.proofs.lemmas.List.{length-map}
-use Rattle.std.proofs.lemmas.Option.{slice_get_within, slice_get-get_or}
+use Rattle.std.proofs.lemmas.Option.{same_Some, slice_get_within, slice_get-get_or}
 use mathlib.Core.Option as maybe
 use mathlib.Core.Option.{some, some-injective}
 use lib.ListN.{get_elem?}
@@ -11,31 +12,42 @@ use Rattle.cs_cells.specs.Cells.{cell, signed, values}
 use Rattle.cs_cells.specs.Meaning.{Meaning, Frames}
 use Rattle.cs_cells.specs.Serial.{serial_cells, serial_jobs}
 use Rattle.cs_cells.proofs.SerialRun.{before-all, length-before, job_at, length-serial_jobs}
-use Rattle.cs_rule.specs.Counts.{one, same, total, times}
-use Rattle.cs_rule.specs.Ending.{IsLast, HasLast, AllDone, IsSerial, cells_in}
-use Rattle.cs_rule.specs.Facts.{spot_on, spot_by, doing_on, does_note, closes_by, moves, owed, is_first, numbered, names, Waits, Kept, job_if}
-use Rattle.cs_rule.specs.Plans.{IsPlan, writes_at, before_at, edge_count, area_count}
-use Rattle.cs_rule.specs.Rule.{Facts, Holds}
-use Rattle.cs_rule.specs.Words.{Words, at, all_words, IsSized, status_at, cell_at}
+use Rattle.cs_rule.specs.Counts.{one, same, total, times, listed}
+use Rattle.cs_rule.specs.Ending.{IsLast, HasLast, AllDone, AllMine, IsSerial, IsOver, cells_in}
+use Rattle.cs_rule.specs.Facts.{has_done, turned_in, turned_on, done_writers, spot_on, spot_by, doing_on, does_note, closes_by, moves, owed, is_first, numbered, names, Waits, Kept, job_if}
+use Rattle.cs_rule.specs.Plans.{IsPlan, writes_at, before_at, area_count, places_written}
+use Rattle.cs_rule.specs.Rule.{Facts, Holds, home_in, stillness}
+use Rattle.cs_rule.specs.Views.{slot_row}
+use Rattle.cs_rule.specs.Words.{Words, at, all_words, IsSized, status_at}
+use Rattle.cs_rule.specs.declared.view.Berth.{Berth}
+use Rattle.cs_rule.specs.declared.view.Berth.TheVariants.{Vacant, Full}
 use Rattle.cs_rule.specs.declared.view.Plan.{Plan}
 use Rattle.cs_rule.specs.declared.view.View.{View}
-use Rattle.cs_rule.proofs.Lists.{total_le, total_two, total_none}
+use Rattle.cs_rule.proofs.Lists.{total_le, total_two, total_none, total_only}
+use Rattle.cs_rule.proofs.Opening.{count_none}
 use Rattle.cs_rule.proofs.AllWords.{get_status}
 use Rattle.cs_rule.proofs.Stores.{quiet}
 
--- what is found at each place of a list, and its length
-pub same_homes : {A B : Type 0} (f : A → B) (hs : List B) (xs : List A) → length hs ≡ length xs
-    → ((i : ℕ) (x : A) → slice_get xs i ≡ Some x → get_elem? hs i ≡ some (f x)) → hs ≡ map f xs
-same_homes f [] [] l h = refl
-same_homes f [] (x ∷ xs) l h = absurd (omega arith)
-same_homes f (y ∷ hs) [] l h = absurd (omega arith)
-same_homes f (y ∷ hs) (x ∷ xs) l h =
-    let here : y ≡ f x = (let e : some y ≡ some (f x) = h 0 x refl in cc) in
-    let rest = same_homes f hs xs (omega arith) (λ i z at_. h (suc i) z at_) in
-    ap (λ z. z ∷ hs) here ∙ ap (λ z. f x ∷ z) rest
+-- the slots by what is found in each: a job for each of these, and no other
+pub row_of : {J : Type 0} (hs : List (maybe.Option (Berth J))) (js : List J) (n : ℕ) → length hs ≡ length js + n
+    → ((i : ℕ) (x : J) → slice_get js i ≡ Some x → get_elem? hs i ≡ some (some (Full x)))
+    → ((i : ℕ) → length js ≤ i → i < length hs → get_elem? hs i ≡ some (some Vacant))
+    → map home_in hs ≡ map (λ j. Some (Full j)) js ++ replicate n (Some Vacant)
+row_of [] [] zero l full vacant = refl
+row_of [] [] (suc n) l full vacant = absurd (omega arith)
+row_of [] (x ∷ js) n l full vacant = absurd (omega arith)
+row_of (h ∷ hs) [] zero l full vacant = absurd (omega arith)
+row_of (h ∷ hs) [] (suc n) l full vacant =
+    let here : h ≡ some Vacant = some-injective _ _ (vacant 0 (omega arith) (omega arith)) in
+    ap (λ z. home_in z ∷ map home_in hs) here
+    ∙ ap (λ z. Some Vacant ∷ z) (row_of hs [] n (omega arith) (λ i x at_. absurd (cc)) (λ i far near. vacant (suc i) (omega arith) (omega arith)))
+row_of (h ∷ hs) (x ∷ js) n l full vacant =
+    let here : h ≡ some (Full x) = some-injective _ _ (full 0 x refl) in
+    ap (λ z. home_in z ∷ map home_in hs) here
+    ∙ ap (λ z. Some (Full x) ∷ z) (row_of hs js n (omega arith) (λ i z at_. full (suc i) z at_) (λ i far near. vacant (suc i) (omega arith) (omega arith)))
 
 module _ {J : Type 0} (M : Meaning J) (F : Frames M) (k : Plan J) (plan : IsPlan M k) (p : Words) (sized : IsSized k p)
-    (hs : List (maybe.Option (Option J))) (vs : List (View J)) (f : Facts M k p hs vs)
+    (hs : List (maybe.Option (Berth J))) (vs : List (View J)) (f : Facts M k p hs vs)
     (id : ℕ) (v : View J) (here : get_elem? vs id ≡ some v) (last : IsLast v) where
   -- another seat isn't the first one
   follows : (j : ℕ) (w : View J) → j ≢ id → get_elem? vs j ≡ some w → w.first ≡ false
@@ -51,7 +63,7 @@ module _ {J : Type 0} (M : Meaning J) (F : Frames M) (k : Plan J) (plan : IsPlan
       (cases_eq j id)
 
   -- every other seat was joined
-  spent : (j : ℕ) (w : View J) → j ≢ id → get_elem? vs j ≡ some w → w.spent ≡ true
+  pub spent : (j : ℕ) (w : View J) → j ≢ id → get_elem? vs j ≡ some w → w.spent ≡ true
   spent j w n at_ = ⊎_elim
       (λ e. e)
       (λ (e : w.spent ≡ false). absurd (
@@ -66,7 +78,8 @@ module _ {J : Type 0} (M : Meaning J) (F : Frames M) (k : Plan J) (plan : IsPlan
     idle = ⊎_elim
         (λ (e : j ≡ id). let s : v ≡ w = some-injective _ _ (sym here ∙ ap (get_elem? vs) (sym e) ∙ at_) in
         subst (λ x. (x.doing ≡ None) × (x.closing ≡ None) × (x.moving ≡ None) × (x.owes ≡ [])) s (last.doing, last.closing, last.moving, last.owes))
-        (λ (n : j ≢ id). let o = (f.sane j w at_).over (spent j w n at_) in (o.0, o.1, o.2, o.3))
+        (λ (n : j ≢ id). let o = sym ((f.sane j w at_).over (spent j w n at_)) in
+        subst (λ x. (x.doing ≡ None) × (x.closing ≡ None) × (x.moving ≡ None) × (x.owes ≡ [])) o (refl, refl, refl, refl))
         (cases_eq j id)
 
   none_does : (t : ℕ) → total (does_note t) vs ≡ 0
@@ -136,13 +149,15 @@ module _ {J : Type 0} (M : Meaning J) (F : Frames M) (k : Plan J) (plan : IsPlan
       map_at (x ∷ xs) zero l = refl
       map_at (x ∷ xs) (suc i) l = map_at xs i (omega arith)
 
-  pub end_homes : length hs ≡ k.notes → hs ≡ map (λ j. some (Some j)) (serial_jobs M k.jobs k.cells)
-  end_homes deep = same_homes (λ j. some (Some j)) hs (serial_jobs M k.jobs k.cells) (deep ∙ sym plan.jobs ∙ sym long) each
+  pub end_homes : k.notes ≤ length hs → ((i : ℕ) → k.notes ≤ i → i < length hs → get_elem? hs i ≡ some (some Vacant))
+      → map home_in hs ≡ slot_row 0 (serial_jobs M k.jobs k.cells) (length hs - k.notes)
+  end_homes deep vacant = row_of hs (serial_jobs M k.jobs k.cells) (length hs - k.notes) (omega (arith, long, plan.jobs, deep)) each
+      (λ i far near. vacant i (omega (arith, long, plan.jobs, far)) near)
     where
       long : length (serial_jobs M k.jobs k.cells) ≡ length k.jobs
       long = length-serial_jobs M k.jobs k.cells
 
-      each : (t : ℕ) (x : J) → slice_get (serial_jobs M k.jobs k.cells) t ≡ Some x → get_elem? hs t ≡ some (some (Some x))
+      each : (t : ℕ) (x : J) → slice_get (serial_jobs M k.jobs k.cells) t ≡ Some x → get_elem? hs t ≡ some (some (Full x))
       each t x is =
           let low : t < k.notes = omega (arith, slice_get_within (serial_jobs M k.jobs k.cells) t x is, long, plan.jobs) in
           let j : J = get_or k.jobs t x in
@@ -150,23 +165,28 @@ module _ {J : Type 0} (M : Meaning J) (F : Frames M) (k : Plan J) (plan : IsPlan
           let d : at p.status t ≡ 3 = done t low in
           let z : Some (M.after j (before_at M k t)) ≡ Some x = sym (job_at M k.jobs k.cells t j at_) ∙ is in
           f.slots.home t j at_ (λ two. omega (arith, two, d))
-          ∙ ap (λ n. some (some (Some (job_if M k (n == 3) t j)))) d
-          ∙ ap (λ o. some (some o)) z
+          ∙ ap (λ n. some (some (Full (job_if M k (n == 3) t j)))) d
+          ∙ ap (λ o. some (some (Full o))) (same_Some _ _ z)
 
--- the cells are the last of the words
-past_drop : (xs ys : List ℕ) (n i : ℕ) → length xs ≡ n → drop (n + i) (xs ++ ys) ≡ drop i ys
-past_drop xs ys n i l = sym (drop-drop i n (xs ++ ys)) ∙ ap (drop i) (drop_at xs ys n l)
+  -- each note stands once among those of the last seat
+  pub all_mine : AllMine k v
+  all_mine t low = sym (total_only (has_done t) vs id v here (λ j w n at_. ap (has_done t) ((f.sane j w at_).over (spent j w n at_))))
+      ∙ f.tallied.having t ∙ ap (λ x. same x 3) (done t low)
 
-pub row_cells : {J : Type 0} (k : Plan J) (w : Words) → IsSized k w → cells_in k (all_words k.notes w) ≡ w.cells
-row_cells k w s =
-    let e : cell_at k 0 ≡ suc (k.notes + (edge_count k + (k.notes + (area_count k + 0)))) = omega arith in
-    ap (λ n. drop n (all_words k.notes w)) e
-    ∙ past_drop w.status (w.watch ++ (w.own ++ (w.turns ++ w.cells))) k.notes (edge_count k + (k.notes + (area_count k + 0))) s.status
-    ∙ past_drop w.watch (w.own ++ (w.turns ++ w.cells)) (edge_count k) (k.notes + (area_count k + 0)) s.watch
-    ∙ past_drop w.own (w.turns ++ w.cells) k.notes (area_count k + 0) s.own
-    ∙ past_drop w.turns w.cells (area_count k) 0 s.turns
+  -- a turn word that no note of the cycle writes
+  pub unturned : (r : ℕ) → r < area_count k → ((t : ℕ) → listed (places_written M k t) r ≡ false) → at p.turns r ≡ 0
+  unturned r low none = f.turned r low ∙ omega (
+    arith,
+    (let z : done_writers M k p.status r ≡ 0 = count_none (λ u. at p.status u == 3 && listed (places_written M k u) r) k.notes
+        (λ u. ap (λ b. at p.status u == 3 && b) (none u) ∙ and_right (at p.status u == 3) false refl) in z),
+    total_none (turned_on M k r) vs (λ j w a. ap (turned_in M k r) (idle j w a).0),
+  )
 
-module _ {J : Type 0} (M : Meaning J) (F : Frames M) (k : Plan J) (s : State (Option J) (View J)) (h : Holds M k s) (l : HasLast s) where
+-- the cells are the first of the words
+pub row_cells : {J : Type 0} (k : Plan J) (w : Words) → IsSized k w → cells_in k (all_words w) ≡ w.cells
+row_cells k w s = ap (λ n. take n (drop 1 (all_words w))) (sym s.cells) ∙ take-append_seam w.cells (w.turns ++ (w.status ++ (w.own ++ (w.watch ++ w.spare))))
+
+module _ {J : Type 0} (M : Meaning J) (F : Frames M) (k : Plan J) (s : State (Berth J) (View J)) (h : Holds M k s) (l : HasLast s) where
   pub nothing_lost : AllDone k s
   nothing_lost t low = ap (λ ws. at ws (status_at k t)) h.words ∙ get_status k h.parts h.sized t low
       ∙ done M F k h.plan h.parts h.sized s.homes s.views h.facts l.0 l.1 l.2 l.3 t low
@@ -175,5 +195,20 @@ module _ {J : Type 0} (M : Meaning J) (F : Frames M) (k : Plan J) (s : State (Op
   ends_serial = record {
     cells = ap (λ ws. values (cells_in k ws)) h.words ∙ ap values (row_cells k h.parts h.sized)
         ∙ end_cells M F k h.plan h.parts h.sized s.homes s.views h.facts l.0 l.1 l.2 l.3;
-    jobs = end_homes M F k h.plan h.parts h.sized s.homes s.views h.facts l.0 l.1 l.2 l.3 h.deep;
+    vacant = length s.homes - k.notes;
+    jobs = end_homes M F k h.plan h.parts h.sized s.homes s.views h.facts l.0 l.1 l.2 l.3 h.deep h.vacant;
   }
+
+  pub ends_over : IsOver k M (stillness s)
+  ends_over = record {
+    parts = h.parts;
+    words = h.words;
+    sized = h.sized;
+    cells = end_cells M F k h.plan h.parts h.sized s.homes s.views h.facts l.0 l.1 l.2 l.3;
+    turns = unturned M F k h.plan h.parts h.sized s.homes s.views h.facts l.0 l.1 l.2 l.3;
+    vacant = length s.homes - k.notes;
+    homes = end_homes M F k h.plan h.parts h.sized s.homes s.views h.facts l.0 l.1 l.2 l.3 h.deep h.vacant;
+  }
+
+  pub ends_mine : AllMine k l.1
+  ends_mine = all_mine M F k h.plan h.parts h.sized s.homes s.views h.facts l.0 l.1 l.2 l.3

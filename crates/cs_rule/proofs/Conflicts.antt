@@ -104,14 +104,7 @@ module _ {J : Type 0} (M : Meaning J) where
     pub written_within : (t r : ℕ) → Contains (places_written M k t) r → t < k.notes
     written_within t r c = omega (arith, (writes_foot t r c).0, plan.jobs)
 
-    -- the same of cells
-    pub writer_user_at : (p t a : ℕ) → p < t → writes_at M k p a ≡ true → uses_at M k t a ≡ true → Conflict (feet M k) p t
-    writer_user_at p t a low w u = let s = shared k.areas (places_written M k p) (places_used M k t) a plan.laid w u in writer_user p t s.0 low s.1 s.2
-
-    pub user_writer_at : (p t a : ℕ) → p < t → uses_at M k p a ≡ true → writes_at M k t a ≡ true → Conflict (feet M k) p t
-    user_writer_at p t a low u w = let s = shared k.areas (places_used M k p) (places_written M k t) a plan.laid u w in user_writer p t s.0 low s.1 s.2
-
-    -- what is written is used, cell by cell, and only cells of the layout are
+    -- what is written is used, cell by cell
     covers_more : (areas : List Area) (P Q : List ℕ) (a : ℕ) → ((r : ℕ) → Contains P r → listed Q r ≡ true) → covers areas P a ≡ true → covers areas Q a ≡ true
     covers_more areas P Q a sub h =
         let x = covered_place areas P a h in
@@ -124,11 +117,26 @@ module _ {J : Type 0} (M : Meaning J) where
         covers_in areas (y ∷ ys) zero r a l e h = or_left (in_area (slice_get areas y) a) (covers areas ys a) (subst (λ z. in_area (slice_get areas z) a ≡ true) (sym e) h)
         covers_in areas (y ∷ ys) (suc i) r a l e h = or_right (in_area (slice_get areas y) a) (covers areas ys a) (covers_in areas ys i r a (omega arith) e h)
 
-    pub written_used_at : (t a : ℕ) → writes_at M k t a ≡ true → uses_at M k t a ≡ true
-    written_used_at t a h = covers_more k.areas (places_written M k t) (places_used M k t) a (λ r c. listed_of (places_used M k t) r (written_used t r c)) h
+    used_covers : (t a : ℕ) → uses_at M k t a ≡ true → covers k.areas (places_used M k t) a ≡ true
+    used_covers t a h = ⊎_elim
+        (λ u. u)
+        (λ w. covers_more k.areas (places_written M k t) (places_used M k t) a (λ r c. listed_of (places_used M k t) r (written_used t r c)) w)
+        (or_cases (covers k.areas (places_used M k t) a) (covers k.areas (places_written M k t) a) h)
 
+    -- the same of cells
+    pub writer_user_at : (p t a : ℕ) → p < t → writes_at M k p a ≡ true → uses_at M k t a ≡ true → Conflict (feet M k) p t
+    writer_user_at p t a low w u = let s = shared k.areas (places_written M k p) (places_used M k t) a plan.laid w (used_covers t a u) in writer_user p t s.0 low s.1 s.2
+
+    pub user_writer_at : (p t a : ℕ) → p < t → uses_at M k p a ≡ true → writes_at M k t a ≡ true → Conflict (feet M k) p t
+    user_writer_at p t a low u w = let s = shared k.areas (places_used M k p) (places_written M k t) a plan.laid (used_covers p a u) w in user_writer p t s.0 low s.1 s.2
+
+    pub written_used_at : (t a : ℕ) → writes_at M k t a ≡ true → uses_at M k t a ≡ true
+    written_used_at t a h = or_right (covers k.areas (places_used M k t) a) (covers k.areas (places_written M k t) a) h
+
+    -- only cells of the layout are used
     pub used_within : (t a : ℕ) → uses_at M k t a ≡ true → (a < length k.cells) × (t < k.notes)
-    used_within t a h =
+    used_within t a u =
+        let h : covers k.areas (places_used M k t) a ≡ true = used_covers t a u in
         let x = covered_place k.areas (places_used M k t) a h in
         let f = uses_foot t x.1 (contains_at (places_used M k t) x.0 x.1 x.2) in
         (omega (arith, covered_below k.areas (places_used M k t) a plan.laid h, plan.cells), omega (arith, f.0, plan.jobs))
@@ -142,7 +150,7 @@ module _ {J : Type 0} (M : Meaning J) where
           reached p q r (λ z. omega arith)
 
       pub past : (p t : ℕ) → Conflict (feet M k) p t → at st t ≢ 0 → at st p ≡ 3
-      past p t c n = reached p t (plan.fit p t c) n
+      past p t c n = reached p t (plan.fit.all p t c) n
 
       -- two notes of which one writes a place or a cell that the other uses: both begun and not Done, they are one
       both : (p t : ℕ) → (p < t → Conflict (feet M k) p t) → (t < p → Conflict (feet M k) t p) → at st p ≢ 0 → at st p ≢ 3 → at st t ≢ 0 → at st t ≢ 3 → p ≡ t

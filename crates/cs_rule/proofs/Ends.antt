@@ -1,5 +1,5 @@
 -- A note is Done, and its watchers move on: these steps keep the facts.
-use Rattle.std.proofs.Common.{◌≡◌, ◌≢◌, ℕ, ◌+◌, ◌<◌, ◌≤◌, ◌⊎◌, inl, inr, ⊎_elim, List, length, set, Bool, true, false, cond, Option, Some, None, refl, sym, ap, ◌∙◌, subst, arith, ◌==◌, ◌&&◌, nat_le, slice_get, eq-eqb, ne_eqb, le-leb}
+use Rattle.std.proofs.Common.{◌≡◌, ◌≢◌, ℕ, ◌+◌, ◌<◌, ◌≤◌, ◌⊎◌, inl, inr, ⊎_elim, List, length, set, Bool, true, false, cond, Some, None, refl, sym, ap, ◌∙◌, subst, arith, ◌==◌, ◌&&◌, nat_le, slice_get, eq-eqb, ne_eqb, le-leb}
 use Rattle.std.proofs.lemmas.Bool.{cases_eq, cases_lt}
 use Rattle.std.proofs.lemmas.Option.{same_Some, slice_get_within}
 use mathlib.Core.Option as maybe
@@ -13,6 +13,7 @@ use Rattle.cs_rule.specs.Plans.{IsPlan, places_written}
 use Rattle.cs_rule.specs.Rule.{Facts}
 use Rattle.cs_rule.specs.Views.{ended, shut}
 use Rattle.cs_rule.specs.Words.{Words, at, IsSized}
+use Rattle.cs_rule.specs.declared.view.Berth.{Berth}
 use Rattle.cs_rule.specs.declared.view.Doing.{Doing}
 use Rattle.cs_rule.specs.declared.view.Plan.{Plan}
 use Rattle.cs_rule.specs.declared.view.Spot.{Spot}
@@ -29,7 +30,7 @@ one_zero : (a b : Bool) → a ≡ false → one (a && b) ≡ 0
 one_zero a b e = ap (λ x. one (x && b)) e
 
 module _ {J : Type 0} (M : Meaning J) (F : Frames M) (k : Plan J) (plan : IsPlan M k) (p : Words) (sized : IsSized k p)
-    (hs : List (maybe.Option (Option J))) (vs : List (View J)) (id : ℕ) (v : View J) (here : get_elem? vs id ≡ some v) (f : Facts M k p hs vs) where
+    (hs : List (maybe.Option (Berth J))) (vs : List (View J)) (id : ℕ) (v : View J) (here : get_elem? vs id ≡ some v) (f : Facts M k p hs vs) where
   -- a view that has a spot does no note
   pub not_doing : (s : Spot) → (v.closing ≡ Some s) ⊎ (v.moving ≡ Some s) → v.doing ≡ None
   not_doing s h = ⊎_elim (λ none. none)
@@ -44,7 +45,7 @@ module _ {J : Type 0} (M : Meaning J) (F : Frames M) (k : Plan J) (plan : IsPlan
       → Facts M k (record p { status = set p.status d.note 3 }) hs (set vs id (ended v d.note))
   facts_ended d v_plan doing free phase live = record {
     gates = gates_status k st p.watch d.note 3 near f.gates (omega arith) (λ n e q edge. f.gates.closed e q d.note edge (λ z. omega (arith, running))) (λ z. refl);
-    sane = sane_step k vs id v w here (λ s. sane_live k v w live refl refl refl refl (inl refl) s.owes_in s) f.sane;
+    sane = sane_step k vs id v w here (λ s. sane_live k v w live refl refl refl refl refl (inl refl) s.owes_in s) f.sane;
     doers = doers_step k vs id v w here st st' (λ u. let mine : does_note u v ≡ same d.note u = ap (doing_on u) doing in ⊎_elim
         (λ h. let a : same d.note u ≡ 1 = same_yes d.note u (sym h.0) in
         let b : same (at st u) 2 ≡ 1 = ap (λ n. same n 2) (ap (at st) h.0 ∙ running) in
@@ -137,7 +138,7 @@ module _ {J : Type 0} (M : Meaning J) (F : Frames M) (k : Plan J) (plan : IsPlan
         (λ u. omega (arith, ap (times u) mine)) f.tallied;
     seats = seats_step k vs id v w here lead number out made f.seats;
     owned = owned_step k vs id v w here p.status p.status p.own p.own (λ u. omega (arith, ap (ran_on u) (idle' ∙ sym idle))) f.owned;
-    slots = slots_step M k vs id v w here p.status p.status hs hs f.slots.home (λ d j e free at_. absurd (let z : Some d ≡ None = sym e ∙ idle' in cc)) (λ i y d n e z. refl) f.slots;
+    slots = slots_step M k vs id v w here p.status p.status hs hs f.slots.home (λ d j e free at_. absurd (let z : Some d ≡ None = sym e ∙ idle' in cc)) (λ d e held. absurd (let z : Some d ≡ None = sym e ∙ idle' in cc)) (λ i y d n e z. refl) f.slots;
     stored = stored_step M F k plan p.status p.watch p.cells vs id v w here f.gates p.status (λ u. refl) (λ u z. z) (λ d e. absurd (let z : Some d ≡ None = sym e ∙ idle' in cc)) f.stored;
     turned = turned_still M k p.status vs id v w here p.status p.turns (λ u. refl) (λ r. ap (turned_in M k r) (idle' ∙ sym idle)) f.turned;
   }
@@ -194,7 +195,7 @@ module _ {J : Type 0} (M : Meaning J) (F : Frames M) (k : Plan J) (plan : IsPlan
   facts_shut e q t i edge v_plan closing no_moving low first live =
       facts_aside w (set p.watch e 2) idle idle refl refl refl refl (λ x. refl) refl refl
       (gates_watch k p.status p.watch e 2 near f.gates (omega arith) (λ z r u edge'. ap (at p.status) (sym (one_source e q t r u edge edge')) ∙ source_done) (λ z. refl))
-      (λ s. sane_live k v w live refl refl refl refl (inl idle) s.owes_in s)
+      (λ s. sane_live k v w live refl refl refl refl refl (inl idle) s.owes_in s)
       (watches_step k vs id v w here p.status p.status p.watch (set p.watch e 2)
       (λ r. let a : closes r v ≡ same q r = ap (spot_on r) closing in let b : closes r w ≤ same q r = closing_on v.plan.edges q (e + 1) r in omega arith)
       goes waits

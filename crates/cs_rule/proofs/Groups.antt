@@ -43,15 +43,16 @@ module _ {J : Type 0} (k : Plan J) where
   }
 
 -- a view that takes part stays sane where its duty and what it owes are
-pub sane_live : {J : Type 0} (k : Plan J) (v w : View J) → v.spent ≡ false → w.spent ≡ v.spent → w.plan ≡ v.plan → w.first ≡ v.first → w.out ≡ v.out
+pub sane_live : {J : Type 0} (k : Plan J) (v w : View J) → v.spent ≡ false → w.spent ≡ v.spent → w.plan ≡ v.plan → w.first ≡ v.first → w.out ≡ v.out → w.rest ≡ v.rest
     → (w.doing ≡ None) ⊎ ((w.closing ≡ None) × (w.moving ≡ None)) → ((t : ℕ) → 0 < owed t w → t < k.notes) → IsSane k v → IsSane k w
-sane_live k v w live spent plan first out duty owes s = record {
+sane_live k v w live spent plan first out rest duty owes s = record {
   plan = λ z. plan ∙ s.plan live;
   one_duty = duty;
   owes_in = owes;
   follower = λ z. out ∙ s.follower (sym first ∙ z);
   leader = λ z. spent ∙ live;
   over = λ z. absurd (let e : true ≡ false = sym z ∙ spent ∙ live in cc);
+  playing = rest ∙ s.playing;
 }
 
 module _ {J : Type 0} (k : Plan J) (vs : List (View J)) (id : ℕ) (v w : View J) (here : get_elem? vs id ≡ some v) where

@@ -14,6 +14,8 @@ pub mod Moves
 pub mod Allowed
 pub mod Running
 pub mod Seating
-pub mod Closing
 pub mod Opening
+pub mod Closing
 pub mod Ran
+pub mod Rests
+pub mod Kept

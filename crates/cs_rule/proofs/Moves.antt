@@ -1,5 +1,5 @@
 -- A watcher watches its next edge, or is opened: these steps keep the facts.
-use Rattle.std.proofs.Common.{◌≡◌, ◌≢◌, ℕ, ◌+◌, ◌<◌, ◌≤◌, inl, inr, ⊎_elim, List, length, set, false, Option, Some, None, refl, sym, ap, ◌∙◌, subst, arith}
+use Rattle.std.proofs.Common.{◌≡◌, ◌≢◌, ℕ, ◌+◌, ◌<◌, ◌≤◌, inl, inr, ⊎_elim, List, length, set, false, Some, None, refl, sym, ap, ◌∙◌, subst, arith}
 use Rattle.std.proofs.lemmas.Bool.{cases_eq, cases_lt}
 use mathlib.Core.Option as maybe
 use mathlib.Core.Option.{some}
@@ -12,6 +12,7 @@ use Rattle.cs_rule.specs.Plans.{IsPlan}
 use Rattle.cs_rule.specs.Rule.{Facts}
 use Rattle.cs_rule.specs.Views.{settled, passed, opened}
 use Rattle.cs_rule.specs.Words.{Words, at, IsSized}
+use Rattle.cs_rule.specs.declared.view.Berth.{Berth}
 use Rattle.cs_rule.specs.declared.view.Plan.{Plan}
 use Rattle.cs_rule.specs.declared.view.View.{View}
 use Rattle.cs_rule.proofs.Begins.{three_still}
@@ -25,7 +26,7 @@ use Rattle.cs_rule.proofs.Stores.{stored_step}
 use Rattle.cs_rule.proofs.Turns.{turned_still}
 
 module _ {J : Type 0} (M : Meaning J) (F : Frames M) (k : Plan J) (plan : IsPlan M k) (p : Words) (sized : IsSized k p)
-    (hs : List (maybe.Option (Option J))) (vs : List (View J)) (id : ℕ) (v : View J) (here : get_elem? vs id ≡ some v) (f : Facts M k p hs vs)
+    (hs : List (maybe.Option (Berth J))) (vs : List (View J)) (id : ℕ) (v : View J) (here : get_elem? vs id ≡ some v) (f : Facts M k p hs vs)
     (t i : ℕ) (moving : v.moving ≡ Some (record { note = t; from = i })) (live : v.spent ≡ false) where
   idle : v.doing ≡ None
   idle = not_doing M F k plan p sized hs vs id v here f (record { note = t; from = i }) (inr moving)
@@ -60,7 +61,7 @@ module _ {J : Type 0} (M : Meaning J) (F : Frames M) (k : Plan J) (plan : IsPlan
   facts_settled e q edge low first found =
       facts_aside M F k plan p sized hs vs id v here f w (set p.watch e 1) idle idle refl refl refl refl (λ x. refl) refl refl
       (gates_watch k p.status p.watch e 1 near f.gates (omega arith) (λ z. absurd (omega arith)) (λ z. absurd (omega arith)))
-      (λ s. sane_live k v w live refl refl refl refl (inl idle) s.owes_in s)
+      (λ s. sane_live k v w live refl refl refl refl refl (inl idle) s.owes_in s)
       (watches_step k vs id v w here p.status p.status p.watch (set p.watch e 1)
       (λ r. omega arith)
       (λ g r u edge' d. inr (inr (d, (λ c. ⊎_elim (λ y. absurd (let z : at p.watch g ≡ 0 = ap (at p.watch) y.0 ∙ found in omega arith)) (λ y. y.1 ∙ c) (put_cases p.watch e 1 g near)), omega arith)))
@@ -100,7 +101,7 @@ module _ {J : Type 0} (M : Meaning J) (F : Frames M) (k : Plan J) (plan : IsPlan
   facts_passed e q edge low first found =
       facts_aside M F k plan p sized hs vs id v here f w p.watch idle idle refl refl refl refl (λ x. refl) refl refl
       f.gates
-      (λ s. sane_live k v w live refl refl refl refl (inl idle) s.owes_in s)
+      (λ s. sane_live k v w live refl refl refl refl refl (inl idle) s.owes_in s)
       (watches_step k vs id v w here p.status p.status p.watch p.watch
       (λ r. omega arith)
       (λ g r u edge' d. inr (inr (d, (λ c. c), omega arith)))
@@ -148,7 +149,7 @@ module _ {J : Type 0} (M : Meaning J) (F : Frames M) (k : Plan J) (plan : IsPlan
   pub facts_opened : ((g r : ℕ) → Edge k.edges g r t → g < i) → Facts M k (record p { status = set p.status t 1 }) hs (set vs id (opened v t))
   facts_opened last = record {
     gates = gates_status k p.status p.watch t 1 near f.gates (omega arith) (λ n e q edge. h.before e q edge (omega (arith, last e q edge, known.2))) (λ z. absurd (omega (arith, waiting)));
-    sane = sane_step k vs id v w here (λ s. sane_live k v w live refl refl refl refl (inl idle) (λ u some_. ⊎_elim
+    sane = sane_step k vs id v w here (λ s. sane_live k v w live refl refl refl refl refl (inl idle) (λ u some_. ⊎_elim
         (λ (e : u ≡ t). omega (arith, within))
         (λ (n : u ≢ t). s.owes_in u (omega (arith, some_, times-snoc u v.owes t, same_no t u (λ z. n (sym z)))))
         (cases_eq u t)) s) f.sane;
@@ -181,7 +182,7 @@ module _ {J : Type 0} (M : Meaning J) (F : Frames M) (k : Plan J) (plan : IsPlan
         f.tallied;
     seats = seats_step k vs id v w here refl (λ x. refl) refl refl f.seats;
     owned = owned_step k vs id v w here p.status st' p.own p.own (λ u. omega (arith, three_still p.status t 1 0 near waiting refl u)) f.owned;
-    slots = slots_status M k vs id v w here p.status hs t 1 0 near waiting (λ z. omega arith) refl (λ d j e free at_. absurd (let z : Some d ≡ None = sym e ∙ idle in cc)) f.slots;
+    slots = slots_status M k vs id v w here p.status hs t 1 0 near waiting (λ z. omega arith) refl (λ d j e free at_. absurd (let z : Some d ≡ None = sym e ∙ idle in cc)) (λ d e held. absurd (let z : Some d ≡ None = sym e ∙ idle in cc)) f.slots;
     stored = stored_step M F k plan p.status p.watch p.cells vs id v w here f.gates st' (alike p.status t 1 0 near waiting refl)
         (λ u z. ⊎_elim (λ y. absurd (let a : at p.status u ≡ 0 = ap (at p.status) y.0 ∙ waiting in omega arith)) (λ y. y.1 ∙ z) (put_cases p.status t 1 u near))
         (λ d e. absurd (let z : Some d ≡ None = sym e ∙ idle in cc)) f.stored;

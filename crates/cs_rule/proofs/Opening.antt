@@ -1,24 +1,26 @@
 -- The board at the opening keeps the rule.
-use Rattle.std.proofs.Common.{◌≡◌, ◌≢◌, ℕ, zero, suc, ◌+◌, ◌<◌, ◌≤◌, ◌⊎◌, inl, inr, ⊎_elim, List, [], ◌∷◌, ◌++◌, map, length, take, Bool, true, false, cond, Some, None, refl, sym, ap, ◌∙◌, subst, arith, ◌==◌, ◌&&◌, ◌||◌, slice_get, eq-eqb, eqb-true, length-append}
+use Rattle.std.proofs.Common.{◌≡◌, ◌≢◌, ℕ, zero, suc, ◌+◌, ◌<◌, ◌≤◌, ◌⊎◌, inl, inr, ⊎_elim, List, [], ◌∷◌, ◌++◌, length, take, Bool, true, false, cond, Some, refl, sym, ap, ◌∙◌, subst, arith, ◌==◌, ◌&&◌, ◌||◌, slice_get, eq-eqb, eqb-true, length-append}
 use Rattle.std.proofs.lemmas.Bool.{cases_Bool, cases_eq, cases_lt, or_right}
 use Rattle.std.proofs.lemmas.List.{length-map, get_or_past, get_or_append_left, get_or_at}
 use Rattle.std.proofs.lemmas.Option.{slice_get_within, get_or_from_slice_get}
-use mathlib.Core.Option.{some}
+use mathlib.Core.Option as maybe
+use mathlib.Core.Option.{some, some-injective}
 use lib.ListN.{get_elem?}
-use Rattle.atomic_table.specs.Table.{opening}
 use Rattle.cs_cells.specs.Cells.{cell, signed, values}
 use Rattle.cs_cells.specs.Meaning.{Meaning}
 use Rattle.cs_graph.specs.Graph.{Edge}
-use Rattle.cs_rule.specs.Counts.{one, same, times, listed, count_below}
-use Rattle.cs_rule.specs.Facts.{IsSane, Waits, done_writers, job_if, Found}
+use Rattle.cs_rule.specs.Counts.{one, same, total, times, listed, count_below}
+use Rattle.cs_rule.specs.Facts.{IsSane, Waits, done_writers, job_if, Found, does_note, ran_note, closes, moves, owed, has_done, is_first, numbered, names, turned_on}
 use Rattle.cs_rule.specs.inner.Opening.{each_below, first_status, later_end, first_watch, opening_words}
-use Rattle.cs_rule.specs.Plans.{IsPlan, IsRoot, leads_in, edge_count, area_count, before_at, places_written}
-use Rattle.cs_rule.specs.Rule.{Facts, Holds}
-use Rattle.cs_rule.specs.Views.{roots_below, opening_view}
-use Rattle.cs_rule.specs.Words.{Words, at, all_words, IsSized}
+use Rattle.cs_rule.specs.Plans.{IsRoot, leads_in, edge_count, area_count, before_at, places_written}
+use Rattle.cs_rule.specs.Rule.{Facts}
+use Rattle.cs_rule.specs.Views.{roots_below, opening_view, spent_view}
+use Rattle.cs_rule.specs.Words.{Words, at, IsSized}
+use Rattle.cs_rule.specs.declared.view.Berth.{Berth}
+use Rattle.cs_rule.specs.declared.view.Berth.TheVariants.{Full}
 use Rattle.cs_rule.specs.declared.view.Plan.{Plan}
 use Rattle.cs_rule.specs.declared.view.View.{View}
-use Rattle.cs_rule.proofs.Lists.{same_yes, same_no}
+use Rattle.cs_rule.proofs.Lists.{same_yes, same_no, total_only}
 
 -- a list of the values below a number
 pub length-each_below : (f : ℕ → ℕ) (n : ℕ) → length (each_below f n) ≡ n
@@ -85,19 +87,16 @@ root_out edges (suc n) t l =
     ap (λ z. times t (cond z (roots_below edges n) (n ∷ roots_below edges n))) b ∙ (let c : same n t + times t (roots_below edges n) ≡ 0 = omega arith in c))
     (cases_Bool (leads_in edges n))
 
--- the jobs lie in their slots in order
-home_of : {J : Type 0} (js : List J) (t : ℕ) (j : J) → slice_get js t ≡ Some j → get_elem? (map some (map Some js)) t ≡ some (some (Some j))
-home_of [] t j h = absurd (cc)
-home_of (x ∷ js) zero j h = ap some (ap some h)
-home_of (x ∷ js) (suc t) j h = home_of js t j h
-
-count_none : (P : ℕ → Bool) (n : ℕ) → ((u : ℕ) → P u ≡ false) → count_below P n ≡ 0
+pub count_none : (P : ℕ → Bool) (n : ℕ) → ((u : ℕ) → P u ≡ false) → count_below P n ≡ 0
 count_none P zero h = refl
 count_none P (suc n) h = let a : count_below P n ≡ 0 = count_none P n h in let b : one (P n) ≡ 0 = ap one (h n) in omega arith
 
-module _ {J : Type 0} (M : Meaning J) (k : Plan J) (ws : List ℕ) (same_values : values ws ≡ k.cells) where
+module _ {J : Type 0} (M : Meaning J) (k : Plan J) (ws spare : List ℕ) (same_values : values ws ≡ k.cells) (long : length spare ≡ k.spare)
+    (hs : List (maybe.Option (Berth J))) (home : (t : ℕ) (j : J) → slice_get k.jobs t ≡ Some j → get_elem? hs t ≡ some (some (Full j)))
+    (vs : List (View J)) (id : ℕ) (here : get_elem? vs id ≡ some (opening_view k))
+    (others : (j : ℕ) (w : View J) → j ≢ id → get_elem? vs j ≡ some w → w ≡ spent_view) where
   abbrev begins : Words
-  begins = opening_words k ws
+  begins = opening_words k ws spare
 
   abbrev st : List ℕ
   st = each_below (first_status k.edges) k.notes
@@ -105,8 +104,9 @@ module _ {J : Type 0} (M : Meaning J) (k : Plan J) (ws : List ℕ) (same_values 
   abbrev wt : List ℕ
   wt = each_below (first_watch k.edges) (edge_count k)
 
-  abbrev only : List (View J)
-  only = opening_view k ∷ []
+  -- every other view is spent
+  only : (g : View J → ℕ) → g spent_view ≡ 0 → total g vs ≡ g (opening_view k)
+  only g none = total_only g vs id (opening_view k) here (λ j w n e. ap g (others j w n e) ∙ none)
 
   pub opening_sized : IsSized k begins
   opening_sized = record {
@@ -115,6 +115,7 @@ module _ {J : Type 0} (M : Meaning J) (k : Plan J) (ws : List ℕ) (same_values 
     own = length-each_below (λ t. 0) k.notes;
     turns = length-each_below (λ r. 0) (area_count k);
     cells = sym (length-map ws signed) ∙ ap length same_values;
+    spare = long;
   }
 
   status_is : (t : ℕ) → (at st t ≡ 0) ⊎ ((at st t ≡ 1) × (t < k.notes) × (leads_in k.edges t ≡ false))
@@ -158,19 +159,19 @@ module _ {J : Type 0} (M : Meaning J) (k : Plan J) (ws : List ℕ) (same_values 
       (λ b. absurd (let o : at st t ≡ 1 = at_each_below (first_status k.edges) k.notes t low ∙ ap (λ y. cond y 0 1) b in omega arith))
       (cases_Bool (leads_in k.edges t))
 
-  opening_waits : (t : ℕ) → t < k.notes → at st t ≡ 0 → Waits k wt only t
+  opening_waits : (t : ℕ) → t < k.notes → at st t ≡ 0 → Waits k wt vs t
   opening_waits t low z = let f = first_edge k.edges t (led t low z) in record {
     edge = f.0;
     before = λ e p h l. absurd (let b : true ≡ false = sym (leads_by_earlier k.edges f.0 e p t l h) ∙ f.3 in cc);
     after = λ e p h l o. let b : at wt e ≡ 0 = watch_is e p t h ∙ ap (λ y. cond y 0 1) (leads_by_earlier k.edges e f.0 f.1 t l f.2) in omega (arith, o);
-    who = inl (f.1, f.2, watch_is f.0 f.1 t f.2 ∙ ap (λ y. cond y 0 1) f.3, refl);
+    who = inl (f.1, f.2, watch_is f.0 f.1 t f.2 ∙ ap (λ y. cond y 0 1) f.3, only (moves t) refl);
     some_edge = (f.0, f.1, f.2);
   }
 
   root_free : (t : ℕ) → IsRoot k t → leads_in k.edges t ≡ false
   root_free t root = ⊎_elim (λ b. absurd (let f = first_edge k.edges t b in root f.0 f.1 f.2)) (λ b. b) (cases_Bool (leads_in k.edges t))
 
-  opening_facts : Facts M k begins (map some (map Some k.jobs)) only
+  pub opening_facts : Facts M k begins hs vs
   opening_facts = record {
     gates = record {
       statuses = λ t. omega (arith, status_low t);
@@ -182,32 +183,33 @@ module _ {J : Type 0} (M : Meaning J) (k : Plan J) (ws : List ℕ) (same_values 
       done = λ e p t h c. absurd (omega (arith, watch_low e, c));
     };
     sane = λ i v e. sane_one i v e;
-    doers = λ t. sym (same_none t 2 (omega arith));
+    doers = λ t. only (does_note t) refl ∙ sym (same_none t 2 (omega arith));
     watches = record {
-      closing = λ p. omega arith;
+      closing = λ p. omega (arith, only (closes p) refl);
       left = λ e p t h d. absurd (open_ p 3 d (omega arith));
       waits = opening_waits;
-      calm = λ t n. refl;
-      moving_in = λ t l. refl;
+      calm = λ t n. only (moves t) refl;
+      moving_in = λ t l. only (moves t) refl;
     };
     tallied = record {
       owing = λ t o. ⊎_elim
           (λ z. absurd (omega (arith, z, o)))
-          (λ a. let r : 0 < times t (roots_below k.edges k.notes) = root_in k.edges k.notes t a.1 a.2 in omega arith)
+          (λ a. let r : 0 < times t (roots_below k.edges k.notes) = root_in k.edges k.notes t a.1 a.2 in omega (arith, only (owed t) refl))
           (status_is t);
       finding = λ i v t e f. absurd (none_found i v t e f);
-      having = λ t. sym (same_none t 3 (omega arith));
+      having = λ t. only (has_done t) refl ∙ sym (same_none t 3 (omega arith));
     };
     seats = record {
-      leading = refl;
-      numbers = λ x. refl;
-      once = λ x. omega arith;
+      leading = only is_first refl;
+      numbers = λ x. only (numbered x) refl ∙ sym (only (names x) refl);
+      once = λ x. omega (arith, only (names x) refl);
       fresh = λ i v x e l. absurd (none_out i v x e l);
     };
-    owned = λ t. omega (arith, zeros k.notes t, same_none t 3 (omega arith));
+    owned = λ t. omega (arith, zeros k.notes t, same_none t 3 (omega arith), only (ran_note t) refl);
     slots = record {
-      home = λ t j h n. home_of k.jobs t j h ∙ ap (λ b. some (some (Some (job_if M k b t j)))) (sym (not_done t));
+      home = λ t j h n. home t j h ∙ ap (λ b. some (some (Full (job_if M k b t j)))) (sym (not_done t));
       resting = λ i v d j e is. absurd (none_doing i v d e is);
+      away = λ i v d e is. absurd (none_doing i v d e is);
     };
     stored = record {
       values = λ a l. record {
@@ -220,34 +222,53 @@ module _ {J : Type 0} (M : Meaning J) (k : Plan J) (ws : List ℕ) (same_values 
       images = λ i v d e is. absurd (none_doing i v d e is);
     };
     turned = λ r l. zeros (area_count k) r ∙ sym (let c : done_writers M k st r ≡ 0
-        = count_none (λ u. at st u == 3 && listed (places_written M k u) r) k.notes (λ u. ap (λ b. b && listed (places_written M k u) r) (not_done u)) in omega arith);
+        = count_none (λ u. at st u == 3 && listed (places_written M k u) r) k.notes (λ u. ap (λ b. b && listed (places_written M k u) r) (not_done u)) in
+        omega (arith, only (turned_on M k r) refl));
   }
     where
-      is_one : (i : ℕ) (v : View J) → get_elem? only i ≡ some v → opening_view k ≡ v
-      is_one zero v e = cc
-      is_one (suc i) v e = absurd (cc)
+      -- a view is the first one's, or a spent one
+      each : (P : View J → Type 0) → P (opening_view k) → P spent_view → (i : ℕ) (v : View J) → get_elem? vs i ≡ some v → P v
+      each P first spent i v e = ⊎_elim
+          (λ (s : i ≡ id). subst P (some-injective _ _ (sym here ∙ ap (get_elem? vs) (sym s) ∙ e)) first)
+          (λ (n : i ≢ id). subst P (sym (others i v n e)) spent)
+          (cases_eq i id)
 
-      sane_one : (i : ℕ) (v : View J) → get_elem? only i ≡ some v → IsSane k v
-      sane_one i v e = subst (IsSane k) (is_one i v e) (record {
-        plan = λ s. refl;
-        one_duty = inl refl;
-        owes_in = λ t l. ⊎_elim
-            (λ (m : t < k.notes). m)
-            (λ (m : k.notes ≤ t). absurd (omega (arith, l, root_out k.edges k.notes t m)))
-            (cases_lt t k.notes);
-        follower = λ s. absurd (cc);
-        leader = λ s. refl;
-        over = λ s. absurd (cc);
-      })
+      sane_one : (i : ℕ) (v : View J) → get_elem? vs i ≡ some v → IsSane k v
+      sane_one = each (IsSane k)
+          (record {
+            plan = λ s. refl;
+            one_duty = inl refl;
+            owes_in = λ t l. ⊎_elim
+                (λ (m : t < k.notes). m)
+                (λ (m : k.notes ≤ t). absurd (omega (arith, l, root_out k.edges k.notes t m)))
+                (cases_lt t k.notes);
+            follower = λ s. absurd (cc);
+            leader = λ s. refl;
+            over = λ s. absurd (cc);
+            playing = refl;
+          })
+          (record {
+            plan = λ z. absurd (cc);
+            one_duty = inl refl;
+            owes_in = λ t z. absurd (omega arith);
+            follower = λ z. refl;
+            leader = λ z. absurd (cc);
+            over = λ z. refl;
+            playing = refl;
+          })
 
-      none_found : (i : ℕ) (v : View J) (t : ℕ) → get_elem? only i ≡ some v → Found v t → ⊥
-      none_found i v t e f = let q : slice_get (opening_view k).found f.0 ≡ Some (t, f.1) = ap (λ z. slice_get z.found f.0) (is_one i v e) ∙ f.2 in cc
+      empty_found : List (ℕ × ℕ)
+      empty_found = []
 
-      none_out : (i : ℕ) (v : View J) (x : ℕ) → get_elem? only i ≡ some v → 0 < times x v.out → ⊥
-      none_out i v x e l = let q : times x v.out ≡ 0 = ap (λ z. times x z.out) (sym (is_one i v e)) in omega arith
+      none_found : (i : ℕ) (v : View J) (t : ℕ) → get_elem? vs i ≡ some v → Found v t → ⊥
+      none_found i v t = each (λ x. Found x t → ⊥) (λ f. let q : slice_get (opening_view k).found f.0 ≡ Some (t, f.1) = f.2 in cc)
+          (λ f. let q : slice_get (empty_found) f.0 ≡ Some (t, f.1) = f.2 in cc) i v
 
-      none_doing : (i : ℕ) (v : View J) (d : _) → get_elem? only i ≡ some v → v.doing ≡ Some d → ⊥
-      none_doing i v d e is = let q : None ≡ Some d = ap (λ z. z.doing) (is_one i v e) ∙ is in cc
+      none_out : (i : ℕ) (v : View J) (x : ℕ) → get_elem? vs i ≡ some v → 0 < times x v.out → ⊥
+      none_out i v x = each (λ y. 0 < times x y.out → ⊥) (λ l. omega arith) (λ l. omega arith) i v
+
+      none_doing : (i : ℕ) (v : View J) (d : _) → get_elem? vs i ≡ some v → v.doing ≡ Some d → ⊥
+      none_doing i v d = each (λ x. x.doing ≡ Some d → ⊥) (λ is. cc) (λ is. cc) i v
 
       value : (a : ℕ) → a < length k.cells → signed (at ws a) ≡ cell (before_at M k 0) a
       value a l = sym (map_at ws a (omega (arith, l, ap length same_values, length-map ws signed))) ∙ ap (λ c. cell c a) same_values
@@ -256,16 +277,6 @@ module _ {J : Type 0} (M : Meaning J) (k : Plan J) (ws : List ℕ) (same_values 
           map_at [] i m = absurd (omega arith)
           map_at (x ∷ xs) zero m = refl
           map_at (x ∷ xs) (suc i) m = map_at xs i (omega arith)
-
-  pub opens : IsPlan M k → Holds M k (opening (all_words k.notes begins) (map Some k.jobs) (opening_view k))
-  opens plan = record {
-    plan = plan;
-    parts = begins;
-    words = refl;
-    sized = opening_sized;
-    deep = length-map (map Some k.jobs) some ∙ length-map k.jobs Some ∙ plan.jobs;
-    facts = opening_facts;
-  }
 
 -- what the code finds of an edge's and a note's first word
 pub each_more : (f : ℕ → ℕ) (n : ℕ) → each_below f (n + 1) ≡ each_below f n ++ f n ∷ []

@@ -1,5 +1,5 @@
 -- A note that a seat does, and the notes that seats finished.
-use Rattle.std.proofs.Common.{◌≡◌, ⊎_elim, Option, sym, ap, ◌∙◌, arith}
+use Rattle.std.proofs.Common.{◌≡◌, ⊎_elim, sym, ap, ◌∙◌, arith}
 use Rattle.std.proofs.lemmas.Bool.{cases_eq}
 use Rattle.std.proofs.lemmas.List.{length-map}
 use Rattle.atomic_table.specs.Table.{State}
@@ -8,13 +8,14 @@ use Rattle.cs_rule.specs.Counts.{same}
 use Rattle.cs_rule.specs.Laws.{DoneOnce, EarlierDone}
 use Rattle.cs_rule.specs.Rule.{Holds}
 use Rattle.cs_rule.specs.Words.{at}
+use Rattle.cs_rule.specs.declared.view.Berth.{Berth}
 use Rattle.cs_rule.specs.declared.view.Plan.{Plan}
 use Rattle.cs_rule.specs.declared.view.View.{View}
 use Rattle.cs_rule.proofs.Allowed.{status_is}
 use Rattle.cs_rule.proofs.Conflicts.{past}
 use Rattle.cs_rule.proofs.Does.{busy, apart}
 
-module _ {J : Type 0} (M : Meaning J) (k : Plan J) (s : State (Option J) (View J)) (h : Holds M k s) where
+module _ {J : Type 0} (M : Meaning J) (k : Plan J) (s : State (Berth J) (View J)) (h : Holds M k s) where
   pub done_once : DoneOnce k s
   done_once = record {
     doing = λ i j v w d e a b p q same_. ⊎_elim (λ y. y) (λ n. absurd (apart k h.parts.status s.views h.facts.doers i j v w d e n a b p q same_)) (cases_eq i j);

@@ -16,6 +16,8 @@ use Rattle.cs_rule.specs.Rule.{Holds}
 use Rattle.cs_rule.specs.Plays.{Sat, took, gave, set_cell, turned}
 use Rattle.cs_rule.specs.Views.{does, set_image, next_phase}
 use Rattle.cs_rule.specs.Words.{Words, at, own_at, turn_at, cell_at}
+use Rattle.cs_rule.specs.declared.view.Berth.{Berth}
+use Rattle.cs_rule.specs.declared.view.Berth.TheVariants.{Full}
 use Rattle.cs_rule.specs.declared.view.Doing.{Doing}
 use Rattle.cs_rule.specs.declared.view.Plan.{Plan}
 use Rattle.cs_rule.specs.declared.view.View.{View}
@@ -25,7 +27,7 @@ use Rattle.cs_rule.proofs.Conflicts.{listed_of, written_rises, written_used, wri
 use Rattle.cs_rule.proofs.Counting.{listed_fresh}
 use Rattle.cs_rule.proofs.Does.{busy, does_one}
 use Rattle.cs_rule.proofs.Groups.{owned_step}
-use Rattle.cs_rule.proofs.Lists.{put_cases, total_gap, within_of}
+use Rattle.cs_rule.proofs.Lists.{put_cases, set_else, total_gap, within_of}
 use Rattle.cs_rule.proofs.AllWords.{set_own, set_turn, set_cell_word, sized_own, sized_turn, sized_cell}
 use Rattle.cs_rule.proofs.Slots.{slots_moved, slots_still}
 use Rattle.cs_rule.proofs.Stores.{stored_step, stored_set}
@@ -42,7 +44,7 @@ ran_less t (Some d) = one_less (d.note == t) (nat_le 1 d.phase)
 
 module _ {J : Type 0} (M : Meaning J) (k : Plan J) (F : Frames M) (n id : ℕ) (m : Sat J) (plan : m.0.plan ≡ k) (live : m.0.spent ≡ false)
     (d : Doing) (doing : m.0.doing ≡ Some d) where
-  module _ (s : State (Option J) (View J)) (h : Holds M k s) (here : get_elem? s.views id ≡ some m.0) where
+  module _ (s : State (Berth J) (View J)) (h : Holds M k s) (here : get_elem? s.views id ≡ some m.0) where
     running : at h.parts.status d.note ≡ 2
     running = busy k h.parts.status s.views h.facts.doers id m.0 d here doing
 
@@ -53,12 +55,12 @@ module _ {J : Type 0} (M : Meaning J) (k : Plan J) (F : Frames M) (n id : ℕ) (
     picture = h.facts.stored.images id m.0 d here doing
 
     -- a step of the note that leaves its note, phase and image: only its job moves
-    job_moved : (b : Bool) (i : ℕ) (hs : List (maybe.Option (Option J))) → length hs ≡ length s.homes
+    job_moved : (b : Bool) (i : ℕ) (hs : List (maybe.Option (Berth J))) → length hs ≡ length s.homes → ((j : ℕ) → k.notes ≤ j → get_elem? hs j ≡ get_elem? s.homes j)
         → Slots M k h.parts.status hs (set s.views id (does m.0 (record d { held = b })))
         → Holds M k (record { words = slice_set s.words i (slice_index s.words i); homes = hs; views = set s.views id (does m.0 (record d { held = b })) })
-    job_moved b i hs long slots =
+    job_moved b i hs long past slots =
         let w : View J = does m.0 (record d { held = b }) in
-        holds_after M k s h (slice_set s.words i (slice_index s.words i)) h.parts hs (set s.views id w) (word_kept M k s h i) h.sized long
+        holds_after M k s h (slice_set s.words i (slice_index s.words i)) h.parts hs (set s.views id w) (word_kept M k s h i) h.sized long past
         (facts_does M F k h.plan h.parts h.sized s.homes s.views id m.0 here h.facts h.parts hs d (record d { held = b }) refl refl doing refl live
         (owned_step k s.views id m.0 w here h.parts.status h.parts.status h.parts.own h.parts.own (λ u. omega (arith, ap (ran_on u) doing)) h.facts.owned)
         slots
@@ -69,38 +71,38 @@ module _ {J : Type 0} (M : Meaning J) (k : Plan J) (F : Frames M) (n id : ℕ) (
   pub takes_job : (j : J) → d.phase ≡ 0 → d.held ≡ false → slice_get k.jobs d.note ≡ Some j → Allows (Holds M k) n id m 0 (λ y. y) (took (step n 0 0 0 none) m)
   takes_job j phase free at_ s h deep here fits = (
     does m.0 (record d { held = true }),
-    takes d.note (Some j),
-    h.facts.slots.resting id m.0 d j here doing free at_ ∙ ap (λ x. some (some (Some (job_if M k (nat_le 1 x) d.note j)))) phase,
-    job_moved s h here true 0 (set s.homes d.note none) (length-set s.homes d.note none)
+    takes d.note (Full j),
+    h.facts.slots.resting id m.0 d j here doing free at_ ∙ ap (λ x. some (some (Full (job_if M k (nat_le 1 x) d.note j)))) phase,
+    job_moved s h here true 0 (set s.homes d.note none) (length-set s.homes d.note none) (λ i far. set_else s.homes d.note i none (λ z. omega (arith, within s h here)))
         (slots_moved M k s.views id m.0 (does m.0 (record d { held = true })) here h.parts.status s.homes d (record d { held = true }) none h.facts.doers doing refl refl
-        (omega (arith, h.deep, within s h here)) (λ x free' at'. absurd (cc)) h.facts.slots),
+        (omega (arith, h.deep, within s h here)) (λ x free' at'. absurd (cc)) (λ z. refl) h.facts.slots),
     λ e x is at' zero_.
         let same_d : d ≡ e = same_Some _ _ (sym doing ∙ is) in
         let at_k : slice_get k.jobs e.note ≡ Some x = subst (λ z. slice_get z.jobs e.note ≡ Some x) plan at' in
         let same_j : j ≡ x = same_Some _ _ (sym at_ ∙ ap (λ z. slice_get k.jobs z.note) same_d ∙ at_k) in
-        ap (λ z. (does m.0 (record z { held = true }), (z.note, Some j) ∷ m.1)) same_d
-        ∙ ap (λ z. (does m.0 (record e { held = true }), (e.note, Some z) ∷ m.1)) same_j,
+        ap (λ z. (does m.0 (record z { held = true }), (z.note, Full j) ∷ m.1)) same_d
+        ∙ ap (λ z. (does m.0 (record e { held = true }), (e.note, Full z) ∷ m.1)) same_j,
   )
 
-  pub gives_job : (j x : J) → m.1 ≡ (d.note, Some x) ∷ [] → slice_get k.jobs d.note ≡ Some j → x ≡ job_if M k (nat_le 1 d.phase) d.note j
+  pub gives_job : (j x : J) → m.1 ≡ (d.note, Full x) ∷ [] → slice_get k.jobs d.note ≡ Some j → x ≡ job_if M k (nat_le 1 d.phase) d.note j
       → Allows (Holds M k) n id m 0 (λ y. y) (gave (step n 0 0 0 none) m)
   gives_job j x carries at_ is s h deep here fits =
-      let hs : List (maybe.Option (Option J)) = set s.homes d.note (some (Some x)) in
+      let hs : List (maybe.Option (Berth J)) = set s.homes d.note (some (Full x)) in
       let back : put_back s.homes m.1 ≡ hs = ap (put_back s.homes) carries in (
         does m.0 (record d { held = false }),
         gives,
         tt,
         subst (λ z. Holds M k (record { words = slice_set s.words 0 (slice_index s.words 0); homes = z; views = set s.views id (does m.0 (record d { held = false })) })) (sym back)
-            (job_moved s h here false 0 hs (length-set s.homes d.note (some (Some x)))
-            (slots_moved M k s.views id m.0 (does m.0 (record d { held = false })) here h.parts.status s.homes d (record d { held = false }) (some (Some x)) h.facts.doers doing refl refl
+            (job_moved s h here false 0 hs (length-set s.homes d.note (some (Full x))) (λ i far. set_else s.homes d.note i (some (Full x)) (λ z. omega (arith, within s h here)))
+            (slots_moved M k s.views id m.0 (does m.0 (record d { held = false })) here h.parts.status s.homes d (record d { held = false }) (some (Full x)) h.facts.doers doing refl refl
             (omega (arith, h.deep, within s h here))
-            (λ y free' at'. ap (λ z. some (Some z)) (is ∙ ap (job_if M k (nat_le 1 d.phase) d.note) (same_Some _ _ (sym at_ ∙ at')))) h.facts.slots)),
+            (λ y free' at'. ap (λ z. some (Full z)) (is ∙ ap (job_if M k (nat_le 1 d.phase) d.note) (same_Some _ _ (sym at_ ∙ at')))) (λ z. absurd (cc)) h.facts.slots)),
         λ e is'. ap (λ z. (does m.0 (record z { held = false }), rest m.1)) (same_Some _ _ (sym doing ∙ is')),
       )
 
   module _ (held : d.held ≡ true) where
     pub sets_cell : (a x : ℕ) → d.phase ≡ 0 → writes_at M k d.note a ≡ true
-        → Allows (Holds M k) n id m (cell_at k a) (λ _. x) (λ _. set_cell (step n (cell_at k a) x 0 none) m x)
+        → Allows (Holds M k) n id m (cell_at a) (λ _. x) (λ _. set_cell (step n (cell_at a) x 0 none) m x)
     sets_cell a x phase writes s h deep here fits =
         let d' : Doing = set_image d a (signed x) in
         let w : View J = does m.0 d' in
@@ -109,15 +111,15 @@ module _ {J : Type 0} (M : Meaning J) (k : Plan J) (F : Frames M) (n id : ℕ) (
           w,
           keeps,
           tt,
-          holds_after M k s h (slice_set s.words (cell_at k a) x) p' s.homes (set s.views id w)
-              (word_set M k s h (cell_at k a) x p' (set_cell_word k h.parts h.sized a x)) (sized_cell k h.parts h.sized a x) refl
+          holds_after M k s h (slice_set s.words (cell_at a) x) p' s.homes (set s.views id w)
+              (word_set M k s h (cell_at a) x p' (set_cell_word k h.parts h.sized a x low)) (sized_cell k h.parts h.sized a x) refl (λ i far. refl)
               (facts_does M F k h.plan h.parts h.sized s.homes s.views id m.0 here h.facts p' s.homes d d' refl refl doing refl live
               (owned_step k s.views id m.0 w here h.parts.status h.parts.status h.parts.own h.parts.own (λ u. omega (arith, ap (ran_on u) doing)) h.facts.owned)
-              (slots_still M k s.views id m.0 w here h.parts.status s.homes (λ e is. ap (λ z. z.held) (sym (same_Some _ _ is)) ∙ held) h.facts.slots)
+              (slots_still M k s.views id m.0 w here h.parts.status s.homes d d' doing held refl held refl h.facts.slots)
               (stored_set M F k h.plan h.parts.status h.parts.watch h.parts.cells s.views id m.0 w here h.facts.gates d a x h.facts.doers doing phase refl (omega (arith, low, h.sized.cells)) h.sized.cells (within s h here) writes h.facts.stored)
               (turned_still M k h.parts.status s.views id m.0 w here h.parts.status h.parts.turns (λ u. refl) (λ r. sym (ap (turned_in M k r) doing)) h.facts.turned)),
           λ b e word is.
-              let same_a : a ≡ b = one_cell M k m.0.plan a b plan word in
+              let same_a : a ≡ b = one_cell M k a b word in
               let same_d : d ≡ e = same_Some _ _ (sym doing ∙ is) in
               ap (λ z. (does m.0 (set_image z a (signed x)), m.1)) same_d ∙ ap (λ z. (does m.0 (set_image e z (signed x)), m.1)) same_a,
         )
@@ -143,7 +145,7 @@ module _ {J : Type 0} (M : Meaning J) (k : Plan J) (F : Frames M) (n id : ℕ) (
           keeps,
           tt,
           holds_after M k s h (slice_set s.words (own_at k d.note) 1) p' s.homes (set s.views id w)
-              (word_set M k s h (own_at k d.note) 1 p' (set_own k h.parts h.sized d.note 1 (within s h here))) (sized_own k h.parts h.sized d.note 1) refl
+              (word_set M k s h (own_at k d.note) 1 p' (set_own k h.parts h.sized d.note 1 (within s h here))) (sized_own k h.parts h.sized d.note 1) refl (λ i far. refl)
               (facts_does M F k h.plan h.parts h.sized s.homes s.views id m.0 here h.facts p' s.homes d d' refl refl doing refl live
               (owned_step k s.views id m.0 w here h.parts.status h.parts.status h.parts.own (set h.parts.own d.note 1) (λ u. let v_ran : ran_note u m.0 ≡ one (d.note == u && nat_le 1 d.phase) = ap (ran_on u) doing in ⊎_elim
               (λ y. let e : d.note ≡ u = sym y.0 in
@@ -154,7 +156,7 @@ module _ {J : Type 0} (M : Meaning J) (k : Plan J) (F : Frames M) (n id : ℕ) (
               let now : one (d.note == u && nat_le 1 (d.phase + 1)) ≡ 0 = ap (λ b. one (b && nat_le 1 (d.phase + 1))) (ne_eqb d.note u n) in
               omega (arith, y.1, none_ran u))
               (put_cases h.parts.own d.note 1 u near)) h.facts.owned)
-              (slots_still M k s.views id m.0 w here h.parts.status s.homes (λ e is. ap (λ z. z.held) (sym (same_Some _ _ is)) ∙ held) h.facts.slots)
+              (slots_still M k s.views id m.0 w here h.parts.status s.homes d d' doing held refl held refl h.facts.slots)
               (stored_step M F k h.plan h.parts.status h.parts.watch h.parts.cells s.views id m.0 w here h.facts.gates h.parts.status (λ u. refl) (λ u z. z)
               (λ e is. subst (Pictured M k h.parts.cells) (same_Some _ _ is) (record { long = (picture s h here).long; seen = (picture s h here).seen; after = λ z. ran })) h.facts.stored)
               (turned_still M k h.parts.status s.views id m.0 w here h.parts.status h.parts.turns (λ u. refl)
@@ -190,13 +192,13 @@ module _ {J : Type 0} (M : Meaning J) (k : Plan J) (F : Frames M) (n id : ℕ) (
           keeps,
           tt,
           holds_after M k s h (slice_set s.words (turn_at k r) x) p' s.homes (set s.views id w)
-              (word_set M k s h (turn_at k r) x p' (set_turn k h.parts h.sized r x small)) (sized_turn k h.parts h.sized r x) refl
+              (word_set M k s h (turn_at k r) x p' (set_turn k h.parts h.sized r x small)) (sized_turn k h.parts h.sized r x) refl (λ i far. refl)
               (facts_does M F k h.plan h.parts h.sized s.homes s.views id m.0 here h.facts p' s.homes d d' refl refl doing refl live
               (owned_step k s.views id m.0 w here h.parts.status h.parts.status h.parts.own h.parts.own (λ u.
               let old : ran_note u m.0 ≡ one (d.note == u && true) = ap (ran_on u) doing ∙ ap (λ b. one (d.note == u && b)) (le-leb 1 d.phase (omega arith)) in
               let now : one (d.note == u && nat_le 1 (d.phase + 1)) ≡ one (d.note == u && true) = ap (λ b. one (d.note == u && b)) (le-leb 1 (d.phase + 1) (omega arith)) in
               omega arith) h.facts.owned)
-              (slots_still M k s.views id m.0 w here h.parts.status s.homes (λ e is'. ap (λ z. z.held) (sym (same_Some _ _ is')) ∙ held) h.facts.slots)
+              (slots_still M k s.views id m.0 w here h.parts.status s.homes d d' doing held refl held refl h.facts.slots)
               (stored_step M F k h.plan h.parts.status h.parts.watch h.parts.cells s.views id m.0 w here h.facts.gates h.parts.status (λ u. refl) (λ u z. z)
               (λ e is'. subst (Pictured M k h.parts.cells) (same_Some _ _ is') (record { long = (picture s h here).long; seen = (picture s h here).seen; after = λ z. (picture s h here).after (omega arith) })) h.facts.stored)
               (turned_more M k h.parts.status s.views id m.0 w here h.parts.turns d i r x doing refl phase up low is (omega (arith, small, h.sized.turns)) (omega arith) h.facts.turned)),

@@ -11,6 +11,7 @@ use Rattle.cs_rule.specs.Facts.{doing_on, ran_on, spot_on, spot_by, spot_at, tur
 use Rattle.cs_rule.specs.Rule.{Facts, Holds}
 use Rattle.cs_rule.specs.Views.{kept_view, given_view, joined, spent_view}
 use Rattle.cs_rule.specs.Words.{Words}
+use Rattle.cs_rule.specs.declared.view.Berth.{Berth}
 use Rattle.cs_rule.specs.declared.view.Doing.{Doing}
 use Rattle.cs_rule.specs.declared.view.Plan.{Plan}
 use Rattle.cs_rule.specs.declared.view.Spot.{Spot}
@@ -32,7 +33,7 @@ module _ {J : Type 0} where
   abbrev Old : List (View J) → View J → Type 0
   Old vs x = ((x.doing ≡ None) × (x.found ≡ [])) ⊎ ((i : ℕ) × (y : View J) × (get_elem? vs i ≡ some y) × (x.doing ≡ y.doing) × (x.found ≡ y.found))
 
-  module _ (M : Meaning J) (k : Plan J) (p : Words) (hs : List (maybe.Option (Option J))) (vs vs' : List (View J)) where
+  module _ (M : Meaning J) (k : Plan J) (p : Words) (hs : List (maybe.Option (Berth J))) (vs vs' : List (View J)) where
     -- views that weigh what those before did
     facts_alike : ((g : Weight) → g None None None ≡ 0 → total (weigh g) vs' ≡ total (weigh g) vs)
         → ((t : ℕ) → total (owed t) vs ≤ total (owed t) vs') → ((t : ℕ) → total (has_done t) vs' ≡ total (has_done t) vs)
@@ -64,6 +65,10 @@ module _ {J : Type 0} where
         resting = λ i x d j e is free at_. ⊎_elim
             (λ none. absurd (let z : Some d ≡ None = sym is ∙ none.0 in cc))
             (λ y. f.slots.resting y.0 y.1 d j y.2 (sym y.3 ∙ is) free at_)
+            (old i x e);
+        away = λ i x d e is held. ⊎_elim
+            (λ none. absurd (let z : Some d ≡ None = sym is ∙ none.0 in cc))
+            (λ y. f.slots.away y.0 y.1 d y.2 (sym y.3 ∙ is) held)
             (old i x e);
       };
       stored = record {
@@ -98,6 +103,7 @@ module _ {J : Type 0} where
     follower = λ z. absurd (let c : true ≡ false = sym first ∙ z in cc);
     leader = s.leader;
     over = λ z. absurd (let c : true ≡ false = sym z ∙ live in cc);
+    playing = s.playing;
   }
 
   -- only the first view has others out
@@ -120,6 +126,7 @@ module _ {J : Type 0} where
       words = h.words;
       sized = h.sized;
       deep = h.deep;
+      vacant = h.vacant;
       facts = facts_alike M k h.parts s.homes s.views vs'
           (λ g none. omega (arith, sums (weigh g), none))
           (λ t. omega (arith, sums (owed t)))
@@ -159,6 +166,7 @@ module _ {J : Type 0} where
               follower = λ z. refl;
               leader = λ z. absurd (cc);
               over = λ z. absurd (cc);
+              playing = refl;
             })
             h.facts.sane
 
@@ -195,6 +203,7 @@ module _ {J : Type 0} where
       words = h.words;
       sized = h.sized;
       deep = h.deep;
+      vacant = h.vacant;
       facts = facts_alike M k h.parts s.homes s.views vs'
           (λ g none. omega (arith, sums (weigh g), none, ap (λ z. g z u.closing u.moving) idle, ap (λ z. g None z u.moving) no_closing, ap (λ z. g None None z) no_moving))
           (λ t. omega (arith, sums (owed t), ap (times t) no_owes))
@@ -233,7 +242,8 @@ module _ {J : Type 0} where
               owes_in = λ t z. absurd (omega arith);
               follower = λ z. refl;
               leader = λ z. absurd (cc);
-              over = λ z. (refl, refl, refl, refl, refl, refl);
+              over = λ z. refl;
+              playing = refl;
             })
             h.facts.sane
 

@@ -3,12 +3,15 @@
 -- d what it does, s a spot, x the number of a seat, j a job, a an address, r the place of a resource.
 use Rattle.std.specs.Prelude.{◌≡◌, ◌≢◌, ℕ, ◌+◌, ◌-◌, ◌<◌, ◌≤◌, ◌⊎◌, List, [], length, take, Bool, true, false, cond, Option, Some, None, ◌==◌, ◌&&◌, not, nat_le, slice_get}
 use mathlib.Core.Option as maybe
-use mathlib.Core.Option.{some}
+use mathlib.Core.Option.{some, none}
 use lib.ListN.{get_elem?}
 use Rattle.cs_cells.specs.Cells.{cell, signed}
 use Rattle.cs_cells.specs.Meaning.{Meaning}
 use Rattle.cs_graph.specs.Graph.{Edge}
 use Rattle.cs_rule.specs.Counts.{one, same, total, times, listed, count_below}
+use Rattle.cs_rule.specs.Views.{spent_view}
+use Rattle.cs_rule.specs.declared.view.Berth.{Berth}
+use Rattle.cs_rule.specs.declared.view.Berth.TheVariants.{Full}
 use Rattle.cs_rule.specs.Plans.{IsRoot, area_count, uses_at, writes_at, places_written, before_at}
 use Rattle.cs_rule.specs.Words.{at}
 use Rattle.cs_rule.specs.declared.view.Doing.{Doing}
@@ -92,7 +95,8 @@ module _ {J : Type 0} where
       pub owes_in : (t : ℕ) → 0 < owed t v → t < k.notes
       pub follower : v.first ≡ false → v.out ≡ []
       pub leader : v.first ≡ true → v.spent ≡ false
-      pub over : v.spent ≡ true → (v.doing ≡ None) × (v.closing ≡ None) × (v.moving ≡ None) × (v.owes ≡ []) × (v.mine ≡ []) × (v.out ≡ [])
+      pub over : v.spent ≡ true → v ≡ spent_view
+      pub playing : v.rest ≡ None
 
     -- A note is InProgress exactly where one view does it.
     abbrev pub Doers : List ℕ → List (View J) → Type 0
@@ -137,12 +141,13 @@ module _ {J : Type 0} (M : Meaning J) (k : Plan J) where
   abbrev pub job_if : Bool → ℕ → J → J
   job_if run t j = cond run (M.after j (before_at M k t)) j
 
-  -- The slot of a note that isn't InProgress is home with its job. That of a note InProgress is home while its view hasn't taken the job out.
-  pub record Slots (status : List ℕ) (homes : List (maybe.Option (Option J))) (views : List (View J)) : Type 0 where
+  -- The slot of a note that isn't InProgress is home with its job. That of a note InProgress is home while its view hasn't taken the job out, and empty while it has.
+  pub record Slots (status : List ℕ) (homes : List (maybe.Option (Berth J))) (views : List (View J)) : Type 0 where
     pub home : (t : ℕ) (j : J) → slice_get k.jobs t ≡ Some j → at status t ≢ IN_PROGRESS
-        → get_elem? homes t ≡ some (some (Some (job_if (at status t == DONE) t j)))
+        → get_elem? homes t ≡ some (some (Full (job_if (at status t == DONE) t j)))
     pub resting : (id : ℕ) (v : View J) (d : Doing) (j : J) → get_elem? views id ≡ some v → v.doing ≡ Some d → d.held ≡ false
-        → slice_get k.jobs d.note ≡ Some j → get_elem? homes d.note ≡ some (some (Some (job_if (nat_le 1 d.phase) d.note j)))
+        → slice_get k.jobs d.note ≡ Some j → get_elem? homes d.note ≡ some (some (Full (job_if (nat_le 1 d.phase) d.note j)))
+    pub away : (id : ℕ) (v : View J) (d : Doing) → get_elem? views id ≡ some v → v.doing ≡ Some d → d.held ≡ true → get_elem? homes d.note ≡ some none
 
   -- The Done notes that write a cell are those before some note; where no writer is InProgress, the cell has the value that the serial run has there.
   pub record Kept (status cells : List ℕ) (a : ℕ) : Type 0 where

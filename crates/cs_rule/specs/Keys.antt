@@ -1,14 +1,10 @@
--- The plan of a cycle, from what its board was made of.
-use Rattle.std.specs.Prelude.{length}
-use Rattle.cs_cells.specs.Cells.{values}
+-- The view of the first seat, from what the table was made of.
+use Rattle.std.specs.Prelude.{Some, replicate}
+use Rattle.cs_rule.specs.Views.{resting_view}
 use Rattle.cs_rule.specs.declared.plays.Key.{Key}
-use Rattle.cs_rule.specs.declared.view.Plan.{Plan}
+use Rattle.cs_rule.specs.declared.view.Berth.TheVariants.{Vacant}
+use Rattle.cs_rule.specs.declared.view.View.{View}
 
-abbrev pub plan_of : {J : Type 0} → Key J → Plan J
-plan_of key = record {
-  notes = length key.jobs.value.items;
-  edges = key.graph.value.edges;
-  areas = key.layout.value;
-  jobs = key.jobs.value.items;
-  cells = values key.words.value.items;
-}
+-- it rests, with so many vacant slots
+abbrev pub first_view : {J : Type 0} → Key → View J
+first_view key = resting_view key.layout.value (record { words = key.words.value.items; homes = replicate key.slots.value (Some Vacant) })

@@ -1,6 +1,6 @@
 -- What follows from the rule for the notes that seats do, and for those that they finished. k is a plan, s the state of the board; i and j are seats,
 -- v and w their views, d and e what they do, t is a note and p an earlier one.
-use Rattle.std.specs.Prelude.{◌≡◌, ℕ, ◌<◌, Option, Some, slice_index}
+use Rattle.std.specs.Prelude.{◌≡◌, ℕ, ◌<◌, Some, slice_index}
 use mathlib.Core.Option.{some}
 use lib.ListN.{get_elem?}
 use Rattle.atomic_table.specs.Table.{State}
@@ -10,12 +10,13 @@ use Rattle.cs_rule.specs.Counts.{same, total}
 use Rattle.cs_rule.specs.Facts.{has_done}
 use Rattle.cs_rule.specs.Plans.{feet}
 use Rattle.cs_rule.specs.Words.{status_at}
+use Rattle.cs_rule.specs.declared.view.Berth.{Berth}
 use Rattle.cs_rule.specs.declared.view.Doing.{Doing}
 use Rattle.cs_rule.specs.declared.view.Plan.{Plan}
 use Rattle.cs_rule.specs.declared.view.View.{View}
 use Rattle.cs_rule.specs.declared.words.TheConstants.{DONE}
 
-module _ {J : Type 0} (k : Plan J) (s : State (Option J) (View J)) where
+module _ {J : Type 0} (k : Plan J) (s : State (Berth J) (View J)) where
   -- No note is done by two seats. Each Done note is among the notes of one seat, once, and no other note is.
   pub record DoneOnce : Type 0 where
     pub doing : (i j : ℕ) (v w : View J) (d e : Doing) → get_elem? s.views i ≡ some v → get_elem? s.views j ≡ some w

@@ -9,8 +9,7 @@ use Rattle.cs_cells.specs.Cells.{Cells, covers}
 use Rattle.cs_cells.specs.Meaning.{Meaning}
 use Rattle.cs_cells.specs.Serial.{before, AllValid}
 use Rattle.cs_cells.specs.declared.footprint.Footprint.{Footprint}
-use Rattle.cs_graph.specs.Conflict.{Conflict}
-use Rattle.cs_graph.specs.Graph.{Edge, Reaches}
+use Rattle.cs_graph.specs.Graph.{Edge, LeadsForward, StandTogether, IsFit}
 use Rattle.cs_rule.specs.Counts.{listed, count_below}
 use Rattle.cs_rule.specs.declared.view.Plan.{Plan}
 
@@ -20,14 +19,6 @@ pub record IsFootprint (n : ℕ) (f : Footprint) : Type 0 where
   pub writes : IsStrictlyIncreasing f.writes
   pub within : (r : ℕ) → Contains f.uses r → r < n
   pub written : (r : ℕ) → Contains f.writes r → Contains f.uses r
-
--- each edge leads from an earlier note to a later one of n
-abbrev pub LeadsForward : List (ℕ × ℕ) → ℕ → Type 0
-LeadsForward edges n = (e p t : ℕ) → Edge edges e p t → (p < t) × (t < n)
-
--- between two edges into note t there are only edges into it
-abbrev pub StandTogether : List (ℕ × ℕ) → ℕ → Type 0
-StandTogether edges t = (e f g p q : ℕ) → Edge edges e p t → Edge edges g q t → e ≤ f → f ≤ g → (r : ℕ) × Edge edges f r t
 
 -- some edge leads to note t
 abbrev pub leads_in : List (ℕ × ℕ) → ℕ → Bool
@@ -71,9 +62,9 @@ module _ {J : Type 0} (M : Meaning J) where
   abbrev pub places_written : Plan J → ℕ → List ℕ
   places_written k t = writes_of (slice_get k.jobs t)
 
-  -- note t may use, or write, the cell at this address
+  -- note t may use, or write, the cell at this address; whatever is written counts as used
   abbrev pub uses_at : Plan J → ℕ → ℕ → Bool
-  uses_at k t a = covers k.areas (places_used k t) a
+  uses_at k t a = covers k.areas (places_used k t) a || covers k.areas (places_written k t) a
 
   abbrev pub writes_at : Plan J → ℕ → ℕ → Bool
   writes_at k t a = covers k.areas (places_written k t) a
@@ -86,12 +77,12 @@ module _ {J : Type 0} (M : Meaning J) where
   abbrev pub writers_before : Plan J → ℕ → ℕ → ℕ
   writers_before k t r = count_below (λ u. listed (places_written k u) r) t
 
-  -- What is known of a plan from the start: each conflict is reached along edges, and the edges into a note stand together.
+  -- What is known of a plan from the start: each edge is a conflict, each conflict is reached along edges, and the edges into a note stand together.
   pub record IsPlan (k : Plan J) : Type 0 where
     pub jobs : length k.jobs ≡ k.notes
     pub forward : LeadsForward k.edges k.notes
     pub together : (t : ℕ) → StandTogether k.edges t
-    pub fit : (p t : ℕ) → Conflict (feet k) p t → Reaches k.edges p t
+    pub fit : IsFit (feet k) k.edges
     pub footprints : (t : ℕ) (j : J) → slice_get k.jobs t ≡ Some j → IsFootprint (area_count k) (M.foot j)
     pub layout : (t : ℕ) (j : J) → slice_get k.jobs t ≡ Some j → M.areas j ≡ k.areas
     pub valid : AllValid M k.jobs

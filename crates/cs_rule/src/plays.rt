@@ -1,35 +1,33 @@
 // The board's rule as a rule of a table, and what each kind of step tells.
-use crate::view::View;
+use crate::view::{Berth, View};
 use atomic_table::{Join, Play, Split as Cut, TableRule};
 use cs_cells::{Job, Layout};
-use cs_graph::Graph;
 use std::snapshot::Snapshot;
 
-/// What the table is told when it is made. It has no bytes.
+/// What the table is told when it is made: the layout, the words, and the number of slots. It has
+/// no bytes.
 #[derive(Drop)]
-pub struct Key<J> {
-    pub graph: Snapshot<Graph>,
+pub struct Key {
     pub layout: Snapshot<Layout>,
-    pub jobs: Snapshot<Vec<J>>,
     pub words: Snapshot<Vec<u64>>,
+    pub slots: Snapshot<u32>,
 }
 
 pub struct Rule;
 
-impl<J: Job> TableRule<Option<J>, View<J>, Key<J>> for Rule {
-    ghost use Rattle.cs_rule.specs.Keys.{plan_of};
-    ghost use Rattle.cs_rule.specs.Rule.{Holds};
-    ghost use Rattle.cs_rule.specs.Views.{opening_view};
+impl<J: Job> TableRule<Berth<J>, View<J>, Key> for Rule {
+    ghost use Rattle.cs_rule.specs.Keys.{first_view};
+    ghost use Rattle.cs_rule.specs.Rule.{Always};
 
-    ghost holds = { λ key. Holds J.means (plan_of key) };
+    ghost holds = { λ key. Always J.means };
 
-    ghost first = { λ key. opening_view (plan_of key) };
+    ghost first = { λ key. first_view key };
 }
 
 /// An Available note becomes InProgress, and is the seat's.
 pub struct Claim;
 
-impl<J: Job> Play<Option<J>, View<J>> for Claim {
+impl<J: Job> Play<Berth<J>, View<J>> for Claim {
     ghost use Rattle.cs_rule.specs.Plays.{claimed};
 
     ghost then = { claimed J.means };
@@ -38,7 +36,7 @@ impl<J: Job> Play<Option<J>, View<J>> for Claim {
 /// The job leaves its slot, at a load of word 0.
 pub struct Take;
 
-impl<J> Play<Option<J>, View<J>> for Take {
+impl<J> Play<Berth<J>, View<J>> for Take {
     ghost use Rattle.cs_rule.specs.Plays.{took};
 
     ghost then = { took };
@@ -47,7 +45,7 @@ impl<J> Play<Option<J>, View<J>> for Take {
 /// A cell is read.
 pub struct Look;
 
-impl<J: Job> Play<Option<J>, View<J>> for Look {
+impl<J: Job> Play<Berth<J>, View<J>> for Look {
     ghost use Rattle.cs_rule.specs.Plays.{looked};
 
     ghost then = { looked J.means };
@@ -56,7 +54,7 @@ impl<J: Job> Play<Option<J>, View<J>> for Look {
 /// A cell is set.
 pub struct Set;
 
-impl<J> Play<Option<J>, View<J>> for Set {
+impl<J> Play<Berth<J>, View<J>> for Set {
     ghost use Rattle.cs_rule.specs.Plays.{set_cell};
 
     ghost then = { set_cell };
@@ -65,7 +63,7 @@ impl<J> Play<Option<J>, View<J>> for Set {
 /// A turn word is read.
 pub struct LookTurn;
 
-impl<J: Job> Play<Option<J>, View<J>> for LookTurn {
+impl<J: Job> Play<Berth<J>, View<J>> for LookTurn {
     ghost use Rattle.cs_rule.specs.Plays.{looked_turn};
 
     ghost then = { looked_turn J.means };
@@ -74,7 +72,7 @@ impl<J: Job> Play<Option<J>, View<J>> for LookTurn {
 /// The note's own turn is made, and then its turn on a resource that it writes.
 pub struct Turn;
 
-impl<J> Play<Option<J>, View<J>> for Turn {
+impl<J> Play<Berth<J>, View<J>> for Turn {
     ghost use Rattle.cs_rule.specs.Plays.{turned};
 
     ghost then = { turned };
@@ -83,7 +81,7 @@ impl<J> Play<Option<J>, View<J>> for Turn {
 /// The job goes back into its slot, at a load of word 0.
 pub struct Give;
 
-impl<J> Play<Option<J>, View<J>> for Give {
+impl<J> Play<Berth<J>, View<J>> for Give {
     ghost use Rattle.cs_rule.specs.Plays.{gave};
 
     ghost then = { gave };
@@ -92,7 +90,7 @@ impl<J> Play<Option<J>, View<J>> for Give {
 /// The note is Done.
 pub struct Finish;
 
-impl<J> Play<Option<J>, View<J>> for Finish {
+impl<J> Play<Berth<J>, View<J>> for Finish {
     ghost use Rattle.cs_rule.specs.Plays.{finished};
 
     ghost then = { finished };
@@ -101,7 +99,7 @@ impl<J> Play<Option<J>, View<J>> for Finish {
 /// An edge from the note is closed.
 pub struct Close;
 
-impl<J> Play<Option<J>, View<J>> for Close {
+impl<J> Play<Berth<J>, View<J>> for Close {
     ghost use Rattle.cs_rule.specs.Plays.{closed};
 
     ghost then = { closed };
@@ -110,7 +108,7 @@ impl<J> Play<Option<J>, View<J>> for Close {
 /// A waiting note watches its next edge, unless that is closed.
 pub struct Watch;
 
-impl<J> Play<Option<J>, View<J>> for Watch {
+impl<J> Play<Berth<J>, View<J>> for Watch {
     ghost use Rattle.cs_rule.specs.Plays.{watched};
 
     ghost then = { watched };
@@ -119,10 +117,64 @@ impl<J> Play<Option<J>, View<J>> for Watch {
 /// A waiting note that has no edge left to watch is Available.
 pub struct Open;
 
-impl<J> Play<Option<J>, View<J>> for Open {
+impl<J> Play<Berth<J>, View<J>> for Open {
     ghost use Rattle.cs_rule.specs.Plays.{opens};
 
     ghost then = { opens };
+}
+
+/// A word is set while the board rests.
+pub struct Lay;
+
+impl<J> Play<Berth<J>, View<J>> for Lay {
+    ghost use Rattle.cs_rule.specs.Plays.{lays};
+
+    ghost then = { lays };
+}
+
+/// A word is read while the board rests.
+pub struct Read;
+
+impl<J> Play<Berth<J>, View<J>> for Read {
+    ghost use Rattle.cs_rule.specs.Plays.{reads};
+
+    ghost then = { reads };
+}
+
+/// A slot is taken while the board rests, at a load of the word with its number.
+pub struct Reach;
+
+impl<J> Play<Berth<J>, View<J>> for Reach {
+    ghost use Rattle.cs_rule.specs.Plays.{reaches};
+
+    ghost then = { reaches };
+}
+
+/// The slot that was taken is given back while the board rests.
+pub struct Leave;
+
+impl<J> Play<Berth<J>, View<J>> for Leave {
+    ghost use Rattle.cs_rule.specs.Plays.{leaves};
+
+    ghost then = { leaves };
+}
+
+/// A cycle begins, whose graph the step is told.
+pub struct Begin;
+
+impl<J> Play<Berth<J>, View<J>> for Begin {
+    ghost use Rattle.cs_rule.specs.Plays.{begins};
+
+    ghost then = { begins };
+}
+
+/// A cycle has ended: the board rests.
+pub struct End;
+
+impl<J: Job> Play<Berth<J>, View<J>> for End {
+    ghost use Rattle.cs_rule.specs.Plays.{ends};
+
+    ghost then = { ends J.means };
 }
 
 /// A seat is split off the first one.

@@ -1,7 +1,19 @@
 // What a worker knows of a control cycle. No value of these types is made: only contracts speak of
 // them.
 use cs_cells::Area;
+use cs_graph::Graph;
+use std::alloc::Global;
 use std::collections::LinkedList;
+use std::sync::Arc;
+
+/// What lies in a slot: a note's job, or nothing. `Told` lies in none: with it the step that begins
+/// a cycle is told the cycle's graph.
+#[derive(Drop)]
+pub enum Berth<J> {
+    Vacant,
+    Full(J),
+    Told(Arc<Graph, Global>),
+}
 
 /// With what a cycle begins: its notes in serial order, which waits for which, the layout, the jobs
 /// and the cells.
@@ -12,6 +24,8 @@ pub struct Plan<J> {
     pub areas: LinkedList<Area>,
     pub jobs: LinkedList<J>,
     pub cells: LinkedList<i64>,
+    /// How many words the board has that the cycle has no use for.
+    pub spare: u64,
 }
 
 /// The note that a worker does.
@@ -31,6 +45,12 @@ pub struct Doing {
 pub struct Spot {
     pub note: u64,
     pub from: u64,
+}
+
+/// All words of a board that rests, and what lies in each slot; None while it is out.
+pub struct Still<J> {
+    pub words: LinkedList<u64>,
+    pub homes: LinkedList<Option<Berth<J>>>,
 }
 
 /// What one seat of the board knows.
@@ -60,4 +80,6 @@ pub struct View<J> {
     pub made: u64,
     /// The seat was joined, and has no part any more.
     pub spent: bool,
+    /// While the board rests, what its one seat knows of it.
+    pub rest: Option<Still<J>>,
 }

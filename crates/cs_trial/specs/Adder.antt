@@ -4,9 +4,9 @@ use Rattle.cs_cells.specs.declared.footprint.Area.{Area}
 use Rattle.cs_cells.specs.declared.footprint.Footprint.{Footprint}
 use Rattle.cs_cells.specs.Cells.{Cells, cell, covers, Agree}
 use Rattle.cs_cells.specs.Meaning.{Meaning, Frames, Uses, Writes}
-use Rattle.std.proofs.Common.{refl, sym, ◌∙◌, ap, ⊎_elim, subst, arith, ◌<◌, ◌≤◌}
+use Rattle.std.proofs.Common.{refl, sym, ◌∙◌, ap, ⊎_elim, subst, arith, ◌<◌, ◌≤◌, get_or}
 use Rattle.std.proofs.lemmas.List.{length-set, get_or-set_same, get_or-set_other, set_past}
-use Rattle.std.proofs.lemmas.Bool.{cases_eq, cases_lt}
+use Rattle.std.proofs.lemmas.Bool.{cases_eq, cases_lt, or_right}
 
 -- a job that adds 1 to each of these cells: its layout, its footprint, the cells' addresses
 pub record Adder : Type 0 where
@@ -14,13 +14,9 @@ pub record Adder : Type 0 where
   pub foot : Footprint
   pub addrs : List ℕ
 
--- the footprint has each of the cells, among those used and those written
-pub record Within (areas : List Area) (foot : Footprint) (a : ℕ) : Type 0 where
-  pub used : covers areas foot.uses a ≡ true
-  pub written : covers areas foot.writes a ≡ true
-
+-- the footprint has each of the cells among those written
 abbrev pub IsAdder : Adder → Type 0
-IsAdder j = All (Within j.areas j.foot) j.addrs
+IsAdder j = All (λ a. covers j.areas j.foot.writes a ≡ true) j.addrs
 
 -- one more, round at the ends of the 64 bits
 abbrev pub more : ℤ → ℤ
@@ -77,8 +73,8 @@ add_all-others P (a ∷ rest) c b all out =
 pub adding_frames : Frames adding
 adding_frames = record {
   job = λ j c d s same. refl;
-  cells = λ j c d s same. add_all-agrees (Uses adding j) j.addrs c d (λ k a l. (s k a l).used) same;
-  others = λ j c a s out. add_all-others (Writes adding j) j.addrs c a (λ k a l. (s k a l).written) out;
+  cells = λ j c d s same. add_all-agrees (Uses adding j) j.addrs c d (λ k a l. let d : ℕ = get_or j.addrs k a in or_right (covers j.areas j.foot.uses d) (covers j.areas j.foot.writes d) (s k a l)) same;
+  others = λ j c a s out. add_all-others (Writes adding j) j.addrs c a s out;
   long = λ j c. length-add_all j.addrs c;
   valid_after = λ j c s. s;
   foot_after = λ j c. refl;

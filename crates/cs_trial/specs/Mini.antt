@@ -27,11 +27,11 @@ abbrev pub steps : List Op → List ℤ × Cells → List ℤ × Cells
 steps [] s = s
 steps (op ∷ rest) s = steps rest (step op s)
 
--- the op's registers are there, the cell that it reads is used, the one that it writes used and written
+-- the op's registers are there, the cell that it reads is used, the one that it writes written
 abbrev pub Fits : List Area → Footprint → ℕ → Op → Type 0
 Fits areas foot n (Read r a) = (r < n) × (covers areas foot.uses a ≡ true)
 Fits areas foot n (Add r z) = r < n
-Fits areas foot n (Write a r) = (r < n) × (covers areas foot.uses a ≡ true) × (covers areas foot.writes a ≡ true)
+Fits areas foot n (Write a r) = (r < n) × (covers areas foot.writes a ≡ true)
 
 abbrev pub IsSmall : Small → Type 0
 IsSmall j = All (Fits j.areas j.foot (length j.regs)) j.ops

@@ -2,8 +2,8 @@ use Rattle.std.proofs.Common.{◌≡◌, ℕ, suc, ℤ, pos, ◌<◌, List, [], 
 use Rattle.std.specs.List.{All}
 use Rattle.std.specs.Int.{int_wrapping_add, w64}
 use Rattle.std.proofs.lemmas.List.{length-set, get_or-set_same, get_or-set_other, set_past}
-use Rattle.std.proofs.lemmas.Bool.{cases_eq, cases_lt}
-use Rattle.cs_cells.specs.Cells.{Cells, cell, Agree}
+use Rattle.std.proofs.lemmas.Bool.{cases_eq, cases_lt, or_left}
+use Rattle.cs_cells.specs.Cells.{Cells, cell, covers, Agree}
 use Rattle.cs_cells.specs.Meaning.{Frames, Uses, Writes}
 use Rattle.cs_trial.specs.declared.mini.Op.{Op}
 use Rattle.cs_trial.specs.declared.mini.Op.TheVariants.{Read, Add, Write}
@@ -30,7 +30,7 @@ record Alike (P : ℕ → Type 0) (s t : List ℤ × Cells) : Type 0 where
   cells : Agree P s.1 t.1
 
 step_alike : (j : Small) (op : Op) (s t : List ℤ × Cells) → Fits j.areas j.foot (length j.regs) op → Alike (Uses small j) s t → Alike (Uses small j) (step op s) (step op t)
-step_alike j (Read r a) s t fits same = record { regs = ap (λ x. slice_set x r (cell s.1 a)) same.regs ∙ ap (λ z. slice_set t.0 r z) (same.cells.same a fits.1); cells = same.cells }
+step_alike j (Read r a) s t fits same = record { regs = ap (λ x. slice_set x r (cell s.1 a)) same.regs ∙ ap (λ z. slice_set t.0 r z) (same.cells.same a (or_left (covers j.areas j.foot.uses a) (covers j.areas j.foot.writes a) fits.1)); cells = same.cells }
 step_alike j (Add r z) s t fits same = record { regs = ap (λ x. (step (Add r z) (x, s.1)).0) same.regs; cells = same.cells }
 step_alike j (Write a r) s t fits same = record {
   regs = same.regs;
@@ -44,7 +44,7 @@ steps_alike j (op ∷ rest) s t all same = steps_alike j rest (step op s) (step 
 step-others : (j : Small) (op : Op) (s : List ℤ × Cells) (b : ℕ) → Fits j.areas j.foot (length j.regs) op → ¬ (Writes small j b) → cell (step op s).1 b ≡ cell s.1 b
 step-others j (Read r a) s b fits out = refl
 step-others j (Add r z) s b fits out = refl
-step-others j (Write a r) s b fits out = get_or-set_other s.1 a b (reg s.0 r) (pos 0) (λ e. out (subst (λ x. Writes small j x) (sym e) fits.2))
+step-others j (Write a r) s b fits out = get_or-set_other s.1 a b (reg s.0 r) (pos 0) (λ e. out (subst (λ x. Writes small j x) (sym e) fits.1))
 
 steps-others : (j : Small) (ops : List Op) (s : List ℤ × Cells) (b : ℕ) → All (Fits j.areas j.foot (length j.regs)) ops → ¬ (Writes small j b) → cell (steps ops s).1 b ≡ cell s.1 b
 steps-others j [] s b all out = refl

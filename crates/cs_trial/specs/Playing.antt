@@ -1,6 +1,6 @@
 -- Two seats that play a cycle, call by call.
 use Rattle.std.specs.Prelude.{◌≡◌, [], ◌∷◌, true, false}
-use Rattle.cs_board.specs.Board.{view, IsSeatOf, IsIdle, IsClaimed, HasRun}
+use Rattle.cs_board.specs.Board.{plan, name, view, IsSeatOf, IsIdle, IsClaimed, HasRun}
 use Rattle.cs_board.specs.declared.board.Board.{Board}
 use Rattle.cs_cells.specs.Meaning.{Meaning}
 use Rattle.cs_rule.specs.declared.view.View.{View}
@@ -18,8 +18,8 @@ module _ {J : Type 0} (M : Meaning J) where
 
   -- the second seat was split off the first, and nothing else was
   pub record ArePlaying (board : Board J) (p : Players J) : Type 0 where
-    pub first : IsSeatOf M board p.first
-    pub second : IsSeatOf M board p.second
+    pub first : IsSeatOf M (plan board) (name board) p.first
+    pub second : IsSeatOf M (plan board) (name board) p.second
     pub here : Stands p.here (view p.first)
     pub there : Stands p.there (view p.second)
     pub leads : (view p.first).first ≡ true

@@ -28,8 +28,8 @@ impl<'t> Model for AddOne<'t> {
 }
 
 impl<'t> AddOne<'t> {
-    /// A job on the resources that the footprint writes, or None where an area of them has a cell
-    /// that the footprint doesn't use or that lies past the greatest address.
+    /// A job on the resources that the footprint writes, or None where one of them has no area, or
+    /// an area with a cell past the greatest address.
     pub fn new(
         alloc: Global,
         areas: &'t [Area],
@@ -47,9 +47,7 @@ impl<'t> AddOne<'t> {
                 let Some(addr) = area.first.checked_add(step) else {
                     return Ok(None);
                 };
-                if !is_covered(areas, foot.uses.as_slice(), addr)
-                    || !is_covered(areas, foot.writes.as_slice(), addr)
-                {
+                if !is_covered(areas, foot.writes.as_slice(), addr) {
                     return Ok(None);
                 }
                 addrs.push(addr)?;

@@ -1,12 +1,12 @@
 // What no clause of a board says: that notes are given out, by which seat and after how many tries;
 // and its rows.
 ghost use Rattle.std.specs.Prelude.{◌≡◌};
-ghost use Rattle.cs_board.specs.Board.{plan, view, IsSeatOf};
+ghost use Rattle.cs_board.specs.Board.{plan, name, view, IsSeatOf};
 ghost use Rattle.cs_rule.specs.Views.{opening_view};
 
-use crate::{Foot, Phase, Players, adding, laid, opened, play_alone, play_out, single};
+use crate::{Foot, Phase, Players, adding, laid, opened, play_alone, play_out, single, words_on};
 use cs_base::MOST_NOTES;
-use cs_board::{Board, BoardSeat, Loaded, Tally};
+use cs_board::{Board, BoardSeat, Tally};
 use cs_cells::{Area, Job, Layout};
 use std::alloc::Global;
 use std::sync::Wait;
@@ -26,26 +26,31 @@ struct Played {
 fn finished<J: Job + Drop, R: Wait>(
     rt: &R,
     alloc: Global,
+    layout: &Layout,
     board: Board<J>,
     seat: BoardSeat<J>,
-) -> Played
-    requires seat { IsSeatOf J.means board seat }
+) -> Option<Played>
+    requires seat { IsSeatOf J.means (plan board) (name board) seat }
     requires opens { view seat ≡ opening_view (plan board) }
+    requires areas { (plan board).areas ≡ layout.now }
 {
     let mut log = Vec::new(alloc);
-    let (receipt, tries) = play_alone(rt, board, seat, &mut log);
+    let (receipt, mut desk, tries) = play_alone(rt, board, seat, &mut log);
     let mut tally = Tally::new();
-    let Loaded { words, jobs } = tally.add(receipt);
-    drop(jobs);
-    Played {
-        log,
-        tries,
-        words,
-        counted: (tally.cycles(), tally.notes()),
+    tally.add(receipt);
+    let counted = (tally.cycles(), tally.notes());
+    match words_on(alloc, layout, &mut desk) {
+        Some(words) => Some(Played {
+            log,
+            tries,
+            words,
+            counted,
+        }),
+        None => None,
     }
 }
 
-// None where there is no board for the jobs.
+// None where there is no board for the jobs, or no memory.
 fn play_on<R: Wait>(
     rt: &R,
     alloc: Global,
@@ -58,7 +63,7 @@ fn play_on<R: Wait>(
 {
     let loaded = adding(alloc, areas, layout, feet, before)?;
     match opened(alloc, layout, loaded) {
-        Ok((board, seat)) => Some(finished(rt, alloc, board, seat)),
+        Ok((board, seat)) => finished(rt, alloc, layout, board, seat),
         Err(_) => None,
     }
 }
@@ -169,7 +174,7 @@ fn calls_are<J: Job + Drop, R: Wait>(
     seat: BoardSeat<J>,
     calls: &[(bool, Phase)],
 ) -> bool
-    requires seat { IsSeatOf J.means board seat }
+    requires seat { IsSeatOf J.means (plan board) (name board) seat }
     requires opens { view seat ≡ opening_view (plan board) }
 {
     let mut players = Players::seated(&board, seat);
@@ -178,7 +183,8 @@ fn calls_are<J: Job + Drop, R: Wait>(
         players.turn(&board, *second);
         right = right && players.phase(*second) == *phase;
     }
-    Tally::new().add(play_out(rt, board, players));
+    let (receipt, _) = play_out(rt, board, players);
+    Tally::new().add(receipt);
     right
 }
 

@@ -2,35 +2,91 @@
 ghost use Rattle.std.specs.Prelude.{◌≡◌, ◌<◌, ℕ, length, map, true, All, IsSome, IfSome, IfOk, IfErr};
 ghost use Rattle.std.specs.List.{Contains};
 ghost use Rattle.std.specs.List.Sorted.{IsStrictlyIncreasing};
-ghost use Rattle.cs_board.specs.Board.{plan, view, IsSeatOf};
+ghost use Rattle.cs_board.specs.Board.{plan, name, view, IsSeatOf};
+ghost use Rattle.cs_board.specs.Desk.{areas, cells, HasRoom};
 ghost use Rattle.cs_cells.specs.Areas.{word_count};
+ghost use Rattle.cs_cells.specs.Cells.{values};
 ghost use Rattle.cs_graph.specs.Graph.{IsFit};
 ghost use Rattle.cs_rule.specs.Plans.{IsFootprint};
 ghost use Rattle.cs_rule.specs.Views.{opening_view};
 
-use cs_base::{Items, MOST_NOTES};
-use cs_board::{Board, BoardSeat, Loaded};
-use cs_cells::{Feet, Footprint, Job, Layout};
+use crate::loaded::Loaded;
+use cs_base::MOST_NOTES;
+use cs_board::{Board, BoardSeat, Desk};
+use cs_cells::{Bank, Footprint, Job, Layout};
 use cs_graph::Graph;
 use std::alloc::{AllocError, Global};
+use std::sync::Arc;
 
 /// The board of the jobs and its first seat. Where there is no memory for it, where there are more
 /// jobs than notes may be active, or where a footprint isn't in order, the jobs come back.
-pub fn opened<J: Job>(
+pub fn opened<J: Job + Drop>(
     alloc: Global,
     layout: &Layout,
     loaded: Loaded<J>,
-) -> Result<(Board<J>, BoardSeat<J>), Loaded<J>>
+) -> Result<(Board<J>, BoardSeat<J>), Vec<J>>
     requires words { length loaded.0 ≡ word_count layout.now }
     requires areas { All (λ j. J.means.areas j ≡ layout.now) loaded.1 }
-    ensures seat { IfOk result (λ b. IsSeatOf J.means b.0 b.1 × (view b.1
-        ≡ opening_view (plan b.0))) }
-    ensures back { IfErr result (λ l. l ≡ loaded) }
+    ensures seat { IfOk result (λ b. IsSeatOf J.means (plan b.0) (name b.0) b.1) }
+    ensures view { IfOk result (λ b. view b.1 ≡ opening_view (plan b.0)) }
+    ensures areas { IfOk result (λ b. (plan b.0).areas ≡ layout.now) }
+    ensures back { IfErr result (λ jobs. jobs.items ≡ loaded.1) }
 {
-    let Some(graph) = graph_of(alloc, layout, &loaded.jobs) else {
-        return Err(loaded);
+    let Loaded { words, jobs } = loaded;
+    let Some((desk, graph)) = desk_for(alloc, layout, &words, &jobs) else {
+        return Err(jobs);
     };
-    Board::new(alloc, &graph, layout, loaded)
+    match desk.open(&graph, jobs) {
+        Ok(board) => Ok(board),
+        Err((_, jobs)) => Err(jobs),
+    }
+}
+
+/// A desk with these words, and the graph of the jobs' footprints. None where there is no memory
+/// for it, where there are more jobs than notes may be active, or where a footprint isn't in order.
+pub fn desk_for<J: Job + Drop>(
+    alloc: Global,
+    layout: &Layout,
+    words: &[u64],
+    jobs: &[J],
+) -> Option<(Desk<J>, Arc<Graph, Global>)>
+    requires words { length words.now ≡ word_count layout.now }
+    ensures notes { IfSome result (λ s. length s.1.value.levels ≡ length jobs.now) }
+    ensures fit { IfSome result (λ s. IsFit (map J.means.foot jobs.now) s.1.value.edges) }
+    ensures orderly { IfSome result (λ s. All (λ j. IsFootprint (length (areas s.0))
+        (J.means.foot j)) jobs.now) }
+    ensures areas { IfSome result (λ s. areas s.0 ≡ layout.now) }
+    ensures cells { IfSome result (λ s. cells s.0 ≡ values words.now) }
+    ensures room { IfSome result (λ s. HasRoom s.0 (length jobs.now)
+        (length s.1.value.edges)) }
+{
+    let graph = graph_of(alloc, layout, jobs)?;
+    let (notes, edges) = (graph.len(), graph.edge_count());
+    let Ok(graph) = Arc::new(alloc, graph) else {
+        return None;
+    };
+    match Desk::new(alloc, layout, words, notes, edges) {
+        Ok(desk) => Some((desk, graph)),
+        Err(_) => None,
+    }
+}
+
+/// The words of a desk's cells. None where there is no memory for them.
+pub fn words_on<J: Job>(alloc: Global, layout: &Layout, desk: &mut Desk<J>) -> Option<Vec<u64>>
+    requires { areas desk.old ≡ layout.now }
+{
+    read_words(alloc, desk, layout.words()).ok()
+}
+
+fn read_words<B: Bank>(alloc: Global, bank: &mut B, count: u32) -> Result<Vec<u64>, AllocError>
+    requires { (a : ℕ) → a < count → B.can_get (B.rest bank.old) a }
+    ensures { B.rest bank.new ≡ B.rest bank.old }
+{
+    let mut words = Vec::new(alloc);
+    for addr in 0..count {
+        words.push(bank.get(addr).cast_unsigned())?;
+    }
+    Ok(words)
 }
 
 /// The graph of the jobs' footprints. None where there is no memory for it, where there are more
@@ -41,34 +97,10 @@ pub fn graph_of<J: Job>(alloc: Global, layout: &Layout, jobs: &[J]) -> Option<Gr
     ensures orderly { IsSome result
         → All (λ j. IsFootprint (length layout.now) (J.means.foot j)) jobs.now }
 {
-    if !are_orderly(jobs, layout.len()) {
+    if !are_orderly(jobs, layout.len()) || jobs.len() > MOST_NOTES {
         return None;
     }
-    let feet = feet_of(alloc, jobs).ok()?;
-    if feet.len() > MOST_NOTES {
-        return None;
-    }
-    Graph::build(alloc, &feet).ok()
-}
-
-/// The jobs' footprints, in order.
-fn feet_of<J: Job>(alloc: Global, jobs: &[J]) -> Result<Feet, AllocError>
-    ensures { IfOk result (λ f. f ≡ map J.means.foot jobs.now) }
-{
-    let mut feet = Items::new(alloc);
-    for job in jobs {
-        feet.push(copy_of(alloc, job.footprint())?)?;
-    }
-    Ok(feet)
-}
-
-fn copy_of(alloc: Global, foot: &Footprint) -> Result<Footprint, AllocError>
-    ensures { IfOk result (λ f. f ≡ foot.now) }
-{
-    Ok(Footprint {
-        uses: Items::from_vec(Vec::from_slice(alloc, foot.uses.as_slice())?),
-        writes: Items::from_vec(Vec::from_slice(alloc, foot.writes.as_slice())?),
-    })
+    Graph::of_jobs(alloc, jobs).ok()
 }
 
 fn are_orderly<J: Job>(jobs: &[J], areas: u32) -> bool

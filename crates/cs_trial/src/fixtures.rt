@@ -2,9 +2,8 @@
 ghost use Rattle.std.specs.Prelude.{◌≡◌, All, IfOk, IfSome, length, vec_len};
 ghost use Rattle.cs_cells.specs.Areas.{IsLaid, word_count};
 
-use crate::AddOne;
+use crate::{AddOne, Loaded};
 use cs_base::{Places, Res};
-use cs_board::Loaded;
 use cs_cells::{Area, Footprint, Job, Layout, PlainBank, run_all};
 use std::alloc::{AllocError, Global};
 
@@ -34,7 +33,7 @@ pub fn areas_of(alloc: Global, lengths: &[u32]) -> Result<Option<Vec<Area>>, All
     let mut areas = Vec::new(alloc);
     let mut first: u32 = 0;
     for (number, length) in lengths.iter().enumerate() {
-        let (Ok(number), Some(end)) = (u32::try_from(number), first.checked_add(*length)) else {
+        let Some(end) = first.checked_add(*length) else {
             return Ok(None);
         };
         areas.push(Area {

@@ -1,11 +1,9 @@
 // Small cycles and their graphs, as the profile's rows give them or by hand from the rule on
 // conflicts.
-ghost use Rattle.std.specs.Prelude.{◌≡◌, ◌≤◌, IfSome, length};
-ghost use Rattle.cs_base.specs.Limits.{most_notes};
+ghost use Rattle.std.specs.Prelude.{◌<◌, length};
 
-use crate::{Foot, foot};
-use cs_base::{Items, MOST_NOTES};
-use cs_cells::Feet;
+use crate::{Foot, Part, foot, minis};
+use cs_base::MOST_NOTES;
 use cs_graph::Graph;
 use std::alloc::{AllocError, Global};
 use std::test::Fail;
@@ -17,27 +15,31 @@ const WRITER: Foot<'static> = (&[7], &[7]);
 
 const NOTHING: Foot<'static> = (&[], &[]);
 
-fn feet_of(alloc: Global, notes: &[Foot]) -> Result<Feet, AllocError> {
-    let mut feet = Items::new(alloc);
+// What notes are made of that touch these places and do nothing.
+fn parts_of(alloc: Global, notes: &[Foot]) -> Result<Vec<Part>, AllocError> {
+    let mut parts = Vec::new(alloc);
     for (uses, writes) in notes {
-        feet.push(foot(alloc, uses, writes)?)?;
+        parts.push(Part {
+            foot: foot(alloc, uses, writes)?,
+            ops: Vec::new(alloc),
+        })?;
     }
-    Ok(feet)
+    Ok(parts)
 }
 
 // None where there are too many notes, or no memory.
 fn built(alloc: Global, notes: &[Foot]) -> Option<Graph> {
-    match feet_of(alloc, notes) {
-        Ok(feet) => graph_of(alloc, &feet),
+    match parts_of(alloc, notes) {
+        Ok(parts) => graph_of(alloc, &parts),
         Err(_) => None,
     }
 }
 
-fn graph_of(alloc: Global, feet: &Feet) -> Option<Graph> {
-    if feet.len() > MOST_NOTES {
-        return None;
+fn graph_of(alloc: Global, parts: &[Part]) -> Option<Graph> {
+    match minis(alloc, &[], parts) {
+        Ok(Some(jobs)) if jobs.len() <= MOST_NOTES => Graph::of_jobs(alloc, &jobs).ok(),
+        _ => None,
     }
-    Graph::build(alloc, feet).ok()
 }
 
 /// Notes, the edges of their graph, and their levels.
@@ -102,35 +104,42 @@ fn small_graphs(rt: HostRuntime) -> Result<(), Fail> {
     Ok(())
 }
 
-/// A note, its predecessors and successors, the edges from it, and the range of the edges to it.
-type Look = (
-    u32,
-    &'static [u32],
-    &'static [u32],
-    &'static [u32],
-    u32,
-    u32,
-);
+/// A note, the edges from it, and the range of the edges to it.
+type Look = (u32, &'static [u32], u32, u32);
 
-/// What each look-up answers for a writer, two readers and a writer.
+/// What the look-ups answer for a writer, two readers and a writer.
 const LOOKS: [Look; 4] = [
-    (0, &[], &[1, 2], &[0, 1], 0, 0),
-    (1, &[0], &[3], &[2], 0, 1),
-    (2, &[0], &[3], &[3], 1, 2),
-    (3, &[1, 2], &[], &[], 2, 4),
+    (0, &[0, 1], 0, 0),
+    (1, &[2], 0, 1),
+    (2, &[3], 1, 2),
+    (3, &[], 2, 4),
 ];
 
+// Whether these are the edges from a note, one after another.
+fn leads_by(graph: &Graph, note: u32, edges: &[u32]) -> bool
+    requires { note < length graph.now.levels }
+{
+    let mut next = graph.first_out(note);
+    for edge in edges {
+        if next != Some(*edge) || *edge >= graph.edge_count() {
+            return false;
+        }
+        let (from, _) = graph.ends(*edge);
+        if from != note {
+            return false;
+        }
+        next = graph.next_out(*edge, note);
+    }
+    next.is_none()
+}
+
 fn answers(graph: &Graph, look: Look) -> bool {
-    let (note, preds, succs, out_edges, first, end) = look;
+    let (note, edges, first, end) = look;
     if note >= graph.len() {
         return false;
     }
     let into = graph.in_edges(note);
-    graph.preds(note) == preds
-        && graph.succs(note) == succs
-        && graph.out_edges(note) == out_edges
-        && into.start == first
-        && into.end == end
+    leads_by(graph, note, edges) && into.start == first && into.end == end
 }
 
 fn looks_up(alloc: Global, look: Look) -> bool {
@@ -148,28 +157,35 @@ fn look_ups(rt: HostRuntime) -> Result<(), Fail> {
     Ok(())
 }
 
-// The number of notes and edges, and the last note's level.
-fn sizes(alloc: Global, notes: &[Foot]) -> Option<(u32, usize, Option<u32>)> {
+// The number of notes and edges, the greatest level, and the number of useful workers.
+fn sizes(alloc: Global, notes: &[Foot]) -> Option<(u32, u32, u32, u32)> {
     match built(alloc, notes) {
-        Some(graph) => Some((graph.len(), graph.edges().len(), last_level(&graph))),
+        Some(graph) => Some((
+            graph.len(),
+            graph.edge_count(),
+            graph.depth(),
+            graph.useful_workers(),
+        )),
         None => None,
     }
 }
 
-fn last_level(graph: &Graph) -> Option<u32> {
-    if graph.len() == 0 {
-        return None;
-    }
-    Some(graph.level(graph.len() - 1))
-}
+/// Notes, and their number, that of the edges, the greatest level and the useful workers.
+type Size = (&'static [Foot<'static>], Option<(u32, u32, u32, u32)>);
 
-// 512 writers of one resource have 511 edges; one more is too many.
+/// 512 writers of one resource have 511 edges; one more is too many.
+const SIZES: [Size; 5] = [
+    (&[], Some((0, 0, 0, 0))),
+    (&[WRITER, READER, READER, WRITER], Some((4, 4, 2, 2))),
+    (&[WRITER; MOST_NOTES], Some((512, 511, 511, 1))),
+    (&[READER; MOST_NOTES], Some((512, 0, 0, 512))),
+    (&[WRITER; MOST_NOTES + 1], None),
+];
+
 #[test]
-fn most_notes(rt: HostRuntime) -> Result<(), Fail> {
-    assert_eq!(rt;
-        sizes(rt.alloc(), &[WRITER; MOST_NOTES]),
-        Some((512, 511, Some(511)))
-    );
-    assert_eq!(rt; sizes(rt.alloc(), &[WRITER; MOST_NOTES + 1]), None);
+fn sizes_of_graphs(rt: HostRuntime) -> Result<(), Fail> {
+    for (notes, want) in SIZES {
+        assert_eq!(rt; sizes(rt.alloc(), notes), want);
+    }
     Ok(())
 }

@@ -6,22 +6,24 @@
 //! board.
 //!
 //! Which graphs and orders the tests try may change without anyone above noticing. In reading
-//! order: `covers`, `add_one`, `mini`, `parts`, `fixtures`, `boards`, `players`; then the tests:
-//! `tests` (cells), `graph_tests`, `board_tests` (the rows of a board), `order_tests` (small graphs
-//! by every order of two seats' calls).
+//! order: `covers`, `add_one`, `mini`, `parts`, `loaded`, `fixtures`, `boards`, `players`; then the
+//! tests: `tests` (cells), `graph_tests`, `board_tests` (the rows of a board), `order_tests` (small
+//! graphs by every order of two seats' calls).
 #![tactic(auto)]
 
 mod add_one;
 mod boards;
 mod covers;
 mod fixtures;
+mod loaded;
 mod mini;
 mod parts;
 mod players;
 
 pub use add_one::AddOne;
-pub use boards::{graph_of, opened};
+pub use boards::{desk_for, graph_of, opened, words_on};
 pub use fixtures::{Foot, adders, adding, areas_of, foot, laid, play, single, words_of};
+pub use loaded::Loaded;
 pub use mini::{Mini, Op};
 pub use parts::{Part, minis};
 pub use players::{Phase, Players, play_alone, play_out, play_two, step};

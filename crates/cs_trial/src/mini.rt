@@ -74,11 +74,8 @@ fn fits(areas: &[Area], foot: &Footprint, regs: usize, op: Op) -> bool
         Op::Read(reg, addr) => (reg as usize) < regs
             && is_covered(areas, foot.uses.as_slice(), addr),
         Op::Add(reg, _) => (reg as usize) < regs,
-        Op::Write(addr, reg) => {
-            (reg as usize) < regs
-                && is_covered(areas, foot.uses.as_slice(), addr)
-                && is_covered(areas, foot.writes.as_slice(), addr)
-        }
+        Op::Write(addr, reg) => (reg as usize) < regs
+            && is_covered(areas, foot.writes.as_slice(), addr),
     }
 }
 

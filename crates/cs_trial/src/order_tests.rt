@@ -1,12 +1,12 @@
 // All small graphs, by every order of the calls of two seats: each leaves what the serial run
 // leaves.
 ghost use Rattle.std.specs.Prelude.{◌≡◌, All, IfSome, length};
-ghost use Rattle.cs_board.specs.Board.{plan, view, IsSeatOf};
+ghost use Rattle.cs_board.specs.Board.{plan, name, view, IsSeatOf};
 ghost use Rattle.cs_cells.specs.Areas.{word_count};
 ghost use Rattle.cs_rule.specs.Views.{opening_view};
 
-use crate::{Mini, Op, Part, foot, laid, minis, opened, play_two, words_of};
-use cs_board::{Board, BoardSeat, Loaded, Tally};
+use crate::{Loaded, Mini, Op, Part, foot, laid, minis, opened, play_two, words_of, words_on};
+use cs_board::{Board, BoardSeat, Tally};
 use cs_cells::{Area, Job, Layout};
 use std::alloc::{AllocError, Global};
 use std::sync::Wait;
@@ -81,18 +81,23 @@ fn serial_words(alloc: Global, notes: u32, pairs: u32) -> Result<Vec<u64>, Alloc
 // Whether the notes leave these words by one order of calls.
 fn leaves<J: Job + Drop, R: Wait>(
     rt: &R,
+    alloc: Global,
+    layout: &Layout,
     board: Board<J>,
     seat: BoardSeat<J>,
     order: u32,
     serial: &[u64],
 ) -> bool
-    requires seat { IsSeatOf J.means board seat }
+    requires seat { IsSeatOf J.means (plan board) (name board) seat }
     requires opens { view seat ≡ opening_view (plan board) }
+    requires areas { (plan board).areas ≡ layout.now }
 {
-    let receipt = play_two(rt, board, seat, order);
-    let Loaded { words, jobs } = Tally::new().add(receipt);
-    drop(jobs);
-    words.as_slice() == serial
+    let (receipt, mut desk) = play_two(rt, board, seat, order);
+    Tally::new().add(receipt);
+    match words_on(alloc, layout, &mut desk) {
+        Some(words) => words.as_slice() == serial,
+        None => false,
+    }
 }
 
 fn loaded_of<'t>(
@@ -127,7 +132,7 @@ fn is_serial_by<R: Wait>(
         return false;
     };
     match opened(alloc, layout, loaded) {
-        Ok((board, seat)) => leaves(rt, board, seat, order, serial),
+        Ok((board, seat)) => leaves(rt, alloc, layout, board, seat, order, serial),
         Err(_) => false,
     }
 }

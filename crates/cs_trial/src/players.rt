@@ -1,12 +1,13 @@
 // One seat or two that play a cycle, call by call.
 ghost use Rattle.std.specs.Prelude.{◌≡◌, [], ◌∷◌, true, false};
-ghost use Rattle.cs_board.specs.Board.{plan, view, IsSeatOf, IsIdle, SameSeat};
+ghost use Rattle.cs_board.specs.Board.{plan, name, view, IsSeatOf, IsIdle, SameSeat};
+ghost use Rattle.cs_board.specs.Desk.{areas};
 ghost use Rattle.cs_rule.specs.Views.{opening_view};
 ghost use Rattle.cs_trial.specs.Playing.{Stands, ArePlaying};
 ghost use Rattle.cs_trial.specs.declared.players.Phase.TheVariants as phase_is;
 
 use cs_base::Steps;
-use cs_board::{Board, BoardSeat, Receipt};
+use cs_board::{Board, BoardSeat, Desk, Receipt};
 use cs_cells::Job;
 use std::sync::Wait;
 
@@ -30,9 +31,9 @@ pub struct Players<J> {
 
 /// A claim.
 fn claimed<J: Job>(board: &Board<J>, seat: &mut BoardSeat<J>) -> Phase
-    requires seat { IsSeatOf J.means board.now seat.old }
+    requires seat { IsSeatOf J.means (plan board.now) (name board.now) seat.old }
     requires idle { IsIdle (view seat.old) }
-    ensures seat { IsSeatOf J.means board.now seat.new }
+    ensures seat { IsSeatOf J.means (plan board.now) (name board.now) seat.new }
     ensures stands { Stands J.means result (view seat.new) }
     ensures same { SameSeat (view seat.old) (view seat.new) }
 {
@@ -44,9 +45,9 @@ fn claimed<J: Job>(board: &Board<J>, seat: &mut BoardSeat<J>) -> Phase
 
 /// The seat's next call.
 pub fn step<J: Job>(board: &Board<J>, seat: &mut BoardSeat<J>, phase: Phase) -> Phase
-    requires seat { IsSeatOf J.means board.now seat.old }
+    requires seat { IsSeatOf J.means (plan board.now) (name board.now) seat.old }
     requires stands { Stands J.means phase (view seat.old) }
-    ensures seat { IsSeatOf J.means board.now seat.new }
+    ensures seat { IsSeatOf J.means (plan board.now) (name board.now) seat.new }
     ensures stands { Stands J.means result (view seat.new) }
     ensures same { SameSeat (view seat.old) (view seat.new) }
 {
@@ -67,11 +68,11 @@ pub fn step<J: Job>(board: &Board<J>, seat: &mut BoardSeat<J>, phase: Phase) -> 
 impl<J: Job> Players<J> {
     /// Two seats of a board at the opening.
     pub fn seated(board: &Board<J>, mut first: BoardSeat<J>) -> Players<J>
-        requires seat { IsSeatOf J.means board.now first }
+        requires seat { IsSeatOf J.means (plan board.now) (name board.now) first }
         requires opens { view first ≡ opening_view (plan board.now) }
         ensures { ArePlaying J.means board.now result }
     {
-        let second = board.split(&mut first);
+        let second = board.split(&mut first, 0);
         Players {
             first,
             second,
@@ -109,10 +110,11 @@ impl<J: Job> Players<J> {
     }
 
     /// The end, once both last claims answered None.
-    pub fn ended(self, board: Board<J>) -> Receipt<J>
+    pub fn ended(self, board: Board<J>) -> (Receipt<J>, Desk<J>)
         requires playing { ArePlaying J.means board self }
         requires here { self.here ≡ phase_is.Over }
         requires there { self.there ≡ phase_is.Over }
+        ensures { areas result.1 ≡ (plan board).areas }
     {
         let Players {
             mut first,
@@ -121,7 +123,7 @@ impl<J: Job> Players<J> {
             there: _,
         } = self;
         board.join(&mut first, second);
-        board.close(first)
+        board.rest(first)
     }
 }
 
@@ -133,9 +135,10 @@ pub fn play_two<J: Job, R: Wait>(
     board: Board<J>,
     seat: BoardSeat<J>,
     order: u32,
-) -> Receipt<J>
-    requires seat { IsSeatOf J.means board seat }
+) -> (Receipt<J>, Desk<J>)
+    requires seat { IsSeatOf J.means (plan board) (name board) seat }
     requires opens { view seat ≡ opening_view (plan board) }
+    ensures { areas result.1 ≡ (plan board).areas }
 {
     let mut players = Players::seated(&board, seat);
     let mut left = order;
@@ -147,8 +150,13 @@ pub fn play_two<J: Job, R: Wait>(
 }
 
 /// Both seats take turns to the end.
-pub fn play_out<J: Job, R: Wait>(rt: &R, board: Board<J>, mut players: Players<J>) -> Receipt<J>
+pub fn play_out<J: Job, R: Wait>(
+    rt: &R,
+    board: Board<J>,
+    mut players: Players<J>,
+) -> (Receipt<J>, Desk<J>)
     requires { ArePlaying J.means board players }
+    ensures { areas result.1 ≡ (plan board).areas }
 {
     for _ in rt.forever() {
         players.turn(&board, false);
@@ -161,15 +169,16 @@ pub fn play_out<J: Job, R: Wait>(rt: &R, board: Board<J>, mut players: Players<J
 }
 
 /// One seat plays to the end. `log` gets each note with what its run answered, as far as there is
-/// memory; the number of tries comes back with the receipt.
+/// memory; the number of tries comes back with receipt and desk.
 pub fn play_alone<J: Job, R: Wait>(
     rt: &R,
     board: Board<J>,
     mut seat: BoardSeat<J>,
     log: &mut Vec<(u32, u64)>,
-) -> (Receipt<J>, u64)
-    requires seat { IsSeatOf J.means board seat }
+) -> (Receipt<J>, Desk<J>, u64)
+    requires seat { IsSeatOf J.means (plan board) (name board) seat }
     requires opens { view seat ≡ opening_view (plan board) }
+    ensures { areas result.1 ≡ (plan board).areas }
 {
     let mut tries: u64 = 0;
     for _ in rt.forever() {
@@ -177,7 +186,8 @@ pub fn play_alone<J: Job, R: Wait>(
         let claim = board.claim(&mut seat, &mut steps);
         tries = tries.saturating_add(steps.count);
         let Some(note) = claim else {
-            return (board.close(seat), tries);
+            let (receipt, desk) = board.rest(seat);
+            return (receipt, desk, tries);
         };
         let turns = board.run(&mut seat);
         board.finish(&mut seat);

@@ -2,9 +2,8 @@
 ghost use Rattle.std.specs.Prelude.{◌≡◌, All};
 ghost use Rattle.cs_cells.specs.Areas.{IsLaid};
 
-use crate::{Foot, Mini, Op, Part, adding, areas_of, foot, laid, minis, play, words_of};
+use crate::{Foot, Loaded, Mini, Op, Part, adding, areas_of, foot, laid, minis, play, words_of};
 use cs_base::{Limit, Or, Res};
-use cs_board::Loaded;
 use cs_cells::{Area, Job, Layout};
 use std::alloc::{AllocError, Global};
 use std::test::Fail;

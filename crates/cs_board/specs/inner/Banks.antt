@@ -7,6 +7,7 @@ use Rattle.cs_board.specs.inner.Sittings.{deed}
 use Rattle.cs_board.specs.declared.board.Board.{Board}
 use Rattle.cs_cells.specs.Meaning.{Meaning}
 use Rattle.cs_rule.specs.Plans.{IsPlan, uses_at, writes_at}
+use Rattle.cs_rule.specs.declared.view.Berth.{Berth}
 use Rattle.cs_rule.specs.declared.view.Doing.{Doing}
 use Rattle.cs_rule.specs.declared.view.View.{View}
 
@@ -26,10 +27,10 @@ pub record Frame (J : Type 0) : Type 0 where
   pub table_id : TableId
   pub id : ℕ
   pub view : View J
-  pub carried : List (ℕ × Option J)
+  pub carried : List (ℕ × Berth J)
 
 module _ {J : Type 0} where
-  abbrev pub frame_of : Board J → Seat (Option J) (View J) → ℕ → Frame J
+  abbrev pub frame_of : Board J → Seat (Berth J) (View J) → ℕ → Frame J
   frame_of board sitting name = record {
     name = name;
     board = board;
@@ -43,7 +44,7 @@ module _ {J : Type 0} (M : Meaning J) where
   -- the seat of the board does a note
   pub record IsAtWork (r : Frame J) : Type 0 where
     pub whole : IsPlan M (plan r.board)
-    pub table : r.table_id ≡ r.board.table.shared.table_id
+    pub table : r.table_id ≡ r.board.frame.table.shared.table_id
     pub knows : IsViewOf (plan r.board) r.view
     pub doing : r.view.doing ≡ Some (deed r.view)
 

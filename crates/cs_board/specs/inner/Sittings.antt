@@ -2,13 +2,13 @@
 use Rattle.std.specs.Prelude.{◌≡◌, ◌≢◌, ℕ, ◌+◌, ◌<◌, ◌≤◌, [], Bool, true, false, cond, Option, Some, None}
 use Rattle.atomic_table.specs.declared.shared.Seat.{Seat}
 use Rattle.cs_board.specs.Board.{plan, IsViewOf, SameSeat, FoundSince}
-use Rattle.cs_board.specs.inner.Wires.{IsNextOut, NoneIn}
 use Rattle.cs_board.specs.declared.board.Board.{Board}
 use Rattle.cs_cells.specs.Meaning.{Meaning}
-use Rattle.cs_graph.specs.Graph.{Edge}
+use Rattle.cs_graph.specs.Graph.{Edge, IsNextOut, NoneIn}
 use Rattle.cs_rule.specs.Facts.{owed}
 use Rattle.cs_rule.specs.Plans.{IsPlan, before_at}
 use Rattle.cs_rule.specs.Views.{began, missed, fresh, settled, passed}
+use Rattle.cs_rule.specs.declared.view.Berth.{Berth}
 use Rattle.cs_rule.specs.declared.view.Doing.{Doing}
 use Rattle.cs_rule.specs.declared.view.Plan.{Plan}
 use Rattle.cs_rule.specs.declared.view.View.{View}
@@ -72,9 +72,9 @@ module _ {J : Type 0} where
 
 module _ {J : Type 0} (M : Meaning J) where
   -- a seat of this board
-  pub record IsSittingOf (board : Board J) (sitting : Seat (Option J) (View J)) : Type 0 where
+  pub record IsSittingOf (board : Board J) (sitting : Seat (Berth J) (View J)) : Type 0 where
     pub whole : IsPlan M (plan board)
-    pub table : sitting.table_id ≡ board.table.shared.table_id
+    pub table : sitting.table_id ≡ board.frame.table.shared.table_id
     pub knows : IsViewOf (plan board) sitting.me.0
 
   -- a try of note t that won it, or not

@@ -22,12 +22,13 @@ later_end edges e = (slice_index_or edges e (0, 0)).1
 abbrev pub first_watch : List (ℕ × ℕ) → ℕ → ℕ
 first_watch edges e = cond (leads_in (take e edges) (later_end edges e)) IDLE WATCHED
 
--- no note has run; the cells are those handed in
-abbrev pub opening_words : {J : Type 0} → Plan J → List ℕ → Words
-opening_words k cells = record {
-  status = each_below (first_status k.edges) k.notes;
-  watch = each_below (first_watch k.edges) (edge_count k);
-  own = each_below (λ t. 0) k.notes;
-  turns = each_below (λ r. 0) (area_count k);
+-- no note has run; the cells and the spare words are those that are there
+abbrev pub opening_words : {J : Type 0} → Plan J → List ℕ → List ℕ → Words
+opening_words k cells spare = record {
   cells = cells;
+  turns = each_below (λ r. 0) (area_count k);
+  status = each_below (first_status k.edges) k.notes;
+  own = each_below (λ t. 0) k.notes;
+  watch = each_below (first_watch k.edges) (edge_count k);
+  spare = spare;
 }

@@ -1,6 +1,6 @@
 use Rattle.std.proofs.Common.{ap, ◌∙◌, subst}
 use Rattle.cs_board.specs.declared.board.BoardSeat.{BoardSeat}
-use Rattle.cs_crew.specs.inner.Crew.{IsDone}
+use Rattle.cs_crew.specs.Crew.{IsDone}
 use Rattle.cs_crew.proofs.Seats.{IsHeld, one_less}
 use Rattle.cs_crew.proofs.crew.join_all.Goals as goal
 

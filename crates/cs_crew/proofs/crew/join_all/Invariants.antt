@@ -1,4 +1,4 @@
-use Rattle.cs_crew.specs.inner.Crew.{IsDone}
+use Rattle.cs_crew.specs.Crew.{IsDone}
 use Rattle.cs_crew.proofs.Seats.{IsHeld}
 use Rattle.cs_crew.proofs.crew.join_all.Given as goal
 

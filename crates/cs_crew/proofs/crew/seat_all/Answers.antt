@@ -2,7 +2,7 @@ use Rattle.std.proofs.Common.{◌+◌, ◌<◌, sym, ap, ◌∙◌, subst, lengt
 use Rattle.std.specs.List.{All}
 use Rattle.std.proofs.lemmas.List.{length_push}
 use Rattle.cs_board.specs.declared.board.BoardSeat.{BoardSeat}
-use Rattle.cs_crew.specs.inner.Crew.{IsReady}
+use Rattle.cs_crew.specs.Crew.{IsReady}
 use Rattle.cs_crew.proofs.Seats.{IsHeld, one_more, at_end}
 use Rattle.cs_crew.proofs.crew.seat_all.Goals as goal
 

@@ -1,7 +1,7 @@
 use Rattle.std.proofs.Common.{◌≡◌, ◌<◌, length}
 use Rattle.std.specs.Vec.{vec_capacity}
 use Rattle.cs_board.specs.Board.{view}
-use Rattle.cs_crew.specs.inner.Crew.{IsReady}
+use Rattle.cs_crew.specs.Crew.{IsReady}
 use Rattle.cs_crew.proofs.Seats.{IsHeld}
 use Rattle.cs_crew.proofs.crew.seat_all.Given as goal
 

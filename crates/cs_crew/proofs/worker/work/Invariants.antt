@@ -1,5 +1,5 @@
 use Rattle.cs_board.specs.Board.{view, SameSeat}
-use Rattle.cs_crew.specs.inner.Crew.{IsReady}
+use Rattle.cs_crew.specs.Crew.{IsReady}
 use Rattle.cs_crew.proofs.worker.work.Given as goal
 
 abbrev pub invariant-loop : goal.invariant-loop

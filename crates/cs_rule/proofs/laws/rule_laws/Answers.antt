@@ -1,4 +1,4 @@
-use Rattle.cs_rule.proofs.Closing.{nothing_lost, ends_serial}
+use Rattle.cs_rule.proofs.Closing.{nothing_lost, ends_serial, ends_mine}
 use Rattle.cs_rule.proofs.Ran.{done_once, earlier_done}
 use Rattle.cs_rule.proofs.laws.rule_laws.Goals as goal
 
@@ -13,3 +13,6 @@ returns-clause-earlier_done g c k s h = earlier_done g.J.Job.means k s h
 
 pub returns-clause-done_once : goal.returns-clause-done_once
 returns-clause-done_once g c k s h = done_once g.J.Job.means k s h
+
+pub returns-clause-mine : goal.returns-clause-mine
+returns-clause-mine g c k s id v h here last = ends_mine g.J.Job.means g.met.J.Job.frames k s h (id, v, here, last)

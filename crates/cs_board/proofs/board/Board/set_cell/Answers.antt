@@ -1,7 +1,7 @@
 use Rattle.std.proofs.Common.{arith}
 use Rattle.cs_board.specs.Board.{plan}
 use Rattle.cs_board.specs.inner.Sittings.{deed}
-use Rattle.cs_rule.proofs.Running.{sets_cell}
+use Rattle.cs_rule.proofs.Kept.{sets_cell}
 use Rattle.cs_rule.proofs.Conflicts.{used_within, written_used_at}
 use Rattle.cs_board.proofs.board.Board.set_cell.Goals as goal
 
@@ -11,5 +11,5 @@ store-requires g c =
     let low = (used_within g.J.Job.means (plan c.args.self.now) c.requires.sitting.whole d.note c.args.addr (written_used_at g.J.Job.means (plan c.args.self.now) c.requires.sitting.whole d.note c.args.addr c.requires.writes)).0 in (
       c.requires.sitting.table,
       omega (arith, low, c.cell_word-word.ensures, c.args.self.now.built.words),
-      rw c.cell_word-word.ensures (sets_cell g.J.Job.means (plan c.args.self.now) g.met.J.Job.frames c.args.self.now.table.shared.table_id.slots c.args.sitting.now.id c.args.sitting.now.me c.requires.sitting.knows.plan c.requires.sitting.knows.live d c.requires.doing c.requires.held c.args.addr c.cast_unsigned.result c.requires.phase c.requires.writes),
+      rw c.cell_word-word.ensures (sets_cell g.J.Job.means (plan c.args.self.now) g.met.J.Job.frames c.args.self.now.frame.table.shared.table_id.slots c.args.sitting.now.id c.args.sitting.now.me c.requires.sitting.knows.plan c.requires.sitting.knows.live c.requires.sitting.knows.playing d c.requires.doing c.requires.held c.args.addr c.cast_unsigned.result c.requires.phase c.requires.writes),
     )

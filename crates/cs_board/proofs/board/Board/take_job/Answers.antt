@@ -1,9 +1,10 @@
-use Rattle.std.proofs.Common.{◌∷◌, Some, sym, ap, ◌∙◌}
+use Rattle.std.proofs.Common.{◌∷◌, sym, ap, ◌∙◌}
+use Rattle.cs_rule.specs.declared.view.Berth.TheVariants.{Full}
 use Rattle.atomic_table.specs.Table.{rest}
 use Rattle.cs_board.proofs.board.Board.take_job.Goals as goal
 
-pub exchange-requires : goal.exchange-requires
-exchange-requires g c =
+pub exchange-held-requires : goal.exchange-held-requires
+exchange-held-requires g c =
     let j = c.reach_job.ensures.me in
     let e = ap (λ z. z.1) j.2 in
-    (c.reach_job.ensures.sitting.table, (Some j.0, e ∙ ap (λ r. (c.args.note, Some j.0) ∷ r) (sym (ap rest e))))
+    (c.reach_job.ensures.sitting.table, (Full j.0, e ∙ ap (λ r. (c.args.note, Full j.0) ∷ r) (sym (ap rest e))))
