@@ -1,4 +1,5 @@
 pub mod Asks
+pub mod Cycles
 pub mod Instruments
 pub mod Machine
 pub mod Operands

@@ -4,6 +4,8 @@ use Rattle.std.specs.List.{list_all, list_any}
 use Rattle.cs_base.specs.Rates.{is_init, is_control, is_audio, same_rate, within, res_rate}
 use Rattle.cs_base.specs.declared.resource.Rate.{Rate}
 use Rattle.cs_base.specs.declared.resource.Rate.TheVariants as rate
+use Rattle.cs_base.specs.declared.resource.Res.{Res}
+use Rattle.cs_base.specs.declared.resource.Res.TheVariants as res
 use Rattle.cs_words.specs.Catalogue.{Row, row_of, result_count, takes, moving_letters, unit_takes}
 use Rattle.cs_words.specs.Signs.{is_arithmetic}
 use Rattle.cs_words.specs.declared.catalogue.Letter.{Letter}
@@ -96,6 +98,12 @@ abbrev pub runs_with : Row → Rate → List Reg → Bool
 runs_with row r xs =
     is_unit row.shape && take_all (moving_letters row) (bound_at row r) xs && stores_at row.shape r xs && may_run_at row r
 
+-- What an op may read and write whole: a variable, a zak place or a channel has one value or one sound a cycle. A table has
+-- points of its own number, which units alone read and store.
+abbrev pub has_value : Res → Bool
+has_value (res.Table n) = false
+has_value _ = true
+
 -- whether an act takes what these registers hold, where its op's register has the first rate
 abbrev pub takes_from : Act → Rate → List Reg → Bool
 takes_from (act.Const n) r [] = true
@@ -107,8 +115,8 @@ takes_from (act.Pair b) r (x ∷ y ∷ []) = within x.rate r && within y.rate r 
 takes_from act.Pick r (c ∷ x ∷ y ∷ []) =
     not (is_audio c.rate) && within c.rate r && within x.rate r && within y.rate r
 takes_from (act.Call f) r (x ∷ []) = suits_function f r x.rate
-takes_from (act.Load g) r [] = within r (res_rate g)
-takes_from (act.Save g) r (x ∷ []) = within x.rate (res_rate g)
+takes_from (act.Load g) r [] = has_value g && within r (res_rate g)
+takes_from (act.Save g) r (x ∷ []) = has_value g && within x.rate (res_rate g)
 takes_from (act.Start opcode u) r xs = starts_with (row_of opcode) r xs
 takes_from (act.Unit opcode u reach) r xs = runs_with (row_of opcode) r xs
 takes_from (act.Jump to) r [] = true

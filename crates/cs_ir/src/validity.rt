@@ -7,11 +7,11 @@ ghost use Rattle.cs_ir.specs.Machine.{gives};
 ghost use Rattle.cs_ir.specs.Units.{is_started, is_unit};
 ghost use Rattle.cs_ir.specs.Validity.{count_of, has_register, writes, finds, suits_operator, suits_function};
 ghost use Rattle.cs_ir.specs.Validity.{may_run_at, bound_at, take_all, as_sounds, stores_at, starts_with, runs_with, is_still};
-ghost use Rattle.cs_ir.specs.Validity.{takes_from, is_fine, fine_from, valid};
+ghost use Rattle.cs_ir.specs.Validity.{has_value, takes_from, is_fine, fine_from, valid};
 ghost use Rattle.cs_ir.specs.declared.register.Reg.{Reg};
 
 use crate::{Act, Code, Counts, Op, Reg};
-use cs_base::Rate;
+use cs_base::{Rate, Res};
 use cs_words::{BinOp, Func, Letter, Opcode, Shape, Signature, signature_of};
 use std::marker::Model;
 
@@ -139,10 +139,10 @@ impl Act {
         match (self, from) {
             (Act::Const(_) | Act::Field(_) | Act::Head(_), []) => true,
             (Act::Jump(_) | Act::Turnoff, []) => true,
-            (Act::Load(res), []) => rate.within(res.rate()),
+            (Act::Load(res), []) => has_value(res) && rate.within(res.rate()),
             (Act::Copy | Act::Neg, [x]) => x.rate.within(rate),
             (Act::Call(function), [x]) => suits_function(function, rate, x.rate),
-            (Act::Save(res), [x]) => x.rate.within(res.rate()),
+            (Act::Save(res), [x]) => has_value(res) && x.rate.within(res.rate()),
             (Act::Unless(_), [x]) => !x.rate.is_audio(),
             (Act::Out(_), [x]) => x.rate.is_audio(),
             (Act::OutAt, [x, y]) => !x.rate.is_audio() && y.rate.is_audio(),
@@ -161,6 +161,13 @@ impl Act {
             _ => false,
         }
     }
+}
+
+// Whether a code's op may read or write it whole: units alone read and store the points of a table.
+fn has_value(res: Res) -> bool
+    ensures { result ≡ has_value res }
+{
+    !matches!(res, Res::Table(_))
 }
 
 fn suits_operator(operator: BinOp, rate: Rate) -> bool

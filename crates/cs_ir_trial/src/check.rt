@@ -47,6 +47,12 @@ const GK: Res = Res::Gk(0);
 
 const GA: Res = Res::Ga(0);
 
+const ZAK: Res = Res::ZakK(7);
+
+const SOUND: Res = Res::Sound(7);
+
+const TABLE: Res = Res::Table(7);
+
 // Whether a code of three ops is taken that has this op first or last, between ops that are fine.
 fn is_taken(alloc: Global, act: &Act, into: &Reg, from: &[Reg], last: bool) -> Option<bool> {
     let mut ops = Vec::new(alloc);
@@ -105,6 +111,10 @@ fn givers(rt: HostRuntime) {
         (12, Act::Load(GK), A, &[][..], false),
         (13, Act::Load(GK), K2, &[][..], false),
         (14, Act::Load(GK), K, &[K][..], false),
+        (15, Act::Load(ZAK), K, &[][..], true),
+        (16, Act::Load(SOUND), A, &[][..], true),
+        (17, Act::Load(TABLE), A, &[][..], false),
+        (18, Act::Load(TABLE), I, &[][..], false),
     ] {
         assert!(rt;
             is_taken_at_both_ends(rt.alloc(), &act, &into, from, want),
@@ -184,6 +194,10 @@ fn others(rt: HostRuntime) {
         (29, Act::Ask, I, &[I, I][..], false),
         (30, Act::Ask, I, &[I, I, K][..], false),
         (31, Act::Ask, I, &[I, I, I2][..], false),
+        (32, Act::Save(ZAK), K, &[K][..], true),
+        (33, Act::Save(SOUND), A, &[A][..], true),
+        (34, Act::Save(TABLE), A, &[A][..], false),
+        (35, Act::Save(TABLE), I, &[I][..], false),
     ] {
         assert!(rt;
             is_taken_at_both_ends(rt.alloc(), &act, &into, from, want),
@@ -192,136 +206,66 @@ fn others(rt: HostRuntime) {
     }
 }
 
-/// Units: what starts them, and what runs them.
+/// What starts a unit: its settled operands at rate i, as many as its opcode takes, and a rate that its result may have.
 #[test]
-fn units(rt: HostRuntime) {
-    let none = Reach::Nothing;
-    for (row, act, into, from, want) in [
-        (1, Act::Start(Opcode::Oscili, 1), A2, &[I][..], true),
-        (2, Act::Start(Opcode::Oscili, 1), A, &[I, I][..], true),
-        (3, Act::Start(Opcode::Oscili, 1), A, &[][..], false),
-        (4, Act::Start(Opcode::Oscili, 1), A, &[I, I, I][..], false),
-        (5, Act::Start(Opcode::Oscili, 1), A, &[K][..], false),
-        (6, Act::Start(Opcode::Oscili, 1), A, &[I2][..], false),
-        (7, Act::Start(Opcode::Oscili, 1), I, &[I][..], false),
-        (8, Act::Start(Opcode::Oscili, 2), A, &[I][..], false),
-        (9, Act::Start(Opcode::Zkr, 1), K, &[][..], false),
-        (
-            10,
-            Act::Start(Opcode::Linseg, 0),
-            K,
-            &[I, I, I, I, I][..],
-            true,
-        ),
-        (
-            11,
-            Act::Start(Opcode::Linseg, 0),
-            K,
-            &[I, I, I, I][..],
-            false,
-        ),
-        (
-            12,
-            Act::Unit(Opcode::Oscili, 1, Reach::Any),
-            A,
-            &[A, K][..],
-            true,
-        ),
-        (
-            13,
-            Act::Unit(Opcode::Oscili, 1, Reach::Any),
-            K,
-            &[A, K][..],
-            false,
-        ),
-        (
-            14,
-            Act::Unit(Opcode::Oscili, 1, Reach::Any),
-            I,
-            &[I, I][..],
-            false,
-        ),
-        (
-            15,
-            Act::Unit(Opcode::Oscili, 2, Reach::Any),
-            A,
-            &[A, K][..],
-            false,
-        ),
-        (
-            16,
-            Act::Unit(Opcode::Oscili, 1, Reach::Any),
-            A2,
-            &[A, K][..],
-            false,
-        ),
-        (
-            17,
-            Act::Unit(Opcode::Oscili, 1, Reach::Any),
-            A,
-            &[A, K2][..],
-            false,
-        ),
-        (
-            18,
-            Act::Unit(Opcode::Oscili, 1, Reach::Any),
-            A,
-            &[A][..],
-            false,
-        ),
-        (
-            19,
-            Act::Unit(Opcode::Oscili, 1, Reach::Any),
-            A,
-            &[A, K, K][..],
-            false,
-        ),
-        (20, Act::Unit(Opcode::Delay, 0, none), A, &[A][..], true),
-        (21, Act::Unit(Opcode::Delay, 0, none), A, &[K][..], false),
-        (
-            22,
-            Act::Unit(Opcode::Tablew, 0, Reach::Any),
-            A2,
-            &[A, A][..],
-            true,
-        ),
-        (
-            23,
-            Act::Unit(Opcode::Tablew, 0, Reach::Any),
-            A,
-            &[A, K][..],
-            false,
-        ),
-        (
-            24,
-            Act::Unit(Opcode::Tablew, 0, Reach::Any),
-            K,
-            &[A, A][..],
-            false,
-        ),
-        (
-            25,
-            Act::Unit(Opcode::Tablew, 0, Reach::Any),
-            K,
-            &[K, I][..],
-            true,
-        ),
-        (
-            26,
-            Act::Unit(Opcode::Zaw, 0, Reach::Span(1, 1)),
-            A2,
-            &[A, K][..],
-            true,
-        ),
-        (
-            27,
-            Act::Unit(Opcode::Zaw, 0, Reach::Span(1, 1)),
-            A,
-            &[K, K][..],
-            false,
-        ),
-        (28, Act::Unit(Opcode::Out, 0, none), A, &[A][..], false),
+fn starts(rt: HostRuntime) {
+    for (row, opcode, unit, into, from, want) in [
+        (1, Opcode::Oscili, 1, A2, &[I][..], true),
+        (2, Opcode::Oscili, 1, A, &[I, I][..], true),
+        (3, Opcode::Oscili, 1, A, &[][..], false),
+        (4, Opcode::Oscili, 1, A, &[I, I, I][..], false),
+        (5, Opcode::Oscili, 1, A, &[K][..], false),
+        (6, Opcode::Oscili, 1, A, &[I2][..], false),
+        (7, Opcode::Oscili, 1, I, &[I][..], false),
+        (8, Opcode::Oscili, 2, A, &[I][..], false),
+        (9, Opcode::Zkr, 1, K, &[][..], false),
+        (10, Opcode::Linseg, 0, K, &[I, I, I, I, I][..], true),
+        (11, Opcode::Linseg, 0, K, &[I, I, I, I][..], false),
     ] {
+        let act = Act::Start(opcode, unit);
+        assert!(rt;
+            is_taken_at_both_ends(rt.alloc(), &act, &into, from, want),
+            "row {row}"
+        );
+    }
+}
+
+/// What runs a unit that makes a value.
+#[test]
+fn runs(rt: HostRuntime) {
+    for (row, opcode, unit, into, from, want) in [
+        (1, Opcode::Oscili, 1, A, &[A, K][..], true),
+        (2, Opcode::Oscili, 1, K, &[A, K][..], false),
+        (3, Opcode::Oscili, 1, I, &[I, I][..], false),
+        (4, Opcode::Oscili, 2, A, &[A, K][..], false),
+        (5, Opcode::Oscili, 1, A2, &[A, K][..], false),
+        (6, Opcode::Oscili, 1, A, &[A, K2][..], false),
+        (7, Opcode::Oscili, 1, A, &[A][..], false),
+        (8, Opcode::Oscili, 1, A, &[A, K, K][..], false),
+        (9, Opcode::Delay, 0, A, &[A][..], true),
+        (10, Opcode::Delay, 0, A, &[K][..], false),
+        (11, Opcode::Out, 0, A, &[A][..], false),
+    ] {
+        let act = Act::Unit(opcode, unit, Reach::Any);
+        assert!(rt;
+            is_taken_at_both_ends(rt.alloc(), &act, &into, from, want),
+            "row {row}"
+        );
+    }
+}
+
+/// What runs a unit that stores into a table or into places: it writes no register.
+#[test]
+fn stores(rt: HostRuntime) {
+    for (row, opcode, reach, into, from, want) in [
+        (1, Opcode::Tablew, Reach::Any, A2, &[A, A][..], true),
+        (2, Opcode::Tablew, Reach::Any, A, &[A, K][..], false),
+        (3, Opcode::Tablew, Reach::Any, K, &[A, A][..], false),
+        (4, Opcode::Tablew, Reach::Any, K, &[K, I][..], true),
+        (5, Opcode::Zaw, Reach::Span(1, 1), A2, &[A, K][..], true),
+        (6, Opcode::Zaw, Reach::Span(1, 1), A, &[K, K][..], false),
+    ] {
+        let act = Act::Unit(opcode, 0, reach);
         assert!(rt;
             is_taken_at_both_ends(rt.alloc(), &act, &into, from, want),
             "row {row}"

@@ -1,0 +1,15 @@
+-- What a note may do in each control cycle.
+use Rattle.std.specs.Prelude.{Bool, true, false, List}
+use Rattle.std.specs.List.{list_all}
+use Rattle.cs_ir.specs.declared.op.Act.{Act}
+use Rattle.cs_ir.specs.declared.op.Act.TheVariants as act
+use Rattle.cs_ir.specs.declared.op.Op.{Op}
+
+-- whether an act can be done in a control cycle: it starts no unit and asks for no note
+abbrev pub is_of_cycle : Act → Bool
+is_of_cycle (act.Start opcode u) = false
+is_of_cycle act.Ask = false
+is_of_cycle _ = true
+
+abbrev pub are_of_cycle : List Op → Bool
+are_of_cycle ops = list_all (λ op. is_of_cycle op.act) ops
