@@ -1,5 +1,5 @@
 -- What a block is short for names no more local variables than the block does.
-use Rattle.std.proofs.Common.{◌≡◌, ◌≤◌, ◌+◌, ℕ, max, Bool, true, false, cond, List, [], ◌∷◌, arith, ap}
+use Rattle.std.proofs.Common.{◌≡◌, ◌∙◌, ◌≤◌, ◌+◌, ℕ, max, Bool, true, false, cond, List, [], ◌∷◌, arith, ap}
 use Rattle.cs_base.specs.declared.resource.Rate.{Rate}
 use Rattle.cs_base.specs.declared.resource.Rate.TheVariants as rate
 use Rattle.cs_ir.specs.Resources.{Spaces}
@@ -13,7 +13,7 @@ use Rattle.cs_words.specs.declared.catalogue.Shape.{Shape}
 use Rattle.cs_words.specs.declared.catalogue.Shape.TheVariants as shape
 use Rattle.cs_code.specs.declared.census.Limits.{Limits}
 use Rattle.cs_code.specs.declared.frame.Bases.{Bases}
-use Rattle.cs_code.specs.inner.Census.{Roomy, grown, args_limit, typed_limit, typed_block_limit, typed_arms_limit}
+use Rattle.cs_code.specs.inner.Census.{Roomy, first_bases, grown, args_limit, typed_limit, typed_block_limit, typed_arms_limit}
 use Rattle.cs_code.specs.inner.Emitted.{plain_unit, frame_of, base_of}
 use Rattle.cs_code.specs.inner.Limits.{expr_limit, exprs_limit, vars_limit, stmt_limit, block_limit, arms_limit, parts_of}
 
@@ -126,15 +126,31 @@ mutual
   arms_bound r o (typed.otherwise b) = block_bound r o b
   arms_bound r o (typed.arm c b rest) = omega (arith, block_bound r o b, arms_bound r o rest)
 
-pub roomy : (b : Bases) (l : Limits) (parts : ℕ) (o : Spaces) (t : typed.Block) → l
-    ≡ grown (record { init = 0; control = 0; audio = 0 }) (λ r. typed_block_limit r t) → parts ≡ parts_of (core o t) → b.kept ≡ l.init → b.init ≡ l.init + parts
-    → b.control ≡ l.control → b.audio ≡ l.audio → Roomy (frame_of b) (core o t)
-roomy b l parts o t made counted kept init control audio = record {
+zero_max : (n : ℕ) → max 0 n ≡ n
+zero_max n = omega arith
+
+-- limits that grew from none
+abbrev pub first_of : Limits → Bases
+first_of l = record { kept = l.init; init = 0; control = l.control; audio = l.audio }
+
+pub grown_first : (l : Limits) (t : typed.Block) → l ≡ grown (record { init = 0; control = 0; audio = 0 }) (λ r. typed_block_limit r t)
+    → first_of l ≡ first_bases t
+grown_first l t made = λ j. record {
+  kept = (ap (λ m. m.init) made ∙ zero_max (typed_block_limit rate.Init t)) j;
+  init = 0;
+  control = (ap (λ m. m.control) made ∙ zero_max (typed_block_limit rate.Control t)) j;
+  audio = (ap (λ m. m.audio) made ∙ zero_max (typed_block_limit rate.Audio t)) j;
+}
+
+-- with the temporaries of rate Init after the kept values there is room
+pub roomy : (b first : Bases) (parts : ℕ) (o : Spaces) (t : typed.Block) → first ≡ first_bases t → parts ≡ parts_of (core o t) → b.kept ≡ first.kept
+    → b.init ≡ first.kept + parts → b.control ≡ first.control → b.audio ≡ first.audio → Roomy (frame_of b) (core o t)
+roomy b first parts o t made counted kept init control audio = record {
   locals = each;
-  below = omega (arith, block_bound rate.Init o t, kept, ap (λ m. m.init) made);
+  below = omega (arith, block_bound rate.Init o t, kept, ap (λ m. m.kept) made);
   room = omega (arith, init, kept, counted);
 } where
   each : (r : Rate) → block_limit r (core o t) ≤ base_of b r
-  each rate.Init = omega (arith, block_bound rate.Init o t, init, ap (λ m. m.init) made)
+  each rate.Init = omega (arith, block_bound rate.Init o t, init, ap (λ m. m.kept) made)
   each rate.Control = omega (arith, block_bound rate.Control o t, control, ap (λ m. m.control) made)
   each rate.Audio = omega (arith, block_bound rate.Audio o t, audio, ap (λ m. m.audio) made)

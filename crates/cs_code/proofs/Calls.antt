@@ -1,5 +1,5 @@
 -- What calls are short for, by their shapes.
-use Rattle.std.proofs.Common.{◌≡◌, ◌∷◌, ℕ, Bool, true, false, true≢false, List, [], Option, Some, None, pos, refl, sym, ap, ◌∙◌}
+use Rattle.std.proofs.Common.{◌≡◌, ◌∷◌, ℕ, Bool, true, false, true≢false, List, [], Option, Some, None, pos, if◌then◌else◌, refl, sym, ap, ◌∙◌}
 use Rattle.std.proofs.lemmas.Option.{none-some}
 use Rattle.cs_base.specs.declared.resource.Rate.{Rate}
 use Rattle.cs_base.specs.declared.resource.Rate.TheVariants as rate
@@ -15,7 +15,7 @@ use Rattle.cs_words.specs.declared.catalogue.Space.{Space}
 use Rattle.cs_meaning.specs.Notes.{Place}
 use Rattle.cs_code.specs.declared.frame.Pass.{Pass}
 use Rattle.cs_code.specs.declared.frame.Pass.TheVariants as pass
-use Rattle.cs_code.specs.inner.Emitted.{plain_unit, pass_code, channel_of}
+use Rattle.cs_code.specs.inner.Emitted.{plain_unit, pass_code, channel_of, taken_by, put_shape}
 use Rattle.cs_code.specs.inner.Frames.{Frame}
 
 pub once : (o : Spaces) (r : Rate) (v : Variable) (vs : List Variable) (op : Opcode) (e : Expression) (args : List Argument)
@@ -48,24 +48,6 @@ get_no_text o r v vs op = refl
 pub get_value : (o : Spaces) (r : Rate) (v : Variable) (vs : List Variable) (op : Opcode) (e : Expression) (args : List Argument)
     → core_call o r (v ∷ vs) op shape.ChannelGet (value e ∷ args) ≡ plain_unit o r (v ∷ vs) op shape.ChannelGet (value e ∷ args)
 get_value o r v vs op e args = refl
-
-pub put_none : (o : Spaces) (r : Rate) (vs : List Variable) (op : Opcode) → core_call o r vs op shape.ChannelPut [] ≡ plain_unit o r vs op shape.ChannelPut []
-put_none o r [] op = refl
-put_none o r (v ∷ vs) op = refl
-
-pub put_text : (o : Spaces) (r : Rate) (vs : List Variable) (op : Opcode) (c : Variable) (args : List Argument)
-    → core_call o r vs op shape.ChannelPut (text c ∷ args) ≡ plain_unit o r vs op shape.ChannelPut (text c ∷ args)
-put_text o r [] op c args = refl
-put_text o r (v ∷ vs) op c args = refl
-
-pub mix_none : (o : Spaces) (r : Rate) (vs : List Variable) (op : Opcode) → core_call o r vs op shape.ChannelMix [] ≡ plain_unit o r vs op shape.ChannelMix []
-mix_none o r [] op = refl
-mix_none o r (v ∷ vs) op = refl
-
-pub mix_text : (o : Spaces) (r : Rate) (vs : List Variable) (op : Opcode) (c : Variable) (args : List Argument)
-    → core_call o r vs op shape.ChannelMix (text c ∷ args) ≡ plain_unit o r vs op shape.ChannelMix (text c ∷ args)
-mix_text o r [] op c args = refl
-mix_text o r (v ∷ vs) op c args = refl
 
 pub clear : (o : Spaces) (r : Rate) (vs : List Variable) (op : Opcode) (c : Variable) (args : List Argument)
     → core_call o r vs op shape.ChannelClear (text c ∷ args) ≡ set r c (number rate.Init (pos 0))
@@ -138,59 +120,61 @@ abbrev or_else : Variable → Option Variable → Variable
 or_else d None = d
 or_else d (Some c) = c
 
-put_one : (o : Spaces) (r : Rate) (vs : List Variable) (op : Opcode) (e : Expression) (c : Variable) (rest : List Argument) → channel_of rest ≡ Some c
-    → core_call o r vs op shape.ChannelPut (value e ∷ rest) ≡ set r c e
-put_one o r vs op e c [] h = absurd (none-some c h)
-put_one o r vs op e c (value x ∷ rest) h = absurd (none-some c h)
-put_one o r [] op e c (text d ∷ rest) h = ap (λ k. set r (or_else d k) e) h
-put_one o r (v ∷ vs) op e c (text d ∷ rest) h = ap (λ k. set r (or_else d k) e) h
+-- a value and the channel after it
+pub taken_some : (e : Expression) (c : Variable) (rest : List Argument) → channel_of rest ≡ Some c → taken_by (value e ∷ rest) ≡ Some (c, e)
+taken_some e c [] h = absurd (none-some c h)
+taken_some e c (value x ∷ rest) h = absurd (none-some c h)
+taken_some e c (text d ∷ rest) h = ap (λ k. Some (or_else d k, e)) h
 
-put_no : (o : Spaces) (r : Rate) (vs : List Variable) (op : Opcode) (e : Expression) (rest : List Argument) → channel_of rest ≡ None
-    → core_call o r vs op shape.ChannelPut (value e ∷ rest) ≡ plain_unit o r vs op shape.ChannelPut (value e ∷ rest)
-put_no o r [] op e [] h = refl
-put_no o r (v ∷ vs) op e [] h = refl
-put_no o r [] op e (value x ∷ rest) h = refl
-put_no o r (v ∷ vs) op e (value x ∷ rest) h = refl
-put_no o r vs op e (text d ∷ rest) h = absurd (none-some d (sym h))
+pub taken_none : (e : Expression) (rest : List Argument) → channel_of rest ≡ None → taken_by (value e ∷ rest) ≡ None
+taken_none e [] h = refl
+taken_none e (value x ∷ rest) h = refl
+taken_none e (text d ∷ rest) h = absurd (none-some d (sym h))
 
-pub put_takes : (o : Spaces) (r : Rate) (vs : List Variable) (op : Opcode) (e : Expression) (c : Variable) (args rest : List Argument) → args ≡ value e ∷ rest
-    → channel_of rest ≡ Some c → set r c e ≡ core_call o r vs op shape.ChannelPut args
-put_takes o r vs op e c args rest split h = sym (put_one o r vs op e c rest h) ∙ sym (ap (core_call o r vs op shape.ChannelPut) split)
+abbrev first_of : Variable × Expression → Option (Variable × Expression) → Variable × Expression
+first_of d None = d
+first_of d (Some x) = x
 
-pub put_falls : (o : Spaces) (r : Rate) (vs : List Variable) (op : Opcode) (e : Expression) (args rest : List Argument) → args ≡ value e ∷ rest
-    → channel_of rest ≡ None → shape.ChannelPut ≡ (row_of op).shape → plain_unit o r vs op (row_of op).shape args ≡ core_call o r vs op shape.ChannelPut args
-put_falls o r vs op e args rest split h shaped =
-    sym (ap (λ k. plain_unit o r vs op k args) shaped)
-    ∙ ap (plain_unit o r vs op shape.ChannelPut) split
-    ∙ sym (put_no o r vs op e rest h)
-    ∙ sym (ap (core_call o r vs op shape.ChannelPut) split)
+pub put_takes : (o : Spaces) (r : Rate) (vs : List Variable) (op : Opcode) (adds : Bool) (c : Variable) (e : Expression) (args : List Argument)
+    → taken_by args ≡ Some (c, e) → set r c (if adds then plus rate.Audio c e else e) ≡ core_call o r vs op (put_shape adds) args
+put_takes o r vs op adds c e [] h = absurd (none-some (c, e) h)
+put_takes o r vs op adds c e (text x ∷ rest) h = absurd (none-some (c, e) h)
+put_takes o r vs op adds c e (value x ∷ []) h = absurd (none-some (c, e) h)
+put_takes o r vs op adds c e (value x ∷ (value y ∷ rest)) h = absurd (none-some (c, e) h)
+put_takes o r vs op adds c e (value x ∷ (text d ∷ rest)) h =
+    sym (ap (λ k. set r (first_of (d, x) k).0 (if adds then plus rate.Audio (first_of (d, x) k).0 (first_of (d, x) k).1 else (first_of (d, x) k).1)) h)
+    ∙ whole vs adds
+  where
+    whole : (vs : List Variable) (adds : Bool) → set r d (if adds then plus rate.Audio d x else x)
+        ≡ core_call o r vs op (put_shape adds) (value x ∷ (text d ∷ rest))
+    whole [] true = refl
+    whole [] false = refl
+    whole (v ∷ vs) true = refl
+    whole (v ∷ vs) false = refl
 
-mix_one : (o : Spaces) (r : Rate) (vs : List Variable) (op : Opcode) (e : Expression) (c : Variable) (rest : List Argument) → channel_of rest ≡ Some c
-    → core_call o r vs op shape.ChannelMix (value e ∷ rest) ≡ set r c (plus rate.Audio c e)
-mix_one o r vs op e c [] h = absurd (none-some c h)
-mix_one o r vs op e c (value x ∷ rest) h = absurd (none-some c h)
-mix_one o r [] op e c (text d ∷ rest) h = ap (λ k. set r (or_else d k) (plus rate.Audio (or_else d k) e)) h
-mix_one o r (v ∷ vs) op e c (text d ∷ rest) h = ap (λ k. set r (or_else d k) (plus rate.Audio (or_else d k) e)) h
+put_no : (o : Spaces) (r : Rate) (vs : List Variable) (op : Opcode) (adds : Bool) (args : List Argument) → taken_by args ≡ None
+    → plain_unit o r vs op (put_shape adds) args ≡ core_call o r vs op (put_shape adds) args
+put_no o r [] op true [] h = refl
+put_no o r [] op false [] h = refl
+put_no o r (v ∷ vs) op true [] h = refl
+put_no o r (v ∷ vs) op false [] h = refl
+put_no o r [] op true (text x ∷ rest) h = refl
+put_no o r [] op false (text x ∷ rest) h = refl
+put_no o r (v ∷ vs) op true (text x ∷ rest) h = refl
+put_no o r (v ∷ vs) op false (text x ∷ rest) h = refl
+put_no o r [] op true (value x ∷ []) h = refl
+put_no o r [] op false (value x ∷ []) h = refl
+put_no o r (v ∷ vs) op true (value x ∷ []) h = refl
+put_no o r (v ∷ vs) op false (value x ∷ []) h = refl
+put_no o r [] op true (value x ∷ (value y ∷ rest)) h = refl
+put_no o r [] op false (value x ∷ (value y ∷ rest)) h = refl
+put_no o r (v ∷ vs) op true (value x ∷ (value y ∷ rest)) h = refl
+put_no o r (v ∷ vs) op false (value x ∷ (value y ∷ rest)) h = refl
+put_no o r vs op adds (value x ∷ (text d ∷ rest)) h = absurd (none-some (d, x) (sym h))
 
-mix_no : (o : Spaces) (r : Rate) (vs : List Variable) (op : Opcode) (e : Expression) (rest : List Argument) → channel_of rest ≡ None
-    → core_call o r vs op shape.ChannelMix (value e ∷ rest) ≡ plain_unit o r vs op shape.ChannelMix (value e ∷ rest)
-mix_no o r [] op e [] h = refl
-mix_no o r (v ∷ vs) op e [] h = refl
-mix_no o r [] op e (value x ∷ rest) h = refl
-mix_no o r (v ∷ vs) op e (value x ∷ rest) h = refl
-mix_no o r vs op e (text d ∷ rest) h = absurd (none-some d (sym h))
-
-pub mix_takes : (o : Spaces) (r : Rate) (vs : List Variable) (op : Opcode) (e : Expression) (c : Variable) (args rest : List Argument) → args ≡ value e ∷ rest
-    → channel_of rest ≡ Some c → set r c (plus rate.Audio c e) ≡ core_call o r vs op shape.ChannelMix args
-mix_takes o r vs op e c args rest split h = sym (mix_one o r vs op e c rest h) ∙ sym (ap (core_call o r vs op shape.ChannelMix) split)
-
-pub mix_falls : (o : Spaces) (r : Rate) (vs : List Variable) (op : Opcode) (e : Expression) (args rest : List Argument) → args ≡ value e ∷ rest
-    → channel_of rest ≡ None → shape.ChannelMix ≡ (row_of op).shape → plain_unit o r vs op (row_of op).shape args ≡ core_call o r vs op shape.ChannelMix args
-mix_falls o r vs op e args rest split h shaped =
-    sym (ap (λ k. plain_unit o r vs op k args) shaped)
-    ∙ ap (plain_unit o r vs op shape.ChannelMix) split
-    ∙ sym (mix_no o r vs op e rest h)
-    ∙ sym (ap (core_call o r vs op shape.ChannelMix) split)
+pub put_falls : (o : Spaces) (r : Rate) (vs : List Variable) (op : Opcode) (adds : Bool) (args : List Argument) → taken_by args ≡ None
+    → put_shape adds ≡ (row_of op).shape → plain_unit o r vs op (row_of op).shape args ≡ core_call o r vs op (put_shape adds) args
+put_falls o r vs op adds args h shaped = sym (ap (λ k. plain_unit o r vs op k args) shaped) ∙ put_no o r vs op adds args h
 
 -- The code of what is no `if` is the same at each place.
 abbrev is_choice : Stmt → Bool

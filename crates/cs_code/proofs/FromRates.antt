@@ -1,9 +1,9 @@
 -- What the rules of rates say of the core of a block.
 use Rattle.std.proofs.Common.{◌≡◌, ℕ, zero, suc, ◌+◌, ◌-◌, ◌%◌, ◌<◌, ◌≤◌, Bool, true, false, not, ◌&&◌, ◌==◌, List, [], ◌∷◌, length, nat_le, if◌then◌else◌, refl, sym, ◌∙◌, ap, subst, arith, leb-true, eqb-true, eq-eqb, ne_eqb, ltb-false}
-use Rattle.std.specs.List.{All, list_all}
+use Rattle.std.specs.List.{All, list_all, list_any}
 use Rattle.std.proofs.lemmas.Bool.{and_parts}
 use Rattle.cs_base.proofs.Rates.{within_faster, within_chain}
-use Rattle.cs_base.specs.Rates.{is_init, is_control, is_audio, within, faster, res_rate}
+use Rattle.cs_base.specs.Rates.{is_init, is_control, is_audio, same_rate, within, faster, res_rate}
 use Rattle.cs_base.specs.declared.resource.Rate.{Rate}
 use Rattle.cs_base.specs.declared.resource.Rate.TheVariants as rate
 use Rattle.cs_base.specs.declared.resource.Res.TheVariants as res
@@ -21,14 +21,14 @@ use Rattle.cs_ir.specs.Validity.{take_all, stores_at, as_sounds, bound_at}
 use Rattle.cs_meaning.specs.Core.{ask, core, core_stmt, core_arms, core_call, values_of, settled, moving, plus}
 use Rattle.cs_typed.specs.TypedTree as typed
 use Rattle.cs_typed.specs.TypedTree.{Expression, number, var, field, head, neg, pair, pick, apply}
-use Rattle.cs_typed.specs.WellRated.{node_rate, var_rate, is_channel, is_read_once, both_sound, IsRated, IsRatedArgument, IsRatedSet, IsRatedCall, IsRatedStatement, IsRatedBlock, IsRatedArms, fits_letter, fit_letters, bound_by, goes_beyond, done_at}
+use Rattle.cs_typed.specs.WellRated.{node_rate, var_rate, is_variable, is_channel, is_read_once, both_sound, may_give, IsRated, IsRatedArgument, IsRatedSet, IsRatedCall, IsRatedStatement, IsRatedBlock, IsRatedArms, fits_letter, fit_letters, bound_by, goes_beyond, done_at}
 use Rattle.cs_typed.specs.Places.{is_starting}
 use Rattle.cs_typed.specs.declared.setting.Setting.{Setting}
 use Rattle.cs_typed.specs.declared.tree.Var.{Var as Variable}
 use Rattle.cs_typed.specs.declared.tree.Var.TheVariants.{Local, Global}
 use Rattle.cs_code.proofs.Letters.{take_rates, stills, unit_fits, may_run, same_bound, sounds as sound_rates, stores_rates, store_fits}
 use Rattle.cs_code.proofs.Named.{Narrow, NarrowBlock, NarrowArms}
-use Rattle.cs_code.proofs.Ranked.{Ranked, AllRanked, AllInit, AllSound, Paired, rated, RankedSet, GivenTo, RankedUnit, RankedStmt, RankedBlock, RankedArms}
+use Rattle.cs_code.proofs.Ranked.{holds_value, Ranked, AllRanked, AllInit, AllSound, Paired, rated, RankedSet, GivenTo, RankedUnit, RankedStmt, RankedBlock, RankedArms}
 use Rattle.cs_code.proofs.Rated.{init_is}
 use Rattle.cs_code.proofs.Valid.{within_self, init_within, two}
 
@@ -56,13 +56,45 @@ read_once (pair r o a b) h = cc
 read_once (pick r c a b) h = cc
 read_once (apply r g a) h = cc
 
-ranked_var : (r : Rate) (v : Variable) → r ≡ var_rate v → Ranked (var r v)
-ranked_var r (Local q n) h = sym h
-ranked_var r (Global g) h = ap (λ y. within y (res_rate g)) h ∙ within_self (res_rate g)
+-- what a name stands for has a value
+variable_holds : (v : Variable) → is_variable v ≡ true → holds_value v ≡ true
+variable_holds (Local q n) h = refl
+variable_holds (Global (res.Gi n)) h = refl
+variable_holds (Global (res.Gk n)) h = refl
+variable_holds (Global (res.Ga n)) h = refl
+variable_holds (Global (res.ZakK n)) h = refl
+variable_holds (Global (res.ZakA n)) h = refl
+variable_holds (Global (res.Control n)) h = refl
+variable_holds (Global (res.Sound n)) h = refl
+variable_holds (Global (res.Table n)) h = absurd (cc)
+
+channel_holds : (v : Variable) → is_channel v ≡ true → holds_value v ≡ true
+channel_holds (Local q n) h = absurd (cc)
+channel_holds (Global (res.Gi n)) h = refl
+channel_holds (Global (res.Gk n)) h = refl
+channel_holds (Global (res.Ga n)) h = refl
+channel_holds (Global (res.ZakK n)) h = refl
+channel_holds (Global (res.ZakA n)) h = refl
+channel_holds (Global (res.Control n)) h = refl
+channel_holds (Global (res.Sound n)) h = refl
+channel_holds (Global (res.Table n)) h = absurd (cc)
+
+given_holds : (row : Row) (v : Variable) (vs : List Variable) → list_all (may_give row) (v ∷ vs) ≡ true → holds_value v ≡ true
+given_holds row v vs h =
+    let all = and_parts (may_give row v) (list_all (may_give row) vs) h in
+    variable_holds v (and_parts (is_variable v) (list_any (same_rate (var_rate v)) row.results) all.0).0
+
+-- a value that it may take
+takes_it : (r : Rate) (v : Variable) → holds_value v ≡ true → within r (var_rate v) ≡ true → (holds_value v && within r (var_rate v)) ≡ true
+takes_it r v h k = two (holds_value v) (within r (var_rate v)) h k
+
+ranked_var : (r : Rate) (v : Variable) → holds_value v ≡ true → r ≡ var_rate v → Ranked (var r v)
+ranked_var r (Local q n) k h = sym h
+ranked_var r (Global g) k h = takes_it r (Global g) k (ap (λ y. within y (res_rate g)) h ∙ within_self (res_rate g))
 
 ranked : (e : Expression) → IsRated e → Ranked e
 ranked (number r n) h = tt
-ranked (var r v) h = ranked_var r v h.0
+ranked (var r v) h = ranked_var r v (variable_holds v h.1) h.0
 ranked (field r k) h = tt
 ranked (head r k) h = tt
 ranked (neg r a) h = (within_same (node_rate a) r h.0, ranked a h.1)
@@ -228,7 +260,7 @@ channel_within rate.Audio (Global g) h k = sound_within (res_rate g) k
 
 channel_ranked : (r : Rate) (c : Variable) → is_channel c ≡ true → within r (var_rate c) ≡ true → Ranked (var r c)
 channel_ranked r (Local q n) h k = absurd (cc)
-channel_ranked r (Global g) h k = k
+channel_ranked r (Global g) h k = takes_it r (Global g) (channel_holds (Global g) h) k
 
 sound_above : (q r : Rate) → is_audio q ≡ true → within r q ≡ true
 sound_above rate.Init r h = absurd (cc)
@@ -241,9 +273,10 @@ given_to : (b : Bool) (r q : Rate) → r ≡ (if b then rate.Init else q) → wi
 given_to true r q h = ap (λ y. within y q) h ∙ init_within q
 given_to false r q h = ap (λ y. within y q) h ∙ within_self q
 
-unit_given : (sh : Shape) (r : Rate) (vs : List Variable) (args : List typed.Argument) → r ≡ done_at sh vs args → GivenTo r vs
-unit_given sh r [] args h = tt
-unit_given sh r (v ∷ vs) args h = given_to (is_starting sh) r (var_rate v) h
+unit_given : (row : Row) (r : Rate) (vs : List Variable) (args : List typed.Argument) → list_all (may_give row) vs ≡ true → r ≡ done_at row.shape vs args
+    → GivenTo r vs
+unit_given row r [] args k h = tt
+unit_given row r (v ∷ vs) args k h = takes_it r v (given_holds row v vs k) (given_to (is_starting row.shape) r (var_rate v) h)
 
 all_init : (es : List Expression) → stills es ≡ true → AllInit es
 all_init [] h = tt
@@ -281,7 +314,7 @@ unit_ranked s r vs opcode args one count letters h =
           ∙ subst (λ b. take_rates (moving_letters (row_of opcode)) b xs ≡ true) bound fits.moving;
       even = stores_rated (row_of opcode).shape r xs ∙ store_fits s r vs opcode args h;
       runs = may_run s r vs opcode args h one;
-      given = unit_given (row_of opcode).shape r vs args h.done;
+      given = unit_given (row_of opcode) r vs args h.given h.done;
       parts = moving_ranked (row_of opcode) 0 args parts;
       settled_parts = settled_ranked (row_of opcode) 0 args parts;
     }
@@ -295,7 +328,8 @@ init_call spaces s r v vs [] h = absurd (let no : false ≡ true = h.count in cc
 init_call spaces s r v vs (typed.text c ∷ rest) h = absurd (let no : false ≡ true = h.letters in cc)
 init_call spaces s r v vs (typed.value e ∷ rest) h =
     let fits = and_parts (is_init (node_rate e)) (fit_letters (row_of op.Init) (bound_by (v ∷ vs)) 1 rest) h.letters in
-    (ap (λ y. within y (var_rate v)) (init_is (node_rate e) fits.0) ∙ init_within (var_rate v), (args_ranked (typed.value e ∷ rest) h.parts).0)
+    let low : within (node_rate e) (var_rate v) ≡ true = ap (λ y. within y (var_rate v)) (init_is (node_rate e) fits.0) ∙ init_within (var_rate v) in
+    (takes_it (node_rate e) v (given_holds (row_of op.Init) v vs h.given) low, (args_ranked (typed.value e ∷ rest) h.parts).0)
 
 get_call : (spaces : Spaces) (s : Setting) (r : Rate) (v : Variable) (vs : List Variable) (args : List typed.Argument) → IsRatedCall s r (v ∷ vs) op.Chnget args
     → RankedStmt (core_call spaces r (v ∷ vs) op.Chnget shape.ChannelGet args)
@@ -304,7 +338,7 @@ get_call spaces s r v vs (typed.value e ∷ rest) h = absurd (let no : false ≡
 get_call spaces s r v vs (typed.text c ∷ rest) h =
     let channel = (args_ranked (typed.text c ∷ rest) h.parts).0 in
     let is : r ≡ var_rate v = h.done in (
-      ap (λ y. within y (var_rate v)) is ∙ within_self (var_rate v),
+      takes_it r v (given_holds (row_of op.Chnget) v vs h.given) (ap (λ y. within y (var_rate v)) is ∙ within_self (var_rate v)),
       channel_ranked r c channel (channel_within r c channel (ap (λ y. both_sound y (var_rate c)) is ∙ h.suits)),
     )
 
@@ -316,7 +350,7 @@ put_call spaces s r (typed.value e ∷ []) h = absurd (let no : false ≡ true =
 put_call spaces s r (typed.value e ∷ (typed.value d ∷ rest)) h = absurd (let no : false ≡ true = h.letters in cc)
 put_call spaces s r (typed.value e ∷ (typed.text c ∷ rest)) h =
     let parts = args_ranked (typed.value e ∷ (typed.text c ∷ rest)) h.parts in
-    (channel_within (node_rate e) c parts.1.0 h.suits, parts.0)
+    (takes_it (node_rate e) c (channel_holds c parts.1.0) (channel_within (node_rate e) c parts.1.0 h.suits), parts.0)
 
 mix_call : (spaces : Spaces) (s : Setting) (r : Rate) (args : List typed.Argument) → IsRatedCall s r [] op.Chnmix args
     → RankedStmt (core_call spaces r [] op.Chnmix shape.ChannelMix args)
@@ -328,13 +362,15 @@ mix_call spaces s r (typed.value e ∷ (typed.value d ∷ rest)) h =
 mix_call spaces s r (typed.value e ∷ (typed.text c ∷ rest)) h =
     let parts = args_ranked (typed.value e ∷ (typed.text c ∷ rest)) h.parts in
     let above : within rate.Audio (var_rate c) ≡ true = sound_above (var_rate c) rate.Audio h.suits in
-    (above, (refl, audio_above (node_rate e), refl, channel_ranked rate.Audio c parts.1.0 above, parts.0))
+    (takes_it rate.Audio c (channel_holds c parts.1.0) above, (refl, audio_above (node_rate e), refl, channel_ranked rate.Audio c parts.1.0 above, parts.0))
 
 clear_call : (spaces : Spaces) (s : Setting) (r : Rate) (args : List typed.Argument) → IsRatedCall s r [] op.Chnclear args
     → RankedStmt (core_call spaces r [] op.Chnclear shape.ChannelClear args)
 clear_call spaces s r [] h = absurd (let no : false ≡ true = h.count in cc)
 clear_call spaces s r (typed.value e ∷ rest) h = absurd (let no : false ≡ true = h.letters in cc)
-clear_call spaces s r (typed.text c ∷ rest) h = (init_within (var_rate c), tt)
+clear_call spaces s r (typed.text c ∷ rest) h =
+    let channel = (args_ranked (typed.text c ∷ rest) h.parts).0 in
+    (takes_it rate.Init c (channel_holds c channel) (init_within (var_rate c)), tt)
 
 two_sounds : (n : ℕ) → takes_count (row_of op.Outs) n ≡ true → n ≤ 2
 two_sounds n h =
@@ -377,11 +413,13 @@ call_ranked spaces s r (v ∷ vs) opcode args h = unit_ranked s r (v ∷ vs) opc
 -- ---- statements
 
 set_ranked : (s : Setting) (r : Rate) (v : Variable) (e : Expression) → IsRatedSet s r v e → RankedSet v e
-set_ranked s r v e h = (ap (within (node_rate e)) (sym h.0) ∙ h.2, ranked e h.4)
+set_ranked s r v e h =
+    (takes_it (node_rate e) v (variable_holds v h.1) (ap (within (node_rate e)) (sym h.0) ∙ h.2), ranked e h.4)
 
 sum_ranked : (s : Setting) (r : Rate) (v : Variable) (e : Expression) → IsRatedSet s r v e → RankedSet v (plus r v e)
 sum_ranked s r v e h =
-    (ap (λ y. within y (var_rate v)) h.0 ∙ within_self (var_rate v), (within_self r, h.2, refl, ranked_var r v h.0, ranked e h.4))
+    let holds : holds_value v ≡ true = variable_holds v h.1 in
+    (takes_it r v holds (ap (λ y. within y (var_rate v)) h.0 ∙ within_self (var_rate v)), (within_self r, h.2, refl, ranked_var r v holds h.0, ranked e h.4))
 
 mutual
   stmt_ranked : (spaces : Spaces) (s : Setting) (x : typed.Statement) → IsRatedStatement s x → RankedStmt (core_stmt spaces x)

@@ -1,10 +1,13 @@
 pub mod Arms
+pub mod Beginnings
 pub mod Bounds
+pub mod Branches
 pub mod Calls
 pub mod Chains
 pub mod Expressions
 pub mod FromRates
 pub mod Grown
+pub mod InCycle
 pub mod Initialises
 pub mod Inside
 pub mod Instruments

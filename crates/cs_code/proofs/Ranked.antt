@@ -1,12 +1,12 @@
 -- Rates of expressions and statements, as far as their code needs them.
-use Rattle.std.proofs.Common.{◌≡◌, ◌≤◌, true, false, List, [], ◌∷◌, length, map}
+use Rattle.std.proofs.Common.{◌≡◌, ◌≤◌, Bool, true, false, ◌&&◌, List, [], ◌∷◌, length, map}
 use Rattle.cs_base.specs.Rates.{is_audio, within, res_rate}
 use Rattle.cs_base.specs.declared.resource.Rate.{Rate}
 use Rattle.cs_base.specs.declared.resource.Rate.TheVariants as rate
 use Rattle.cs_words.specs.Catalogue.{row_of, moving_letters, unit_takes}
 use Rattle.cs_words.specs.declared.catalogue.Opcode.{Opcode}
 use Rattle.cs_ir.specs.Units.{is_unit}
-use Rattle.cs_ir.specs.Validity.{suits_operator, suits_function, take_all, stores_at, may_run_at, bound_at}
+use Rattle.cs_ir.specs.Validity.{suits_operator, suits_function, take_all, stores_at, may_run_at, bound_at, has_value}
 use Rattle.cs_ir.specs.declared.register.Reg.{Reg}
 use Rattle.cs_meaning.specs.Core.{Stmt, Block, Arms, set, unit, out, out_at, ask, turnoff, nothing, choose, no_stmt, andthen, otherwise, arm}
 use Rattle.cs_meaning.specs.Notes.{reg}
@@ -15,11 +15,16 @@ use Rattle.cs_typed.specs.WellRated.{node_rate, var_rate}
 use Rattle.cs_typed.specs.declared.tree.Var.{Var as Variable}
 use Rattle.cs_typed.specs.declared.tree.Var.TheVariants.{Local, Global}
 
--- No part changes faster than the whole, and what notes share changes as often as it is read.
+-- a variable of a note, or what notes share and has a value
+abbrev pub holds_value : Variable → Bool
+holds_value (Local q n) = true
+holds_value (Global g) = has_value g
+
+-- No part changes faster than the whole, and what notes share has a value that changes as often as it is read.
 abbrev pub Ranked : Expression → Type 0
 Ranked (number r n) = Unit {0}
 Ranked (var r (Local q n)) = q ≡ r
-Ranked (var r (Global g)) = within r (res_rate g) ≡ true
+Ranked (var r (Global g)) = (has_value g && within r (res_rate g)) ≡ true
 Ranked (field r k) = Unit {0}
 Ranked (head r h) = Unit {0}
 Ranked (neg r a) = (within (node_rate a) r ≡ true) × Ranked a
@@ -54,11 +59,11 @@ rated es = map (λ e. reg (node_rate e) 0) es
 
 -- a variable takes a value that changes no more often than itself
 abbrev pub RankedSet : Variable → Expression → Type 0
-RankedSet v e = (within (node_rate e) (var_rate v) ≡ true) × Ranked e
+RankedSet v e = ((holds_value v && within (node_rate e) (var_rate v)) ≡ true) × Ranked e
 
 abbrev pub GivenTo : Rate → List Variable → Type 0
 GivenTo r [] = Unit {0}
-GivenTo r (v ∷ vs) = within r (var_rate v) ≡ true
+GivenTo r (v ∷ vs) = (holds_value v && within r (var_rate v)) ≡ true
 
 -- A unit's arguments fit the letters of its opcode.
 pub record RankedUnit (r : Rate) (vs : List Variable) (opcode : Opcode) (xs is : List Expression) : Type 0 where

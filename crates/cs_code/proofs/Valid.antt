@@ -12,7 +12,7 @@ use Rattle.cs_words.specs.declared.catalogue.Opcode.{Opcode}
 use Rattle.cs_words.specs.declared.catalogue.Shape.{Shape}
 use Rattle.cs_words.specs.declared.catalogue.Shape.TheVariants as shape
 use Rattle.cs_ir.specs.Units.{is_started, is_unit}
-use Rattle.cs_ir.specs.Validity.{takes_from, suits_operator, suits_function, take_all, stores_at, is_still, may_run_at, bound_at, runs_with, count_of, has_register, writes, finds, is_fine, fine_from}
+use Rattle.cs_ir.specs.Validity.{takes_from, suits_operator, suits_function, take_all, stores_at, is_still, may_run_at, bound_at, has_value, runs_with, count_of, has_register, writes, finds, is_fine, fine_from}
 use Rattle.cs_ir.specs.Waves.{if_init}
 use Rattle.cs_ir.specs.declared.op.Act.{Act}
 use Rattle.cs_ir.specs.declared.op.Act.TheVariants as act
@@ -275,7 +275,7 @@ module _ (end : ℕ) where
   set_fine f whole at place (Global g) e h =
       both_fine place (operand_code f whole at e 0) (op_of (act.Save g) (spot f whole at e 0) (spot f whole at e 0 ∷ []) ∷ [])
       (operand_fine f whole e at 0 place h.1)
-      (ap (λ y. within y (res_rate g)) (spot_rate f whole at e 0 h.1) ∙ h.0, tt, tt)
+      (ap (λ y. has_value g && within y (res_rate g)) (spot_rate f whole at e 0 h.1) ∙ h.0, tt, tt)
 
   given_fine : (f : Frame) (r : Rate) (vs : List Variable) (place : ℕ) → GivenTo r vs → Fine end place (given_code f r vs)
   given_fine f r [] place h = tt

@@ -2,6 +2,7 @@
 use Rattle.std.specs.Prelude.{ℕ, true, ◌≡◌, List, length, map}
 use Rattle.std.specs.List.{AllZip, flat_map}
 use Rattle.std.specs.List.Sorted.{IsPermutation, IsStrictlyIncreasing}
+use Rattle.cs_ir.specs.Cycles.{are_of_cycle}
 use Rattle.cs_ir.specs.Instruments.{Numbered, numbers_of}
 use Rattle.cs_ir.specs.Resources.{Spaces, Stock, ops_use, ops_write}
 use Rattle.cs_ir.specs.Validity.{valid}
@@ -13,7 +14,8 @@ use Rattle.cs_code.specs.Means.{Means}
 use Rattle.cs_code.specs.Names.{block_units, AllNamed}
 
 -- The two codes of a block, in a piece with such zak spaces and so many channels: they mean its statements, can be run on the
--- same registers and units, name what there is, and the performance uses and may write exactly what the statements do.
+-- same registers and units, name what there is, and the performance uses and may write exactly what the statements do, starts no
+-- unit and asks for no note.
 pub record IsCodeOf (spaces : Spaces) (channels : ℕ) (body : typed.Block) (init perf : Code) : Type 0 where
   pub means : Means (core spaces body) init.ops.items perf.ops.items
   pub init_valid : valid init ≡ true
@@ -24,6 +26,7 @@ pub record IsCodeOf (spaces : Spaces) (channels : ℕ) (body : typed.Block) (ini
   pub perf_names : AllNamed channels (block_units (core spaces body)) perf.ops.items
   pub uses : (stock : Stock) → ops_use stock perf.ops.items ≡ block_uses stock (core spaces body)
   pub writes : (stock : Stock) → ops_write stock perf.ops.items ≡ block_writes stock (core spaces body)
+  pub perf_cycle : are_of_cycle perf.ops.items ≡ true
 
 -- the zak spaces of a piece
 abbrev pub spaces_in : typed.Orchestra → Spaces

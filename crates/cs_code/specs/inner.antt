@@ -1,4 +1,5 @@
 -- What only clauses of private functions cite: the code that is made, as functions of the tree.
+pub mod Branches
 pub mod Census
 pub mod Code
 pub mod Counted

@@ -1,20 +1,29 @@
 // The code of a call's arguments. Which of them are settled as the note begins the letters of the
 // catalogue say.
-ghost use Rattle.std.specs.Prelude.{◌≡◌, ◌+◌, ◌++◌, [], length, map, IfOk, OnOk};
+ghost use Rattle.std.specs.Prelude.{◌≡◌, ◌+◌, ◌++◌, [], length, IfOk, OnOk};
 ghost use Rattle.cs_meaning.specs.Notes.{past_all};
 ghost use Rattle.cs_typed.specs.TypedTree.{argument};
 ghost use Rattle.cs_words.specs.Catalogue.{row_of, letter_at};
 ghost use Rattle.cs_code.specs.inner.Code.{operands_code, keep_all_code};
-ghost use Rattle.cs_code.specs.inner.Emitted.{frame_of, is_picked, picked, taken};
+ghost use Rattle.cs_code.specs.inner.Emitted.{frame_of, is_picked, picked, taken, picks_of};
 ghost use Rattle.cs_code.specs.inner.Frames.{spots};
 
 use crate::expr::{keep, operand};
 use crate::frame::{Bases, add};
-use cs_base::OutOfMemory;
+use cs_base::{OutOfMemory, Rate};
 use cs_ir::{Op, Reg};
-use cs_typed::TypedArg;
+use cs_typed::{TypedArg, Var};
 use cs_words::{Letter, Opcode, signature_of};
 use std::alloc::Global;
+
+/// A call of an opcode, and how often it is done.
+#[derive(Clone, Copy)]
+pub struct Call<'t> {
+    pub rate: Rate,
+    pub results: &'t [Var],
+    pub opcode: Opcode,
+    pub args: &'t [TypedArg],
+}
 
 /// Which arguments of a call: those that are settled as the note begins, those that may move, or
 /// all.
@@ -67,20 +76,16 @@ pub fn operands(
     whole: bool,
     at: usize,
     which: Which,
-    opcode: Opcode,
-    args: &[TypedArg],
+    call: &Call<'_>,
 ) -> Result<Gathered, OutOfMemory>
     ensures ops { OnOk result (ops.new.items ≡ ops.old.items
-        ++ operands_code (frame_of bases) whole at (picked which (row_of opcode) 0
-        (map argument args.now)) 0) }
+        ++ operands_code (frame_of bases) whole at (picks_of which call.now) 0) }
     ensures regs { IfOk result (λ g. g.regs.items
-        ≡ spots (frame_of bases) whole at (picked which (row_of opcode) 0
-        (map argument args.now)) 0) }
-    ensures next { IfOk result (λ g. g.next ≡ past_all at (picked which (row_of opcode) 0
-        (map argument args.now))) }
+        ≡ spots (frame_of bases) whole at (picks_of which call.now) 0) }
+    ensures next { IfOk result (λ g. g.next ≡ past_all at (picks_of which call.now)) }
 {
     let mut regs = Vec::new(alloc);
-    let next = gather(ops, &mut regs, bases, whole, at, which, opcode, args)?;
+    let next = gather(ops, &mut regs, bases, whole, at, which, call)?;
     Ok(Gathered { regs, next })
 }
 
@@ -92,22 +97,18 @@ fn gather(
     whole: bool,
     at: usize,
     which: Which,
-    opcode: Opcode,
-    args: &[TypedArg],
+    call: &Call<'_>,
 ) -> Result<usize, OutOfMemory>
     ensures ops { OnOk result (ops.new.items ≡ ops.old.items
-        ++ operands_code (frame_of bases) whole at (picked which (row_of opcode) 0
-        (map argument args.now)) 0) }
+        ++ operands_code (frame_of bases) whole at (picks_of which call.now) 0) }
     ensures regs { OnOk result (regs.new.items ≡ regs.old.items
-        ++ spots (frame_of bases) whole at (picked which (row_of opcode) 0
-        (map argument args.now)) 0) }
-    ensures next { IfOk result (λ n. n ≡ past_all at (picked which (row_of opcode) 0
-        (map argument args.now))) }
+        ++ spots (frame_of bases) whole at (picks_of which call.now) 0) }
+    ensures next { IfOk result (λ n. n ≡ past_all at (picks_of which call.now)) }
 {
     let mut free = Free { next: at, d: 0 };
     let mut place = 0;
-    for arg in args {
-        let take = picks(which, opcode, place);
+    for arg in call.args {
+        let take = picks(which, call.opcode, place);
         free = one_operand(ops, regs, bases, whole, free, take, arg)?;
         place = add(place, 1)?;
     }
@@ -156,19 +157,16 @@ pub fn keep_all(
     bases: Bases,
     at: usize,
     which: Which,
-    opcode: Opcode,
-    args: &[TypedArg],
+    call: &Call<'_>,
 ) -> Result<usize, OutOfMemory>
     ensures ops { OnOk result (ops.new.items ≡ ops.old.items
-        ++ keep_all_code (frame_of bases) at (picked which (row_of opcode) 0
-        (map argument args.now))) }
-    ensures next { IfOk result (λ n. n ≡ past_all at (picked which (row_of opcode) 0
-        (map argument args.now))) }
+        ++ keep_all_code (frame_of bases) at (picks_of which call.now)) }
+    ensures next { IfOk result (λ n. n ≡ past_all at (picks_of which call.now)) }
 {
     let mut next = at;
     let mut place = 0;
-    for arg in args {
-        next = keep_one(ops, bases, next, picks(which, opcode, place), arg)?;
+    for arg in call.args {
+        next = keep_one(ops, bases, next, picks(which, call.opcode, place), arg)?;
         place = add(place, 1)?;
     }
     Ok(next)

@@ -1,22 +1,24 @@
 // The code of calls, for either pass, by what a call is short for.
-ghost use Rattle.std.specs.Prelude.{◌≡◌, ◌++◌, ◌∷◌, map, IfOk, OnOk};
+ghost use Rattle.std.specs.Prelude.{◌≡◌, ◌++◌, ◌∷◌, if◌then◌else◌, map, IfOk, IfSome, IsNone, OnOk, Some, None};
 ghost use Rattle.cs_base.specs.declared.resource.Rate.TheVariants as rate;
-ghost use Rattle.cs_meaning.specs.Core.{core_call, plus, values_of, set, out, out_at, ask, turnoff};
+ghost use Rattle.cs_meaning.specs.Core.{plus, values_of, set, out, out_at, ask, turnoff};
 ghost use Rattle.cs_meaning.specs.Notes.{start, past_stmt};
-ghost use Rattle.cs_typed.specs.TypedTree.{argument, expression, of_part};
+ghost use Rattle.cs_typed.specs.TypedTree.{argument, expression};
 ghost use Rattle.cs_words.specs.Catalogue.{row_of};
 ghost use Rattle.cs_words.specs.declared.catalogue.Shape.TheVariants as shape;
-ghost use Rattle.cs_code.specs.inner.Emitted.{frame_of, place_of, spaces_of, with_sum, pass_code};
-ghost use Rattle.cs_code.specs.inner.Emitted.{plain_unit, channel_of};
+ghost use Rattle.cs_code.specs.inner.Emitted.{frame_of, place_of, spaces_of, value_of, pass_code};
+ghost use Rattle.cs_code.specs.inner.Emitted.{channel_of, taken_by, put_shape, arguments_of, call_of, unit_of};
 
+use crate::args::Call;
 use crate::frame::{Bases, Layout, Pass, Step};
 use crate::reach::reach_of;
 use crate::unit::Run;
+use crate::value::{Sum, Value};
 use crate::{init, perf};
 use cs_base::{Num, OutOfMemory, Rate};
 use cs_ir::Op;
 use cs_typed::{TypedArg, TypedExpr, TypedPart, Var};
-use cs_words::{Opcode, Shape, signature_of};
+use cs_words::{Shape, signature_of};
 use std::alloc::Global;
 
 /// A variable takes a value: an expression, or, with a variable to add, their sum at a rate.
@@ -27,59 +29,17 @@ pub fn assign(
     p: Step,
     done: Rate,
     to: Var,
-    rate: Rate,
-    plus: Option<Var>,
-    e: &TypedExpr,
+    value: &Value<'_>,
 ) -> Result<Step, OutOfMemory>
     ensures ops { OnOk result (ops.new.items ≡ ops.old.items
-        ++ pass_code pass (frame_of bases) 0 (place_of p) (set done to (with_sum rate plus
-        (expression e.now)))) }
+        ++ pass_code pass (frame_of bases) 0 (place_of p) (set done to (value_of value.now))) }
     ensures next { IfOk result (λ q. place_of q
-        ≡ past_stmt (place_of p) (set done to (with_sum rate plus (expression e.now)))) }
+        ≡ past_stmt (place_of p) (set done to (value_of value.now))) }
 {
     match pass {
-        Pass::Initialisation => init::assign(ops, bases, p, done, to, rate, plus, e),
-        Pass::Performance => perf::assign(ops, bases, p, done, to, rate, plus, e),
+        Pass::Initialisation => init::assign(ops, bases, p, done, to, value),
+        Pass::Performance => perf::assign(ops, bases, p, done, to, value),
     }
-}
-
-// A variable takes what a channel has, or 0.
-fn assign_part(
-    ops: &mut Vec<Op>,
-    bases: Bases,
-    pass: Pass,
-    p: Step,
-    done: Rate,
-    to: Var,
-    rate: Rate,
-    what: TypedPart,
-) -> Result<Step, OutOfMemory>
-    ensures ops { OnOk result (ops.new.items ≡ ops.old.items
-        ++ pass_code pass (frame_of bases) 0 (place_of p) (set done to (of_part rate what))) }
-    ensures next { IfOk result (λ q. place_of q
-        ≡ past_stmt (place_of p) (set done to (of_part rate what))) }
-{
-    let e = TypedExpr { rate, what };
-    assign(ops, bases, pass, p, done, to, rate, None, &e)
-}
-
-// A channel of sounds takes what it has and a value.
-fn add_sound(
-    ops: &mut Vec<Op>,
-    bases: Bases,
-    pass: Pass,
-    p: Step,
-    done: Rate,
-    to: Var,
-    e: &TypedExpr,
-) -> Result<Step, OutOfMemory>
-    ensures ops { OnOk result (ops.new.items ≡ ops.old.items
-        ++ pass_code pass (frame_of bases) 0 (place_of p) (set done to (plus rate.Audio to
-        (expression e.now)))) }
-    ensures next { IfOk result (λ q. place_of q
-        ≡ past_stmt (place_of p) (set done to (plus rate.Audio to (expression e.now)))) }
-{
-    assign(ops, bases, pass, p, done, to, Rate::Audio, Some(to), e)
 }
 
 // A unit.
@@ -90,28 +50,21 @@ fn unit(
     layout: Layout,
     pass: Pass,
     p: Step,
-    rate: Rate,
-    results: &[Var],
-    opcode: Opcode,
-    args: &[TypedArg],
+    call: &Call<'_>,
 ) -> Result<Step, OutOfMemory>
     ensures ops { OnOk result (ops.new.items ≡ ops.old.items
-        ++ pass_code pass (frame_of layout.bases) 0 (place_of p) (plain_unit
-        (spaces_of layout.zak) rate results.now opcode (row_of opcode).shape
-        (map argument args.now))) }
+        ++ pass_code pass (frame_of layout.bases) 0 (place_of p) (unit_of (spaces_of layout.zak)
+        call.now)) }
     ensures next { IfOk result (λ q. place_of q
-        ≡ past_stmt (place_of p) (plain_unit (spaces_of layout.zak) rate results.now opcode
-        (row_of opcode).shape (map argument args.now))) }
+        ≡ past_stmt (place_of p) (unit_of (spaces_of layout.zak) call.now)) }
 {
     let run = Run {
-        opcode,
         unit: p.unit,
-        rate,
-        reach: reach_of(layout.zak, opcode, args)?,
+        reach: reach_of(layout.zak, call)?,
     };
     match pass {
-        Pass::Initialisation => init::unit(alloc, ops, layout.bases, p, run, results, args),
-        Pass::Performance => perf::unit(alloc, ops, layout.bases, p, run, results, args),
+        Pass::Initialisation => init::unit(alloc, ops, layout.bases, p, run, call),
+        Pass::Performance => perf::unit(alloc, ops, layout.bases, p, run, call),
     }
 }
 
@@ -123,18 +76,17 @@ fn send(
     layout: Layout,
     pass: Pass,
     p: Step,
-    opcode: Opcode,
-    args: &[TypedArg],
+    call: &Call<'_>,
 ) -> Result<Step, OutOfMemory>
     ensures ops { OnOk result (ops.new.items ≡ ops.old.items
         ++ pass_code pass (frame_of layout.bases) 0 (place_of p) (out rate.Audio (values_of
-        (map argument args.now)))) }
+        (arguments_of call.now)))) }
     ensures next { IfOk result (λ q. place_of q
-        ≡ past_stmt (place_of p) (out rate.Audio (values_of (map argument args.now)))) }
+        ≡ past_stmt (place_of p) (out rate.Audio (values_of (arguments_of call.now)))) }
 {
     match pass {
-        Pass::Initialisation => init::out(ops, layout.bases, p, opcode, args),
-        Pass::Performance => perf::out(alloc, ops, layout.bases, p, opcode, args),
+        Pass::Initialisation => init::out(ops, layout.bases, p, call),
+        Pass::Performance => perf::out(alloc, ops, layout.bases, p, call),
     }
 }
 
@@ -145,18 +97,17 @@ fn send_at(
     layout: Layout,
     pass: Pass,
     p: Step,
-    opcode: Opcode,
-    args: &[TypedArg],
+    call: &Call<'_>,
 ) -> Result<Step, OutOfMemory>
     ensures ops { OnOk result (ops.new.items ≡ ops.old.items
         ++ pass_code pass (frame_of layout.bases) 0 (place_of p) (out_at rate.Audio (values_of
-        (map argument args.now)))) }
+        (arguments_of call.now)))) }
     ensures next { IfOk result (λ q. place_of q
-        ≡ past_stmt (place_of p) (out_at rate.Audio (values_of (map argument args.now)))) }
+        ≡ past_stmt (place_of p) (out_at rate.Audio (values_of (arguments_of call.now)))) }
 {
     match pass {
-        Pass::Initialisation => init::out(ops, layout.bases, p, opcode, args),
-        Pass::Performance => perf::out_at(alloc, ops, layout.bases, p, opcode, args),
+        Pass::Initialisation => init::out(ops, layout.bases, p, call),
+        Pass::Performance => perf::out_at(alloc, ops, layout.bases, p, call),
     }
 }
 
@@ -167,15 +118,14 @@ fn ask(
     ops: &mut Vec<Op>,
     layout: Layout,
     pass: Pass,
-    opcode: Opcode,
-    args: &[TypedArg],
+    call: &Call<'_>,
 ) -> Result<(), OutOfMemory>
     ensures { OnOk result (ops.new.items ≡ ops.old.items
         ++ pass_code pass (frame_of layout.bases) 0 start (ask (values_of
-        (map argument args.now)))) }
+        (arguments_of call.now)))) }
 {
     match pass {
-        Pass::Initialisation => init::ask(alloc, ops, layout.bases, opcode, args),
+        Pass::Initialisation => init::ask(alloc, ops, layout.bases, call),
         Pass::Performance => Ok(()),
     }
 }
@@ -198,34 +148,20 @@ fn set_once(
     layout: Layout,
     pass: Pass,
     p: Step,
-    rate: Rate,
-    results: &[Var],
-    opcode: Opcode,
-    args: &[TypedArg],
+    call: &Call<'_>,
 ) -> Result<Step, OutOfMemory>
-    requires { shape.Init ≡ (row_of opcode).shape }
+    requires { shape.Init ≡ (row_of call.now.opcode).shape }
     ensures ops { OnOk result (ops.new.items ≡ ops.old.items
-        ++ pass_code pass (frame_of layout.bases) 0 (place_of p) (core_call
-        (spaces_of layout.zak) rate results.now opcode shape.Init (map argument args.now))) }
+        ++ pass_code pass (frame_of layout.bases) 0 (place_of p) (call_of (spaces_of layout.zak)
+        call.now shape.Init)) }
     ensures next { IfOk result (λ q. place_of q
-        ≡ past_stmt (place_of p) (core_call
-        (spaces_of layout.zak) rate results.now opcode shape.Init (map argument args.now))) }
+        ≡ past_stmt (place_of p) (call_of (spaces_of layout.zak) call.now shape.Init)) }
 {
-    match (results, args) {
+    match (call.results, call.args) {
         ([v, ..], [TypedArg::Value(e), ..]) => {
-            assign(
-                ops,
-                layout.bases,
-                pass,
-                p,
-                Rate::Init,
-                *v,
-                Rate::Init,
-                None,
-                e,
-            )
+            assign(ops, layout.bases, pass, p, Rate::Init, *v, &Value::Of(e))
         }
-        _ => unit(alloc, ops, layout, pass, p, rate, results, opcode, args),
+        _ => unit(alloc, ops, layout, pass, p, call),
     }
 }
 
@@ -237,34 +173,24 @@ fn get(
     layout: Layout,
     pass: Pass,
     p: Step,
-    rate: Rate,
-    results: &[Var],
-    opcode: Opcode,
-    args: &[TypedArg],
+    call: &Call<'_>,
 ) -> Result<Step, OutOfMemory>
-    requires { shape.ChannelGet ≡ (row_of opcode).shape }
+    requires { shape.ChannelGet ≡ (row_of call.now.opcode).shape }
     ensures ops { OnOk result (ops.new.items ≡ ops.old.items
-        ++ pass_code pass (frame_of layout.bases) 0 (place_of p) (core_call
-        (spaces_of layout.zak) rate results.now opcode shape.ChannelGet
-        (map argument args.now))) }
+        ++ pass_code pass (frame_of layout.bases) 0 (place_of p) (call_of (spaces_of layout.zak)
+        call.now shape.ChannelGet)) }
     ensures next { IfOk result (λ q. place_of q
-        ≡ past_stmt (place_of p) (core_call
-        (spaces_of layout.zak) rate results.now opcode shape.ChannelGet (map argument args.now))) }
+        ≡ past_stmt (place_of p) (call_of (spaces_of layout.zak) call.now shape.ChannelGet)) }
 {
-    match (results, args) {
+    match (call.results, call.args) {
         ([v, ..], [TypedArg::Text(c), ..]) => {
-            assign_part(
-                ops,
-                layout.bases,
-                pass,
-                p,
-                rate,
-                *v,
-                rate,
-                TypedPart::Var(*c),
-            )
+            let read = TypedExpr {
+                rate: call.rate,
+                what: TypedPart::Var(*c),
+            };
+            assign(ops, layout.bases, pass, p, call.rate, *v, &Value::Of(&read))
         }
-        _ => unit(alloc, ops, layout, pass, p, rate, results, opcode, args),
+        _ => unit(alloc, ops, layout, pass, p, call),
     }
 }
 
@@ -278,135 +204,57 @@ fn channel_of(args: &[TypedArg]) -> Option<Var>
     }
 }
 
-// A channel takes a value.
-#[tactic(auto, using(crate::proofs::Calls::put_none))]
+// The channel that takes a value, and the value, where arguments begin with these.
+fn taken_by(args: &[TypedArg]) -> Option<(Var, &TypedExpr)>
+    ensures some { IfSome result (λ r. taken_by (map argument args.now)
+        ≡ Some (r.0, expression r.1.now)) }
+    ensures none { IsNone result → taken_by (map argument args.now) ≡ None }
+{
+    match args {
+        [TypedArg::Value(e), rest @ ..] => Some((channel_of(rest)?, e)),
+        _ => None,
+    }
+}
+
+// What a channel takes: a value, or what it has and the value.
+fn taken(adds: bool, channel: Var, e: &TypedExpr) -> Value<'_>
+    ensures { value_of result ≡ (if adds then plus rate.Audio channel (expression e.now)
+        else expression e.now) }
+{
+    if adds {
+        Value::Added(Sum {
+            rate: Rate::Audio,
+            first: channel,
+            second: e,
+        })
+    } else {
+        Value::Of(e)
+    }
+}
+
+// A channel takes a value, or what it has and a value.
 fn put(
     alloc: Global,
     ops: &mut Vec<Op>,
     layout: Layout,
     pass: Pass,
     p: Step,
-    rate: Rate,
-    results: &[Var],
-    opcode: Opcode,
-    args: &[TypedArg],
+    call: &Call<'_>,
+    adds: bool,
 ) -> Result<Step, OutOfMemory>
-    requires { shape.ChannelPut ≡ (row_of opcode).shape }
+    requires { put_shape adds ≡ (row_of call.now.opcode).shape }
     ensures ops { OnOk result (ops.new.items ≡ ops.old.items
-        ++ pass_code pass (frame_of layout.bases) 0 (place_of p) (core_call
-        (spaces_of layout.zak) rate results.now opcode shape.ChannelPut
-        (map argument args.now))) }
+        ++ pass_code pass (frame_of layout.bases) 0 (place_of p)
+        (call_of (spaces_of layout.zak) call.now (put_shape adds))) }
     ensures next { IfOk result (λ q. place_of q
-        ≡ past_stmt (place_of p) (core_call
-        (spaces_of layout.zak) rate results.now opcode shape.ChannelPut (map argument args.now))) }
+        ≡ past_stmt (place_of p) (call_of (spaces_of layout.zak) call.now (put_shape adds))) }
 {
-    match args {
-        [] => unit(alloc, ops, layout, pass, p, rate, results, opcode, args),
-        [first, rest @ ..] => {
-            put_first(
-                alloc, ops, layout, pass, p, rate, results, opcode, args, first, rest,
-            )
+    match taken_by(call.args) {
+        Some((channel, e)) => {
+            let value = taken(adds, channel, e);
+            assign(ops, layout.bases, pass, p, call.rate, channel, &value)
         }
-    }
-}
-
-// The same by the first argument and those that follow.
-#[tactic(auto, using(crate::proofs::Calls::put_text))]
-fn put_first(
-    alloc: Global,
-    ops: &mut Vec<Op>,
-    layout: Layout,
-    pass: Pass,
-    p: Step,
-    rate: Rate,
-    results: &[Var],
-    opcode: Opcode,
-    args: &[TypedArg],
-    first: &TypedArg,
-    rest: &[TypedArg],
-) -> Result<Step, OutOfMemory>
-    requires shape { shape.ChannelPut ≡ (row_of opcode).shape }
-    requires split { map argument args.now ≡ argument first.now ∷ map argument rest.now }
-    ensures ops { OnOk result (ops.new.items ≡ ops.old.items
-        ++ pass_code pass (frame_of layout.bases) 0 (place_of p) (core_call
-        (spaces_of layout.zak) rate results.now opcode shape.ChannelPut
-        (map argument args.now))) }
-    ensures next { IfOk result (λ q. place_of q
-        ≡ past_stmt (place_of p) (core_call
-        (spaces_of layout.zak) rate results.now opcode shape.ChannelPut (map argument args.now))) }
-{
-    match first {
-        TypedArg::Text(_) => unit(alloc, ops, layout, pass, p, rate, results, opcode, args),
-        TypedArg::Value(e) => match channel_of(rest) {
-            Some(c) => assign(ops, layout.bases, pass, p, rate, c, rate, None, e),
-            None => unit(alloc, ops, layout, pass, p, rate, results, opcode, args),
-        },
-    }
-}
-
-// A channel takes what it has and a value.
-#[tactic(auto, using(crate::proofs::Calls::mix_none))]
-fn mix(
-    alloc: Global,
-    ops: &mut Vec<Op>,
-    layout: Layout,
-    pass: Pass,
-    p: Step,
-    rate: Rate,
-    results: &[Var],
-    opcode: Opcode,
-    args: &[TypedArg],
-) -> Result<Step, OutOfMemory>
-    requires { shape.ChannelMix ≡ (row_of opcode).shape }
-    ensures ops { OnOk result (ops.new.items ≡ ops.old.items
-        ++ pass_code pass (frame_of layout.bases) 0 (place_of p) (core_call
-        (spaces_of layout.zak) rate results.now opcode shape.ChannelMix
-        (map argument args.now))) }
-    ensures next { IfOk result (λ q. place_of q
-        ≡ past_stmt (place_of p) (core_call
-        (spaces_of layout.zak) rate results.now opcode shape.ChannelMix (map argument args.now))) }
-{
-    match args {
-        [] => unit(alloc, ops, layout, pass, p, rate, results, opcode, args),
-        [first, rest @ ..] => {
-            mix_first(
-                alloc, ops, layout, pass, p, rate, results, opcode, args, first, rest,
-            )
-        }
-    }
-}
-
-// The same by the first argument and those that follow.
-#[tactic(auto, using(crate::proofs::Calls::mix_text))]
-fn mix_first(
-    alloc: Global,
-    ops: &mut Vec<Op>,
-    layout: Layout,
-    pass: Pass,
-    p: Step,
-    rate: Rate,
-    results: &[Var],
-    opcode: Opcode,
-    args: &[TypedArg],
-    first: &TypedArg,
-    rest: &[TypedArg],
-) -> Result<Step, OutOfMemory>
-    requires shape { shape.ChannelMix ≡ (row_of opcode).shape }
-    requires split { map argument args.now ≡ argument first.now ∷ map argument rest.now }
-    ensures ops { OnOk result (ops.new.items ≡ ops.old.items
-        ++ pass_code pass (frame_of layout.bases) 0 (place_of p) (core_call
-        (spaces_of layout.zak) rate results.now opcode shape.ChannelMix
-        (map argument args.now))) }
-    ensures next { IfOk result (λ q. place_of q
-        ≡ past_stmt (place_of p) (core_call
-        (spaces_of layout.zak) rate results.now opcode shape.ChannelMix (map argument args.now))) }
-{
-    match first {
-        TypedArg::Text(_) => unit(alloc, ops, layout, pass, p, rate, results, opcode, args),
-        TypedArg::Value(e) => match channel_of(rest) {
-            Some(c) => add_sound(ops, layout.bases, pass, p, rate, c, e),
-            None => unit(alloc, ops, layout, pass, p, rate, results, opcode, args),
-        },
+        None => unit(alloc, ops, layout, pass, p, call),
     }
 }
 
@@ -418,27 +266,24 @@ fn clear(
     layout: Layout,
     pass: Pass,
     p: Step,
-    rate: Rate,
-    results: &[Var],
-    opcode: Opcode,
-    args: &[TypedArg],
+    call: &Call<'_>,
 ) -> Result<Step, OutOfMemory>
-    requires { shape.ChannelClear ≡ (row_of opcode).shape }
+    requires { shape.ChannelClear ≡ (row_of call.now.opcode).shape }
     ensures ops { OnOk result (ops.new.items ≡ ops.old.items
-        ++ pass_code pass (frame_of layout.bases) 0 (place_of p) (core_call
-        (spaces_of layout.zak) rate results.now opcode shape.ChannelClear
-        (map argument args.now))) }
+        ++ pass_code pass (frame_of layout.bases) 0 (place_of p) (call_of (spaces_of layout.zak)
+        call.now shape.ChannelClear)) }
     ensures next { IfOk result (λ q. place_of q
-        ≡ past_stmt (place_of p) (core_call
-        (spaces_of layout.zak) rate results.now opcode shape.ChannelClear
-        (map argument args.now))) }
+        ≡ past_stmt (place_of p) (call_of (spaces_of layout.zak) call.now shape.ChannelClear)) }
 {
-    match args {
+    match call.args {
         [TypedArg::Text(c), ..] => {
-            let zero = TypedPart::Number(Num::of_raw(0));
-            assign_part(ops, layout.bases, pass, p, rate, *c, Rate::Init, zero)
+            let zero = TypedExpr {
+                rate: Rate::Init,
+                what: TypedPart::Number(Num::of_raw(0)),
+            };
+            assign(ops, layout.bases, pass, p, call.rate, *c, &Value::Of(&zero))
         }
-        _ => unit(alloc, ops, layout, pass, p, rate, results, opcode, args),
+        _ => unit(alloc, ops, layout, pass, p, call),
     }
 }
 
@@ -450,36 +295,32 @@ pub fn call(
     layout: Layout,
     pass: Pass,
     p: Step,
-    rate: Rate,
-    results: &[Var],
-    opcode: Opcode,
-    args: &[TypedArg],
+    call: &Call<'_>,
 ) -> Result<Step, OutOfMemory>
     ensures ops { OnOk result (ops.new.items ≡ ops.old.items
-        ++ pass_code pass (frame_of layout.bases) 0 (place_of p) (core_call
-        (spaces_of layout.zak) rate results.now opcode (row_of opcode).shape
-        (map argument args.now))) }
+        ++ pass_code pass (frame_of layout.bases) 0 (place_of p) (call_of (spaces_of layout.zak)
+        call.now (row_of call.now.opcode).shape)) }
     ensures next { IfOk result (λ q. place_of q
-        ≡ past_stmt (place_of p) (core_call (spaces_of layout.zak) rate results.now opcode
-        (row_of opcode).shape (map argument args.now))) }
+        ≡ past_stmt (place_of p) (call_of (spaces_of layout.zak) call.now (row_of
+        call.now.opcode).shape)) }
 {
-    match signature_of(opcode).shape() {
-        Shape::Init => set_once(alloc, ops, layout, pass, p, rate, results, opcode, args),
-        Shape::Out => send(alloc, ops, layout, pass, p, opcode, args),
-        Shape::OutAt => send_at(alloc, ops, layout, pass, p, opcode, args),
+    match signature_of(call.opcode).shape() {
+        Shape::Init => set_once(alloc, ops, layout, pass, p, call),
+        Shape::Out => send(alloc, ops, layout, pass, p, call),
+        Shape::OutAt => send_at(alloc, ops, layout, pass, p, call),
         Shape::Turnoff => {
             turnoff(ops, layout, pass)?;
             Ok(p)
         }
         Shape::ZakInit => Ok(p),
-        Shape::ChannelGet => get(alloc, ops, layout, pass, p, rate, results, opcode, args),
-        Shape::ChannelPut => put(alloc, ops, layout, pass, p, rate, results, opcode, args),
-        Shape::ChannelMix => mix(alloc, ops, layout, pass, p, rate, results, opcode, args),
-        Shape::ChannelClear => clear(alloc, ops, layout, pass, p, rate, results, opcode, args),
+        Shape::ChannelGet => get(alloc, ops, layout, pass, p, call),
+        Shape::ChannelPut => put(alloc, ops, layout, pass, p, call, false),
+        Shape::ChannelMix => put(alloc, ops, layout, pass, p, call, true),
+        Shape::ChannelClear => clear(alloc, ops, layout, pass, p, call),
         Shape::Ask => {
-            ask(alloc, ops, layout, pass, opcode, args)?;
+            ask(alloc, ops, layout, pass, call)?;
             Ok(p)
         }
-        _ => unit(alloc, ops, layout, pass, p, rate, results, opcode, args),
+        _ => unit(alloc, ops, layout, pass, p, call),
     }
 }

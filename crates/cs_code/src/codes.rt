@@ -3,11 +3,11 @@ ghost use Rattle.std.specs.Prelude.{◌≡◌, max, IfOk};
 ghost use Rattle.cs_meaning.specs.Core.{core};
 ghost use Rattle.cs_meaning.specs.Notes.{start, past_block};
 ghost use Rattle.cs_typed.specs.TypedTree as typed;
-ghost use Rattle.cs_code.specs.inner.Census.{Roomy};
+ghost use Rattle.cs_code.specs.inner.Census.{Roomy, first_bases};
 ghost use Rattle.cs_code.specs.inner.Code.{init_block_code, perf_block_code};
 ghost use Rattle.cs_code.specs.inner.Counted.{reached, no_registers};
 ghost use Rattle.cs_code.specs.inner.Emitted.{frame_of, spaces_of};
-ghost use Rattle.cs_code.specs.inner.Limits.{parts_of, ops_limit};
+ghost use Rattle.cs_code.specs.inner.Limits.{ops_limit};
 
 use crate::census::{Limits, with_block};
 use crate::counts::with_ops;
@@ -30,24 +30,10 @@ pub struct Codes {
 /// Where a block begins.
 const START: Step = Step { part: 0, unit: 0 };
 
-// How many values are kept: what the performance counts in any frame.
-fn parts_of(alloc: Global, zak: Zak, stmts: &[TypedStmt]) -> Result<usize, OutOfMemory>
-    ensures { IfOk result (λ n. n ≡ parts_of (core (spaces_of zak) (typed.block stmts.now))) }
-{
-    let bases = Bases {
-        kept: 0,
-        init: 0,
-        control: 0,
-        audio: 0,
-    };
-    let layout = Layout { bases, zak };
-    let done = body_of(alloc, layout, Pass::Performance, 0, START, stmts)?;
-    Ok(done.next.part)
-}
-
-// The frame of a block.
-fn bases_of(alloc: Global, zak: Zak, stmts: &[TypedStmt]) -> Result<Bases, OutOfMemory>
-    ensures { IfOk result (λ b. Roomy (frame_of b) (core (spaces_of zak) (typed.block stmts.now))) }
+// Where the temporaries of a block's performance begin: after its local variables. It has none of
+// rate Init, which begin after the kept values that it counts.
+fn bases_of(stmts: &[TypedStmt]) -> Result<Bases, OutOfMemory>
+    ensures { IfOk result (λ b. b ≡ first_bases (typed.block stmts.now)) }
 {
     let none = Limits {
         init: 0,
@@ -55,10 +41,9 @@ fn bases_of(alloc: Global, zak: Zak, stmts: &[TypedStmt]) -> Result<Bases, OutOf
         audio: 0,
     };
     let limits = with_block(none, stmts)?;
-    let parts = parts_of(alloc, zak, stmts)?;
     Ok(Bases {
         kept: limits.init,
-        init: add(limits.init, parts)?,
+        init: 0,
         control: limits.control,
         audio: limits.audio,
     })
@@ -95,10 +80,15 @@ pub fn codes_of(alloc: Global, zak: Zak, stmts: &[TypedStmt]) -> Result<Codes, O
         (typed.block stmts.now))).unit)
         (λ r. max (ops_limit r c.init.items) (ops_limit r c.perf.items))) }
 {
-    let bases = bases_of(alloc, zak, stmts)?;
+    let first = bases_of(stmts)?;
+    let layout = Layout { bases: first, zak };
+    let perf = body_of(alloc, layout, Pass::Performance, START, stmts)?;
+    let bases = Bases {
+        init: add(first.kept, perf.next.part)?,
+        ..first
+    };
     let layout = Layout { bases, zak };
-    let init = body_of(alloc, layout, Pass::Initialisation, 0, START, stmts)?;
-    let perf = body_of(alloc, layout, Pass::Performance, 0, START, stmts)?;
+    let init = body_of(alloc, layout, Pass::Initialisation, START, stmts)?;
     let counts = counts_of(init.next.unit, &init.ops, &perf.ops)?;
     Ok(Codes {
         init: init.ops,

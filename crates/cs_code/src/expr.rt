@@ -4,7 +4,7 @@ ghost use Rattle.cs_meaning.specs.Notes.{past};
 ghost use Rattle.cs_typed.specs.TypedTree.{expression};
 ghost use Rattle.cs_code.specs.inner.Code.{own, code, operand_code, look_code, keep_code};
 ghost use Rattle.cs_code.specs.inner.Code.{kept_code};
-ghost use Rattle.cs_code.specs.inner.Emitted.{frame_of, with_sum, parts_code, parts_past};
+ghost use Rattle.cs_code.specs.inner.Emitted.{frame_of, parts_code, parts_past};
 ghost use Rattle.cs_code.specs.inner.Frames.{local_of, direct, spot, kept_reg};
 
 use crate::frame::{Bases, Spot, add, kept_reg, next_of, push, temp};

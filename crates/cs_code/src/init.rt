@@ -1,22 +1,19 @@
 // The initialisation of simple statements: what is kept, the starting of units, and what is done
 // once.
-ghost use Rattle.std.specs.Prelude.{◌≡◌, ◌++◌, map, IfOk, OnOk};
+ghost use Rattle.std.specs.Prelude.{◌≡◌, ◌++◌, IfOk, OnOk};
 ghost use Rattle.cs_meaning.specs.Core.{set, unit, ask};
 ghost use Rattle.cs_meaning.specs.Notes.{start, past_stmt, past_all};
-ghost use Rattle.cs_typed.specs.TypedTree.{argument, expression};
-ghost use Rattle.cs_words.specs.Catalogue.{row_of};
 ghost use Rattle.cs_code.specs.declared.args.Which.TheVariants as which;
 ghost use Rattle.cs_code.specs.inner.Code.{init_code, keep_all_code};
-ghost use Rattle.cs_code.specs.inner.Emitted.{frame_of, place_of, with_sum, picked};
+ghost use Rattle.cs_code.specs.inner.Emitted.{frame_of, place_of, value_of, picks_of};
 
-use crate::args::{Which, keep_all, operands};
+use crate::args::{Call, Which, keep_all, operands};
 use crate::frame::{Bases, Step, add, push};
 use crate::unit::{Run, run_unit, start_unit};
-use crate::value::{keep_value, set};
+use crate::value::{Value, keep_value, set};
 use cs_base::{OutOfMemory, Rate};
 use cs_ir::{Act, Op, Operands, Reg};
-use cs_typed::{TypedArg, TypedExpr, Var};
-use cs_words::Opcode;
+use cs_typed::Var;
 use std::alloc::Global;
 
 /// A variable takes a value once, or what is kept of the value.
@@ -26,23 +23,20 @@ pub fn assign(
     p: Step,
     done: Rate,
     to: Var,
-    rate: Rate,
-    plus: Option<Var>,
-    e: &TypedExpr,
+    value: &Value<'_>,
 ) -> Result<Step, OutOfMemory>
     ensures ops { OnOk result (ops.new.items ≡ ops.old.items
-        ++ init_code (frame_of bases) 0 (place_of p) (set done to (with_sum rate plus
-        (expression e.now)))) }
+        ++ init_code (frame_of bases) 0 (place_of p) (set done to (value_of value.now))) }
     ensures next { IfOk result (λ q. place_of q
-        ≡ past_stmt (place_of p) (set done to (with_sum rate plus (expression e.now)))) }
+        ≡ past_stmt (place_of p) (set done to (value_of value.now))) }
 {
     match done {
         Rate::Init => {
-            set(ops, bases, true, 0, to, rate, plus, e)?;
+            set(ops, bases, true, 0, to, value)?;
             Ok(p)
         }
         Rate::Control | Rate::Audio => Ok(Step {
-            part: keep_value(ops, bases, p.part, rate, plus, e)?,
+            part: keep_value(ops, bases, p.part, value)?,
             unit: p.unit,
         }),
     }
@@ -55,51 +49,41 @@ pub fn unit(
     bases: Bases,
     p: Step,
     run: Run,
-    results: &[Var],
-    args: &[TypedArg],
+    call: &Call<'_>,
 ) -> Result<Step, OutOfMemory>
     requires { run.unit ≡ p.unit }
     ensures ops { OnOk result (ops.new.items ≡ ops.old.items
-        ++ init_code (frame_of bases) 0 (place_of p) (unit run.rate results.now run.opcode run.reach
-        (picked which.Moving (row_of run.opcode) 0 (map argument args.now)) (picked which.Settled
-        (row_of run.opcode) 0 (map argument args.now)))) }
+        ++ init_code (frame_of bases) 0 (place_of p) (unit call.now.rate call.now.results.now
+        call.now.opcode run.reach
+        (picks_of which.Moving call.now) (picks_of which.Settled call.now))) }
     ensures next { IfOk result (λ q. place_of q
-        ≡ past_stmt (place_of p) (unit run.rate results.now run.opcode run.reach
-        (picked which.Moving (row_of run.opcode) 0 (map argument args.now)) (picked which.Settled
-        (row_of run.opcode) 0 (map argument args.now)))) }
+        ≡ past_stmt (place_of p) (unit call.now.rate call.now.results.now call.now.opcode run.reach
+        (picks_of which.Moving call.now) (picks_of which.Settled call.now))) }
 {
     let unit = add(p.unit, 1)?;
-    match run.rate {
+    match call.rate {
         Rate::Init => {
-            start_unit(alloc, ops, bases, run.rate, run.opcode, run.unit, args)?;
-            run_unit(alloc, ops, bases, true, 0, run, results, args)?;
+            start_unit(alloc, ops, bases, run.unit, call)?;
+            run_unit(alloc, ops, bases, true, 0, run, call)?;
             Ok(Step { part: p.part, unit })
         }
         Rate::Control | Rate::Audio => {
-            let part = keep_all(ops, bases, p.part, Which::Moving, run.opcode, args)?;
-            start_unit(alloc, ops, bases, run.rate, run.opcode, run.unit, args)?;
+            let part = keep_all(ops, bases, p.part, Which::Moving, call)?;
+            start_unit(alloc, ops, bases, run.unit, call)?;
             Ok(Step { part, unit })
         }
     }
 }
 
 /// What is kept of values that go out.
-pub fn out(
-    ops: &mut Vec<Op>,
-    bases: Bases,
-    p: Step,
-    opcode: Opcode,
-    args: &[TypedArg],
-) -> Result<Step, OutOfMemory>
+pub fn out(ops: &mut Vec<Op>, bases: Bases, p: Step, call: &Call<'_>) -> Result<Step, OutOfMemory>
     ensures ops { OnOk result (ops.new.items ≡ ops.old.items
-        ++ keep_all_code (frame_of bases) p.part (picked which.All (row_of opcode) 0
-        (map argument args.now))) }
-    ensures part { IfOk result (λ q. q.part ≡ past_all p.part (picked which.All (row_of opcode) 0
-        (map argument args.now))) }
+        ++ keep_all_code (frame_of bases) p.part (picks_of which.All call.now)) }
+    ensures part { IfOk result (λ q. q.part ≡ past_all p.part (picks_of which.All call.now)) }
     ensures unit { IfOk result (λ q. q.unit ≡ p.unit) }
 {
     Ok(Step {
-        part: keep_all(ops, bases, p.part, Which::All, opcode, args)?,
+        part: keep_all(ops, bases, p.part, Which::All, call)?,
         unit: p.unit,
     })
 }
@@ -109,14 +93,12 @@ pub fn ask(
     alloc: Global,
     ops: &mut Vec<Op>,
     bases: Bases,
-    opcode: Opcode,
-    args: &[TypedArg],
+    call: &Call<'_>,
 ) -> Result<(), OutOfMemory>
     ensures { OnOk result (ops.new.items ≡ ops.old.items
-        ++ init_code (frame_of bases) 0 start (ask (picked which.All (row_of opcode) 0
-        (map argument args.now)))) }
+        ++ init_code (frame_of bases) 0 start (ask (picks_of which.All call.now))) }
 {
-    let found = operands(alloc, ops, bases, true, 0, Which::All, opcode, args)?;
+    let found = operands(alloc, ops, bases, true, 0, Which::All, call)?;
     let into = Reg {
         rate: Rate::Init,
         index: 0,

@@ -7,7 +7,7 @@
 //!
 //! To be read in this order: `frame` (where values stand among the registers), `expr` and `value` (expressions), `args`,
 //! `reach` and `unit` (calls of units), `init` and `perf` (simple statements in either pass), `call` (what a call is short
-//! for), `pieces` (arms that are joined), `stmt` (statements, blocks, arms), `census` (local variables), `counts`
+//! for), `jumps` (jumps that are aimed once their end is known), `stmt` (statements, blocks, arms), `census` (local variables), `counts`
 //! (registers in use), `codes` (both codes of a block), `orchestra` (`lower`: codes checked, and instruments by number).
 #![tactic(auto)]
 
@@ -19,9 +19,9 @@ mod counts;
 mod expr;
 mod frame;
 mod init;
+mod jumps;
 mod orchestra;
 mod perf;
-mod pieces;
 mod reach;
 mod stmt;
 mod unit;

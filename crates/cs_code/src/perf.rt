@@ -1,24 +1,21 @@
 // The performance of simple statements.
-ghost use Rattle.std.specs.Prelude.{◌≡◌, ◌++◌, [], ◌∷◌, map, IfOk, OnOk};
+ghost use Rattle.std.specs.Prelude.{◌≡◌, ◌++◌, [], ◌∷◌, IfOk, OnOk};
 ghost use Rattle.cs_base.specs.declared.resource.Rate.TheVariants as rate;
 ghost use Rattle.cs_ir.specs.declared.op.Act.TheVariants as act;
 ghost use Rattle.cs_meaning.specs.Core.{set, unit, out, out_at};
 ghost use Rattle.cs_meaning.specs.Notes.{reg, past_stmt};
-ghost use Rattle.cs_typed.specs.TypedTree.{argument, expression};
-ghost use Rattle.cs_words.specs.Catalogue.{row_of};
 ghost use Rattle.cs_code.specs.declared.args.Which.TheVariants as which;
 ghost use Rattle.cs_code.specs.inner.Code.{perf_code, out_ops, out_at_ops};
-ghost use Rattle.cs_code.specs.inner.Emitted.{frame_of, place_of, with_sum, picked};
+ghost use Rattle.cs_code.specs.inner.Emitted.{frame_of, place_of, value_of, picks_of};
 ghost use Rattle.cs_code.specs.inner.Frames.{op_of};
 
-use crate::args::{Which, operands};
+use crate::args::{Call, Which, operands};
 use crate::frame::{Bases, Step, add, push};
 use crate::unit::{Run, run_unit};
-use crate::value::set;
+use crate::value::{Value, set};
 use cs_base::{OutOfMemory, Rate};
 use cs_ir::{Act, Op, Operands, Reg};
-use cs_typed::{TypedArg, TypedExpr, Var};
-use cs_words::Opcode;
+use cs_typed::Var;
 use std::alloc::Global;
 
 /// A variable takes a value in each cycle.
@@ -28,20 +25,17 @@ pub fn assign(
     p: Step,
     done: Rate,
     to: Var,
-    rate: Rate,
-    plus: Option<Var>,
-    e: &TypedExpr,
+    value: &Value<'_>,
 ) -> Result<Step, OutOfMemory>
     ensures ops { OnOk result (ops.new.items ≡ ops.old.items
-        ++ perf_code (frame_of bases) 0 (place_of p) (set done to (with_sum rate plus
-        (expression e.now)))) }
+        ++ perf_code (frame_of bases) 0 (place_of p) (set done to (value_of value.now))) }
     ensures next { IfOk result (λ q. place_of q
-        ≡ past_stmt (place_of p) (set done to (with_sum rate plus (expression e.now)))) }
+        ≡ past_stmt (place_of p) (set done to (value_of value.now))) }
 {
     match done {
         Rate::Init => Ok(p),
         Rate::Control | Rate::Audio => Ok(Step {
-            part: set(ops, bases, false, p.part, to, rate, plus, e)?,
+            part: set(ops, bases, false, p.part, to, value)?,
             unit: p.unit,
         }),
     }
@@ -54,22 +48,22 @@ pub fn unit(
     bases: Bases,
     p: Step,
     run: Run,
-    results: &[Var],
-    args: &[TypedArg],
+    call: &Call<'_>,
 ) -> Result<Step, OutOfMemory>
     requires { run.unit ≡ p.unit }
     ensures ops { OnOk result (ops.new.items ≡ ops.old.items
-        ++ perf_code (frame_of bases) 0 (place_of p) (unit run.rate results.now run.opcode run.reach
-        (picked which.Moving (row_of run.opcode) 0 (map argument args.now)) [])) }
+        ++ perf_code (frame_of bases) 0 (place_of p) (unit call.now.rate call.now.results.now
+        call.now.opcode run.reach
+        (picks_of which.Moving call.now) [])) }
     ensures next { IfOk result (λ q. place_of q
-        ≡ past_stmt (place_of p) (unit run.rate results.now run.opcode run.reach
-        (picked which.Moving (row_of run.opcode) 0 (map argument args.now)) [])) }
+        ≡ past_stmt (place_of p) (unit call.now.rate call.now.results.now call.now.opcode run.reach
+        (picks_of which.Moving call.now) [])) }
 {
     let unit = add(p.unit, 1)?;
-    match run.rate {
+    match call.rate {
         Rate::Init => Ok(Step { part: p.part, unit }),
         Rate::Control | Rate::Audio => {
-            let part = run_unit(alloc, ops, bases, false, p.part, run, results, args)?;
+            let part = run_unit(alloc, ops, bases, false, p.part, run, call)?;
             Ok(Step { part, unit })
         }
     }
@@ -110,17 +104,15 @@ pub fn out(
     ops: &mut Vec<Op>,
     bases: Bases,
     p: Step,
-    opcode: Opcode,
-    args: &[TypedArg],
+    call: &Call<'_>,
 ) -> Result<Step, OutOfMemory>
     ensures ops { OnOk result (ops.new.items ≡ ops.old.items
-        ++ perf_code (frame_of bases) 0 (place_of p) (out rate.Audio (picked which.All
-        (row_of opcode) 0 (map argument args.now)))) }
+        ++ perf_code (frame_of bases) 0 (place_of p) (out rate.Audio (picks_of which.All
+        call.now))) }
     ensures next { IfOk result (λ q. place_of q
-        ≡ past_stmt (place_of p) (out rate.Audio (picked which.All (row_of opcode) 0
-        (map argument args.now)))) }
+        ≡ past_stmt (place_of p) (out rate.Audio (picks_of which.All call.now))) }
 {
-    let found = operands(alloc, ops, bases, false, p.part, Which::All, opcode, args)?;
+    let found = operands(alloc, ops, bases, false, p.part, Which::All, call)?;
     out_ops(ops, &found.regs)?;
     Ok(Step {
         part: found.next,
@@ -134,17 +126,15 @@ pub fn out_at(
     ops: &mut Vec<Op>,
     bases: Bases,
     p: Step,
-    opcode: Opcode,
-    args: &[TypedArg],
+    call: &Call<'_>,
 ) -> Result<Step, OutOfMemory>
     ensures ops { OnOk result (ops.new.items ≡ ops.old.items
-        ++ perf_code (frame_of bases) 0 (place_of p) (out_at rate.Audio (picked which.All
-        (row_of opcode) 0 (map argument args.now)))) }
+        ++ perf_code (frame_of bases) 0 (place_of p) (out_at rate.Audio (picks_of which.All
+        call.now))) }
     ensures next { IfOk result (λ q. place_of q
-        ≡ past_stmt (place_of p) (out_at rate.Audio (picked which.All (row_of opcode) 0
-        (map argument args.now)))) }
+        ≡ past_stmt (place_of p) (out_at rate.Audio (picks_of which.All call.now))) }
 {
-    let found = operands(alloc, ops, bases, false, p.part, Which::All, opcode, args)?;
+    let found = operands(alloc, ops, bases, false, p.part, Which::All, call)?;
     out_at_ops(ops, &found.regs)?;
     Ok(Step {
         part: found.next,

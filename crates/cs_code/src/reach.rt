@@ -1,17 +1,16 @@
 // Which tables, or which zak places, a unit may touch, by the literals among its arguments.
-ghost use Rattle.std.specs.Prelude.{◌≡◌, map, IfOk};
+ghost use Rattle.std.specs.Prelude.{◌≡◌, IfOk};
 ghost use Rattle.cs_ir.specs.Resources.{places_of, takes_table};
-ghost use Rattle.cs_meaning.specs.Core.{whole_below, reach_of, table_reach, place_reach};
-ghost use Rattle.cs_meaning.specs.Core.{span_reach};
+ghost use Rattle.cs_meaning.specs.Core.{whole_below, reach_of};
 ghost use Rattle.cs_typed.specs.TypedTree.{argument, expression};
 ghost use Rattle.cs_words.specs.Catalogue.{row_of};
 ghost use Rattle.cs_code.specs.declared.args.Which.TheVariants as which;
 ghost use Rattle.cs_code.specs.inner.Emitted.{spaces_of, picked, known_at, known_of, table_known};
-ghost use Rattle.cs_code.specs.inner.Emitted.{place_known, span_known, reach_known};
+ghost use Rattle.cs_code.specs.inner.Emitted.{place_known, span_known, reach_known, picks_of};
 ghost use Rattle.std.specs.Prelude.{if◌then◌else◌};
 ghost use Rattle.cs_ir.specs.declared.op.Reach.TheVariants as reach;
 
-use crate::args::{Which, picks};
+use crate::args::{Call, Which, picks};
 use crate::frame::{Zak, add};
 use cs_base::{Num, OutOfMemory};
 use cs_ir::Reach;
@@ -29,16 +28,16 @@ pub enum Known {
 
 /// What a unit may touch.
 #[tactic(auto, using(crate::proofs::Reaches::reach_by_known))]
-pub fn reach_of(zak: Zak, opcode: Opcode, args: &[TypedArg]) -> Result<Reach, OutOfMemory>
-    ensures { IfOk result (λ r. r ≡ reach_of (spaces_of zak) (row_of opcode).shape
-        (takes_table opcode)
-        (picked which.Moving (row_of opcode) 0 (map argument args.now)) (picked which.Settled
-        (row_of opcode) 0 (map argument args.now))) }
+pub fn reach_of(zak: Zak, call: &Call<'_>) -> Result<Reach, OutOfMemory>
+    ensures { IfOk result (λ r. r ≡ reach_of (spaces_of zak) (row_of call.now.opcode).shape
+        (takes_table call.now.opcode)
+        (picks_of which.Moving call.now)
+        (picks_of which.Settled call.now)) }
 {
-    let table = known_at(Which::Settled, opcode, args, 0)?;
-    let first = known_at(Which::Moving, opcode, args, 0)?;
-    let second = known_at(Which::Moving, opcode, args, 1)?;
-    Ok(reach_by(zak, opcode, table, first, second))
+    let table = known_at(Which::Settled, call, 0)?;
+    let first = known_at(Which::Moving, call, 0)?;
+    let second = known_at(Which::Moving, call, 1)?;
+    Ok(reach_by(zak, call.opcode, table, first, second))
 }
 
 // What a unit may touch, by what is known of its first settled argument and of its first two that
@@ -127,20 +126,14 @@ fn span_of(places: usize, first: Known, last: Known) -> Reach
 }
 
 // What is known of one of the arguments that are picked, counted from 0.
-fn known_at(
-    which: Which,
-    opcode: Opcode,
-    args: &[TypedArg],
-    number: usize,
-) -> Result<Known, OutOfMemory>
-    ensures { IfOk result (λ k. k ≡ known_at (picked which (row_of opcode) 0
-        (map argument args.now)) number) }
+fn known_at(which: Which, call: &Call<'_>, number: usize) -> Result<Known, OutOfMemory>
+    ensures { IfOk result (λ k. k ≡ known_at (picks_of which call.now) number) }
 {
     let mut left = number;
     let mut place = 0;
-    for arg in args {
+    for arg in call.args {
         if let TypedArg::Value(e) = arg {
-            if picks(which, opcode, place) {
+            if picks(which, call.opcode, place) {
                 if left == 0 {
                     return Ok(known_of(e));
                 }

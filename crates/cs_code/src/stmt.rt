@@ -1,32 +1,27 @@
-// The code of statements, blocks and arms, for either pass. Each call appends to `ops`, whose first
-// op has the place `first`.
-ghost use Rattle.std.specs.Prelude.{◌≡◌, ◌+◌, ◌++◌, map, length, IfOk, OnOk};
+// The code of statements, blocks and arms, for either pass. Each call appends to `ops`, in which each
+// op stands at its place from the first on.
+ghost use Rattle.std.specs.Prelude.{◌≡◌, ◌++◌, ◌∷◌, [], length, IfOk, OnOk};
 ghost use Rattle.cs_meaning.specs.Core.{core, core_stmt, core_arms};
 ghost use Rattle.cs_meaning.specs.Notes.{past, past_parts, past_stmt, past_block, past_arms};
 ghost use Rattle.cs_typed.specs.TypedTree as typed;
 ghost use Rattle.cs_typed.specs.declared.tree.TypedArm.{out-TypedArm};
 ghost use Rattle.cs_code.specs.inner.Code.{all_code, init_block_code};
 ghost use Rattle.cs_code.specs.inner.Emitted.{frame_of, place_of, spaces_of, pass_code};
-ghost use Rattle.cs_code.specs.inner.Emitted.{pass_block_code, chosen_code, cond_code, cond_reg};
-ghost use Rattle.cs_code.specs.inner.Emitted.{branch_of, past_branch, after, chain};
+ghost use Rattle.cs_code.specs.inner.Emitted.{pass_block_code, cond_code, cond_reg};
 ghost use Rattle.cs_code.specs.inner.Emitted.{each_arm_code, takes_all};
+ghost use Rattle.cs_code.specs.inner.Branches.{joined, opened, jump_at, jumps, branch_of};
+ghost use Rattle.cs_code.specs.inner.Branches.{branches, past_arm, past_list};
 
+use crate::args::Call;
 use crate::call::{assign, call};
 use crate::expr::{keep, operand};
-use crate::frame::{Layout, Pass, Spot, Step, add, kept_reg};
-use crate::pieces::{Piece, join, past_piece};
+use crate::frame::{Layout, Pass, Spot, Step, kept_reg, push};
+use crate::jumps::{aim, aim_all};
+use crate::value::{Sum, Value};
 use cs_base::{OutOfMemory, Rate};
-use cs_ir::Op;
+use cs_ir::{Act, Op, Operands};
 use cs_typed::{TypedArm, TypedExpr, TypedStmt, TypedWhat};
 use std::alloc::Global;
-
-/// Arms of which each is made, the place after them, and what was met before it.
-#[derive(Drop)]
-struct Pieces {
-    pieces: Vec<Piece>,
-    here: usize,
-    next: Step,
-}
 
 /// The code of statements, and what was met before its end.
 #[derive(Drop)]
@@ -35,11 +30,22 @@ pub struct Body {
     pub next: Step,
 }
 
-/// An arm that is made, and what was met before its end.
-#[derive(Drop)]
-struct Made {
-    piece: Piece,
-    next: Step,
+/// The code of the statements of a note.
+pub fn body_of(
+    alloc: Global,
+    layout: Layout,
+    pass: Pass,
+    p: Step,
+    stmts: &[TypedStmt],
+) -> Result<Body, OutOfMemory>
+    ensures ops { IfOk result (λ m. m.ops.items ≡ pass_block_code pass (frame_of layout.bases) 0
+        (place_of p) (core (spaces_of layout.zak) (typed.block stmts.now))) }
+    ensures next { IfOk result (λ m. place_of m.next
+        ≡ past_block (place_of p) (core (spaces_of layout.zak) (typed.block stmts.now))) }
+{
+    let mut ops = Vec::new(alloc);
+    let next = block(alloc, &mut ops, layout, pass, p, stmts)?;
+    Ok(Body { ops, next })
 }
 
 /// The code of the statements of a block; answers what was met before its end.
@@ -50,19 +56,18 @@ pub fn block(
     ops: &mut Vec<Op>,
     layout: Layout,
     pass: Pass,
-    first: usize,
     p: Step,
     stmts: &[TypedStmt],
 ) -> Result<Step, OutOfMemory>
     ensures ops { OnOk result (ops.new.items ≡ ops.old.items
-        ++ pass_block_code pass (frame_of layout.bases) (first + length ops.old.items) (place_of p)
+        ++ pass_block_code pass (frame_of layout.bases) (length ops.old.items) (place_of p)
         (core (spaces_of layout.zak) (typed.block stmts.now))) }
     ensures next { IfOk result (λ q. place_of q
         ≡ past_block (place_of p) (core (spaces_of layout.zak) (typed.block stmts.now))) }
 {
     let mut next = p;
     for s in stmts {
-        next = stmt(alloc, ops, layout, pass, first, next, s)?;
+        next = stmt(alloc, ops, layout, pass, next, s)?;
     }
     Ok(next)
 }
@@ -75,43 +80,44 @@ fn stmt(
     ops: &mut Vec<Op>,
     layout: Layout,
     pass: Pass,
-    first: usize,
     p: Step,
     s: &TypedStmt,
 ) -> Result<Step, OutOfMemory>
     ensures ops { OnOk result (ops.new.items ≡ ops.old.items
-        ++ pass_code pass (frame_of layout.bases) (first + length ops.old.items) (place_of p)
+        ++ pass_code pass (frame_of layout.bases) (length ops.old.items) (place_of p)
         (core_stmt (spaces_of layout.zak) (typed.statement s.now))) }
     ensures next { IfOk result (λ q. place_of q
         ≡ past_stmt (place_of p) (core_stmt (spaces_of layout.zak) (typed.statement s.now))) }
 {
     match &s.what {
-        TypedWhat::Set(v, e) => assign(ops, layout.bases, pass, p, s.rate, *v, s.rate, None, e),
+        TypedWhat::Set(v, e) => assign(ops, layout.bases, pass, p, s.rate, *v, &Value::Of(e)),
         TypedWhat::AddTo(v, e) => {
-            assign(ops, layout.bases, pass, p, s.rate, *v, s.rate, Some(*v), e)
+            let sum = Sum {
+                rate: s.rate,
+                first: *v,
+                second: e,
+            };
+            assign(ops, layout.bases, pass, p, s.rate, *v, &Value::Added(sum))
         }
         TypedWhat::Call(results, opcode, args) => {
-            call(
-                alloc,
-                ops,
-                layout,
-                pass,
-                p,
-                s.rate,
-                results.as_slice(),
-                *opcode,
+            let made = Call {
+                rate: s.rate,
+                results: results.as_slice(),
+                opcode: *opcode,
                 args,
-            )
+            };
+            call(alloc, ops, layout, pass, p, &made)
         }
         TypedWhat::Choose(arms, els) => {
             if takes_all(pass, s.rate) {
-                let next = each_arm(alloc, ops, layout, first, p, arms)?;
-                block(alloc, ops, layout, Pass::Initialisation, first, next, els)
+                let next = each_arm(alloc, ops, layout, p, arms)?;
+                block(alloc, ops, layout, Pass::Initialisation, next, els)
             } else {
-                let place = add(first, ops.len())?;
-                let made = pieces_of(alloc, layout, pass, place, p, arms)?;
-                let rest = body_of(alloc, layout, pass, made.here, made.next, els)?;
-                close(ops, place, made, rest)
+                let mut ends = Vec::new(alloc);
+                let last = arms_of(alloc, ops, layout, pass, p, arms, &mut ends)?;
+                let done = block(alloc, ops, layout, pass, last, els)?;
+                aim_all(ops, &ends);
+                Ok(done)
             }
         }
     }
@@ -128,112 +134,69 @@ fn takes_all(pass: Pass, rate: Rate) -> bool
     }
 }
 
-// Appends arms of which one is done, and the statements after `else`.
-fn close(ops: &mut Vec<Op>, place: usize, made: Pieces, rest: Body) -> Result<Step, OutOfMemory>
-    requires { made.here ≡ after place (map branch_of made.pieces.items) }
-    ensures ops { OnOk result (ops.new.items ≡ ops.old.items
-        ++ chain place (map branch_of made.pieces.items) rest.ops.items) }
-    ensures next { IfOk result (λ q. place_of q ≡ place_of rest.next) }
-{
-    let end = add(made.here, rest.ops.len())?;
-    join(ops, place, made.pieces, end, rest.ops)?;
-    Ok(rest.next)
-}
-
-/// The code of statements that begin at a place.
+// Arms of which one is done, each of which ends with a jump; no end is known yet, and `ends` takes
+// the places of the jumps.
 #[cycle(stmt)]
-pub fn body_of(
+#[tactic(auto, using(crate::proofs::Lists::append_nothing))]
+fn arms_of(
     alloc: Global,
+    ops: &mut Vec<Op>,
     layout: Layout,
     pass: Pass,
-    place: usize,
-    p: Step,
-    stmts: &[TypedStmt],
-) -> Result<Body, OutOfMemory>
-    ensures ops { IfOk result (λ m. m.ops.items
-        ≡ pass_block_code pass (frame_of layout.bases) place (place_of p) (core
-        (spaces_of layout.zak) (typed.block stmts.now))) }
-    ensures next { IfOk result (λ m. place_of m.next
-        ≡ past_block (place_of p) (core (spaces_of layout.zak) (typed.block stmts.now))) }
-{
-    let mut ops = Vec::new(alloc);
-    let next = block(alloc, &mut ops, layout, pass, place, p, stmts)?;
-    Ok(Body { ops, next })
-}
-
-// The arms of an `if` of which one is done.
-#[cycle(stmt)]
-fn pieces_of(
-    alloc: Global,
-    layout: Layout,
-    pass: Pass,
-    place: usize,
     p: Step,
     arms: &[TypedArm],
-) -> Result<Pieces, OutOfMemory>
-    ensures ops { IfOk result (λ m. (els : typed.Block)
-        → chain place (map branch_of m.pieces.items) (pass_block_code pass
-        (frame_of layout.bases) m.here (place_of m.next) (core (spaces_of layout.zak) els))
-        ≡ chosen_code pass (frame_of layout.bases) place (place_of p) (core_arms
-        (spaces_of layout.zak) (typed.arms els arms.now))) }
-    ensures here { IfOk result (λ m. m.here ≡ after place (map branch_of m.pieces.items)) }
-    ensures next { IfOk result (λ m. (els : typed.Block)
-        → past_block (place_of m.next) (core (spaces_of layout.zak) els)
-        ≡ past_arms (place_of p) (core_arms (spaces_of layout.zak) (typed.arms els arms.now))) }
+    ends: &mut Vec<usize>,
+) -> Result<Step, OutOfMemory>
+    ensures ops { OnOk result (ops.new.items ≡ ops.old.items
+        ++ opened (length ops.old.items) (branches pass (frame_of layout.bases)
+        (spaces_of layout.zak) (length ops.old.items) (place_of p) arms.now)) }
+    ensures ends { OnOk result (ends.new.items ≡ ends.old.items
+        ++ jumps (length ops.old.items) (branches pass (frame_of layout.bases)
+        (spaces_of layout.zak) (length ops.old.items) (place_of p) arms.now)) }
+    ensures next { IfOk result (λ q. place_of q
+        ≡ past_list (spaces_of layout.zak) (place_of p) arms.now) }
 {
-    let mut pieces = Vec::new(alloc);
-    let mut here = place;
     let mut next = p;
     for a in arms {
-        let made = piece_of(alloc, layout, pass, here, next, a)?;
-        here = past_piece(here, &made.piece)?;
-        next = made.next;
-        pieces.push(made.piece)?;
+        next = arm(alloc, ops, layout, pass, next, a, ends)?;
     }
-    Ok(Pieces { pieces, here, next })
+    Ok(next)
 }
 
-// One of them.
+// One of them: its condition, a jump past its body where that doesn't hold, its body, and the jump
+// past the others.
 #[cycle(stmt)]
-fn piece_of(
+fn arm(
     alloc: Global,
+    ops: &mut Vec<Op>,
     layout: Layout,
     pass: Pass,
-    place: usize,
     p: Step,
     arm: &TypedArm,
-) -> Result<Made, OutOfMemory>
-    ensures cond { IfOk result (λ m. m.piece.cond.items
-        ≡ cond_code pass (frame_of layout.bases) p.part (typed.expression
-        (out-TypedArm arm.now).cond)) }
-    ensures holds { IfOk result (λ m. m.piece.holds
-        ≡ cond_reg pass (frame_of layout.bases) p.part (typed.expression
-        (out-TypedArm arm.now).cond)) }
-    ensures body { IfOk result (λ m. m.piece.body.items
-        ≡ pass_block_code pass (frame_of layout.bases) (place + length m.piece.cond.items + 1)
-        (past_parts (past p.part (typed.expression (out-TypedArm arm.now).cond)) (place_of p)) (core
-        (spaces_of layout.zak) (typed.block (out-TypedArm arm.now).body.items))) }
-    ensures next { IfOk result (λ m. place_of m.next
-        ≡ past_block (past_parts (past p.part (typed.expression (out-TypedArm arm.now).cond))
-        (place_of p))
-        (core (spaces_of layout.zak) (typed.block (out-TypedArm arm.now).body.items))) }
+    ends: &mut Vec<usize>,
+) -> Result<Step, OutOfMemory>
+    ensures ops { OnOk result (ops.new.items ≡ ops.old.items
+        ++ joined (length ops.old.items) (branch_of pass (frame_of layout.bases)
+        (spaces_of layout.zak) (length ops.old.items) (place_of p) arm.now) 0) }
+    ensures ends { OnOk result (ends.new.items ≡ ends.old.items
+        ++ jump_at (length ops.old.items) (branch_of pass (frame_of layout.bases)
+        (spaces_of layout.zak) (length ops.old.items) (place_of p) arm.now) ∷ []) }
+    ensures next { IfOk result (λ q. place_of q
+        ≡ past_arm (spaces_of layout.zak) (place_of p) arm.now) }
 {
-    let mut cond = Vec::new(alloc);
-    let spot = condition(&mut cond, layout, pass, p.part, &arm.cond)?;
+    let spot = condition(ops, layout, pass, p.part, &arm.cond)?;
+    let test = ops.len();
+    push(ops, Act::Unless(0), spot.reg, Operands::one(spot.reg))?;
     let at = Step {
         part: spot.next,
         unit: p.unit,
     };
-    let place = add(add(place, cond.len())?, 1)?;
-    let body = body_of(alloc, layout, pass, place, at, &arm.body)?;
-    Ok(Made {
-        piece: Piece {
-            cond,
-            holds: spot.reg,
-            body: body.ops,
-        },
-        next: body.next,
-    })
+    let next = block(alloc, ops, layout, pass, at, &arm.body)?;
+    ends.push(ops.len())?;
+    push(ops, Act::Jump(0), spot.reg, Operands::none())?;
+    let past = ops.len();
+    aim(ops, test, Act::Unless(past));
+    Ok(next)
 }
 
 // The condition of an arm.
@@ -265,14 +228,13 @@ fn each_arm(
     alloc: Global,
     ops: &mut Vec<Op>,
     layout: Layout,
-    first: usize,
     p: Step,
     arms: &[TypedArm],
 ) -> Result<Step, OutOfMemory>
     ensures ops { IfOk result (λ q. (els : typed.Block)
-        → ops.new.items ++ init_block_code (frame_of layout.bases) (first + length ops.new.items)
+        → ops.new.items ++ init_block_code (frame_of layout.bases) (length ops.new.items)
         (place_of q) (core (spaces_of layout.zak) els)
-        ≡ ops.old.items ++ all_code (frame_of layout.bases) (first + length ops.old.items)
+        ≡ ops.old.items ++ all_code (frame_of layout.bases) (length ops.old.items)
         (place_of p) (core_arms (spaces_of layout.zak) (typed.arms els arms.now))) }
     ensures next { IfOk result (λ q. (els : typed.Block)
         → past_block (place_of q) (core (spaces_of layout.zak) els)
@@ -280,7 +242,7 @@ fn each_arm(
 {
     let mut next = p;
     for a in arms {
-        next = one_arm(alloc, ops, layout, first, next, a)?;
+        next = one_arm(alloc, ops, layout, next, a)?;
     }
     Ok(next)
 }
@@ -291,12 +253,11 @@ fn one_arm(
     alloc: Global,
     ops: &mut Vec<Op>,
     layout: Layout,
-    first: usize,
     p: Step,
     arm: &TypedArm,
 ) -> Result<Step, OutOfMemory>
     ensures ops { OnOk result (ops.new.items ≡ ops.old.items
-        ++ each_arm_code (frame_of layout.bases) (first + length ops.old.items) (place_of p)
+        ++ each_arm_code (frame_of layout.bases) (length ops.old.items) (place_of p)
         (typed.expression (out-TypedArm arm.now).cond) (core (spaces_of layout.zak) (typed.block
         (out-TypedArm arm.now).body.items))) }
     ensures next { IfOk result (λ q. place_of q
@@ -306,13 +267,5 @@ fn one_arm(
 {
     let part = keep(ops, layout.bases, p.part, &arm.cond)?;
     let at = Step { part, unit: p.unit };
-    block(
-        alloc,
-        ops,
-        layout,
-        Pass::Initialisation,
-        first,
-        at,
-        &arm.body,
-    )
+    block(alloc, ops, layout, Pass::Initialisation, at, &arm.body)
 }

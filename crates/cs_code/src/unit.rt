@@ -1,50 +1,38 @@
 // The code of units.
-ghost use Rattle.std.specs.Prelude.{◌≡◌, ◌+◌, ◌++◌, [], ◌∷◌, map, IfOk, OnOk};
-ghost use Rattle.cs_ir.specs.Units.{is_started};
+ghost use Rattle.std.specs.Prelude.{◌≡◌, ◌+◌, ◌++◌, [], ◌∷◌, IfOk, OnOk};
 ghost use Rattle.cs_meaning.specs.Notes.{past_all};
-ghost use Rattle.cs_typed.specs.TypedTree.{argument};
-ghost use Rattle.cs_words.specs.Catalogue.{row_of};
 ghost use Rattle.cs_code.specs.declared.args.Which.TheVariants as which;
 ghost use Rattle.cs_code.specs.inner.Code.{start_code, unit_code, target, given_code};
-ghost use Rattle.cs_code.specs.inner.Emitted.{frame_of, picked};
+ghost use Rattle.cs_code.specs.inner.Emitted.{frame_of, picks_of};
 
-use crate::args::{Which, operands};
+use crate::args::{Call, Which, operands};
 use crate::frame::{Bases, push, temp};
 use cs_base::{OutOfMemory, Rate};
-use cs_ir::{Act, Op, Operands, Reach, Reg};
-use cs_typed::{TypedArg, Var};
-use cs_words::{Opcode, Shape, signature_of};
+use cs_ir::{Act, Op, Operands, Reach, Reg, is_started};
+use cs_typed::Var;
+use cs_words::signature_of;
 use std::alloc::Global;
-
-fn is_started(shape: Shape) -> bool
-    ensures { result ≡ is_started shape }
-{
-    matches!(shape, Shape::Unit | Shape::Store)
-}
 
 /// A unit is started with its settled arguments, where it has a state.
 pub fn start_unit(
     alloc: Global,
     ops: &mut Vec<Op>,
     bases: Bases,
-    rate: Rate,
-    opcode: Opcode,
     unit: usize,
-    args: &[TypedArg],
+    call: &Call<'_>,
 ) -> Result<(), OutOfMemory>
     ensures { OnOk result (ops.new.items ≡ ops.old.items
-        ++ start_code (frame_of bases) rate opcode unit (picked which.Settled (row_of opcode) 0
-        (map argument args.now))) }
+        ++ start_code (frame_of bases) call.now.rate call.now.opcode unit (picks_of which.Settled
+        call.now)) }
 {
-    if is_started(signature_of(opcode).shape()) {
-        let found = operands(alloc, ops, bases, true, 0, Which::Settled, opcode, args)?;
-        let into = Reg { rate, index: 0 };
-        push(
-            ops,
-            Act::Start(opcode, unit),
-            into,
-            Operands::from_vec(found.regs),
-        )
+    if is_started(signature_of(call.opcode).shape()) {
+        let found = operands(alloc, ops, bases, true, 0, Which::Settled, call)?;
+        let into = Reg {
+            rate: call.rate,
+            index: 0,
+        };
+        let act = Act::Start(call.opcode, unit);
+        push(ops, act, into, Operands::from_vec(found.regs))
     } else {
         Ok(())
     }
@@ -94,13 +82,10 @@ fn give(ops: &mut Vec<Op>, bases: Bases, rate: Rate, results: &[Var]) -> Result<
     }
 }
 
-/// What a unit is and where it runs: its opcode, its number in the text, its rate, and what it may
-/// touch.
+/// A unit: its number in the text, and what it may touch.
 #[derive(Clone, Copy)]
 pub struct Run {
-    pub opcode: Opcode,
     pub unit: usize,
-    pub rate: Rate,
     pub reach: Reach,
 }
 
@@ -112,29 +97,19 @@ pub fn run_unit(
     whole: bool,
     at: usize,
     run: Run,
-    results: &[Var],
-    args: &[TypedArg],
+    call: &Call<'_>,
 ) -> Result<usize, OutOfMemory>
     ensures ops { OnOk result (ops.new.items ≡ ops.old.items
-        ++ unit_code (frame_of bases) whole at run.rate results.now run.opcode run.unit run.reach
-        (picked which.Moving (row_of run.opcode) 0 (map argument args.now))) }
-    ensures next { IfOk result (λ n. n ≡ past_all at (picked which.Moving (row_of run.opcode) 0
-        (map argument args.now))) }
+        ++ unit_code (frame_of bases) whole at call.now.rate call.now.results.now call.now.opcode
+        run.unit
+        run.reach (picks_of which.Moving call.now)) }
+    ensures next { IfOk result (λ n. n ≡ past_all at (picks_of which.Moving call.now)) }
 {
-    let into = target(bases, run.rate, results)?;
-    let found = operands(
-        alloc,
-        ops,
-        bases,
-        whole,
-        at,
-        Which::Moving,
-        run.opcode,
-        args,
-    )?;
+    let into = target(bases, call.rate, call.results)?;
+    let found = operands(alloc, ops, bases, whole, at, Which::Moving, call)?;
     let next = found.next;
-    let act = Act::Unit(run.opcode, run.unit, run.reach);
+    let act = Act::Unit(call.opcode, run.unit, run.reach);
     push(ops, act, into, Operands::from_vec(found.regs))?;
-    give(ops, bases, run.rate, results)?;
+    give(ops, bases, call.rate, call.results)?;
     Ok(next)
 }

@@ -1,13 +1,11 @@
-// The code of a value that a variable takes: an expression, or the sum of what a variable has and
-// an expression.
+// The code of what a variable takes: an expression, or the sum of what a variable has and an expression.
 ghost use Rattle.std.specs.Prelude.{◌≡◌, ◌+◌, ◌++◌, IfOk, OnOk, None};
-ghost use Rattle.cs_meaning.specs.Core.{plus};
 ghost use Rattle.cs_meaning.specs.Notes.{past};
-ghost use Rattle.cs_typed.specs.TypedTree.{expression, var};
+ghost use Rattle.cs_typed.specs.TypedTree.{var};
 ghost use Rattle.cs_typed.specs.WellRated.{node_rate};
 ghost use Rattle.cs_typed.specs.declared.tree.Var.TheVariants.{Local};
 ghost use Rattle.cs_code.specs.inner.Code.{own, code, operand_code, keep_code, kept_code, set_code};
-ghost use Rattle.cs_code.specs.inner.Emitted.{frame_of, with_sum};
+ghost use Rattle.cs_code.specs.inner.Emitted.{frame_of, sum_of, value_of};
 ghost use Rattle.cs_code.specs.inner.Frames.{kept_or, spot};
 
 use crate::expr::{code, keep, operand};
@@ -16,6 +14,21 @@ use cs_base::{OutOfMemory, Rate};
 use cs_ir::{Act, Op, Operands, Reg};
 use cs_typed::{TypedExpr, TypedPart, Var};
 use cs_words::BinOp;
+
+/// What a variable has and an expression are added, at a rate.
+#[derive(Clone, Copy)]
+pub struct Sum<'t> {
+    pub rate: Rate,
+    pub first: Var,
+    pub second: &'t TypedExpr,
+}
+
+/// What a variable takes.
+#[derive(Clone, Copy)]
+pub enum Value<'t> {
+    Of(&'t TypedExpr),
+    Added(Sum<'t>),
+}
 
 // What makes a variable's value stand somewhere.
 fn variable(
@@ -45,25 +58,23 @@ fn sum_own(
     bases: Bases,
     whole: bool,
     at: usize,
-    rate: Rate,
-    v: Var,
-    e: &TypedExpr,
+    sum: &Sum<'_>,
     into: Reg,
     d: usize,
 ) -> Result<usize, OutOfMemory>
     ensures ops { OnOk result (ops.new.items ≡ ops.old.items
-        ++ own (frame_of bases) whole at (plus rate v (expression e.now)) into d) }
-    ensures next { IfOk result (λ n. n ≡ past at (plus rate v (expression e.now))) }
+        ++ own (frame_of bases) whole at (sum_of sum.now) into d) }
+    ensures next { IfOk result (λ n. n ≡ past at (sum_of sum.now)) }
 {
-    let x = variable(ops, bases, whole, at, rate, v, d)?;
-    let y = operand(ops, bases, whole, x.next, e, add(d, 1)?)?;
+    let x = variable(ops, bases, whole, at, sum.rate, sum.first, d)?;
+    let y = operand(ops, bases, whole, x.next, sum.second, add(d, 1)?)?;
     push(
         ops,
         Act::Pair(BinOp::Add),
         into,
         Operands::two(x.reg, y.reg),
     )?;
-    next_of(rate, at, y.next)
+    next_of(sum.rate, at, y.next)
 }
 
 // Where a sum stands already: where it was kept.
@@ -83,24 +94,21 @@ fn sum_operand(
     bases: Bases,
     whole: bool,
     at: usize,
-    rate: Rate,
-    v: Var,
-    e: &TypedExpr,
+    sum: &Sum<'_>,
 ) -> Result<Spot, OutOfMemory>
     ensures ops { OnOk result (ops.new.items ≡ ops.old.items
-        ++ operand_code (frame_of bases) whole at (plus rate v (expression e.now)) 0) }
-    ensures spot { IfOk result (λ s. s.reg ≡ spot (frame_of bases) whole at (plus rate v
-        (expression e.now)) 0) }
-    ensures next { IfOk result (λ s. s.next ≡ past at (plus rate v (expression e.now))) }
+        ++ operand_code (frame_of bases) whole at (sum_of sum.now) 0) }
+    ensures spot { IfOk result (λ s. s.reg ≡ spot (frame_of bases) whole at (sum_of sum.now) 0) }
+    ensures next { IfOk result (λ s. s.next ≡ past at (sum_of sum.now)) }
 {
-    match sum_direct(bases, whole, rate, at)? {
+    match sum_direct(bases, whole, sum.rate, at)? {
         Some(reg) => Ok(Spot {
             reg,
-            next: next_of(rate, at, at)?,
+            next: next_of(sum.rate, at, at)?,
         }),
         None => {
-            let reg = temp(bases, rate, 0)?;
-            let next = sum_own(ops, bases, whole, at, rate, v, e, reg, add(0, 1)?)?;
+            let reg = temp(bases, sum.rate, 0)?;
+            let next = sum_own(ops, bases, whole, at, sum, reg, add(0, 1)?)?;
             Ok(Spot { reg, next })
         }
     }
@@ -112,56 +120,40 @@ fn sum_code(
     bases: Bases,
     whole: bool,
     at: usize,
-    rate: Rate,
-    v: Var,
-    e: &TypedExpr,
+    sum: &Sum<'_>,
     into: Reg,
 ) -> Result<usize, OutOfMemory>
     ensures ops { OnOk result (ops.new.items ≡ ops.old.items
-        ++ code (frame_of bases) whole at (plus rate v (expression e.now)) into 0) }
-    ensures next { IfOk result (λ n. n ≡ past at (plus rate v (expression e.now))) }
+        ++ code (frame_of bases) whole at (sum_of sum.now) into 0) }
+    ensures next { IfOk result (λ n. n ≡ past at (sum_of sum.now)) }
 {
-    match sum_direct(bases, whole, rate, at)? {
+    match sum_direct(bases, whole, sum.rate, at)? {
         Some(reg) => {
             push(ops, Act::Copy, into, Operands::one(reg))?;
-            next_of(rate, at, at)
+            next_of(sum.rate, at, at)
         }
-        None => sum_own(ops, bases, whole, at, rate, v, e, into, 0),
+        None => sum_own(ops, bases, whole, at, sum, into, 0),
     }
 }
 
-fn sum_kept(
-    ops: &mut Vec<Op>,
-    bases: Bases,
-    at: usize,
-    rate: Rate,
-    v: Var,
-    e: &TypedExpr,
-) -> Result<usize, OutOfMemory>
+fn sum_kept(ops: &mut Vec<Op>, bases: Bases, at: usize, sum: &Sum<'_>) -> Result<usize, OutOfMemory>
     ensures ops { OnOk result (ops.new.items ≡ ops.old.items
-        ++ kept_code (frame_of bases) at (plus rate v (expression e.now))) }
+        ++ kept_code (frame_of bases) at (sum_of sum.now)) }
     ensures next { IfOk result (λ n. n ≡ at + 1) }
 {
-    sum_code(ops, bases, true, 0, rate, v, e, kept_reg(bases, at)?)?;
+    sum_code(ops, bases, true, 0, sum, kept_reg(bases, at)?)?;
     add(at, 1)
 }
 
 // The kept parts of a sum.
-fn sum_keep(
-    ops: &mut Vec<Op>,
-    bases: Bases,
-    at: usize,
-    rate: Rate,
-    v: Var,
-    e: &TypedExpr,
-) -> Result<usize, OutOfMemory>
+fn sum_keep(ops: &mut Vec<Op>, bases: Bases, at: usize, sum: &Sum<'_>) -> Result<usize, OutOfMemory>
     ensures ops { OnOk result (ops.new.items ≡ ops.old.items
-        ++ keep_code (frame_of bases) at (plus rate v (expression e.now))) }
-    ensures next { IfOk result (λ n. n ≡ past at (plus rate v (expression e.now))) }
+        ++ keep_code (frame_of bases) at (sum_of sum.now)) }
+    ensures next { IfOk result (λ n. n ≡ past at (sum_of sum.now)) }
 {
-    match rate {
-        Rate::Init => sum_kept(ops, bases, at, rate, v, e),
-        Rate::Control | Rate::Audio => keep(ops, bases, at, e),
+    match sum.rate {
+        Rate::Init => sum_kept(ops, bases, at, sum),
+        Rate::Control | Rate::Audio => keep(ops, bases, at, sum.second),
     }
 }
 
@@ -170,28 +162,26 @@ pub fn keep_value(
     ops: &mut Vec<Op>,
     bases: Bases,
     at: usize,
-    rate: Rate,
-    plus: Option<Var>,
-    e: &TypedExpr,
+    value: &Value<'_>,
 ) -> Result<usize, OutOfMemory>
     ensures ops { OnOk result (ops.new.items ≡ ops.old.items
-        ++ keep_code (frame_of bases) at (with_sum rate plus (expression e.now))) }
-    ensures next { IfOk result (λ n. n ≡ past at (with_sum rate plus (expression e.now))) }
+        ++ keep_code (frame_of bases) at (value_of value.now)) }
+    ensures next { IfOk result (λ n. n ≡ past at (value_of value.now)) }
 {
-    match plus {
-        None => keep(ops, bases, at, e),
-        Some(v) => sum_keep(ops, bases, at, rate, v, e),
+    match value {
+        Value::Of(e) => keep(ops, bases, at, e),
+        Value::Added(sum) => sum_keep(ops, bases, at, sum),
     }
 }
 
 // How often a value changes.
 #[tactic(auto, using(crate::proofs::Nodes::rate_of_part))]
-fn rate_of(rate: Rate, plus: Option<Var>, e: &TypedExpr) -> Rate
-    ensures { result ≡ node_rate (with_sum rate plus (expression e.now)) }
+fn rate_of(value: &Value<'_>) -> Rate
+    ensures { result ≡ node_rate (value_of value.now) }
 {
-    match plus {
-        None => e.rate,
-        Some(_) => rate,
+    match value {
+        Value::Of(e) => e.rate,
+        Value::Added(sum) => sum.rate,
     }
 }
 
@@ -200,19 +190,16 @@ fn value_operand(
     bases: Bases,
     whole: bool,
     at: usize,
-    rate: Rate,
-    plus: Option<Var>,
-    e: &TypedExpr,
+    value: &Value<'_>,
 ) -> Result<Spot, OutOfMemory>
     ensures ops { OnOk result (ops.new.items ≡ ops.old.items
-        ++ operand_code (frame_of bases) whole at (with_sum rate plus (expression e.now)) 0) }
-    ensures spot { IfOk result (λ s. s.reg ≡ spot (frame_of bases) whole at (with_sum rate plus
-        (expression e.now)) 0) }
-    ensures next { IfOk result (λ s. s.next ≡ past at (with_sum rate plus (expression e.now))) }
+        ++ operand_code (frame_of bases) whole at (value_of value.now) 0) }
+    ensures spot { IfOk result (λ s. s.reg ≡ spot (frame_of bases) whole at (value_of value.now) 0) }
+    ensures next { IfOk result (λ s. s.next ≡ past at (value_of value.now)) }
 {
-    match plus {
-        None => operand(ops, bases, whole, at, e, 0),
-        Some(v) => sum_operand(ops, bases, whole, at, rate, v, e),
+    match value {
+        Value::Of(e) => operand(ops, bases, whole, at, e, 0),
+        Value::Added(sum) => sum_operand(ops, bases, whole, at, sum),
     }
 }
 
@@ -221,18 +208,16 @@ fn value_code(
     bases: Bases,
     whole: bool,
     at: usize,
-    rate: Rate,
-    plus: Option<Var>,
-    e: &TypedExpr,
     into: Reg,
+    value: &Value<'_>,
 ) -> Result<usize, OutOfMemory>
     ensures ops { OnOk result (ops.new.items ≡ ops.old.items
-        ++ code (frame_of bases) whole at (with_sum rate plus (expression e.now)) into 0) }
-    ensures next { IfOk result (λ n. n ≡ past at (with_sum rate plus (expression e.now))) }
+        ++ code (frame_of bases) whole at (value_of value.now) into 0) }
+    ensures next { IfOk result (λ n. n ≡ past at (value_of value.now)) }
 {
-    match plus {
-        None => code(ops, bases, whole, at, e, into),
-        Some(v) => sum_code(ops, bases, whole, at, rate, v, e, into),
+    match value {
+        Value::Of(e) => code(ops, bases, whole, at, e, into),
+        Value::Added(sum) => sum_code(ops, bases, whole, at, sum, into),
     }
 }
 
@@ -243,27 +228,18 @@ pub fn set(
     whole: bool,
     at: usize,
     to: Var,
-    rate: Rate,
-    plus: Option<Var>,
-    e: &TypedExpr,
+    value: &Value<'_>,
 ) -> Result<usize, OutOfMemory>
     ensures ops { OnOk result (ops.new.items ≡ ops.old.items
-        ++ set_code (frame_of bases) whole at to (with_sum rate plus (expression e.now))) }
-    ensures next { IfOk result (λ n. n ≡ past at (with_sum rate plus (expression e.now))) }
+        ++ set_code (frame_of bases) whole at to (value_of value.now)) }
+    ensures next { IfOk result (λ n. n ≡ past at (value_of value.now)) }
 {
     match to {
-        Var::Local(own, index) => set_local(
-            ops,
-            bases,
-            whole,
-            at,
-            Reg { rate: own, index },
-            rate,
-            plus,
-            e,
-        ),
+        Var::Local(own, index) => {
+            set_local(ops, bases, whole, at, Reg { rate: own, index }, value)
+        }
         Var::Global(res) => {
-            let spot = value_operand(ops, bases, whole, at, rate, plus, e)?;
+            let spot = value_operand(ops, bases, whole, at, value)?;
             push(ops, Act::Save(res), spot.reg, Operands::one(spot.reg))?;
             Ok(spot.next)
         }
@@ -276,19 +252,16 @@ fn set_local(
     whole: bool,
     at: usize,
     to: Reg,
-    rate: Rate,
-    plus: Option<Var>,
-    e: &TypedExpr,
+    value: &Value<'_>,
 ) -> Result<usize, OutOfMemory>
     ensures ops { OnOk result (ops.new.items ≡ ops.old.items
-        ++ set_code (frame_of bases) whole at (Local to.rate to.index) (with_sum rate plus
-        (expression e.now))) }
-    ensures next { IfOk result (λ n. n ≡ past at (with_sum rate plus (expression e.now))) }
+        ++ set_code (frame_of bases) whole at (Local to.rate to.index) (value_of value.now)) }
+    ensures next { IfOk result (λ n. n ≡ past at (value_of value.now)) }
 {
-    if rate_of(rate, plus, e).same(to.rate) {
-        value_code(ops, bases, whole, at, rate, plus, e, to)
+    if rate_of(value).same(to.rate) {
+        value_code(ops, bases, whole, at, to, value)
     } else {
-        let spot = value_operand(ops, bases, whole, at, rate, plus, e)?;
+        let spot = value_operand(ops, bases, whole, at, value)?;
         push(ops, Act::Copy, to, Operands::one(spot.reg))?;
         Ok(spot.next)
     }

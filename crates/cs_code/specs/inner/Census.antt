@@ -5,6 +5,7 @@ use Rattle.cs_base.specs.declared.resource.Rate.TheVariants as rate
 use Rattle.cs_meaning.specs.Core.{Block}
 use Rattle.cs_typed.specs.TypedTree as typed
 use Rattle.cs_code.specs.declared.census.Limits.{Limits}
+use Rattle.cs_code.specs.declared.frame.Bases.{Bases}
 use Rattle.cs_code.specs.inner.Frames.{Frame}
 use Rattle.cs_code.specs.inner.Limits.{var_limit, vars_limit, expr_limit, block_limit, parts_of}
 
@@ -40,6 +41,15 @@ abbrev mutual
   pub typed_arms_limit : Rate → typed.Arms → ℕ
   typed_arms_limit r (typed.otherwise b) = typed_block_limit r b
   typed_arms_limit r (typed.arm c b rest) = max (expr_limit r c) (max (typed_block_limit r b) (typed_arms_limit r rest))
+
+-- where the temporaries of a block's performance begin, which has none of rate Init
+abbrev pub first_bases : typed.Block → Bases
+first_bases t = record {
+  kept = typed_block_limit rate.Init t;
+  init = 0;
+  control = typed_block_limit rate.Control t;
+  audio = typed_block_limit rate.Audio t;
+}
 
 -- A frame has room for a block: its temporaries stand beyond all local variables, and its kept values between these.
 pub record Roomy (f : Frame) (b : Block) : Type 0 where

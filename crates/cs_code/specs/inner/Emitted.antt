@@ -1,15 +1,14 @@
 -- What the functions that make code work on, in the words of the definitions.
-use Rattle.std.specs.Prelude.{ℕ, Bool, true, false, not, zero, suc, ◌+◌, ◌-◌, ◌&&◌, ◌++◌, List, [], ◌∷◌, length, min, nat_lt, nat_le, Option, Some, None, if◌then◌else◌}
+use Rattle.std.specs.Prelude.{ℕ, Bool, true, false, not, zero, suc, ◌+◌, ◌-◌, ◌&&◌, ◌++◌, List, [], ◌∷◌, length, min, nat_lt, nat_le, Option, Some, None, map, if◌then◌else◌}
 use Rattle.cs_base.specs.Rates.{is_init}
 use Rattle.cs_base.specs.declared.resource.Rate.{Rate}
 use Rattle.cs_base.specs.declared.resource.Rate.TheVariants as rate
 use Rattle.cs_ir.specs.Resources.{Spaces, places_of, takes_table}
-use Rattle.cs_ir.specs.declared.op.Act.TheVariants as act
 use Rattle.cs_ir.specs.declared.op.Op.{Op}
 use Rattle.cs_ir.specs.declared.op.Reach.{Reach}
 use Rattle.cs_ir.specs.declared.op.Reach.TheVariants as reach
 use Rattle.cs_ir.specs.declared.register.Reg.{Reg}
-use Rattle.cs_meaning.specs.Core.{plus, whole_below, moving, settled, reach_of, Stmt, Block, Arms, unit}
+use Rattle.cs_meaning.specs.Core.{plus, core_call, whole_below, moving, settled, reach_of, Stmt, Block, Arms, unit}
 use Rattle.cs_meaning.specs.Notes.{past, past_parts, Place}
 use Rattle.cs_typed.specs.TypedTree as typed
 use Rattle.cs_typed.specs.TypedTree.{Expression, number, var, field, head, neg, pair, pick, apply}
@@ -19,9 +18,9 @@ use Rattle.cs_words.specs.declared.catalogue.Letter.{Letter}
 use Rattle.cs_words.specs.declared.catalogue.Opcode.{Opcode}
 use Rattle.cs_words.specs.declared.catalogue.Shape.{Shape}
 use Rattle.cs_words.specs.declared.catalogue.Shape.TheVariants as shape
+use Rattle.cs_code.specs.declared.args.Call.{Call}
 use Rattle.cs_code.specs.declared.args.Which.{Which}
 use Rattle.cs_code.specs.declared.args.Which.TheVariants as which
-use Rattle.cs_code.specs.declared.pieces.Piece.{Piece}
 use Rattle.cs_code.specs.declared.frame.Bases.{Bases}
 use Rattle.cs_code.specs.declared.frame.Pass.{Pass}
 use Rattle.cs_code.specs.declared.frame.Pass.TheVariants as pass
@@ -29,8 +28,11 @@ use Rattle.cs_code.specs.declared.frame.Step.{Step}
 use Rattle.cs_code.specs.declared.frame.Zak.{Zak}
 use Rattle.cs_code.specs.declared.reach.Known.{Known}
 use Rattle.cs_code.specs.declared.reach.Known.TheVariants as known
-use Rattle.cs_code.specs.inner.Code.{keep_code, operand_code, arm_code, init_code, init_block_code, first_code, perf_code, perf_block_code, perf_arms_code}
-use Rattle.cs_code.specs.inner.Frames.{Frame, op_of, kept_reg, spot}
+use Rattle.cs_code.specs.declared.value.Sum.{Sum}
+use Rattle.cs_code.specs.declared.value.Value.{Value}
+use Rattle.cs_code.specs.declared.value.Value.TheVariants as value
+use Rattle.cs_code.specs.inner.Code.{keep_code, operand_code, init_code, init_block_code, first_code, perf_code, perf_block_code, perf_arms_code}
+use Rattle.cs_code.specs.inner.Frames.{Frame, kept_reg, spot}
 
 -- a frame, from its four numbers
 abbrev pub base_of : Bases → Rate → ℕ
@@ -47,10 +49,13 @@ place_of p = record { part = p.part; unit = p.unit }
 abbrev pub spaces_of : Zak → Spaces
 spaces_of z = record { control = z.control; audio = z.audio }
 
--- a value, or what a variable has and the value added to it
-abbrev pub with_sum : Rate → Option Variable → Expression → Expression
-with_sum r None e = e
-with_sum r (Some v) e = plus r v e
+-- what a variable has and a value are added; and what a variable takes
+abbrev pub sum_of : Sum → Expression
+sum_of s = plus s.rate s.first (typed.expression s.second.now)
+
+abbrev pub value_of : Value → Expression
+value_of (value.Of e) = typed.expression e.now
+value_of (value.Added s) = sum_of s
 
 -- the code of the kept parts of an expression that changes, and the number after theirs
 abbrev pub parts_code : Frame → ℕ → Expression → List Op
@@ -84,6 +89,13 @@ abbrev pub taken : Bool → typed.Argument → List Expression
 taken b (typed.value e) = if b then e ∷ [] else []
 taken b (typed.text v) = []
 
+-- the arguments of a call, and those that are picked
+abbrev pub arguments_of : Call → List typed.Argument
+arguments_of k = map typed.argument k.args.now
+
+abbrev pub picks_of : Which → Call → List Expression
+picks_of w k = picked w (row_of k.opcode) 0 (arguments_of k)
+
 -- what stands in both passes, by the pass
 abbrev pub pass_code : Pass → Frame → ℕ → Place → Stmt → List Op
 pass_code pass.Initialisation f place p s = init_code f place p s
@@ -105,34 +117,6 @@ cond_code pass.Performance f at c = operand_code f false at c 0
 abbrev pub cond_reg : Pass → Frame → ℕ → Expression → Reg
 cond_reg pass.Initialisation f at c = kept_reg f at
 cond_reg pass.Performance f at c = spot f false at c 0
-
--- An arm that is to be joined to others: the code of its condition, where the condition stands, the code of its body.
-pub record Branch : Type 0 where
-  pub cond : List Op
-  pub q : Reg
-  pub body : List Op
-
-abbrev pub branch_of : Piece → Branch
-branch_of p = record { cond = p.cond.items; q = p.holds; body = p.body.items }
-
--- the place after an arm, and after arms
-abbrev pub past_branch : ℕ → Branch → ℕ
-past_branch place b = place + length b.cond + 1 + length b.body + 1
-
-abbrev pub after : ℕ → List Branch → ℕ
-after place [] = place
-after place (b ∷ bs) = after (past_branch place b) bs
-
--- arms joined, and the statements after `else`
-abbrev pub chain : ℕ → List Branch → List Op → List Op
-chain place [] els = els
-chain place (b ∷ bs) els = arm_code place b.cond b.q b.body (chain (past_branch place b) bs els)
-
--- an arm whose jump goes to an end
-abbrev pub joined : ℕ → Branch → ℕ → List Op
-joined place b end =
-    b.cond ++ (op_of (act.Unless (past_branch place b)) b.q (b.q ∷ [])
-    ∷ (b.body ++ (op_of (act.Jump end) b.q [] ∷ [])))
 
 -- an arm that is initialised whatever its condition is
 abbrev pub each_arm_code : Frame → ℕ → Place → Expression → Block → List Op
@@ -181,6 +165,13 @@ plain_unit spaces r vs opcode sh args =
     let xs = moving (row_of opcode) 0 args in let is = settled (row_of opcode) 0 args in
     unit r vs opcode (reach_of spaces sh (takes_table opcode) xs is) xs is
 
+-- what a call is short for by a shape, and where it is a unit
+abbrev pub call_of : Spaces → Call → Shape → Stmt
+call_of o k sh = core_call o k.rate k.results.now k.opcode sh (arguments_of k)
+
+abbrev pub unit_of : Spaces → Call → Stmt
+unit_of o k = plain_unit o k.rate k.results.now k.opcode (row_of k.opcode).shape (arguments_of k)
+
 -- whether the arms of an `if` are all initialised, while nothing is chosen yet
 abbrev pub takes_all : Pass → Rate → Bool
 takes_all pass.Initialisation r = not (is_init r)
@@ -190,3 +181,13 @@ takes_all pass.Performance r = false
 abbrev pub channel_of : List typed.Argument → Option Variable
 channel_of (typed.text c ∷ args) = Some c
 channel_of _ = None
+
+-- the channel that takes a value, and the value, where arguments begin with these
+abbrev pub taken_by : List typed.Argument → Option (Variable × Expression)
+taken_by (typed.value e ∷ typed.text c ∷ args) = Some (c, e)
+taken_by _ = None
+
+-- a channel takes a value, or what it has and a value
+abbrev pub put_shape : Bool → Shape
+put_shape true = shape.ChannelMix
+put_shape false = shape.ChannelPut

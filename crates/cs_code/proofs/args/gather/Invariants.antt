@@ -11,10 +11,10 @@ use Rattle.cs_code.proofs.args.gather.Given as goal
 abbrev pub invariant-loop-arg : goal.invariant-loop-arg
 invariant-loop-arg l =
     (l.place ≡ l.arg-index)
-    × (l.ops.items ++ operands_code (frame_of l.bases) l.whole l.free.next (picked l.which (row_of l.opcode) l.place (map argument
-    (drop l.arg-index l.args))) l.free.d
-    ≡ l.initial.ops.items ++ operands_code (frame_of l.bases) l.whole l.at (picked l.which (row_of l.opcode) 0 (map argument l.args)) 0)
-    × (l.regs.items ++ spots (frame_of l.bases) l.whole l.free.next (picked l.which (row_of l.opcode) l.place (map argument (drop l.arg-index l.args))) l.free.d
-    ≡ l.initial.regs.items ++ spots (frame_of l.bases) l.whole l.at (picked l.which (row_of l.opcode) 0 (map argument l.args)) 0)
-    × (past_all l.free.next (picked l.which (row_of l.opcode) l.place (map argument (drop l.arg-index l.args)))
-    ≡ past_all l.at (picked l.which (row_of l.opcode) 0 (map argument l.args)))
+    × (l.ops.items ++ operands_code (frame_of l.bases) l.whole l.free.next (picked l.which (row_of l.call.opcode) l.place (map argument
+    (drop l.arg-index l.call.args.now))) l.free.d
+    ≡ l.initial.ops.items ++ operands_code (frame_of l.bases) l.whole l.at (picked l.which (row_of l.call.opcode) 0 (map argument l.call.args.now)) 0)
+    × (l.regs.items ++ spots (frame_of l.bases) l.whole l.free.next (picked l.which (row_of l.call.opcode) l.place (map argument (drop l.arg-index l.call.args.now))) l.free.d
+    ≡ l.initial.regs.items ++ spots (frame_of l.bases) l.whole l.at (picked l.which (row_of l.call.opcode) 0 (map argument l.call.args.now)) 0)
+    × (past_all l.free.next (picked l.which (row_of l.call.opcode) l.place (map argument (drop l.arg-index l.call.args.now)))
+    ≡ past_all l.at (picked l.which (row_of l.call.opcode) 0 (map argument l.call.args.now)))

@@ -7,5 +7,5 @@ use Rattle.cs_code.proofs.reach.known_at.Given as goal
 abbrev pub invariant-loop-arg : goal.invariant-loop-arg
 invariant-loop-arg l =
     (l.place ≡ l.arg-index)
-    × (known_at (picked l.which (row_of l.opcode) l.place (map argument (drop l.arg-index l.args))) l.left
-    ≡ known_at (picked l.which (row_of l.opcode) 0 (map argument l.args)) l.number)
+    × (known_at (picked l.which (row_of l.call.opcode) l.place (map argument (drop l.arg-index l.call.args.now))) l.left
+    ≡ known_at (picked l.which (row_of l.call.opcode) 0 (map argument l.call.args.now)) l.number)

@@ -1,0 +1,145 @@
+-- The code of a cycle is the same wherever the temporaries of rate Init begin: it names none of them.
+use Rattle.std.proofs.Common.{◌≡◌, ◌∙◌, ◌+◌, ◌++◌, ℕ, false, List, [], ◌∷◌, length, Option, Some, None, if◌then◌else◌, refl, ap, ap₂}
+use Rattle.cs_base.specs.Rates.{same_rate}
+use Rattle.cs_base.specs.declared.resource.Rate.{Rate}
+use Rattle.cs_base.specs.declared.resource.Rate.TheVariants as rate
+use Rattle.cs_words.specs.declared.catalogue.Opcode.{Opcode}
+use Rattle.cs_ir.specs.Waves.{if_init}
+use Rattle.cs_ir.specs.declared.op.Act.TheVariants as act
+use Rattle.cs_ir.specs.declared.op.Op.{Op}
+use Rattle.cs_ir.specs.declared.op.Reach.{Reach}
+use Rattle.cs_ir.specs.declared.register.Reg.{Reg}
+use Rattle.cs_meaning.specs.Core.{Stmt, Block, Arms, set, unit, out, out_at, ask, turnoff, nothing, choose, no_stmt, andthen, otherwise, arm}
+use Rattle.cs_meaning.specs.Notes.{reg, past, past_parts, past_stmt, past_block, Place}
+use Rattle.cs_typed.specs.TypedTree.{Expression, number, var, field, head, neg, pair, pick, apply}
+use Rattle.cs_typed.specs.WellRated.{node_rate}
+use Rattle.cs_typed.specs.declared.tree.Var.{Var as Variable}
+use Rattle.cs_typed.specs.declared.tree.Var.TheVariants.{Local, Global}
+use Rattle.cs_code.specs.declared.frame.Bases.{Bases}
+use Rattle.cs_code.specs.inner.Code.{unless_there, copied, own, code, operand_code, operands_code, set_code, target, given_code, unit_code, out_ops, out_at_ops, arm_code, perf_code, perf_block_code, perf_arms_code}
+use Rattle.cs_code.specs.inner.Emitted.{frame_of}
+use Rattle.cs_code.specs.inner.Frames.{Frame, op_of, kept_or, local_of, reg_or, temp, spot, spots}
+
+module _ (b : Bases) (n : ℕ) where
+  -- the two frames
+  abbrev F : Frame
+  F = frame_of b
+
+  abbrev G : Frame
+  G = frame_of (record b { init = n })
+
+  spot_by : (r : Rate) (at d : ℕ) (here : Option Reg) → reg_or (kept_or F false r at here) (temp F r d) ≡ reg_or (kept_or G false r at here) (temp G r d)
+  spot_by rate.Init at d here = refl
+  spot_by rate.Control at d here = refl
+  spot_by rate.Audio at d here = refl
+
+  direct_by : (r : Rate) (at : ℕ) (here : Option Reg) → kept_or F false r at here ≡ kept_or G false r at here
+  direct_by rate.Init at here = refl
+  direct_by rate.Control at here = refl
+  direct_by rate.Audio at here = refl
+
+  operand_by : (r : Rate) (at d : ℕ) (here : Option Reg) (k l : Reg → List Op) → ((x : Reg) → k x ≡ l x)
+      → unless_there (kept_or F false r at here) (k (temp F r d)) ≡ unless_there (kept_or G false r at here) (l (temp G r d))
+  operand_by rate.Init at d here k l h = refl
+  operand_by rate.Control at d (Some q) k l h = refl
+  operand_by rate.Control at d None k l h = h (temp F rate.Control d)
+  operand_by rate.Audio at d (Some q) k l h = refl
+  operand_by rate.Audio at d None k l h = h (temp F rate.Audio d)
+
+  same_spot : (at : ℕ) (e : Expression) (d : ℕ) → spot F false at e d ≡ spot G false at e d
+  same_spot at e d = spot_by (node_rate e) at d (local_of e)
+
+  same_spots : (at : ℕ) (es : List Expression) (d : ℕ) → spots F false at es d ≡ spots G false at es d
+  same_spots at [] d = refl
+  same_spots at (e ∷ es) d = ap₂ ◌∷◌ (same_spot at e d) (same_spots (past at e) es (d + 1))
+
+  same_own : (e : Expression) (at : ℕ) (x : Reg) (d : ℕ) → own F false at e x d ≡ own G false at e x d
+  same_own (number r v) at x d = refl
+  same_own (var r v) at x d = refl
+  same_own (field r k) at x d = refl
+  same_own (head r h) at x d = refl
+  same_own (neg r a) at x d =
+      ap₂ ◌++◌ (operand_by (node_rate a) at d (local_of a) (λ w. own F false at a w (d + 1)) (λ w. own G false at a w (d + 1)) (λ w. same_own a at w (d + 1)))
+      (ap (λ q. op_of act.Neg x (q ∷ []) ∷ []) (same_spot at a d))
+  same_own (pair r o y z) at x d =
+      ap₂ ◌++◌ (operand_by (node_rate y) at d (local_of y) (λ w. own F false at y w (d + 1)) (λ w. own G false at y w (d + 1)) (λ w. same_own y at w (d + 1)))
+      (ap₂ ◌++◌ (operand_by (node_rate z) (past at y) (d + 1) (local_of z) (λ w. own F false (past at y) z w ((d + 1) + 1)) (λ w. own G false (past at y) z w ((d + 1) + 1)) (λ w. same_own z (past at y) w ((d + 1) + 1)))
+      (ap₂ (λ p q. op_of (act.Pair o) x (p ∷ q ∷ []) ∷ []) (same_spot at y d) (same_spot (past at y) z (d + 1))))
+  same_own (pick r c y z) at x d =
+      ap₂ ◌++◌ (operand_by (node_rate c) at d (local_of c) (λ w. own F false at c w (d + 1)) (λ w. own G false at c w (d + 1)) (λ w. same_own c at w (d + 1)))
+      (ap₂ ◌++◌ (operand_by (node_rate y) (past at c) (d + 1) (local_of y) (λ w. own F false (past at c) y w ((d + 1) + 1)) (λ w. own G false (past at c) y w ((d + 1) + 1)) (λ w. same_own y (past at c) w ((d + 1) + 1)))
+      (ap₂ ◌++◌ (operand_by (node_rate z) (past (past at c) y) (d + 1 + 1) (local_of z) (λ w. own F false (past (past at c) y) z w ((d + 1 + 1) + 1)) (λ w. own G false (past (past at c) y) z w ((d + 1 + 1) + 1)) (λ w. same_own z (past (past at c) y) w ((d + 1 + 1) + 1)))
+      (ap (λ qs. op_of act.Pick x qs ∷ []) (ap₂ ◌∷◌ (same_spot at c d) (ap₂ ◌∷◌ (same_spot (past at c) y (d + 1))
+      (ap (λ q. q ∷ []) (same_spot (past (past at c) y) z (d + 1 + 1))))))))
+  same_own (apply r g a) at x d =
+      ap₂ ◌++◌ (operand_by (node_rate a) at d (local_of a) (λ w. own F false at a w (d + 1)) (λ w. own G false at a w (d + 1)) (λ w. same_own a at w (d + 1)))
+      (ap (λ q. op_of (act.Call g) x (q ∷ []) ∷ []) (same_spot at a d))
+
+  same_operand : (e : Expression) (at d : ℕ) → operand_code F false at e d ≡ operand_code G false at e d
+  same_operand e at d = operand_by (node_rate e) at d (local_of e) (λ w. own F false at e w (d + 1)) (λ w. own G false at e w (d + 1)) (λ w. same_own e at w (d + 1))
+
+  same_code : (e : Expression) (at : ℕ) (x : Reg) (d : ℕ) → code F false at e x d ≡ code G false at e x d
+  same_code e at x d = ap₂ (λ o l. copied o x l) (direct_by (node_rate e) at (local_of e)) (same_own e at x d)
+
+  same_operands : (es : List Expression) (at d : ℕ) → operands_code F false at es d ≡ operands_code G false at es d
+  same_operands [] at d = refl
+  same_operands (e ∷ es) at d = ap₂ ◌++◌ (same_operand e at d) (same_operands es (past at e) (d + 1))
+
+  same_set : (at : ℕ) (v : Variable) (e : Expression) → set_code F false at v e ≡ set_code G false at v e
+  same_set at (Local q k) e = ap₂ (λ xs ys. if same_rate (node_rate e) q then xs else ys) (same_code e at (reg q k) 0)
+      (ap₂ ◌++◌ (same_operand e at 0) (ap (λ p. op_of act.Copy (reg q k) (p ∷ []) ∷ []) (same_spot at e 0)))
+  same_set at (Global g) e = ap₂ ◌++◌ (same_operand e at 0) (ap (λ p. op_of (act.Save g) p (p ∷ []) ∷ []) (same_spot at e 0))
+
+  -- a unit of a faster rate runs
+  run_by : (r : Rate) (at : ℕ) (vs : List Variable) (opcode : Opcode) (u : ℕ) (reach : Reach) (xs : List Expression)
+      → if_init r [] (unit_code F false at r vs opcode u reach xs) ≡ if_init r [] (unit_code G false at r vs opcode u reach xs)
+  run_by rate.Init at vs opcode u reach xs = refl
+  run_by rate.Control at [] opcode u reach xs =
+      ap₂ (λ l qs. l ++ (op_of (act.Unit opcode u reach) (target F rate.Control []) qs ∷ [])) (same_operands xs at 0) (same_spots at xs 0)
+  run_by rate.Control at (Local q k ∷ vs) opcode u reach xs =
+      ap₂ (λ l qs. l ++ (op_of (act.Unit opcode u reach) (target F rate.Control (Local q k ∷ vs)) qs ∷ given_code F rate.Control (Local q k ∷ vs)))
+      (same_operands xs at 0) (same_spots at xs 0)
+  run_by rate.Control at (Global g ∷ vs) opcode u reach xs =
+      ap₂ (λ l qs. l ++ (op_of (act.Unit opcode u reach) (target F rate.Control (Global g ∷ vs)) qs ∷ given_code F rate.Control (Global g ∷ vs)))
+      (same_operands xs at 0) (same_spots at xs 0)
+  run_by rate.Audio at [] opcode u reach xs =
+      ap₂ (λ l qs. l ++ (op_of (act.Unit opcode u reach) (target F rate.Audio []) qs ∷ [])) (same_operands xs at 0) (same_spots at xs 0)
+  run_by rate.Audio at (Local q k ∷ vs) opcode u reach xs =
+      ap₂ (λ l qs. l ++ (op_of (act.Unit opcode u reach) (target F rate.Audio (Local q k ∷ vs)) qs ∷ given_code F rate.Audio (Local q k ∷ vs)))
+      (same_operands xs at 0) (same_spots at xs 0)
+  run_by rate.Audio at (Global g ∷ vs) opcode u reach xs =
+      ap₂ (λ l qs. l ++ (op_of (act.Unit opcode u reach) (target F rate.Audio (Global g ∷ vs)) qs ∷ given_code F rate.Audio (Global g ∷ vs)))
+      (same_operands xs at 0) (same_spots at xs 0)
+
+  mutual
+    same_stmt : (place : ℕ) (p : Place) (s : Stmt) → perf_code F place p s ≡ perf_code G place p s
+    same_stmt place p (set r v e) = ap (if_init r []) (same_set p.part v e)
+    same_stmt place p (unit r vs opcode reach xs is) = run_by r p.part vs opcode p.unit reach xs
+    same_stmt place p (out r es) = ap₂ (λ l qs. l ++ out_ops 0 qs) (same_operands es p.part 0) (same_spots p.part es 0)
+    same_stmt place p (out_at r es) = ap₂ (λ l qs. l ++ out_at_ops qs) (same_operands es p.part 0) (same_spots p.part es 0)
+    same_stmt place p (ask es) = refl
+    same_stmt place p (turnoff r) = refl
+    same_stmt place p nothing = refl
+    same_stmt place p (choose r arms) = same_arms place p arms
+
+    pub same_block : (place : ℕ) (p : Place) (body : Block) → perf_block_code F place p body ≡ perf_block_code G place p body
+    same_block place p no_stmt = refl
+    same_block place p (andthen s rest) =
+        ap (λ l. l ++ perf_block_code F (place + length l) (past_stmt p s) rest) (same_stmt place p s)
+        ∙ ap (λ l. perf_code G place p s ++ l) (same_block (place + length (perf_code G place p s)) (past_stmt p s) rest)
+
+    same_arms : (place : ℕ) (p : Place) (arms : Arms) → perf_arms_code F place p arms ≡ perf_arms_code G place p arms
+    same_arms place p (otherwise body) = same_block place p body
+    same_arms place p (arm c body rest) =
+        let q : Place = past_parts (past p.part c) p in
+        let after : Place = past_block q body in
+        let test : List Op = operand_code G false p.part c 0 in
+        let there : Reg = spot G false p.part c 0 in
+        let begins : ℕ = place + length test + 1 in
+        let done : List Op = perf_block_code G begins q body in
+        ap (λ l. arm_code place l (spot F false p.part c 0) (perf_block_code F (place + length l + 1) q body)
+        (perf_arms_code F (place + length l + 1 + length (perf_block_code F (place + length l + 1) q body) + 1) after rest)) (same_operand c p.part 0)
+        ∙ ap (λ x. arm_code place test x (perf_block_code F begins q body) (perf_arms_code F (begins + length (perf_block_code F begins q body) + 1) after rest))
+        (same_spot p.part c 0)
+        ∙ ap (λ l. arm_code place test there l (perf_arms_code F (begins + length l + 1) after rest)) (same_block begins q body)
+        ∙ ap (arm_code place test there done) (same_arms (begins + length done + 1) after rest)

@@ -1,0 +1,227 @@
+-- Arms one after another whose jumps are aimed once their end is known.
+use Rattle.std.proofs.Common.{◌≡◌, ◌∙◌, ◌+◌, ◌<◌, ◌≤◌, ◌++◌, ℕ, zero, suc, List, [], ◌∷◌, length, get_or, set, arith, refl, sym, ap}
+use Rattle.std.proofs.lemmas.List.{append_assoc, length-append}
+use Rattle.cs_ir.specs.Resources.{Spaces}
+use Rattle.cs_ir.specs.declared.op.Act.{Act}
+use Rattle.cs_ir.specs.declared.op.Act.TheVariants as act
+use Rattle.cs_ir.specs.declared.op.Op.{Op}
+use Rattle.cs_ir.specs.declared.register.Reg.{Reg}
+use Rattle.cs_meaning.specs.Core.{Block, Arms, arm, core, core_arms}
+use Rattle.cs_meaning.specs.Notes.{Place, past, past_parts, past_block, past_arms}
+use Rattle.cs_typed.specs.TypedTree as typed
+use Rattle.cs_typed.specs.TypedTree.{Expression}
+use Rattle.cs_typed.specs.declared.tree.TypedArm.{TypedArm}
+use Rattle.cs_code.specs.declared.frame.Pass.{Pass}
+use Rattle.cs_code.specs.declared.frame.Pass.TheVariants as pass
+use Rattle.cs_code.specs.inner.Branches.{Branch, past_branch, after, chain, joined, opened, jump_at, jumps, aim, aim_all, condition_of, body_of, past_arm, past_list, branch_of, branches}
+use Rattle.cs_code.specs.inner.Code.{arm_code}
+use Rattle.cs_code.specs.inner.Emitted.{pass_block_code, chosen_code, cond_code, cond_reg}
+use Rattle.cs_code.specs.inner.Frames.{Frame, op_of}
+use Rattle.cs_code.proofs.Chains.{chosen_else}
+
+-- ---- one op that does another act
+
+pub aim_seam : (xs : List Op) (op : Op) (ys : List Op) (what : Act) → aim (length xs) what (xs ++ op ∷ ys) ≡ xs ++ op_of what op.into op.from ∷ ys
+aim_seam [] op ys what = refl
+aim_seam (x ∷ xs) op ys what = ap (λ l. x ∷ l) (aim_seam xs op ys what)
+
+pub aim_set : (ops : List Op) (n : ℕ) (what : Act) (op : Op) → n < length ops → op ≡ get_or ops n op
+    → set ops n (op_of what op.into op.from) ≡ aim n what ops
+aim_set [] n what op low is = absurd (omega arith)
+aim_set (x ∷ ops) zero what op low is = ap (λ y. op_of what y.into y.from ∷ ops) is
+aim_set (x ∷ ops) (suc n) what op low is = ap (λ l. x ∷ l) (aim_set ops n what op (omega arith) is)
+
+pub aim_none : (ops : List Op) (n : ℕ) (what : Act) → length ops ≤ n → aim n what ops ≡ ops
+aim_none [] n what h = refl
+aim_none (x ∷ ops) zero what h = absurd (omega arith)
+aim_none (x ∷ ops) (suc n) what h = ap (λ l. x ∷ l) (aim_none ops n what (omega arith))
+
+-- ---- an arm among other ops
+
+-- the ops before its jump, the jump, and what follows
+flat : (pre cond body : List Op) (test jump : Op) (rest : List Op)
+    → pre ++ ((cond ++ (test ∷ (body ++ (jump ∷ [])))) ++ rest) ≡ (pre ++ (cond ++ (test ∷ body))) ++ (jump ∷ rest)
+flat pre cond body test jump rest =
+    ap (λ l. pre ++ l) (append_assoc cond (test ∷ (body ++ (jump ∷ []))) rest
+    ∙ ap (λ l. cond ++ (test ∷ l)) (append_assoc body (jump ∷ []) rest)
+    ∙ sym (append_assoc cond (test ∷ body) (jump ∷ rest)))
+    ∙ sym (append_assoc pre (cond ++ (test ∷ body)) (jump ∷ rest))
+
+joined_long : (place end : ℕ) (b : Branch) → place + length (joined place b end) ≡ past_branch place b
+joined_long place end b =
+    let jump : Op = op_of (act.Jump end) b.q [] in
+    let test : Op = op_of (act.Unless (past_branch place b)) b.q (b.q ∷ []) in
+    omega (arith, length-append b.cond (test ∷ (b.body ++ (jump ∷ []))), length-append b.body (jump ∷ []))
+
+-- how long an arm and those after it are
+arm_end : (place : ℕ) (cond : List Op) (q : Reg) (body rest : List Op) → place + length (arm_code place cond q body rest)
+    ≡ place + length cond + 1 + length body + 1 + length rest
+arm_end place cond q body rest =
+    let jump : Op = op_of (act.Jump (place + length cond + 1 + length body + 1 + length rest)) q [] in
+    let unless : Op = op_of (act.Unless (place + length cond + 1 + length body + 1)) q (q ∷ []) in
+    omega (arith, length-append cond (unless ∷ (body ++ (jump ∷ rest))), length-append body (jump ∷ rest))
+
+chain_end : (place : ℕ) (bs : List Branch) (els : List Op) → place + length (chain place bs els) ≡ after place bs + length els
+chain_end place [] els = refl
+chain_end place (b ∷ bs) els =
+    arm_end place b.cond b.q b.body (chain (past_branch place b) bs els) ∙ chain_end (past_branch place b) bs els
+
+opened_long : (place : ℕ) (bs : List Branch) → place + length (opened place bs) ≡ after place bs
+opened_long place [] = omega arith
+opened_long place (b ∷ bs) =
+    let long = length-append (joined place b 0) (opened (past_branch place b) bs) in
+    let first = joined_long place 0 b in
+    let rest = opened_long (past_branch place b) bs in
+    omega arith
+
+-- the first arm, and the others
+chain_first : (place end : ℕ) (b : Branch) (bs : List Branch) (els : List Op) → end ≡ after place (b ∷ bs) + length els → joined place b end
+    ++ chain (past_branch place b) bs els ≡ chain place (b ∷ bs) els
+chain_first place end b bs els e =
+    let rest : List Op = chain (past_branch place b) bs els in
+    let jump : ℕ → Op = λ to. op_of (act.Jump to) b.q [] in
+    let unless : Op = op_of (act.Unless (past_branch place b)) b.q (b.q ∷ []) in
+    append_assoc b.cond (unless ∷ (b.body ++ (jump end ∷ []))) rest
+    ∙ ap (λ xs. b.cond ++ (unless ∷ xs)) (append_assoc b.body (jump end ∷ []) rest)
+    ∙ ap (λ to. b.cond ++ (unless ∷ (b.body ++ (jump to ∷ rest)))) (e ∙ sym (chain_end (past_branch place b) bs els))
+
+-- ---- all jumps aimed
+
+-- an arm's jump is aimed, whatever stands around the arm
+aimed_one : (place end : ℕ) (pre : List Op) (b : Branch) (rest : List Op) → length pre ≡ place
+    → aim (jump_at place b) (act.Jump end) (pre ++ (joined place b 0 ++ rest)) ≡ pre ++ (joined place b end ++ rest)
+aimed_one place end pre b rest at =
+    let test : Op = op_of (act.Unless (past_branch place b)) b.q (b.q ∷ []) in
+    let jump : ℕ → Op = λ to. op_of (act.Jump to) b.q [] in
+    let head : List Op = pre ++ (b.cond ++ (test ∷ b.body)) in
+    let here : jump_at place b ≡ length head = omega (arith, at, length-append pre (b.cond ++ (test ∷ b.body)), length-append b.cond (test ∷ b.body)) in
+    ap (λ l. aim (jump_at place b) (act.Jump end) l) (flat pre b.cond b.body test (jump 0) rest)
+    ∙ ap (λ n. aim n (act.Jump end) (head ++ (jump 0 ∷ rest))) here
+    ∙ aim_seam head (jump 0) rest (act.Jump end)
+    ∙ sym (flat pre b.cond b.body test (jump end) rest)
+
+pub closed : (end place : ℕ) (pre : List Op) (bs : List Branch) (els : List Op) → length pre ≡ place → end ≡ after place bs + length els
+    → aim_all (jumps place bs) end (pre ++ (opened place bs ++ els)) ≡ pre ++ chain place bs els
+closed end place pre [] els at is = refl
+closed end place pre (b ∷ bs) els at is =
+    let next : ℕ = past_branch place b in
+    let rest : List Op = opened next bs ++ els in
+    let first : List Op = joined place b end in
+    let long : length (pre ++ first) ≡ next = omega (arith, at, length-append pre first, joined_long place end b) in
+    ap (λ l. aim_all (jumps next bs) end (aim (jump_at place b) (act.Jump end) (pre ++ l))) (append_assoc (joined place b 0) (opened next bs) els)
+    ∙ ap (aim_all (jumps next bs) end) (aimed_one place end pre b rest at ∙ sym (append_assoc pre first rest))
+    ∙ closed end next (pre ++ first) bs els long is
+    ∙ append_assoc pre first (chain next bs els)
+    ∙ ap (λ l. pre ++ l) (chain_first place end b bs els is)
+
+-- ---- the arms of the tree
+
+arms_whole : (way : Pass) (f : Frame) (place : ℕ) (p : Place) (c : Expression) (b : Block) (rest : Arms)
+    → arm_code place (cond_code way f p.part c) (cond_reg way f p.part c) (pass_block_code way f (place + length (cond_code way f p.part c) + 1) (past_parts
+    (past p.part c) p) b) (chosen_code way f (place + length (cond_code way f p.part c) + 1 + length (pass_block_code way f (place + length
+    (cond_code way f p.part c) + 1) (past_parts (past p.part c) p) b) + 1) (past_block (past_parts (past p.part c) p) b) rest)
+    ≡ chosen_code way f place p (arm c b rest)
+arms_whole pass.Initialisation f place p c b rest = refl
+arms_whole pass.Performance f place p c b rest = refl
+
+chosen_list : (way : Pass) (f : Frame) (o : Spaces) (place : ℕ) (p : Place) (list : List TypedArm) (els : typed.Block)
+    → chain place (branches way f o place p list) (pass_block_code way f (after place (branches way f o place p list)) (past_list o p list) (core o els))
+    ≡ chosen_code way f place p (core_arms o (typed.arms els list))
+chosen_list way f o place p [] els = sym (chosen_else way f place p (core o els))
+chosen_list way f o place p (a ∷ rest) els =
+    let b : Branch = branch_of way f o place p a in
+    ap (arm_code place b.cond b.q b.body) (chosen_list way f o (past_branch place b) (past_arm o p a) rest els)
+    ∙ arms_whole way f place p (condition_of a) (body_of o a) (core_arms o (typed.arms els rest))
+
+pub past_chosen : (o : Spaces) (p : Place) (list : List TypedArm) (els : typed.Block)
+    → past_block (past_list o p list) (core o els) ≡ past_arms p (core_arms o (typed.arms els list))
+past_chosen o p [] els = refl
+past_chosen o p (a ∷ rest) els = past_chosen o (past_arm o p a) rest els
+
+-- an arm is made: its condition, a test, its body, and a jump; then the test is aimed past the jump
+pub arm_made : (old first tested filled jumped new cond body : List Op) (q : Reg) (test past : ℕ) → first ≡ old ++ cond → test ≡ length first
+    → tested ≡ first ++ (op_of (act.Unless 0) q (q ∷ []) ∷ []) → filled ≡ tested ++ body → jumped ≡ filled ++ (op_of (act.Jump 0) q [] ∷ [])
+    → past ≡ length jumped → new ≡ aim test (act.Unless past) jumped
+    → new ≡ old ++ joined (length old) (record { cond = cond; q = q; body = body }) 0
+arm_made old first tested filled jumped new cond body q test past a b c d e g h =
+    let none : Op = op_of (act.Unless 0) q (q ∷ []) in
+    let jump : Op = op_of (act.Jump 0) q [] in
+    let b0 : Branch = record { cond = cond; q = q; body = body } in
+    let whole : jumped ≡ (old ++ cond) ++ (none ∷ (body ++ (jump ∷ []))) =
+    e ∙ ap (λ l. l ++ (jump ∷ [])) (d ∙ ap (λ l. l ++ body) (c ∙ ap (λ l. l ++ (none ∷ [])) a) ∙ append_assoc (old ++ cond) (none ∷ []) body)
+    ∙ append_assoc (old ++ cond) (none ∷ body) (jump ∷ []) in
+    let long : past ≡ past_branch (length old) b0 =
+    omega (arith, g, ap length whole, length-append (old ++ cond) (none ∷ (body ++ (jump ∷ []))), length-append old cond, length-append body (jump ∷ [])) in
+    h
+    ∙ ap (λ n. aim n (act.Unless past) jumped) (b ∙ ap length a)
+    ∙ ap (aim (length (old ++ cond)) (act.Unless past)) whole
+    ∙ aim_seam (old ++ cond) none (body ++ (jump ∷ [])) (act.Unless past)
+    ∙ ap (λ n. (old ++ cond) ++ (op_of (act.Unless n) q (q ∷ []) ∷ (body ++ (jump ∷ [])))) long
+    ∙ append_assoc old cond (op_of (act.Unless (past_branch (length old) b0)) q (q ∷ []) ∷ (body ++ (jump ∷ [])))
+
+-- where its jump stands
+pub jump_made : (old first tested filled cond body : List Op) (q : Reg) → first ≡ old ++ cond → tested ≡ first ++ (op_of (act.Unless 0) q (q ∷ []) ∷ [])
+    → filled ≡ tested ++ body → length filled ≡ jump_at (length old) (record { cond = cond; q = q; body = body })
+jump_made old first tested filled cond body q a b c =
+    let none : Op = op_of (act.Unless 0) q (q ∷ []) in
+    omega (arith, ap length a, ap length b, ap length c, length-append old cond, length-append first (none ∷ []), length-append tested body)
+
+-- where its body begins
+pub body_made : (old first tested cond : List Op) (q : Reg) → first ≡ old ++ cond → tested ≡ first ++ (op_of (act.Unless 0) q (q ∷ []) ∷ [])
+    → length tested ≡ length old + length cond + 1
+body_made old first tested cond q a b =
+    let none : Op = op_of (act.Unless 0) q (q ∷ []) in
+    omega (arith, ap length a, ap length b, length-append old cond, length-append first (none ∷ []))
+
+-- one arm more
+pub arms_more : (way : Pass) (f : Frame) (o : Spaces) (ops new total : List Op) (ends now all : List ℕ) (p q last : Place) (a : TypedArm) (rest : List TypedArm)
+    → new ≡ ops ++ joined (length ops) (branch_of way f o (length ops) p a) 0
+    → now ≡ ends ++ (jump_at (length ops) (branch_of way f o (length ops) p a) ∷ [])
+    → q ≡ past_arm o p a
+    → ops ++ opened (length ops) (branches way f o (length ops) p (a ∷ rest)) ≡ total
+    → ends ++ jumps (length ops) (branches way f o (length ops) p (a ∷ rest)) ≡ all
+    → past_list o p (a ∷ rest) ≡ last
+    → (new ++ opened (length new) (branches way f o (length new) q rest) ≡ total)
+    × (now ++ jumps (length new) (branches way f o (length new) q rest) ≡ all)
+    × (past_list o q rest ≡ last)
+arms_more way f o ops new total ends now all p q last a rest made kept at was ends_were last_was =
+    let b : Branch = branch_of way f o (length ops) p a in
+    let next : ℕ = past_branch (length ops) b in
+    let bs : List Branch = branches way f o next (past_arm o p a) rest in
+    let long : length new ≡ next = omega (arith, ap length made, length-append ops (joined (length ops) b 0), joined_long (length ops) 0 b) in (
+      ap (λ n. new ++ opened n (branches way f o n q rest)) long
+          ∙ ap (λ k. new ++ opened next (branches way f o next k rest)) at
+          ∙ ap (λ l. l ++ opened next bs) made
+          ∙ append_assoc ops (joined (length ops) b 0) (opened next bs)
+          ∙ was,
+      ap (λ n. now ++ jumps n (branches way f o n q rest)) long
+          ∙ ap (λ k. now ++ jumps next (branches way f o next k rest)) at
+          ∙ ap (λ l. l ++ jumps next bs) kept
+          ∙ append_assoc ends (jump_at (length ops) b ∷ []) (jumps next bs)
+          ∙ ends_were,
+      ap (λ k. past_list o k rest) at ∙ last_was,
+    )
+
+-- all arms are made, then the statements after `else`, and then the jumps are aimed
+pub chosen_made : (way : Pass) (f : Frame) (o : Spaces) (old mid last new : List Op) (ends : List ℕ) (p q : Place) (list : List TypedArm) (els : typed.Block)
+    → mid ≡ old ++ opened (length old) (branches way f o (length old) p list) → ends ≡ jumps (length old) (branches way f o (length old) p list)
+    → q ≡ past_list o p list → last ≡ mid ++ pass_block_code way f (length mid) q (core o els) → new ≡ aim_all ends (length last) last
+    → new ≡ old ++ chosen_code way f (length old) p (core_arms o (typed.arms els list))
+chosen_made way f o old mid last new ends p q list els made at on done aimed =
+    let bs : List Branch = branches way f o (length old) p list in
+    let begins : ℕ = after (length old) bs in
+    let rest : List Op = pass_block_code way f begins (past_list o p list) (core o els) in
+    let there : length mid ≡ begins = omega (arith, ap length made, length-append old (opened (length old) bs), opened_long (length old) bs) in
+    let all : last ≡ old ++ (opened (length old) bs ++ rest) =
+    done
+    ∙ ap (λ n. mid ++ pass_block_code way f n q (core o els)) there
+    ∙ ap (λ k. mid ++ pass_block_code way f begins k (core o els)) on
+    ∙ ap (λ l. l ++ rest) made
+    ∙ append_assoc old (opened (length old) bs) rest in
+    let end : length last ≡ begins + length rest =
+    omega (arith, ap length all, length-append old (opened (length old) bs ++ rest), length-append (opened (length old) bs) rest, opened_long (length old) bs) in
+    aimed
+    ∙ ap (λ ns. aim_all ns (length last) last) at
+    ∙ ap (aim_all (jumps (length old) bs) (length last)) all
+    ∙ closed (length last) (length old) old bs rest refl end
+    ∙ ap (λ l. old ++ l) (chosen_list way f o (length old) p list els)

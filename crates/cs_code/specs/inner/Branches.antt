@@ -1,0 +1,90 @@
+-- Arms of an `if` of which one is done, one after another, and the jumps past the others.
+use Rattle.std.specs.Prelude.{ℕ, zero, suc, ◌+◌, ◌++◌, List, [], ◌∷◌, length}
+use Rattle.cs_ir.specs.Resources.{Spaces}
+use Rattle.cs_ir.specs.declared.op.Act.{Act}
+use Rattle.cs_ir.specs.declared.op.Act.TheVariants as act
+use Rattle.cs_ir.specs.declared.op.Op.{Op}
+use Rattle.cs_ir.specs.declared.register.Reg.{Reg}
+use Rattle.cs_meaning.specs.Core.{Block, core}
+use Rattle.cs_meaning.specs.Notes.{Place, past, past_parts, past_block}
+use Rattle.cs_typed.specs.TypedTree as typed
+use Rattle.cs_typed.specs.TypedTree.{Expression}
+use Rattle.cs_typed.specs.declared.tree.TypedArm.{TypedArm, out-TypedArm}
+use Rattle.cs_code.specs.declared.frame.Pass.{Pass}
+use Rattle.cs_code.specs.inner.Code.{arm_code}
+use Rattle.cs_code.specs.inner.Emitted.{pass_block_code, cond_code, cond_reg}
+use Rattle.cs_code.specs.inner.Frames.{Frame, op_of}
+
+-- An arm: the code of its condition, where the condition stands, the code of its body.
+pub record Branch : Type 0 where
+  pub cond : List Op
+  pub q : Reg
+  pub body : List Op
+
+-- the place after an arm, and after arms
+abbrev pub past_branch : ℕ → Branch → ℕ
+past_branch place b = place + length b.cond + 1 + length b.body + 1
+
+abbrev pub after : ℕ → List Branch → ℕ
+after place [] = place
+after place (b ∷ bs) = after (past_branch place b) bs
+
+-- arms, and the statements after `else`
+abbrev pub chain : ℕ → List Branch → List Op → List Op
+chain place [] els = els
+chain place (b ∷ bs) els = arm_code place b.cond b.q b.body (chain (past_branch place b) bs els)
+
+-- an arm whose jump goes to an end; and arms of which no jump knows its end yet
+abbrev pub joined : ℕ → Branch → ℕ → List Op
+joined place b end =
+    b.cond ++ (op_of (act.Unless (past_branch place b)) b.q (b.q ∷ [])
+    ∷ (b.body ++ (op_of (act.Jump end) b.q [] ∷ [])))
+
+abbrev pub opened : ℕ → List Branch → List Op
+opened place [] = []
+opened place (b ∷ bs) = joined place b 0 ++ opened (past_branch place b) bs
+
+-- where the jump of an arm stands, and those of arms
+abbrev pub jump_at : ℕ → Branch → ℕ
+jump_at place b = place + length b.cond + 1 + length b.body
+
+abbrev pub jumps : ℕ → List Branch → List ℕ
+jumps place [] = []
+jumps place (b ∷ bs) = jump_at place b ∷ jumps (past_branch place b) bs
+
+-- ops of which the one at a place does another act; and ops of which those at some places are jumps to an end
+abbrev pub aim : ℕ → Act → List Op → List Op
+aim n what [] = []
+aim zero what (op ∷ ops) = op_of what op.into op.from ∷ ops
+aim (suc n) what (op ∷ ops) = op ∷ aim n what ops
+
+abbrev pub aim_all : List ℕ → ℕ → List Op → List Op
+aim_all [] end ops = ops
+aim_all (n ∷ ns) end ops = aim_all ns end (aim n (act.Jump end) ops)
+
+-- the condition and the body of an arm of the tree, and what was met before its end
+abbrev pub condition_of : TypedArm → Expression
+condition_of a = typed.expression (out-TypedArm a).cond
+
+abbrev pub body_of : Spaces → TypedArm → Block
+body_of spaces a = core spaces (typed.block (out-TypedArm a).body.items)
+
+abbrev pub past_arm : Spaces → Place → TypedArm → Place
+past_arm spaces p a = past_block (past_parts (past p.part (condition_of a)) p) (body_of spaces a)
+
+abbrev pub past_list : Spaces → Place → List TypedArm → Place
+past_list spaces p [] = p
+past_list spaces p (a ∷ rest) = past_list spaces (past_arm spaces p a) rest
+
+-- the codes of an arm at a place, and of arms one after another
+abbrev pub branch_of : Pass → Frame → Spaces → ℕ → Place → TypedArm → Branch
+branch_of way f spaces place p a = let c = condition_of a in record {
+  cond = cond_code way f p.part c;
+  q = cond_reg way f p.part c;
+  body = pass_block_code way f (place + length (cond_code way f p.part c) + 1) (past_parts (past p.part c) p) (body_of spaces a);
+}
+
+abbrev pub branches : Pass → Frame → Spaces → ℕ → Place → List TypedArm → List Branch
+branches way f spaces place p [] = []
+branches way f spaces place p (a ∷ rest) = let b = branch_of way f spaces place p a in
+    b ∷ branches way f spaces (past_branch place b) (past_arm spaces p a) rest
