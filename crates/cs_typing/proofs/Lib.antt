@@ -2,6 +2,7 @@ pub mod Answers
 pub mod Cut
 pub mod Joined
 pub mod NoZakinit
+pub mod NumbersOnce
 pub mod Ranges
 pub mod Rated
 pub mod RatedCalls

@@ -1,6 +1,6 @@
 // What holds of typed orchestras: calls that do nothing, whose contracts are the laws.
-ghost use Rattle.std.specs.List.{All};
-ghost use Rattle.std.specs.Prelude.{ℕ, ◌≡◌, List, None};
+ghost use Rattle.std.specs.List.{All, IsDistinct, flat_map};
+ghost use Rattle.std.specs.Prelude.{ℕ, ◌≡◌, List, None, eqb};
 ghost use Rattle.cs_grammar.specs.Tree.{Orchestra, Statement, Block};
 ghost use Rattle.cs_grammar.specs.WellFormed.{IsWellFormed};
 ghost use Rattle.cs_typed.specs.declared.setting.Setting.{Setting};
@@ -8,6 +8,7 @@ ghost use Rattle.cs_typing.specs.Known.{Known};
 ghost use Rattle.cs_typing.specs.Renaming.{IsRenaming, renamed, renamed_block, renamed_known};
 ghost use Rattle.cs_typing.specs.Statements.{known, known_block, fault, block_fault, typed_statement, typed_block};
 ghost use Rattle.cs_typing.specs.Typing.{type_fault, typed_of};
+ghost use Rattle.cs_typed.specs.TypedTree as typed;
 ghost use Rattle.cs_typed.specs.WellRated.{IsWellRated, BlockHasNoZakinit};
 
 /// What an orchestra without a fault becomes agrees with the rules of rates: each part of an expression changes as often as its
@@ -20,6 +21,13 @@ pub fn typing_is_well_rated()
 /// No `zakinit` stands in an instrument of an orchestra that was read.
 pub fn instruments_have_no_zakinit()
     ensures { (o : Orchestra) → IsWellFormed o → All (λ i. BlockHasNoZakinit i.body) (typed_of o).instrs }
+{}
+
+/// No number is given twice to the instruments of an orchestra that was read: in the typed form too each number is of one instrument,
+/// and stands once in its line. It is what `lower` of the codes asks for.
+pub fn numbers_stand_once()
+    ensures { (o : Orchestra) → IsWellFormed o
+        → IsDistinct eqb (flat_map (λ (i : typed.Instrument). i.numbers) (typed_of o).instrs) }
 {}
 
 /// The names of local variables don't matter: statements with other names for them, of the same rates and never one for two, have

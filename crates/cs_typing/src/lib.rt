@@ -3,8 +3,9 @@
 //!
 //! Its one contract: `type_orc` answers the typed form as specs/Typing.antt defines it, or the first broken rule of the kinds
 //! 12 to 19 with its line: header lines and `zakinit`s in the order of the text, then `kr`, and then each statement in the
-//! order of the text. What it answers agrees with the rules of rates (`typing_is_well_rated`), and no `zakinit` stands in an
-//! instrument (`instruments_have_no_zakinit`). How names are looked up may be changed without anyone above noticing.
+//! order of the text. What it answers agrees with the rules of rates (`typing_is_well_rated`), no `zakinit` stands in an
+//! instrument (`instruments_have_no_zakinit`), and each instrument's number stands once (`numbers_stand_once`). How names
+//! are looked up may be changed without anyone above noticing.
 //!
 //! To be read in this order: `known` (names and their numbers), `expr`, `call`, `stmt` (what is judged where it stands),
 //! `headers`, `zak` and `settle` (what holds for the whole piece), `globals` (the variables that all instruments share),
@@ -26,5 +27,7 @@ pub use cs_typed::{
     Globals, TypedArg, TypedArgs, TypedArm, TypedArms, TypedExpr, TypedInstr, TypedOrc, TypedPart,
     TypedStmt, TypedStmts, TypedWhat, Var, Vars,
 };
-pub use laws::{instruments_have_no_zakinit, typing_is_well_rated};
+pub use laws::{
+    instruments_have_no_zakinit, local_names_dont_matter, numbers_stand_once, typing_is_well_rated,
+};
 pub use orc::type_orc;
