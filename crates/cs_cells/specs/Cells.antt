@@ -1,10 +1,11 @@
 use Rattle.std.specs.Prelude.{◌≡◌, ℕ, ℤ, pos, List, [], ◌∷◌, map, length, ◌+◌, Bool, false, ◌&&◌, ◌||◌, nat_le, nat_lt, Option, Some, None, slice_get, slice_index_or}
 use Rattle.std.specs.Int.{cast_signed, w64}
+use Rattle.cs_base.specs.Numbers.{clamp}
 use Rattle.cs_cells.specs.declared.footprint.Area.{Area}
 
--- a word as a signed number in two's complement
+-- a word as a number: its 64 bits in two's complement, brought into range
 abbrev pub signed : ℕ → ℤ
-signed n = cast_signed w64 n
+signed n = clamp (cast_signed w64 n)
 
 abbrev pub values : List ℕ → List ℤ
 values ws = map signed ws

@@ -1,4 +1,5 @@
 pub mod Areas
+pub mod Boxed
 pub mod Cells
 pub mod Examples
 pub mod Meaning

@@ -2,7 +2,9 @@
 ghost use Rattle.std.specs.Prelude.{◌≡◌, ℕ, ℤ, pos, List, ◌<◌, length, slice_index_or, slice_set};
 ghost use Rattle.cs_cells.specs.Cells.{values};
 
-/// Cells that a job reads and writes by address, from 0. A cell holds a signed 64-bit number.
+use cs_base::Num;
+
+/// Cells that a job reads and writes by address, from 0. A cell holds a number of the profile.
 pub trait Bank {
     // What no call changes: what the bank stands over, and what may be read and set there.
     ghost Rest: { Type 0 };
@@ -16,19 +18,19 @@ pub trait Bank {
     // The value of each cell, by address.
     ghost cells: { Self → List ℤ };
 
-    fn get(&mut self, addr: u32) -> i64
+    fn get(&mut self, addr: u32) -> Num
         requires { can_get (rest self.old) addr }
         ensures value { result ≡ slice_index_or (cells self.old) addr (pos 0) }
         ensures cells { cells self.new ≡ cells self.old }
         ensures rest { rest self.new ≡ rest self.old };
 
-    fn set(&mut self, addr: u32, value: i64)
+    fn set(&mut self, addr: u32, value: Num)
         requires { can_set (rest self.old) addr }
         ensures cells { cells self.new ≡ slice_set (cells self.old) addr value }
         ensures rest { rest self.new ≡ rest self.old };
 }
 
-/// A bank over a vector of words, one cell a word, in two's complement. Each may be read and set.
+/// A bank over a vector of words, one cell a word: its raw number in two's complement. Each may be read and set.
 #[derive(Drop)]
 pub struct PlainBank<'w> {
     words: &'w mut Vec<u64>,
@@ -55,11 +57,11 @@ impl Bank for PlainBank<'_> {
 
     ghost cells = { λ b. values b.words.now.items };
 
-    fn get(&mut self, addr: u32) -> i64 {
-        self.words[addr as usize].cast_signed()
+    fn get(&mut self, addr: u32) -> Num {
+        Num::of_raw(self.words[addr as usize].cast_signed())
     }
 
-    fn set(&mut self, addr: u32, value: i64) {
-        self.words[addr as usize] = value.cast_unsigned();
+    fn set(&mut self, addr: u32, value: Num) {
+        self.words[addr as usize] = value.raw().cast_unsigned();
     }
 }

@@ -1,5 +1,5 @@
 // What runs in a control cycle, such as the performing of one note.
-ghost use Rattle.std.specs.Prelude.{◌≡◌, ℕ};
+ghost use Rattle.std.specs.Prelude.{◌≡◌, ℕ, ◌<◌, length};
 ghost use Rattle.cs_cells.specs.Meaning.{Meaning, Frames, Uses, Writes};
 
 use crate::{Bank, Footprint};
@@ -20,6 +20,7 @@ pub trait Job {
     fn run<B: Bank>(&mut self, bank: &mut B)
         requires get { (a : ℕ) → Uses means self.old a → B.can_get (B.rest bank.old) a }
         requires set { (a : ℕ) → Writes means self.old a → B.can_set (B.rest bank.old) a }
+        requires cells { (a : ℕ) → Uses means self.old a → a < length (B.cells bank.old) }
         ensures job { self.new ≡ means.after self.old (B.cells bank.old) }
         ensures cells { B.cells bank.new ≡ means.leaves self.old (B.cells bank.old) }
         ensures rest { B.rest bank.new ≡ B.rest bank.old };

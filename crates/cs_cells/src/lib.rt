@@ -7,11 +7,12 @@
 //! of the serial run (`serial_laws`), on which any order of running rests.
 //!
 //! How a layout finds a resource, and how a bank keeps its cells, may change without anyone above
-//! noticing. In reading order: `footprint`, `layout`, `bank`, `job`, `serial`; `examples` works a
-//! small layout out.
+//! noticing. In reading order: `footprint`, `layout`, `bank`, `job`, `boxed`, `serial`; `examples` works
+//! a small layout out.
 #![tactic(auto)]
 
 mod bank;
+mod boxed;
 mod examples;
 mod footprint;
 mod job;

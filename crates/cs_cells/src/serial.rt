@@ -1,5 +1,5 @@
 // Jobs that run one after another, and what follows from the frame law alone.
-ghost use Rattle.std.specs.Prelude.{◌≡◌, ℕ, List, All, map, length, slice_get, Some};
+ghost use Rattle.std.specs.Prelude.{◌≡◌, ℕ, List, All, map, ◌<◌, length, slice_get, Some};
 ghost use Rattle.cs_cells.specs.Cells.{Cells, Agree};
 ghost use Rattle.cs_cells.specs.Meaning.{Uses, Writes};
 ghost use Rattle.cs_cells.specs.Serial.{serial_cells, serial_jobs, before, AllValid, LastWriter, AsSerial};
@@ -12,6 +12,7 @@ pub fn run_all<J: Job, B: Bank>(jobs: &mut [J], bank: &mut B)
     requires get { All (λ j. (a : ℕ) → Uses J.means j a → B.can_get (B.rest bank.old) a) jobs.old }
     requires set { All (λ j. (a : ℕ) → Writes J.means j a
         → B.can_set (B.rest bank.old) a) jobs.old }
+    requires cells { All (λ j. (a : ℕ) → Uses J.means j a → a < length (B.cells bank.old)) jobs.old }
     ensures jobs { jobs.new ≡ serial_jobs J.means jobs.old (B.cells bank.old) }
     ensures cells { B.cells bank.new ≡ serial_cells J.means jobs.old (B.cells bank.old) }
     ensures rest { B.rest bank.new ≡ B.rest bank.old }

@@ -1,4 +1,4 @@
-use Rattle.std.proofs.Common.{◌≡◌, ◌++◌, take, drop}
+use Rattle.std.proofs.Common.{◌≡◌, ◌++◌, length, take, drop}
 use Rattle.cs_cells.specs.Serial.{serial_cells, serial_jobs}
 use Rattle.cs_cells.proofs.serial.run_all.Given as goal
 
@@ -8,5 +8,6 @@ invariant-loop-job g l = record {
   left : drop l.job-index l.jobs ≡ drop l.job-index l.initial.jobs;
   cells : serial_cells g.J.Job.means (drop l.job-index l.jobs) (g.B.Bank.cells l.bank) ≡ serial_cells g.J.Job.means l.initial.jobs (g.B.Bank.cells l.initial.bank);
   jobs : take l.job-index l.jobs ++ serial_jobs g.J.Job.means (drop l.job-index l.jobs) (g.B.Bank.cells l.bank) ≡ serial_jobs g.J.Job.means l.initial.jobs (g.B.Bank.cells l.initial.bank);
+  long : length (g.B.Bank.cells l.bank) ≡ length (g.B.Bank.cells l.initial.bank);
   rest : g.B.Bank.rest l.bank ≡ g.B.Bank.rest l.initial.bank;
 }
