@@ -4,7 +4,4 @@ pub mod Finishing
 pub mod Performing
 pub mod Turning
 pub mod Sole
-pub mod Laying
-pub mod Ending
-pub mod Opening
-pub mod Making
+pub mod Beginning

@@ -2,7 +2,7 @@
 use Rattle.std.proofs.Common.{◌≡◌, ◌≢◌, ℕ, zero, suc, ◌+◌, ◌<◌, ◌≤◌, ◌⊎◌, ⊎_elim, List, [], ◌∷◌, ◌++◌, length, Bool, true, false, Option, Some, None, refl, sym, ap, ◌∙◌, subst, arith, slice_get, IfNone, is_some}
 use Rattle.std.proofs.lemmas.Bool.{cases_eq}
 use Rattle.cs_board.specs.Board.{IsIdle, IsViewOf, FoundSince}
-use Rattle.cs_board.specs.inner.Sittings.{HasClaimed, Tries, AllTried, tried}
+use Rattle.cs_board.specs.inner.Sittings.{HasClaimed, HasTried, Tries, AllTried, tried}
 use Rattle.cs_cells.specs.Meaning.{Meaning}
 use Rattle.cs_rule.specs.Counts.{times, without}
 use Rattle.cs_rule.specs.Facts.{owed}
@@ -75,6 +75,18 @@ module _ {J : Type 0} (M : Meaning J) where
 
   pub has_began : (k : Plan J) (v : View J) (t : ℕ) → t < k.notes → v.plan ≡ k → IsIdle v → HasClaimed M k (began M v t) t
   has_began k v t low plan h = record { within = low; doing = ap (λ z. Some (fresh M z t)) plan; closing = h.closing; moving = h.moving }
+
+module _ {J : Type 0} (k : Plan J) where
+  -- tries in vain, and then tries in vain again
+  pub tried_again : (u v w : View J) → HasTried k u v → HasTried k v w → HasTried k u w
+  tried_again u v w a b = record {
+    idle = b.idle;
+    owes = b.owes;
+    more = omega (arith, a.more, b.more);
+    tried = λ t l. let r = b.tried t l in (r.0, r.1, r.2, omega (arith, a.more, r.3));
+    mine = b.mine ∙ a.mine;
+    same = record { first = b.same.first ∙ a.same.first; number = b.same.number ∙ a.same.number; out = b.same.out ∙ a.same.out; made = b.same.made ∙ a.same.made };
+  }
 
 -- a view that owes nothing of any note owes nothing
 pub owes_none : {J : Type 0} (k : Plan J) (v : View J) → IsViewOf k v → ((t : ℕ) → t < k.notes → owed t v ≡ 0) → v.owes ≡ []

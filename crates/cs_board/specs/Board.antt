@@ -7,6 +7,7 @@ use Rattle.cs_cells.specs.Meaning.{Meaning}
 use Rattle.cs_board.specs.Seen.{plan_seen}
 use Rattle.cs_board.specs.declared.board.Board.{Board}
 use Rattle.cs_board.specs.declared.board.BoardSeat.{BoardSeat}
+use Rattle.cs_graph.specs.Graph.{Dependencies}
 use Rattle.cs_rule.specs.Facts.{owed}
 use Rattle.cs_rule.specs.Plans.{IsPlan, before_at, places_used, places_written, writers_before}
 use Rattle.cs_rule.specs.Views.{newcomer, no_plan, fresh}
@@ -30,6 +31,10 @@ module _ {J : Type 0} where
   -- which table it is
   abbrev pub name : Board J → TableId
   name board = board.frame.table.shared.table_id
+
+  -- which of its notes waits for which
+  abbrev pub graph_of : Board J → Dependencies
+  graph_of board = board.graph.value
 
   -- what the seat knows
   abbrev pub view : BoardSeat J → View J

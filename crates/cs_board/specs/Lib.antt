@@ -1,4 +1,5 @@
 pub mod Seen
 pub mod Board
-pub mod Desk
+pub mod Built
+pub mod Resting
 pub mod inner

@@ -1,4 +1,2 @@
 pub mod Banks
-pub mod Built
-pub mod Resting
 pub mod Sittings

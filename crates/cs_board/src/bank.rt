@@ -8,12 +8,13 @@ ghost use Rattle.cs_rule.specs.Plans.{uses_at, writes_at, before_at};
 ghost use Rattle.cs_rule.specs.Views.{does, set_image, fresh};
 
 use crate::board::{Board, Sitting};
+use cs_base::Num;
 use cs_cells::{Bank, Job};
 use cs_rule::{Look, Set};
 
 impl<J: Job> Board<J> {
     /// A look at a cell that the note uses.
-    fn look_cell(&self, sitting: &mut Sitting<J>, addr: u32) -> i64
+    fn look_cell(&self, sitting: &mut Sitting<J>, addr: u32) -> Num
         requires sitting { IsSittingOf J.means self.now sitting.old }
         requires doing { sitting.old.me.0.doing ≡ Some (deed sitting.old.me.0) }
         requires used { uses_at J.means (plan self.now) (deed sitting.old.me.0).note addr ≡ true }
@@ -23,15 +24,12 @@ impl<J: Job> Board<J> {
             ≡ sitting.old.id) }
     {
         let word = self.cell_word(addr);
-        self.frame
-            .table
-            .shared
-            .load::<Look>(sitting, word)
-            .cast_signed()
+        let found = self.frame.table.shared.load::<Look>(sitting, word);
+        Num::of_raw(found.cast_signed())
     }
 
     /// A cell that the note writes is set, before it has run.
-    fn set_cell(&self, sitting: &mut Sitting<J>, addr: u32, value: i64)
+    fn set_cell(&self, sitting: &mut Sitting<J>, addr: u32, value: Num)
         requires sitting { IsSittingOf J.means self.now sitting.old }
         requires doing { sitting.old.me.0.doing ≡ Some (deed sitting.old.me.0) }
         requires held { (deed sitting.old.me.0).held ≡ true }
@@ -51,7 +49,7 @@ impl<J: Job> Board<J> {
         self.frame
             .table
             .shared
-            .store::<Set>(sitting, word, value.cast_unsigned());
+            .store::<Set>(sitting, word, value.raw().cast_unsigned());
     }
 }
 
@@ -77,11 +75,11 @@ impl<J: Job> Bank for BoardBank<'_, J> {
 
     ghost cells = { λ b. (deed b.sitting.now.me.0).image };
 
-    fn get(&mut self, addr: u32) -> i64 {
+    fn get(&mut self, addr: u32) -> Num {
         self.board.look_cell(self.sitting, addr)
     }
 
-    fn set(&mut self, addr: u32, value: i64) {
+    fn set(&mut self, addr: u32, value: Num) {
         self.board.set_cell(self.sitting, addr, value);
     }
 }

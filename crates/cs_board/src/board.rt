@@ -1,7 +1,7 @@
 // The board and its seats.
 ghost use Rattle.std.specs.Prelude.{◌≡◌};
 ghost use Rattle.cs_board.specs.Seen.{plan_seen};
-ghost use Rattle.cs_board.specs.inner.Built.{IsBuilt};
+ghost use Rattle.cs_board.specs.Built.{IsBuilt};
 
 use atomic_table::{Badge, Seat, Table};
 use cs_cells::Job;
@@ -11,7 +11,7 @@ use std::alloc::Global;
 use std::snapshot::Snapshot;
 use std::sync::Arc;
 
-/// What one worker steps with. A seat is used by one thread at a time; `Desk::open` gives the
+/// What one worker steps with. A seat is used by one thread at a time; `Board::begin` gives the
 /// first, and `Board::split` the others. It holds no job between two calls.
 pub struct BoardSeat<J> {
     pub(crate) badge: Badge<View<J>>,
@@ -21,15 +21,17 @@ pub struct BoardSeat<J> {
     pub(crate) opened: Option<u32>,
     /// Where its next claim goes on with its round over all notes.
     pub(crate) next: u32,
+    /// How many seats were split off it.
+    pub(crate) splits: u32,
     /// In the first seat, the room for the jobs at the end.
     pub(crate) room: Option<Vec<J>>,
 }
 
-/// A seat in the midst of a call.
-pub(crate) type Sitting<J> = Seat<Berth<J>, View<J>>;
+/// A seat in the midst of a call, or between two cycles.
+pub type Sitting<J> = Seat<Berth<J>, View<J>>;
 
 /// The words and slots of a whole performance.
-pub(crate) type Berths<J> = Table<Berth<J>, View<J>, Key, Rule, Global>;
+pub type Berths<J> = Table<Berth<J>, View<J>, Key, Rule, Global>;
 
 /// The table of a board that is played. It is a struct by itself, since the proof that a board may
 /// be shared by threads goes field by field.
@@ -52,8 +54,9 @@ pub struct Board<J: Job> {
 }
 
 impl<J: Job> Board<J> {
-    ghost use Rattle.std.specs.Prelude.{◌≡◌, length};
-    ghost use Rattle.cs_board.specs.Board.{plan};
+    ghost use Rattle.std.specs.Prelude.{◌≡◌, ◌+◌, length};
+    ghost use Rattle.cs_board.specs.Board.{plan, name};
+    ghost use Rattle.cs_rule.specs.Words.{word_total};
 
     /// The graph of the cycle.
     pub(crate) fn graph(&self) -> &Graph
@@ -61,5 +64,20 @@ impl<J: Job> Board<J> {
         ensures notes { length result.now.levels ≡ (plan self.now).notes }
     {
         &self.graph
+    }
+
+    /// The number of notes.
+    pub fn notes(&self) -> u32
+        ensures { result ≡ (plan self.now).notes }
+    {
+        self.notes
+    }
+
+    /// The words and slots.
+    pub fn table(&self) -> &Berths<J>
+        ensures name { result.now.shared.table_id ≡ name self.now }
+        ensures words { (name self.now).words ≡ word_total (plan self.now) + (plan self.now).spare }
+    {
+        &self.frame.table
     }
 }

@@ -1,31 +1,25 @@
-//! The board of a control cycle, and the desk between two cycles. Workers claim notes on the board,
-//! run them and finish them, in any order that its words allow; whatever the interleaving of their
-//! steps, what `Board::rest` hands back is the serial run.
+//! The board of a control cycle. Workers claim notes on the board, run them and finish them, in any
+//! order that its words allow.
 //!
-//! The one contract: `rest` gives the jobs, and a desk with the cells, that the notes leave when they
-//! run one by one in serial order, once every other seat was joined (`Board::rest`). One table of
-//! words and slots serves all cycles: `Desk::open` makes a board of it, and `rest` a desk again.
+//! The one contract: whatever the interleaving of the seats' steps, once every other seat was joined
+//! the board has the jobs and the cells that the notes leave when they run one by one in serial order
+//! (`Board::end`), of the cycle that it began with (`Board::begin`).
 //!
-//! In which order `claim` tries the notes, and how a word is numbered, may change without anyone
-//! above noticing. In reading order: `receipt`, `desk`, `board`, `open`, `steps`, `claim`, `bank`,
-//! `run`, `finish`, `seats`, `rest`.
+//! In which order `claim` tries the notes, how one is waited for, and how a word is numbered, may
+//! change without anyone above noticing. In reading order: `board`, `begin`, `steps`, `claim`,
+//! `wait`, `bank`, `run`, `finish`, `seats`.
 #![tactic(auto)]
 
 mod bank;
+mod begin;
 mod board;
 mod claim;
-mod desk;
 mod finish;
-mod open;
-mod outlook;
-mod receipt;
-mod rest;
-mod room;
 mod run;
 mod seats;
 mod steps;
+mod wait;
 
-pub use board::{Board, BoardSeat};
-pub use desk::Desk;
-pub use outlook::Outlook;
-pub use receipt::{Receipt, Tally};
+pub use begin::Parts;
+pub use board::{Berths, Board, BoardSeat, Sitting};
+pub use wait::Patience;

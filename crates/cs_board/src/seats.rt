@@ -37,8 +37,8 @@ impl<J: Job> Board<J> {
         seat.badge = sitting.into_badge();
     }
 
-    /// A new seat of the board, split off the first one. Its rounds over the notes begin at `from`.
-    pub fn split(&self, seat: &mut BoardSeat<J>, from: u32) -> BoardSeat<J>
+    /// A new seat of the board, split off the first one.
+    pub fn split(&self, seat: &mut BoardSeat<J>) -> BoardSeat<J>
         requires seat { IsSeatOf J.means (plan self.now) (name self.now) seat.old }
         requires first { (view seat.old).first ≡ true }
         ensures seat { IsSeatOf J.means (plan self.now) (name self.now) seat.new }
@@ -49,11 +49,13 @@ impl<J: Job> Board<J> {
         let mut sitting = self.sit(seat);
         let other = self.frame.table.shared.split_seat::<Split>(&mut sitting);
         self.rise(seat, sitting);
+        seat.splits = seat.splits.saturating_add(1);
         BoardSeat {
             badge: other.into_badge(),
             note: 0,
             opened: None,
-            next: from,
+            next: spread(seat.splits, self.notes),
+            splits: 0,
             room: None,
         }
     }
@@ -76,6 +78,7 @@ impl<J: Job> Board<J> {
             note: _,
             opened: _,
             next: _,
+            splits: _,
             room,
         } = other;
         let None = room else { unreachable!() };
@@ -85,4 +88,10 @@ impl<J: Job> Board<J> {
             .join_seat::<Gather>(&mut sitting, badge.into_seat());
         self.rise(seat, sitting);
     }
+}
+
+/// The note with which the rounds of the seat that was split off as this one begin: the half, then
+/// the quarters, then the eighths of all notes, so that seats begin far from each other.
+fn spread(split: u32, notes: u32) -> u32 {
+    notes.saturating_mul(split.reverse_bits() >> 27) / 32
 }

@@ -36,7 +36,8 @@ impl<J: Job> Board<J> {
         1 + self.cells as usize + self.areas as usize + note as usize
     }
 
-    pub(crate) fn turn_word(&self, area: u32) -> usize
+    /// The number of the word that counts the turns on the resource at this place.
+    pub fn turn_word(&self, area: u32) -> usize
         ensures { result ≡ turn_at (plan self.now) area }
     {
         1 + self.cells as usize + area as usize

@@ -14,14 +14,12 @@ use std::sync::Wait;
 use std::thread;
 use std::thread::Threads;
 
-/// Splits so many seats off the first one, and puts them into the list, the first one last. Each
-/// begins its rounds over the notes at another place.
+/// Splits so many seats off the first one, and puts them into the list, the first one last.
 pub(crate) fn seat_all<J: Job>(
     board: &Board<J>,
     mut first: BoardSeat<J>,
     mut seats: Vec<BoardSeat<J>>,
     others: u32,
-    notes: u32,
 ) -> Vec<BoardSeat<J>>
     requires ready { IsReady J.means board.now first }
     requires alone { IsFirst 0 (view first) × ((view first).made ≡ 0) }
@@ -31,11 +29,8 @@ pub(crate) fn seat_all<J: Job>(
     ensures numbered { IsNumbered result.items }
     ensures count { length result.items ≡ others + 1 }
 {
-    let stride = notes / (others + 1);
-    let mut from = 0;
     for _ in 0..others {
-        from = stride.saturating_add(from);
-        let other = board.split(&mut first, from);
+        let other = board.split(&mut first);
         seats.push_reserved(other);
     }
     seats.push_reserved(first);

@@ -1,5 +1,5 @@
-//! Cycles run by a crew, and what no clause of `run_cycle` says of them: that it succeeds, that
-//! several workers run at once, and when the gate is called. Nothing of the product stands on this
+//! Cycles run by a crew, and what no clause of `run_cycle` says of them: that several workers run at
+//! once, and when the gate is called. Nothing of the product stands on this
 //! crate.
 //!
 //! The one contract: `crewed` meets each condition of `run_cycle`, for any jobs on a layout; and
@@ -16,7 +16,7 @@ mod gates;
 mod random;
 
 pub use counted::{Counted, counting_jobs};
-pub use crews::{CYCLE, add_by_crew, crewed, play_cycles, words_after};
+pub use crews::{CYCLE, add_by_crew, after_cycles, crewed, play_cycles, words_after};
 pub use gates::{Meeting, Watcher};
 pub use random::{Dice, plays_as_fold};
 

@@ -1,5 +1,5 @@
 use Rattle.std.specs.Prelude.{◌≡◌, ℕ, suc, ℤ, pos, List, [], ◌∷◌, true, All, slice_set, length}
-use Rattle.std.specs.Int.{int_wrapping_add, w64}
+use Rattle.cs_base.specs.Numbers.{sum_of}
 use Rattle.cs_cells.specs.declared.footprint.Area.{Area}
 use Rattle.cs_cells.specs.declared.footprint.Footprint.{Footprint}
 use Rattle.cs_cells.specs.Cells.{Cells, cell, covers, Agree}
@@ -18,9 +18,9 @@ pub record Adder : Type 0 where
 abbrev pub IsAdder : Adder → Type 0
 IsAdder j = All (λ a. covers j.areas j.foot.writes a ≡ true) j.addrs
 
--- one more, round at the ends of the 64 bits
+-- one more, brought into range
 abbrev pub more : ℤ → ℤ
-more z = int_wrapping_add w64 z (pos 1)
+more z = sum_of z (pos 1)
 
 abbrev pub add_all : List ℕ → Cells → Cells
 add_all [] c = c

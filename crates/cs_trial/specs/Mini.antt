@@ -1,5 +1,6 @@
 use Rattle.std.specs.Prelude.{◌≡◌, ℕ, ℤ, pos, ◌<◌, List, [], ◌∷◌, true, All, slice_set, slice_index_or, length}
 use Rattle.std.specs.Int.{int_wrapping_add, w64}
+use Rattle.cs_base.specs.Numbers.{clamp}
 use Rattle.cs_cells.specs.declared.footprint.Area.{Area}
 use Rattle.cs_cells.specs.declared.footprint.Footprint.{Footprint}
 use Rattle.cs_cells.specs.Cells.{Cells, cell, covers}
@@ -21,7 +22,7 @@ reg regs r = slice_index_or regs r (pos 0)
 abbrev pub step : Op → List ℤ × Cells → List ℤ × Cells
 step (Read r a) s = (slice_set s.0 r (cell s.1 a), s.1)
 step (Add r z) s = (slice_set s.0 r (int_wrapping_add w64 (reg s.0 r) z), s.1)
-step (Write a r) s = (s.0, slice_set s.1 a (reg s.0 r))
+step (Write a r) s = (s.0, slice_set s.1 a (clamp (reg s.0 r)))
 
 abbrev pub steps : List Op → List ℤ × Cells → List ℤ × Cells
 steps [] s = s

@@ -1,6 +1,7 @@
 use Rattle.std.proofs.Common.{◌≡◌, ℕ, suc, ℤ, pos, ◌<◌, List, [], ◌∷◌, length, get_or, ◌≤◌, slice_set, refl, sym, ◌∙◌, ap, subst, arith, ⊎_elim}
 use Rattle.std.specs.List.{All}
 use Rattle.std.specs.Int.{int_wrapping_add, w64}
+use Rattle.cs_base.specs.Numbers.{clamp}
 use Rattle.std.proofs.lemmas.List.{length-set, get_or-set_same, get_or-set_other, set_past}
 use Rattle.std.proofs.lemmas.Bool.{cases_eq, cases_lt, or_left}
 use Rattle.cs_cells.specs.Cells.{Cells, cell, covers, Agree}
@@ -34,7 +35,7 @@ step_alike j (Read r a) s t fits same = record { regs = ap (λ x. slice_set x r 
 step_alike j (Add r z) s t fits same = record { regs = ap (λ x. (step (Add r z) (x, s.1)).0) same.regs; cells = same.cells }
 step_alike j (Write a r) s t fits same = record {
   regs = same.regs;
-  cells = subst (λ z. Agree (Uses small j) (slice_set s.1 a (reg s.0 r)) (slice_set t.1 a z)) (ap (λ x. reg x r) same.regs) (set_agrees (Uses small j) s.1 t.1 a (reg s.0 r) same.cells);
+  cells = subst (λ z. Agree (Uses small j) (slice_set s.1 a (clamp (reg s.0 r))) (slice_set t.1 a z)) (ap (λ x. clamp (reg x r)) same.regs) (set_agrees (Uses small j) s.1 t.1 a (clamp (reg s.0 r)) same.cells);
 }
 
 steps_alike : (j : Small) (ops : List Op) (s t : List ℤ × Cells) → All (Fits j.areas j.foot (length j.regs)) ops → Alike (Uses small j) s t → Alike (Uses small j) (steps ops s) (steps ops t)
@@ -44,7 +45,7 @@ steps_alike j (op ∷ rest) s t all same = steps_alike j rest (step op s) (step 
 step-others : (j : Small) (op : Op) (s : List ℤ × Cells) (b : ℕ) → Fits j.areas j.foot (length j.regs) op → ¬ (Writes small j b) → cell (step op s).1 b ≡ cell s.1 b
 step-others j (Read r a) s b fits out = refl
 step-others j (Add r z) s b fits out = refl
-step-others j (Write a r) s b fits out = get_or-set_other s.1 a b (reg s.0 r) (pos 0) (λ e. out (subst (λ x. Writes small j x) (sym e) fits.1))
+step-others j (Write a r) s b fits out = get_or-set_other s.1 a b (clamp (reg s.0 r)) (pos 0) (λ e. out (subst (λ x. Writes small j x) (sym e) fits.1))
 
 steps-others : (j : Small) (ops : List Op) (s : List ℤ × Cells) (b : ℕ) → All (Fits j.areas j.foot (length j.regs)) ops → ¬ (Writes small j b) → cell (steps ops s).1 b ≡ cell s.1 b
 steps-others j [] s b all out = refl
@@ -53,7 +54,7 @@ steps-others j (op ∷ rest) s b all out = steps-others j rest (step op s) b (λ
 step-long : (op : Op) (s : List ℤ × Cells) → (length (step op s).0 ≡ length s.0) × (length (step op s).1 ≡ length s.1)
 step-long (Read r a) s = (length-set s.0 r (cell s.1 a), refl)
 step-long (Add r z) s = (length-set s.0 r (int_wrapping_add w64 (reg s.0 r) z), refl)
-step-long (Write a r) s = (refl, length-set s.1 a (reg s.0 r))
+step-long (Write a r) s = (refl, length-set s.1 a (clamp (reg s.0 r)))
 
 pub steps-long : (ops : List Op) (s : List ℤ × Cells) → (length (steps ops s).0 ≡ length s.0) × (length (steps ops s).1 ≡ length s.1)
 steps-long [] s = (refl, refl)

@@ -4,6 +4,7 @@ ghost use Rattle.cs_cells.specs.Cells.{cell};
 ghost use Rattle.cs_trial.specs.Adder.{more};
 
 use crate::covers::is_covered;
+use cs_base::Num;
 use cs_cells::{Area, Bank, Footprint, Job};
 use std::alloc::{AllocError, Global};
 use std::marker::Model;
@@ -83,5 +84,5 @@ fn add_one<B: Bank>(bank: &mut B, addr: u32)
     ensures rest { B.rest bank.new ≡ B.rest bank.old }
 {
     let value = bank.get(addr);
-    bank.set(addr, value.wrapping_add(1));
+    bank.set(addr, Num::of_raw(value.raw() + 1));
 }

@@ -6,8 +6,9 @@ ghost use Rattle.cs_rule.specs.Views.{opening_view};
 
 use crate::{Foot, Phase, Players, adding, laid, opened, play_alone, play_out, single, words_on};
 use cs_base::MOST_NOTES;
-use cs_board::{Board, BoardSeat, Tally};
+use cs_board::{Board, BoardSeat};
 use cs_cells::{Area, Job, Layout};
+use cs_desk::Tally;
 use std::alloc::Global;
 use std::sync::Wait;
 use std::test::Fail;

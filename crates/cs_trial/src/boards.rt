@@ -3,7 +3,7 @@ ghost use Rattle.std.specs.Prelude.{◌≡◌, ◌<◌, ℕ, length, map, true, 
 ghost use Rattle.std.specs.List.{Contains};
 ghost use Rattle.std.specs.List.Sorted.{IsStrictlyIncreasing};
 ghost use Rattle.cs_board.specs.Board.{plan, name, view, IsSeatOf};
-ghost use Rattle.cs_board.specs.Desk.{areas, cells, HasRoom};
+ghost use Rattle.cs_desk.specs.Desk.{areas, cells, HasRoom};
 ghost use Rattle.cs_cells.specs.Areas.{word_count};
 ghost use Rattle.cs_cells.specs.Cells.{values};
 ghost use Rattle.cs_graph.specs.Graph.{IsFit};
@@ -12,8 +12,9 @@ ghost use Rattle.cs_rule.specs.Views.{opening_view};
 
 use crate::loaded::Loaded;
 use cs_base::MOST_NOTES;
-use cs_board::{Board, BoardSeat, Desk};
+use cs_board::{Board, BoardSeat};
 use cs_cells::{Bank, Footprint, Job, Layout};
+use cs_desk::Desk;
 use cs_graph::Graph;
 use std::alloc::{AllocError, Global};
 use std::sync::Arc;
@@ -36,10 +37,7 @@ pub fn opened<J: Job + Drop>(
     let Some((desk, graph)) = desk_for(alloc, layout, &words, &jobs) else {
         return Err(jobs);
     };
-    match desk.open(&graph, jobs) {
-        Ok(board) => Ok(board),
-        Err((_, jobs)) => Err(jobs),
-    }
+    Ok(desk.open(graph, jobs))
 }
 
 /// A desk with these words, and the graph of the jobs' footprints. None where there is no memory
@@ -84,7 +82,7 @@ fn read_words<B: Bank>(alloc: Global, bank: &mut B, count: u32) -> Result<Vec<u6
 {
     let mut words = Vec::new(alloc);
     for addr in 0..count {
-        words.push(bank.get(addr).cast_unsigned())?;
+        words.push(bank.get(addr).raw().cast_unsigned())?;
     }
     Ok(words)
 }

@@ -3,6 +3,7 @@ ghost use Rattle.std.specs.Prelude.{◌≡◌, length, IfSome, IsTrue};
 ghost use Rattle.cs_trial.specs.Mini.{MayDo, Fits, step};
 
 use crate::covers::is_covered;
+use cs_base::Num;
 use cs_cells::{Area, Bank, Footprint, Job};
 use std::marker::Model;
 
@@ -107,13 +108,13 @@ fn run_op<B: Bank>(op: Op, regs: &mut Vec<i64>, bank: &mut B)
 {
     match op {
         Op::Read(reg, addr) => {
-            regs[reg as usize] = bank.get(addr);
+            regs[reg as usize] = bank.get(addr).raw();
         }
         Op::Add(reg, value) => {
             regs[reg as usize] = regs[reg as usize].wrapping_add(value);
         }
         Op::Write(addr, reg) => {
-            bank.set(addr, regs[reg as usize]);
+            bank.set(addr, Num::of_raw(regs[reg as usize]));
         }
     }
 }

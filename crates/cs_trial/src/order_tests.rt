@@ -6,8 +6,9 @@ ghost use Rattle.cs_cells.specs.Areas.{word_count};
 ghost use Rattle.cs_rule.specs.Views.{opening_view};
 
 use crate::{Loaded, Mini, Op, Part, foot, laid, minis, opened, play_two, words_of, words_on};
-use cs_board::{Board, BoardSeat, Tally};
+use cs_board::{Board, BoardSeat};
 use cs_cells::{Area, Job, Layout};
+use cs_desk::Tally;
 use std::alloc::{AllocError, Global};
 use std::sync::Wait;
 use std::test::Fail;

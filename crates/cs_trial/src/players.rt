@@ -1,14 +1,15 @@
 // One seat or two that play a cycle, call by call.
 ghost use Rattle.std.specs.Prelude.{◌≡◌, [], ◌∷◌, true, false};
 ghost use Rattle.cs_board.specs.Board.{plan, name, view, IsSeatOf, IsIdle, SameSeat};
-ghost use Rattle.cs_board.specs.Desk.{areas};
+ghost use Rattle.cs_desk.specs.Desk.{areas};
 ghost use Rattle.cs_rule.specs.Views.{opening_view};
 ghost use Rattle.cs_trial.specs.Playing.{Stands, ArePlaying};
 ghost use Rattle.cs_trial.specs.declared.players.Phase.TheVariants as phase_is;
 
 use cs_base::Steps;
-use cs_board::{Board, BoardSeat, Desk, Receipt};
+use cs_board::{Board, BoardSeat};
 use cs_cells::Job;
+use cs_desk::{Desk, Receipt};
 use std::sync::Wait;
 
 /// How far a seat is: it may claim, it has claimed this note, its note has run, or its last claim
@@ -72,7 +73,7 @@ impl<J: Job> Players<J> {
         requires opens { view first ≡ opening_view (plan board.now) }
         ensures { ArePlaying J.means board.now result }
     {
-        let second = board.split(&mut first, 0);
+        let second = board.split(&mut first);
         Players {
             first,
             second,
@@ -123,8 +124,20 @@ impl<J: Job> Players<J> {
             there: _,
         } = self;
         board.join(&mut first, second);
-        board.rest(first)
+        rested(board, first)
     }
+}
+
+/// The end of a cycle whose graph isn't needed again.
+fn rested<J: Job>(board: Board<J>, first: BoardSeat<J>) -> (Receipt<J>, Desk<J>)
+    requires seat { IsSeatOf J.means (plan board) (name board) first }
+    requires idle { IsIdle (view first) }
+    requires owes { (view first).owes ≡ [] }
+    requires alone { ((view first).first ≡ true) × ((view first).out ≡ []) }
+    ensures { areas result.1 ≡ (plan board).areas }
+{
+    let (receipt, desk, _) = Desk::rest(board, first);
+    (receipt, desk)
 }
 
 /// Both seats play to the end. The lowest twelve bits of `order` say whose call comes next, 1 for
@@ -186,7 +199,7 @@ pub fn play_alone<J: Job, R: Wait>(
         let claim = board.claim(&mut seat, &mut steps);
         tries = tries.saturating_add(steps.count);
         let Some(note) = claim else {
-            let (receipt, desk) = board.rest(seat);
+            let (receipt, desk) = rested(board, seat);
             return (receipt, desk, tries);
         };
         let turns = board.run(&mut seat);

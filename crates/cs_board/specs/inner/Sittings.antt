@@ -1,7 +1,7 @@
 -- A seat in the midst of a call.
 use Rattle.std.specs.Prelude.{◌≡◌, ◌≢◌, ℕ, ◌+◌, ◌<◌, ◌≤◌, [], Bool, true, false, cond, Option, Some, None}
 use Rattle.atomic_table.specs.declared.shared.Seat.{Seat}
-use Rattle.cs_board.specs.Board.{plan, IsViewOf, SameSeat, FoundSince}
+use Rattle.cs_board.specs.Board.{plan, IsViewOf, IsIdle, SameSeat, FoundSince}
 use Rattle.cs_board.specs.declared.board.Board.{Board}
 use Rattle.cs_cells.specs.Meaning.{Meaning}
 use Rattle.cs_graph.specs.Graph.{Edge, IsNextOut, NoneIn}
@@ -69,6 +69,15 @@ module _ {J : Type 0} where
   -- and so was each but for one of them
   abbrev pub AllBut : ℕ → View J → View J → ℕ → ℕ → Type 0
   AllBut but v w from to = (t : ℕ) → t ≢ but → from ≤ t → t < to → FoundSince v.tries w t × (owed t w ≡ 0)
+
+  -- the seat has nothing to do and owes nothing, and since the first view it tried each note and found it other than Available
+  pub record HasTried (k : Plan J) (v w : View J) : Type 0 where
+    pub idle : IsIdle w
+    pub owes : w.owes ≡ []
+    pub more : v.tries ≤ w.tries
+    pub tried : (t : ℕ) → t < k.notes → FoundSince v.tries w t
+    pub mine : w.mine ≡ v.mine
+    pub same : SameSeat v w
 
 module _ {J : Type 0} (M : Meaning J) where
   -- a seat of this board

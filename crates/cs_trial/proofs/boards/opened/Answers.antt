@@ -1,6 +1,6 @@
 use Rattle.std.proofs.Common.{length, subst}
 use Rattle.std.specs.List.{All}
-use Rattle.cs_board.specs.Desk.{areas}
+use Rattle.cs_desk.specs.Desk.{areas}
 use Rattle.cs_rule.specs.Plans.{IsFootprint}
 use Rattle.cs_trial.proofs.boards.opened.Goals as goal
 

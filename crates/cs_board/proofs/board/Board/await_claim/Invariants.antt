@@ -1,0 +1,9 @@
+use Rattle.cs_board.specs.Board.{plan, name, view, IsSeatOf}
+use Rattle.cs_board.specs.inner.Sittings.{HasTried}
+use Rattle.cs_board.proofs.board.Board.await_claim.Given as goal
+
+abbrev pub invariant-loop-look : goal.invariant-loop-look
+invariant-loop-look g l = record {
+  of : IsSeatOf g.J.Job.means (plan l.self) (name l.self) l.seat;
+  tried : HasTried (plan l.self) (view l.fn.seat) (view l.seat);
+}

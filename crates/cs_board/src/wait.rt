@@ -1,0 +1,122 @@
+// Claiming a note that may have to be waited for.
+ghost use Rattle.std.specs.Prelude.{◌≡◌, ◌<◌, ℕ, [], IfSome, IfNone};
+ghost use Rattle.cs_board.specs.Board.{plan, name, view, IsSeatOf, IsIdle, IsClaimed, SameSeat, FoundSince, note_of};
+ghost use Rattle.cs_board.specs.inner.Sittings.{HasTried};
+ghost use Rattle.cs_rule.specs.declared.view.View.{View};
+
+use crate::board::{Board, BoardSeat};
+use cs_base::Steps;
+use cs_cells::Job;
+use cs_rule::{AVAILABLE, DONE};
+use std::{hint, thread};
+
+/// How long a seat that finds no note to claim looks for one: so many looks at all notes, the first
+/// of which follow at once, and the others after other threads were let run.
+#[derive(Clone, Copy, Debug, PartialEq, Eq)]
+pub struct Patience {
+    pub looks: u32,
+    pub brisk: u32,
+}
+
+/// What a look at all notes found: one that can be claimed, all Done, or neither. It may have
+/// changed since.
+#[derive(Clone, Copy, PartialEq, Eq)]
+enum Outlook {
+    Available,
+    Busy,
+    Done,
+}
+
+impl<J: Job> Board<J> {
+    /// Claims a note that is Available, as `claim` does, or looks for one until all are Done or its
+    /// patience is at an end. None only ever comes after a claim that tried each note and found it
+    /// otherwise.
+    pub fn await_claim(&self, seat: &mut BoardSeat<J>, patience: Patience) -> Option<u32>
+        requires seat { IsSeatOf J.means (plan self.now) (name self.now) seat.old }
+        requires idle { IsIdle (view seat.old) }
+        ensures seat { IsSeatOf J.means (plan self.now) (name self.now) seat.new }
+        // The note is this seat's, with the cells that the serial run has before it.
+        ensures some { IfSome result (λ t. IsClaimed J.means (view seat.new)
+            × (note_of (view seat.new) ≡ t) × (t < (plan self.now).notes)) }
+        ensures none { IfNone result (IsIdle (view seat.new) × ((view seat.new).owes ≡ [])
+            × ((t : ℕ) → t < (plan self.now).notes
+            → FoundSince (view seat.old).tries (view seat.new) t)) }
+        ensures mine { (view seat.new).mine ≡ (view seat.old).mine }
+        ensures same { SameSeat (view seat.old) (view seat.new) }
+    {
+        let won = self.claim_once(seat);
+        if won.is_some() {
+            return won;
+        }
+        for look in 0..patience.looks {
+            let seen = self.outlook();
+            if seen == Outlook::Done {
+                return None;
+            }
+            let won = self.claim_seen(seat, seen);
+            if won.is_some() {
+                return won;
+            }
+            patience.pause(look);
+        }
+        None
+    }
+
+    /// A claim whose tries aren't counted.
+    fn claim_once(&self, seat: &mut BoardSeat<J>) -> Option<u32>
+        requires seat { IsSeatOf J.means (plan self.now) (name self.now) seat.old }
+        requires idle { IsIdle (view seat.old) }
+        ensures seat { IsSeatOf J.means (plan self.now) (name self.now) seat.new }
+        ensures some { IfSome result (λ t. IsClaimed J.means (view seat.new)
+            × (note_of (view seat.new) ≡ t) × (t < (plan self.now).notes)) }
+        ensures none { IfNone result (HasTried (plan self.now) (view seat.old) (view seat.new)) }
+        ensures mine { (view seat.new).mine ≡ (view seat.old).mine }
+        ensures same { SameSeat (view seat.old) (view seat.new) }
+    {
+        self.claim(seat, &mut Steps::new())
+    }
+
+    /// A further claim, where a look found a note that is Available.
+    fn claim_seen(&self, seat: &mut BoardSeat<J>, seen: Outlook) -> Option<u32>
+        requires seat { IsSeatOf J.means (plan self.now) (name self.now) seat.old }
+        requires idle { IsIdle (view seat.old) }
+        ensures seat { IsSeatOf J.means (plan self.now) (name self.now) seat.new }
+        ensures some { IfSome result (λ t. IsClaimed J.means (view seat.new)
+            × (note_of (view seat.new) ≡ t) × (t < (plan self.now).notes)) }
+        ensures none { IfNone result ((v : View J.row.Denot) → HasTried (plan self.now) v (view seat.old)
+            → HasTried (plan self.now) v (view seat.new)) }
+        ensures mine { (view seat.new).mine ≡ (view seat.old).mine }
+        ensures same { SameSeat (view seat.old) (view seat.new) }
+    {
+        if seen == Outlook::Available {
+            return self.claim_once(seat);
+        }
+        None
+    }
+
+    /// Looks at each note's status, without a step on any.
+    fn outlook(&self) -> Outlook {
+        let mut outlook = Outlook::Done;
+        for note in 0..self.notes {
+            let status = self.frame.table.shared.peek(self.status_word(note));
+            if status == AVAILABLE {
+                return Outlook::Available;
+            }
+            if status != DONE {
+                outlook = Outlook::Busy;
+            }
+        }
+        outlook
+    }
+}
+
+impl Patience {
+    /// Between this look and the next.
+    fn pause(self, look: u32) {
+        if look < self.brisk {
+            hint::spin_loop();
+        } else {
+            thread::yield_now();
+        }
+    }
+}

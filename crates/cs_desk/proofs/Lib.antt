@@ -1,0 +1,5 @@
+pub mod Sole
+pub mod Laying
+pub mod Ending
+pub mod Opening
+pub mod Making

@@ -1,0 +1,82 @@
+-- A board that rests between two cycles: what is cleared, and what is cleared away after a cycle.
+-- k is the plan of the cycle that begins or has ended, w what is known of the board; t is a note, r the place of a resource.
+use Rattle.std.specs.Prelude.{◌≡◌, ℕ, ◌+◌, ◌-◌, ◌<◌, ◌≤◌, ◌⊎◌, List, [], ◌∷◌, ◌++◌, drop, length, Bool, true, false, Option, Some, None}
+use Rattle.atomic_table.specs.Seated.{TableId}
+use Rattle.atomic_table.specs.declared.shared.Seat.{Seat}
+use Rattle.cs_base.specs.Limits.{most_resources}
+use Rattle.cs_board.specs.Resting.{IsSole, areas_in, known_in, wide}
+use Rattle.cs_cells.specs.Areas.{IsLaid, word_count}
+use Rattle.cs_cells.specs.Cells.{values}
+use Rattle.cs_cells.specs.Meaning.{Meaning}
+use Rattle.cs_cells.specs.Serial.{serial_cells, serial_jobs}
+use Rattle.cs_cells.specs.declared.footprint.Area.{Area}
+use Rattle.cs_graph.specs.Graph.{Dependencies}
+use Rattle.cs_rule.specs.Counts.{listed}
+use Rattle.cs_rule.specs.Plans.{area_count, places_written}
+use Rattle.cs_rule.specs.Views.{slot_row, cells_laid}
+use Rattle.cs_rule.specs.Words.{Words, at, all_words, IsSized}
+use Rattle.cs_rule.specs.inner.Opening.{each_below}
+use Rattle.cs_rule.specs.declared.view.Berth.{Berth}
+use Rattle.cs_rule.specs.declared.view.Berth.TheVariants.{Vacant, Full, Told}
+use Rattle.cs_rule.specs.declared.view.Plan.{Plan}
+use Rattle.cs_rule.specs.declared.view.Still.{Still}
+use Rattle.cs_rule.specs.declared.view.View.{View}
+
+module _ {J : Type 0} where
+  -- each slot is vacant
+  abbrev pub all_vacant : List (Option (Berth J)) → Bool
+  all_vacant [] = true
+  all_vacant (None ∷ homes) = false
+  all_vacant (Some Vacant ∷ homes) = all_vacant homes
+  all_vacant (Some (Full j) ∷ homes) = false
+  all_vacant (Some (Told g) ∷ homes) = false
+
+  -- the words behind cells and turns
+  abbrev pub others_laid : List Area → Still J → List ℕ
+  others_laid areas w = drop (1 + (word_count areas + length areas)) w.words
+
+  -- no turn is made, and each slot is vacant
+  pub record IsCleared (areas : List Area) (words_made slots_made : ℕ) (w : Still J) : Type 0 where
+    pub words : w.words ≡ 0 ∷ cells_laid areas w ++ (each_below (λ r. 0) (length areas) ++ others_laid areas w)
+    pub long : length (cells_laid areas w) ≡ word_count areas
+    pub count : length w.words ≡ words_made
+    pub vacant : all_vacant w.homes ≡ true
+    pub slots : length w.homes ≡ slots_made
+
+  -- the seat of a desk, with the numbers that the desk keeps
+  pub record IsResting (areas_made cells_made : ℕ) (id : TableId) (seat : Seat (Berth J) (View J)) : Type 0 where
+    pub sole : IsSole id seat
+    pub laid : IsLaid (areas_in seat)
+    pub few : length (areas_in seat) ≤ most_resources
+    pub areas : length (areas_in seat) ≡ areas_made
+    pub cells : word_count (areas_in seat) ≡ cells_made
+    pub cleared : IsCleared (areas_in seat) id.words id.slots (known_in seat)
+
+  -- the plan of a cycle of these jobs, over a board of which w is known
+  abbrev pub plan_over : List Area → Still J → Dependencies → List J → Plan J
+  plan_over areas w graph jobs = record {
+    notes = length jobs;
+    edges = graph.edges;
+    areas = areas;
+    jobs = jobs;
+    cells = values (cells_laid areas w);
+    spare = length w.words - wide areas (length jobs) (length graph.edges);
+  }
+
+  -- of the turn words of these resources, all but those of `left` are 0 now, and nothing else has changed that was 0 or is no turn word
+  pub record ClearsTurns (k : Plan J) (all left : List ℕ) (w w' : Still J) : Type 0 where
+    pub homes : w'.homes ≡ w.homes
+    pub words : (p : Words) → IsSized k p → w.words ≡ all_words p → (turns : List ℕ) × (w'.words ≡ all_words (record p { turns = turns }))
+        × (length turns ≡ length p.turns) × ((r : ℕ) → at p.turns r ≡ 0 → at turns r ≡ 0)
+        × ((r : ℕ) → listed all r ≡ true → (at turns r ≡ 0) ⊎ (listed left r ≡ true))
+
+module _ {J : Type 0} (M : Meaning J) where
+  -- the jobs below t are taken out of their slots, and no turn is left but those of later notes
+  pub record IsClearing (k : Plan J) (t : ℕ) (w : Still J) : Type 0 where
+    pub parts : Words
+    pub words : w.words ≡ all_words parts
+    pub sized : IsSized k parts
+    pub cells : values parts.cells ≡ serial_cells M k.jobs k.cells
+    pub turns : (r : ℕ) → r < area_count k → ((u : ℕ) → t ≤ u → listed (places_written M k u) r ≡ false) → at parts.turns r ≡ 0
+    pub left : ℕ
+    pub homes : w.homes ≡ slot_row t (drop t (serial_jobs M k.jobs k.cells)) left

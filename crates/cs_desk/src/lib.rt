@@ -1,0 +1,20 @@
+//! What stands between two control cycles. A desk owns the words and slots of a whole performance
+//! with the cells of the piece; it opens a board for each cycle, and the board comes to rest as a
+//! desk again.
+//!
+//! The one contract: `Desk::rest` gives the jobs, and a desk with the cells, that the notes of the
+//! cycle leave when they run one by one in serial order; `Desk::open` costs the cycle's notes and
+//! edges, takes no memory and can't fail.
+//!
+//! In which order words are laid and cleared may change without anyone above noticing. In reading
+//! order: `receipt`, `desk`, `room`, `open`, `rest`.
+#![tactic(auto)]
+
+mod desk;
+mod open;
+mod receipt;
+mod rest;
+mod room;
+
+pub use desk::Desk;
+pub use receipt::{Receipt, Tally};

@@ -1,0 +1,188 @@
+// The beginning of a cycle.
+ghost use Rattle.std.specs.Prelude.{◌≡◌, ◌+◌, ◌*◌, ◌<◌, ◌≤◌, ◌^◌, ◌∷◌, [], ℕ, Some, map, length, All, true, false, slice_get};
+ghost use Rattle.std.specs.Vec.{vec_capacity};
+ghost use Rattle.cs_board.specs.Resting.{IsSole, IsLaying, areas_in, known_in};
+ghost use Rattle.cs_desk.specs.inner.Resting.{plan_over};
+ghost use Rattle.cs_cells.specs.Areas.{word_count};
+ghost use Rattle.cs_cells.specs.Serial.{AllValid};
+ghost use Rattle.cs_graph.specs.Graph.{IsFit};
+ghost use Rattle.cs_rule.specs.Plans.{IsPlan, IsFootprint};
+ghost use Rattle.cs_rule.specs.Views.{with_word, with_home, opening_view};
+ghost use Rattle.cs_rule.specs.declared.view.Berth.TheVariants.{Vacant, Full};
+ghost use Rattle.cs_rule.specs.inner.Opening.{first_status, first_watch};
+
+use crate::desk::{Desk, lay};
+use cs_board::{Berths, Board, BoardSeat, Sitting};
+use cs_cells::Job;
+use cs_graph::Graph;
+use cs_rule::{AVAILABLE, Berth, IDLE, Leave, Reach, WAITING, WATCHED};
+use std::alloc::Global;
+use std::sync::Arc;
+
+impl<J: Job> Desk<J> {
+    ghost use Rattle.cs_board.specs.Board.{plan, name, view, graph_of, IsSeatOf};
+    ghost use Rattle.cs_desk.specs.Desk.{areas, note_room, word_room, HasRoom, plan_from};
+
+    /// The board of a cycle, and its first seat, at the cost of the cycle's notes and edges.
+    /// `graph` is that of the jobs' footprints, and the desk's layout that of each job. It takes no
+    /// memory, and so it can't fail.
+    pub fn open(self, graph: Arc<Graph, Global>, jobs: Vec<J>) -> (Board<J>, BoardSeat<J>)
+        requires notes { length graph.value.levels ≡ length jobs.items }
+        requires fit { IsFit (map J.means.foot jobs.items) graph.value.edges }
+        requires areas { All (λ j. J.means.areas j ≡ areas self) jobs.items }
+        requires footprints { All (λ j. IsFootprint (length (areas self)) (J.means.foot j)) jobs.items }
+        requires room { HasRoom self (length jobs.items) (length graph.value.edges) }
+        ensures plan { plan result.0 ≡ plan_from self graph.value jobs.items }
+        ensures seat { IsSeatOf J.means (plan result.0) (name result.0) result.1 }
+        ensures view { view result.1 ≡ opening_view (plan result.0) }
+        ensures graph { graph_of result.0 ≡ graph.value }
+        ensures room { ((name result.0).slots ≡ note_room self) × ((name result.0).words
+            ≡ word_room self) }
+    {
+        hear(&jobs);
+        let _ = graph.edges();
+        self.begin(graph, jobs)
+    }
+
+    /// The board of a cycle whose plan fits.
+    fn begin(self, graph: Arc<Graph, Global>, jobs: Vec<J>) -> (Board<J>, BoardSeat<J>)
+        requires notes { length graph.value.levels ≡ length jobs.items }
+        requires whole { IsPlan J.means (plan_from self graph.value jobs.items) }
+        requires room { HasRoom self (length jobs.items) (length graph.value.edges) }
+        ensures plan { plan result.0 ≡ plan_from self graph.value jobs.items }
+        ensures seat { IsSeatOf J.means (plan result.0) (name result.0) result.1 }
+        ensures view { view result.1 ≡ opening_view (plan result.0) }
+        ensures graph { graph_of result.0 ≡ graph.value }
+        ensures room { ((name result.0).slots ≡ note_room self) × ((name result.0).words
+            ≡ word_room self) }
+    {
+        let Desk {
+            table,
+            mut seat,
+            areas,
+            cells,
+        } = self;
+        let first = 1 + cells as usize + areas as usize;
+        let room = lay_cycle(&table, &mut seat, first, &graph, jobs);
+        Board::begin(table, seat, graph, areas, cells, room)
+    }
+}
+
+/// Lays the words of the cycle, of which the first status has this number, and the jobs into their
+/// slots. It answers the emptied vector of the jobs.
+fn lay_cycle<J: Job>(
+    table: &Berths<J>,
+    seat: &mut Sitting<J>,
+    first: usize,
+    graph: &Graph,
+    mut jobs: Vec<J>,
+) -> Vec<J>
+    requires sole { IsSole table.now.shared.table_id seat.old }
+    requires notes { length graph.now.levels ≡ length jobs.items }
+    requires laying { IsLaying (plan_over (areas_in seat.old) (known_in seat.old) graph.now jobs.items)
+        (length jobs.items) 0 (known_in seat.old) }
+    requires first { first ≡ 1 + (word_count (areas_in seat.old) + length (areas_in seat.old)) }
+    requires small { first ≤ 2 ^ 40 }
+    requires words { first + (2 * length jobs.items + length graph.now.edges)
+        ≤ table.now.shared.table_id.words }
+    requires slots { length jobs.items ≤ table.now.shared.table_id.words }
+    requires cells { word_count (areas_in seat.old)
+        ≡ length (plan_over (areas_in seat.old) (known_in seat.old) graph.now jobs.items).cells }
+    ensures room { (result.items ≡ []) × (length jobs.items ≤ vec_capacity result) }
+    ensures sole { IsSole table.now.shared.table_id seat.new }
+    ensures areas { areas_in seat.new ≡ areas_in seat.old }
+    ensures laid { IsLaying (plan_over (areas_in seat.old) (known_in seat.old) graph.now jobs.items)
+        0 (length graph.now.edges) (known_in seat.new) }
+{
+    let notes = graph.len();
+    for edge in 0..graph.edge_count() {
+        let word = first + 2 * notes as usize + edge as usize;
+        lay(table, seat, word, opening_watch(graph, edge));
+    }
+    while let Some(job) = jobs.pop() {
+        let note = jobs.len() as u32;
+        lay_note(
+            table,
+            seat,
+            first,
+            notes,
+            note,
+            opening_status(graph, note),
+            job,
+        );
+    }
+    jobs
+}
+
+/// Lays a note's status and its own turn, and its job into its slot.
+fn lay_note<J: Job>(
+    table: &Berths<J>,
+    seat: &mut Sitting<J>,
+    first: usize,
+    notes: u32,
+    note: u32,
+    status: u64,
+    job: J,
+)
+    requires sole { IsSole table.now.shared.table_id seat.old }
+    requires vacant { slice_get (known_in seat.old).homes note ≡ Some (Some Vacant) }
+    requires words { first + (2 * notes) ≤ table.now.shared.table_id.words }
+    requires small { first ≤ 2 ^ 40 }
+    requires note { note < notes }
+    ensures sole { IsSole table.now.shared.table_id seat.new }
+    ensures areas { areas_in seat.new ≡ areas_in seat.old }
+    ensures known { known_in seat.new
+        ≡ with_word (with_word (with_home (known_in seat.old) note (Some (Full job))) (first + note) status)
+        (first + (notes + note)) 0 }
+{
+    put_job(table, seat, note, job);
+    lay(table, seat, first + note as usize, status);
+    lay(table, seat, first + notes as usize + note as usize, 0);
+}
+
+/// A job goes into its slot while the board rests.
+fn put_job<J: Job>(table: &Berths<J>, seat: &mut Sitting<J>, note: u32, job: J)
+    requires sole { IsSole table.now.shared.table_id seat.old }
+    requires vacant { slice_get (known_in seat.old).homes note ≡ Some (Some Vacant) }
+    requires word { note < table.now.shared.table_id.words }
+    ensures sole { IsSole table.now.shared.table_id seat.new }
+    ensures areas { areas_in seat.new ≡ areas_in seat.old }
+    ensures known { known_in seat.new ≡ with_home (known_in seat.old) note (Some (Full job)) }
+{
+    table.shared.load::<Reach>(seat, note as usize);
+    let held = table.shared.exchange(seat, note as usize, Berth::Full(job));
+    let Berth::Vacant = held else { unreachable!() };
+    table.shared.load::<Leave>(seat, 0);
+}
+
+/// Available for a note that waits for none, else Waiting.
+fn opening_status(graph: &Graph, note: u32) -> u64
+    requires { note < length graph.now.levels }
+    ensures { result ≡ first_status graph.now.edges note }
+{
+    let into = graph.in_edges(note);
+    if into.start < into.end {
+        WAITING
+    } else {
+        AVAILABLE
+    }
+}
+
+/// Watched for the first edge into a note, else Idle.
+fn opening_watch(graph: &Graph, edge: u32) -> u64
+    requires { edge < length graph.now.edges }
+    ensures { result ≡ first_watch graph.now.edges edge }
+{
+    let (_, note) = graph.ends(edge);
+    let into = graph.in_edges(note);
+    if into.start == edge { WATCHED } else { IDLE }
+}
+
+/// It does nothing: looks tell what is true of each job that code holds.
+fn hear<J: Job>(jobs: &[J])
+    ensures { AllValid J.means jobs.now }
+{
+    for job in jobs {
+        let _ = job.footprint();
+    }
+}

@@ -1,0 +1,84 @@
+// What a cycle leaves, and how many cycles and notes there were.
+ghost use Rattle.std.specs.Prelude.{◌≡◌, ◌+◌, ◌≤◌, ◌^◌, length};
+
+use cs_cells::Job;
+use std::marker::Model;
+
+/// The jobs of a cycle after all its notes, in serial order. `Desk::rest` alone makes one.
+/// Contracts see the list of the jobs.
+pub struct Receipt<J> {
+    pub(crate) notes: u32,
+    pub(crate) jobs: Vec<J>,
+}
+
+impl<J> Model for Receipt<J> {
+    ghost use Rattle.std.specs.Prelude.{◌≡◌, List, length};
+
+    ghost Value = { List J };
+
+    ghost view = { λ r. r.jobs.items };
+
+    ghost invariant = { λ r. r.notes ≡ length r.jobs.items };
+}
+
+impl<J> Receipt<J> {
+    /// The number of notes.
+    pub fn notes(&self) -> u32
+        ensures { result ≡ length self.now }
+    {
+        self.notes
+    }
+
+    /// The jobs, in serial order.
+    pub fn jobs(&self) -> &[J]
+        ensures { result.now ≡ self.now }
+    {
+        &self.jobs
+    }
+}
+
+/// How many cycles were played to their end, and how many notes they had. `add` alone changes one.
+#[derive(Debug, Drop)]
+pub struct Tally {
+    cycles: u64,
+    notes: u64,
+}
+
+impl Tally {
+    /// No cycle and no note.
+    pub fn new() -> Tally
+        ensures { (result.cycles ≡ 0) × (result.notes ≡ 0) }
+    {
+        Tally {
+            cycles: 0,
+            notes: 0,
+        }
+    }
+
+    /// Counts the cycle and its notes, and hands back its jobs.
+    pub fn add<J: Job>(&mut self, receipt: Receipt<J>) -> Vec<J>
+        requires room { (self.old.cycles ≤ 2 ^ 63) × (self.old.notes ≤ 2 ^ 63) }
+        ensures jobs { result.items ≡ receipt }
+        ensures cycles { self.new.cycles ≡ self.old.cycles + 1 }
+        ensures notes { self.new.notes ≡ self.old.notes + length receipt }
+    {
+        let Receipt { notes, jobs } = receipt;
+        self.cycles += 1;
+        self.notes += u64::from(notes);
+        jobs
+    }
+
+    /// The number of cycles.
+    pub fn cycles(&self) -> u64
+        ensures { result ≡ self.now.cycles }
+    {
+        self.cycles
+    }
+
+    /// The number of notes of all cycles.
+    pub fn notes(&self) -> u64
+        ensures { result ≡ self.now.notes }
+    {
+        self.notes
+    }
+}
