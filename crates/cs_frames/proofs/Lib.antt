@@ -1,0 +1,13 @@
+pub mod Alike
+pub mod Expanding
+pub mod Fresh
+pub mod KnownOn
+pub mod Later
+pub mod Lived
+pub mod Named
+pub mod Numbers
+pub mod Renamed
+pub mod Standing
+pub mod TypedBy
+pub mod Units
+pub mod Untouched

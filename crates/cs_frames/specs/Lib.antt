@@ -1,0 +1,7 @@
+pub mod Examples
+pub mod Frames
+pub mod Lives
+pub mod Numbered
+pub mod Stands
+pub mod Typed
+pub mod Untouched

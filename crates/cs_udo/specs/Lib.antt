@@ -1,0 +1,6 @@
+pub mod Counted
+pub mod Expanded
+pub mod Expanding
+pub mod Names
+pub mod Refused
+pub mod Worked
