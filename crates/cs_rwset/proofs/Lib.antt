@@ -1,0 +1,5 @@
+pub mod Completing
+pub mod Covering
+pub mod Holding
+pub mod Marking
+pub mod Placed

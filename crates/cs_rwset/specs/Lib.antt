@@ -1,0 +1,4 @@
+pub mod Complete
+pub mod Examples
+pub mod Footprints
+pub mod inner

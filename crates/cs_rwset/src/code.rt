@@ -1,0 +1,98 @@
+// The footprint of a code.
+ghost use Rattle.std.specs.Prelude.{◌≡◌, ℕ, ◌<◌, length, IfOk};
+ghost use Rattle.std.specs.List.{Contains};
+ghost use Rattle.std.specs.List.Sorted.{IsStrictlyIncreasing};
+ghost use Rattle.cs_ir.specs.Resources.{ops_use, ops_write};
+ghost use Rattle.cs_rwset.specs.Footprints.{is_place, place_count, places_holding, stock_of};
+ghost use Rattle.cs_rwset.specs.inner.Marks.{marks_of};
+
+use crate::marks::{mark_op, marked_places};
+use crate::named::Sizes;
+use cs_base::{OutOfMemory, Res};
+use cs_cells::{Footprint, Layout};
+use cs_ir::{Op, ValidCode};
+use cs_words::Space;
+use std::alloc::Global;
+
+/// The areas that are marked so far.
+#[derive(Drop)]
+struct Marks {
+    uses: Vec<bool>,
+    writes: Vec<bool>,
+}
+
+/// What a performance code may touch in a layout: the places of the areas whose resource one of
+/// its ops may use, and of those whose resource one may write, each ascending. It takes as long as
+/// the code has ops and the layout has areas, and for each op whose reach is over many numbers as
+/// long again as the layout has areas. Want of memory alone is refused.
+pub fn footprint(alloc: Global, perf: &ValidCode, layout: &Layout) -> Result<Footprint, OutOfMemory>
+    ensures uses { IfOk result (λ f. f.uses
+        ≡ places_holding layout.now (ops_use (stock_of layout.now) perf.now.ops.items)) }
+    ensures writes { IfOk result (λ f. f.writes
+        ≡ places_holding layout.now (ops_write (stock_of layout.now) perf.now.ops.items)) }
+    ensures ascending { IfOk result (λ f. IsStrictlyIncreasing f.uses
+        × IsStrictlyIncreasing f.writes) }
+    ensures within { IfOk result (λ f. (place : ℕ) → Contains f.uses place
+        → place < length layout.now) }
+    ensures written { IfOk result (λ f. (place : ℕ) → Contains f.writes place
+        → Contains f.uses place) }
+{
+    let marks = marks_of(alloc, &perf.code().ops, layout)?;
+    Ok(Footprint {
+        uses: marked_places(alloc, &marks.uses, layout.len())?,
+        writes: marked_places(alloc, &marks.writes, layout.len())?,
+    })
+}
+
+fn marks_of(alloc: Global, ops: &[Op], layout: &Layout) -> Result<Marks, OutOfMemory>
+    ensures uses { IfOk result (λ m. m.uses.items
+        ≡ marks_of layout.now (ops_use (stock_of layout.now) ops.now)) }
+    ensures writes { IfOk result (λ m. m.writes.items
+        ≡ marks_of layout.now (ops_write (stock_of layout.now) ops.now)) }
+{
+    let sizes = sizes_of(layout);
+    let areas = layout.len() as usize;
+    let mut marks = Marks {
+        uses: vec![in alloc; false; areas]?,
+        writes: vec![in alloc; false; areas]?,
+    };
+    // No two areas are of one resource.
+    let _ = layout.words();
+    for op in ops {
+        mark_op(&mut marks.uses, &mut marks.writes, layout, &sizes, op);
+    }
+    Ok(marks)
+}
+
+/// How many places each zak space has.
+pub fn sizes_of(layout: &Layout) -> Sizes
+    ensures { result ≡ (stock_of layout.now).spaces }
+{
+    Sizes {
+        control: place_count(layout, Space::Control),
+        audio: place_count(layout, Space::Audio),
+    }
+}
+
+/// How many places of a zak space have an area.
+fn place_count(layout: &Layout, space: Space) -> usize
+    ensures { result ≡ place_count layout.now space }
+{
+    let mut count: usize = 0;
+    for place in 0..layout.len() {
+        if is_place(space, layout.area(place).res) {
+            count += 1;
+        }
+    }
+    count
+}
+
+fn is_place(space: Space, res: Res) -> bool
+    ensures { result ≡ is_place space res }
+{
+    match (space, res) {
+        (Space::Control, Res::ZakK(_)) => true,
+        (Space::Audio, Res::ZakA(_)) => true,
+        _ => false,
+    }
+}
