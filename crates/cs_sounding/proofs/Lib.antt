@@ -1,0 +1,14 @@
+pub mod Alikes
+pub mod Fitting
+pub mod FrameLaw
+pub mod Naming
+pub mod Notes
+pub mod OnAllCells
+pub mod Placed
+pub mod SameWorlds
+pub mod Shared
+pub mod Steady
+pub mod StoresPlay
+pub mod UnitsPlay
+pub mod VoiceFollows
+pub mod Written

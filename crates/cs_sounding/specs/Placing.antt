@@ -1,0 +1,60 @@
+-- Where what notes share has its cells.
+use Rattle.std.specs.Prelude.{ℕ, ℤ, pos, ◌≡◌, ◌<◌, ◌+◌, ◌-◌, ◌==◌, true, List, [], ◌∷◌, nat_lt, Option, Some, None, if◌then◌else◌}
+use Rattle.std.specs.List.{list_any}
+use Rattle.cs_base.specs.Rates.{same_res, res_rate}
+use Rattle.cs_base.specs.declared.resource.Rate.{Rate}
+use Rattle.cs_base.specs.declared.resource.Rate.TheVariants as rate
+use Rattle.cs_base.specs.declared.resource.Res.{Res}
+use Rattle.cs_base.specs.declared.resource.Res.TheVariants as res
+use Rattle.cs_ir.specs.Validity.{has_value}
+use Rattle.cs_ir.specs.Resources.{Stock}
+use Rattle.cs_ir.specs.Waves.{Wave, silence}
+use Rattle.cs_cells.specs.Areas.{IsLaid}
+use Rattle.cs_cells.specs.Cells.{in_area}
+use Rattle.cs_cells.specs.declared.footprint.Area.{Area}
+use Rattle.cs_meaning.specs.Plain.{Piece, Table, find_table}
+
+-- the area of a resource, where it has one
+abbrev pub area_of : List Area → Res → Option Area
+area_of [] g = None
+area_of (area ∷ areas) g = if same_res area.res g then Some area else area_of areas g
+
+abbrev pub HasArea : List Area → Res → Type 0
+HasArea areas g = (area : Area) × (area_of areas g ≡ Some area)
+
+-- what an area's cells hold over a cycle, by how often it changes: its one cell at each frame, or a cell a frame and 0 beyond
+abbrev pub wave_in : Rate → Area → (ℕ → ℤ) → Wave
+wave_in rate.Init area cells = λ j. cells area.first
+wave_in rate.Control area cells = λ j. cells area.first
+wave_in rate.Audio area cells = λ j. if nat_lt j area.length then cells (area.first + j) else pos 0
+
+abbrev pub wave_of : Option Area → Rate → (ℕ → ℤ) → Wave
+wave_of None r cells = silence
+wave_of (Some area) r cells = wave_in r area cells
+
+-- the cells after a wave was written into an area, a cell a frame
+abbrev pub with_wave : Option Area → Wave → (ℕ → ℤ) → ℕ → ℤ
+with_wave None w cells a = cells a
+with_wave (Some area) w cells a = if in_area (Some area) a then w (a - area.first) else cells a
+
+-- how many cells a resource other than a table has: one a frame of a control cycle where it is a sound, else one
+abbrev pub cell_count : ℕ → Rate → ℕ
+cell_count ksmps rate.Audio = ksmps
+cell_count ksmps _ = 1
+
+-- a live table is one of those that the layout has, and has a cell a point
+pub record IsTablePlaced (areas : List Area) (stock : Stock) (t : Table) : Type 0 where
+  pub among : list_any (λ n. t.number == n) stock.live ≡ true
+  pub some : 0 < t.size
+  pub size : (area : Area) → area_of areas (res.Table t.number) ≡ Some area → area.length ≡ t.size
+
+-- Areas hold what the notes of a piece share: each has its resource's number of cells, and the zak places and live tables
+-- are those of the piece.
+pub record IsPlaced (areas : List Area) (stock : Stock) (piece : Piece) : Type 0 where
+  pub laid : IsLaid areas
+  pub frames : 0 < piece.head.ksmps
+  pub cells : (g : Res) (area : Area) → area_of areas g ≡ Some area → has_value g ≡ true
+      → area.length ≡ cell_count piece.head.ksmps (res_rate g)
+  pub spaces : stock.spaces ≡ piece.spaces
+  pub tables : (number : ℤ) (t : Table) → find_table piece.tables number ≡ Some t → t.frozen ≡ None
+      → IsTablePlaced areas stock t
