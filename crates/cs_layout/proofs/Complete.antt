@@ -1,0 +1,235 @@
+-- The layout of a piece has what the piece has.
+use Rattle.std.proofs.Common.{◌≡◌, ℕ, ℤ, zero, suc, ◌+◌, ◌<◌, ◌==◌, ◌||◌, ◌&&◌, Bool, true, false, List, [], ◌∷◌, ◌++◌, length, map, take, nat_lt, nat_le, arith, ap, sym, ◌∙◌, refl, subst, slice_get, Option, Some, None, if◌then◌else◌}
+use Rattle.std.specs.List.{All, filter_map, list_any, range_with_len}
+use Rattle.std.specs.Option.{is_some}
+use Rattle.std.proofs.lemmas.Bool.Decides.{nat_tests}
+use Rattle.std.proofs.lemmas.List.Elements.{All-head, All-tail}
+use Rattle.std.proofs.lemmas.List.Folds.{list_any-append}
+use Rattle.cs_base.specs.Rates.{res_rate, same_res}
+use Rattle.cs_base.specs.declared.resource.Res.{Res}
+use Rattle.cs_base.specs.declared.resource.Res.TheVariants as res
+use Rattle.cs_base.proofs.Tests.{by_test, some_is}
+use Rattle.cs_cells.specs.Areas.{HasPlace, IsLaid, word_count}
+use Rattle.cs_cells.specs.declared.footprint.Area.{Area}
+use Rattle.cs_ir.specs.Resources.{Spaces}
+use Rattle.cs_ir.specs.Validity.{has_value}
+use Rattle.cs_layout.specs.Layouts.{Shared, numbered, of_tables, shared_by, laid_from, areas_of, is_shared, AreApart, AreLive, IsLive}
+use Rattle.cs_layout.specs.declared.areas.LiveTable.{LiveTable}
+use Rattle.cs_layout.proofs.Laid.{laid_at, is_there, found_at}
+use Rattle.cs_layout.proofs.Sharing.{position, is_at}
+use Rattle.cs_layout.proofs.Counted.{spaces_are}
+use Rattle.cs_layout.proofs.Tails.{from_gk, from_ga, from_control, from_sound, from_zk, from_za}
+use Rattle.cs_meaning.specs.Plain.{Piece, Table}
+use Rattle.cs_rwset.specs.Footprints.{stock_of, table_number}
+use Rattle.cs_sounding.specs.Placing.{IsPlaced, IsTablePlaced, area_of, cell_count}
+use Rattle.cs_typed.specs.TypedTree.{SharedNames}
+
+-- each resource has its area at its own position
+record IsAreaAt (ksmps : ℕ) (names : SharedNames) (spaces : Spaces) (live : List LiveTable) (p : ℕ) (area : Area) : Type 0 where
+  place : p ≡ position ksmps names spaces live area.res
+  cells : has_value area.res ≡ true → area.length ≡ cell_count ksmps (res_rate area.res)
+  begins : area.first ≡ word_count (take p (areas_of ksmps names spaces live))
+
+area_at : (ksmps : ℕ) (names : SharedNames) (spaces : Spaces) (live : List LiveTable) → AreApart live → (p : ℕ) (area : Area)
+    → slice_get (areas_of ksmps names spaces live) p ≡ Some area → IsAreaAt ksmps names spaces live p area
+area_at ksmps names spaces live apart p area e =
+    let here = laid_at 0 (shared_by ksmps names spaces live) p area e in
+    let at = is_at ksmps names spaces live apart p here.what here.there in
+    record {
+      place = at.place ∙ ap (position ksmps names spaces live) (sym here.res);
+      cells = λ h. here.long ∙ at.cells (subst (λ r. has_value r ≡ true) here.res h) ∙ ap (λ r. cell_count ksmps (res_rate r)) (sym here.res);
+      begins = omega (arith, here.begins);
+    }
+
+pub is_laid : (ksmps : ℕ) (names : SharedNames) (spaces : Spaces) (live : List LiveTable) → AreApart live → IsLaid (areas_of ksmps names spaces live)
+is_laid ksmps names spaces live apart = record {
+  follows = λ p area e. (area_at ksmps names spaces live apart p area e).begins;
+  apart = λ p q r (a, e, f) (b, g, h).
+      (area_at ksmps names spaces live apart p a e).place ∙ ap (position ksmps names spaces live) (f ∙ sym h)
+      ∙ sym (area_at ksmps names spaces live apart q b g).place;
+}
+
+pub cells_of : (ksmps : ℕ) (names : SharedNames) (spaces : Spaces) (live : List LiveTable) → AreApart live → (g : Res) (area : Area)
+    → area_of (areas_of ksmps names spaces live) g ≡ Some area → has_value g ≡ true → area.length ≡ cell_count ksmps (res_rate g)
+cells_of ksmps names spaces live apart g area e h =
+    let found = found_at (areas_of ksmps names spaces live) g area e in
+    (area_at ksmps names spaces live apart found.place area found.there).cells (subst (λ r. has_value r ≡ true) (sym found.res) h)
+    ∙ ap (λ r. cell_count ksmps (res_rate r)) found.res
+
+-- whether one of some resources of a kind is a resource
+abbrev any_of : Res → List Shared → Bool
+any_of g ss = list_any (λ s. same_res s.res g) ss
+
+none_from : (kind : ℕ → Res) (g : Res) (a count cells : ℕ) → ((n : ℕ) → same_res (kind n) g ≡ false)
+    → any_of g (map (λ n. record { res = kind n; cells = cells }) (range_with_len a count)) ≡ false
+none_from kind g a zero cells h = refl
+none_from kind g a (suc count) cells h = rw (h a) (none_from kind g (a + 1) count cells h)
+
+one_from : (kind : ℕ → Res) (g : Res) (k a count cells : ℕ) → ((n : ℕ) → same_res (kind n) g ≡ (n == k))
+    → any_of g (map (λ n. record { res = kind n; cells = cells }) (range_with_len a count)) ≡ (nat_le a k && nat_lt k (a + count))
+one_from kind g k a zero cells h = grind (arith, nat_tests)
+one_from kind g k a (suc count) cells h = rw (h a, one_from kind g k (a + 1) count cells h) (grind (arith, nat_tests))
+
+-- resources of a kind, and what comes behind them
+none_then : (kind : ℕ → Res) (g : Res) (count cells : ℕ) (ys : List Shared) (b : Bool) → ((n : ℕ) → same_res (kind n) g ≡ false)
+    → any_of g ys ≡ b → any_of g (numbered kind count cells ++ ys) ≡ b
+none_then kind g count cells ys b h e =
+    list_any-append (λ s. same_res s.res g) (numbered kind count cells) ys ∙ ap (λ x. x || any_of g ys) (none_from kind g 0 count cells h) ∙ e
+
+one_then : (kind : ℕ → Res) (g : Res) (k count cells : ℕ) (ys : List Shared) → ((n : ℕ) → same_res (kind n) g ≡ (n == k))
+    → any_of g ys ≡ false → any_of g (numbered kind count cells ++ ys) ≡ nat_lt k count
+one_then kind g k count cells ys h e =
+    list_any-append (λ s. same_res s.res g) (numbered kind count cells) ys ∙ ap (λ x. x || any_of g ys) (one_from kind g k 0 count cells h)
+    ∙ ap (λ y. (nat_le 0 k && nat_lt k (0 + count)) || y) e ∙ grind (arith, nat_tests)
+
+no_table : (g : Res) (live : List LiveTable) → ((n : ℕ) → same_res (res.Table n) g ≡ false) → any_of g (of_tables live) ≡ false
+no_table g [] h = refl
+no_table g (t ∷ live) h = rw (h t.number) (no_table g live h)
+
+one_table : (n : ℕ) (live : List LiveTable) → any_of (res.Table n) (of_tables live) ≡ list_any (λ t. t.number == n) live
+one_table n [] = refl
+one_table n (t ∷ live) = ap (λ b. (t.number == n) || b) (one_table n live)
+
+-- a resource is among what is shared exactly where the piece has it
+module _ (ksmps : ℕ) (names : SharedNames) (spaces : Spaces) (live : List LiveTable) where
+  shared_is : (g : Res) → any_of g (shared_by ksmps names spaces live) ≡ is_shared names spaces live g
+  shared_is (res.Gi k) = let g = res.Gi k in
+      (one_then res.Gi g k (length names.gi) 1 (from_gk ksmps names spaces live) (λ n. refl)
+      (none_then res.Gk g (length names.gk) 1 (from_ga ksmps names spaces live) false (λ n. refl)
+      (none_then res.Ga g (length names.ga) ksmps (from_control ksmps names spaces live) false (λ n. refl)
+      (none_then res.Control g (length names.control) 1 (from_sound ksmps names spaces live) false (λ n. refl)
+      (none_then res.Sound g (length names.sound) ksmps (from_zk ksmps names spaces live) false (λ n. refl)
+      (none_then res.ZakK g spaces.control 1 (from_za ksmps names spaces live) false (λ n. refl)
+      (none_then res.ZakA g spaces.audio ksmps (of_tables live) false (λ n. refl)
+      (no_table g live (λ n. refl)))))))))
+  shared_is (res.Gk k) = let g = res.Gk k in
+      (none_then res.Gi g (length names.gi) 1 (from_gk ksmps names spaces live) (nat_lt k (length names.gk)) (λ n. refl)
+      (one_then res.Gk g k (length names.gk) 1 (from_ga ksmps names spaces live) (λ n. refl)
+      (none_then res.Ga g (length names.ga) ksmps (from_control ksmps names spaces live) false (λ n. refl)
+      (none_then res.Control g (length names.control) 1 (from_sound ksmps names spaces live) false (λ n. refl)
+      (none_then res.Sound g (length names.sound) ksmps (from_zk ksmps names spaces live) false (λ n. refl)
+      (none_then res.ZakK g spaces.control 1 (from_za ksmps names spaces live) false (λ n. refl)
+      (none_then res.ZakA g spaces.audio ksmps (of_tables live) false (λ n. refl)
+      (no_table g live (λ n. refl)))))))))
+  shared_is (res.Ga k) = let g = res.Ga k in
+      (none_then res.Gi g (length names.gi) 1 (from_gk ksmps names spaces live) (nat_lt k (length names.ga)) (λ n. refl)
+      (none_then res.Gk g (length names.gk) 1 (from_ga ksmps names spaces live) (nat_lt k (length names.ga)) (λ n. refl)
+      (one_then res.Ga g k (length names.ga) ksmps (from_control ksmps names spaces live) (λ n. refl)
+      (none_then res.Control g (length names.control) 1 (from_sound ksmps names spaces live) false (λ n. refl)
+      (none_then res.Sound g (length names.sound) ksmps (from_zk ksmps names spaces live) false (λ n. refl)
+      (none_then res.ZakK g spaces.control 1 (from_za ksmps names spaces live) false (λ n. refl)
+      (none_then res.ZakA g spaces.audio ksmps (of_tables live) false (λ n. refl)
+      (no_table g live (λ n. refl)))))))))
+  shared_is (res.Control k) = let g = res.Control k in
+      (none_then res.Gi g (length names.gi) 1 (from_gk ksmps names spaces live) (nat_lt k (length names.control)) (λ n. refl)
+      (none_then res.Gk g (length names.gk) 1 (from_ga ksmps names spaces live) (nat_lt k (length names.control)) (λ n. refl)
+      (none_then res.Ga g (length names.ga) ksmps (from_control ksmps names spaces live) (nat_lt k (length names.control)) (λ n. refl)
+      (one_then res.Control g k (length names.control) 1 (from_sound ksmps names spaces live) (λ n. refl)
+      (none_then res.Sound g (length names.sound) ksmps (from_zk ksmps names spaces live) false (λ n. refl)
+      (none_then res.ZakK g spaces.control 1 (from_za ksmps names spaces live) false (λ n. refl)
+      (none_then res.ZakA g spaces.audio ksmps (of_tables live) false (λ n. refl)
+      (no_table g live (λ n. refl)))))))))
+  shared_is (res.Sound k) = let g = res.Sound k in
+      (none_then res.Gi g (length names.gi) 1 (from_gk ksmps names spaces live) (nat_lt k (length names.sound)) (λ n. refl)
+      (none_then res.Gk g (length names.gk) 1 (from_ga ksmps names spaces live) (nat_lt k (length names.sound)) (λ n. refl)
+      (none_then res.Ga g (length names.ga) ksmps (from_control ksmps names spaces live) (nat_lt k (length names.sound)) (λ n. refl)
+      (none_then res.Control g (length names.control) 1 (from_sound ksmps names spaces live) (nat_lt k (length names.sound)) (λ n. refl)
+      (one_then res.Sound g k (length names.sound) ksmps (from_zk ksmps names spaces live) (λ n. refl)
+      (none_then res.ZakK g spaces.control 1 (from_za ksmps names spaces live) false (λ n. refl)
+      (none_then res.ZakA g spaces.audio ksmps (of_tables live) false (λ n. refl)
+      (no_table g live (λ n. refl)))))))))
+  shared_is (res.ZakK k) = let g = res.ZakK k in
+      (none_then res.Gi g (length names.gi) 1 (from_gk ksmps names spaces live) (nat_lt k spaces.control) (λ n. refl)
+      (none_then res.Gk g (length names.gk) 1 (from_ga ksmps names spaces live) (nat_lt k spaces.control) (λ n. refl)
+      (none_then res.Ga g (length names.ga) ksmps (from_control ksmps names spaces live) (nat_lt k spaces.control) (λ n. refl)
+      (none_then res.Control g (length names.control) 1 (from_sound ksmps names spaces live) (nat_lt k spaces.control) (λ n. refl)
+      (none_then res.Sound g (length names.sound) ksmps (from_zk ksmps names spaces live) (nat_lt k spaces.control) (λ n. refl)
+      (one_then res.ZakK g k spaces.control 1 (from_za ksmps names spaces live) (λ n. refl)
+      (none_then res.ZakA g spaces.audio ksmps (of_tables live) false (λ n. refl)
+      (no_table g live (λ n. refl)))))))))
+  shared_is (res.ZakA k) = let g = res.ZakA k in
+      (none_then res.Gi g (length names.gi) 1 (from_gk ksmps names spaces live) (nat_lt k spaces.audio) (λ n. refl)
+      (none_then res.Gk g (length names.gk) 1 (from_ga ksmps names spaces live) (nat_lt k spaces.audio) (λ n. refl)
+      (none_then res.Ga g (length names.ga) ksmps (from_control ksmps names spaces live) (nat_lt k spaces.audio) (λ n. refl)
+      (none_then res.Control g (length names.control) 1 (from_sound ksmps names spaces live) (nat_lt k spaces.audio) (λ n. refl)
+      (none_then res.Sound g (length names.sound) ksmps (from_zk ksmps names spaces live) (nat_lt k spaces.audio) (λ n. refl)
+      (none_then res.ZakK g spaces.control 1 (from_za ksmps names spaces live) (nat_lt k spaces.audio) (λ n. refl)
+      (one_then res.ZakA g k spaces.audio ksmps (of_tables live) (λ n. refl)
+      (no_table g live (λ n. refl)))))))))
+  shared_is (res.Table k) = let g = res.Table k in
+      (none_then res.Gi g (length names.gi) 1 (from_gk ksmps names spaces live) (list_any (λ t. t.number == k) live) (λ n. refl)
+      (none_then res.Gk g (length names.gk) 1 (from_ga ksmps names spaces live) (list_any (λ t. t.number == k) live) (λ n. refl)
+      (none_then res.Ga g (length names.ga) ksmps (from_control ksmps names spaces live) (list_any (λ t. t.number == k) live) (λ n. refl)
+      (none_then res.Control g (length names.control) 1 (from_sound ksmps names spaces live) (list_any (λ t. t.number == k) live) (λ n. refl)
+      (none_then res.Sound g (length names.sound) ksmps (from_zk ksmps names spaces live) (list_any (λ t. t.number == k) live) (λ n. refl)
+      (none_then res.ZakK g spaces.control 1 (from_za ksmps names spaces live) (list_any (λ t. t.number == k) live) (λ n. refl)
+      (none_then res.ZakA g spaces.audio ksmps (of_tables live) (list_any (λ t. t.number == k) live) (λ n. refl)
+      (one_table k live))))))))
+
+  pub there : (g : Res) → is_some (area_of (areas_of ksmps names spaces live) g) ≡ is_shared names spaces live g
+  there g = is_there 0 (shared_by ksmps names spaces live) g ∙ shared_is g
+
+-- a table's area makes it one of the layout's
+among_areas : (areas : List Area) (p n : ℕ) (area : Area) → slice_get areas p ≡ Some area → area.res ≡ res.Table n
+    → list_any (λ m. n == m) (filter_map (λ a. table_number a.res) areas) ≡ true
+among_areas [] p n area e h = absurd (cc (e))
+among_areas (a ∷ areas) zero n area e h =
+    let is : a.res ≡ res.Table n = ap (λ x. x.res) (some_is a area e) ∙ h in
+    rw (ap table_number is) (grind (arith, nat_tests))
+among_areas (a ∷ areas) (suc p) n area e h = later a.res refl (among_areas areas p n area e h)
+  where
+    later : (r : Res) → a.res ≡ r → list_any (λ m. n == m) (filter_map (λ b. table_number b.res) areas) ≡ true
+        → list_any (λ m. n == m) (filter_map (λ b. table_number b.res) (a ∷ areas)) ≡ true
+    later (res.Table k) is more = rw (ap table_number is) (rw more (by_test (n == k) (λ y. rw y refl) (λ y. rw y refl)))
+    later (res.Gi k) is more = rw (ap table_number is) more
+    later (res.Gk k) is more = rw (ap table_number is) more
+    later (res.Ga k) is more = rw (ap table_number is) more
+    later (res.Control k) is more = rw (ap table_number is) more
+    later (res.Sound k) is more = rw (ap table_number is) more
+    later (res.ZakK k) is more = rw (ap table_number is) more
+    later (res.ZakA k) is more = rw (ap table_number is) more
+
+live_is_shared : (live : List LiveTable) (q n size : ℕ) → slice_get live q ≡ Some (record { number = n; size = size }) → list_any (λ t. t.number == n) live ≡ true
+live_is_shared [] q n size e = absurd (cc (e))
+live_is_shared (t ∷ live) zero n size e =
+    let is : t.number ≡ n = ap (λ x. x.number) (some_is t (record { number = n; size = size }) e) in
+    by_test (t.number == n) (λ y. rw y refl) (λ y. absurd (grind (arith, nat_tests, y, is)))
+live_is_shared (t ∷ live) (suc q) n size e =
+    let more = live_is_shared live q n size e in by_test (t.number == n) (λ y. rw y refl) (λ y. rw y more)
+
+all_at : (live : List LiveTable) (q : ℕ) (t : LiveTable) → All (λ u. 0 < u.size) live → slice_get live q ≡ Some t → 0 < t.size
+all_at [] q t a e = absurd (cc (e))
+all_at (u ∷ live) zero t a e = subst (λ x. 0 < x.size) (some_is u t e) (All-head (λ x. 0 < x.size) u live a)
+all_at (u ∷ live) (suc q) t a e = all_at live q t (All-tail (λ x. 0 < x.size) u live a) e
+
+some_of : {A : Type 0} (o : Option A) → is_some o ≡ true → (x : A) × (o ≡ Some x)
+some_of None e = absurd (cc (e))
+some_of (Some x) e = (x, refl)
+
+module _ (ksmps : ℕ) (names : SharedNames) (spaces : Spaces) (live : List LiveTable) (apart : AreApart live) where
+  table_size : (n q size : ℕ) (area : Area) → slice_get live q ≡ Some (record { number = n; size = size })
+      → area_of (areas_of ksmps names spaces live) (res.Table n) ≡ Some area → area.length ≡ size
+  table_size n q size area e f =
+      let found = found_at (areas_of ksmps names spaces live) (res.Table n) area f in
+      let here = laid_at 0 (shared_by ksmps names spaces live) found.place area found.there in
+      here.long ∙ (is_at ksmps names spaces live apart found.place here.what here.there).size n q size (sym here.res ∙ found.res) e
+
+  pub table_placed : (t : Table) → All (λ u. 0 < u.size) live → IsLive live t → IsTablePlaced (areas_of ksmps names spaces live) (stock_of (areas_of ksmps names spaces live)) t
+  table_placed t some (q, e) =
+      let area = some_of (area_of (areas_of ksmps names spaces live) (res.Table t.number)) (there ksmps names spaces live (res.Table t.number) ∙ live_is_shared live q t.number t.size e) in
+      let found = found_at (areas_of ksmps names spaces live) (res.Table t.number) area.0 area.1 in
+      record {
+        among = among_areas (areas_of ksmps names spaces live) found.place t.number area.0 found.there found.res;
+        some = all_at live q (record { number = t.number; size = t.size }) some e;
+        size = λ a f. table_size t.number q t.size a e f;
+      }
+
+pub is_placed : (names : SharedNames) (live : List LiveTable) (piece : Piece) → AreApart live → 0 < piece.head.ksmps → AreLive live piece.tables → All (λ t. 0 < t.size) live
+    → IsPlaced (areas_of piece.head.ksmps names piece.spaces live) (stock_of (areas_of piece.head.ksmps names piece.spaces live)) piece
+is_placed names live piece apart frames are some = record {
+  laid = is_laid piece.head.ksmps names piece.spaces live apart;
+  frames = frames;
+  cells = cells_of piece.head.ksmps names piece.spaces live apart;
+  spaces = spaces_are piece.head.ksmps names piece.spaces live;
+  tables = λ number t found frozen. table_placed piece.head.ksmps names piece.spaces live apart t some (are number t found frozen);
+}

@@ -1,0 +1,7 @@
+pub mod Complete
+pub mod Counted
+pub mod Laid
+pub mod Limits
+pub mod Made
+pub mod Sharing
+pub mod Tails

@@ -1,0 +1,68 @@
+-- Which cells a piece has: those of its variables, channels, zak places and live tables, one behind the other.
+use Rattle.std.specs.Prelude.{ℕ, ℤ, ◌≡◌, ◌+◌, ◌==◌, Bool, nat_lt, List, [], ◌∷◌, ◌++◌, length, map, slice_get, Some, None}
+use Rattle.std.specs.List.{list_any, range_with_len}
+use Rattle.cs_base.specs.declared.resource.Res.{Res}
+use Rattle.cs_base.specs.declared.resource.Res.TheVariants as res
+use Rattle.cs_cells.specs.declared.footprint.Area.{Area}
+use Rattle.cs_ir.specs.Resources.{Spaces}
+use Rattle.cs_layout.specs.declared.areas.LiveTable.{LiveTable}
+use Rattle.cs_meaning.specs.Plain.{Table, find_table}
+use Rattle.cs_typed.specs.TypedTree.{SharedNames}
+
+-- what notes share: a resource, and how many cells it has
+pub record Shared : Type 0 where
+  pub res : Res
+  pub cells : ℕ
+
+-- so many resources of a kind, numbered from 0, each with so many cells
+abbrev pub numbered : (ℕ → Res) → ℕ → ℕ → List Shared
+numbered kind count cells = map (λ n. record { res = kind n; cells = cells }) (range_with_len 0 count)
+
+-- the live tables, a cell a point
+abbrev pub of_tables : List LiveTable → List Shared
+of_tables live = map (λ t. record { res = res.Table t.number; cells = t.size }) live
+
+-- What a piece's notes share: variables of the rates i, k and a, channels of control values and of sounds, zak places of both
+-- spaces, live tables. What is a sound has a cell for each frame of a control cycle.
+abbrev pub shared_by : ℕ → SharedNames → Spaces → List LiveTable → List Shared
+shared_by ksmps names spaces live =
+    numbered res.Gi (length names.gi) 1
+    ++ (numbered res.Gk (length names.gk) 1
+    ++ (numbered res.Ga (length names.ga) ksmps
+    ++ (numbered res.Control (length names.control) 1
+    ++ (numbered res.Sound (length names.sound) ksmps
+    ++ (numbered res.ZakK spaces.control 1
+    ++ (numbered res.ZakA spaces.audio ksmps
+    ++ of_tables live))))))
+
+-- areas of so many cells each, one behind the other, from an address on
+abbrev pub laid_from : ℕ → List Shared → List Area
+laid_from first [] = []
+laid_from first (s ∷ rest) = record { res = s.res; first = first; length = s.cells } ∷ laid_from (first + s.cells) rest
+
+-- the areas of a piece
+abbrev pub areas_of : ℕ → SharedNames → Spaces → List LiveTable → List Area
+areas_of ksmps names spaces live = laid_from 0 (shared_by ksmps names spaces live)
+
+-- no two live tables have one number
+abbrev pub AreApart : List LiveTable → Type 0
+AreApart live = (p q : ℕ) (t u : LiveTable) → slice_get live p ≡ Some t → slice_get live q ≡ Some u → t.number ≡ u.number → p ≡ q
+
+-- whether notes share a resource
+abbrev pub is_shared : SharedNames → Spaces → List LiveTable → Res → Bool
+is_shared names spaces live (res.Gi n) = nat_lt n (length names.gi)
+is_shared names spaces live (res.Gk n) = nat_lt n (length names.gk)
+is_shared names spaces live (res.Ga n) = nat_lt n (length names.ga)
+is_shared names spaces live (res.Control n) = nat_lt n (length names.control)
+is_shared names spaces live (res.Sound n) = nat_lt n (length names.sound)
+is_shared names spaces live (res.ZakK n) = nat_lt n spaces.control
+is_shared names spaces live (res.ZakA n) = nat_lt n spaces.audio
+is_shared names spaces live (res.Table n) = list_any (λ t. t.number == n) live
+
+-- A table that notes may write is one of these, with its size.
+abbrev pub IsLive : List LiveTable → Table → Type 0
+IsLive live t = (place : ℕ) × (slice_get live place ≡ Some (record { number = t.number; size = t.size }))
+
+-- so are all of a piece's tables that aren't frozen
+abbrev pub AreLive : List LiveTable → List Table → Type 0
+AreLive live tables = (number : ℤ) (t : Table) → find_table tables number ≡ Some t → t.frozen ≡ None → IsLive live t

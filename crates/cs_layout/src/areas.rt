@@ -1,0 +1,196 @@
+// The layout of a piece.
+ghost use Rattle.std.specs.List.{flat_map};
+ghost use Rattle.std.specs.Prelude.{◌≡◌, ◌<◌, ◌≤◌, ◌+◌, ◌*◌, ◌^◌, ◌++◌, length, sum_by, IfErr, IfNone, IfOk, IfSome, Err, OnOk};
+ghost use Rattle.cs_base.specs.Limits.{most_resources, most_words};
+ghost use Rattle.cs_base.specs.declared.fault.Or.TheVariants as or;
+ghost use Rattle.cs_cells.specs.Areas.{limit_passed};
+ghost use Rattle.cs_ir.specs.Resources.{Spaces};
+ghost use Rattle.cs_layout.specs.Layouts.{AreApart, areas_of, laid_from, of_tables};
+ghost use Rattle.cs_layout.specs.inner.Groups.{groups_of, members, res_of};
+ghost use Rattle.cs_typed.specs.TypedTree.{shared_names};
+
+use cs_base::{Limit, LimitHit, MOST_RESOURCES, MOST_WORDS, Or, OutOfMemory, Res};
+use cs_cells::{Area, Layout};
+use cs_typed::Globals;
+use std::alloc::Global;
+
+/// A table whose points are cells, since notes may write it or the score gives it again.
+#[derive(Clone, Copy)]
+pub struct LiveTable {
+    pub number: usize,
+    /// How many points it has.
+    pub size: u32,
+}
+
+/// The layout of a piece of so many frames a control cycle, with these variables and channels, so many places of the two zak
+/// spaces, and these live tables, no two of one number. More areas than 4,096 pass the limit on resources, and then more cells
+/// than 65,536 that on words, at line 0.
+pub fn layout(
+    alloc: Global,
+    ksmps: u32,
+    globals: &Globals,
+    zak_k: u32,
+    zak_a: u32,
+    live: &[LiveTable],
+) -> Result<Layout, Or<LimitHit>>
+    requires { AreApart live.now }
+    ensures areas { IfOk result (λ l. l ≡ areas_of ksmps (shared_names globals.now)
+        (record { control = zak_k; audio = zak_a }) live.now) }
+    ensures limit { IfSome (limit_passed (areas_of ksmps (shared_names globals.now)
+        (record { control = zak_k; audio = zak_a }) live.now)) (λ h. result ≡ Err (or.Fault h)) }
+    // Within the limits want of memory alone is refused.
+    ensures memory { IfNone (limit_passed (areas_of ksmps (shared_names globals.now)
+        (record { control = zak_k; audio = zak_a }) live.now)) (IfErr result (λ e. e ≡ or.OutOfMemory)) }
+{
+    let groups = groups_of(ksmps, globals, zak_k, zak_a);
+    if count_of(&groups, live) > MOST_RESOURCES as u128 {
+        return Err(passed(Limit::Resources));
+    }
+    if words_of(&groups, live) > MOST_WORDS as u128 {
+        return Err(passed(Limit::Words));
+    }
+    let areas = areas_of(alloc, &groups, live)?;
+    Layout::build(alloc, &areas)
+}
+
+// What is numbered from 0 in a piece.
+#[derive(Clone, Copy)]
+enum Kind {
+    Gi,
+    Gk,
+    Ga,
+    Control,
+    Sound,
+    ZakK,
+    ZakA,
+}
+
+impl Kind {
+    fn res(self, number: usize) -> Res
+        ensures { result ≡ res_of self number }
+    {
+        match self {
+            Kind::Gi => Res::Gi(number),
+            Kind::Gk => Res::Gk(number),
+            Kind::Ga => Res::Ga(number),
+            Kind::Control => Res::Control(number),
+            Kind::Sound => Res::Sound(number),
+            Kind::ZakK => Res::ZakK(number),
+            Kind::ZakA => Res::ZakA(number),
+        }
+    }
+}
+
+// So many resources of a kind, each with so many cells.
+#[derive(Clone, Copy)]
+struct Group {
+    kind: Kind,
+    count: usize,
+    cells: u32,
+}
+
+fn groups_of(ksmps: u32, globals: &Globals, zak_k: u32, zak_a: u32) -> [Group; 7]
+    ensures { result ≡ groups_of ksmps (shared_names globals.now) (record { control = zak_k; audio = zak_a }) }
+{
+    [
+        many(Kind::Gi, globals.gi.len(), 1),
+        many(Kind::Gk, globals.gk.len(), 1),
+        many(Kind::Ga, globals.ga.len(), ksmps),
+        many(Kind::Control, globals.control.len(), 1),
+        many(Kind::Sound, globals.sound.len(), ksmps),
+        many(Kind::ZakK, zak_k as usize, 1),
+        many(Kind::ZakA, zak_a as usize, ksmps),
+    ]
+}
+
+fn many(kind: Kind, count: usize, cells: u32) -> Group
+    ensures { result ≡ record { kind = kind; count = count; cells = cells } }
+{
+    Group { kind, count, cells }
+}
+
+// How many resources there are.
+fn count_of(groups: &[Group], live: &[LiveTable]) -> u128
+    requires { length groups.now ≤ 7 }
+    ensures { result ≡ sum_by (λ g. g.count) groups.now + length live.now }
+{
+    let mut count: u128 = live.len() as u128;
+    for group in groups {
+        count += group.count as u128;
+    }
+    count
+}
+
+// How many cells they have together.
+fn words_of(groups: &[Group], live: &[LiveTable]) -> u128
+    requires groups { length groups.now ≤ 7 }
+    requires few { sum_by (λ g. g.count) groups.now + length live.now ≤ most_resources }
+    ensures { result ≡ sum_by (λ g. g.count * g.cells) groups.now + sum_by (λ t. t.size) live.now }
+{
+    let mut words: u128 = 0;
+    for group in groups {
+        words += cells_of(*group);
+    }
+    for table in live {
+        words += u128::from(table.size);
+    }
+    words
+}
+
+// How many cells a group has.
+fn cells_of(group: Group) -> u128
+    ensures value { result ≡ group.count * group.cells }
+    ensures bounded { result < 2 ^ 96 }
+{
+    group.count as u128 * u128::from(group.cells)
+}
+
+fn few_cells_of(group: Group) -> u32
+    requires { group.count * group.cells ≤ most_words }
+    ensures { result ≡ group.count * group.cells }
+{
+    cells_of(group) as u32
+}
+
+fn areas_of(alloc: Global, groups: &[Group], live: &[LiveTable]) -> Result<Vec<Area>, OutOfMemory>
+    requires { sum_by (λ g. g.count * g.cells) groups.now + sum_by (λ t. t.size) live.now ≤ most_words }
+    ensures { IfOk result (λ v. v.items ≡ laid_from 0 (flat_map members groups.now ++ of_tables live.now)) }
+{
+    let mut areas = Vec::new(alloc);
+    let mut next = 0;
+    for group in groups {
+        push_group(&mut areas, *group, next)?;
+        next += few_cells_of(*group);
+    }
+    for table in live {
+        areas.push(area(Res::Table(table.number), next, table.size))?;
+        next += table.size;
+    }
+    Ok(areas)
+}
+
+// The areas of a group, from an address on.
+fn push_group(areas: &mut Vec<Area>, group: Group, first: u32) -> Result<(), OutOfMemory>
+    requires { first + group.count * group.cells ≤ most_words }
+    ensures { OnOk result (areas.new.items ≡ areas.old.items ++ laid_from first (members group)) }
+{
+    let mut next = first;
+    for number in 0..group.count {
+        areas.push(area(group.kind.res(number), next, group.cells))?;
+        next += group.cells;
+    }
+    Ok(())
+}
+
+fn area(res: Res, first: u32, length: u32) -> Area
+    ensures { result ≡ record { res = res; first = first; length = length } }
+{
+    Area { res, first, length }
+}
+
+// A limit that the areas pass, and no line of a text.
+fn passed(limit: Limit) -> Or<LimitHit>
+    ensures { result ≡ or.Fault (record { limit = limit; line = 0 }) }
+{
+    Or::Fault(LimitHit { limit, line: 0 })
+}

@@ -1,0 +1,38 @@
+// What holds of every layout of a piece: calls that do nothing, whose contracts are the laws.
+ghost use Rattle.std.specs.Prelude.{ℕ, ◌≡◌, ◌<◌, List, Some, true};
+ghost use Rattle.std.specs.List.{All};
+ghost use Rattle.std.specs.Option.{is_some};
+ghost use Rattle.cs_base.specs.Rates.{res_rate};
+ghost use Rattle.cs_base.specs.declared.resource.Res.{Res};
+ghost use Rattle.cs_cells.specs.Areas.{IsLaid};
+ghost use Rattle.cs_cells.specs.declared.footprint.Area.{Area};
+ghost use Rattle.cs_ir.specs.Resources.{Spaces};
+ghost use Rattle.cs_ir.specs.Validity.{has_value};
+ghost use Rattle.cs_layout.specs.Layouts.{AreApart, AreLive, areas_of, is_shared};
+ghost use Rattle.cs_layout.specs.declared.areas.LiveTable.{LiveTable};
+ghost use Rattle.cs_meaning.specs.Plain.{Piece};
+ghost use Rattle.cs_rwset.specs.Footprints.{stock_of};
+ghost use Rattle.cs_sounding.specs.Placing.{IsPlaced, area_of, cell_count};
+ghost use Rattle.cs_typed.specs.TypedTree.{SharedNames};
+
+/// Areas follow one another and no resource has two; a resource has one exactly where the piece has the resource, with a cell
+/// for each frame of a control cycle where it is a sound, else one.
+pub fn layouts_are_complete()
+    ensures laid { (ksmps : ℕ) (names : SharedNames) (spaces : Spaces) (live : List LiveTable) → AreApart live
+        → IsLaid (areas_of ksmps names spaces live) }
+    ensures there { (ksmps : ℕ) (names : SharedNames) (spaces : Spaces) (live : List LiveTable) (g : Res)
+        → is_some (area_of (areas_of ksmps names spaces live) g) ≡ is_shared names spaces live g }
+    ensures cells { (ksmps : ℕ) (names : SharedNames) (spaces : Spaces) (live : List LiveTable) (g : Res) (area : Area)
+        → AreApart live → area_of (areas_of ksmps names spaces live) g ≡ Some area → has_value g ≡ true
+        → area.length ≡ cell_count ksmps (res_rate g) }
+    ensures spaces { (ksmps : ℕ) (names : SharedNames) (spaces : Spaces) (live : List LiveTable)
+        → (stock_of (areas_of ksmps names spaces live)).spaces ≡ spaces }
+{}
+
+/// What the notes of a piece share is placed in its layout: its zak spaces, and those of its tables that notes may write.
+pub fn layouts_hold_a_piece()
+    ensures { (names : SharedNames) (live : List LiveTable) (piece : Piece) → AreApart live → 0 < piece.head.ksmps
+        → AreLive live piece.tables → All (λ t. 0 < t.size) live
+        → IsPlaced (areas_of piece.head.ksmps names piece.spaces live)
+        (stock_of (areas_of piece.head.ksmps names piece.spaces live)) piece }
+{}
