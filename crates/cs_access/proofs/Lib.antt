@@ -1,0 +1,5 @@
+pub mod Clearing
+pub mod Curved
+pub mod Found
+pub mod Storing
+pub mod Writing

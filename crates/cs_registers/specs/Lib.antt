@@ -1,0 +1,4 @@
+pub mod Outputs
+pub mod Registers
+pub mod Rows
+pub mod inner
