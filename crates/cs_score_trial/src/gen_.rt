@@ -56,10 +56,24 @@ fn fault(alloc: Global, size: i64, gen_: i64, args: &[i64]) -> Option<GenFault> 
     check_table(size, gen_, &args).err()
 }
 
+/// A size, a GEN, its arguments, and the points, in 65,536ths.
+type Case<'t> = (i64, i64, &'t [i64], &'t [i64]);
+
+// The first of these tables that has other points; none where all are right.
+fn misdrawn(alloc: Global, cases: &[Case]) -> Option<usize> {
+    for (row, (size, gen_, args, want)) in cases.iter().enumerate() {
+        if !has_points(alloc, *size, *gen_, args, want) {
+            return Some(row);
+        }
+    }
+    None
+}
+
+// A sine, alone and in 8 places: its quarter is 23,170 / 32,767 of a turn's height, rounded down. Its second harmonic.
+// Sums without bounds, brought into range once.
 #[test]
-fn points(rt: HostRuntime) {
-    let cases: [(i64, i64, &[i64], &[i64]); 24] = [
-        // A sine, alone and in 8 places: its quarter is 23,170 / 32,767 of a turn's height, rounded down.
+fn harmonics(rt: HostRuntime) {
+    let cases: [Case; 10] = [
         (4, 10, &[ONE], &[0, ONE, 0, -ONE]),
         (
             8,
@@ -69,10 +83,8 @@ fn points(rt: HostRuntime) {
         ),
         (5, -10, &[ONE], &[0, ONE, 0, -ONE, 0]),
         (2, -10, &[ONE], &[0, 0]),
-        // Its second harmonic.
         (4, -10, &[0, ONE], &[0, 0, 0, 0]),
         (8, -10, &[0, ONE], &[0, ONE, 0, -ONE, 0, ONE, 0, -ONE]),
-        // Sums without bounds, brought into range once.
         (4, -10, &[MOST, 0, 0, 0, MOST], &[0, MOST, 0, -MOST - 1]),
         (
             4,
@@ -82,13 +94,28 @@ fn points(rt: HostRuntime) {
         ),
         (4, 10, &[0], &[0, 0, 0, 0]),
         (4, 10, &[], &[0, 0, 0, 0]),
-        // Arguments as points: too few, too many, and the guard point as the last argument.
+    ];
+    assert_eq!(rt; misdrawn(rt.alloc(), &cases), None);
+}
+
+// Arguments as points: too few, too many, and the guard point as the last argument.
+#[test]
+fn arguments(rt: HostRuntime) {
+    let cases: [Case; 5] = [
         (4, 2, &[ONE, 2 * ONE, 4 * ONE], &[16_384, 32_768, ONE, 0]),
         (2, -2, &[5, 6, 7], &[5, 6]),
         (3, -2, &[5, 6, 7], &[5, 6, 7]),
         (2, 2, &[ONE, -4 * ONE], &[16_384, -ONE]),
         (2, 2, &[0, 0], &[0, 0]),
-        // Segments: one past the size, a jump, lengths with a fraction, and what is rounded down.
+    ];
+    assert_eq!(rt; misdrawn(rt.alloc(), &cases), None);
+}
+
+// Segments: one past the size, a jump, lengths with a fraction, and what is rounded down. A length without a value
+// after it, a value alone, and nothing.
+#[test]
+fn segments(rt: HostRuntime) {
+    let cases: [Case; 9] = [
         (
             8,
             -7,
@@ -100,17 +127,11 @@ fn points(rt: HostRuntime) {
         (4, -7, &[1, 2 * ONE, 1, 0, 5, ONE, 7], &[1, 1, 5, 7]),
         (4, -7, &[0, 2 * ONE + 32_768, 2], &[0, 1, 2, 0]),
         (4, -7, &[0, 3 * ONE, -1], &[0, -1, -1, -1]),
-        // A length without a value after it, a value alone, and nothing.
         (4, -7, &[0, ONE, 9, -ONE], &[0, 9, 0, 0]),
         (2, 7, &[-3], &[-ONE, 0]),
         (2, 7, &[], &[0, 0]),
     ];
-    for (size, gen_, args, want) in cases {
-        assert!(rt;
-            has_points(rt.alloc(), size, gen_, args, want),
-            "size {size}, GEN {gen_}"
-        );
-    }
+    assert_eq!(rt; misdrawn(rt.alloc(), &cases), None);
 }
 
 // With 512 places every other one lies halfway between two of the 256, and is rounded down; a strength of 32,767

@@ -105,10 +105,20 @@ fn reads_as(alloc: Global, text: &[u8], want: &[i128]) -> bool {
     out.as_slice() == want
 }
 
+// The first of these scores that doesn't read as it must; none where all do.
+fn misread(alloc: Global, cases: &[(&[u8], &[i128])]) -> Option<usize> {
+    for (row, (text, want)) in cases.iter().enumerate() {
+        if !reads_as(alloc, text, want) {
+            return Some(row);
+        }
+    }
+    None
+}
+
+// A mark in p2, a mark that is carried and repeats, and p1 that is the same by its value.
 #[test]
-fn statements(rt: HostRuntime) {
-    let cases: [(&[u8], &[i128]); 13] = [
-        // A mark in p2, and a mark that is carried and repeats.
+fn carried_fields(rt: HostRuntime) {
+    let cases: [(&[u8], &[i128]); 4] = [
         (
             b"i1 0 1 5\ni1 + . .\ni1 ^+2 . 6",
             &[
@@ -129,12 +139,18 @@ fn statements(rt: HostRuntime) {
                 1, NOTE, 1, 0, 2000000, 2, NOTE, 1, 3000000, 1000000, 3, NOTE, 1, 6000000, 1000000,
             ],
         ),
-        // p1 is the same by its value.
         (
             b"i01. 0 1\ni+1.0000000001 + .",
             &[1, NOTE, 1, 0, 1000000, 2, NOTE, 1, 1000000, 1000000],
         ),
-        // The base counts for `i` alone, after the sums, and up to the end of its section.
+    ];
+    assert_eq!(rt; misread(rt.alloc(), &cases), None);
+}
+
+// The base counts for `i` alone, after the sums, and up to the end of its section. After a stop `+` adds nothing.
+#[test]
+fn bases_and_stops(rt: HostRuntime) {
+    let cases: [(&[u8], &[i128]); 2] = [
         (
             b"b 2\ni1 0 1 5\ni1 + . .\nf1 1 2 2\ns $x\ni1 0 1",
             &[
@@ -142,7 +158,6 @@ fn statements(rt: HostRuntime) {
                 TABLE, 1, 1000000, 2, 2, 5, SECTION, 6, NOTE, 1, 0, 1000000,
             ],
         ),
-        // Held notes and stops: after a stop `+` adds nothing.
         (
             b"i1 0 -1 9\ni1 + 1 5\ni-1 1 7\ni-1 + .\ni",
             &[
@@ -150,7 +165,14 @@ fn statements(rt: HostRuntime) {
                 1000000, 4, STOP, 1, 1000000, 5, STOP, 1, 1000000,
             ],
         ),
-        // Times keep six digits, numbers nine.
+    ];
+    assert_eq!(rt; misread(rt.alloc(), &cases), None);
+}
+
+// Times keep six digits, numbers nine.
+#[test]
+fn digits(rt: HostRuntime) {
+    let cases: [(&[u8], &[i128]); 2] = [
         (
             b"i1 +.5 .2500009 -.5 -0 5. 1.0000000009\ni2 -0.0000001 -.0000001\ni3 0 -.000001",
             &[
@@ -176,6 +198,15 @@ fn statements(rt: HostRuntime) {
                 0,
             ],
         ),
+    ];
+    assert_eq!(rt; misread(rt.alloc(), &cases), None);
+}
+
+// Tables; comments, which are blanks, also between the lines of one statement, and where one is open to the end; and
+// scores of nothing.
+#[test]
+fn tables_and_comments(rt: HostRuntime) {
+    let cases: [(&[u8], &[i128]); 5] = [
         (
             b"f 0 2 $x\nf65535 0 4 -2 5 -6.5\nf65535 1 4 10 1",
             &[
@@ -183,7 +214,6 @@ fn statements(rt: HostRuntime) {
                 1000000, 4, 10, 65536,
             ],
         ),
-        // Comments are blanks, also between the lines of one statement; an open one runs to the end.
         (
             b"i1 /* a\n b */ 0 1/**/5;x\n// y\n/* z\n*/ i2 0 1 /* open\ni3",
             &[1, NOTE, 1, 0, 1000000, 327680, 5, NOTE, 2, 0, 1000000],
@@ -192,9 +222,7 @@ fn statements(rt: HostRuntime) {
         (b"", &[]),
         (b"\n \t\r\n", &[]),
     ];
-    for (text, want) in cases {
-        assert!(rt; reads_as(rt.alloc(), text, want), "{}", text.len());
-    }
+    assert_eq!(rt; misread(rt.alloc(), &cases), None);
 }
 
 // So many times a text behind another.

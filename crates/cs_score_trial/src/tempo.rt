@@ -52,9 +52,22 @@ fn plots_as(alloc: Global, text: &[u8], cycles: u32, want: &[u32]) -> bool {
     }
 }
 
+/// A score, its control cycles, and its events.
+type Case<'t> = (&'t [u8], u32, &'t [u32]);
+
+// The first of these scores that isn't plotted as it must be; none where all are.
+fn misplotted(alloc: Global, cases: &[Case]) -> Option<usize> {
+    for (row, (text, cycles, want)) in cases.iter().enumerate() {
+        if !plots_as(alloc, text, *cycles, want) {
+            return Some(row);
+        }
+    }
+    None
+}
+
 #[test]
-fn plots(rt: HostRuntime) {
-    let cases: [(&[u8], u32, &[u32]); 19] = [
+fn notes(rt: HostRuntime) {
+    let cases: [Case; 11] = [
         (b"e", 0, &[]),
         (b"i1 0 1 100", 2, &[0, START, 1, 2, 1]),
         // Beat 2 is at 1.75 s, which is cycle 3.5, rounded half up.
@@ -82,7 +95,14 @@ fn plots(rt: HostRuntime) {
             &[0, TABLE, 1, 0, 2, 0, START, 1, 2, 1],
         ),
         (b"i1 0 0 9", 0, &[0, START, 1, 0, 1]),
-        // Held notes and stops.
+        (b"i1 0 .001", 1, &[0, START, 1, 1, 1]),
+    ];
+    assert_eq!(rt; misplotted(rt.alloc(), &cases), None);
+}
+
+#[test]
+fn held_notes_and_stops(rt: HostRuntime) {
+    let cases: [Case; 8] = [
         (b"i1 0 -1 9", 1, &[0, START, 1, 1, 1]),
         (
             b"i1 0 -1 9\ni1 2 1 5\ni-1 1",
@@ -113,15 +133,8 @@ fn plots(rt: HostRuntime) {
             2,
             &[0, START, 1, 1, 1, 0, START, 1, 2, 2],
         ),
-        (b"i1 0 .001", 1, &[0, START, 1, 1, 1]),
     ];
-    for (text, cycles, want) in cases {
-        assert!(rt;
-            plots_as(rt.alloc(), text, cycles, want),
-            "{} bytes",
-            text.len()
-        );
-    }
+    assert_eq!(rt; misplotted(rt.alloc(), &cases), None);
 }
 
 // So many times a line.
