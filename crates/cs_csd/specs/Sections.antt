@@ -1,0 +1,68 @@
+-- How a file is read: what its sections are, or its first fault. Each file has exactly one reading.
+use Rattle.std.specs.Prelude.{◌≡◌, ℕ, Bool, true, false, List, [], ◌∷◌, ◌+◌, ◌++◌, length, Some, None, unwrap_or, Result, Ok, Err}
+use Rattle.std.specs.List.{All}
+use Rattle.std.specs.Option.{is_some}
+use Rattle.cs_csd.specs.declared.line.Mark.TheVariants as mark
+use Rattle.cs_csd.specs.declared.line.Section.{Section}
+use Rattle.cs_csd.specs.declared.line.Section.TheVariants as section
+use Rattle.cs_csd.specs.declared.part.CsdFault.{CsdFault}
+use Rattle.cs_csd.specs.declared.part.CsdKind.{CsdKind}
+use Rattle.cs_csd.specs.declared.part.CsdKind.TheVariants as kind
+use Rattle.cs_csd.specs.declared.part.Part.{Part}
+use Rattle.cs_csd.specs.declared.part.Parts.{Parts}
+use Rattle.cs_csd.specs.declared.scan.Found.{Found}
+use Rattle.cs_csd.specs.Lines.{Line, lines_of, last_line, mark_of, closes, is_start}
+
+abbrev pub fault : CsdKind → ℕ → CsdFault
+fault k line = record { line = line; kind = k }
+
+-- what is between the line that opens a section and the line that closes it
+abbrev pub part_between : Line → Line → Part
+part_between opener closer = record { from = opener.at + length opener.bytes + 1; to = closer.at; line = opener.number + 1 }
+
+-- a score that isn't there
+abbrev pub no_text : Part
+no_text = record { from = 0; to = 0; line = 1 }
+
+-- The sections that stood before: what the options say isn't kept.
+abbrev pub nothing_found : Found
+nothing_found = record { options = false; orc = None; sco = None }
+
+abbrev pub stood : Section → Found → Bool
+stood section.Options f = f.options
+stood section.Instruments f = is_some f.orc
+stood section.Score f = is_some f.sco
+
+abbrev pub with_section : Section → Part → Found → Found
+with_section section.Options p f = record f { options = true }
+with_section section.Instruments p f = record f { orc = Some p }
+with_section section.Score p f = record f { sco = Some p }
+
+-- What lines after the first tag come to, where these sections stood before them and the file's last line has this number.
+pub data Between (last : ℕ) : Found → List Line → Result Parts CsdFault → Type 0 where
+  idle : (f : Found) (l : Line) (ls : List Line) (r : Result Parts CsdFault)
+      → mark_of l.bytes ≡ mark.Idle → Between last f ls r → Between last f (l ∷ ls) r
+  whole : (s : Section) (f : Found) (opener : Line) (inside : List Line) (closer : Line) (ls : List Line) (r : Result Parts CsdFault)
+      → mark_of opener.bytes ≡ mark.Opens s → stood s f ≡ false
+      → All (λ l. closes s l.bytes ≡ false) inside → closes s closer.bytes ≡ true
+      → Between last (with_section s (part_between opener closer) f) ls r → Between last f (opener ∷ inside ++ closer ∷ ls) r
+  stop : (f : Found) (orc : Part) (l : Line) (ls : List Line)
+      → mark_of l.bytes ≡ mark.Stop → f.orc ≡ Some orc
+      → Between last f (l ∷ ls) (Ok (record { orc = orc; sco = unwrap_or f.sco no_text }))
+  no_orchestra : (f : Found) (l : Line) (ls : List Line)
+      → mark_of l.bytes ≡ mark.Stop → f.orc ≡ None → Between last f (l ∷ ls) (Err (fault kind.MissingTag l.number))
+  twice : (s : Section) (f : Found) (l : Line) (ls : List Line)
+      → mark_of l.bytes ≡ mark.Opens s → stood s f ≡ true → Between last f (l ∷ ls) (Err (fault kind.SectionTwice l.number))
+  stray : (f : Found) (l : Line) (ls : List Line)
+      → mark_of l.bytes ≡ mark.Other → Between last f (l ∷ ls) (Err (fault kind.NotInProfile l.number))
+  unclosed : (s : Section) (f : Found) (opener : Line) (inside : List Line)
+      → mark_of opener.bytes ≡ mark.Opens s → stood s f ≡ false → All (λ l. closes s l.bytes ≡ false) inside
+      → Between last f (opener ∷ inside) (Err (fault kind.MissingTag last))
+  cut : (f : Found) → Between last f [] (Err (fault kind.MissingTag last))
+
+-- What a file comes to: whatever stands before its first tag doesn't count.
+pub data Reading (text : List ℕ) : Result Parts CsdFault → Type 0 where
+  begun : (before : List Line) (start : Line) (rest : List Line) (r : Result Parts CsdFault)
+      → lines_of text ≡ before ++ start ∷ rest → All (λ l. is_start l.bytes ≡ false) before → is_start start.bytes ≡ true
+      → Between (last_line text) nothing_found rest r → Reading text r
+  never : All (λ l. is_start l.bytes ≡ false) (lines_of text) → Reading text (Err (fault kind.MissingTag (last_line text)))

@@ -1,0 +1,120 @@
+// A line of a file, and what it says.
+ghost use Rattle.std.specs.List.{list_all, prefix_len};
+ghost use Rattle.std.specs.Prelude.{◌≡◌, ◌≤◌, length};
+ghost use Rattle.cs_base.specs.Lines.{is_blank};
+ghost use Rattle.cs_csd.specs.Lines.{after_blanks, closes, closing, is_idle, is_start, is_stop, is_tag, mark_of, opening};
+
+use cs_base::is_blank;
+
+/// A section of a file.
+#[derive(Clone, Copy, PartialEq, Eq)]
+pub enum Section {
+    Options,
+    Instruments,
+    Score,
+}
+
+/// What a line between sections says.
+#[derive(Clone, Copy, PartialEq, Eq)]
+pub enum Mark {
+    /// Nothing: it has blanks alone, or is a comment.
+    Idle,
+    /// A section is opened.
+    Opens(Section),
+    /// The last line that is read.
+    Stop,
+    /// What the profile doesn't have.
+    Other,
+}
+
+impl Section {
+    // The tag that opens it.
+    fn opening(self) -> &'static [u8]
+        ensures { result.now ≡ opening self }
+    {
+        match self {
+            Section::Options => b"<CsOptions>",
+            Section::Instruments => b"<CsInstruments>",
+            Section::Score => b"<CsScore>",
+        }
+    }
+
+    // The tag that closes it.
+    fn closing(self) -> &'static [u8]
+        ensures { result.now ≡ closing self }
+    {
+        match self {
+            Section::Options => b"</CsOptions>",
+            Section::Instruments => b"</CsInstruments>",
+            Section::Score => b"</CsScore>",
+        }
+    }
+
+    /// Whether a line closes it.
+    pub fn is_closed_by(self, bytes: &[u8]) -> bool
+        ensures { result ≡ closes self bytes.now }
+    {
+        is_tag(self.closing(), bytes)
+    }
+}
+
+/// What a line between sections says.
+pub fn mark_of(bytes: &[u8]) -> Mark
+    ensures { result ≡ mark_of bytes.now }
+{
+    if is_idle(bytes) {
+        Mark::Idle
+    } else if is_tag(Section::Options.opening(), bytes) {
+        Mark::Opens(Section::Options)
+    } else if is_tag(Section::Instruments.opening(), bytes) {
+        Mark::Opens(Section::Instruments)
+    } else if is_tag(Section::Score.opening(), bytes) {
+        Mark::Opens(Section::Score)
+    } else if is_tag(b"</CsoundSynthesizer>", bytes) {
+        Mark::Stop
+    } else {
+        Mark::Other
+    }
+}
+
+/// Whether a line is the first that is read.
+pub fn is_start(bytes: &[u8]) -> bool
+    ensures { result ≡ is_start bytes.now }
+{
+    is_tag(b"<CsoundSynthesizer>", bytes)
+}
+
+// Whether a line is a tag, with blanks alone before and after it.
+fn is_tag(tag: &[u8], bytes: &[u8]) -> bool
+    ensures { result ≡ is_tag tag.now bytes.now }
+{
+    let text = after_blanks(bytes);
+    text.starts_with(tag) && all_blank(&text[tag.len()..])
+}
+
+// Whether a line has blanks alone, or is a comment.
+fn is_idle(bytes: &[u8]) -> bool
+    ensures { result ≡ is_idle bytes.now }
+{
+    all_blank(bytes) || after_blanks(bytes).starts_with(b";")
+}
+
+fn after_blanks(bytes: &[u8]) -> &[u8]
+    ensures { result.now ≡ after_blanks bytes.now }
+{
+    &bytes[blanks_len(bytes)..]
+}
+
+// How many blanks a line begins with.
+fn blanks_len(bytes: &[u8]) -> usize
+    ensures value { result ≡ prefix_len is_blank bytes.now }
+    ensures within { result ≤ length bytes.now }
+{
+    bytes.iter().take_while(|byte| is_blank(**byte)).count()
+}
+
+fn all_blank(bytes: &[u8]) -> bool
+    ensures { result ≡ list_all is_blank bytes.now }
+{
+    bytes.iter().all(|byte| is_blank(*byte))
+}
