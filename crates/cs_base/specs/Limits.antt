@@ -47,6 +47,14 @@ most_delay_samples = 262144
 abbrev pub most_resources : ℕ
 most_resources = 4096
 
+-- notes that a performance keeps of those that other notes ask for
+abbrev pub most_asks : ℕ
+most_asks = 100000
+
+-- bytes of one file with orchestra and score
+abbrev pub most_csd_bytes : ℕ
+most_csd_bytes = 5242880
+
 -- the number of a limit, as a refusal prints it
 abbrev pub limit_number : Limit → ℕ
 limit_number limit.OrchestraBytes = 1
@@ -60,6 +68,8 @@ limit_number limit.WavBytes = 8
 limit_number limit.Words = 9
 limit_number limit.DelaySamples = 10
 limit_number limit.Resources = 11
+limit_number limit.Asks = 12
+limit_number limit.CsdBytes = 13
 
 -- what a limit lets be at most
 abbrev pub most_of : Limit → ℕ
@@ -74,3 +84,5 @@ most_of limit.WavBytes = most_wav_bytes
 most_of limit.Words = most_words
 most_of limit.DelaySamples = most_delay_samples
 most_of limit.Resources = most_resources
+most_of limit.Asks = most_asks
+most_of limit.CsdBytes = most_csd_bytes

@@ -26,6 +26,10 @@ pub const MOST_WORDS: usize = 65_536;
 pub const MOST_DELAY_SAMPLES: usize = 262_144;
 /// Shared resources.
 pub const MOST_RESOURCES: usize = 4_096;
+/// Notes that a performance keeps of those that other notes ask for.
+pub const MOST_ASKS: usize = 100_000;
+/// Bytes of one file with orchestra and score: those of both texts at most.
+pub const MOST_CSD_BYTES: usize = 5_242_880;
 
 /// A stated limit, in the order of their numbers. It is passed where what it counts is more than its greatest number.
 #[derive(Clone, Copy, Debug, PartialEq, Eq)]
@@ -41,10 +45,12 @@ pub enum Limit {
     Words,
     DelaySamples,
     Resources,
+    Asks,
+    CsdBytes,
 }
 
 impl Limit {
-    /// The limit's number, from 1 to 11, as a refusal prints it.
+    /// The limit's number, from 1 to 13, as a refusal prints it.
     pub fn number(self) -> u8
         ensures { result ≡ limit_number self }
     {
@@ -60,6 +66,8 @@ impl Limit {
             Limit::Words => 9,
             Limit::DelaySamples => 10,
             Limit::Resources => 11,
+            Limit::Asks => 12,
+            Limit::CsdBytes => 13,
         }
     }
 
@@ -79,6 +87,8 @@ impl Limit {
             Limit::Words => MOST_WORDS as u64,
             Limit::DelaySamples => MOST_DELAY_SAMPLES as u64,
             Limit::Resources => MOST_RESOURCES as u64,
+            Limit::Asks => MOST_ASKS as u64,
+            Limit::CsdBytes => MOST_CSD_BYTES as u64,
         }
     }
 }

@@ -16,10 +16,6 @@ pub record Line : Type 0 where
 abbrev pub line : ℕ → ℕ → List ℕ → Line
 line number at bytes = record { number = number; at = at; bytes = bytes }
 
--- the most bytes that a file may have
-abbrev pub most_csd_bytes : ℕ
-most_csd_bytes = 5242880
-
 -- lines with one more byte at the front of the first
 abbrev pub with_byte : ℕ → ℕ → ℕ → List Line → List Line
 with_byte number at b [] = line number at (b ∷ []) ∷ []

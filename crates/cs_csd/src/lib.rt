@@ -15,4 +15,4 @@ mod split;
 
 pub use laws::one_reading;
 pub use part::{CsdFault, CsdKind, Part, Parts};
-pub use split::{MOST_CSD_BYTES, split_csd};
+pub use split::split_csd;

@@ -1,6 +1,7 @@
 // Where one stands in a file, line after line.
 ghost use Rattle.std.specs.Prelude.{◌≡◌, ◌≤◌, ◌+◌, length};
-ghost use Rattle.cs_csd.specs.Lines.{line, mark_of, most_csd_bytes};
+ghost use Rattle.cs_base.specs.Limits.{most_csd_bytes};
+ghost use Rattle.cs_csd.specs.Lines.{line, mark_of};
 ghost use Rattle.cs_csd.specs.Sections.{fault, nothing_found, stood, with_section};
 ghost use Rattle.cs_csd.specs.inner.Scan.{begun, finish, inside, marked, opened, step, stopped};
 

@@ -1,14 +1,12 @@
 // The whole file.
 ghost use Rattle.std.specs.Prelude.{◌≡◌, ◌≤◌, length};
-ghost use Rattle.cs_csd.specs.Lines.{last_line, most_csd_bytes, next_len};
+ghost use Rattle.cs_base.specs.Limits.{most_csd_bytes};
+ghost use Rattle.cs_csd.specs.Lines.{last_line, next_len};
 ghost use Rattle.cs_csd.specs.Sections.{Reading};
 
 use crate::scan::State;
 use crate::{CsdFault, Parts};
 use cs_base::line_len;
-
-/// Bytes of a file with both texts.
-pub const MOST_CSD_BYTES: usize = 5_242_880;
 
 /// Where the orchestra and the score stand in a file, or the first fault of its tags. It takes no memory.
 pub fn split_csd(text: &[u8]) -> Result<Parts, CsdFault>

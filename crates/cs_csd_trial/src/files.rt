@@ -1,5 +1,6 @@
 // Files and what they come to: texts and the numbers of their first lines, or the first fault.
-use cs_csd::{MOST_CSD_BYTES, Part, split_csd};
+use cs_base::MOST_CSD_BYTES;
+use cs_csd::{Part, split_csd};
 
 // The number of the kind of fault and its line, or 0 twice; then orchestra and score, each with the number of its first line.
 type Shown<'t> = (u8, u32, &'t [u8], u32, &'t [u8], u32);
