@@ -10,7 +10,7 @@ use crate::marks::{mark_op, marked_places};
 use crate::named::Sizes;
 use cs_base::{OutOfMemory, Res};
 use cs_cells::{Footprint, Layout};
-use cs_ir::{Op, ValidCode};
+use cs_ir::{Code, Op};
 use cs_words::Space;
 use std::alloc::Global;
 
@@ -25,7 +25,7 @@ struct Marks {
 /// its ops may use, and of those whose resource one may write, each ascending. It takes as long as
 /// the code has ops and the layout has areas, and for each op whose reach is over many numbers as
 /// long again as the layout has areas. Want of memory alone is refused.
-pub fn footprint(alloc: Global, perf: &ValidCode, layout: &Layout) -> Result<Footprint, OutOfMemory>
+pub fn footprint(alloc: Global, perf: &Code, layout: &Layout) -> Result<Footprint, OutOfMemory>
     ensures uses { IfOk result (λ f. f.uses
         ≡ places_holding layout.now (ops_use (stock_of layout.now) perf.now.ops.items)) }
     ensures writes { IfOk result (λ f. f.writes
@@ -37,7 +37,7 @@ pub fn footprint(alloc: Global, perf: &ValidCode, layout: &Layout) -> Result<Foo
     ensures written { IfOk result (λ f. (place : ℕ) → Contains f.writes place
         → Contains f.uses place) }
 {
-    let marks = marks_of(alloc, &perf.code().ops, layout)?;
+    let marks = marks_of(alloc, &perf.ops, layout)?;
     Ok(Footprint {
         uses: marked_places(alloc, &marks.uses, layout.len())?,
         writes: marked_places(alloc, &marks.writes, layout.len())?,

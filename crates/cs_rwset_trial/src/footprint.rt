@@ -77,7 +77,7 @@ fn laid_out(alloc: Global) -> Option<Layout> {
 fn touches(alloc: Global, steps: &[Step], uses: &[u32], writes: &[u32]) -> Option<bool> {
     let code = checked(alloc, steps)?;
     let layout = laid_out(alloc)?;
-    let foot = footprint(alloc, &code, &layout).ok()?;
+    let foot = footprint(alloc, code.code(), &layout).ok()?;
     Some(foot.uses.as_slice() == uses && foot.writes.as_slice() == writes)
 }
 
