@@ -14,7 +14,6 @@ returns-clause-uses c =
     let b = c.deref-2.ensures.value in
     let d = c.in_ok-marks.ensures.uses in
     let e = c.deref.ensures.value in
-    let f = c.code.ensures.same in
     let g = marked_places_are c.args.layout.now (ops_use (stock_of c.args.layout.now) c.args.perf.now.ops.items) in
     cc
 
@@ -24,7 +23,6 @@ returns-clause-writes c =
     let b = c.deref-3.ensures.value in
     let d = c.in_ok-marks.ensures.writes in
     let e = c.deref.ensures.value in
-    let f = c.code.ensures.same in
     let g = marked_places_are c.args.layout.now (ops_write (stock_of c.args.layout.now) c.args.perf.now.ops.items) in
     cc
 
