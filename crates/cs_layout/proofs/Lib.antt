@@ -5,3 +5,4 @@ pub mod Limits
 pub mod Made
 pub mod Sharing
 pub mod Tails
+pub mod ZakSpaces

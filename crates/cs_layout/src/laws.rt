@@ -2,6 +2,7 @@
 ghost use Rattle.std.specs.Prelude.{ℕ, ◌≡◌, ◌<◌, List, Some, true};
 ghost use Rattle.std.specs.List.{All};
 ghost use Rattle.std.specs.Option.{is_some};
+ghost use Rattle.cs_access.specs.Access.{AreSpaces, spaces_of};
 ghost use Rattle.cs_base.specs.Rates.{res_rate};
 ghost use Rattle.cs_base.specs.declared.resource.Res.{Res};
 ghost use Rattle.cs_cells.specs.Areas.{IsLaid};
@@ -27,6 +28,14 @@ pub fn layouts_are_complete()
         → area.length ≡ cell_count ksmps (res_rate g) }
     ensures spaces { (ksmps : ℕ) (names : SharedNames) (spaces : Spaces) (live : List LiveTable)
         → (stock_of (areas_of ksmps names spaces live)).spaces ≡ spaces }
+{}
+
+/// The zak spaces of a layout are those of the piece: each of their places has its area, from 0 on, and no other place has one.
+pub fn layouts_have_their_places()
+    ensures spaces { (ksmps : ℕ) (names : SharedNames) (spaces : Spaces) (live : List LiveTable)
+        → spaces_of (areas_of ksmps names spaces live) ≡ spaces }
+    ensures places { (ksmps : ℕ) (names : SharedNames) (spaces : Spaces) (live : List LiveTable)
+        → AreSpaces (areas_of ksmps names spaces live) }
 {}
 
 /// What the notes of a piece share is placed in its layout: its zak spaces, and those of its tables that notes may write.

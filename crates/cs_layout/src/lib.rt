@@ -11,4 +11,4 @@ mod areas;
 mod laws;
 
 pub use areas::{LiveTable, layout};
-pub use laws::{layouts_are_complete, layouts_hold_a_piece};
+pub use laws::{layouts_are_complete, layouts_have_their_places, layouts_hold_a_piece};

@@ -1,0 +1,23 @@
+-- The zak places of a layout.
+use Rattle.std.proofs.Common.{◌≡◌, ℕ, List, nat_lt, sym, ◌∙◌, ap}
+use Rattle.std.specs.Option.{is_some}
+use Rattle.cs_base.specs.declared.resource.Res.TheVariants as res
+use Rattle.cs_words.specs.declared.catalogue.Space.{Space}
+use Rattle.cs_words.specs.declared.catalogue.Space.TheVariants as space
+use Rattle.cs_ir.specs.Resources.{Spaces, places_of, zak_place}
+use Rattle.cs_typed.specs.TypedTree.{SharedNames}
+use Rattle.cs_sounding.specs.Placing.{area_of}
+use Rattle.cs_access.specs.Access.{spaces_of}
+use Rattle.cs_layout.specs.Layouts.{areas_of}
+use Rattle.cs_layout.specs.declared.areas.LiveTable.{LiveTable}
+use Rattle.cs_layout.proofs.Complete.{there}
+use Rattle.cs_layout.proofs.Counted.{spaces_are}
+
+-- each place of a space has its area, and no other has
+pub are_spaces : (ksmps : ℕ) (names : SharedNames) (spaces : Spaces) (live : List LiveTable) (s : Space) (n : ℕ)
+    → is_some (area_of (areas_of ksmps names spaces live) (zak_place s n))
+    ≡ nat_lt n (places_of (spaces_of (areas_of ksmps names spaces live)) s)
+are_spaces ksmps names spaces live space.Control n =
+    there ksmps names spaces live (res.ZakK n) ∙ ap (λ p. nat_lt n (places_of p space.Control)) (sym (spaces_are ksmps names spaces live))
+are_spaces ksmps names spaces live space.Audio n =
+    there ksmps names spaces live (res.ZakA n) ∙ ap (λ p. nat_lt n (places_of p space.Audio)) (sym (spaces_are ksmps names spaces live))
