@@ -5,12 +5,14 @@
 //!
 //! How many threads are started, which worker runs which note, and how long one waits for a note
 //! before it leaves, may change without anyone above noticing. In reading order: `worker` (claim,
-//! run, finish), `crew` (a seat for each worker), `cycle`.
+//! run, finish), `crew` (a seat for each worker), `cycle`, `size` (how many workers are of use).
 #![tactic(auto)]
 
 mod crew;
 mod cycle;
+mod size;
 mod worker;
 
 pub use cycle::run_cycle;
+pub use size::crew_size;
 pub use worker::work;

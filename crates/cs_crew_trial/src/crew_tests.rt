@@ -3,9 +3,12 @@
 ghost use Rattle.std.specs.Prelude.{◌≡◌, ◌≤◌, length, All};
 ghost use Rattle.cs_cells.specs.Areas.{word_count};
 
-use crate::{Meeting, Watcher, add_by_crew, counting_jobs, crewed, plays_as_fold, words_after};
+use crate::{
+    Meeting, Watcher, add_by_crew, counting_jobs, crewed, cycles_follow, plays_as_fold, words_after,
+};
 use cs_base::MOST_NOTES;
 use cs_cells::{Area, Job, Layout};
+use cs_crew::crew_size;
 use cs_edge::OpenGate;
 use cs_trial::{Foot, Loaded, laid, single, words_of};
 use std::alloc::Global;
@@ -18,6 +21,15 @@ use std::thread::Threads;
 fn crews_play_as_the_fold(rt: HostRuntime) -> Result<(), Fail> {
     for seed in 0..200 {
         assert!(rt; plays_as_fold(&rt, rt.alloc(), seed), "seed {seed}");
+    }
+    Ok(())
+}
+
+// Each cycle has notes of its own, and the desk is the one that the cycle before has left.
+#[test]
+fn cycles_follow_one_another(rt: HostRuntime) -> Result<(), Fail> {
+    for seed in 0..60 {
+        assert!(rt; cycles_follow(&rt, rt.alloc(), seed), "seed {seed}");
     }
     Ok(())
 }
@@ -175,5 +187,13 @@ fn thirty_two_workers_of_512_notes(rt: HostRuntime) -> Result<(), Fail> {
             Some((Some(first), Some(last)))
         );
     }
+    Ok(())
+}
+
+// A machine has a processor at least.
+#[test]
+fn crews_are_no_larger_than_asked(rt: HostRuntime) -> Result<(), Fail> {
+    assert_eq!(rt; crew_size(&rt, 1), 1);
+    assert!(rt; crew_size(&rt, 32) >= 1);
     Ok(())
 }

@@ -7,16 +7,19 @@
 //!
 //! Which cycles are tried may change without anyone above noticing. In reading order: `crews` (one
 //! cycle of any jobs, and several), `counted` (jobs whose runs are counted), `gates` (gates that tell what the
-//! workers did), `random` (cycles of fixed seeds beside the serial fold), and the tests.
+//! workers did), `random` (cycles of fixed seeds beside the serial fold), `follow` (such cycles one after
+//! another over one desk), and the tests.
 #![tactic(auto)]
 
 mod counted;
 mod crews;
+mod follow;
 mod gates;
 mod random;
 
 pub use counted::{Counted, counting_jobs};
 pub use crews::{CYCLE, add_by_crew, after_cycles, crewed, play_cycles, words_after};
+pub use follow::cycles_follow;
 pub use gates::{Meeting, Watcher};
 pub use random::{Dice, plays_as_fold};
 

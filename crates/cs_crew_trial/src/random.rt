@@ -113,7 +113,7 @@ fn are_alike(notes: &[Mini<'_>], others: &[Mini<'_>]) -> bool {
 }
 
 /// The words and the notes that the fold leaves.
-fn folded<'t>(
+pub(crate) fn folded<'t>(
     alloc: Global,
     layout: &Layout,
     areas: &'t [Area],
@@ -152,7 +152,7 @@ fn loaded_of<'t>(
     }
 }
 
-fn same(loaded: &Loaded<Mini<'_>>, other: &Loaded<Mini<'_>>) -> bool {
+pub(crate) fn same(loaded: &Loaded<Mini<'_>>, other: &Loaded<Mini<'_>>) -> bool {
     loaded.words.as_slice() == other.words.as_slice() && are_alike(&loaded.jobs, &other.jobs)
 }
 
@@ -203,7 +203,11 @@ fn all_agree<R: Threads + Wait + Sync>(
     true
 }
 
-fn draw_parts(alloc: Global, dice: &mut Dice, areas: &[Area]) -> Result<Vec<Part>, AllocError> {
+pub(crate) fn draw_parts(
+    alloc: Global,
+    dice: &mut Dice,
+    areas: &[Area],
+) -> Result<Vec<Part>, AllocError> {
     let mut parts = Vec::new(alloc);
     for _ in 0..dice.roll(16) {
         parts.push(draw_part(alloc, dice, areas)?)?;
@@ -211,7 +215,11 @@ fn draw_parts(alloc: Global, dice: &mut Dice, areas: &[Area]) -> Result<Vec<Part
     Ok(parts)
 }
 
-fn draw_words(alloc: Global, dice: &mut Dice, count: u32) -> Result<Vec<u64>, AllocError> {
+pub(crate) fn draw_words(
+    alloc: Global,
+    dice: &mut Dice,
+    count: u32,
+) -> Result<Vec<u64>, AllocError> {
     let mut words = Vec::new(alloc);
     for _ in 0..count {
         words.push(u64::from(dice.roll(1_000)))?;
@@ -239,7 +247,7 @@ fn plays_on<R: Threads + Wait + Sync>(
 }
 
 /// Areas of one to six resources, and their layout.
-fn draw_layout(alloc: Global, dice: &mut Dice) -> Option<(Vec<Area>, Layout)>
+pub(crate) fn draw_layout(alloc: Global, dice: &mut Dice) -> Option<(Vec<Area>, Layout)>
     ensures { IfSome result (λ l. l.1 ≡ l.0.items) }
 {
     let count = 1 + dice.roll(6);

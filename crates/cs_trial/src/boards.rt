@@ -72,6 +72,7 @@ pub fn desk_for<J: Job + Drop>(
 /// The words of a desk's cells. None where there is no memory for them.
 pub fn words_on<J: Job>(alloc: Global, layout: &Layout, desk: &mut Desk<J>) -> Option<Vec<u64>>
     requires { areas desk.old ≡ layout.now }
+    ensures { areas desk.new ≡ areas desk.old }
 {
     read_words(alloc, desk, layout.words()).ok()
 }
