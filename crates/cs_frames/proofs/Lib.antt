@@ -1,5 +1,6 @@
 pub mod Alike
 pub mod Expanding
+pub mod Fit
 pub mod Fresh
 pub mod KnownOn
 pub mod Later

@@ -1,9 +1,11 @@
 // What holds of calls of defined opcodes: calls that do nothing, whose contracts are the laws.
-ghost use Rattle.std.specs.List.{AllZip, AllPairs};
-ghost use Rattle.std.specs.Prelude.{◌≡◌, ◌≢◌, ◌∷◌, ◌<◌, [], ℕ, List, None, Ok};
+ghost use Rattle.std.specs.List.{All, AllZip, AllPairs, IsDistinct, flat_map};
+ghost use Rattle.std.specs.Prelude.{◌≡◌, ◌≢◌, ◌∷◌, ◌<◌, [], ℕ, List, None, Ok, eqb};
 ghost use Rattle.cs_grammar.specs.Tree.{Block, Definition, Orchestra};
 ghost use Rattle.cs_grammar.specs.WellFormed.{IsWellFormed};
 ghost use Rattle.cs_meaning.specs.Examples.{each, whole};
+ghost use Rattle.cs_typed.specs.TypedTree as typed;
+ghost use Rattle.cs_typed.specs.WellRated.{BlockHasNoZakinit};
 ghost use Rattle.cs_typing.specs.Typing.{type_fault, typed_of};
 ghost use Rattle.cs_udo.specs.Expanding.{expanding};
 ghost use Rattle.cs_udo.specs.Worked.{twice, calls_twice, count};
@@ -23,6 +25,15 @@ pub fn expansion_means_calls<W>()
     ensures instruments { (o : Orchestra) → (made : Orchestra) → IsWellFormed o → expanding o ≡ Ok made → type_fault made ≡ None →
         AllZip (MeansFrames W o.opcodes (shared_of made)) o.instrs (typed_of made).instrs }
     ensures outside { (o : Orchestra) → (made : Orchestra) → expanding o ≡ Ok made → made.zero ≡ o.zero }
+{}
+
+/// What an orchestra that was read is expanded to can be lowered once it is typed: no `zakinit` stands in an instrument, and no
+/// instrument's number stands twice.
+pub fn expansions_can_be_lowered()
+    ensures no_zakinit { (o : Orchestra) → (made : Orchestra) → IsWellFormed o → expanding o ≡ Ok made →
+        All (λ (i : typed.Instrument). BlockHasNoZakinit i.body) (typed_of made).instrs }
+    ensures numbers { (o : Orchestra) → (made : Orchestra) → IsWellFormed o → expanding o ≡ Ok made →
+        IsDistinct eqb (flat_map (λ (i : typed.Instrument). i.numbers) (typed_of made).instrs) }
 {}
 
 /// Each place of a call is alone with its frame: the frames of the calls in statements, those in the bodies that they call too,

@@ -14,5 +14,5 @@ mod laws;
 
 pub use laws::{
     calls_have_frames_of_their_own, calls_worked_by_hand, expansion_means_calls,
-    typing_is_by_numbers,
+    expansions_can_be_lowered, typing_is_by_numbers,
 };

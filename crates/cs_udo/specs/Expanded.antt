@@ -1,8 +1,8 @@
 -- Statements with each call of a defined opcode replaced by what the opcode does.
-use Rattle.std.specs.Prelude.{ℕ, Bool, List, [], ◌∷◌, ◌+◌, map, nat_lt, Option, Some, None, if◌then◌else◌}
+use Rattle.std.specs.Prelude.{ℕ, List, [], ◌∷◌, ◌+◌, map, nat_lt, Option, Some, None, if◌then◌else◌}
 use Rattle.std.specs.Option.{option_or}
 use Rattle.std.specs.Str.{bytes_eq}
-use Rattle.cs_grammar.specs.Tree.{Argument, value, text, var, Statement, set, add_to, call, choose, Block, no_stmt, andthen, joins, Arms, otherwise, arm}
+use Rattle.cs_grammar.specs.Tree.{Argument, value, var, Statement, set, add_to, call, choose, Block, no_stmt, andthen, joins, Arms, otherwise, arm}
 use Rattle.cs_grammar.specs.Tree.{Definition, Instrument, Orchestra}
 use Rattle.cs_udo.specs.Names.{renamed, renamed_argument, in_frame, as_it_is, slots}
 

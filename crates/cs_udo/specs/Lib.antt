@@ -4,3 +4,4 @@ pub mod Expanding
 pub mod Names
 pub mod Refused
 pub mod Worked
+pub mod inner

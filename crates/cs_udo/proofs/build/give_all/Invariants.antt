@@ -1,0 +1,12 @@
+use Rattle.std.proofs.Common.{◌≡◌, drop, map}
+use Rattle.cs_grammar.specs.Tree.{argument}
+use Rattle.cs_udo.specs.Expanded.{assignments}
+use Rattle.cs_udo.specs.Names.{renamed_argument}
+use Rattle.cs_udo.specs.inner.Building.{shown, with}
+use Rattle.cs_udo.specs.inner.Owners.{owned}
+use Rattle.cs_udo.proofs.build.give_all.Given as goal
+
+abbrev pub invariant-loop-i : goal.invariant-loop-i
+invariant-loop-i l =
+    with (shown l.made) (assignments l.line (map (owned l.to) (drop l.i l.names)) (map (renamed_argument (owned l.from)) (map argument (drop l.i l.args))))
+    ≡ with (shown l.initial.made) (assignments l.line (map (owned l.to) l.names) (map (renamed_argument (owned l.from)) (map argument l.args)))

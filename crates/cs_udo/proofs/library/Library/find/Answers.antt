@@ -1,0 +1,29 @@
+use Rattle.std.proofs.Common.{◌≡◌, ◌<◌, length, slice_get, Some, arith, subst}
+use Rattle.cs_grammar.specs.Tree.{definition}
+use Rattle.cs_grammar.specs.declared.tree.Udo.{Udo}
+use Rattle.cs_udo.specs.Expanded.{template}
+use Rattle.cs_udo.specs.inner.Library.{definitions_of, opcodes_of}
+use Rattle.cs_udo.proofs.Places.{read_one, found_one, found_none}
+use Rattle.cs_udo.proofs.library.Library.find.Goals as goal
+
+pub returns-then-place-min : goal.returns-then-place-min
+returns-then-place-min c =
+    let us = c.args.self.now.definitions.now in
+    let k = c.place-place.result in
+    let u = c.index-self-place.result in
+    let lt : k < c.args.visible = omega (arith, c.if-place-min.true, c.min.ensures) in
+    let within : k < length us = omega (arith, c.if-place-min.true, c.min.ensures) in
+    subst
+    (λ (v : Udo). (k < c.args.visible) × (slice_get (definitions_of c.args.self.now) k ≡ Some (definition v))
+    × (opcodes_of (definitions_of c.args.self.now) c.args.visible c.args.name.now
+    ≡ Some (template (opcodes_of (definitions_of c.args.self.now) k) (definition v))))
+    c.index-self-place.is (
+      lt,
+      read_one us k u within c.index-self-place.is,
+      found_one us c.args.self.now.names c.args.visible k c.args.name.now u c.args.self.now.named c.place-place.ensures lt within c.index-self-place.is,
+    )
+
+pub returns-else-place-min : goal.returns-else-place-min
+returns-else-place-min c =
+    found_none c.args.self.now.definitions.now c.args.self.now.names c.args.visible c.place-place.result c.args.name.now c.args.self.now.named
+    c.place-place.ensures (omega (arith, c.if-place-min.false, c.min.ensures))

@@ -1,0 +1,13 @@
+-- Faults, one after the other.
+use Rattle.std.specs.Prelude.{List, [], ◌∷◌, Option, Some, None}
+use Rattle.cs_base.specs.declared.fault.OrcFault.{OrcFault}
+use Rattle.cs_udo.specs.Refused.{uppermost_of}
+
+abbrev pub listed : {A : Type 0} → Option A → List A
+listed None = []
+listed (Some x) = x ∷ []
+
+-- the uppermost of one and of several
+abbrev pub after_faults : Option OrcFault → List OrcFault → Option OrcFault
+after_faults first [] = first
+after_faults first (f ∷ rest) = after_faults (uppermost_of first (Some f)) rest

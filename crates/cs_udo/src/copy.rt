@@ -1,0 +1,97 @@
+// Expressions and arguments with the names of an owner's variables.
+ghost use Rattle.std.specs.Prelude.{◌≡◌, map, IfOk};
+ghost use Rattle.cs_grammar.specs.Tree as tree;
+ghost use Rattle.cs_udo.specs.Names.{renamed, renamed_argument};
+ghost use Rattle.cs_udo.specs.inner.Owners.{owned};
+
+use crate::owner::{Owner, copied, owned_name};
+use cs_base::{Name, OutOfMemory};
+use cs_grammar::{Arg, Args, Expr};
+use cs_words::{BinOp, Func};
+use std::alloc::Global;
+
+/// An expression with the names of an owner's variables.
+pub fn owned_expr(alloc: Global, owner: Owner, e: &Expr) -> Result<Expr, OutOfMemory>
+    ensures { IfOk result (λ made. tree.expression made ≡ renamed (owned owner) (tree.expression e.now)) }
+{
+    match e {
+        Expr::Number(value) => Ok(Expr::Number(*value)),
+        Expr::Field(number) => Ok(Expr::Field(*number)),
+        Expr::Head(name) => Ok(Expr::Head(*name)),
+        Expr::Var(name) => Ok(Expr::Var(owned_name(alloc, owner, name.as_slice())?)),
+        Expr::Neg(a) => negated(alloc, owned_expr(alloc, owner, a)?),
+        Expr::Pair(op, a, b) => {
+            let a = owned_expr(alloc, owner, a)?;
+            paired(alloc, *op, a, owned_expr(alloc, owner, b)?)
+        }
+        Expr::Pick(c, a, b) => {
+            let c = owned_expr(alloc, owner, c)?;
+            let a = owned_expr(alloc, owner, a)?;
+            picked(alloc, c, a, owned_expr(alloc, owner, b)?)
+        }
+        Expr::Call(func, a) => applied(alloc, *func, owned_expr(alloc, owner, a)?),
+    }
+}
+
+fn negated(alloc: Global, a: Expr) -> Result<Expr, OutOfMemory>
+    ensures { IfOk result (λ made. tree.expression made ≡ tree.neg (tree.expression a)) }
+{
+    Ok(Expr::Neg(Box::new(alloc, a)?))
+}
+
+fn paired(alloc: Global, op: BinOp, a: Expr, b: Expr) -> Result<Expr, OutOfMemory>
+    ensures { IfOk result (λ made. tree.expression made ≡ tree.pair op (tree.expression a) (tree.expression b)) }
+{
+    let a = Box::new(alloc, a)?;
+    let b = Box::new(alloc, b)?;
+    Ok(Expr::Pair(op, a, b))
+}
+
+fn picked(alloc: Global, c: Expr, a: Expr, b: Expr) -> Result<Expr, OutOfMemory>
+    ensures { IfOk result (λ made. tree.expression made
+        ≡ tree.pick (tree.expression c) (tree.expression a) (tree.expression b)) }
+{
+    let c = Box::new(alloc, c)?;
+    let a = Box::new(alloc, a)?;
+    let b = Box::new(alloc, b)?;
+    Ok(Expr::Pick(c, a, b))
+}
+
+fn applied(alloc: Global, func: Func, a: Expr) -> Result<Expr, OutOfMemory>
+    ensures { IfOk result (λ made. tree.expression made ≡ tree.apply func (tree.expression a)) }
+{
+    Ok(Expr::Call(func, Box::new(alloc, a)?))
+}
+
+/// An argument with the names of an owner's variables: a text stays.
+pub fn owned_arg(alloc: Global, owner: Owner, arg: &Arg) -> Result<Arg, OutOfMemory>
+    ensures { IfOk result (λ made. tree.argument made ≡ renamed_argument (owned owner) (tree.argument arg.now)) }
+{
+    match arg {
+        Arg::Value(e) => Ok(Arg::Value(owned_expr(alloc, owner, e)?)),
+        Arg::Text(text) => Ok(Arg::Text(copied(alloc, text.as_slice())?)),
+    }
+}
+
+/// Arguments with the names of an owner's variables.
+pub fn owned_args(alloc: Global, owner: Owner, args: &[Arg]) -> Result<Args, OutOfMemory>
+    ensures { IfOk result (λ made. map tree.argument made.items
+        ≡ map (renamed_argument (owned owner)) (map tree.argument args.now)) }
+{
+    let mut made = Vec::new(alloc);
+    for arg in args {
+        made.push(owned_arg(alloc, owner, arg)?)?;
+    }
+    Ok(made)
+}
+
+/// The values of variables.
+pub fn values_of(alloc: Global, names: &[Name]) -> Result<Args, OutOfMemory>
+    ensures { IfOk result (λ made. map tree.argument made.items ≡ map (λ x. tree.value (tree.var x)) names.now) }
+{
+    let mut made = Vec::new(alloc);
+    for name in names {
+        made.push(Arg::Value(Expr::Var(copied(alloc, name.as_slice())?)))?;
+    }
+    Ok(made)
+}

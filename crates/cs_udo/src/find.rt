@@ -1,0 +1,56 @@
+// How definitions are found: by name, and by line.
+ghost use Rattle.std.specs.Prelude.{◌≡◌, ◌≤◌, IfOk, map, nat_lt, length};
+ghost use Rattle.std.specs.List.{prefix_len};
+ghost use Rattle.cs_grammar.specs.Inputs.{AreDifferent};
+ghost use Rattle.cs_grammar.specs.Tree as tree;
+ghost use Rattle.cs_udo.specs.inner.Library.{definitions_of, IsFound};
+
+use crate::library::{Found, Library};
+use cs_base::OutOfMemory;
+use cs_grammar::Udo;
+use cs_words::NameSet;
+use std::alloc::Global;
+
+impl<'t> Library<'t> {
+    /// Definitions whose names are different.
+    pub fn new(alloc: Global, definitions: &'t [Udo]) -> Result<Library<'t>, OutOfMemory>
+        requires { AreDifferent (map (λ u. u.name) definitions.now) }
+        ensures { IfOk result (λ l. definitions_of l ≡ map tree.definition definitions.now) }
+    {
+        let mut names = NameSet::new(alloc);
+        for definition in definitions {
+            names.add(definition.name.as_slice())?;
+        }
+        Ok(Library { definitions, names })
+    }
+
+    /// The definition of a name among so many.
+    pub fn find(&self, visible: usize, name: &[u8]) -> Option<Found<'t>>
+        ensures { IsFound (definitions_of self.now) visible name.now result }
+    {
+        let place = self.names.place(name);
+        if place < visible.min(self.definitions.len()) {
+            Some(Found {
+                place,
+                definition: &self.definitions[place],
+            })
+        } else {
+            None
+        }
+    }
+
+    /// How many definitions stand in front of a line.
+    pub fn before(&self, line: u32) -> usize
+        ensures count { result ≡ prefix_len (λ d. nat_lt d.line line) (definitions_of self.now) }
+        ensures within { result ≤ length (definitions_of self.now) }
+    {
+        let mut count: usize = 0;
+        for definition in self.definitions {
+            if definition.line >= line {
+                return count;
+            }
+            count += 1;
+        }
+        count
+    }
+}

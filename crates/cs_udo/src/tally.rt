@@ -1,0 +1,253 @@
+// What statements count, and the limits on instruments and on the statements of one.
+ghost use Rattle.std.specs.Prelude.{◌≡◌, ◌≤◌, ◌+◌, ℕ, List, IfOk, length, map};
+ghost use Rattle.std.specs.List.{prefix_len};
+ghost use Rattle.cs_grammar.specs.Tree as tree;
+ghost use Rattle.cs_grammar.specs.declared.tree.Arm.{out-Arm};
+ghost use Rattle.cs_udo.specs.Counted.{size_of, call_count, counts, counts_in, counts_in_arms, hit, numbers_hit, statements_hit, limits};
+ghost use Rattle.cs_udo.specs.Expanded.{assignments, template, opcodes_before};
+ghost use Rattle.cs_udo.specs.inner.Library.{definitions_of, opcodes_of};
+ghost use Rattle.cs_udo.specs.inner.Tallies.{capped, after_count, after_counts, IsPriced, is_value, weight};
+
+use crate::library::Library;
+use cs_base::{Limit, LimitHit, MOST_INSTRUMENTS, MOST_STATEMENTS, Name, OutOfMemory};
+use cs_grammar::{Arg, Arm, Instr, OrcStmt, StmtWhat, Udo};
+use std::alloc::Global;
+
+/// What is counted so far.
+#[derive(Clone, Copy)]
+pub struct Tally {
+    /// The sum: one more than may be stands for all that are too many.
+    pub sum: u32,
+    /// The line at which it became too much.
+    pub passed: Option<u32>,
+}
+
+/// Definitions, and what each of the first of them counts where it is called.
+#[derive(Drop)]
+pub struct Prices<'l, 't> {
+    library: &'l Library<'t>,
+    costs: &'l [u32],
+    ghost priced: { IsPriced (definitions_of library.now) costs.now },
+}
+
+// A number, or one more than may be where it is too much.
+fn capped(number: usize) -> u32
+    ensures { result ≡ capped number }
+{
+    if number > MOST_STATEMENTS {
+        MOST_STATEMENTS as u32 + 1
+    } else {
+        number as u32
+    }
+}
+
+// A sum of numbers, likewise.
+fn plus(a: u32, b: u32) -> u32
+    ensures { result ≡ capped (a + b) }
+{
+    capped(a as usize + b as usize)
+}
+
+// What is counted after one more statement.
+fn add(before: Tally, line: u32, count: u32) -> Tally
+    ensures { result ≡ after_count before (line, count) }
+{
+    let sum = plus(before.sum, count);
+    let passed = if sum as usize > MOST_STATEMENTS {
+        Some(line)
+    } else {
+        None
+    };
+    Tally {
+        sum,
+        passed: before.passed.or(passed),
+    }
+}
+
+// How many arguments stand in front of the first text.
+fn values(args: &[Arg]) -> usize
+    ensures count { result ≡ prefix_len is_value (map tree.argument args.now) }
+    ensures within { result ≤ length args.now }
+{
+    let mut count: usize = 0;
+    for arg in args {
+        if matches!(arg, Arg::Text(_)) {
+            return count;
+        }
+        count += 1;
+    }
+    count
+}
+
+// How many assignments give arguments to so many names.
+fn assigned(names: usize, args: &[Arg]) -> u32
+    ensures { (line : ℕ) (xs : List (List ℕ)) → names ≡ length xs
+        → result ≡ capped (size_of (assignments line xs (map tree.argument args.now))) }
+{
+    capped(names.min(values(args)))
+}
+
+// What a call counts.
+fn price(prices: &Prices, results: &[Name], name: &[u8], args: &[Arg]) -> u32
+    ensures { (line : ℕ) → result ≡ capped (call_count line results.now name.now (map tree.argument args.now)
+        (opcodes_of (definitions_of prices.now.library.now) (length prices.now.costs.now) name.now)) }
+{
+    match prices.library.find(prices.costs.len(), name) {
+        None => 1,
+        Some(found) => {
+            let definition = found.definition;
+            let given = assigned(definition.names.len(), args);
+            let taken = capped(results.len().min(definition.outs.len()));
+            plus(plus(given, taken), plus(prices.costs[found.place], 1))
+        }
+    }
+}
+
+#[cycle(tally)]
+fn after_stmt(before: Tally, prices: &Prices, s: &OrcStmt) -> Tally
+    ensures { result ≡ after_counts before
+        (counts (opcodes_of (definitions_of prices.now.library.now) (length prices.now.costs.now)) (tree.statement s.now)) }
+{
+    match &s.what {
+        StmtWhat::Set(_, _) | StmtWhat::AddTo(_, _) => add(before, s.line, 1),
+        StmtWhat::Call(results, name, args) => add(
+            before,
+            s.line,
+            price(prices, results.as_slice(), name.as_slice(), args),
+        ),
+        StmtWhat::Choose(list, els) => after_block(
+            after_arms(add(before, s.line, 1), prices, list),
+            prices,
+            els,
+        ),
+    }
+}
+
+#[cycle(tally)]
+fn after_block(before: Tally, prices: &Prices, stmts: &[OrcStmt]) -> Tally
+    ensures { result ≡ after_counts before
+        (counts_in (opcodes_of (definitions_of prices.now.library.now) (length prices.now.costs.now)) (tree.block stmts.now)) }
+{
+    let mut known = before;
+    for s in stmts {
+        known = after_stmt(known, prices, s);
+    }
+    known
+}
+
+#[cycle(tally)]
+fn after_arms(before: Tally, prices: &Prices, list: &[Arm]) -> Tally
+    ensures { (els : tree.Block) → after_counts result
+        (counts_in (opcodes_of (definitions_of prices.now.library.now) (length prices.now.costs.now)) els)
+        ≡ after_counts before
+        (counts_in_arms (opcodes_of (definitions_of prices.now.library.now) (length prices.now.costs.now)) (tree.arms els list.now)) }
+{
+    let mut known = before;
+    for a in list {
+        known = after_arm(known, prices, a);
+    }
+    known
+}
+
+#[cycle(tally)]
+fn after_arm(before: Tally, prices: &Prices, a: &Arm) -> Tally
+    ensures { result ≡ after_counts before
+        (counts_in (opcodes_of (definitions_of prices.now.library.now) (length prices.now.costs.now)) (tree.block (out-Arm a.now).body.items)) }
+{
+    after_block(before, prices, &a.body)
+}
+
+// What a definition counts where it is called, beside its inputs and results.
+fn cost_of(prices: &Prices, definition: &Udo) -> u32
+    ensures { result ≡ capped (weight (template
+        (opcodes_of (definitions_of prices.now.library.now) (length prices.now.costs.now)) (tree.definition definition.now))) }
+{
+    let none = Tally {
+        sum: 0,
+        passed: None,
+    };
+    let body = after_block(none, prices, &definition.body);
+    plus(
+        body.sum,
+        assigned(definition.outs.len(), &definition.result),
+    )
+}
+
+/// What each definition counts where it is called, beside its inputs and results.
+pub fn costs_of(alloc: Global, library: &Library) -> Result<Vec<u32>, OutOfMemory>
+    ensures priced { IfOk result (λ made. IsPriced (definitions_of library.now) made.items) }
+    ensures all { IfOk result (λ made. length made.items ≡ length (definitions_of library.now)) }
+{
+    let mut costs = Vec::new(alloc);
+    for definition in library.definitions {
+        let cost = cost_of(
+            &Prices {
+                library,
+                costs: &costs,
+            },
+            definition,
+        );
+        costs.push(cost)?;
+    }
+    Ok(costs)
+}
+
+// The statement of an instrument that is one too many.
+fn statements_hit(library: &Library, costs: &[u32], i: &Instr) -> Option<LimitHit>
+    requires priced { IsPriced (definitions_of library.now) costs.now }
+    requires all { length costs.now ≡ length (definitions_of library.now) }
+    ensures { result ≡ statements_hit (opcodes_before i.now.line (definitions_of library.now)) (tree.block i.now.body.items) }
+{
+    let prices = Prices {
+        library,
+        costs: &costs[..library.before(i.line)],
+    };
+    let none = Tally {
+        sum: 0,
+        passed: None,
+    };
+    hit(
+        Limit::Statements,
+        after_block(none, &prices, &i.body).passed,
+    )
+}
+
+fn hit(limit: Limit, line: Option<u32>) -> Option<LimitHit>
+    ensures { result ≡ hit limit line }
+{
+    match line {
+        None => None,
+        Some(line) => Some(LimitHit { limit, line }),
+    }
+}
+
+// An instrument's line, where so many numbers before and its own are too many.
+fn numbers_hit(given: usize, i: &Instr) -> Option<LimitHit>
+    ensures { result ≡ numbers_hit given (tree.instrument i.now) }
+{
+    if given.saturating_add(i.numbers.len()) > MOST_INSTRUMENTS {
+        Some(LimitHit {
+            limit: Limit::Instruments,
+            line: i.line,
+        })
+    } else {
+        None
+    }
+}
+
+/// The first limit that instruments pass.
+pub fn first_limit(library: &Library, costs: &[u32], instrs: &[Instr]) -> Option<LimitHit>
+    requires priced { IsPriced (definitions_of library.now) costs.now }
+    requires all { length costs.now ≡ length (definitions_of library.now) }
+    ensures { result ≡ limits (definitions_of library.now) 0 (map tree.instrument instrs.now) }
+{
+    let mut given: usize = 0;
+    for i in instrs {
+        let passed = numbers_hit(given, i).or(statements_hit(library, costs, i));
+        if passed.is_some() {
+            return passed;
+        }
+        given += i.numbers.len();
+    }
+    None
+}
