@@ -1,5 +1,5 @@
 -- What holds of the orchestra of a text, and of its refusal.
-use Rattle.std.proofs.Common.{◌≡◌, ◌≢◌, ◌≤◌, ◌<◌, ℕ, ◌*◌, ℤ, pos, List, [], ◌∷◌, map, length, Option, Some, None, refl, sym, ap, subst, ◌∙◌, inl, inr, arith}
+use Rattle.std.proofs.Common.{◌≡◌, ◌≢◌, ◌≤◌, ◌<◌, ℕ, ◌*◌, ℤ, pos, List, [], ◌∷◌, map, length, Option, Some, None, Result, Ok, Err, refl, sym, ap, subst, ◌∙◌, inl, inr, arith}
 use Rattle.cs_base.specs.declared.fault.OrcFault.{OrcFault}
 use Rattle.cs_base.specs.declared.fault.OrcKind.{OrcKind}
 use Rattle.cs_lex.specs.declared.token.Token.{Token}
@@ -10,23 +10,27 @@ use Rattle.cs_grammar.specs.declared.tree.HeadLine.{HeadLine}
 use Rattle.cs_grammar.specs.Tree as tree
 use Rattle.cs_grammar.specs.Orchestra.{Tree, ParseFault}
 use Rattle.cs_grammar.proofs.OneOrc as parsing
+use Rattle.cs_udo.specs.declared.fault.ExpandFault.{ExpandFault}
+use Rattle.cs_udo.specs.declared.fault.ExpandFault.TheVariants as why
+use Rattle.cs_udo.specs.Expanding.{expanding}
 use Rattle.cs_typing.specs.Typing.{type_fault}
 use Rattle.cs_play.specs.declared.orchestra.Orchestra.{Orchestra}
 use Rattle.cs_play.specs.declared.status.Status.{Status}
-use Rattle.cs_play.specs.declared.status.Status.TheVariants.{OrcRefused}
+use Rattle.cs_play.specs.declared.status.Status.TheVariants.{OrcRefused, Limit, NotBuilt}
 use Rattle.cs_play.specs.Status.{IsRefusal}
 use Rattle.cs_play.specs.Orchestra.{IsOrchestra, HasRates, IsInstrument, IsSixLines, IsBuilt, TreeRefusal, HasTree, HasOrchestra, HasFault, OrchestraRefusal}
 use Rattle.cs_play.specs.Orchestra.HasFault.{of_tokens, of_grammar}
 use Rattle.cs_play.specs.Orchestra.OrchestraRefusal.{of_text, of_tree}
-use Rattle.cs_play.specs.Orchestra.TreeRefusal.{defines_opcodes, breaks_rule, not_six_lines}
+use Rattle.cs_play.specs.Orchestra.TreeRefusal.{refuses_call, passes_limit, breaks_rule, not_six_lines}
 
 pub in_range : (text : List ℕ) (o : Orchestra) → HasOrchestra text o → IsOrchestra o
 in_range text o has = has.built.six_lines.in_range
 
 tree_refuses : (t : tree.Orchestra) (s : Status) → TreeRefusal t s → IsRefusal s
-tree_refuses t s (defines_opcodes some) = tt
-tree_refuses t s (breaks_rule fault none has) = tt
-tree_refuses t s (not_six_lines none right other) = tt
+tree_refuses t s (refuses_call fault e) = tt
+tree_refuses t s (passes_limit hit e) = tt
+tree_refuses t s (breaks_rule fault x e has) = tt
+tree_refuses t s (not_six_lines x e right other) = tt
 
 pub refuses : (text : List ℕ) (s : Status) → OrchestraRefusal text s → IsRefusal s
 refuses text s (of_text fault h) = tt
@@ -116,28 +120,51 @@ pub none_mapped : {A B : Type 0} (f : A → B) (xs : List A) → length xs ≤ 0
 none_mapped f [] h = refl
 none_mapped f (x ∷ xs) h = absurd (omega arith)
 
--- a tree that breaks a rule of rates and names
-pub mistyped : (t : tree.Orchestra) (s : Status) → t.opcodes ≡ []
-    → (fault : OrcFault) × (s ≡ OrcRefused fault) × (type_fault t ≡ Some fault) → TreeRefusal t s
-mistyped t s none f = subst (λ (x : Status). TreeRefusal t x) (sym f.1) (breaks_rule f.0 none f.2)
+-- a tree whose expansion breaks a rule of rates and names
+pub mistyped : (t e : tree.Orchestra) (s : Status) → expanding t ≡ Ok e
+    → (fault : OrcFault) × (s ≡ OrcRefused fault) × (type_fault e ≡ Some fault) → TreeRefusal t s
+mistyped t e s is f = subst (λ (x : Status). TreeRefusal t x) (sym f.1) (breaks_rule f.0 e is f.2)
+
+-- the status that a tree without an orchestra comes to
+abbrev by_types : Option OrcFault → Status
+by_types (Some fault) = OrcRefused fault
+by_types None = NotBuilt
+
+abbrev by_expansion : Result tree.Orchestra ExpandFault → Status
+by_expansion (Ok e) = by_types (type_fault e)
+by_expansion (Err (why.Orc fault)) = OrcRefused fault
+by_expansion (Err (why.Limit hit)) = Limit hit
+
+comes_to : (t : tree.Orchestra) (s : Status) → TreeRefusal t s → s ≡ by_expansion (expanding t)
+comes_to t s (refuses_call fault e) = sym (ap by_expansion e)
+comes_to t s (passes_limit hit e) = sym (ap by_expansion e)
+comes_to t s (breaks_rule fault x e has) = sym (ap by_expansion e ∙ ap by_types has)
+comes_to t s (not_six_lines x e right other) = sym (ap by_expansion e ∙ ap by_types right)
+
+one_tree_refusal : (t : tree.Orchestra) (r s : Status) → TreeRefusal t r → TreeRefusal t s → r ≡ s
+one_tree_refusal t r s h k = comes_to t r h ∙ sym (comes_to t s k)
+
+one_result : {A B : Type 0} (r : Result A B) (x y : A) → r ≡ Ok x → r ≡ Ok y → x ≡ y
+one_result r x y e h = cc
+
+no_error : {A B : Type 0} (r : Result A B) (x : A) (y : B) → r ≡ Ok x → r ≡ Err y → ⊥
+no_error r x y e h = cc
 
 -- a tree is built, or has one refusal
 built_no_refusal : (t : tree.Orchestra) (o : Orchestra) (s : Status) → IsBuilt t o → TreeRefusal t s → ⊥
-built_no_refusal t o s is (defines_opcodes some) = some is.no_opcodes
-built_no_refusal t o s is (breaks_rule fault none has) = some_none (type_fault t) fault has is.right
-built_no_refusal t o s is (not_six_lines none right other) = other o is.six_lines
+built_no_refusal t o s is (refuses_call fault e) = no_error (expanding t) is.expanded (why.Orc fault) is.expanded_is e
+built_no_refusal t o s is (passes_limit hit e) = no_error (expanding t) is.expanded (why.Limit hit) is.expanded_is e
+built_no_refusal t o s is (breaks_rule fault x e has) =
+    some_none (type_fault x) fault has
+    (subst (λ (y : tree.Orchestra). type_fault y ≡ None) (one_result (expanding t) is.expanded x is.expanded_is e) is.right)
+built_no_refusal t o s is (not_six_lines x e right other) =
+    other o (subst (λ (y : tree.Orchestra). IsSixLines y o) (one_result (expanding t) is.expanded x is.expanded_is e) is.six_lines)
 
-one_tree_refusal : (t : tree.Orchestra) (r s : Status) → TreeRefusal t r → TreeRefusal t s → r ≡ s
-one_tree_refusal t r s (defines_opcodes some) (defines_opcodes some') = refl
-one_tree_refusal t r s (defines_opcodes some) (breaks_rule f none has) = absurd (some none)
-one_tree_refusal t r s (defines_opcodes some) (not_six_lines none right other) = refl
-one_tree_refusal t r s (breaks_rule f none has) (defines_opcodes some) = absurd (some none)
-one_tree_refusal t r s (breaks_rule f none has) (breaks_rule g none' has') =
-    ap (λ (x : OrcFault). OrcRefused x) (some_fault (type_fault t) f g has has')
-one_tree_refusal t r s (breaks_rule f none has) (not_six_lines none' right other) = absurd (some_none (type_fault t) f has right)
-one_tree_refusal t r s (not_six_lines none right other) (defines_opcodes some) = refl
-one_tree_refusal t r s (not_six_lines none right other) (breaks_rule g none' has) = absurd (some_none (type_fault t) g has right)
-one_tree_refusal t r s (not_six_lines none right other) (not_six_lines none' right' other') = refl
+built_once : (t : tree.Orchestra) (o p : Orchestra) → IsBuilt t o → IsBuilt t p → o ≡ p
+built_once t o p h k =
+    one_of_tree k.expanded o p
+    (subst (λ (y : tree.Orchestra). IsSixLines y o) (one_result (expanding t) h.expanded k.expanded h.expanded_is k.expanded_is) h.six_lines)
+    k.six_lines
 
 -- the same of a text
 pub not_both : (text : List ℕ) (o : Orchestra) (s : Status) → HasOrchestra text o → OrchestraRefusal text s → ⊥
@@ -154,6 +181,5 @@ one_refusal text r s (of_tree u has why) (of_tree v has' why') =
 
 pub one_orchestra : (text : List ℕ) (o p : Orchestra) → HasOrchestra text o → HasOrchestra text p → o ≡ p
 one_orchestra text o p has has' =
-    one_of_tree has'.read o p
-    (subst (λ (u : tree.Orchestra). IsSixLines u o) (one_tree text has.read has'.read has.read_is has'.read_is) has.built.six_lines)
-    has'.built.six_lines
+    built_once has'.read o p
+    (subst (λ (u : tree.Orchestra). IsBuilt u o) (one_tree text has.read has'.read has.read_is has'.read_is) has.built) has'.built

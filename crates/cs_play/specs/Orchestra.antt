@@ -1,6 +1,7 @@
-use Rattle.std.specs.Prelude.{◌≡◌, ◌≢◌, ◌≤◌, ℕ, ◌*◌, ◌⊎◌, List, [], ◌∷◌, Some, None, codes, pos}
+use Rattle.std.specs.Prelude.{◌≡◌, ◌≢◌, ◌≤◌, ℕ, ◌*◌, ◌⊎◌, List, [], ◌∷◌, Some, None, Ok, Err, codes, pos}
 use Rattle.cs_base.specs.declared.head.Head.{Head}
 use Rattle.cs_base.specs.declared.fault.OrcFault.{OrcFault}
+use Rattle.cs_base.specs.declared.limit.LimitHit.{LimitHit}
 use Rattle.cs_lex.specs.declared.token.Token.{Token}
 use Rattle.cs_wav.specs.Wav.{full_scale_16}
 use Rattle.cs_lex.specs.Lexed.{Lexed, LexFault}
@@ -9,10 +10,12 @@ use Rattle.cs_words.specs.declared.word.HeadName.TheVariants.{Sr, Ksmps}
 use Rattle.cs_grammar.specs.declared.tree.HeadLine.{HeadLine}
 use Rattle.cs_grammar.specs.Tree as tree
 use Rattle.cs_grammar.specs.Orchestra.{Tree, ParseFault}
+use Rattle.cs_udo.specs.declared.fault.ExpandFault.TheVariants as why
+use Rattle.cs_udo.specs.Expanding.{expanding}
 use Rattle.cs_typing.specs.Typing.{type_fault}
 use Rattle.cs_play.specs.declared.orchestra.Orchestra.{Orchestra}
 use Rattle.cs_play.specs.declared.status.Status.{Status}
-use Rattle.cs_play.specs.declared.status.Status.TheVariants.{OrcRefused, NotBuilt}
+use Rattle.cs_play.specs.declared.status.Status.TheVariants.{OrcRefused, Limit, NotBuilt}
 
 -- an orchestra's numbers are in range
 pub record IsOrchestra (o : Orchestra) : Type 0 where
@@ -59,18 +62,23 @@ pub record IsSixLines (t : tree.Orchestra) (o : Orchestra) : Type 0 where
   pub nothing_outside : t.zero ≡ tree.no_stmt
   pub instrument : IsInstrument t.instrs o.field
 
--- A tree is built as this orchestra: it defines no opcodes, is right by rates and names, and is that of the six lines.
+-- A tree is built as this orchestra: its calls of defined opcodes are expanded, and the expansion is right by rates and names,
+-- and is that of the six lines.
 pub record IsBuilt (t : tree.Orchestra) (o : Orchestra) : Type 0 where
-  pub no_opcodes : t.opcodes ≡ []
-  pub right : type_fault t ≡ None
-  pub six_lines : IsSixLines t o
+  pub expanded : tree.Orchestra
+  pub expanded_is : expanding t ≡ Ok expanded
+  pub right : type_fault expanded ≡ None
+  pub six_lines : IsSixLines expanded o
 
--- Why a tree isn't built: it defines opcodes, which are not looked into; or it breaks a rule of rates and names, the first of
--- which is its fault; or it is right, and isn't that of the six lines.
+-- Why a tree isn't built: a call of a defined opcode is refused; or a limit on instruments or statements is passed; or the
+-- expansion breaks a rule of rates and names, the first of which is its fault; or it is right, and isn't that of the six lines.
 pub data TreeRefusal (t : tree.Orchestra) : Status → Type 0 where
-  defines_opcodes : t.opcodes ≢ [] → TreeRefusal t NotBuilt
-  breaks_rule : (fault : OrcFault) → t.opcodes ≡ [] → type_fault t ≡ Some fault → TreeRefusal t (OrcRefused fault)
-  not_six_lines : t.opcodes ≡ [] → type_fault t ≡ None → ((o : Orchestra) → ¬ (IsSixLines t o)) → TreeRefusal t NotBuilt
+  refuses_call : (fault : OrcFault) → expanding t ≡ Err (why.Orc fault) → TreeRefusal t (OrcRefused fault)
+  passes_limit : (hit : LimitHit) → expanding t ≡ Err (why.Limit hit) → TreeRefusal t (Limit hit)
+  breaks_rule : (fault : OrcFault) → (e : tree.Orchestra) → expanding t ≡ Ok e → type_fault e ≡ Some fault
+      → TreeRefusal t (OrcRefused fault)
+  not_six_lines : (e : tree.Orchestra) → expanding t ≡ Ok e → type_fault e ≡ None → ((o : Orchestra) → ¬ (IsSixLines e o))
+      → TreeRefusal t NotBuilt
 
 -- a text has this tree
 pub record HasTree (text : List ℕ) (t : tree.Orchestra) : Type 0 where

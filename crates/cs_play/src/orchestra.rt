@@ -1,9 +1,11 @@
 // The orchestra that can be played: the six-line orchestra, found in a text's tree.
-ghost use Rattle.std.specs.Prelude.{◌≡◌, ◌≢◌, ◌≤◌, ◌<◌, ◌↔◌, ◌*◌, ◌^◌, ℕ, List, [], ◌∷◌, pos, codes, length, map, Some, None, IsTrue, IfOk, OnOk, MatchOption};
+ghost use Rattle.std.specs.Prelude.{◌≡◌, ◌≢◌, ◌≤◌, ◌<◌, ◌↔◌, ◌*◌, ◌^◌, ℕ, List, [], ◌∷◌, pos, codes, length, map, Some, None, Ok, Err, IsTrue, IfOk, OnOk, MatchOption};
 ghost use Rattle.cs_base.specs.Limits.{most_orchestra_bytes};
 ghost use Rattle.cs_base.specs.declared.fault.Or.TheVariants as or;
 ghost use Rattle.cs_base.specs.declared.fault.OrcFault.{OrcFault};
+ghost use Rattle.cs_grammar.specs.Inputs.{AreDifferent};
 ghost use Rattle.cs_grammar.specs.Tree as tree;
+ghost use Rattle.cs_udo.specs.Expanding.{expanding};
 ghost use Rattle.cs_typing.specs.Typing.{type_fault};
 ghost use Rattle.cs_play.specs.declared.status.Status.{Status};
 ghost use Rattle.cs_play.specs.declared.status.Status.TheVariants.{OrcRefused};
@@ -14,6 +16,7 @@ use cs_base::{Name, Num, Or, OrcFault};
 use cs_grammar::{Arg, Expr, HeadLine, Instr, Orc, OrcStmt, StmtWhat, parse};
 use cs_lex::lex;
 use cs_typing::type_orc;
+use cs_udo::{ExpandFault, expand};
 use cs_words::HeadName;
 use std::alloc::Global;
 
@@ -39,7 +42,7 @@ pub fn orchestra_of(alloc: Global, text: &[u8]) -> Result<Orchestra, Or<Status>>
         Err(Or::Fault(fault)) => return Err(Or::Fault(Status::OrcRefused(fault))),
         Err(Or::OutOfMemory) => return Err(Or::OutOfMemory),
     };
-    built_of(alloc, &tree)
+    built_of(alloc, tree)
 }
 
 // The tree of a text, or its first fault.
@@ -55,19 +58,35 @@ fn tree_of(alloc: Global, text: &[u8]) -> Result<Orc, Or<OrcFault>>
 }
 
 // The orchestra as which a tree is built, or why it isn't.
-fn built_of(alloc: Global, orc: &Orc) -> Result<Orchestra, Or<Status>>
-    ensures built { IfOk result (λ o. IsBuilt (tree.orchestra orc.now) o) }
-    ensures refused { (s : Status) → result ≡ Err (or.Fault s) → TreeRefusal (tree.orchestra orc.now) s }
+fn built_of(alloc: Global, orc: Orc) -> Result<Orchestra, Or<Status>>
+    requires { AreDifferent (map (λ d. d.name) (tree.orchestra orc).opcodes) }
+    ensures built { IfOk result (λ o. IsBuilt (tree.orchestra orc) o) }
+    ensures refused { (s : Status) → result ≡ Err (or.Fault s) → TreeRefusal (tree.orchestra orc) s }
 {
-    if orc.opcodes.len() > 0 {
-        return Err(Or::Fault(Status::NotBuilt));
-    }
-    if let Err(refusal) = check_types(alloc, orc) {
+    let expanded = match expanded_of(alloc, orc) {
+        Ok(expanded) => expanded,
+        Err(refusal) => return Err(refusal),
+    };
+    if let Err(refusal) = check_types(alloc, &expanded) {
         return Err(refusal);
     }
-    match six_lines_of(orc) {
+    match six_lines_of(&expanded) {
         Some(orchestra) => Ok(orchestra),
         None => Err(Or::Fault(Status::NotBuilt)),
+    }
+}
+
+// A tree without calls of defined opcodes, or why there is none.
+fn expanded_of(alloc: Global, orc: Orc) -> Result<Orc, Or<Status>>
+    requires { AreDifferent (map (λ d. d.name) (tree.orchestra orc).opcodes) }
+    ensures expanded { IfOk result (λ e. expanding (tree.orchestra orc) ≡ Ok (tree.orchestra e)) }
+    ensures refused { (s : Status) → result ≡ Err (or.Fault s) → TreeRefusal (tree.orchestra orc) s }
+{
+    match expand(alloc, orc) {
+        Ok(expanded) => Ok(expanded),
+        Err(Or::Fault(ExpandFault::Orc(fault))) => Err(Or::Fault(Status::OrcRefused(fault))),
+        Err(Or::Fault(ExpandFault::Limit(hit))) => Err(Or::Fault(Status::Limit(hit))),
+        Err(Or::OutOfMemory) => Err(Or::OutOfMemory),
     }
 }
 
