@@ -1,0 +1,17 @@
+-- The words as texts, and what an answer says of them.
+use Rattle.std.specs.Prelude.{◌≡◌, List, map, Some, None, Result, Ok, Err, String, string_bytes}
+use Rattle.std.specs.Global.{Global}
+use Rattle.cs_reading.specs.Orders.{asked_in}
+use Rattle.cs_reading.specs.Reading.{Text, reading}
+use Rattle.cs_reading.specs.declared.order.Order.{Order}
+use Rattle.cs_command.specs.declared.reading.Unread.{Unread}
+use Rattle.cs_command.specs.declared.reading.Unread.TheVariants.{Usage}
+
+abbrev pub texts : List (String Global) → List Text
+texts words = map (λ w. string_bytes w) words
+
+-- An order is what the words ask for. They are refused only where they have no reading; where they have none, there is no
+-- order, so that the answer is this refusal or want of memory.
+abbrev pub IsRead : List Text → Result Order Unread → Type 0
+IsRead words (Ok order) = reading words ≡ Some (asked_in order)
+IsRead words (Err unread) = unread ≡ Usage → reading words ≡ None

@@ -1,0 +1,16 @@
+-- What is known of clap's matches.
+use Rattle.std.specs.Prelude.{◌≡◌, List, Option, Some, None, true, false}
+use Rattle.clap.specs.Matches.{found_of}
+use Rattle.clap.specs.Walk.{rows_of}
+use Rattle.clap.specs.declared.parser.matches.ArgMatches.{ArgMatches}
+use Rattle.cs_reading.specs.Reading.{Text, Use}
+use Rattle.cs_reading.specs.inner.Taken.{ends, good, is_taken, uses_in}
+
+-- the matches hold these uses, which stand together
+abbrev pub Holds : List Use → ArgMatches → Type 0
+Holds uses m = (good uses ≡ true) × (rows_of (found_of m) ≡ ends uses)
+
+-- clap takes the words exactly where their uses stand together
+abbrev pub IsMatched : List Text → Option ArgMatches → Type 0
+IsMatched words None = is_taken words ≡ false
+IsMatched words (Some m) = (is_taken words ≡ true) × Holds (uses_in words) m

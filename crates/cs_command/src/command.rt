@@ -1,0 +1,53 @@
+// All that may stand, as one command.
+ghost use Rattle.std.specs.Prelude.{◌≡◌, false, fold, IfOk};
+ghost use Rattle.clap.specs.Words.{app_of, rule_of, with_rule};
+ghost use Rattle.cs_reading.specs.inner.Command.{bare_app, lettered_app, the_app};
+
+use crate::options::{
+    demo_option, first_name, letter_flag, long_flag, second_name, sound_file_option, workers_option,
+};
+use clap::{Arg, Command};
+use std::alloc::{AllocError, Global};
+
+/// The command that the words are read by.
+pub fn command<'w>(alloc: Global) -> Result<Command<'w>, AllocError>
+    ensures { IfOk result (λ c. app_of c ≡ the_app) }
+{
+    let command = with_letters(alloc)?;
+    let command = with(command, long_flag(alloc, "turns"))?;
+    let command = with(command, long_flag(alloc, "pool"))?;
+    let command = with(command, demo_option(alloc))?;
+    let command = with(command, first_name(alloc))?;
+    with(command, second_name(alloc))
+}
+
+// The command with its options and flags of one letter.
+fn with_letters<'w>(alloc: Global) -> Result<Command<'w>, AllocError>
+    ensures { IfOk result (λ c. app_of c ≡ lettered_app) }
+{
+    let command = with(bare(alloc), workers_option(alloc))?;
+    let command = with(command, sound_file_option(alloc))?;
+    let command = with(command, letter_flag(alloc, "W", 'W'))?;
+    let command = with(command, letter_flag(alloc, "s", 's'))?;
+    let command = with(command, letter_flag(alloc, "d", 'd'))?;
+    let command = with(command, letter_flag(alloc, "n", 'n'))?;
+    with(command, letter_flag(alloc, "3", '3'))
+}
+
+// The command without arguments. The words are those behind the program's name, and no word asks for help.
+fn bare<'w>(alloc: Global) -> Command<'w>
+    ensures { app_of result ≡ bare_app }
+{
+    Command::new(alloc, "csplay")
+        .no_binary_name(true)
+        .disable_help_flag(true)
+        .disable_version_flag(true)
+}
+
+// The command with one more argument.
+fn with<'a>(command: Command<'a>, arg: Arg<'a>) -> Result<Command<'a>, AllocError>
+    requires { arg.global ≡ false }
+    ensures { IfOk result (λ c. app_of c ≡ with_rule (app_of command.entry) (rule_of arg.entry)) }
+{
+    command.arg(arg)
+}

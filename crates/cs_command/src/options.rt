@@ -1,0 +1,87 @@
+// The options, flags and names that may stand.
+ghost use Rattle.std.specs.Prelude.{◌≡◌, ◌≤◌, pos, false, codes, Some, None};
+ghost use Rattle.clap.specs.Words.{rule_of};
+ghost use Rattle.clap.specs.declared.builder.value_parser.ValueParser.TheVariants.{Signed};
+ghost use Rattle.cs_reading.specs.inner.Command.{made_flag, made_option};
+
+use clap::builder::ValueParser;
+use clap::{Arg, ArgAction};
+use std::alloc::Global;
+
+/// A flag of one letter, whose text is the letter.
+pub fn letter_flag<'w>(alloc: Global, text: &'w str, letter: char) -> Arg<'w>
+    ensures rule { rule_of result ≡ made_flag text.entry.now None (Some letter) }
+    ensures local { result.global ≡ false }
+{
+    Arg::new(alloc, text)
+        .short(letter)
+        .action(ArgAction::SetTrue)
+}
+
+/// A flag with a long name.
+pub fn long_flag<'w>(alloc: Global, name: &'w str) -> Arg<'w>
+    ensures rule { rule_of result ≡ made_flag name.entry.now (Some name.entry.now) None }
+    ensures local { result.global ≡ false }
+{
+    Arg::new(alloc, name).long(name).action(ArgAction::SetTrue)
+}
+
+/// `-j N`.
+pub fn workers_option<'w>(alloc: Global) -> Arg<'w>
+    ensures rule { rule_of result ≡ made_option (codes "j") None (Some 106) }
+    ensures local { result.global ≡ false }
+{
+    Arg::new(alloc, "j")
+        .short('j')
+        .action(ArgAction::Set)
+        .value_parser(from_one_to(32))
+}
+
+/// `-o FILE`.
+pub fn sound_file_option<'w>(alloc: Global) -> Arg<'w>
+    ensures rule { rule_of result ≡ made_option (codes "o") None (Some 111) }
+    ensures local { result.global ≡ false }
+{
+    Arg::new(alloc, "o")
+        .short('o')
+        .action(ArgAction::Set)
+        .value_parser(ValueParser::NonEmptyString)
+}
+
+/// `--demo N`.
+pub fn demo_option<'w>(alloc: Global) -> Arg<'w>
+    ensures rule { rule_of result ≡ made_option (codes "demo") (Some (codes "demo")) None }
+    ensures local { result.global ≡ false }
+{
+    Arg::new(alloc, "demo")
+        .long("demo")
+        .action(ArgAction::Set)
+        .value_parser(from_one_to(10_000))
+}
+
+/// The first name: the orchestra's, or that of a file with both texts.
+pub fn first_name<'w>(alloc: Global) -> Arg<'w>
+    ensures rule { rule_of result ≡ made_option (codes "ORC") None None }
+    ensures local { result.global ≡ false }
+{
+    Arg::new(alloc, "ORC")
+        .action(ArgAction::Set)
+        .value_parser(ValueParser::NonEmptyString)
+}
+
+/// The second name: the score's.
+pub fn second_name<'w>(alloc: Global) -> Arg<'w>
+    ensures rule { rule_of result ≡ made_option (codes "SCO") None None }
+    ensures local { result.global ≡ false }
+{
+    Arg::new(alloc, "SCO")
+        .action(ArgAction::Set)
+        .value_parser(ValueParser::NonEmptyString)
+}
+
+// A whole number from 1 to `most`.
+fn from_one_to<'w>(most: u16) -> ValueParser<'w>
+    ensures { result ≡ Signed (pos 1) (pos most) }
+{
+    clap::value_parser!(u32).range(1..=i64::from(most))
+}

@@ -1,0 +1,10 @@
+pub mod Chars
+pub mod Command
+pub mod Ends
+pub mod Forms
+pub mod Letters
+pub mod Rules
+pub mod Turns
+pub mod Values
+pub mod Walking
+pub mod Whole

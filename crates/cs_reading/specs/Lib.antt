@@ -1,0 +1,5 @@
+pub mod Orders
+pub mod Reading
+pub mod Usage
+pub mod Workers
+pub mod inner
