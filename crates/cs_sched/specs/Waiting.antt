@@ -1,0 +1,57 @@
+-- Which notes wait, and what becomes of one that is asked for.
+use Rattle.std.specs.Prelude.{ℕ, ◌≡◌, ◌≢◌, ◌≤◌, ◌+◌, ◌==◌, List, [], ◌∷◌, ◌++◌, filter, length, nat_le, Option, None, option_to_list, if◌then◌else◌}
+use Rattle.std.specs.Int.{is_negative}
+use Rattle.std.specs.List.Sorted.{IsNonDecreasingBy}
+use Rattle.cs_base.specs.Limits.{most_asks}
+use Rattle.cs_ir.specs.declared.ask.Ask.{Ask}
+use Rattle.cs_sched.specs.Times.{Clock, begins_in}
+use Rattle.cs_sched.specs.declared.due.Due.{Due}
+use Rattle.cs_sched.specs.declared.pending.Added.{Added}
+use Rattle.cs_sched.specs.declared.pending.Added.TheVariants as added
+
+-- The notes that begin in each cycle, in the order in which they were kept; and how many have been kept in all.
+pub record Waiting : Type 0 where
+  pub due : ℕ → List Due
+  pub kept : ℕ
+
+abbrev pub nothing_waits : Waiting
+nothing_waits = record { due = λ c. []; kept = 0 }
+
+-- the first answer that applies
+abbrev pub answer_to : Clock → ℕ → Ask → ℕ → Added
+answer_to clock now ask kept =
+    if is_negative ask.dur then added.Negative
+    else (if nat_le most_asks kept then added.TooMany
+    else (if nat_le clock.cycles (begins_in clock now ask) then added.PastEnd
+    else added.Kept))
+
+-- a note that is kept stands behind all others of its cycle; after any other answer nothing has changed
+abbrev pub with_answer : Added → Due → Waiting → Waiting
+with_answer added.Kept d w =
+    record { due = λ c. if c == d.cycle then w.due c ++ d ∷ [] else w.due c; kept = w.kept + 1 }
+with_answer _ d w = w
+
+-- the first of a cycle was taken out, where there is one, and all others wait as before
+pub record IsTaken (cycle : ℕ) (old : Waiting) (taken : Option Due) (new : Waiting) : Type 0 where
+  pub first : old.due cycle ≡ option_to_list taken ++ new.due cycle
+  pub none : taken ≡ None → old.due cycle ≡ []
+  pub others : (c : ℕ) → c ≢ cycle → new.due c ≡ old.due c
+  pub kept : new.kept ≡ old.kept
+
+-- the notes that wait, in one list, and how many have been kept in all
+pub record Queue : Type 0 where
+  pub dues : List Due
+  pub kept : ℕ
+
+-- those of a list that begin in a cycle
+abbrev pub those_in : List Due → ℕ → List Due
+those_in dues c = filter (λ d. d.cycle == c) dues
+
+abbrev pub waiting : Queue → Waiting
+waiting q = record { due = those_in q.dues; kept = q.kept }
+
+-- by ascending cycle; no more were kept than may be
+pub record AreInOrder (dues : List Due) (kept : ℕ) : Type 0 where
+  pub ascending : IsNonDecreasingBy (λ d. d.cycle) dues
+  pub within : length dues ≤ kept
+  pub few : kept ≤ most_asks

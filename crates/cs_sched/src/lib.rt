@@ -1,0 +1,15 @@
+//! Notes that other notes ask for: which of them wait, and when each begins.
+//!
+//! The one contract: contracts see what waits as the list of notes that begin in each cycle, in the order in which they were
+//! kept (specs/Waiting.antt). `Pending::add` answers by the first rule that applies and keeps the note exactly where it
+//! answers `Kept`; `Pending::next` takes the first out. In which order notes of different cycles lie in memory, and how the
+//! first of a cycle is found, may be changed without anyone above noticing.
+//!
+//! Modules in reading order: `due` (when a note begins and ends), `pending`.
+#![tactic(auto)]
+
+mod due;
+mod pending;
+
+pub use due::Due;
+pub use pending::{Added, Pending};
