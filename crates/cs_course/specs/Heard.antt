@@ -1,0 +1,18 @@
+-- What is heard of a performance.
+use Rattle.std.specs.Prelude.{ℕ, ℤ, List, map}
+use Rattle.std.specs.List.{flat_map, range_with_len}
+use Rattle.cs_base.specs.Numbers.{total}
+use Rattle.cs_course.specs.Moments.{Composition, Active}
+use Rattle.cs_course.specs.Course.{played_in}
+
+-- what notes give together to a channel at a frame: the plain sum, without bounds
+abbrev pub sum_at : List Active → ℕ → ℕ → ℤ
+sum_at notes frame channel = total (map (λ a. a.note.world.outs channel frame) notes)
+
+-- the frames of a cycle, channel beside channel
+abbrev pub mix_in : Composition → ℕ → List ℤ
+mix_in c n = flat_map (λ frame. map (sum_at (played_in c n) frame) (range_with_len 0 c.head.nchnls)) (range_with_len 0 c.head.ksmps)
+
+-- all frames of the performance
+abbrev pub frames_of : Composition → List ℤ
+frames_of c = flat_map (mix_in c) (range_with_len 0 c.cycles)

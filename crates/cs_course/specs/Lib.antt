@@ -1,0 +1,5 @@
+pub mod Course
+pub mod Examples
+pub mod Heard
+pub mod Moments
+pub mod Starts
