@@ -1,0 +1,4 @@
+pub mod Cells
+pub mod Ready
+pub mod Units
+pub mod inner
