@@ -1,0 +1,211 @@
+-- What a cycle makes of the parts of a voice.
+use Rattle.std.proofs.Common.{◌≡◌, ℕ, zero, suc, ℤ, pos, ◌-◌, ◌<◌, List, [], ◌∷◌, length, map, slice_index_or, Option, None, refl, sym, ◌∙◌, ap, subst, arith}
+use Rattle.std.specs.List.{AllByRecursion, range_with_len}
+use Rattle.std.specs.Option.{option_map}
+use Rattle.std.proofs.lemmas.List.{length-map, ext_get_or}
+use Rattle.std.proofs.lemmas.List.FromFn.{length-map-range_with_len}
+use Rattle.cs_signal.specs.Operands.{argument}
+use Rattle.cs_ir.specs.Machine.{Machine, run}
+use Rattle.cs_ir.specs.Waves.{silence}
+use Rattle.cs_ir.specs.declared.op.Code.{Code}
+use Rattle.cs_ir.specs.declared.op.Op.{Op}
+use Rattle.cs_cells.specs.Cells.{Cells, cell}
+use Rattle.cs_cells.specs.Meaning.{Uses, Writes}
+use Rattle.cs_cells.specs.declared.footprint.Area.{Area}
+use Rattle.cs_cells.specs.declared.footprint.Footprint.{Footprint}
+use Rattle.cs_registers.specs.Outputs.{ChannelFile, outs, refilled}
+use Rattle.cs_registers.specs.Registers.{RegisterFile, filled, values}
+use Rattle.cs_registers.specs.Rows.{row_of}
+use Rattle.cs_access.specs.Access.{AreSpaces, spaces_of}
+use Rattle.cs_player.specs.Players.{PlayerData, playing}
+use Rattle.cs_sounding.specs.Placing.{HasArea, IsPlaced}
+use Rattle.cs_sounding.specs.VoiceWorld.{VoiceState, voice_world}
+use Rattle.cs_sounding.specs.Voices.{begins, cycle, performed, voice_of}
+use Rattle.cs_sounding.proofs.FrameLaw.{voice_frames}
+use Rattle.cs_sounding.proofs.OnAllCells.{performed_on_all, left_on_all}
+use Rattle.cs_sounding.specs.Follows.{OpsNamed}
+use Rattle.cs_state.specs.States.{CanDo, IsStateIn, machine_of, header_of, unit_at}
+use Rattle.cs_state.specs.declared.state.State.{State}
+use Rattle.cs_state.specs.declared.state.Setting.{Setting}
+use Rattle.cs_voice.specs.declared.stage.Stage.{Stage}
+use Rattle.cs_voice.specs.Cycles.{CanRun, Context, HasRun}
+use Rattle.cs_voice.specs.Memory.{IsKept, voice_in}
+use Rattle.cs_voice.specs.VoiceData.{VoiceData, piece_of, sheet_of, sounding, taking, units_in}
+use Rattle.cs_voice.specs.VoiceMeaning.{after, leaves, voice_job}
+use Rattle.cs_voice.proofs.Bodies.{all_areas, can_all}
+use Rattle.cs_voice.specs.inner.Rooms.{listed_at}
+
+-- the units of a list of players
+pub units_are : (ps : List (Option PlayerData)) → units_in (map (option_map playing) ps) ≡ unit_at ps
+units_are ps = λ t u. at ps u t
+  where
+    at : (ps : List (Option PlayerData)) (u : ℕ) → slice_index_or (map (option_map playing) ps) u None ≡ option_map playing (slice_index_or ps u None)
+    at [] u = refl
+    at (p ∷ ps) zero = refl
+    at (p ∷ ps) (suc u) = at ps u
+
+listed_units : (ps : List (Option PlayerData)) (n : ℕ) → length ps ≡ n → map (unit_at ps) (range_with_len 0 n) ≡ map (option_map playing) ps
+listed_units ps n long =
+    ext_get_or None (map (unit_at ps) (range_with_len 0 n)) (map (option_map playing) ps)
+    (length-map-range_with_len (unit_at ps) 0 n ∙ sym long ∙ sym (length-map ps (option_map playing)))
+    (λ u low. listed_at (unit_at ps) n None u (let e : length (map (unit_at ps) (range_with_len 0 n)) ≡ n = length-map-range_with_len (unit_at ps) 0 n in omega (arith, low, e))
+    ∙ sym (ap (λ f. f u) (units_are ps)))
+
+-- what registers hold fills as many others alike
+filled_alike : (f g : RegisterFile) → f.counts ≡ g.counts → f.ksmps ≡ g.ksmps → filled g (values g) ≡ g → filled f (values g) ≡ g
+filled_alike f g counts frames whole =
+    ap (λ n. filled (record f { counts = n }) (values g)) counts
+    ∙ ap (λ n. filled (record f { counts = g.counts; ksmps = n }) (values g)) frames
+    ∙ whole
+
+refilled_alike : (f g : ChannelFile) → length f.rows ≡ length g.rows → f.ksmps ≡ g.ksmps → refilled g (outs g) ≡ g → refilled f (outs g) ≡ g
+refilled_alike f g long frames whole =
+    ap (λ n. record g { rows = map (λ c. row_of f.ksmps (outs g c)) (range_with_len 0 n); ksmps = f.ksmps }) long
+    ∙ ap (λ n. record g { rows = map (λ c. row_of n (outs g c)) (range_with_len 0 (length g.rows)); ksmps = n }) frames
+    ∙ whole
+
+module _ (number age : ℕ) (stage : Stage) (foot : Footprint) (code : Code) (fields : List ℤ) where
+  abbrev pub voice : State → VoiceData
+  voice s = voice_in number age stage foot code fields s
+
+  abbrev Kept : State → Type 0
+  Kept s = IsKept number age stage foot code fields s
+
+  -- what the code of a voice is run in
+  abbrev pub context : (s : State) → Kept s → Context
+  context s h = record { piece = piece_of (voice s); stock = h.voice.playable.stock; kinds = h.voice.playable.kinds; counts = code.counts }
+
+  -- a state whose channels are silent, for the same code
+  pub cleared : (s : State) (h : Kept s) (o : ChannelFile) → length o.rows ≡ length s.outs.rows → o.ksmps ≡ s.outs.ksmps
+      → IsStateIn stage.layout.now (piece_of (voice s)) h.voice.playable.kinds code.counts (record s { outs = o })
+  cleared s h o long frames = record {
+    registers = h.state.registers;
+    frames = h.state.frames;
+    channels = long ∙ h.state.channels;
+    channel_frames = frames ∙ h.state.channel_frames;
+    units = h.state.units;
+    row = h.state.row;
+    players = h.state.players;
+  }
+
+  -- the code of a voice can be run over a bank that has what the voice may touch
+  pub can_run : (can_get can_set : ℕ → Type 0) (count : ℕ) (s : State) (h : Kept s) (at : Setting) (t : State)
+      → ((a : ℕ) → Uses voice_job (voice s) a → can_get a) → ((a : ℕ) → Writes voice_job (voice s) a → can_set a) → ((a : ℕ) → Uses voice_job (voice s) a → a < count)
+      → at.layout.now ≡ stage.layout.now → at.head.now ≡ stage.head.now → at.zak_k ≡ stage.zak_k → at.zak_a ≡ stage.zak_a → at.fields.now ≡ fields
+      → IsStateIn stage.layout.now (piece_of (voice s)) h.voice.playable.kinds code.counts t
+      → CanRun can_get can_set count at (context s h) code.ops.items t
+  can_run can_get can_set count s h at t get set within layout head zak_k zak_a given st =
+      let p = h.voice.playable in
+      let sh = sheet_of (voice s) in
+      record {
+        setting = record {
+          layout = refl;
+          head = ap header_of (sym head);
+          spaces = λ i. record { control = sym zak_k i; audio = sym zak_a i };
+          fields = λ k. ap (λ l. argument l (k - 1)) (sym given);
+        };
+        spaces = subst (λ l. AreSpaces l) (sym layout) h.spaces;
+        zak = ap spaces_of layout ∙ h.zak ∙ (λ i. record { control = sym zak_k i; audio = sym zak_a i });
+        placed = subst (λ l. IsPlaced l p.stock (piece_of (voice s))) (sym layout) p.placed;
+        state = subst (λ l. IsStateIn l (piece_of (voice s)) p.kinds code.counts t) (sym layout) st;
+        fine = h.voice.code;
+        named = subst (λ l. OpsNamed p.stock p.kinds (HasArea l) code.ops.items) (sym layout) (all_areas sh p.stock p.kinds code.ops.items p.perf_uses);
+        channels = p.perf_channels;
+        acts = p.perf_acts;
+        can = subst (λ l. AllByRecursion (λ (op : Op). CanDo can_get can_set count l p.stock op.act) code.ops.items) (sym layout)
+            (can_all sh can_get can_set count get set within p.stock p.kinds code.ops.items p.perf_uses p.perf_writes);
+      }
+
+  -- a cycle was run
+  module _ (s : State) (h : Kept s) (o : ChannelFile) (silent : outs o ≡ (λ n. silence)) (t : State) (areas : List Area) (same : areas ≡ stage.layout.now) (c d : Cells)
+      (ran : HasRun areas (context s h) code.ops.items (record s { outs = o }) (cell c) t (cell d)) (all_registers : filled t.regs (values t.regs) ≡ t.regs)
+      (all_channels : refilled t.outs (outs t.outs) ≡ t.outs) where
+    begin : begins (sounding (voice s)) (cell c) ≡ machine_of (record s { outs = o }) (cell c) 0 [] None
+    begin = λ i. record {
+      regs = values s.regs;
+      next = 0;
+      world = record {
+        cells = cell c;
+        units = units_are s.players.items i;
+        delays = s.delays;
+        outs = sym silent i;
+        ended = s.ended;
+        asks = [];
+        cause = None;
+      };
+    }
+
+    -- the machine after it
+    end : machine_of t (cell d) ran.next [] None ≡ cycle (sounding (voice s)) (cell c)
+    end =
+        ran.machine
+        ∙ ap (λ l. run (voice_world l (piece_of (voice s))) 0 code.ops.items (machine_of (record s { outs = o }) (cell c) 0 [] None)) same
+        ∙ ap (run (voice_world stage.layout.now (piece_of (voice s))) 0 code.ops.items) (sym begin)
+
+    done : voice_of (sheet_of (voice s)) (machine_of t (cell d) ran.next [] None) ≡ performed (sounding (voice s)) c
+    done = ap (voice_of (sheet_of (voice s))) end ∙ sym (performed_on_all (sounding (voice s)) c h.voice.playable)
+
+    -- the voice is the one after it
+    pub job : voice t ≡ after (voice s) c
+    job = sym (
+        ap (taking (voice s)) (sym done)
+        ∙ (λ i. record (voice t) {
+          regs = filled_alike s.regs t.regs (h.state.registers ∙ sym ran.state.registers) (h.state.frames ∙ sym ran.state.frames) all_registers i;
+          units = units i;
+          outs = refilled_alike s.outs t.outs (h.state.channels ∙ sym ran.state.channels) (h.state.channel_frames ∙ sym ran.state.channel_frames) all_channels i;
+        })
+        )
+      where
+        units : map (unit_at t.players.items) (range_with_len 0 (length (voice s).units)) ≡ map (option_map playing) t.players.items
+        units = listed_units t.players.items (length (voice s).units) (ran.state.units ∙ sym h.voice.units)
+
+    -- and the cells are those that it leaves
+    pub cells : length d ≡ length c → d ≡ leaves (voice s) c
+    cells long =
+        ext_get_or (pos 0) d (leaves (voice s) c) (long ∙ sym (voice_frames.long (sounding (voice s)) c))
+        (λ a low. ap (λ (m : Machine VoiceState). m.world.cells a) end
+        ∙ sym (left_on_all (sounding (voice s)) c a h.voice.playable (omega (arith, low, long))))
+
+    pub still_kept : Kept t
+    still_kept = record {
+      voice = record {
+        playable = h.voice.playable;
+        code = h.voice.code;
+        counts = ran.state.registers;
+        frames = ran.state.frames;
+        units = length-map t.players.items (option_map playing) ∙ ran.state.units;
+        channels = ran.state.channels;
+        channel_frames = ran.state.channel_frames;
+        all_registers = all_registers;
+        all_channels = all_channels;
+      };
+      spaces = h.spaces;
+      zak = h.zak;
+      state = subst (λ l. IsStateIn l (piece_of (voice s)) h.voice.playable.kinds code.counts t) same ran.state;
+    }
+
+  -- a body runs: its channels are cleared, its code is run in a setting, and its registers and channels are asked
+  module _ (s : State) (h : Kept s) (u : State) (silent : outs u.outs ≡ (λ n. silence)) (long : length u.outs.rows ≡ length s.outs.rows)
+      (frames : u.outs.ksmps ≡ s.outs.ksmps) (same : u ≡ record s { outs = u.outs })
+      (at : Setting) (layout : at.layout.now ≡ stage.layout.now) (head : at.head.now ≡ stage.head.now) (zak_k : at.zak_k ≡ stage.zak_k) (zak_a : at.zak_a ≡ stage.zak_a)
+      (given : at.fields.now ≡ fields) (ops : List Op) (is : ops ≡ code.ops.items) (can_get can_set : ℕ → Type 0) (count : ℕ)
+      (get : (a : ℕ) → Uses voice_job (voice s) a → can_get a) (set : (a : ℕ) → Writes voice_job (voice s) a → can_set a) (within : (a : ℕ) → Uses voice_job (voice s) a → a < count) where
+    pub able : CanRun can_get can_set count at (context s h) ops u
+    able = subst (λ l. CanRun can_get can_set count at (context s h) l u) (sym is)
+        (subst (λ z. CanRun can_get can_set count at (context s h) code.ops.items z) (sym same)
+        (can_run can_get can_set count s h at (record s { outs = u.outs }) get set within layout head zak_k zak_a given (cleared s h u.outs long frames)))
+
+    module _ (t : State) (c d : Cells) (run : (x : Context) → CanRun can_get can_set count at x ops u → HasRun at.layout.now x ops u (cell c) t (cell d))
+        (all_registers : filled t.regs (values t.regs) ≡ t.regs) (all_channels : refilled t.outs (outs t.outs) ≡ t.outs) where
+      ran : HasRun at.layout.now (context s h) code.ops.items (record s { outs = u.outs }) (cell c) t (cell d)
+      ran = subst (λ z. HasRun at.layout.now (context s h) code.ops.items z (cell c) t (cell d)) same
+          (subst (λ l. HasRun at.layout.now (context s h) l u (cell c) t (cell d)) is (run (context s h) able))
+
+      pub run_job : voice t ≡ after (voice s) c
+      run_job = job s h u.outs silent t at.layout.now layout c d ran all_registers all_channels
+
+      pub run_cells : length d ≡ length c → d ≡ leaves (voice s) c
+      run_cells same = cells s h u.outs silent t at.layout.now layout c d ran all_registers all_channels same
+
+      pub run_kept : Kept t
+      run_kept = still_kept s h u.outs silent t at.layout.now layout c d ran all_registers all_channels

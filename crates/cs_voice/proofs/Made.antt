@@ -1,0 +1,225 @@
+-- A voice that plays from a sheet is one by itself.
+use Rattle.std.proofs.Common.{◌≡◌, ℕ, ℤ, true, List, [], ◌∷◌, map, slice_index_or, Option, Some, None, refl, sym, ◌∙◌, ap, subst}
+use Rattle.std.specs.Option.{option_map}
+use Rattle.std.proofs.lemmas.List.{length-map}
+use Rattle.cs_base.specs.declared.resource.Rate.{Rate}
+use Rattle.cs_base.specs.declared.resource.Res.{Res}
+use Rattle.cs_words.specs.Catalogue.{row_of}
+use Rattle.cs_words.specs.declared.catalogue.Opcode.{Opcode}
+use Rattle.cs_words.specs.declared.catalogue.Opcode.TheVariants as op
+use Rattle.cs_words.specs.declared.catalogue.Shape.TheVariants as shape
+use Rattle.cs_ir.specs.Resources.{Stock, takes_table}
+use Rattle.cs_ir.specs.declared.op.Act.{Act}
+use Rattle.cs_ir.specs.declared.op.Act.TheVariants as act
+use Rattle.cs_ir.specs.declared.op.Code.{Code}
+use Rattle.cs_ir.specs.declared.op.Op.{Op}
+use Rattle.cs_ir.specs.declared.op.Reach.{Reach}
+use Rattle.cs_ir.specs.declared.register.Counts.{Counts}
+use Rattle.cs_cells.specs.declared.footprint.Area.{Area}
+use Rattle.cs_cells.specs.declared.footprint.Footprint.{Footprint}
+use Rattle.cs_meaning.specs.Plain.{Generators, Piece, Table, find_table}
+use Rattle.cs_registers.specs.Outputs.{outs, refilled}
+use Rattle.cs_registers.specs.Registers.{filled, values}
+use Rattle.cs_player.specs.Players.{PlayerData, playing}
+use Rattle.cs_sounding.specs.Follows.{ActNamed, Kinds, OpsNamed}
+use Rattle.cs_sounding.specs.Placing.{IsPlaced, IsTablePlaced}
+use Rattle.cs_sounding.specs.VoiceWorld.{Playing}
+use Rattle.cs_sounding.specs.Voices.{Sheet, IsPlayable, IsUsed}
+use Rattle.cs_state.specs.States.{IsPlayerOf, IsStateIn}
+use Rattle.cs_state.specs.declared.state.State.{State}
+use Rattle.cs_voice.specs.declared.stage.Stage.{Stage}
+use Rattle.cs_voice.specs.Memory.{IsKept, MakeVoice, voice_in}
+use Rattle.cs_voice.specs.VoiceData.{VoiceData, IsOn, OpsStoreInto, StoresInto, made, piece_of, sheet_of, table_at, units_in}
+use Rattle.cs_voice.proofs.Cycled.{units_are}
+use Rattle.cs_voice.proofs.Sheets.{all_made, find_made}
+use Rattle.cs_voice.proofs.Voices.{own_sheet, its_own}
+
+-- a table that is found once all have been made was there before
+made_before : (P : Table → Type 0) (o : Option Table) (t : Table) → option_map made o ≡ Some t → ((u : Table) → o ≡ Some u → P (made u)) → P t
+made_before P None t e h = absurd (cc)
+made_before P (Some u) t e h = let same : made u ≡ t = cc in subst P same (h u refl)
+
+module _ (areas : List Area) (g : Generators) (piece : Piece) where
+  placed_made : (stock : Stock) → IsPlaced areas stock piece → IsPlaced areas stock (all_made g piece)
+  placed_made stock p = record {
+    laid = p.laid;
+    frames = p.frames;
+    cells = p.cells;
+    spaces = p.spaces;
+    tables = λ n t found live. made_before (λ u. u.frozen ≡ None → IsTablePlaced areas stock u) (find_table piece.tables n) t (sym (find_made piece.tables n) ∙ found)
+        (λ u there live. let was = p.tables n u there live in record { among = was.among; some = was.some; size = was.size }) live;
+  }
+
+  player_made : (kind : Opcode × Rate) (p : PlayerData) → IsPlayerOf areas piece kind p → IsPlayerOf areas (all_made g piece) kind p
+  player_made kind p h = record {
+    opcode = h.opcode;
+    state = h.state;
+    table = λ takes. let t = h.table takes in record {
+      table = made t.table;
+      found = find_made piece.tables p.table ∙ ap (option_map made) t.found;
+      present = refl;
+      points = t.points;
+      area = t.area;
+      has = t.has;
+      power = t.power;
+      small = t.small;
+    };
+    none = h.none;
+  }
+
+  state_made : (kinds : Kinds) (counts : Counts) (s : State) → IsStateIn areas piece kinds counts s → IsStateIn areas (all_made g piece) kinds counts s
+  state_made kinds counts s h = record {
+    registers = h.registers;
+    frames = h.frames;
+    channels = h.channels;
+    channel_frames = h.channel_frames;
+    units = h.units;
+    row = h.row;
+    players = λ u p there. player_made (kinds u) p (h.players u p there);
+  }
+
+-- ---- what a voice stores into was made
+
+store_takes : (o : Opcode) → (row_of o).shape ≡ shape.Store → takes_table o ≡ true
+store_takes op.Init h = absurd (cc)
+store_takes op.Oscil h = absurd (cc)
+store_takes op.Oscili h = absurd (cc)
+store_takes op.Phasor h = absurd (cc)
+store_takes op.Line h = absurd (cc)
+store_takes op.Linseg h = absurd (cc)
+store_takes op.Linen h = absurd (cc)
+store_takes op.Delay h = absurd (cc)
+store_takes op.Biquad h = absurd (cc)
+store_takes op.Table h = absurd (cc)
+store_takes op.Tablei h = absurd (cc)
+store_takes op.Tablew h = refl
+store_takes op.Integ h = absurd (cc)
+store_takes op.Diff h = absurd (cc)
+store_takes op.Samphold h = absurd (cc)
+store_takes op.Limit h = absurd (cc)
+store_takes op.Interp h = absurd (cc)
+store_takes op.Downsamp h = absurd (cc)
+store_takes op.Out h = absurd (cc)
+store_takes op.Outs h = absurd (cc)
+store_takes op.Outch h = absurd (cc)
+store_takes op.Turnoff h = absurd (cc)
+store_takes op.Zakinit h = absurd (cc)
+store_takes op.Zkr h = absurd (cc)
+store_takes op.Zar h = absurd (cc)
+store_takes op.Zkw h = absurd (cc)
+store_takes op.Zaw h = absurd (cc)
+store_takes op.Zawm h = absurd (cc)
+store_takes op.Zkcl h = absurd (cc)
+store_takes op.Zacl h = absurd (cc)
+store_takes op.Chnget h = absurd (cc)
+store_takes op.Chnset h = absurd (cc)
+store_takes op.Chnmix h = absurd (cc)
+store_takes op.Chnclear h = absurd (cc)
+store_takes op.Schedule h = absurd (cc)
+store_takes op.EventI h = absurd (cc)
+
+same_some : (x y : Table) → Some x ≡ Some y → x ≡ y
+same_some x y e = cc
+
+player_with : (o : Option PlayerData) (z : ℤ) → option_map (λ (p : Playing). p.table) (option_map playing o) ≡ Some z
+    → (p : PlayerData) × (o ≡ Some p) × (p.table ≡ z)
+player_with None z e = absurd (cc)
+player_with (Some p) z e = (p, refl, (cc))
+
+module _ (areas : List Area) (piece : Piece) (kinds : Kinds) (counts : Counts) (s : State) (st : IsStateIn areas piece kinds counts s) where
+  unit_stores : (N : Res → Type 0) (stock : Stock) (opcode : Opcode) (u : ℕ) (reach : Reach) (r : Rate) → ActNamed stock kinds N (act.Unit opcode u reach) r
+      → StoresInto piece.tables (table_at (units_in (map (option_map playing) s.players.items))) (act.Unit opcode u reach)
+  unit_stores N stock opcode u reach r named stores z t at found =
+      let there = player_with (slice_index_or s.players.items u None) z (sym (ap (λ f. option_map (λ (p : Playing). p.table) (f u)) (units_are s.players.items)) ∙ at) in
+      let of = st.players u there.0 there.1 in
+      let takes : takes_table (kinds u).0 ≡ true = ap (λ (k : Opcode × Rate). takes_table k.0) named.0 ∙ store_takes opcode stores in
+      let on = of.table takes in
+      let same : on.table ≡ t = same_some on.table t (sym on.found ∙ ap (find_table piece.tables) there.2 ∙ found) in
+      ap (λ (x : Table). x.present) (sym same) ∙ on.present
+
+  act_stores : (N : Res → Type 0) (stock : Stock) (t : Act) (r : Rate) → ActNamed stock kinds N t r
+      → StoresInto piece.tables (table_at (units_in (map (option_map playing) s.players.items))) t
+  act_stores N stock (act.Const z) r h = tt
+  act_stores N stock (act.Field k) r h = tt
+  act_stores N stock (act.Head k) r h = tt
+  act_stores N stock act.Copy r h = tt
+  act_stores N stock act.Neg r h = tt
+  act_stores N stock (act.Pair b) r h = tt
+  act_stores N stock act.Pick r h = tt
+  act_stores N stock (act.Call f) r h = tt
+  act_stores N stock (act.Load g) r h = tt
+  act_stores N stock (act.Save g) r h = tt
+  act_stores N stock (act.Start opcode u) r h = tt
+  act_stores N stock (act.Unit opcode u reach) r h = unit_stores N stock opcode u reach r h
+  act_stores N stock (act.Jump to) r h = tt
+  act_stores N stock (act.Unless to) r h = tt
+  act_stores N stock (act.Out n) r h = tt
+  act_stores N stock act.OutAt r h = tt
+  act_stores N stock act.Turnoff r h = tt
+  act_stores N stock act.Ask r h = tt
+
+  pub ops_store : (N : Res → Type 0) (stock : Stock) (ops : List Op) → OpsNamed stock kinds N ops
+      → OpsStoreInto piece.tables (table_at (units_in (map (option_map playing) s.players.items))) ops
+  ops_store N stock [] h = tt
+  ops_store N stock (op ∷ ops) h = (act_stores N stock op.act op.into.rate h.0, ops_store N stock ops h.1)
+
+-- parts that make a voice play from the sheet
+pub is_on : (number age : ℕ) (stage : Stage) (foot : Footprint) (code : Code) (fields : List ℤ) (s : State) (m : MakeVoice number age stage foot code fields s)
+    → IsOn m.sheet (voice_in number age stage foot code fields s)
+is_on number age stage foot code fields s m = record {
+  parts = m.parts;
+  stores = ops_store m.sheet.areas m.sheet.piece m.playable.kinds code.counts s m.state (IsUsed m.sheet) m.playable.stock m.sheet.perf m.playable.perf_uses;
+}
+
+-- ---- the voice by itself
+
+-- what can be played, with a state in its piece
+record Played (counts : Counts) (s : State) (sheet : Sheet) : Type 0 where
+  playable : IsPlayable sheet
+  state : IsStateIn sheet.areas sheet.piece playable.kinds counts s
+
+module _ (number age : ℕ) (stage : Stage) (foot : Footprint) (code : Code) (fields : List ℤ) (s : State) (m : MakeVoice number age stage foot code fields s) where
+  abbrev d : VoiceData
+  d = voice_in number age stage foot code fields s
+
+  own : Played code.counts s (own_sheet m.sheet d)
+  own = subst (Played code.counts s) (its_own m.sheet d m.parts) (record { playable = m.playable; state = m.state })
+
+  all : Played code.counts s (record (own_sheet m.sheet d) { piece = all_made (piece_of d).generators (own_sheet m.sheet d).piece; init = [] })
+  unfolding own_sheet
+  all = let o = own in let p = o.playable in record {
+    playable = record {
+      stock = p.stock;
+      kinds = p.kinds;
+      placed = placed_made stage.layout.now (piece_of d).generators (own_sheet m.sheet d).piece p.stock p.placed;
+      init_uses = tt;
+      perf_uses = p.perf_uses;
+      perf_writes = p.perf_writes;
+      init_channels = refl;
+      perf_channels = p.perf_channels;
+      perf_acts = p.perf_acts;
+    };
+    state = state_made stage.layout.now (piece_of d).generators (own_sheet m.sheet d).piece p.kinds code.counts s o.state;
+  }
+
+  by_itself : Played code.counts s (sheet_of d)
+  unfolding own_sheet
+  by_itself = subst (λ ts. Played code.counts s (record (sheet_of d) { piece = record (piece_of d) { tables = ts } })) m.parts.tables all
+
+  pub kept : filled s.regs (values s.regs) ≡ s.regs → refilled s.outs (outs s.outs) ≡ s.outs → IsKept number age stage foot code fields s
+  kept all_registers all_channels = let p = by_itself in record {
+    voice = record {
+      playable = p.playable;
+      code = m.fine;
+      counts = p.state.registers;
+      frames = p.state.frames;
+      units = length-map s.players.items (option_map playing) ∙ p.state.units;
+      channels = p.state.channels;
+      channel_frames = p.state.channel_frames;
+      all_registers = all_registers;
+      all_channels = all_channels;
+    };
+    spaces = m.spaces;
+    zak = m.zak;
+    state = p.state;
+  }

@@ -1,0 +1,9 @@
+use Rattle.std.proofs.Common.{subst, sym}
+use Rattle.cs_voice.specs.Memory.{IsBody}
+use Rattle.cs_voice.proofs.Made.{kept}
+use Rattle.cs_voice.proofs.voice.Voice.of.Goals as goal
+
+pub invariant_of-result : goal.invariant_of-result
+invariant_of-result c =
+    subst IsBody (sym c.in_ok-new.ensures.ok)
+    (kept c.args.number c.args.age c.args.stage c.args.foot.now c.args.code.now c.args.fields.items c.args.state c.requires c.counts.ensures.whole c.len.ensures.whole)

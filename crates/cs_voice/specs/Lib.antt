@@ -1,0 +1,5 @@
+pub mod Cycles
+pub mod Memory
+pub mod VoiceData
+pub mod VoiceMeaning
+pub mod inner

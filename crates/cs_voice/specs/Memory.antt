@@ -1,0 +1,71 @@
+-- A voice as it lies in memory.
+use Rattle.std.specs.Prelude.{ℕ, ℤ, ◌≡◌, true, List, map, Option, Some, None}
+use Rattle.std.specs.Borrow.{Bor}
+use Rattle.std.specs.Option.{option_map}
+use Rattle.cs_ir.specs.Validity.{valid}
+use Rattle.cs_ir.specs.declared.op.Code.{Code}
+use Rattle.cs_cells.specs.declared.footprint.Footprint.{Footprint}
+use Rattle.cs_meaning.specs.Plain.{Table}
+use Rattle.cs_access.specs.Access.{AreSpaces, spaces_of}
+use Rattle.cs_player.specs.Players.{playing}
+use Rattle.cs_sounding.specs.Voices.{Sheet, IsPlayable}
+use Rattle.cs_state.specs.States.{IsStateIn, header_of}
+use Rattle.cs_state.specs.declared.state.State.{State}
+use Rattle.cs_voice.specs.declared.body.Body.{Body}
+use Rattle.cs_voice.specs.declared.stage.Stage.{Stage}
+use Rattle.cs_voice.specs.declared.stage.TableAt.{TableAt}
+use Rattle.cs_voice.specs.VoiceData.{VoiceData, IsSheetFor, piece_of}
+use Rattle.cs_voice.specs.VoiceMeaning.{IsVoice}
+
+-- the points of a table that stays as it is
+abbrev pub frozen_in : Option (Bor (List ℤ)) → Option (List ℤ)
+frozen_in None = None
+frozen_in (Some points) = Some points.now
+
+-- a table as the definitions have it, once it has been made
+abbrev pub table_of : TableAt → Table
+table_of t = record { number = t.number; size = t.size; frozen = frozen_in t.points; present = true }
+
+-- the voice that these parts make
+abbrev pub voice_in : ℕ → ℕ → Stage → Footprint → Code → List ℤ → State → VoiceData
+voice_in number age stage foot code fields s = record {
+  number = number;
+  age = age;
+  head = header_of stage.head.now;
+  spaces = record { control = stage.zak_k; audio = stage.zak_a };
+  tables = map table_of stage.tables.now;
+  areas = stage.layout.now;
+  fields = fields;
+  foot = foot;
+  code = code;
+  regs = s.regs;
+  units = map (option_map playing) s.players.items;
+  delays = s.delays;
+  outs = s.outs;
+  ended = s.ended;
+}
+
+-- Parts make a voice that plays from a sheet: the sheet can be played, the layout has the zak places of the piece, the code is
+-- valid, and the state is one in the piece.
+pub record MakeVoice (number age : ℕ) (stage : Stage) (foot : Footprint) (code : Code) (fields : List ℤ) (s : State) : Type 0 where
+  pub sheet : Sheet
+  pub parts : IsSheetFor sheet (voice_in number age stage foot code fields s)
+  pub playable : IsPlayable sheet
+  pub spaces : AreSpaces stage.layout.now
+  pub zak : spaces_of stage.layout.now ≡ record { control = stage.zak_k; audio = stage.zak_a }
+  pub fine : valid code ≡ true
+  pub state : IsStateIn sheet.areas sheet.piece playable.kinds code.counts s
+
+-- What is so of the parts of a voice.
+pub record IsKept (number age : ℕ) (stage : Stage) (foot : Footprint) (code : Code) (fields : List ℤ) (s : State) : Type 0 where
+  pub voice : IsVoice (voice_in number age stage foot code fields s)
+  pub spaces : AreSpaces stage.layout.now
+  pub zak : spaces_of stage.layout.now ≡ record { control = stage.zak_k; audio = stage.zak_a }
+  pub state : IsStateIn stage.layout.now (piece_of (voice_in number age stage foot code fields s)) voice.playable.kinds code.counts s
+
+-- the voice that a body is, and what is so of each body
+abbrev pub data_of : Body → VoiceData
+data_of b = voice_in b.number b.age b.stage b.foot.now b.code.now b.fields.items b.state
+
+abbrev pub IsBody : Body → Type 0
+IsBody b = IsKept b.number b.age b.stage b.foot.now b.code.now b.fields.items b.state

@@ -1,0 +1,45 @@
+-- What a voice means as a job.
+use Rattle.std.specs.Prelude.{◌≡◌, true, length}
+use Rattle.cs_ir.specs.Validity.{valid}
+use Rattle.cs_cells.specs.Cells.{Cells}
+use Rattle.cs_cells.specs.Meaning.{Meaning}
+use Rattle.cs_registers.specs.Outputs.{outs, refilled}
+use Rattle.cs_registers.specs.Registers.{filled, values}
+use Rattle.cs_sounding.specs.Voices.{Sheet, IsPlayable, performed, left_by}
+use Rattle.cs_voice.specs.VoiceData.{VoiceData, IsOn, sheet_of, sounding, sounding_on, taking}
+
+-- What is so of each voice: its code is valid and can be played; it has as many registers, units and channels as its code and its
+-- piece need, of as many frames; and what registers and channels have is all that they are.
+pub record IsVoice (d : VoiceData) : Type 0 where
+  pub playable : IsPlayable (sheet_of d)
+  pub code : valid d.code ≡ true
+  pub counts : d.regs.counts ≡ d.code.counts
+  pub frames : d.regs.ksmps ≡ d.head.ksmps
+  pub units : length d.units ≡ d.code.counts.units
+  pub channels : length d.outs.rows ≡ d.head.nchnls
+  pub channel_frames : d.outs.ksmps ≡ d.head.ksmps
+  pub all_registers : filled d.regs (values d.regs) ≡ d.regs
+  pub all_channels : refilled d.outs (outs d.outs) ≡ d.outs
+
+-- the voice after a cycle over cells, and the cells that it leaves
+abbrev pub after : VoiceData → Cells → VoiceData
+after d c = taking d (performed (sounding d) c)
+
+abbrev pub leaves : VoiceData → Cells → Cells
+leaves d c = left_by (sounding d) c
+
+abbrev pub voice_job : Meaning VoiceData
+voice_job = record {
+  areas = λ d. d.areas;
+  foot = λ d. d.foot;
+  after = after;
+  leaves = leaves;
+  valid = IsVoice;
+}
+
+-- A run of a voice is a cycle of the voice of the definitions, with whatever sheet it plays from.
+pub record Performs (s : Sheet) (d : VoiceData) (c : Cells) : Type 0 where
+  pub voice : sounding_on s (after d c) ≡ performed (sounding_on s d) c
+  pub cells : leaves d c ≡ left_by (sounding_on s d) c
+  pub sheet : IsOn s (after d c)
+  pub valid : IsVoice (after d c)

@@ -1,0 +1,63 @@
+// A voice as it lies in memory.
+ghost use Rattle.std.specs.Prelude.{◌≡◌, ◌<◌, ℕ, length};
+ghost use Rattle.cs_cells.specs.Meaning.{Uses, Writes};
+ghost use Rattle.cs_ir.specs.Waves.{silence};
+ghost use Rattle.cs_registers.specs.Outputs.{outs};
+ghost use Rattle.cs_voice.specs.Memory.{IsBody, data_of};
+ghost use Rattle.cs_voice.specs.VoiceMeaning.{after, leaves, voice_job};
+
+use crate::cycle::perform;
+use crate::stage::Stage;
+use cs_base::Num;
+use cs_cells::{Bank, Footprint};
+use cs_ir::Code;
+use cs_state::{Setting, State};
+
+/// What a note performs, and what it has come to.
+#[derive(Drop)]
+pub(crate) struct Body<'p> {
+    pub(crate) number: u32,
+    pub(crate) age: u64,
+    pub(crate) stage: Stage<'p>,
+    pub(crate) foot: &'p Footprint,
+    pub(crate) code: &'p Code,
+    pub(crate) fields: Vec<Num>,
+    pub(crate) state: State<'p>,
+}
+
+impl Body<'_> {
+    /// Performs a control cycle: its channels begin silent.
+    pub(crate) fn run<B: Bank>(&mut self, bank: &mut B)
+        requires body { IsBody self.old }
+        requires get { (a : ℕ) → Uses voice_job (data_of self.old) a → B.can_get (B.rest bank.old) a }
+        requires set { (a : ℕ) → Writes voice_job (data_of self.old) a → B.can_set (B.rest bank.old) a }
+        requires cells { (a : ℕ) → Uses voice_job (data_of self.old) a → a < length (B.cells bank.old) }
+        ensures job { data_of self.new ≡ after (data_of self.old) (B.cells bank.old) }
+        ensures cells { B.cells bank.new ≡ leaves (data_of self.old) (B.cells bank.old) }
+        ensures rest { B.rest bank.new ≡ B.rest bank.old }
+        ensures body { IsBody self.new }
+    {
+        begin(&mut self.state);
+        let at = Setting {
+            head: self.stage.head,
+            layout: self.stage.layout,
+            zak_k: self.stage.zak_k,
+            zak_a: self.stage.zak_a,
+            fields: &self.fields,
+        };
+        perform(&mut self.state, &at, &self.code.ops, bank);
+        // What registers and channels have is all that they are.
+        let _ = self.state.regs.counts();
+        let _ = self.state.outs.len();
+    }
+}
+
+/// Makes each channel silent, and leaves all else as it is.
+fn begin(state: &mut State<'_>)
+    ensures silent { outs state.new.outs ≡ (λ n. silence) }
+    ensures channels { length state.new.outs.rows ≡ length state.old.outs.rows }
+    ensures frames { state.new.outs.ksmps ≡ state.old.outs.ksmps }
+    ensures same { state.new ≡ record state.old { outs = state.new.outs } }
+{
+    state.outs.clear();
+}

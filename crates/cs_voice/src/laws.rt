@@ -1,0 +1,11 @@
+// What holds of every voice: a call that does nothing, whose contract is the law.
+ghost use Rattle.cs_cells.specs.Cells.{Cells};
+ghost use Rattle.cs_sounding.specs.Voices.{Sheet};
+ghost use Rattle.cs_voice.specs.VoiceData.{VoiceData, IsOn};
+ghost use Rattle.cs_voice.specs.VoiceMeaning.{IsVoice, Performs};
+
+/// A run of a voice is a cycle of the voice of the definitions, with whatever sheet it plays from, and leaves a voice that
+/// plays from that sheet.
+pub fn voices_perform()
+    ensures { (s : Sheet) (d : VoiceData) (c : Cells) → IsOn s d → IsVoice d → Performs s d c }
+{}

@@ -1,0 +1,116 @@
+// A note as it sounds: a job that performs its code once a control cycle.
+ghost use Rattle.std.specs.Prelude.{◌≡◌, length, IfOk, IfSome, IfNone};
+ghost use Rattle.cs_ir.specs.Waves.{silence};
+ghost use Rattle.cs_registers.specs.Outputs.{outs};
+ghost use Rattle.cs_registers.specs.Rows.{row_wave};
+ghost use Rattle.cs_voice.specs.Memory.{MakeVoice, voice_in};
+
+use crate::body::Body;
+use crate::stage::Stage;
+use cs_base::{Num, OutOfMemory};
+use cs_cells::{Bank, Footprint, Job};
+use cs_ir::Code;
+use cs_state::State;
+use std::alloc::Global;
+use std::marker::Model;
+
+/// A note that plays: a box, so that a move of it moves an address. Contracts see what it plays from and what it has come to
+/// as plain data.
+#[derive(Drop)]
+pub struct Voice<'p> {
+    body: Box<Body<'p>>,
+}
+
+impl<'p> Model for Voice<'p> {
+    ghost use Rattle.cs_voice.specs.VoiceData.{VoiceData};
+
+    ghost Value = { VoiceData };
+
+    ghost use Rattle.cs_voice.specs.Memory.{IsBody, data_of};
+
+    ghost view = { λ v. data_of v.body.value };
+
+    ghost invariant = { λ v. IsBody v.body.value };
+}
+
+impl<'p> Voice<'p> {
+    /// The voice of a note that has begun: the number of its instrument, its age (how many notes were started before it),
+    /// what it plays in, its footprint, the code that it runs in each control cycle, its p-fields from p1 on, and what it
+    /// has come to. `OutOfMemory` where there is none for it; then its parts are let go.
+    pub fn of(
+        alloc: Global,
+        number: u32,
+        age: u64,
+        stage: Stage<'p>,
+        foot: &'p Footprint,
+        code: &'p Code,
+        fields: Vec<Num>,
+        state: State<'p>,
+    ) -> Result<Voice<'p>, OutOfMemory>
+        requires { MakeVoice number age stage foot.now code.now fields.items state }
+        ensures { IfOk result (λ v. v ≡ voice_in number age stage.entry foot.now code.now fields.items state.entry) }
+    {
+        // What registers and channels have is all that they are.
+        let _ = state.regs.counts();
+        let _ = state.outs.len();
+        let body = Body {
+            number,
+            age,
+            stage,
+            foot,
+            code,
+            fields,
+            state,
+        };
+        Ok(Voice {
+            body: Box::new(alloc, body)?,
+        })
+    }
+
+    /// The number of its instrument.
+    pub fn number(&self) -> u32
+        ensures { result ≡ self.now.number }
+    {
+        self.body.number
+    }
+
+    /// How many notes were started before it.
+    pub fn age(&self) -> u64
+        ensures { result ≡ self.now.age }
+    {
+        self.body.age
+    }
+
+    /// Whether it was turned off: it ends with this cycle.
+    pub fn ended(&self) -> bool
+        ensures { result ≡ self.now.ended }
+    {
+        self.body.state.ended
+    }
+
+    /// What it gives to a channel in this cycle, a number a frame; None where it is silent there.
+    pub fn channel(&self, channel: usize) -> Option<&[Num]>
+        ensures some { IfSome result (λ row. row_wave row.now ≡ outs self.now.outs channel) }
+        ensures long { IfSome result (λ row. length row.now ≡ self.now.outs.ksmps) }
+        ensures none { IfNone result (outs self.now.outs channel ≡ silence) }
+    {
+        self.body.state.outs.channel(channel)
+    }
+}
+
+impl<'p> Job for Voice<'p> {
+    ghost use Rattle.cs_voice.specs.VoiceMeaning.{voice_job};
+    ghost use Rattle.cs_voice.specs.inner.Jobs.{voice_job_frames};
+
+    ghost means = { voice_job };
+
+    fn footprint(&self) -> &Footprint {
+        self.body.foot
+    }
+
+    fn run<B: Bank>(&mut self, bank: &mut B) {
+        self.body.run(bank);
+    }
+
+    ghost frames = { voice_job_frames };
+}
