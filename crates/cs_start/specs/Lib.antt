@@ -1,0 +1,5 @@
+pub mod Passing
+pub mod Starting
+pub mod Starts
+pub mod Tables
+pub mod inner

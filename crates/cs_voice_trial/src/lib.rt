@@ -1,0 +1,14 @@
+//! Trials of notes as they sound, over the public calls from the bytes of a text to the run of a voice over a bank. Nothing of
+//! the product stands on this crate, and it proves nothing of the others: its rows are numbers that were found by hand from
+//! the statements. That a note can begin here is proved by the laws that a performance uses too.
+//!
+//! In reading order: `piece` (a text, as it is lowered and laid out), `notes` (how notes of it begin and sound), `rows` (the
+//! numbers).
+#![tactic(auto)]
+
+#[cfg(test)]
+mod notes;
+#[cfg(test)]
+mod piece;
+#[cfg(test)]
+mod rows;
