@@ -27,6 +27,7 @@ pub fn truth(is_true: bool) -> Num
 }
 
 /// What an operator makes of two values.
+#[inline(always)]
 pub fn combine(operator: BinOp, x: Num, y: Num) -> Num
     ensures { result ≡ combined operator x y }
 {
