@@ -26,6 +26,7 @@ use Rattle.cs_code.specs.inner.Code.{init_block_code, perf_block_code}
 use Rattle.cs_code.specs.inner.Counted.{reached, no_registers}
 use Rattle.cs_code.specs.inner.Frames.{Frame}
 use Rattle.cs_code.specs.inner.Limits.{ops_limit, block_limit, parts_of}
+use Rattle.cs_code.proofs.BeginResources.{begins_block_use, begins_block_write}
 use Rattle.cs_code.proofs.InCycle.{perf_in_cycle}
 use Rattle.cs_code.proofs.Inside.{Fits}
 use Rattle.cs_code.proofs.Means.{means_by_frame}
@@ -98,6 +99,8 @@ module _ (spaces : Spaces) (s : Setting) (t : typed.Block) (rated : IsRatedBlock
     perf_names = subst (AllNamed s.channels (block_units (core spaces t))) (sym (ops_b ∙ made.perf_is)) (perf_named_rated spaces s t rated f);
     uses = λ stock. ap (ops_use stock) (ops_b ∙ made.perf_is) ∙ block_use stock f 0 start (core spaces t);
     writes = λ stock. ap (ops_write stock) (ops_b ∙ made.perf_is) ∙ block_write stock f 0 start (core spaces t);
+    begins = λ stock. ap (ops_use stock) (ops_a ∙ made.init_is) ∙ begins_block_use stock f 0 start (core spaces t);
+    begin_writes = λ stock. ap (ops_write stock) (ops_a ∙ made.init_is) ∙ begins_block_write stock f 0 start (core spaces t);
     perf_cycle = ap are_of_cycle (ops_b ∙ made.perf_is) ∙ perf_in_cycle f 0 start (core spaces t);
   }
 

@@ -1,4 +1,5 @@
 pub mod Arms
+pub mod BeginResources
 pub mod Beginnings
 pub mod Bounds
 pub mod Branches

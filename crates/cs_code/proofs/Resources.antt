@@ -23,10 +23,10 @@ use Rattle.cs_code.specs.inner.Frames.{Frame, op_of, temp, kept_or, direct, spot
 use Rattle.cs_code.specs.inner.Code.{unless_there, own, code, copied, operand_code, operands_code, set_code, target, given_code, unit_code, out_ops, out_at_ops, arm_code, perf_code, perf_block_code, perf_arms_code}
 
 -- two codes, one after the other, and what each names
-use_two : (stock : Stock) (a b : List Op) (x y : List Res) → ops_use stock a ≡ x → ops_use stock b ≡ y → ops_use stock (a ++ b) ≡ x ++ y
+pub use_two : (stock : Stock) (a b : List Op) (x y : List Res) → ops_use stock a ≡ x → ops_use stock b ≡ y → ops_use stock (a ++ b) ≡ x ++ y
 use_two stock a b x y h k = flat_map-append (λ o. act_uses stock o.act) a b ∙ ap₂ ◌++◌ h k
 
-write_two : (stock : Stock) (a b : List Op) (x y : List Res) → ops_write stock a ≡ x → ops_write stock b ≡ y → ops_write stock (a ++ b) ≡ x ++ y
+pub write_two : (stock : Stock) (a b : List Op) (x y : List Res) → ops_write stock a ≡ x → ops_write stock b ≡ y → ops_write stock (a ++ b) ≡ x ++ y
 write_two stock a b x y h k = flat_map-append (λ o. act_writes stock o.act) a b ∙ ap₂ ◌++◌ h k
 
 -- ---- what expressions read
@@ -42,7 +42,7 @@ own_uses (pair r o a b) = expr_uses a ++ expr_uses b
 own_uses (pick r c a b) = expr_uses c ++ (expr_uses a ++ expr_uses b)
 own_uses (apply r g a) = expr_uses a
 
-nothing_read : (r : Rate) → if_init {A = List Res} r [] [] ≡ []
+pub nothing_read : (r : Rate) → if_init {A = List Res} r [] [] ≡ []
 nothing_read rate.Init = refl
 nothing_read rate.Control = refl
 nothing_read rate.Audio = refl
@@ -97,7 +97,7 @@ by_copied stock f (pick r c y z) at x ops h = none_copied stock f r at x ops (ow
 by_copied stock f (apply r g a) at x ops h = none_copied stock f r at x ops (own_uses (apply r g a)) h
 
 -- the op of a node reads nothing by itself
-last_uses : (stock : Stock) (a : List Op) (op : Op) (u : List Res) → act_uses stock op.act ≡ [] → ops_use stock a ≡ u
+pub last_uses : (stock : Stock) (a : List Op) (op : Op) (u : List Res) → act_uses stock op.act ≡ [] → ops_use stock a ≡ u
     → ops_use stock (a ++ (op ∷ [])) ≡ u
 last_uses stock a op u none h = use_two stock a (op ∷ []) u [] h (ap (λ l. l ++ []) none) ∙ append-nil u
 
@@ -160,7 +160,7 @@ set_use stock f at (Global g) e =
     use_two stock (operand_code f false at e 0) (op_of (act.Save g) (spot f false at e 0) (spot f false at e 0 ∷ []) ∷ []) (expr_uses e) (g ∷ [])
     (operand_use stock f at e 0) refl
 
-given_use : (stock : Stock) (f : Frame) (r : Rate) (vs : List Variable) → ops_use stock (given_code f r vs) ≡ vars_use vs
+pub given_use : (stock : Stock) (f : Frame) (r : Rate) (vs : List Variable) → ops_use stock (given_code f r vs) ≡ vars_use vs
 given_use stock f r [] = refl
 given_use stock f r (Local q n ∷ vs) = by_rate (same_rate q r)
   where
@@ -190,7 +190,7 @@ each_use stock rate.Init ops u h = refl
 each_use stock rate.Control ops u h = h
 each_use stock rate.Audio ops u h = h
 
-arm_use : (stock : Stock) (place : ℕ) (before : List Op) (q : Reg) (body rest : List Op) (u v w : List Res) → ops_use stock before ≡ u
+pub arm_use : (stock : Stock) (place : ℕ) (before : List Op) (q : Reg) (body rest : List Op) (u v w : List Res) → ops_use stock before ≡ u
     → ops_use stock body ≡ v → ops_use stock rest ≡ w → ops_use stock (arm_code place before q body rest) ≡ u ++ (v ++ w)
 arm_use stock place before q body rest u v w h k l =
     let jump : Op = op_of (act.Jump (place + length before + 1 + length body + 1 + length rest)) q [] in
@@ -240,65 +240,65 @@ unless_write : (stock : Stock) (there : Option Reg) (ops : List Op) → ops_writ
 unless_write stock (Some q) ops h = refl
 unless_write stock None ops h = h
 
-copied_write : (stock : Stock) (there : Option Reg) (x : Reg) (ops : List Op) → ops_write stock ops ≡ [] → ops_write stock (copied there x ops) ≡ []
+pub copied_write : (stock : Stock) (there : Option Reg) (x : Reg) (ops : List Op) → ops_write stock ops ≡ [] → ops_write stock (copied there x ops) ≡ []
 copied_write stock (Some q) x ops h = refl
 copied_write stock None x ops h = h
 
 -- what works out values writes nothing that notes share
-own_write : (stock : Stock) (f : Frame) (e : Expression) (at : ℕ) (x : Reg) (d : ℕ) → ops_write stock (own f false at e x d) ≡ []
-own_write stock f (number r n) at x d = refl
-own_write stock f (var r (Local q n)) at x d = refl
-own_write stock f (var r (Global g)) at x d = refl
-own_write stock f (field r k) at x d = refl
-own_write stock f (head r k) at x d = refl
-own_write stock f (neg r a) at x d =
-    write_two stock (operand_code f false at a d) (op_of act.Neg x (spot f false at a d ∷ []) ∷ []) [] []
-    (unless_write stock (direct f false at a) (own f false at a (temp f (node_rate a) d) (d + 1)) (own_write stock f a at (temp f (node_rate a) d) (d + 1))) refl
-own_write stock f (pair r b y z) at x d =
-    let last : List Op = op_of (act.Pair b) x (spots f false at (y ∷ z ∷ []) d) ∷ [] in
-    let second : List Op = operand_code f false (past at y) z (d + 1) in
-    write_two stock (operand_code f false at y d) (second ++ last) [] []
-    (unless_write stock (direct f false at y) (own f false at y (temp f (node_rate y) d) (d + 1)) (own_write stock f y at (temp f (node_rate y) d) (d + 1)))
+pub own_write : (stock : Stock) (f : Frame) (whole : Bool) (e : Expression) (at : ℕ) (x : Reg) (d : ℕ) → ops_write stock (own f whole at e x d) ≡ []
+own_write stock f whole (number r n) at x d = refl
+own_write stock f whole (var r (Local q n)) at x d = refl
+own_write stock f whole (var r (Global g)) at x d = refl
+own_write stock f whole (field r k) at x d = refl
+own_write stock f whole (head r k) at x d = refl
+own_write stock f whole (neg r a) at x d =
+    write_two stock (operand_code f whole at a d) (op_of act.Neg x (spot f whole at a d ∷ []) ∷ []) [] []
+    (unless_write stock (direct f whole at a) (own f whole at a (temp f (node_rate a) d) (d + 1)) (own_write stock f whole a at (temp f (node_rate a) d) (d + 1))) refl
+own_write stock f whole (pair r b y z) at x d =
+    let last : List Op = op_of (act.Pair b) x (spots f whole at (y ∷ z ∷ []) d) ∷ [] in
+    let second : List Op = operand_code f whole (past at y) z (d + 1) in
+    write_two stock (operand_code f whole at y d) (second ++ last) [] []
+    (unless_write stock (direct f whole at y) (own f whole at y (temp f (node_rate y) d) (d + 1)) (own_write stock f whole y at (temp f (node_rate y) d) (d + 1)))
     (write_two stock second last [] []
-    (unless_write stock (direct f false (past at y) z) (own f false (past at y) z (temp f (node_rate z) (d + 1)) (d + 1 + 1))
-    (own_write stock f z (past at y) (temp f (node_rate z) (d + 1)) (d + 1 + 1))) refl)
-own_write stock f (pick r c y z) at x d =
-    let last : List Op = op_of act.Pick x (spots f false at (c ∷ y ∷ z ∷ []) d) ∷ [] in
-    let second : List Op = operand_code f false (past at c) y (d + 1) in
-    let third : List Op = operand_code f false (past (past at c) y) z (d + 1 + 1) in
-    write_two stock (operand_code f false at c d) (second ++ (third ++ last)) [] []
-    (unless_write stock (direct f false at c) (own f false at c (temp f (node_rate c) d) (d + 1)) (own_write stock f c at (temp f (node_rate c) d) (d + 1)))
+    (unless_write stock (direct f whole (past at y) z) (own f whole (past at y) z (temp f (node_rate z) (d + 1)) (d + 1 + 1))
+    (own_write stock f whole z (past at y) (temp f (node_rate z) (d + 1)) (d + 1 + 1))) refl)
+own_write stock f whole (pick r c y z) at x d =
+    let last : List Op = op_of act.Pick x (spots f whole at (c ∷ y ∷ z ∷ []) d) ∷ [] in
+    let second : List Op = operand_code f whole (past at c) y (d + 1) in
+    let third : List Op = operand_code f whole (past (past at c) y) z (d + 1 + 1) in
+    write_two stock (operand_code f whole at c d) (second ++ (third ++ last)) [] []
+    (unless_write stock (direct f whole at c) (own f whole at c (temp f (node_rate c) d) (d + 1)) (own_write stock f whole c at (temp f (node_rate c) d) (d + 1)))
     (write_two stock second (third ++ last) [] []
-    (unless_write stock (direct f false (past at c) y) (own f false (past at c) y (temp f (node_rate y) (d + 1)) (d + 1 + 1))
-    (own_write stock f y (past at c) (temp f (node_rate y) (d + 1)) (d + 1 + 1)))
+    (unless_write stock (direct f whole (past at c) y) (own f whole (past at c) y (temp f (node_rate y) (d + 1)) (d + 1 + 1))
+    (own_write stock f whole y (past at c) (temp f (node_rate y) (d + 1)) (d + 1 + 1)))
     (write_two stock third last [] []
-    (unless_write stock (direct f false (past (past at c) y) z) (own f false (past (past at c) y) z (temp f (node_rate z) (d + 1 + 1)) (d + 1 + 1 + 1))
-    (own_write stock f z (past (past at c) y) (temp f (node_rate z) (d + 1 + 1)) (d + 1 + 1 + 1))) refl))
-own_write stock f (apply r g a) at x d =
-    write_two stock (operand_code f false at a d) (op_of (act.Call g) x (spot f false at a d ∷ []) ∷ []) [] []
-    (unless_write stock (direct f false at a) (own f false at a (temp f (node_rate a) d) (d + 1)) (own_write stock f a at (temp f (node_rate a) d) (d + 1))) refl
+    (unless_write stock (direct f whole (past (past at c) y) z) (own f whole (past (past at c) y) z (temp f (node_rate z) (d + 1 + 1)) (d + 1 + 1 + 1))
+    (own_write stock f whole z (past (past at c) y) (temp f (node_rate z) (d + 1 + 1)) (d + 1 + 1 + 1))) refl))
+own_write stock f whole (apply r g a) at x d =
+    write_two stock (operand_code f whole at a d) (op_of (act.Call g) x (spot f whole at a d ∷ []) ∷ []) [] []
+    (unless_write stock (direct f whole at a) (own f whole at a (temp f (node_rate a) d) (d + 1)) (own_write stock f whole a at (temp f (node_rate a) d) (d + 1))) refl
 
-operand_write : (stock : Stock) (f : Frame) (at : ℕ) (e : Expression) (d : ℕ) → ops_write stock (operand_code f false at e d) ≡ []
-operand_write stock f at e d =
-    unless_write stock (direct f false at e) (own f false at e (temp f (node_rate e) d) (d + 1)) (own_write stock f e at (temp f (node_rate e) d) (d + 1))
+operand_write : (stock : Stock) (f : Frame) (whole : Bool) (at : ℕ) (e : Expression) (d : ℕ) → ops_write stock (operand_code f whole at e d) ≡ []
+operand_write stock f whole at e d =
+    unless_write stock (direct f whole at e) (own f whole at e (temp f (node_rate e) d) (d + 1)) (own_write stock f whole e at (temp f (node_rate e) d) (d + 1))
 
-operands_write : (stock : Stock) (f : Frame) (at : ℕ) (es : List Expression) (d : ℕ) → ops_write stock (operands_code f false at es d) ≡ []
-operands_write stock f at [] d = refl
-operands_write stock f at (e ∷ es) d =
-    write_two stock (operand_code f false at e d) (operands_code f false (past at e) es (d + 1)) [] []
-    (operand_write stock f at e d) (operands_write stock f (past at e) es (d + 1))
+pub operands_write : (stock : Stock) (f : Frame) (whole : Bool) (at : ℕ) (es : List Expression) (d : ℕ) → ops_write stock (operands_code f whole at es d) ≡ []
+operands_write stock f whole at [] d = refl
+operands_write stock f whole at (e ∷ es) d =
+    write_two stock (operand_code f whole at e d) (operands_code f whole (past at e) es (d + 1)) [] []
+    (operand_write stock f whole at e d) (operands_write stock f whole (past at e) es (d + 1))
 
-set_write : (stock : Stock) (f : Frame) (at : ℕ) (v : Variable) (e : Expression) → ops_write stock (set_code f false at v e) ≡ var_uses v
-set_write stock f at (Local q n) e = by_rate (same_rate (node_rate e) q)
+pub set_write : (stock : Stock) (f : Frame) (whole : Bool) (at : ℕ) (v : Variable) (e : Expression) → ops_write stock (set_code f whole at v e) ≡ var_uses v
+set_write stock f whole at (Local q n) e = by_rate (same_rate (node_rate e) q)
   where
-    by_rate : (b : Bool) → ops_write stock (if b then code f false at e (reg q n) 0
-        else operand_code f false at e 0 ++ (op_of act.Copy (reg q n) (spot f false at e 0 ∷ []) ∷ [])) ≡ []
-    by_rate true = copied_write stock (direct f false at e) (reg q n) (own f false at e (reg q n) 0) (own_write stock f e at (reg q n) 0)
+    by_rate : (b : Bool) → ops_write stock (if b then code f whole at e (reg q n) 0
+        else operand_code f whole at e 0 ++ (op_of act.Copy (reg q n) (spot f whole at e 0 ∷ []) ∷ [])) ≡ []
+    by_rate true = copied_write stock (direct f whole at e) (reg q n) (own f whole at e (reg q n) 0) (own_write stock f whole e at (reg q n) 0)
     by_rate false =
-        write_two stock (operand_code f false at e 0) (op_of act.Copy (reg q n) (spot f false at e 0 ∷ []) ∷ []) [] [] (operand_write stock f at e 0) refl
-set_write stock f at (Global g) e =
-    write_two stock (operand_code f false at e 0) (op_of (act.Save g) (spot f false at e 0) (spot f false at e 0 ∷ []) ∷ []) [] (g ∷ [])
-    (operand_write stock f at e 0) refl
+        write_two stock (operand_code f whole at e 0) (op_of act.Copy (reg q n) (spot f whole at e 0 ∷ []) ∷ []) [] [] (operand_write stock f whole at e 0) refl
+set_write stock f whole at (Global g) e =
+    write_two stock (operand_code f whole at e 0) (op_of (act.Save g) (spot f whole at e 0) (spot f whole at e 0 ∷ []) ∷ []) [] (g ∷ [])
+    (operand_write stock f whole at e 0) refl
 
 given_write : (stock : Stock) (f : Frame) (r : Rate) (vs : List Variable) → ops_write stock (given_code f r vs) ≡ vars_use vs
 given_write stock f r [] = refl
@@ -309,11 +309,11 @@ given_write stock f r (Local q n ∷ vs) = by_rate (same_rate q r)
     by_rate false = refl
 given_write stock f r (Global g ∷ vs) = refl
 
-unit_write : (stock : Stock) (f : Frame) (at : ℕ) (r : Rate) (vs : List Variable) (opcode : Opcode) (u : ℕ) (reach : Reach) (xs : List Expression)
-    → ops_write stock (unit_code f false at r vs opcode u reach xs) ≡ unit_writes stock opcode reach ++ vars_use vs
-unit_write stock f at r vs opcode u reach xs =
-    write_two stock (operands_code f false at xs 0) (op_of (act.Unit opcode u reach) (target f r vs) (spots f false at xs 0) ∷ given_code f r vs)
-    [] (unit_writes stock opcode reach ++ vars_use vs) (operands_write stock f at xs 0)
+pub unit_write : (stock : Stock) (f : Frame) (whole : Bool) (at : ℕ) (r : Rate) (vs : List Variable) (opcode : Opcode) (u : ℕ) (reach : Reach) (xs : List Expression)
+    → ops_write stock (unit_code f whole at r vs opcode u reach xs) ≡ unit_writes stock opcode reach ++ vars_use vs
+unit_write stock f whole at r vs opcode u reach xs =
+    write_two stock (operands_code f whole at xs 0) (op_of (act.Unit opcode u reach) (target f r vs) (spots f whole at xs 0) ∷ given_code f r vs)
+    [] (unit_writes stock opcode reach ++ vars_use vs) (operands_write stock f whole at xs 0)
     (ap (λ l. unit_writes stock opcode reach ++ l) (given_write stock f r vs))
 
 out_write : (stock : Stock) (c : ℕ) (qs : List Reg) → ops_write stock (out_ops c qs) ≡ []
@@ -330,7 +330,7 @@ each_write stock rate.Init ops u h = refl
 each_write stock rate.Control ops u h = h
 each_write stock rate.Audio ops u h = h
 
-arm_write : (stock : Stock) (place : ℕ) (before : List Op) (q : Reg) (body rest : List Op) (v w : List Res) → ops_write stock before ≡ []
+pub arm_write : (stock : Stock) (place : ℕ) (before : List Op) (q : Reg) (body rest : List Op) (v w : List Res) → ops_write stock before ≡ []
     → ops_write stock body ≡ v → ops_write stock rest ≡ w → ops_write stock (arm_code place before q body rest) ≡ v ++ w
 arm_write stock place before q body rest v w h k l =
     let jump : Op = op_of (act.Jump (place + length before + 1 + length body + 1 + length rest)) q [] in
@@ -339,16 +339,16 @@ arm_write stock place before q body rest v w h k l =
 
 mutual
   stmt_write : (stock : Stock) (f : Frame) (place : ℕ) (p : Place) (s : Stmt) → ops_write stock (perf_code f place p s) ≡ stmt_writes stock s
-  stmt_write stock f place p (set r v e) = each_write stock r (set_code f false p.part v e) (var_uses v) (set_write stock f p.part v e)
+  stmt_write stock f place p (set r v e) = each_write stock r (set_code f false p.part v e) (var_uses v) (set_write stock f false p.part v e)
   stmt_write stock f place p (unit r vs opcode reach xs is) =
       each_write stock r (unit_code f false p.part r vs opcode p.unit reach xs) (unit_writes stock opcode reach ++ vars_use vs)
-      (unit_write stock f p.part r vs opcode p.unit reach xs)
+      (unit_write stock f false p.part r vs opcode p.unit reach xs)
   stmt_write stock f place p (out r es) =
       write_two stock (operands_code f false p.part es 0) (out_ops 0 (spots f false p.part es 0)) [] []
-      (operands_write stock f p.part es 0) (out_write stock 0 (spots f false p.part es 0))
+      (operands_write stock f false p.part es 0) (out_write stock 0 (spots f false p.part es 0))
   stmt_write stock f place p (out_at r es) =
       write_two stock (operands_code f false p.part es 0) (out_at_ops (spots f false p.part es 0)) [] []
-      (operands_write stock f p.part es 0) (out_at_write stock (spots f false p.part es 0))
+      (operands_write stock f false p.part es 0) (out_at_write stock (spots f false p.part es 0))
   stmt_write stock f place p (ask es) = refl
   stmt_write stock f place p (turnoff r) = refl
   stmt_write stock f place p nothing = refl
@@ -370,5 +370,5 @@ mutual
       let body : List Op = perf_block_code f (place + length before + 1) q b in
       let others : List Op = perf_arms_code f (place + length before + 1 + length body + 1) (past_block q b) rest in
       arm_write stock place before (spot f false p.part c 0) body others (block_writes stock b) (arms_write stock rest)
-      (operand_write stock f p.part c 0) (block_write stock f (place + length before + 1) q b)
+      (operand_write stock f false p.part c 0) (block_write stock f (place + length before + 1) q b)
       (arms_write_of stock f (place + length before + 1 + length body + 1) (past_block q b) rest)

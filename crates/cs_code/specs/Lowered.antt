@@ -7,6 +7,7 @@ use Rattle.cs_ir.specs.Instruments.{Numbered, numbers_of}
 use Rattle.cs_ir.specs.Resources.{Spaces, Stock, ops_use, ops_write}
 use Rattle.cs_ir.specs.Validity.{valid}
 use Rattle.cs_ir.specs.declared.op.Code.{Code}
+use Rattle.cs_meaning.specs.Beginning.{block_begins, block_begin_writes}
 use Rattle.cs_meaning.specs.Core.{core}
 use Rattle.cs_meaning.specs.Uses.{block_uses, block_writes}
 use Rattle.cs_typed.specs.TypedTree as typed
@@ -14,8 +15,8 @@ use Rattle.cs_code.specs.Means.{Means}
 use Rattle.cs_code.specs.Names.{block_units, AllNamed}
 
 -- The two codes of a block, in a piece with such zak spaces and so many channels: they mean its statements, can be run on the
--- same registers and units, name what there is, and the performance uses and may write exactly what the statements do, starts no
--- unit and asks for no note.
+-- same registers and units, name what there is, and use and may write exactly what the statements do: the initialisation what they
+-- do as the note begins, and the performance what they do in a cycle, which starts no unit and asks for no note.
 pub record IsCodeOf (spaces : Spaces) (channels : ℕ) (body : typed.Block) (init perf : Code) : Type 0 where
   pub means : Means (core spaces body) init.ops.items perf.ops.items
   pub init_valid : valid init ≡ true
@@ -26,6 +27,8 @@ pub record IsCodeOf (spaces : Spaces) (channels : ℕ) (body : typed.Block) (ini
   pub perf_names : AllNamed channels (block_units (core spaces body)) perf.ops.items
   pub uses : (stock : Stock) → ops_use stock perf.ops.items ≡ block_uses stock (core spaces body)
   pub writes : (stock : Stock) → ops_write stock perf.ops.items ≡ block_writes stock (core spaces body)
+  pub begins : (stock : Stock) → ops_use stock init.ops.items ≡ block_begins stock (core spaces body)
+  pub begin_writes : (stock : Stock) → ops_write stock init.ops.items ≡ block_begin_writes stock (core spaces body)
   pub perf_cycle : are_of_cycle perf.ops.items ≡ true
 
 -- the zak spaces of a piece

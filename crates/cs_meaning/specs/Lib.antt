@@ -1,3 +1,4 @@
+pub mod Beginning
 pub mod Core
 pub mod Examples
 pub mod Initialising
