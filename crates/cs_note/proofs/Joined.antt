@@ -176,14 +176,13 @@ module _ (s : Sheet) (playable : IsPlayable s) where
       goes_on_so : GoesOn s body plan playable.kinds w t c shared
       goes_on_so = subst (λ z. GoesOn s body plan playable.kinds z t c shared) same_voice (record { voice = voice_so; cells = cells_so })
 
-    perform_so : Perform s body
+    pub perform_so : Perform plan playable.kinds s body
     perform_so = record {
-      plan = plan;
-      kinds = playable.kinds;
       begins = begins_so;
       goes_on = λ v t c shared long stands hold. goes_on_so v t c shared long hold stands;
     }
 
 -- what can be played, by codes that mean the statements, is performed
-pub performs : (s : Sheet) (body : Block) → Means body s.init s.perf → IsPlayable s → s.piece.generators ≡ the_generators (pace_of s.piece.head) → Perform s body
+pub performs : (s : Sheet) (body : Block) (means : Means body s.init s.perf) (playable : IsPlayable s)
+    → s.piece.generators ≡ the_generators (pace_of s.piece.head) → Perform means.plan playable.kinds s body
 performs s body means playable gen = perform_so s playable body means.plan means.each gen

@@ -20,6 +20,7 @@ use Rattle.cs_cells.specs.Cells.{covers, in_area}
 use Rattle.cs_cells.specs.declared.footprint.Area.{Area}
 use Rattle.cs_code.specs.Names.{UnitKind, Names, AllNamed, block_units}
 use Rattle.cs_meaning.specs.Core.{core}
+use Rattle.cs_meaning.specs.Plain.{Piece, plain}
 use Rattle.cs_rwset.specs.Footprints.{stock_of, places_holding}
 use Rattle.cs_rwset.proofs.Holding.{holding_covers}
 use Rattle.cs_rwset.proofs.Placed.{contains_first, contains_rest}
@@ -27,9 +28,9 @@ use Rattle.cs_sounding.specs.Placing.{area_of, HasArea}
 use Rattle.cs_sounding.specs.Follows.{ActNamed, AreNamed, OpsNamed}
 use Rattle.cs_sounding.specs.Voices.{Sheet, IsUsed, IsWritten, OpsWritten, IsPlayable, has_channel, have_channels}
 use Rattle.cs_sounding.proofs.Placed.{area_at}
-use Rattle.cs_code.specs.Means.{Means}
+use Rattle.cs_code.specs.Means.{MeansIn}
 use Rattle.cs_note.specs.VoicesOfNotes.{Perform}
-use Rattle.cs_note.proofs.Joined.{performs}
+use Rattle.cs_note.proofs.Joined.{perform_so}
 use Rattle.cs_note.specs.Sheets.{kind_of, kinds_of, IsSheetOf}
 
 -- ---- lists of resources
@@ -186,6 +187,11 @@ module _ (s : Sheet) (body : typed.Block) (init perf : Code) (h : IsSheetOf s bo
     perf_acts = ap are_of_cycle h.perf_ops ∙ h.code.perf_cycle;
   }
 
-  pub performed_from : Perform s (core s.piece.spaces body)
-  performed_from =
-      performs s (core s.piece.spaces body) (subst (λ ops. Means (core s.piece.spaces body) ops s.perf) (sym h.init_ops) (subst (λ ops. Means (core s.piece.spaces body) init.ops.items ops) (sym h.perf_ops) h.code.means)) plays_from h.generators
+  means_so : (piece : Piece) → MeansIn (plain piece) h.code.means.plan (core s.piece.spaces body) s.init s.perf
+  means_so piece =
+      subst (λ ops. MeansIn (plain piece) h.code.means.plan (core s.piece.spaces body) ops s.perf) (sym h.init_ops)
+      (subst (λ ops. MeansIn (plain piece) h.code.means.plan (core s.piece.spaces body) init.ops.items ops) (sym h.perf_ops) (h.code.means.each piece))
+
+  pub performed_from : Perform h.code.means.plan (kinds_of units) s (core s.piece.spaces body)
+  unfolding plays_from
+  performed_from = perform_so s plays_from (core s.piece.spaces body) h.code.means.plan means_so h.generators

@@ -59,10 +59,8 @@ pub record GoesOn (s : Sheet) (body : Block) (plan : Plan) (kinds : Kinds) (v : 
   pub cells : Hold s.areas (cell (left_by v c)) (next_note s.piece body shared t).world.shared
 
 -- Voices that play from a sheet perform notes of these statements, from their beginning through every cycle, whatever other
--- notes do in between to what they share.
-pub record Perform (s : Sheet) (body : Block) : Type 0 where
-  pub plan : Plan
-  pub kinds : Kinds
+-- notes do in between to what they share. Where the values of a note stand and what its units are, plan and kinds say.
+pub record Perform (plan : Plan) (kinds : Kinds) (s : Sheet) (body : Block) : Type 0 where
   pub begins : (cells : ℕ → ℤ) (shared : Res → Wave) → Hold s.areas cells shared → Begins s body plan kinds cells shared
   pub goes_on : (v : Sounding) (t : Note Plain) (c : Cells) (shared : Res → Wave) → word_count s.areas ≤ length c
       → IsVoiceOf s plan kinds v t → Hold s.areas (cell c) shared → GoesOn s body plan kinds v t c shared
