@@ -1,0 +1,6 @@
+mod Given
+mod Growing
+mod Named
+mod NamedCalls
+mod NamedCore
+mod Touching
