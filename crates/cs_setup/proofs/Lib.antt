@@ -1,0 +1,7 @@
+mod Apart
+mod Bodies
+mod Giving
+mod Marks
+mod Readied
+mod Rights
+mod Staged

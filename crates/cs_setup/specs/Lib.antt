@@ -1,0 +1,5 @@
+pub mod Compositions
+pub mod Ready
+pub mod Setups
+pub mod Tables
+pub mod inner

@@ -1,0 +1,19 @@
+//! What is performed: all that a piece needs, made from its typed orchestra and its plot before the first note.
+//!
+//! The one contract: `Setup::new` answers a setup of what it was given, or the limit on resources or cells that its layout
+//! passes. A setup stands for a composition (specs/Setups, `composition_of`), and gives whoever performs it the stage of the
+//! piece and each instrument with its footprint, from which its notes can begin and perform what the composition says
+//! (`IsStageOf`, `IsInstrumentOf` of specs/Ready). How tables are found, kept and told from one another, and which of them are
+//! cells, may be changed without anyone above noticing, but for the definition of `tables_in`.
+//!
+//! Modules in reading order: `written` (tables that codes may write), `tables` (those of a plot), `setup`, `stage` (what is handed
+//! out).
+#![tactic(auto)]
+
+mod setup;
+mod stage;
+mod tables;
+mod written;
+
+pub use setup::Setup;
+pub use tables::PieceTable;
