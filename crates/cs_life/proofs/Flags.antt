@@ -1,0 +1,254 @@
+-- Voices play on when more tables have been made.
+use Rattle.std.proofs.Common.{◌≡◌, ℕ, ℤ, pos, suc, ◌==◌, ◌&&◌, ◌||◌, Bool, true, false, not, List, [], ◌∷◌, length, map, unsigned_abs, Option, Some, None, if◌then◌else◌, refl, sym, ◌∙◌, ap, arith}
+use Rattle.std.specs.Borrow.{Bor}
+use Rattle.std.specs.Int.{is_negative}
+use Rattle.std.specs.Option.{is_some}
+use Rattle.std.proofs.lemmas.Bool.{and_parts}
+use Rattle.std.proofs.lemmas.Bool.Decides.{nat_tests}
+use Rattle.std.specs.List.{AllZip, list_any}
+use Rattle.cs_cells.specs.declared.footprint.Footprint.{Footprint}
+use Rattle.cs_ir.specs.Instruments.{Numbered}
+use Rattle.cs_ir.specs.declared.op.Act.{Act}
+use Rattle.cs_ir.specs.declared.op.Act.TheVariants as act
+use Rattle.cs_ir.specs.declared.op.Op.{Op}
+use Rattle.cs_course.specs.Moments.{Composition, Active}
+use Rattle.cs_meaning.specs.Plain.{Table, find_table}
+use Rattle.cs_start.specs.Starts.{sheet_at}
+use Rattle.cs_start.specs.Tables.{table_at, tables_of}
+use Rattle.cs_voice.specs.Memory.{frozen_in, table_of}
+use Rattle.cs_voice.specs.VoiceData.{VoiceData, IsSheetFor, OpsStoreInto, StoresInto, made}
+use Rattle.cs_voice.specs.declared.stage.Stage.{Stage}
+use Rattle.cs_voice.specs.declared.stage.TableAt.{TableAt}
+use Rattle.cs_life.specs.Standing.{Plays, flags_of}
+use Rattle.cs_life.specs.inner.Marks.{has_cells, is_in_cells, marked}
+
+-- ---- flags
+
+-- the tables of a stage are those of its composition: as many, of the same numbers
+pub as_many : (ts : List TableAt) (cs : List Table) → map table_of ts ≡ map made cs → length ts ≡ length cs
+as_many [] [] e = refl
+as_many [] (c ∷ cs) e = absurd cc
+as_many (t ∷ ts) [] e = absurd cc
+as_many (t ∷ ts) (c ∷ cs) e = let later : map table_of ts ≡ map made cs = cc in ap suc (as_many ts cs later)
+
+first_of : (t : TableAt) (c : Table) (ts : List TableAt) (cs : List Table) → map table_of (t ∷ ts) ≡ map made (c ∷ cs) → table_of t ≡ made c
+first_of t c ts cs e = cc
+
+later_of : (t : TableAt) (c : Table) (ts : List TableAt) (cs : List Table) → map table_of (t ∷ ts) ≡ map made (c ∷ cs) → map table_of ts ≡ map made cs
+later_of t c ts cs e = cc
+
+flags_long : (cs : List Table) (ns : List ℕ) → length (flags_of cs ns) ≡ length cs
+flags_long [] ns = refl
+flags_long (c ∷ cs) ns = ap suc (flags_long cs ns)
+
+pub flags_fit : (ts : List TableAt) (cs : List Table) (ns : List ℕ) (flags : List Bool) → map table_of ts ≡ map made cs → flags ≡ flags_of cs ns
+    → length flags ≡ length ts
+flags_fit ts cs ns flags e is = ap length is ∙ flags_long cs ns ∙ sym (as_many ts cs e)
+
+-- when those of a number have been made, the flags are those of one number more
+pub marked_flags : (ts : List TableAt) (cs : List Table) (n : ℕ) (ns : List ℕ) → map table_of ts ≡ map made cs
+    → marked n ts (flags_of cs ns) ≡ flags_of cs (n ∷ ns)
+marked_flags [] [] n ns e = refl
+marked_flags [] (c ∷ cs) n ns e = absurd cc
+marked_flags (t ∷ ts) [] n ns e = absurd cc
+marked_flags (t ∷ ts) (c ∷ cs) n ns e =
+    let here : t.number ≡ c.number = ap (λ (x : Table). x.number) (first_of t c ts cs e) in
+    let later = marked_flags ts cs n ns (later_of t c ts cs e) in
+    λ i. ((n == here i) || list_any (λ k. k == c.number) ns) ∷ later i
+
+-- a flag that was true stays so
+abbrev pub More : List Bool → List Bool → Type 0
+More fs gs = AllZip (λ f g. f ≡ true → g ≡ true) fs gs
+
+more_same : (fs : List Bool) → More fs fs
+more_same [] = tt
+more_same (f ∷ fs) = ((λ h. h), more_same fs)
+
+either_more : (b f : Bool) → f ≡ true → (b || f) ≡ true
+either_more true f h = refl
+either_more false f h = h
+
+pub marked_more : (n : ℕ) (ts : List TableAt) (fs : List Bool) → length fs ≡ length ts → More fs (marked n ts fs)
+marked_more n [] fs h = more_same fs
+marked_more n (t ∷ ts) [] h = tt
+marked_more n (t ∷ ts) (f ∷ fs) h = (either_more (n == t.number) f, marked_more n ts fs (omega arith))
+
+pub marked_long : (n : ℕ) (ts : List TableAt) (fs : List Bool) → length fs ≡ length ts → length (marked n ts fs) ≡ length ts
+marked_long n [] fs h = h
+marked_long n (t ∷ ts) [] h = h
+marked_long n (t ∷ ts) (f ∷ fs) h = ap suc (marked_long n ts fs (omega arith))
+
+points_some : (t : TableAt) → is_some t.points ≡ is_some (table_of t).frozen
+points_some t = of_points t.points
+  where
+    of_points : (o : Option (Bor (List ℤ))) → is_some o ≡ is_some (frozen_in o)
+    of_points None = refl
+    of_points (Some x) = refl
+
+not_negative : (n : ℕ) → not (is_negative (pos n)) ≡ true
+not_negative n = grind (arith, nat_tests)
+
+pos_test : (k n : ℕ) → (not (is_negative (pos n)) && k == n) ≡ (k == n)
+pos_test k n = ap (λ b. b && k == n) (not_negative n)
+
+in_branches : (b : Bool) (c : Table) (o : Option Table) → (if b then not (is_some c.frozen) else is_in_cells o) ≡ is_in_cells (if b then Some c else o)
+in_branches true c o = refl
+in_branches false c o = refl
+
+-- the first table of a number has its points in cells, in the stage as in the composition
+pub cells_of_first : (ts : List TableAt) (cs : List Table) (n : ℕ) → map table_of ts ≡ map made cs → has_cells ts n ≡ is_in_cells (find_table cs (pos n))
+cells_of_first [] [] n e = refl
+cells_of_first [] (c ∷ cs) n e = absurd cc
+cells_of_first (t ∷ ts) [] n e = absurd cc
+cells_of_first (t ∷ ts) (c ∷ cs) n e =
+    let head = first_of t c ts cs e in
+    let number : t.number ≡ c.number = ap (λ (x : Table). x.number) head in
+    let frozen : is_some t.points ≡ is_some c.frozen = points_some t ∙ ap (λ (x : Table). is_some x.frozen) head in
+    (λ i. if number i == n then not (frozen i) else has_cells ts n)
+    ∙ (λ i. if (sym (pos_test c.number n)) i then not (is_some c.frozen) else cells_of_first ts cs n (later_of t c ts cs e) i)
+    ∙ in_branches (not (is_negative (pos n)) && c.number == n) c (find_table cs (pos n))
+
+-- ---- tables that notes find
+
+equal : (m n : ℕ) → (m == n) ≡ true → m ≡ n
+equal m n h = grind (arith, nat_tests)
+
+no_flags : (ts : List TableAt) → tables_of ts [] ≡ []
+no_flags [] = refl
+no_flags (t ∷ ts) = refl
+
+-- once all have been made they are the same
+pub all_made : (ts : List TableAt) (fs : List Bool) → length fs ≡ length ts → map made (tables_of ts fs) ≡ map table_of ts
+all_made [] fs h = refl
+all_made (t ∷ ts) [] h = absurd (omega arith)
+all_made (t ∷ ts) (f ∷ fs) h = ap (λ rest. table_of t ∷ rest) (all_made ts fs (omega arith))
+
+-- a table that is found later was found before, and if it had been made then, it has been made
+record Was (ts : List TableAt) (fs : List Bool) (z : ℤ) (u : Table) : Type 0 where
+  t : Table
+  found : find_table (tables_of ts fs) z ≡ Some t
+  stays : t.present ≡ true → u.present ≡ true
+
+by_test : (b : Bool) (ts : List TableAt) (t : TableAt) (f g : Bool) (fs gs : List Bool) (z : ℤ) (u : Table) → (f ≡ true → g ≡ true)
+    → (find_table (tables_of ts gs) z ≡ Some u → Was ts fs z u)
+    → (if b then Some (table_at t g) else find_table (tables_of ts gs) z) ≡ Some u
+    → (v : Table) × ((if b then Some (table_at t f) else find_table (tables_of ts fs) z) ≡ Some v) × (v.present ≡ true → u.present ≡ true)
+by_test true ts t f g fs gs z u more later h = (table_at t f, refl, λ is. ap (λ (x : Table). x.present) (at_once h) ∙ more is)
+  where
+    at_once : Some (table_at t g) ≡ Some u → u ≡ table_at t g
+    at_once e = cc
+by_test false ts t f g fs gs z u more later h = let w = later h in (w.t, w.found, w.stays)
+
+was : (ts : List TableAt) (fs gs : List Bool) (z : ℤ) (u : Table) → length fs ≡ length ts → More fs gs → find_table (tables_of ts gs) z ≡ Some u → Was ts fs z u
+was [] fs gs z u h more found = absurd cc
+was (t ∷ ts) [] gs z u h more found = absurd (omega arith)
+was (t ∷ ts) (f ∷ fs) [] z u h more found = absurd more
+was (t ∷ ts) (f ∷ fs) (g ∷ gs) z u h more found =
+    let w = by_test (not (is_negative z) && t.number == unsigned_abs z) ts t f g fs gs z u more.0
+    (λ later. was ts fs gs z u (omega arith) more.1 later) found in
+    record { t = w.0; found = w.1; stays = w.2 }
+
+-- a table of the composition stands in the stage, made or not
+pub record IsFound (ts : List TableAt) (flags : List Bool) (z : ℤ) (t : Table) : Type 0 where
+  pub u : Table
+  pub found : find_table (tables_of ts flags) z ≡ Some u
+  pub number : u.number ≡ t.number
+  pub size : u.size ≡ t.size
+  pub frozen : u.frozen ≡ t.frozen
+
+pub found_at : (ts : List TableAt) (cs : List Table) (flags : List Bool) (z : ℤ) (t : Table) → map table_of ts ≡ map made cs → length flags ≡ length ts
+    → find_table cs z ≡ Some t → IsFound ts flags z t
+found_at [] [] flags z t e h found = absurd cc
+found_at [] (c ∷ cs) flags z t e h found = absurd cc
+found_at (x ∷ ts) [] flags z t e h found = absurd cc
+found_at (x ∷ ts) (c ∷ cs) [] z t e h found = absurd (omega arith)
+found_at (x ∷ ts) (c ∷ cs) (f ∷ flags) z t e h found =
+    let head = first_of x c ts cs e in
+    let same : x.number ≡ c.number = ap (λ (y : Table). y.number) head in
+    let w = here_or_later (not (is_negative z) && c.number == unsigned_abs z) (not (is_negative z) && x.number == unsigned_abs z)
+    (λ i. not (is_negative z) && same i == unsigned_abs z) head (λ later. found_at ts cs flags z t (later_of x c ts cs e) (omega arith) later) found in
+    record { u = w.0; found = w.1; number = w.2; size = w.3; frozen = w.4 }
+  where
+    here_or_later : (b d : Bool) → d ≡ b → table_of x ≡ made c → (find_table cs z ≡ Some t → IsFound ts flags z t)
+        → (if b then Some c else find_table cs z) ≡ Some t
+        → (u : Table) × ((if d then Some (table_at x f) else find_table (tables_of ts flags) z) ≡ Some u)
+        × (u.number ≡ t.number) × (u.size ≡ t.size) × (u.frozen ≡ t.frozen)
+    here_or_later true true k head later is =
+        let this : c ≡ t = cc in
+        let same : table_of x ≡ made t = head ∙ ap made this in
+        (table_at x f, refl, ap (λ (y : Table). y.number) same, ap (λ (y : Table). y.size) same, ap (λ (y : Table). y.frozen) same)
+    here_or_later true false k head later is = absurd cc
+    here_or_later false true k head later is = absurd cc
+    here_or_later false false k head later is = let w = later is in (w.u, w.found, w.number, w.size, w.frozen)
+
+pub found_number : (cs : List Table) (n : ℕ) (t : Table) → find_table cs (pos n) ≡ Some t → t.number ≡ n
+found_number [] n t found = absurd cc
+found_number (c ∷ cs) n t found = by_test_of (not (is_negative (pos n)) && c.number == n) refl (λ later. found_number cs n t later) found
+  where
+    by_test_of : (b : Bool) → (not (is_negative (pos n)) && c.number == n) ≡ b → (find_table cs (pos n) ≡ Some t → t.number ≡ n)
+        → (if b then Some c else find_table cs (pos n)) ≡ Some t → t.number ≡ n
+    by_test_of true is later h =
+        let this : c ≡ t = cc in
+        ap (λ (y : Table). y.number) (sym this) ∙ equal c.number n (and_parts (not (is_negative (pos n))) (c.number == n) is).1
+    by_test_of false is later h = later h
+
+-- ---- voices
+
+module _ (ts : List TableAt) (fs gs : List Bool) (long : length fs ≡ length ts) (more : More fs gs) (at : ℕ → Option ℤ) where
+  store_on : (a : Act) → StoresInto (tables_of ts fs) at a → StoresInto (tables_of ts gs) at a
+  store_on (act.Unit opcode u reach) h = λ is z t here found.
+      let w = was ts fs gs z t long more found in w.stays (h is z w.t here w.found)
+  store_on a h = tt
+
+  stores_on : (ops : List Op) → OpsStoreInto (tables_of ts fs) at ops → OpsStoreInto (tables_of ts gs) at ops
+  stores_on [] h = tt
+  stores_on (op ∷ ops) h = (store_on op.act h.0, stores_on ops h.1)
+
+module _ (c : Composition) (stage : Stage) (fs gs : List Bool) (long : length fs ≡ length stage.tables.now)
+    (longer : length gs ≡ length stage.tables.now) (more : More fs gs) where
+  same_tables : map made (tables_of stage.tables.now gs) ≡ map made (tables_of stage.tables.now fs)
+  same_tables = all_made stage.tables.now gs longer ∙ sym (all_made stage.tables.now fs long)
+
+  sheet_on : (i : Numbered) (foot : Footprint) (v : VoiceData) → IsSheetFor (sheet_at i v.age foot stage fs v.fields) v
+      → IsSheetFor (sheet_at i v.age foot stage gs v.fields) v
+  sheet_on i foot v h = record {
+    number = h.number;
+    age = h.age;
+    head = h.head;
+    spaces = h.spaces;
+    tables = same_tables ∙ h.tables;
+    fields = h.fields;
+    areas = h.areas;
+    foot = h.foot;
+    perf = h.perf;
+  }
+
+  pub plays_on : (v : VoiceData) (a : Active) → Plays c stage fs v a → Plays c stage gs v a
+  plays_on v a h = record {
+    i = h.i;
+    foot = h.foot;
+    of = h.of;
+    number = h.number;
+    fields = h.fields;
+    on = record {
+      parts = sheet_on h.i h.foot v h.on.parts;
+      stores = stores_on stage.tables.now fs gs long more _ _ h.on.stores;
+    };
+    valid = h.valid;
+    note = record {
+      sheet = refl;
+      locals = h.note.locals;
+      kept = h.note.kept;
+      units = h.note.units;
+      delays = h.note.delays;
+      outs = h.note.outs;
+      ended = h.note.ended;
+      plays = h.note.plays;
+    };
+  }
+
+  pub all_play_on : (vs : List VoiceData) (notes : List Active) → AllZip (Plays c stage fs) vs notes → AllZip (Plays c stage gs) vs notes
+  all_play_on [] [] h = tt
+  all_play_on [] (a ∷ notes) h = absurd h
+  all_play_on (v ∷ vs) [] h = absurd h
+  all_play_on (v ∷ vs) (a ∷ notes) h = (plays_on v a h.0, all_play_on vs notes h.1)

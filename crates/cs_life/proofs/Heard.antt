@@ -1,0 +1,58 @@
+-- What voices that stand at a moment give is what its notes give.
+use Rattle.std.proofs.Common.{◌≡◌, ℕ, ℤ, Bool, List, [], ◌∷◌, length, map, refl, sym, ◌∙◌, ap}
+use Rattle.std.specs.List.{All, AllZip, flat_map, range_with_len}
+use Rattle.std.proofs.lemmas.List.Elements.{All-cons, All-nil}
+use Rattle.std.proofs.lemmas.Slice.Zip.{AllZip-long}
+use Rattle.cs_base.specs.Numbers.{total}
+use Rattle.cs_cells.specs.Cells.{Cells}
+use Rattle.cs_course.specs.Course.{begins, moment_at, performed}
+use Rattle.cs_course.specs.Heard.{mix_in, sum_at as sum_of_notes}
+use Rattle.cs_course.specs.Moments.{Composition, Active, Moment}
+use Rattle.cs_mix.specs.Mixing.{mixed, sum_at as sum_of_voices}
+use Rattle.cs_registers.specs.Outputs.{outs}
+use Rattle.cs_setup.specs.Ready.{IsStageOf}
+use Rattle.cs_typed.specs.Places.{Header}
+use Rattle.cs_voice.specs.VoiceData.{VoiceData}
+use Rattle.cs_voice.specs.declared.stage.Stage.{Stage}
+use Rattle.cs_life.specs.Standing.{Plays, Stands}
+use Rattle.cs_life.specs.declared.life.Life.{Life}
+
+-- each voice gives what its note gives
+same_outs : (c : Composition) (stage : Stage) (flags : List Bool) (voices : List VoiceData) (active : List Active)
+    → AllZip (Plays c stage flags) voices active → (frame channel : ℕ)
+    → map (λ (v : VoiceData). outs v.outs channel frame) voices ≡ map (λ (a : Active). a.note.world.outs channel frame) active
+same_outs c stage flags [] [] p frame channel = refl
+same_outs c stage flags [] (a ∷ active) p frame channel = absurd p
+same_outs c stage flags (v ∷ voices) [] p frame channel = absurd p
+same_outs c stage flags (v ∷ voices) (a ∷ active) p frame channel =
+    λ i. p.0.note.outs i channel frame ∷ same_outs c stage flags voices active p.1 frame channel i
+
+-- so the frames of a cycle are those of its notes
+pub heard : (c : Composition) (life : Life) (voices : List VoiceData) (cells : Cells) (n : ℕ)
+    → Stands c life voices cells (performed c (begins c n (moment_at c n))) → mixed c.head.ksmps c.head.nchnls voices ≡ mix_in c n
+heard c life voices cells n s =
+    let m : Moment = performed c (begins c n (moment_at c n)) in
+    let sums : (frame channel : ℕ) → sum_of_voices voices frame channel ≡ sum_of_notes m.active frame channel =
+    λ frame channel. ap total (same_outs c life.stage life.made.items voices m.active s.stand.play frame channel) in
+    ap (λ (f : ℕ → ℕ → ℤ). flat_map (λ frame. map (f frame) (range_with_len 0 c.head.nchnls)) (range_with_len 0 c.head.ksmps))
+    (λ i frame channel. sums frame channel i)
+
+-- each voice has a number for each frame of the cycle
+frames_of : (c : Composition) (stage : Stage) (flags : List Bool) (voices : List VoiceData) (active : List Active) → IsStageOf c stage
+    → AllZip (Plays c stage flags) voices active → All (λ (v : VoiceData). v.outs.ksmps ≡ c.head.ksmps) voices
+frames_of c stage flags [] [] is p = All-nil (λ (v : VoiceData). v.outs.ksmps ≡ c.head.ksmps)
+frames_of c stage flags [] (a ∷ active) is p = absurd p
+frames_of c stage flags (v ∷ voices) [] is p = absurd p
+frames_of c stage flags (v ∷ voices) (a ∷ active) is p =
+    let here : v.outs.ksmps ≡ c.head.ksmps =
+    p.0.valid.channel_frames ∙ (ap (λ (h : Header). h.ksmps) (sym p.0.on.parts.head) ∙ ap (λ (h : Header). h.ksmps) is.head) in
+    All-cons (λ (x : VoiceData). x.outs.ksmps ≡ c.head.ksmps) v voices here (frames_of c stage flags voices active is p.1)
+
+pub frames : (c : Composition) (life : Life) (voices : List VoiceData) (cells : Cells) (m : Moment) → Stands c life voices cells m
+    → All (λ (v : VoiceData). v.outs.ksmps ≡ c.head.ksmps) voices
+frames c life voices cells m s = frames_of c life.stage life.made.items voices m.active s.stand.stage_is s.stand.play
+
+-- as many voices as notes
+pub as_many : (c : Composition) (life : Life) (voices : List VoiceData) (cells : Cells) (m : Moment) → Stands c life voices cells m
+    → length voices ≡ length m.active
+as_many c life voices cells m s = sym (AllZip-long (Plays c life.stage life.made.items) voices m.active s.stand.play)

@@ -1,0 +1,18 @@
+mod Flags
+mod GivenTables
+mod Going
+mod Marking
+mod Opened
+mod Tabled
+mod Waited
+pub mod Beginning
+pub mod Begun
+pub mod Heard
+pub mod Joining
+pub mod Kept
+pub mod Left
+pub mod Orders
+pub mod Performing
+pub mod Places
+pub mod Standings
+pub mod Waits

@@ -1,0 +1,30 @@
+use Rattle.std.proofs.Common.{◌≡◌, rules, to_z, of_z, w64, pos}
+use Rattle.std.proofs.lemmas.Result.{on_ok_weaker}
+use Rattle.cs_setup.specs.Setups.{composition_of}
+use Rattle.cs_life.proofs.Going.{note_done, table_given}
+use Rattle.cs_life.proofs.life.Life.act.Goals as goal
+
+pub start_note-requires : goal.start_note-requires
+start_note-requires g c = record { stands = (c.requires.able.moment, c.requires.able.stands); get = c.requires.able.gets; set = c.requires.able.sets }
+
+pub make_table-requires : goal.make_table-requires
+make_table-requires g c =
+    let s : to_z w64 (of_z w64 c.in-Table.size) ≡ c.in-Table.size = search rules in
+    let k : to_z w64 (of_z w64 c.in-Table.gen_) ≡ c.in-Table.gen_ = search rules in
+    record {
+      stands = (c.args.voices.now.items, c.requires.able.moment, c.requires.able.stands);
+      set = c.requires.able.sets;
+      table = table_given (composition_of c.args.self.now.setup.now) c.args.event.now.act c.in-Table.number c.in-Table.size c.in-Table.gen_
+          (to_z w64 (of_z w64 c.in-Table.size)) (to_z w64 (of_z w64 c.in-Table.gen_)) c.in-Table.args c.as_slice-in-Table.result.now c.in-Table.is s k
+          c.as_slice-in-Table.ensures c.requires.event;
+    }
+
+pub returns-in_ok-fields-in-Start-clause-done : goal.returns-in_ok-fields-in-Start-clause-done
+returns-in_ok-fields-in-Start-clause-done g c =
+    let same : c.in_ok-fields-in-Start.fields.items ≡ c.in-Start.fields = search rules in
+    let number : to_z w64 (of_z w64 c.from.result) ≡ pos c.in-Start.instr = search rules in
+    on_ok_weaker c.start_note.result
+    (λ started. note_done c.args.self.now c.start_note.new.self c.args.voices.now.items c.start_note.new.voices.items (g.B.Bank.cells c.args.bank.now)
+    (g.B.Bank.cells c.start_note.new.bank) c.args.event.now.cycle c.in-Start.instr c.in-Start.cycles (to_z w64 (of_z w64 c.from.result))
+    c.in_ok-fields-in-Start.fields.items c.in-Start.fields c.args.event.now.act c.in-Start.is number same started)
+    c.start_note.ensures.started

@@ -1,0 +1,28 @@
+use Rattle.std.proofs.Common.{ap, length, pos, refl, subst, sym, ◌∙◌}
+use Rattle.std.proofs.lemmas.List.{length-replicate}
+use Rattle.cs_cells.specs.Areas.{word_count}
+use Rattle.cs_cells.specs.Cells.{cell}
+use Rattle.cs_course.specs.Course.{outside_done}
+use Rattle.cs_note.specs.VoicesOfNotes.{Hold}
+use Rattle.cs_setup.specs.Setups.{composition_of}
+use Rattle.cs_life.proofs.Flags.{as_many}
+use Rattle.cs_life.proofs.Opened.{none_made, opened}
+use Rattle.cs_life.proofs.life.Life.new.Goals as goal
+
+pub begin_outside-requires-clause-made : goal.begin_outside-requires-clause-made
+begin_outside-requires-clause-made g c =
+    c.deref.ensures.value ∙ c.in_ok-made.ensures
+    ∙ none_made (composition_of c.args.setup.now).tables (length c.args.tables.now) (as_many c.args.tables.now (composition_of c.args.setup.now).tables c.requires.tables)
+
+pub returns-clause-stands : goal.returns-clause-stands
+returns-clause-stands g c =
+    opened (composition_of c.args.setup.now)
+    (record { setup = c.args.setup; stage = c.stage-stage.result; made = c.in_ok-made.made; ends = c.new.result; pending = c.new-2.result; started = 0; not_started = 0 })
+    (g.B.Bank.cells c.begin_outside.new.bank) c.stage-stage.ensures.stage c.stage-stage.ensures.layout
+    (c.in_ok-made.ensures
+    ∙ none_made (composition_of c.args.setup.now).tables (length c.args.tables.now) (as_many c.args.tables.now (composition_of c.args.setup.now).tables c.requires.tables))
+    (subst (λ areas. Hold areas (cell (g.B.Bank.cells c.begin_outside.new.bank)) (outside_done (composition_of c.args.setup.now)).world.shared)
+    (sym c.stage-stage.ensures.layout) c.in_ok-begin_outside.ensures.hold)
+    (c.begin_outside.ensures.long ∙ ap length c.requires.cells ∙ length-replicate (word_count c.args.setup.now.layout) (pos 0)
+    ∙ ap word_count (sym c.stage-stage.ensures.layout))
+    c.new.ensures.items c.new-2.ensures refl refl

@@ -1,0 +1,62 @@
+-- When what is kept of a performance stands at a moment of it.
+use Rattle.std.specs.Prelude.{ℕ, pos, ◌≡◌, ◌≤◌, ◌-◌, ◌^◌, ◌==◌, Bool, List, length, map, min}
+use Rattle.std.specs.List.{AllZip, list_any}
+use Rattle.std.specs.List.Sorted.{IsNonDecreasingBy}
+use Rattle.cs_base.specs.Limits.{most_notes}
+use Rattle.cs_cells.specs.Areas.{word_count}
+use Rattle.cs_cells.specs.Cells.{Cells, cell}
+use Rattle.cs_cells.specs.declared.footprint.Footprint.{Footprint}
+use Rattle.cs_course.specs.Moments.{Composition, Active, Moment, field_of}
+use Rattle.cs_ir.specs.Instruments.{Numbered}
+use Rattle.cs_meaning.specs.Plain.{Table}
+use Rattle.cs_note.specs.VoicesOfNotes.{Hold, IsVoiceOf}
+use Rattle.cs_sched.specs.Waiting.{waiting}
+use Rattle.cs_setup.specs.Ready.{IsInstrumentOf, IsStageOf}
+use Rattle.cs_signal.specs.Operands.{argument}
+use Rattle.cs_start.specs.Starts.{sheet_at}
+use Rattle.cs_voice.specs.VoiceData.{VoiceData, IsOn, sounding_on}
+use Rattle.cs_voice.specs.VoiceMeaning.{IsVoice}
+use Rattle.cs_voice.specs.declared.stage.Stage.{Stage}
+use Rattle.cs_life.specs.declared.life.Life.{Life}
+
+-- which tables have been made, by these numbers
+abbrev pub flags_of : List Table → List ℕ → List Bool
+flags_of tables made = map (λ (t : Table). list_any (λ n. n == t.number) made) tables
+
+-- A voice stands for a note that plays: the same instrument and p-fields, an instrument of the note's statements, and what the note
+-- has come to.
+pub record Plays (c : Composition) (stage : Stage) (flags : List Bool) (v : VoiceData) (a : Active) : Type 0 where
+  pub i : Numbered
+  pub foot : Footprint
+  pub of : IsInstrumentOf stage i foot a.body
+  pub number : a.number ≡ pos v.number
+  pub fields : (k : ℕ) → field_of a.fields k ≡ argument v.fields (k - 1)
+  pub on : IsOn (sheet_at i v.age foot stage flags v.fields) v
+  pub valid : IsVoice v
+  pub note : IsVoiceOf (sheet_at i v.age foot stage flags v.fields) of.plan of.kinds (sounding_on (sheet_at i v.age foot stage flags v.fields) v) a.note
+
+-- a count that is kept in 64 bits, and stays at their greatest number
+abbrev pub kept_count : ℕ → ℕ
+kept_count n = min n (2 ^ 64 - 1)
+
+-- Cells and voices stand at a moment: cells hold what notes share, each voice stands for the note at its place, in the order of
+-- performing; so many are no more than may play.
+pub record VoicesStand (c : Composition) (stage : Stage) (flags : List Bool) (voices : List VoiceData) (cells : Cells) (m : Moment) : Type 0 where
+  pub stage_is : IsStageOf c stage
+  pub made : flags ≡ flags_of c.tables m.made
+  pub hold : Hold stage.layout.now (cell cells) m.shared
+  pub long : length cells ≡ word_count stage.layout.now
+  pub play : AllZip (Plays c stage flags) voices m.active
+  pub in_order : IsNonDecreasingBy (λ (v : VoiceData). v.number) voices
+  pub few : length voices ≤ most_notes
+
+-- All that is kept stands at a moment: the voices and cells, over the setup's layout; when each note ends, which notes wait, and the
+-- counts of starts.
+pub record Stands (c : Composition) (life : Life) (voices : List VoiceData) (cells : Cells) (m : Moment) : Type 0 where
+  pub stand : VoicesStand c life.stage life.made.items voices cells m
+  pub layout : life.stage.layout.now ≡ life.setup.now.layout
+  pub ends : life.ends.items ≡ map (λ (a : Active). a.ends) m.active
+  pub due : (cycle : ℕ) → (waiting life.pending).due cycle ≡ m.waiting.due cycle
+  pub kept : (waiting life.pending).kept ≡ m.waiting.kept
+  pub started : life.started ≡ kept_count m.started
+  pub not_started : life.not_started ≡ kept_count m.not_started

@@ -1,0 +1,5 @@
+-- What private clauses alone cite.
+pub mod Doing
+pub mod Marks
+pub mod Places
+pub mod Starting

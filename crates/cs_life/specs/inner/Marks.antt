@@ -1,0 +1,32 @@
+-- Flags of tables by the number of a table, and whether the points of a number's table are cells.
+use Rattle.std.specs.Prelude.{ℕ, ℤ, ◌≡◌, ◌==◌, ◌||◌, Bool, true, false, not, List, [], ◌∷◌, length, Option, Some, None, if◌then◌else◌}
+use Rattle.std.specs.Option.{is_some}
+use Rattle.cs_access.specs.Access.{row_wave}
+use Rattle.cs_base.specs.declared.resource.Res.TheVariants as res
+use Rattle.cs_cells.specs.Cells.{Cells, cell}
+use Rattle.cs_cells.specs.declared.footprint.Area.{Area}
+use Rattle.cs_meaning.specs.Plain.{Table}
+use Rattle.cs_sounding.specs.Placing.{area_of, with_wave}
+use Rattle.cs_voice.specs.declared.stage.TableAt.{TableAt}
+
+-- each of these tables that has the number has been made; of further ones the flags stay
+abbrev pub marked : ℕ → List TableAt → List Bool → List Bool
+marked number [] flags = flags
+marked number (t ∷ tables) [] = []
+marked number (t ∷ tables) (flag ∷ flags) = ((number == t.number) || flag) ∷ marked number tables flags
+
+-- whether there is a table of the number, and the points of the first are cells
+abbrev pub has_cells : List TableAt → ℕ → Bool
+has_cells [] number = false
+has_cells (t ∷ tables) number = if t.number == number then not (is_some t.points) else has_cells tables number
+
+abbrev pub is_in_cells : Option Table → Bool
+is_in_cells None = false
+is_in_cells (Some t) = not (is_some t.frozen)
+
+-- what a write of points leaves: where a table's points are cells, they are those, and all other cells stay
+abbrev pub PointsWritten : Bool → List Area → ℕ → List ℤ → Cells → Cells → Type 0
+PointsWritten false areas number points cells new = new ≡ cells
+PointsWritten true areas number points cells new =
+    (a : Area) × (area_of areas (res.Table number) ≡ Some a) × (length points ≡ a.length)
+    × (cell new ≡ with_wave (Some a) (row_wave points) (cell cells)) × (length new ≡ length cells)

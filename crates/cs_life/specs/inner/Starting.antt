@@ -1,0 +1,60 @@
+-- Steps of a start.
+use Rattle.std.specs.Prelude.{ℕ, ℤ, ◌≡◌, ◌≤◌, ◌<◌, ◌+◌, ◌-◌, ◌^◌, Bool, List, [], ◌∷◌, length, min, Some, None}
+use Rattle.std.specs.List.{AllWithin, insert}
+use Rattle.cs_course.specs.Moments.{Composition, Active, Moment}
+use Rattle.cs_course.specs.Starts.{Start, asked}
+use Rattle.cs_ir.specs.declared.ask.Ask.{Ask}
+use Rattle.cs_life.specs.Standing.{Plays, kept_count}
+use Rattle.cs_meaning.specs.Core.{Block}
+use Rattle.cs_meaning.specs.Notes.{Note}
+use Rattle.cs_meaning.specs.Plain.{Cause, Plain}
+use Rattle.cs_sched.specs.Waiting.{Queue, waiting}
+use Rattle.cs_sched.specs.declared.pending.Added.{Added}
+use Rattle.cs_sched.specs.declared.pending.Added.TheVariants as added
+use Rattle.cs_start.specs.declared.note.Started.{Started}
+use Rattle.cs_start.specs.declared.note.Started.TheVariants as started
+use Rattle.cs_voice.specs.VoiceData.{VoiceData}
+use Rattle.cs_voice.specs.VoiceMeaning.{IsVoice}
+use Rattle.cs_voice.specs.declared.stage.Stage.{Stage}
+
+-- the note of a start in a cycle, once it plays
+abbrev pub active_of : ℕ → Start → Block → Note Plain → ℕ → Active
+active_of now s body t age =
+    record { number = s.number; age = age; ends = now + s.cycles; fields = s.fields; body = body; note = t }
+
+-- a note whose initialisation was refused
+abbrev pub IsRefused : Note Plain → Type 0
+IsRefused t = (cause : Cause) × (t.world.cause ≡ Some cause)
+
+-- What came of a start is what came of the note: a voice that plays it, or nothing, where it was refused.
+abbrev pub IsBegun : Composition → Stage → List Bool → ℕ → Start → Block → Note Plain → Started → Type 0
+IsBegun c stage flags now s body t (started.Live v) =
+    (t.world.cause ≡ None) × (IsVoice v → (age : ℕ) → Plays c stage flags v (active_of now s body t age))
+IsBegun c stage flags now s body t (started.NoTable number) = IsRefused t
+IsBegun c stage flags now s body t (started.DelayTooLong samples) = IsRefused t
+
+-- all that a note asks for
+abbrev pub all_wanted : Composition → ℕ → ℤ → List Ask → Moment → Moment
+all_wanted c now time [] m = m
+all_wanted c now time (a ∷ rest) m = all_wanted c now time rest (asked c now time a m)
+
+-- a count of starts that started nothing, in 64 bits, after an answer
+abbrev pub count_after : Added → ℕ → ℕ
+count_after added.Kept n = n
+count_after _ n = min (n + 1) (2 ^ 64 - 1)
+
+-- which notes wait, and how many starts started nothing, stand at a moment
+pub record Wait (pending : Queue) (not_started : ℕ) (m : Moment) : Type 0 where
+  pub due : (cycle : ℕ) → (waiting pending).due cycle ≡ m.waiting.due cycle
+  pub kept : (waiting pending).kept ≡ m.waiting.kept
+  pub count : not_started ≡ kept_count m.not_started
+
+-- A voice, and when its note ends, were put in behind all of its number and lower ones, and before all of higher ones.
+pub record Joined (voice : VoiceData) (ending : ℕ) (voices : List VoiceData) (ends : List ℕ) (voices_after : List VoiceData)
+    (ends_after : List ℕ) : Type 0 where
+  pub place : ℕ
+  pub within : place ≤ length voices
+  pub lower : AllWithin (λ (v : VoiceData). v.number ≤ voice.number) voices 0 place
+  pub higher : AllWithin (λ (v : VoiceData). voice.number < v.number) voices place (length voices)
+  pub voices_are : voices_after ≡ insert voices place voice
+  pub ends_are : ends_after ≡ insert ends place ending

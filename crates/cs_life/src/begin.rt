@@ -1,0 +1,174 @@
+// The notes of a cycle begin.
+ghost use Rattle.std.specs.Prelude.{◌≡◌, ◌<◌, ◌==◌, ℕ, filter, length, OnOk};
+ghost use Rattle.std.specs.List.{All};
+ghost use Rattle.std.specs.List.Sorted.{IsNonDecreasingBy};
+ghost use Rattle.cs_cells.specs.Areas.{word_count};
+ghost use Rattle.cs_course.specs.Course.{begins, events_in};
+ghost use Rattle.cs_course.specs.Moments.{Moment};
+ghost use Rattle.cs_course.specs.Starts.{act_done, all_done, all_waited};
+ghost use Rattle.cs_life.specs.Standing.{Stands};
+ghost use Rattle.cs_life.specs.inner.Doing.{CanBeDone, CanGoOn, HasGoneOn};
+ghost use Rattle.cs_setup.specs.Setups.{composition_of};
+ghost use Rattle.cs_tempo.specs.declared.plot.Event.{Event};
+
+use crate::leaving::Leaving;
+use crate::life::Life;
+use cs_base::{MOST_ASKS, OutOfMemory};
+use cs_cells::Bank;
+use cs_tempo::{Event, EventAct};
+use cs_voice::Voice;
+use std::alloc::Global;
+
+impl<'t> Life<'t> {
+    /// The notes of a cycle begin: those whose end it is leave, then its events are done, then the notes that wait for it start.
+    /// `cycle` is that of the next cycle; after the last, its events alone are done. `voices` are those that play, in the order of
+    /// performing. After want of memory nothing is promised of the voices.
+    pub fn begin_cycle<B: Bank>(
+        &mut self,
+        alloc: Global,
+        cycle: u32,
+        voices: &mut Vec<Voice<'t>>,
+        bank: &mut B,
+    ) -> Result<(), OutOfMemory>
+        requires stands { (m : Moment) × Stands (composition_of self.old.setup.now) self.old voices.old.items (B.cells bank.old) m }
+        requires get { (a : ℕ) → a < word_count self.old.setup.now.layout → B.can_get (B.rest bank.old) a }
+        requires set { (a : ℕ) → a < word_count self.old.setup.now.layout → B.can_set (B.rest bank.old) a }
+        ensures begun { OnOk result ((m : Moment) → Stands (composition_of self.old.setup.now) self.old voices.old.items (B.cells bank.old) m
+            → Stands (composition_of self.old.setup.now) self.new voices.new.items (B.cells bank.new) (begins (composition_of self.old.setup.now) cycle m)) }
+        ensures setup { self.new.setup.now ≡ self.old.setup.now }
+        ensures long { length (B.cells bank.new) ≡ length (B.cells bank.old) }
+        ensures rest { B.rest bank.new ≡ B.rest bank.old }
+    {
+        self.leave(voices, Leaving::Over { cycle });
+        self.do_events(alloc, cycle, voices, bank)?;
+        self.start_waiting(alloc, cycle, voices, bank)
+    }
+
+    /// The events of a cycle are done, one after another.
+    fn do_events<B: Bank>(
+        &mut self,
+        alloc: Global,
+        cycle: u32,
+        voices: &mut Vec<Voice<'t>>,
+        bank: &mut B,
+    ) -> Result<(), OutOfMemory>
+        requires able { CanGoOn (B.can_get (B.rest bank.old)) (B.can_set (B.rest bank.old)) self.old voices.old.items (B.cells bank.old) }
+        ensures done { OnOk result (HasGoneOn (all_done (composition_of self.old.setup.now) (events_in (composition_of self.old.setup.now) cycle))
+            self.old voices.old.items (B.cells bank.old) self.new voices.new.items (B.cells bank.new)) }
+        ensures setup { self.new.setup.now ≡ self.old.setup.now }
+        ensures long { length (B.cells bank.new) ≡ length (B.cells bank.old) }
+        ensures rest { B.rest bank.new ≡ B.rest bank.old }
+    {
+        let setup = self.setup;
+        setup.facts();
+        let events = events_of(setup.plot().events.as_slice(), cycle);
+        self.do_all(alloc, events, voices, bank)
+    }
+
+    /// Events are done, one after another.
+    fn do_all<B: Bank>(
+        &mut self,
+        alloc: Global,
+        events: &[Event],
+        voices: &mut Vec<Voice<'t>>,
+        bank: &mut B,
+    ) -> Result<(), OutOfMemory>
+        requires able { CanGoOn (B.can_get (B.rest bank.old)) (B.can_set (B.rest bank.old)) self.old voices.old.items (B.cells bank.old) }
+        requires events { All (λ (e : Event). CanBeDone (composition_of self.old.setup.now) e.act) events.now }
+        ensures done { OnOk result (HasGoneOn (all_done (composition_of self.old.setup.now) events.now)
+            self.old voices.old.items (B.cells bank.old) self.new voices.new.items (B.cells bank.new)) }
+        ensures setup { self.new.setup.now ≡ self.old.setup.now }
+        ensures long { length (B.cells bank.new) ≡ length (B.cells bank.old) }
+        ensures rest { B.rest bank.new ≡ B.rest bank.old }
+    {
+        for event in events {
+            self.act(alloc, event, voices, bank)?;
+        }
+        Ok(())
+    }
+
+    /// An event is done.
+    fn act<B: Bank>(
+        &mut self,
+        alloc: Global,
+        event: &Event,
+        voices: &mut Vec<Voice<'t>>,
+        bank: &mut B,
+    ) -> Result<(), OutOfMemory>
+        requires able { CanGoOn (B.can_get (B.rest bank.old)) (B.can_set (B.rest bank.old)) self.old voices.old.items (B.cells bank.old) }
+        requires event { CanBeDone (composition_of self.old.setup.now) event.now.act }
+        ensures done { OnOk result (HasGoneOn (act_done (composition_of self.old.setup.now) event.now.cycle event.now.act)
+            self.old voices.old.items (B.cells bank.old) self.new voices.new.items (B.cells bank.new)) }
+        ensures setup { self.new.setup.now ≡ self.old.setup.now }
+        ensures long { length (B.cells bank.new) ≡ length (B.cells bank.old) }
+        ensures rest { B.rest bank.new ≡ B.rest bank.old }
+    {
+        match &event.act {
+            EventAct::Start {
+                instr,
+                cycles,
+                fields,
+            } => {
+                let fields = fields.as_slice().to_vec(alloc)?;
+                self.start_note(
+                    alloc,
+                    event.cycle,
+                    i64::from(*instr),
+                    *cycles,
+                    fields,
+                    voices,
+                    bank,
+                )
+            }
+            EventAct::Table {
+                number,
+                size,
+                gen_,
+                args,
+            } => { self.make_table(alloc, *number, *size, *gen_, args.as_slice(), bank) }
+        }
+    }
+
+    /// The notes that wait for a cycle start, one after another, and those among them that are asked for meanwhile.
+    fn start_waiting<B: Bank>(
+        &mut self,
+        alloc: Global,
+        cycle: u32,
+        voices: &mut Vec<Voice<'t>>,
+        bank: &mut B,
+    ) -> Result<(), OutOfMemory>
+        requires able { CanGoOn (B.can_get (B.rest bank.old)) (B.can_set (B.rest bank.old)) self.old voices.old.items (B.cells bank.old) }
+        ensures started { OnOk result (HasGoneOn (all_waited (composition_of self.old.setup.now) cycle)
+            self.old voices.old.items (B.cells bank.old) self.new voices.new.items (B.cells bank.new)) }
+        ensures setup { self.new.setup.now ≡ self.old.setup.now }
+        ensures long { length (B.cells bank.new) ≡ length (B.cells bank.old) }
+        ensures rest { B.rest bank.new ≡ B.rest bank.old }
+    {
+        for _ in 0..MOST_ASKS {
+            let Some(due) = self.pending.next(cycle) else {
+                return Ok(());
+            };
+            self.start_note(
+                alloc,
+                cycle,
+                due.number,
+                due.cycles,
+                due.fields.into_vec(),
+                voices,
+                bank,
+            )?;
+        }
+        Ok(())
+    }
+}
+
+/// The events of a cycle, among events in the order of their cycles.
+fn events_of(events: &[Event], cycle: u32) -> &[Event]
+    requires { IsNonDecreasingBy (λ (e : Event). e.cycle) events.now }
+    ensures { result.now ≡ filter (λ (e : Event). e.cycle == cycle) events.now }
+{
+    let first = events.partition_point(|event| event.cycle < cycle);
+    let rest = &events[first..];
+    let count = rest.partition_point(|event| event.cycle <= cycle);
+    &rest[..count]
+}

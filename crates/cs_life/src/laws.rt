@@ -1,0 +1,44 @@
+// What whoever performs the notes rests on: calls that do nothing, whose contracts are the laws.
+ghost use Rattle.std.specs.Prelude.{◌≡◌, ◌≤◌, ℕ, List, length};
+ghost use Rattle.std.specs.List.{All};
+ghost use Rattle.cs_base.specs.Limits.{most_notes};
+ghost use Rattle.cs_cells.specs.Cells.{Cells};
+ghost use Rattle.cs_cells.specs.Serial.{serial_cells, serial_jobs};
+ghost use Rattle.cs_course.specs.Course.{begins, moment_at, performed};
+ghost use Rattle.cs_course.specs.Heard.{mix_in};
+ghost use Rattle.cs_course.specs.Moments.{Composition, Moment};
+ghost use Rattle.cs_life.specs.Standing.{Stands};
+ghost use Rattle.cs_life.specs.declared.life.Life.{Life};
+ghost use Rattle.cs_mix.specs.Mixing.{mixed};
+ghost use Rattle.cs_rule.specs.Plans.{IsFootprint};
+ghost use Rattle.cs_voice.specs.VoiceData.{VoiceData};
+ghost use Rattle.cs_voice.specs.VoiceMeaning.{voice_job};
+
+use cs_voice::voices_perform;
+
+/// The serial run of the voices of a moment, over its cells, is the performance of the cycle.
+pub fn serial_runs_perform()
+    ensures performed { (c : Composition) (life : Life) (voices : List VoiceData) (cells : Cells) (m : Moment) → Stands c life voices cells m
+        → Stands c life (serial_jobs voice_job voices cells) (serial_cells voice_job voices cells) (performed c m) }
+    // The voices of a moment can be run together: they stand over one layout, and each has a footprint in it.
+    ensures layouts { (c : Composition) (life : Life) (voices : List VoiceData) (cells : Cells) (m : Moment) → Stands c life voices cells m
+        → All (λ (v : VoiceData). v.areas ≡ life.stage.layout.now) voices }
+    ensures footprints { (c : Composition) (life : Life) (voices : List VoiceData) (cells : Cells) (m : Moment) → Stands c life voices cells m
+        → All (λ (v : VoiceData). IsFootprint (length life.stage.layout.now) v.foot) voices }
+    ensures few { (c : Composition) (life : Life) (voices : List VoiceData) (cells : Cells) (m : Moment) → Stands c life voices cells m
+        → length voices ≤ most_notes }
+{
+    voices_perform();
+}
+
+/// What the voices of a cycle give together is what is heard of it.
+pub fn voices_are_heard()
+    ensures heard { (c : Composition) (life : Life) (voices : List VoiceData) (cells : Cells) (n : ℕ)
+        → Stands c life voices cells (performed c (begins c n (moment_at c n)))
+        → mixed c.head.ksmps c.head.nchnls voices ≡ mix_in c n }
+    // What the sum of voices asks for, and how many notes they are.
+    ensures frames { (c : Composition) (life : Life) (voices : List VoiceData) (cells : Cells) (m : Moment) → Stands c life voices cells m
+        → All (λ (v : VoiceData). v.outs.ksmps ≡ c.head.ksmps) voices }
+    ensures notes { (c : Composition) (life : Life) (voices : List VoiceData) (cells : Cells) (m : Moment) → Stands c life voices cells m
+        → length voices ≡ length m.active }
+{}

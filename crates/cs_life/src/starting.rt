@@ -1,0 +1,256 @@
+// A note starts: it is initialised, what it asks for waits, and it takes its place among those that play.
+ghost use Rattle.std.specs.Prelude.{◌≡◌, ◌+◌, ◌<◌, ◌==◌, ◌||◌, ℕ, ℤ, pos, true, List, length, nat_lt, slice_index_or, OnOk};
+ghost use Rattle.std.specs.List.Sorted.{IsNonDecreasingBy};
+ghost use Rattle.cs_base.specs.Limits.{most_notes};
+ghost use Rattle.cs_cells.specs.Areas.{word_count};
+ghost use Rattle.cs_cells.specs.Cells.{Cells};
+ghost use Rattle.cs_course.specs.Moments.{Composition, Moment, clock_of};
+ghost use Rattle.cs_course.specs.Starts.{Start, asked, begun, entered, has_room, in_vain, initialised, start_in};
+ghost use Rattle.cs_life.specs.Standing.{Stands};
+ghost use Rattle.cs_life.specs.inner.Starting.{IsBegun, Joined, Wait, all_wanted, count_after};
+ghost use Rattle.cs_meaning.specs.Core.{Block};
+ghost use Rattle.cs_meaning.specs.Notes.{Note};
+ghost use Rattle.cs_meaning.specs.Plain.{Plain};
+ghost use Rattle.cs_sched.specs.Times as times;
+ghost use Rattle.cs_setup.specs.Ready.{IsInstrumentOf};
+ghost use Rattle.cs_setup.specs.Setups.{composition_of};
+ghost use Rattle.cs_voice.specs.VoiceData.{VoiceData};
+
+use crate::life::Life;
+use cs_base::{Head, MOST_NOTES, Num, OutOfMemory};
+use cs_cells::{Bank, Footprint, Job};
+use cs_ir::{Ask, Instrument};
+use cs_sched::{Added, Pending};
+use cs_start::{Started, start};
+use cs_voice::Voice;
+use std::alloc::Global;
+
+impl<'t> Life<'t> {
+    /// A note of the instrument of this number starts in the cycle `now`, to last so many cycles, with these p-fields from p1 on.
+    /// Where the instrument isn't there, where it would be one note too many, and where its initialisation is refused, the start
+    /// counts as one that started nothing. After want of memory nothing is promised of the voices.
+    pub(crate) fn start_note<B: Bank>(
+        &mut self,
+        alloc: Global,
+        now: u32,
+        number: i64,
+        cycles: u32,
+        fields: Vec<Num>,
+        voices: &mut Vec<Voice<'t>>,
+        bank: &mut B,
+    ) -> Result<(), OutOfMemory>
+        requires stands { (m : Moment) × Stands (composition_of self.old.setup.now) self.old voices.old.items (B.cells bank.old) m }
+        requires get { (a : ℕ) → a < word_count self.old.setup.now.layout → B.can_get (B.rest bank.old) a }
+        requires set { (a : ℕ) → a < word_count self.old.setup.now.layout → B.can_set (B.rest bank.old) a }
+        ensures started { OnOk result ((m : Moment) → Stands (composition_of self.old.setup.now) self.old voices.old.items (B.cells bank.old) m
+            → Stands (composition_of self.old.setup.now) self.new voices.new.items (B.cells bank.new)
+            (start_in (composition_of self.old.setup.now) now (record { number = number; cycles = cycles; fields = fields.items }) m)) }
+        ensures setup { self.new.setup.now ≡ self.old.setup.now }
+        ensures long { length (B.cells bank.new) ≡ length (B.cells bank.old) }
+        ensures rest { B.rest bank.new ≡ B.rest bank.old }
+    {
+        let setup = self.setup;
+        match setup.instrument(number) {
+            None => {
+                self.start_nothing();
+                Ok(())
+            }
+            Some((instrument, foot)) => {
+                if !has_room(cycles, voices.len()) {
+                    self.start_nothing();
+                    return Ok(());
+                }
+                self.begin(alloc, now, instrument, foot, cycles, fields, voices, bank)
+            }
+        }
+    }
+
+    /// One start more that started nothing.
+    fn start_nothing(&mut self)
+        ensures counted { (c : Composition) (voices : List VoiceData) (cells : Cells) (m : Moment) → Stands c self.old voices cells m
+            → Stands c self.new voices cells (in_vain m) }
+        ensures setup { self.new.setup.now ≡ self.old.setup.now }
+    {
+        self.not_started = self.not_started.saturating_add(1);
+    }
+
+    /// A note for which there is room is initialised; what it asked for waits, and it takes its place.
+    fn begin<B: Bank>(
+        &mut self,
+        alloc: Global,
+        now: u32,
+        instrument: &'t Instrument,
+        foot: &'t Footprint,
+        cycles: u32,
+        fields: Vec<Num>,
+        voices: &mut Vec<Voice<'t>>,
+        bank: &mut B,
+    ) -> Result<(), OutOfMemory>
+        requires instrument { (body : Block) × IsInstrumentOf self.old.stage instrument.now foot.now body }
+        requires stands { (m : Moment) × Stands (composition_of self.old.setup.now) self.old voices.old.items (B.cells bank.old) m }
+        requires get { (a : ℕ) → a < word_count self.old.setup.now.layout → B.can_get (B.rest bank.old) a }
+        requires set { (a : ℕ) → a < word_count self.old.setup.now.layout → B.can_set (B.rest bank.old) a }
+        ensures begun { let s : Start = record { number = pos instrument.now.number; cycles = cycles; fields = fields.items } in
+            let c : Composition = composition_of self.old.setup.now in
+            OnOk result ((body : Block) (m : Moment) → IsInstrumentOf self.old.stage instrument.now foot.now body → has_room s m ≡ true
+            → Stands c self.old voices.old.items (B.cells bank.old) m
+            → Stands c self.new voices.new.items (B.cells bank.new) (initialised c now s body (begun c m.made s body m) m)) }
+        ensures setup { self.new.setup.now ≡ self.old.setup.now }
+        ensures long { length (B.cells bank.new) ≡ length (B.cells bank.old) }
+        ensures rest { B.rest bank.new ≡ B.rest bank.old }
+    {
+        let time = time_of(&fields);
+        let mut asks = Vec::new(alloc);
+        let begun = start(
+            alloc,
+            instrument,
+            foot,
+            self.stage,
+            &self.made,
+            fields,
+            self.started,
+            &mut asks,
+            bank,
+        )?;
+        let total = self.setup.plot().cycles;
+        ask_all(
+            alloc,
+            asks,
+            now,
+            time,
+            self.stage.head,
+            total,
+            &mut self.pending,
+            &mut self.not_started,
+        )?;
+        self.enter(begun, now, cycles, voices)
+    }
+
+    /// A note that was initialised takes its place, where it lasts any cycle, or has started nothing, where it was refused.
+    fn enter(
+        &mut self,
+        begun: Started<'t>,
+        now: u32,
+        cycles: u32,
+        voices: &mut Vec<Voice<'t>>,
+    ) -> Result<(), OutOfMemory>
+        requires { length voices.old.items ≡ length self.old.ends.items }
+        ensures entered { OnOk result ((c : Composition) (cells : Cells) (s : Start) (body : Block) (t : Note Plain) (m : Moment)
+            → IsBegun c self.old.stage self.old.made.items now s body t begun.entry → s.cycles ≡ cycles → has_room s m ≡ true
+            → Stands c self.old voices.old.items cells m → Stands c self.new voices.new.items cells (entered now s body t t.world.cause m)) }
+        ensures setup { self.new.setup.now ≡ self.old.setup.now }
+    {
+        let Started::Live(voice) = begun else {
+            self.start_nothing();
+            return Ok(());
+        };
+        // What is so of each voice is so of this one.
+        let _ = voice.footprint();
+        keep(voice, now, cycles, voices, &mut self.ends)?;
+        self.started = self.started.saturating_add(1);
+        Ok(())
+    }
+}
+
+/// Whether a note may start that lasts so many cycles, where so many others play.
+fn has_room(cycles: u32, playing: usize) -> bool
+    ensures { result ≡ (cycles == 0 || nat_lt playing most_notes) }
+{
+    cycles == 0 || playing < MOST_NOTES
+}
+
+/// The second p-field, the seconds at which a note begins; 0 where there is none.
+fn time_of(fields: &[Num]) -> Num
+    ensures { result ≡ slice_index_or fields.now 1 (pos 0) }
+{
+    match fields.get(1) {
+        Some(time) => *time,
+        None => Num::exact(0),
+    }
+}
+
+/// What a note with the p2 `time` asks for in the cycle `now` waits, in a piece of `total` cycles; what isn't kept counts as starts
+/// that started nothing.
+fn ask_all(
+    alloc: Global,
+    asks: Vec<Ask>,
+    now: u32,
+    time: Num,
+    head: &Head,
+    total: u32,
+    pending: &mut Pending,
+    not_started: &mut u64,
+) -> Result<(), OutOfMemory>
+    ensures { OnOk result ((c : Composition) (m : Moment) → clock_of c ≡ times.clock_of head.now total → Wait pending.old not_started.old m
+        → Wait pending.new not_started.new (all_wanted c now time asks.items m)) }
+{
+    for ask in asks {
+        ask_one(alloc, ask, now, time, head, total, pending, not_started)?;
+    }
+    Ok(())
+}
+
+fn ask_one(
+    alloc: Global,
+    ask: Ask,
+    now: u32,
+    time: Num,
+    head: &Head,
+    total: u32,
+    pending: &mut Pending,
+    not_started: &mut u64,
+) -> Result<(), OutOfMemory>
+    ensures { OnOk result ((c : Composition) (m : Moment) → clock_of c ≡ times.clock_of head.now total → Wait pending.old not_started.old m
+        → Wait pending.new not_started.new (asked c now time ask m)) }
+{
+    let answer = pending.add(alloc, ask, now, time, head, total)?;
+    *not_started = count_after(answer, *not_started);
+    Ok(())
+}
+
+/// The count of starts that started nothing, after an answer.
+fn count_after(answer: Added, count: u64) -> u64
+    ensures { result ≡ count_after answer count }
+{
+    match answer {
+        Added::Kept => count,
+        _ => count.saturating_add(1),
+    }
+}
+
+/// A voice that lasts any cycle is kept among those that play.
+fn keep<'t>(
+    voice: Voice<'t>,
+    now: u32,
+    cycles: u32,
+    voices: &mut Vec<Voice<'t>>,
+    ends: &mut Vec<u64>,
+) -> Result<(), OutOfMemory>
+    requires { length voices.old.items ≡ length ends.old.items }
+    ensures brief { cycles ≡ 0 → (voices.new.items ≡ voices.old.items) × (ends.new.items ≡ ends.old.items) }
+    ensures lasting { OnOk result (0 < cycles → IsNonDecreasingBy (λ (v : VoiceData). v.number) voices.old.items
+        → Joined voice.entry (now + cycles) voices.old.items ends.old.items voices.new.items ends.new.items) }
+{
+    if cycles == 0 {
+        return Ok(());
+    }
+    join(voice, u64::from(now) + u64::from(cycles), voices, ends)
+}
+
+/// A voice takes its place among those that play, behind all of its number and lower ones; so does the cycle in which it has ended.
+fn join<'t>(
+    voice: Voice<'t>,
+    ending: u64,
+    voices: &mut Vec<Voice<'t>>,
+    ends: &mut Vec<u64>,
+) -> Result<(), OutOfMemory>
+    requires { length voices.old.items ≡ length ends.old.items }
+    ensures { OnOk result (IsNonDecreasingBy (λ (v : VoiceData). v.number) voices.old.items
+        → Joined voice.entry ending voices.old.items ends.old.items voices.new.items ends.new.items) }
+{
+    let number = voice.number();
+    let place = voices.partition_point(|other| other.number() <= number);
+    voices.insert(place, voice)?;
+    ends.insert(place, ending)?;
+    Ok(())
+}

@@ -1,0 +1,106 @@
+// A table of the score is made while notes play.
+ghost use Rattle.std.specs.Prelude.{◌≡◌, ◌<◌, ℕ, List, length, pos, true, IfOk, OnOk, None, Some};
+ghost use Rattle.cs_access.specs.Access.{CanTouch, row_wave};
+ghost use Rattle.cs_base.specs.declared.resource.Res.TheVariants as res;
+ghost use Rattle.cs_cells.specs.Areas.{word_count};
+ghost use Rattle.cs_cells.specs.Cells.{cell};
+ghost use Rattle.cs_cells.specs.declared.footprint.Area.{Area};
+ghost use Rattle.cs_course.specs.Moments.{Moment};
+ghost use Rattle.cs_course.specs.Starts.{made_table};
+ghost use Rattle.cs_gen.specs.Faults.{table_fault};
+ghost use Rattle.cs_gen.specs.Points.{points_of};
+ghost use Rattle.cs_life.specs.Standing.{Stands};
+ghost use Rattle.cs_life.specs.inner.Doing.{CanBeMade};
+ghost use Rattle.cs_life.specs.inner.Marks.{PointsWritten, has_cells, marked};
+ghost use Rattle.cs_setup.specs.Setups.{composition_of};
+ghost use Rattle.cs_sounding.specs.Placing.{area_of, with_wave};
+ghost use Rattle.cs_voice.specs.VoiceData.{VoiceData};
+
+use crate::life::Life;
+use cs_access::{area_of, write_row};
+use cs_base::{Num, Or, OutOfMemory, Res};
+use cs_cells::{Bank, Layout};
+use cs_gen::{Points, make_table};
+use cs_voice::TableAt;
+use std::alloc::Global;
+
+impl<'t> Life<'t> {
+    /// Makes a table: each of its number has been made from now on, and where the points of the first are cells, they are its points.
+    pub(crate) fn make_table<B: Bank>(
+        &mut self,
+        alloc: Global,
+        number: u32,
+        size: i64,
+        gen_: i64,
+        args: &[Num],
+        bank: &mut B,
+    ) -> Result<(), OutOfMemory>
+        requires stands { (voices : List VoiceData) × (m : Moment) × Stands (composition_of self.old.setup.now) self.old voices (B.cells bank.old) m }
+        requires set { (a : ℕ) → a < word_count self.old.setup.now.layout → B.can_set (B.rest bank.old) a }
+        requires table { CanBeMade (composition_of self.old.setup.now) number size gen_ args.now }
+        ensures made { OnOk result ((voices : List VoiceData) (m : Moment) → Stands (composition_of self.old.setup.now) self.old voices (B.cells bank.old) m
+            → Stands (composition_of self.old.setup.now) self.new voices (B.cells bank.new) (made_table (composition_of self.old.setup.now) number (points_of size gen_ args.now) m)) }
+        ensures setup { self.new.setup.now ≡ self.old.setup.now }
+        ensures long { length (B.cells bank.new) ≡ length (B.cells bank.old) }
+        ensures rest { B.rest bank.new ≡ B.rest bank.old }
+    {
+        let number = number as usize;
+        mark(self.stage.tables, number, &mut self.made);
+        if has_cells(self.stage.tables, number) {
+            let points = points_of(alloc, size, gen_, args)?;
+            put(self.stage.layout, number, points.as_slice(), bank);
+        }
+        Ok(())
+    }
+}
+
+/// Each table of a number has been made.
+fn mark(tables: &[TableAt<'_>], number: usize, flags: &mut Vec<bool>)
+    requires { length flags.old.items ≡ length tables.now }
+    ensures { flags.new.items ≡ marked number tables.now flags.old.items }
+{
+    for place in 0..tables.len() {
+        if tables[place].number == number {
+            flags[place] = true;
+        }
+    }
+}
+
+/// Whether there is a table of a number, and the points of the first are cells.
+fn has_cells(tables: &[TableAt<'_>], number: usize) -> bool
+    ensures { result ≡ has_cells tables.now number }
+{
+    for place in 0..tables.len() {
+        let table = tables[place];
+        if table.number == number {
+            return table.points.is_none();
+        }
+    }
+    false
+}
+
+/// The points of a table that has no fault.
+fn points_of(alloc: Global, size: i64, gen_: i64, args: &[Num]) -> Result<Points, OutOfMemory>
+    requires { table_fault size gen_ args.now ≡ None }
+    ensures points { IfOk result (λ p. p ≡ points_of size gen_ args.now) }
+    ensures long { IfOk result (λ p. pos (length p) ≡ size) }
+{
+    match make_table(alloc, size, gen_, args) {
+        Ok(points) => Ok(points),
+        Err(Or::Fault(_)) => unreachable!(),
+        Err(Or::OutOfMemory) => Err(OutOfMemory),
+    }
+}
+
+/// The points of a table are written into its area.
+fn put<B: Bank>(layout: &Layout, number: usize, points: &[Num], bank: &mut B)
+    requires there { (area : Area) × (area_of layout.now (res.Table number) ≡ Some area) × (length points.now ≡ area.length)
+        × CanTouch (B.can_set (B.rest bank.old)) (length (B.cells bank.old)) area }
+    ensures written { PointsWritten true layout.now number points.now (B.cells bank.old) (B.cells bank.new) }
+    ensures rest { B.rest bank.new ≡ B.rest bank.old }
+{
+    match area_of(layout, Res::Table(number)) {
+        Some(area) => write_row(bank, area, points),
+        None => unreachable!(),
+    }
+}
