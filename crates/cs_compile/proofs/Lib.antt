@@ -1,0 +1,6 @@
+pub mod Chains
+pub mod Heads
+pub mod Once
+pub mod Parts
+pub mod Sizes
+pub mod Some

@@ -1,0 +1,131 @@
+-- What the single steps answer, and how their answers go together.
+use Rattle.std.proofs.Common.{◌≡◌, ◌≤◌, ◌<◌, ℕ, Bool, true, false, nat_lt, List, length, Option, Some, None, Result, Ok, Err, IfOk, refl, sym, subst, ap, ◌∙◌, arith}
+use Rattle.std.specs.Option.{option_or}
+use Rattle.std.specs.Result.{IsErrAnd}
+use Rattle.std.proofs.lemmas.Bool.Decides.{nat_tests}
+use Rattle.cs_base.specs.declared.fault.Or.{Or}
+use Rattle.cs_base.specs.declared.fault.Or.TheVariants as or
+use Rattle.cs_base.specs.declared.fault.OrcFault.{OrcFault}
+use Rattle.cs_base.specs.declared.fault.ScoreFault.{ScoreFault}
+use Rattle.cs_base.specs.declared.head.Head.{Head}
+use Rattle.cs_base.specs.declared.limit.Limit.{Limit}
+use Rattle.cs_base.specs.declared.limit.LimitHit.{LimitHit}
+use Rattle.cs_base.specs.Limits.{most_of}
+use Rattle.cs_grammar.specs.Tree as tree
+use Rattle.cs_score.specs.Limits.{Passes, limit_of_score}
+use Rattle.cs_score.specs.Statements.{score_of}
+use Rattle.cs_score.specs.declared.statement.ScoreStmt.{ScoreStmt}
+use Rattle.cs_tempo.specs.Limits.{limit_of, limit_of_sections}
+use Rattle.cs_tempo.specs.Plot.{plot_of}
+use Rattle.cs_tempo.specs.Sections.{sections_of}
+use Rattle.cs_tempo.specs.declared.plot.Plot.{Plot}
+use Rattle.cs_typed.specs.TypedTree as typed
+use Rattle.cs_typing.specs.Typing.{judged, type_fault, typed_of}
+use Rattle.cs_compile.specs.Then.{Is}
+use Rattle.cs_course.specs.Moments.{Composition}
+use Rattle.cs_compile.specs.Meaning.{HasHead, IsPlayedAs, no_longer_than, orchestra_means, orchestra_plays, passed_if, piece_of, plotted, refused_as, score_means, short_texts_mean, typed_form, unless_passed}
+use Rattle.cs_compile.specs.declared.refusal.Refusal.{Refusal}
+use Rattle.cs_compile.specs.declared.refusal.Refusal.TheVariants as why
+use Rattle.cs_compile.proofs.Chains.{goes_on, refuses}
+
+-- RESULTS
+
+-- the refusal that a call gives is the one that it speaks of
+pub refusal_is : {A F : Type 0} (P : F → Type 0) (x y : F) → P x → ◌≡◌ {A = Result A (Or F)} (Err (or.Fault x)) (Err (or.Fault y)) → P y
+refusal_is P x y p e = subst P (same e) p
+  where
+    same : {A F : Type 0} {x y : F} → ◌≡◌ {A = Result A (Or F)} (Err (or.Fault x)) (Err (or.Fault y)) → x ≡ y
+    same e = cc
+
+-- an error is the same in another result
+pub error_as : {A B E : Type 0} (x y : E) → ◌≡◌ {A = Result A E} (Err x) (Err y) → ◌≡◌ {A = Result B E} (Err x) (Err y)
+error_as x y e = let same : x ≡ y = cc in ap (λ (z : _). Err z) same
+
+-- the exit of a `?` gives the refusal that it had
+pub left_with : {A B F : Type 0} (r : Result B (Or F)) (e : Or F) (x : F) → IsErrAnd r (λ y. y ≡ e) → r ≡ Err (or.Fault x) → ◌≡◌ {A = Result A (Or F)} (Err e) (Err (or.Fault x))
+left_with (Ok b) e x i h = elim i [ ]
+left_with (Err g) e x i h = let same : g ≡ or.Fault x = cc in ap (λ (z : Or _). Err z) (sym i ∙ same)
+
+pub if_ok : {A E : Type 0} (P Q : A → Type 0) → ((a : A) → P a → Q a) → (r : Result A E) → IfOk r P → IfOk r Q
+if_ok P Q weaker (Ok a) p = weaker a p
+if_ok P Q weaker (Err e) p = tt
+
+pub if_both : {A E : Type 0} (P Q R : A → Type 0) → ((a : A) → P a → Q a → R a) → (r : Result A E) → IfOk r P → IfOk r Q → IfOk r R
+if_both P Q R both (Ok a) p q = both a p q
+if_both P Q R both (Err e) p q = tt
+
+-- TEXTS by their lengths
+
+pub is_short : (which : Limit) (text : List ℕ) → length text ≤ most_of which → Ok text ≡ no_longer_than which text
+is_short which text h = by_test (nat_lt (most_of which) (length text)) (grind (arith, nat_tests))
+  where
+    by_test : (b : Bool) → b ≡ false → Ok text ≡ unless_passed (passed_if which b) text
+    by_test true h = absurd (cc)
+    by_test false h = refl
+
+pub is_long : (which : Limit) (text : List ℕ) → most_of which < length text → Err (why.Limit (record { limit = which; line = 0 })) ≡ no_longer_than which text
+is_long which text h = by_test (nat_lt (most_of which) (length text)) (grind (arith, nat_tests))
+  where
+    by_test : (b : Bool) → b ≡ true → Err (why.Limit (record { limit = which; line = 0 })) ≡ unless_passed (passed_if which b) text
+    by_test true h = refl
+    by_test false h = absurd (cc)
+
+-- TREES
+
+pub typed_as : (t : tree.Orchestra) (o : typed.Orchestra) → type_fault t ≡ None → o ≡ typed_of t → typed_form t ≡ Ok o
+typed_as t o right is = ap (λ f. refused_as why.Orc (judged f (typed_of t))) right ∙ ap (λ (x : typed.Orchestra). Ok x) (sym is)
+
+pub mistyped : (t : tree.Orchestra) (f : OrcFault) → type_fault t ≡ Some f → typed_form t ≡ Err (why.Orc f)
+mistyped t f has = ap (λ x. refused_as why.Orc (judged x (typed_of t))) has
+
+-- SCORES
+
+-- a score that passes a limit while it is read
+passed : (r : Result (List ScoreStmt) ScoreFault) (hit : LimitHit) → Passes hit r
+    → (statements : List ScoreStmt) × (r ≡ Ok statements) × (limit_of_score statements ≡ Some hit)
+passed (Ok statements) hit p = (statements, refl, p)
+passed (Err fault) hit p = absurd p
+
+pub plotted_as : (head : Head) (score : List ScoreStmt) (plot : Plot) → limit_of head score ≡ None → plot ≡ plot_of head score → plotted head score ≡ Ok plot
+plotted_as head score plot within is = ap (λ o. unless_passed o (plot_of head score)) within ∙ ap (λ (x : Plot). Ok x) (sym is)
+
+pub not_plotted : (head : Head) (score : List ScoreStmt) (hit : LimitHit) → limit_of head score ≡ Some hit → plotted head score ≡ Err (why.Limit hit)
+not_plotted head score hit passes = ap (λ o. unless_passed o (plot_of head score)) passes
+
+-- the value of an answer that no limit refuses
+pub is_value : {A : Type 0} (o : Option LimitHit) (a b : A) → unless_passed o a ≡ Ok b → a ≡ b
+is_value None a b e = cc
+is_value (Some hit) a b e = absurd (cc)
+
+pub score_plotted : (head : Head) (text : List ℕ) (score : List ScoreStmt) (r : Result Plot Refusal) → score_of text ≡ Ok score → plotted head score ≡ r
+    → score_means head text r
+score_plotted head text score r read is =
+    goes_on (Is (refused_as why.Score (score_of text))) (λ s. Is (plotted head s)) score r (sym (ap (refused_as why.Score) read)) (sym is)
+
+pub score_refused : (head : Head) (text : List ℕ) (fault : ScoreFault) → score_of text ≡ Err fault → score_means head text (Err (why.Score fault))
+score_refused head text fault read =
+    refuses (Is (refused_as why.Score (score_of text))) (λ s. Is (plotted head s)) (why.Score fault) (sym (ap (refused_as why.Score) read))
+
+pub score_passes : (head : Head) (text : List ℕ) (hit : LimitHit) → Passes hit (score_of text) → score_means head text (Err (why.Limit hit))
+score_passes head text hit p =
+    let at = passed (score_of text) hit p in
+    score_plotted head text at.0 (Err (why.Limit hit)) at.1
+    (not_plotted head at.0 hit (ap (λ (first : Option LimitHit). option_or first (limit_of_sections head (sections_of at.0))) at.2))
+
+-- BOTH TEXTS
+
+pub played : (wide : Bool) (orchestra text : List ℕ) (o : typed.Orchestra) (head : Head) (plot : Plot) (r : Result Composition Refusal)
+    → orchestra_means orchestra (Ok o) → typed.header_of_head head ≡ o.head → score_means head text (Ok plot) → piece_of wide o head plot ≡ r
+    → short_texts_mean wide orchestra text r
+played wide orchestra text o head plot r is has score piece =
+    goes_on (orchestra_means orchestra) (orchestra_plays wide text) o r is
+    (goes_on (HasHead o.head) (IsPlayedAs wide text o) head r has
+    (goes_on (score_means head text) (λ p. Is (piece_of wide o head p)) plot r score (sym piece)))
+
+pub not_played : (wide : Bool) (orchestra text : List ℕ) (o : typed.Orchestra) (head : Head) (refusal : Refusal)
+    → orchestra_means orchestra (Ok o) → typed.header_of_head head ≡ o.head → score_means head text (Err refusal)
+    → short_texts_mean wide orchestra text (Err refusal)
+not_played wide orchestra text o head refusal is has score =
+    goes_on (orchestra_means orchestra) (orchestra_plays wide text) o (Err refusal) is
+    (goes_on (HasHead o.head) (IsPlayedAs wide text o) head (Err refusal) has
+    (refuses (score_means head text) (λ p. Is (piece_of wide o head p)) refusal score))

@@ -1,0 +1,109 @@
+-- Two texts have a meaning.
+use Rattle.std.proofs.Common.{◌≡◌, ◌⊎◌, ℕ, Bool, List, [], Option, Some, None, Result, Ok, Err, refl, subst, ⊎_elim, if◌then◌else◌, true, false}
+use Rattle.std.specs.Option.{option_or}
+use Rattle.cs_base.specs.declared.fault.OrcFault.{OrcFault}
+use Rattle.cs_base.specs.declared.fault.OrcKind.{OrcKind}
+use Rattle.cs_base.specs.declared.head.Head.{Head}
+use Rattle.cs_base.specs.declared.limit.Limit.TheVariants as limit
+use Rattle.cs_grammar.specs.Tree as tree
+use Rattle.cs_lex.specs.declared.token.Token.{Token}
+use Rattle.cs_score.specs.Statements.{score_of}
+use Rattle.cs_typed.specs.Places.{Header}
+use Rattle.cs_typed.specs.TypedTree as typed
+use Rattle.cs_typing.specs.Settings.{earlier, header, headers_fault, settings_fault}
+use Rattle.cs_typing.specs.Typing.{judged, type_fault, typed_of}
+use Rattle.cs_typing.proofs.Ranges.{channels_within, cycle_within, frames_within, scale_within}
+use Rattle.cs_compile.specs.Then.{GoesOn, Is}
+use Rattle.cs_compile.specs.Meaning.{HasHead, HasTokens, HasTree, IsPlayedAs, IsRead, IsReadAs, IsTypedAs, expanded, means, no_longer_than, orchestra_means, orchestra_plays, piece_of, plotted, refused_as, score_means, short_texts_mean, typed_form}
+use Rattle.cs_compile.specs.declared.refusal.Refusal.{Refusal}
+use Rattle.cs_compile.specs.declared.refusal.Refusal.TheVariants as why
+use Rattle.cs_compile.proofs.Chains.{then_some}
+use Rattle.cs_compile.proofs.Heads.{made}
+
+-- an answer of which P holds
+abbrev pub HasSome : {A E : Type 0} → (Result A E → Type 0) → Type 0
+HasSome {A} {E} P = (r : Result A E) × P r
+
+-- what is read has a value or a first fault
+pub read_some : {A : Type 0} (V : A → Type 0) (F : ℕ → OrcKind → Type 0) → ((a : A) × V a) ⊎ ((l : ℕ) × (k : OrcKind) × F l k) → HasSome (IsRead V F)
+read_some V F = ⊎_elim (λ v. (Ok v.0, v.1)) (λ f. (Err (why.Orc (record { line = f.0; kind = f.1 })), f.2))
+
+-- THE HEAD of a typed orchestra is there: its numbers are in their ranges
+
+earlier_none : (f g : Option OrcFault) → earlier f g ≡ None → f ≡ None
+earlier_none None g h = refl
+earlier_none (Some f) None h = absurd (cc)
+earlier_none (Some f) (Some g) h = by_test _ h
+  where
+    by_test : (b : Bool) → ◌≡◌ {A = Option OrcFault} (if b then Some f else Some g) None → ◌≡◌ {A = Option OrcFault} (Some f) None
+    by_test true h = absurd (cc)
+    by_test false h = absurd (cc)
+
+no_first : (f g : Option OrcFault) → option_or f g ≡ None → f ≡ None
+no_first None g h = refl
+no_first (Some f) g h = absurd (cc)
+
+no_second : (f g : Option OrcFault) → option_or f g ≡ None → g ≡ None
+no_second None g h = h
+no_second (Some f) g h = absurd (cc)
+
+head_of : (e : tree.Orchestra) → type_fault e ≡ None → (head : Head) × (typed.header_of_head head ≡ header e.head)
+head_of e none =
+    let settings : settings_fault e.head e.zero ≡ None = no_first (settings_fault e.head e.zero) _ none in
+    let lines : headers_fault [] e.head ≡ None = earlier_none (headers_fault [] e.head) _ (no_first _ _ settings) in
+    let h : Header = header e.head in
+    (made h.sr h.ksmps h.nchnls h.dbfs (frames_within e.head lines) (cycle_within e.head lines (no_second _ _ settings)) (channels_within e.head lines) (scale_within e.head lines), refl)
+
+judged_ok : (f : Option OrcFault) (t o : typed.Orchestra) → Ok o ≡ refused_as why.Orc (judged f t) → (f ≡ None) × (t ≡ o)
+judged_ok None t o h = (refl, cc)
+judged_ok (Some g) t o h = absurd (cc)
+
+typed_from : (first : Result tree.Orchestra Refusal) (o : typed.Orchestra) → GoesOn (λ e. Is (typed_form e)) first (Ok o)
+    → (head : Head) × (typed.header_of_head head ≡ o.head)
+typed_from (Ok e) o h =
+    let is = judged_ok (type_fault e) (typed_of e) o h in
+    subst (λ (x : typed.Orchestra). (head : Head) × (typed.header_of_head head ≡ x.head)) is.1 (head_of e is.0)
+typed_from (Err r) o h = absurd (cc)
+
+read_from : (first : Result tree.Orchestra Refusal) (o : typed.Orchestra) → GoesOn IsTypedAs first (Ok o)
+    → (head : Head) × (typed.header_of_head head ≡ o.head)
+read_from (Ok t) o h = typed_from h.first o h.after
+read_from (Err r) o h = absurd (cc)
+
+head_some : (text : List ℕ) (o : typed.Orchestra) → orchestra_means text (Ok o) → (head : Head) × HasHead o.head (Ok head)
+head_some text o h = read_from h.first o h.after
+
+-- THE CHAIN
+
+typed_some : (t : tree.Orchestra) → HasSome (IsTypedAs t)
+typed_some t = then_some (Is (expanded t)) (λ e. Is (typed_form e)) (expanded t) refl (λ e _. (typed_form e, refl))
+
+score_some : (head : Head) (text : List ℕ) → HasSome (score_means head text)
+score_some head text =
+    then_some (Is (refused_as why.Score (score_of text))) (λ score. Is (plotted head score)) (refused_as why.Score (score_of text)) refl
+    (λ score _. (plotted head score, refl))
+
+plays_some : (wide : Bool) (score : List ℕ) (o : typed.Orchestra) (head : Head) → HasSome (IsPlayedAs wide score o head)
+plays_some wide score o head =
+    let plot = score_some head score in
+    then_some (score_means head score) (λ plot. Is (piece_of wide o head plot)) plot.0 plot.1 (λ p _. (piece_of wide o head p, refl))
+
+module _ (tokens : (text : List ℕ) → HasSome (HasTokens text)) (trees : (text : List ℕ) (ts : List Token) → HasSome (HasTree text ts)) where
+  tree_some : (text : List ℕ) → HasSome (IsReadAs text)
+  tree_some text = let first = tokens text in then_some (HasTokens text) (HasTree text) first.0 first.1 (λ ts _. trees text ts)
+
+  orchestra_some : (text : List ℕ) → HasSome (orchestra_means text)
+  orchestra_some text = let first = tree_some text in then_some (IsReadAs text) IsTypedAs first.0 first.1 (λ t _. typed_some t)
+
+  short_some : (wide : Bool) (orchestra score : List ℕ) → HasSome (short_texts_mean wide orchestra score)
+  short_some wide orchestra score =
+      let first = orchestra_some orchestra in
+      then_some (orchestra_means orchestra) (orchestra_plays wide score) first.0 first.1
+      (λ o is. let head = head_some orchestra o is in
+      then_some (HasHead o.head) (IsPlayedAs wide score o) (Ok head.0) head.1 (λ h _. plays_some wide score o h))
+
+  pub means_some : (wide : Bool) (orchestra score : List ℕ) → HasSome (means wide orchestra score)
+  means_some wide orchestra score =
+      then_some (Is (no_longer_than limit.OrchestraBytes orchestra)) _ (no_longer_than limit.OrchestraBytes orchestra) refl
+      (λ orc _. then_some (Is (no_longer_than limit.ScoreBytes score)) (λ sco. short_texts_mean wide orc sco) (no_longer_than limit.ScoreBytes score) refl
+      (λ sco _. short_some wide orc sco))

@@ -1,0 +1,17 @@
+use Rattle.cs_lex.specs.Lexed.{LexFault, Lexed}
+use Rattle.cs_grammar.specs.Orchestra.{ParseFault, Tree}
+use Rattle.cs_compile.proofs.Once.{means_one, read_one}
+use Rattle.cs_compile.proofs.Some.{means_some, read_some}
+use Rattle.cs_compile.proofs.laws.texts_have_one_meaning.Goals as goal
+
+pub returns-clause-some : goal.returns-clause-some
+returns-clause-some c =
+    means_some
+    (λ text. read_some (Lexed text) (LexFault text) (c.one_reading.ensures.some text))
+    (λ text ts. read_some (Tree text ts) (ParseFault text ts) (c.one_reading-2.ensures.some text ts))
+
+pub returns-clause-one : goal.returns-clause-one
+returns-clause-one c =
+    means_one
+    (λ text. read_one (Lexed text) (LexFault text) (c.one_reading.ensures.one_list text) (c.one_reading.ensures.one_fault text) (c.one_reading.ensures.not_both text))
+    (λ text ts. read_one (Tree text ts) (ParseFault text ts) (c.one_reading-2.ensures.one_tree text ts) (c.one_reading-2.ensures.one_fault text ts) (c.one_reading-2.ensures.not_both text ts))

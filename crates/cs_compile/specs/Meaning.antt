@@ -1,0 +1,129 @@
+-- What two texts mean: the composition that is performed, or the first refusal, in the order in which refusals are looked for.
+use Rattle.std.specs.Prelude.{ℕ, ◌≡◌, ◌*◌, Bool, nat_lt, List, length, Option, Some, None, Result, Ok, Err, if◌then◌else◌}
+use Rattle.std.specs.Option.{option_or}
+use Rattle.cs_base.specs.Limits.{most_of, most_wav_bytes}
+use Rattle.cs_base.specs.declared.fault.OrcKind.{OrcKind}
+use Rattle.cs_base.specs.declared.head.Head.{Head}
+use Rattle.cs_base.specs.declared.limit.Limit.{Limit}
+use Rattle.cs_base.specs.declared.limit.Limit.TheVariants as limit
+use Rattle.cs_base.specs.declared.limit.LimitHit.{LimitHit}
+use Rattle.cs_cells.specs.Areas.{limit_passed}
+use Rattle.cs_compile.specs.Then.{Is, Then}
+use Rattle.cs_compile.specs.declared.refusal.Refusal.{Refusal}
+use Rattle.cs_compile.specs.declared.refusal.Refusal.TheVariants as why
+use Rattle.cs_course.specs.Moments.{Composition}
+use Rattle.cs_grammar.specs.Orchestra.{ParseFault, Tree}
+use Rattle.cs_grammar.specs.Tree as tree
+use Rattle.cs_lex.specs.Lexed.{LexFault, Lexed}
+use Rattle.cs_lex.specs.declared.token.Token.{Token}
+use Rattle.cs_score.specs.Statements.{score_of}
+use Rattle.cs_score.specs.declared.statement.ScoreStmt.{ScoreStmt}
+use Rattle.cs_setup.specs.Compositions.{areas_in, composition}
+use Rattle.cs_tempo.specs.Limits.{limit_of}
+use Rattle.cs_tempo.specs.Plot.{plot_of}
+use Rattle.cs_tempo.specs.declared.plot.Plot.{Plot}
+use Rattle.cs_typed.specs.Places.{Header}
+use Rattle.cs_typed.specs.TypedTree as typed
+use Rattle.cs_typing.specs.Typing.{typing}
+use Rattle.cs_udo.specs.Expanding.{expanding}
+use Rattle.cs_udo.specs.declared.fault.ExpandFault.{ExpandFault}
+use Rattle.cs_udo.specs.declared.fault.ExpandFault.TheVariants as expansion
+use Rattle.cs_wav.specs.Wav.{bytes_of, size_of}
+
+-- what a part of the orchestra is read as: a value, or its first fault by line and kind
+abbrev pub IsRead : {A : Type 0} → (A → Type 0) → (ℕ → OrcKind → Type 0) → Result A Refusal → Type 0
+IsRead IsValue IsFault (Ok a) = IsValue a
+IsRead IsValue IsFault (Err (why.Orc f)) = IsFault f.line f.kind
+IsRead IsValue IsFault (Err (why.Score f)) = ⊥
+IsRead IsValue IsFault (Err (why.Limit hit)) = ⊥
+
+-- an answer whose faults are refusals of this kind
+abbrev pub refused_as : {A F : Type 0} → (F → Refusal) → Result A F → Result A Refusal
+refused_as kind (Ok a) = Ok a
+refused_as kind (Err f) = Err (kind f)
+
+-- a value, unless a limit is passed
+abbrev pub unless_passed : {A : Type 0} → Option LimitHit → A → Result A Refusal
+unless_passed None a = Ok a
+unless_passed (Some hit) a = Err (why.Limit hit)
+
+-- a limit that no line passes, where this is so
+abbrev pub passed_if : Limit → Bool → Option LimitHit
+passed_if which b = if b then Some (record { limit = which; line = 0 }) else None
+
+-- a text, unless it has more bytes than a limit lets be
+abbrev pub no_longer_than : Limit → List ℕ → Result (List ℕ) Refusal
+no_longer_than which text = unless_passed (passed_if which (nat_lt (most_of which) (length text))) text
+
+-- AN ORCHESTRA by itself: its tokens, their tree, the tree with the calls of defined opcodes expanded, and its typed form
+
+abbrev pub HasTokens : List ℕ → Result (List Token) Refusal → Type 0
+HasTokens text = IsRead (Lexed text) (LexFault text)
+
+abbrev pub HasTree : List ℕ → List Token → Result tree.Orchestra Refusal → Type 0
+HasTree text tokens = IsRead (Tree text tokens) (ParseFault text tokens)
+
+abbrev pub IsReadAs : List ℕ → Result tree.Orchestra Refusal → Type 0
+IsReadAs text = Then (HasTokens text) (HasTree text)
+
+-- a call that is refused, or a limit on instruments or statements
+abbrev pub expansion_fault : ExpandFault → Refusal
+expansion_fault (expansion.Orc f) = why.Orc f
+expansion_fault (expansion.Limit hit) = why.Limit hit
+
+abbrev pub expanded : tree.Orchestra → Result tree.Orchestra Refusal
+expanded t = refused_as expansion_fault (expanding t)
+
+abbrev pub typed_form : tree.Orchestra → Result typed.Orchestra Refusal
+typed_form t = refused_as why.Orc (typing t)
+
+abbrev pub IsTypedAs : tree.Orchestra → Result typed.Orchestra Refusal → Type 0
+IsTypedAs t = Then (Is (expanded t)) (λ e. Is (typed_form e))
+
+abbrev pub orchestra_means : List ℕ → Result typed.Orchestra Refusal → Type 0
+orchestra_means text = Then (IsReadAs text) IsTypedAs
+
+-- A SCORE in a piece with this head: its statements, and their plot. All its faults come before its first limit.
+
+abbrev pub plotted : Head → List ScoreStmt → Result Plot Refusal
+plotted head score = unless_passed (limit_of head score) (plot_of head score)
+
+abbrev pub score_means : Head → List ℕ → Result Plot Refusal → Type 0
+score_means head text = Then (Is (refused_as why.Score (score_of text))) (λ score. Is (plotted head score))
+
+-- A PIECE of an orchestra and a plot, in samples of two bytes or, where `wide`, of three
+
+-- the samples of so many cycles have more bytes than a sound file may have
+abbrev pub is_too_long : Bool → Head → ℕ → Bool
+is_too_long wide head cycles = nat_lt most_wav_bytes (size_of (bytes_of wide) (cycles * head.ksmps) head)
+
+-- the first limit that it passes: on resources, on their words, on the bytes of its samples
+abbrev pub limit_of_piece : Bool → typed.Orchestra → Head → Plot → Option LimitHit
+limit_of_piece wide o head plot =
+    option_or (limit_passed (areas_in o plot.events)) (passed_if limit.WavBytes (is_too_long wide head plot.cycles))
+
+abbrev pub piece_of : Bool → typed.Orchestra → Head → Plot → Result Composition Refusal
+piece_of wide o head plot = unless_passed (limit_of_piece wide o head plot) (composition o plot)
+
+-- a header with the ranges of its numbers; that of a typed orchestra has them
+abbrev pub HasHead : Header → Result Head Refusal → Type 0
+HasHead h (Ok head) = typed.header_of_head head ≡ h
+HasHead h (Err r) = ⊥
+
+-- a score that is played by this orchestra
+abbrev pub IsPlayedAs : Bool → List ℕ → typed.Orchestra → Head → Result Composition Refusal → Type 0
+IsPlayedAs wide score o head = Then (score_means head score) (λ plot. Is (piece_of wide o head plot))
+
+abbrev pub orchestra_plays : Bool → List ℕ → typed.Orchestra → Result Composition Refusal → Type 0
+orchestra_plays wide score o = Then (HasHead o.head) (IsPlayedAs wide score o)
+
+-- two texts of which neither is too long
+abbrev pub short_texts_mean : Bool → List ℕ → List ℕ → Result Composition Refusal → Type 0
+short_texts_mean wide orchestra score = Then (orchestra_means orchestra) (orchestra_plays wide score)
+
+-- TWO TEXTS, whose samples are `wide` or not, mean a composition, or have this first refusal.
+abbrev pub means : Bool → List ℕ → List ℕ → Result Composition Refusal → Type 0
+means wide orchestra score =
+    Then (Is (no_longer_than limit.OrchestraBytes orchestra)) (λ orc.
+    Then (Is (no_longer_than limit.ScoreBytes score)) (λ sco.
+    short_texts_mean wide orc sco))

@@ -1,0 +1,19 @@
+// What holds of the meaning of every two texts: a call that does nothing, whose contract is the law.
+ghost use Rattle.std.specs.Prelude.{◌≡◌, ℕ, Bool, List, Result};
+ghost use Rattle.cs_compile.specs.Meaning.{means};
+ghost use Rattle.cs_compile.specs.declared.refusal.Refusal.{Refusal};
+ghost use Rattle.cs_course.specs.Moments.{Composition};
+
+use cs_grammar::one_reading as one_tree;
+use cs_lex::one_reading as one_list_of_tokens;
+
+/// Every two texts have one meaning, in samples of either width: one composition, or one first refusal.
+pub fn texts_have_one_meaning()
+    ensures some { (wide : Bool) (orchestra score : List ℕ)
+        → (r : Result Composition Refusal) × means wide orchestra score r }
+    ensures one { (wide : Bool) (orchestra score : List ℕ) (r s : Result Composition Refusal)
+        → means wide orchestra score r → means wide orchestra score s → r ≡ s }
+{
+    one_list_of_tokens();
+    one_tree();
+}

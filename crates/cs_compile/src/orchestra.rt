@@ -1,0 +1,115 @@
+// What an orchestra's text means by itself: its typed orchestra.
+ghost use Rattle.std.specs.Prelude.{◌≡◌, ◌≤◌, length, map, eqb, Ok, Err, IfOk};
+ghost use Rattle.std.specs.List.{IsDistinct};
+ghost use Rattle.cs_base.specs.Limits.{most_orchestra_bytes};
+ghost use Rattle.cs_base.specs.declared.fault.Or.TheVariants as or;
+ghost use Rattle.cs_base.specs.declared.fault.OrcFault.{OrcFault};
+ghost use Rattle.cs_code.specs.Lowered.{all_numbers};
+ghost use Rattle.cs_compile.specs.Meaning.{IsReadAs, IsTypedAs, expanded, orchestra_means, typed_form};
+ghost use Rattle.cs_compile.specs.declared.refusal.Refusal.{Refusal};
+ghost use Rattle.cs_compile.specs.declared.refusal.Refusal.TheVariants as why;
+ghost use Rattle.cs_grammar.specs.Tree as tree;
+ghost use Rattle.cs_grammar.specs.WellFormed.{IsWellFormed};
+ghost use Rattle.cs_named.specs.Names.{NamesWhatThereIs};
+ghost use Rattle.cs_typed.specs.TypedTree as typed;
+ghost use Rattle.cs_typed.specs.WellRated.{IsWellRated};
+ghost use Rattle.cs_typing.specs.Typing.{typed_of};
+
+use crate::refusal::Refusal;
+use cs_base::{Or, OrcFault};
+use cs_frames::expansions_can_be_lowered;
+use cs_grammar::{Orc, parse, trees_are_well_formed};
+use cs_lex::lex;
+use cs_named::typed_trees_name_what_there_is;
+use cs_typed::TypedOrc;
+use cs_typing::{type_orc, typing_is_well_rated};
+use cs_udo::{ExpandFault, expand};
+use std::alloc::Global;
+
+/// The typed orchestra that a text of at most 1,048,576 bytes means, or its first refusal by itself.
+pub fn read_orchestra(alloc: Global, text: &[u8]) -> Result<TypedOrc, Or<Refusal>>
+    requires { length text.now ≤ most_orchestra_bytes }
+    ensures orchestra { IfOk result (λ o. orchestra_means text.now (Ok (typed.orchestra o))) }
+    ensures rated { IfOk result (λ o. IsWellRated (typed.orchestra o)) }
+    ensures distinct { IfOk result (λ o. IsDistinct eqb (all_numbers (typed.orchestra o).instrs)) }
+    ensures named { IfOk result (λ o. NamesWhatThereIs (typed.orchestra o)) }
+    ensures refused { (r : Refusal) → result ≡ Err (or.Fault r) → orchestra_means text.now (Err r) }
+{
+    let tree = read_tree(alloc, text)?;
+    typed_tree(alloc, tree)
+}
+
+// The tree of a text, or the refusal of its first fault.
+fn read_tree(alloc: Global, text: &[u8]) -> Result<Orc, Or<Refusal>>
+    requires { length text.now ≤ most_orchestra_bytes }
+    ensures tree { IfOk result (λ orc. IsReadAs text.now (Ok (tree.orchestra orc))) }
+    ensures well_formed { IfOk result (λ orc. IsWellFormed (tree.orchestra orc)) }
+    ensures refused { (r : Refusal) → result ≡ Err (or.Fault r) → IsReadAs text.now (Err r) }
+{
+    match tree_of(alloc, text) {
+        Ok(tree) => Ok(tree),
+        Err(Or::Fault(fault)) => Err(Or::Fault(Refusal::Orc(fault))),
+        Err(Or::OutOfMemory) => Err(Or::OutOfMemory),
+    }
+}
+
+// The tree of a text, or its first fault.
+fn tree_of(alloc: Global, text: &[u8]) -> Result<Orc, Or<OrcFault>>
+    requires { length text.now ≤ most_orchestra_bytes }
+    ensures tree { IfOk result (λ orc. IsReadAs text.now (Ok (tree.orchestra orc))) }
+    ensures well_formed { IfOk result (λ orc. IsWellFormed (tree.orchestra orc)) }
+    ensures fault { (f : OrcFault) → result ≡ Err (or.Fault f) → IsReadAs text.now (Err (why.Orc f)) }
+{
+    trees_are_well_formed();
+    match lex(alloc, text) {
+        Ok(tokens) => parse(alloc, text, &tokens),
+        Err(refusal) => Err(refusal),
+    }
+}
+
+// The typed form of a tree, its calls of defined opcodes expanded.
+fn typed_tree(alloc: Global, orc: Orc) -> Result<TypedOrc, Or<Refusal>>
+    requires { IsWellFormed (tree.orchestra orc) }
+    ensures typed { IfOk result (λ o. IsTypedAs (tree.orchestra orc) (Ok (typed.orchestra o))) }
+    ensures rated { IfOk result (λ o. IsWellRated (typed.orchestra o)) }
+    ensures distinct { IfOk result (λ o. IsDistinct eqb (all_numbers (typed.orchestra o).instrs)) }
+    ensures named { IfOk result (λ o. NamesWhatThereIs (typed.orchestra o)) }
+    ensures refused { (r : Refusal) → result ≡ Err (or.Fault r) → IsTypedAs (tree.orchestra orc) (Err r) }
+{
+    let expanded = expanded(alloc, orc)?;
+    typed_form(alloc, &expanded)
+}
+
+// A tree without calls of defined opcodes, or why there is none.
+fn expanded(alloc: Global, orc: Orc) -> Result<Orc, Or<Refusal>>
+    requires { IsWellFormed (tree.orchestra orc) }
+    ensures expanded { IfOk result (λ e. expanded (tree.orchestra orc) ≡ Ok (tree.orchestra e)) }
+    ensures distinct { IfOk result (λ e. IsDistinct eqb (all_numbers (typed_of (tree.orchestra e)).instrs)) }
+    ensures refused { (r : Refusal) → result ≡ Err (or.Fault r) → expanded (tree.orchestra orc) ≡ Err r }
+{
+    expansions_can_be_lowered();
+    match expand(alloc, orc) {
+        Ok(expanded) => Ok(expanded),
+        Err(Or::Fault(ExpandFault::Orc(fault))) => Err(Or::Fault(Refusal::Orc(fault))),
+        Err(Or::Fault(ExpandFault::Limit(hit))) => Err(Or::Fault(Refusal::Limit(hit))),
+        Err(Or::OutOfMemory) => Err(Or::OutOfMemory),
+    }
+}
+
+// The typed form of an expanded tree, or the refusal of its first broken rule of rates and names.
+fn typed_form(alloc: Global, orc: &Orc) -> Result<TypedOrc, Or<Refusal>>
+    requires { IsDistinct eqb (all_numbers (typed_of (tree.orchestra orc.now)).instrs) }
+    ensures typed { IfOk result (λ o. typed_form (tree.orchestra orc.now) ≡ Ok (typed.orchestra o)) }
+    ensures rated { IfOk result (λ o. IsWellRated (typed.orchestra o)) }
+    ensures distinct { IfOk result (λ o. IsDistinct eqb (all_numbers (typed.orchestra o).instrs)) }
+    ensures named { IfOk result (λ o. NamesWhatThereIs (typed.orchestra o)) }
+    ensures refused { (r : Refusal) → result ≡ Err (or.Fault r) → typed_form (tree.orchestra orc.now) ≡ Err r }
+{
+    typing_is_well_rated();
+    typed_trees_name_what_there_is();
+    match type_orc(alloc, orc) {
+        Ok(typed) => Ok(typed),
+        Err(Or::Fault(fault)) => Err(Or::Fault(Refusal::Orc(fault))),
+        Err(Or::OutOfMemory) => Err(Or::OutOfMemory),
+    }
+}

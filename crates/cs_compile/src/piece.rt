@@ -1,0 +1,110 @@
+// What two texts mean together.
+ghost use Rattle.std.specs.Prelude.{◌≡◌, ◌≤◌, ◌*◌, length, eqb, Some, Ok, Err, IfOk, OnOk};
+ghost use Rattle.std.specs.List.{IsDistinct};
+ghost use Rattle.cs_base.specs.Limits.{most_orchestra_bytes, most_score_bytes, most_wav_bytes};
+ghost use Rattle.cs_base.specs.declared.fault.Or.TheVariants as or;
+ghost use Rattle.cs_code.specs.Lowered.{all_numbers};
+ghost use Rattle.cs_compile.specs.Meaning.{is_too_long, means, piece_of, short_texts_mean};
+ghost use Rattle.cs_compile.specs.declared.refusal.Refusal.{Refusal};
+ghost use Rattle.cs_compile.specs.declared.refusal.Refusal.TheVariants as why;
+ghost use Rattle.cs_named.specs.Names.{NamesWhatThereIs};
+ghost use Rattle.cs_setup.specs.Setups.{AreOfOneSize, composition_of};
+ghost use Rattle.cs_tempo.specs.Performable.{IsPerformable};
+ghost use Rattle.cs_typed.specs.TypedTree as typed;
+ghost use Rattle.cs_typed.specs.WellRated.{IsWellRated};
+ghost use Rattle.cs_wav.specs.Wav.{bytes_of, size_of};
+
+use crate::orchestra::read_orchestra;
+use crate::refusal::Refusal;
+use crate::score::read_plot;
+use cs_base::{Head, Limit, LimitHit, MOST_ORCHESTRA_BYTES, MOST_SCORE_BYTES, MOST_WAV_BYTES, Or};
+use cs_setup::Setup;
+use cs_tempo::Plot;
+use cs_typed::TypedOrc;
+use std::alloc::Global;
+
+/// All that the piece of two texts needs to be performed, in samples of two bytes or, where `wide`, of three; or the first refusal
+/// of the texts. A setup's samples fit a sound file.
+pub fn compile(
+    alloc: Global,
+    orchestra: &[u8],
+    score: &[u8],
+    wide: bool,
+) -> Result<Setup, Or<Refusal>>
+    ensures accepted { IfOk result (λ s. means wide orchestra.now score.now (Ok (composition_of s))) }
+    ensures fits { IfOk result (λ s. size_of (bytes_of wide) (s.plot.cycles * s.orchestra.head.ksmps) s.orchestra.head ≤ most_wav_bytes) }
+    // Want of memory alone has no clause.
+    ensures refused { (r : Refusal) → result ≡ Err (or.Fault r) → means wide orchestra.now score.now (Err r) }
+{
+    if orchestra.len() > MOST_ORCHESTRA_BYTES {
+        return Err(Or::Fault(passed(Limit::OrchestraBytes)));
+    }
+    if score.len() > MOST_SCORE_BYTES {
+        return Err(Or::Fault(passed(Limit::ScoreBytes)));
+    }
+    compile_short(alloc, orchestra, score, wide)
+}
+
+// The refusal of a limit that no line passes.
+fn passed(limit: Limit) -> Refusal
+    ensures { result ≡ why.Limit (record { limit = limit; line = 0 }) }
+{
+    Refusal::Limit(LimitHit { limit, line: 0 })
+}
+
+// The same of texts that are not too long.
+fn compile_short(
+    alloc: Global,
+    orchestra: &[u8],
+    score: &[u8],
+    wide: bool,
+) -> Result<Setup, Or<Refusal>>
+    requires orchestra { length orchestra.now ≤ most_orchestra_bytes }
+    requires score { length score.now ≤ most_score_bytes }
+    ensures accepted { IfOk result (λ s. short_texts_mean wide orchestra.now score.now (Ok (composition_of s))) }
+    ensures fits { IfOk result (λ s. size_of (bytes_of wide) (s.plot.cycles * s.orchestra.head.ksmps) s.orchestra.head ≤ most_wav_bytes) }
+    ensures refused { (r : Refusal) → result ≡ Err (or.Fault r) → short_texts_mean wide orchestra.now score.now (Err r) }
+{
+    let typed = read_orchestra(alloc, orchestra)?;
+    let plot = read_plot(alloc, score, &typed.head)?;
+    prepared(alloc, typed, plot, wide)
+}
+
+// What an orchestra and a plot need to be performed, or the refusal of the first limit that they pass together.
+fn prepared(
+    alloc: Global,
+    orchestra: TypedOrc,
+    plot: Plot,
+    wide: bool,
+) -> Result<Setup, Or<Refusal>>
+    requires rated { IsWellRated (typed.orchestra orchestra) }
+    requires distinct { IsDistinct eqb (all_numbers (typed.orchestra orchestra).instrs) }
+    requires named { NamesWhatThereIs (typed.orchestra orchestra) }
+    requires performable { IsPerformable orchestra.head plot }
+    requires sizes { AreOfOneSize plot.events }
+    ensures accepted { IfOk result (λ s. piece_of wide (typed.orchestra orchestra) orchestra.head plot ≡ Ok (composition_of s)) }
+    ensures fits { IfOk result (λ s. size_of (bytes_of wide) (s.plot.cycles * s.orchestra.head.ksmps) s.orchestra.head ≤ most_wav_bytes) }
+    ensures refused { (r : Refusal) → result ≡ Err (or.Fault r) → piece_of wide (typed.orchestra orchestra) orchestra.head plot ≡ Err r }
+{
+    let too_long = is_too_long(wide, &orchestra.head, plot.cycles);
+    match Setup::new(alloc, orchestra, plot) {
+        Ok(setup) => {
+            if too_long {
+                return Err(Or::Fault(passed(Limit::WavBytes)));
+            }
+            Ok(setup)
+        }
+        Err(Or::Fault(hit)) => Err(Or::Fault(Refusal::Limit(hit))),
+        Err(Or::OutOfMemory) => Err(Or::OutOfMemory),
+    }
+}
+
+// Whether the samples of a piece have more bytes than a sound file may have.
+fn is_too_long(wide: bool, head: &Head, cycles: u32) -> bool
+    ensures { result ≡ is_too_long wide head.now cycles }
+{
+    let frames = u64::from(cycles) * u64::from(head.ksmps);
+    let samples = frames * u64::from(head.nchnls);
+    let bytes = if wide { samples * 3 } else { samples * 2 };
+    bytes > MOST_WAV_BYTES
+}
