@@ -1,0 +1,66 @@
+-- What the statements of a note write they use.
+use Rattle.std.proofs.Common.{Bool, true, false, List, [], ◌++◌, ⊎_elim, if◌then◌else◌}
+use Rattle.std.specs.List.{Contains}
+use Rattle.std.proofs.lemmas.List.Elements.{Contains-append_left, Contains-append_right, Contains-append_cases}
+use Rattle.cs_base.specs.declared.resource.Rate.{Rate}
+use Rattle.cs_base.specs.declared.resource.Rate.TheVariants as rate
+use Rattle.cs_base.specs.declared.resource.Res.{Res}
+use Rattle.cs_ir.specs.Resources.{Stock, is_store, unit_uses, unit_writes}
+use Rattle.cs_ir.specs.Waves.{if_init}
+use Rattle.cs_ir.specs.declared.op.Reach.{Reach}
+use Rattle.cs_meaning.specs.Core.{Stmt, Block, Arms, set, unit, out, out_at, ask, turnoff, nothing, choose, no_stmt, andthen, otherwise, arm}
+use Rattle.cs_meaning.specs.Uses.{arms_use, arms_write, block_uses, block_writes, expr_uses, exprs_use, stmt_uses, stmt_writes, var_uses, vars_use}
+use Rattle.cs_words.specs.Catalogue.{row_of}
+use Rattle.cs_words.specs.declared.catalogue.Opcode.{Opcode}
+use Rattle.cs_rwset.proofs.Placed.{contains_none}
+
+-- each resource of the one list is in the other
+abbrev pub Within : List Res → List Res → Type 0
+Within xs ys = (r : Res) → Contains xs r → Contains ys r
+
+none_within : (ys : List Res) → Within [] ys
+none_within ys r h = absurd (contains_none r h)
+
+behind : (xs ys zs : List Res) → Within ys zs → Within ys (xs ++ zs)
+behind xs ys zs h r k = Contains-append_right xs zs r (h r k)
+
+both : (ws xs ys zs : List Res) → Within ws ys → Within xs zs → Within (ws ++ xs) (ys ++ zs)
+both ws xs ys zs h k r e =
+    ⊎_elim (λ l. Contains-append_left ys zs r (h r l)) (λ t. Contains-append_right ys zs r (k r t)) (Contains-append_cases ws xs r e)
+
+at_rate : (r : Rate) (xs ys : List Res) → Within xs ys → Within (if_init r [] xs) (if_init r [] ys)
+at_rate rate.Init xs ys h = λ g k. k
+at_rate rate.Control xs ys h = h
+at_rate rate.Audio xs ys h = h
+
+of_unit : (stock : Stock) (opcode : Opcode) (reach : Reach) → Within (unit_writes stock opcode reach) (unit_uses stock opcode reach)
+of_unit stock opcode reach = by (is_store (row_of opcode).shape) (unit_uses stock opcode reach)
+  where
+    by : (b : Bool) (us : List Res) → Within (if b then us else []) us
+    by true us = λ g k. k
+    by false us = none_within us
+
+mutual
+  of_stmt : (stock : Stock) (s : Stmt) → Within (stmt_writes stock s) (stmt_uses stock s)
+  of_stmt stock (set r v e) = at_rate r (var_uses v) (expr_uses e ++ var_uses v) (behind (expr_uses e) (var_uses v) (var_uses v) (λ g k. k))
+  of_stmt stock (unit r vs opcode reach xs is) =
+      at_rate r (unit_writes stock opcode reach ++ vars_use vs) (exprs_use xs ++ (unit_uses stock opcode reach ++ vars_use vs))
+      (behind (exprs_use xs) (unit_writes stock opcode reach ++ vars_use vs) (unit_uses stock opcode reach ++ vars_use vs)
+      (both (unit_writes stock opcode reach) (vars_use vs) (unit_uses stock opcode reach) (vars_use vs) (of_unit stock opcode reach) (λ g k. k)))
+  of_stmt stock (out r es) = none_within (exprs_use es)
+  of_stmt stock (out_at r es) = none_within (exprs_use es)
+  of_stmt stock (ask es) = none_within []
+  of_stmt stock (turnoff r) = none_within []
+  of_stmt stock nothing = none_within []
+  of_stmt stock (choose r arms) = of_arms stock arms
+
+  pub written_is_used : (stock : Stock) (b : Block) → Within (block_writes stock b) (block_uses stock b)
+  written_is_used stock no_stmt = none_within []
+  written_is_used stock (andthen s b) =
+      both (stmt_writes stock s) (block_writes stock b) (stmt_uses stock s) (block_uses stock b) (of_stmt stock s) (written_is_used stock b)
+
+  of_arms : (stock : Stock) (arms : Arms) → Within (arms_write stock arms) (arms_use stock arms)
+  of_arms stock (otherwise b) = written_is_used stock b
+  of_arms stock (arm c b rest) =
+      behind (expr_uses c) (block_writes stock b ++ arms_write stock rest) (block_uses stock b ++ arms_use stock rest)
+      (both (block_writes stock b) (arms_write stock rest) (block_uses stock b) (arms_use stock rest) (written_is_used stock b) (of_arms stock rest))

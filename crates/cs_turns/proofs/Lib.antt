@@ -1,0 +1,4 @@
+pub mod Clashes
+pub mod Contained
+pub mod Levels
+pub mod Stocks

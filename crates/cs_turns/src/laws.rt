@@ -1,0 +1,41 @@
+// What holds of turns: calls that do nothing, whose contracts are the laws.
+ghost use Rattle.std.specs.Prelude.{◌≡◌, ◌∷◌, [], ℕ, List, length};
+ghost use Rattle.std.specs.List.{AllZip};
+ghost use Rattle.cs_cells.specs.declared.footprint.Area.{Area};
+ghost use Rattle.cs_cells.specs.declared.footprint.Footprint.{Footprint};
+ghost use Rattle.cs_course.specs.Moments.{Active, Composition};
+ghost use Rattle.cs_graph.specs.Graph.{IsLevelled};
+ghost use Rattle.cs_layout.specs.Layouts.{areas_of};
+ghost use Rattle.cs_rwset.specs.Footprints.{stock_of};
+ghost use Rattle.cs_turns.specs.Examples.{giving_and_taking, turns_of_places};
+ghost use Rattle.cs_turns.specs.Turns.{IsFootOf, line_of, live_tables, notes_in, stock_in, turns_in};
+ghost use Rattle.cs_typed.specs.TypedTree.{SharedNames};
+
+use cs_layout::layouts_are_complete;
+
+/// The levels of notes by their footprints are their turns, in areas with the stock of the piece: whatever way the levels were
+/// found.
+pub fn turns_are_levels()
+    ensures { (c : Composition) (areas : List Area) (notes : List Active) (feet : List Footprint) (levels : List ℕ)
+        → stock_of areas ≡ stock_in c → AllZip (λ (a : Active) (f : Footprint). IsFootOf areas a.body f) notes feet
+        → length levels ≡ length feet → IsLevelled feet levels → levels ≡ turns_in c notes }
+{}
+
+/// The areas of a piece have its stock.
+pub fn layouts_have_the_stock()
+    ensures { (c : Composition) (ksmps : ℕ) (names : SharedNames)
+        → stock_of (areas_of ksmps names c.spaces (live_tables c.tables)) ≡ stock_in c }
+{
+    layouts_are_complete();
+}
+
+/// Turns worked out from the definitions.
+pub fn turns_worked_by_hand()
+    // The second note takes what the first gives; the third has another variable.
+    ensures first { turns_in giving_and_taking (notes_in giving_and_taking 0) ≡ 0 ∷ 1 ∷ 0 ∷ [] }
+    ensures second { turns_in giving_and_taking (notes_in giving_and_taking 1) ≡ 0 ∷ 1 ∷ 0 ∷ [] }
+    // Only the first 1,000 cycles have lines.
+    ensures no_line { line_of 1000 (0 ∷ []) ≡ [] }
+    // Two zak places are apart; a place that is computed may be either.
+    ensures places { turns_of_places ≡ 0 ∷ 0 ∷ 1 ∷ 1 ∷ [] }
+{}
