@@ -1,0 +1,23 @@
+use Rattle.std.proofs.Common.{ap, sym, ◌∙◌}
+use Rattle.cs_reading.specs.Orders.{piece_in}
+use Rattle.cs_reading.specs.Reading.{one_file, two_files, demo}
+use Rattle.cs_source.proofs.Loads.{left_as, notes_left, notes_read, read_as, was_read_as}
+use Rattle.cs_source.proofs.source.read_source.Goals as goal
+
+pub returns-in-TwoFiles-clause-shelf : goal.returns-in-TwoFiles-clause-shelf
+returns-in-TwoFiles-clause-shelf g c =
+    was_read_as _ _ (two_files c.in-TwoFiles.orchestra.now c.in-TwoFiles.score.now) _ (ap piece_in c.in-TwoFiles.is) c.read_files.ensures.shelf
+
+pub returns-in-OneFile-clause-shelf : goal.returns-in-OneFile-clause-shelf
+returns-in-OneFile-clause-shelf g c = was_read_as _ _ (one_file c.in-OneFile.csd.now) _ (ap piece_in c.in-OneFile.is) c.read_file.ensures.shelf
+
+pub returns-in-Ok-clause-read : goal.returns-in-Ok-clause-read
+returns-in-Ok-clause-read g c =
+    read_as _ (demo c.number.result) _ c.in-Ok.text (ap piece_in c.in-Demo.is ∙ ap demo (sym c.number.ensures.value))
+    (notes_read _ c.number.result c.in-Ok.text c.in-Ok.ensures)
+
+pub returns-in-Ok-clause-rest : goal.returns-in-Ok-clause-rest
+returns-in-Ok-clause-rest g c =
+    left_as (g.F.Shelf.tells c.args.shelf.now) (g.F.Shelf.tells c.args.shelf.now) (demo c.number.result) _
+    (ap piece_in c.in-Demo.is ∙ ap demo (sym c.number.ensures.value))
+    (notes_left (g.F.Shelf.tells c.args.shelf.now).files (g.F.Shelf.tells c.args.shelf.now).left c.number.result)

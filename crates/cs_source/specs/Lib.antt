@@ -1,0 +1,4 @@
+pub mod Loaded
+pub mod Meaning
+pub mod Texts
+pub mod inner

@@ -1,0 +1,81 @@
+-- What a shelf tells of a source that was read.
+use Rattle.std.specs.Prelude.{ℕ, ◌≡◌, ◌≤◌, ◌+◌, ◌⊎◌, Bool, true, false, List, [], ◌++◌, drop, if◌then◌else◌, Option, Some, None, Result, ⊤}
+use Rattle.cs_base.specs.Limits.{most_csd_bytes, most_orchestra_bytes, most_score_bytes}
+use Rattle.cs_course.specs.Moments.{Composition}
+use Rattle.cs_edge.specs.Files.{ShelfTold, file_named}
+use Rattle.cs_edge.specs.Moves.{Grown, IsFrontOf, IsRun}
+use Rattle.cs_edge.specs.Told.{Follows, Rose}
+use Rattle.cs_edge.specs.declared.files.NamedBytes.{NamedBytes}
+use Rattle.cs_edge.specs.declared.moves.Move.{Move}
+use Rattle.cs_edge.specs.declared.moves.Move.TheVariants.{Read}
+use Rattle.cs_reading.specs.Reading.{Piece, two_files, one_file, demo}
+use Rattle.cs_source.specs.Meaning.{Mean}
+use Rattle.cs_source.specs.Texts.{Texts, both, csd, demo_notes, Fit, Have, HaveWhereTold, IsNameOf, LackWhereTold, is_too_long}
+use Rattle.cs_source.specs.declared.refused.Refused.{Refused}
+
+-- Texts of a source mean this, and where the shelf tells its files it has them.
+pub record SourceMeans (before : ShelfTold) (wide : Bool) (piece : Piece) (r : Result Composition Refused) : Type 0 where
+  pub texts : Texts
+  pub fit : Fit piece texts
+  pub have : HaveWhereTold before.files piece texts
+  pub mean : Mean wide texts r
+
+-- a text that is there, and is an orchestra that is too long
+abbrev pub is_there_too_long : Option (List ℕ) → Bool
+is_there_too_long None = false
+is_there_too_long (Some orchestra) = is_too_long orchestra
+
+-- the files are told, and have an orchestra of this name that is too long
+abbrev pub is_told_too_long : Option (List NamedBytes) → List ℕ → Bool
+is_told_too_long None orc = false
+is_told_too_long (Some files) orc = is_there_too_long (file_named orc files)
+
+-- the moves of a score read whole, which isn't begun where the orchestra is told to be too long
+abbrev pub IsScoreRun : Bool → List ℕ → List Move → Type 0
+IsScoreRun true sco moves = moves ≡ []
+IsScoreRun false sco moves = IsRun sco Read moves
+
+-- the moves of a shelf whose source is read whole: a begin and reads for each name that is begun, none for the demo
+abbrev pub AreReadings : Option (List NamedBytes) → Piece → List Move → Type 0
+AreReadings files (two_files orc sco) moves =
+    (first second : List Move) × IsRun orc Read first × IsScoreRun (is_told_too_long files orc) sco second
+    × (moves ≡ first ++ second)
+AreReadings files (one_file name) moves = IsRun name Read moves
+AreReadings files (demo n) moves = moves ≡ []
+
+-- the demo leaves a shelf as it was
+abbrev pub AsItWasForDemo : ShelfTold → ShelfTold → Piece → Type 0
+AsItWasForDemo before now (demo n) = now ≡ before
+AsItWasForDemo before now _ = ⊤
+
+-- A source was read, all of it or the front.
+pub record WasRead (before now : ShelfTold) (piece : Piece) : Type 0 where
+  pub later : before.faults ≤ now.faults
+  pub moves : Follows before.moves now.moves (Grown (IsFrontOf (AreReadings before.files piece)))
+  pub untouched : AsItWasForDemo before now piece
+
+-- what is left of the text begun last, of which one byte more was read than it may have at most; the demo begins none
+abbrev pub left_of : Option (List ℕ) → Texts → Option (List ℕ)
+left_of before (both orchestra score) =
+    if is_too_long orchestra then Some (drop (most_orchestra_bytes + 1) orchestra) else Some (drop (most_score_bytes + 1) score)
+left_of before (csd text) = Some (drop (most_csd_bytes + 1) text)
+left_of before (demo_notes n) = before
+
+abbrev pub IsLeftWhereTold : Option (List NamedBytes) → Piece → Option (List ℕ) → Option (List ℕ) → Type 0
+IsLeftWhereTold None piece before now = ⊤
+IsLeftWhereTold (Some files) piece before now = (texts : Texts) × Have files piece texts × (now ≡ left_of before texts)
+
+-- No more of the texts was read, where the files are told.
+abbrev pub LeavesUnread : ShelfTold → ShelfTold → Piece → Type 0
+LeavesUnread before now piece = IsLeftWhereTold before.files piece before.left now.left
+
+-- the last begin is of this name, where the moves are told: after it come reads alone
+abbrev pub IsLastBegun : Option (List Move) → List ℕ → Type 0
+IsLastBegun None name = ⊤
+IsLastBegun (Some moves) name = (earlier last : List Move) × IsRun name Read last × (moves ≡ earlier ++ last)
+
+-- A name of the source can't be read, the one begun last: the shelf failed, or is told to lack this name.
+pub record CannotRead (before now : ShelfTold) (piece : Piece) (name : List ℕ) : Type 0 where
+  pub one : IsNameOf piece name
+  pub last : IsLastBegun now.moves name
+  pub cause : Rose before.faults now.faults ⊎ LackWhereTold before.files piece name

@@ -1,0 +1,39 @@
+-- What was read of a source, and what it means.
+use Rattle.std.specs.Prelude.{◌≡◌, ◌+◌, Bool, List, length, nat_lt, take, Option, Result, ⊤}
+use Rattle.cs_base.specs.Limits.{most_csd_bytes, most_orchestra_bytes, most_score_bytes}
+use Rattle.cs_base.specs.declared.fault.Or.{Or}
+use Rattle.cs_base.specs.declared.fault.Or.TheVariants as or
+use Rattle.cs_course.specs.Moments.{Composition}
+use Rattle.cs_demo.specs.Texts as demo_texts
+use Rattle.cs_edge.specs.declared.files.NamedBytes.{NamedBytes}
+use Rattle.cs_reading.specs.Reading.{Piece}
+use Rattle.cs_source.specs.Meaning.{FileMeans, MeanAt}
+use Rattle.cs_source.specs.Texts.{Texts, both, csd, demo_notes, Fit, HaveWhereTold}
+use Rattle.cs_source.specs.declared.refused.Refused.{Refused}
+use Rattle.cs_source.specs.declared.source.SourceText.{SourceText}
+use Rattle.cs_source.specs.declared.source.SourceText.TheVariants as read
+
+-- a fault of which P holds, or want of memory
+abbrev pub IfFault : {F : Type 0} → Or F → (F → Type 0) → Type 0
+IfFault (or.Fault f) P = P f
+IfFault or.OutOfMemory P = ⊤
+
+-- what was read is one byte more of each text than it may have at most, or all of it
+abbrev pub IsReadOf : Texts → SourceText → Type 0
+IsReadOf (both orchestra score) (read.Pair x y) =
+    (x.items ≡ take (most_orchestra_bytes + 1) orchestra) × (y.items ≡ take (most_score_bytes + 1) score)
+IsReadOf (csd text) (read.Csd x) = x.items ≡ take (most_csd_bytes + 1) text
+IsReadOf (demo_notes n) (read.Pair x y) = (x.items ≡ demo_texts.orchestra) × (y.items ≡ demo_texts.score n)
+IsReadOf _ _ = ⊥
+
+-- Texts of a source, those that the files have where they are told, were read.
+pub record AreRead (files : Option (List NamedBytes)) (piece : Piece) (text : SourceText) : Type 0 where
+  pub texts : Texts
+  pub fit : Fit piece texts
+  pub have : HaveWhereTold files piece texts
+  pub read_of : IsReadOf texts text
+
+-- what was read means this
+abbrev pub MeansAsRead : Bool → SourceText → Result Composition Refused → Type 0
+MeansAsRead wide (read.Pair x y) r = MeanAt wide 1 1 x.items y.items r
+MeansAsRead wide (read.Csd x) r = FileMeans (nat_lt most_csd_bytes (length x.items)) wide x.items r

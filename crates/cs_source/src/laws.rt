@@ -1,0 +1,30 @@
+// What holds of the texts of every source: calls that do nothing, whose contracts are the laws.
+ghost use Rattle.std.specs.Prelude.{◌≡◌, ◌⊎◌, ℕ, Bool, List, Result};
+ghost use Rattle.cs_course.specs.Moments.{Composition};
+ghost use Rattle.cs_edge.specs.declared.files.NamedBytes.{NamedBytes};
+ghost use Rattle.cs_reading.specs.Reading.{Piece};
+ghost use Rattle.cs_source.specs.Meaning.{Mean};
+ghost use Rattle.cs_source.specs.Texts.{Have, Lack, Texts};
+ghost use Rattle.cs_source.specs.declared.refused.Refused.{Refused};
+
+use cs_compile::texts_have_one_meaning;
+use cs_csd::one_reading;
+
+/// The texts of a source mean one thing.
+pub fn texts_of_a_source_mean_one()
+    ensures { (wide : Bool) (t : Texts) (r s : Result Composition Refused) → Mean wide t r → Mean wide t s → r ≡ s }
+{
+    texts_have_one_meaning();
+    one_reading();
+}
+
+/// Files have no two pairs of texts for a source.
+pub fn files_have_one_pair_of_texts()
+    ensures { (files : List NamedBytes) (piece : Piece) (t u : Texts) → Have files piece t → Have files piece u → t ≡ u }
+{}
+
+/// Files have texts for a source, or lack a name that is begun, and never both.
+pub fn told_files_have_texts_or_lack_a_name()
+    ensures some { (files : List NamedBytes) (piece : Piece) → ((t : Texts) × Have files piece t) ⊎ ((name : List ℕ) × Lack files piece name) }
+    ensures none { (files : List NamedBytes) (piece : Piece) (t : Texts) (name : List ℕ) → Lack files piece name → Have files piece t → ⊥ }
+{}

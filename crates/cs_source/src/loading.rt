@@ -1,0 +1,60 @@
+// The piece of a source, read and compiled.
+ghost use Rattle.std.specs.Prelude.{◌≡◌, ◌≤◌, ◌*◌, Err, IfOk, Ok, OnOk};
+ghost use Rattle.cs_base.specs.Limits.{most_wav_bytes};
+ghost use Rattle.cs_reading.specs.Orders.{piece_in};
+ghost use Rattle.cs_setup.specs.Setups.{composition_of};
+ghost use Rattle.cs_source.specs.Loaded.{CannotRead, LeavesUnread, SourceMeans, WasRead};
+ghost use Rattle.cs_source.specs.declared.loading.Stop.TheVariants as stop;
+ghost use Rattle.cs_source.specs.declared.refused.Refused.{Refused};
+ghost use Rattle.cs_wav.specs.Wav.{bytes_of, size_of};
+
+use crate::meaning::compile_source;
+use crate::refused::Refused;
+use crate::source::read_source;
+use cs_base::Or;
+use cs_edge::Shelf;
+use cs_reading::Source;
+use cs_setup::Setup;
+use std::alloc::Global;
+
+/// Why there is no piece.
+#[derive(Clone, Copy)]
+pub enum Stop<'a> {
+    /// The text of this name can't be read: the shelf failed, or lacks it.
+    Unread(&'a str),
+    /// The texts are refused.
+    Refused(Refused),
+    OutOfMemory,
+}
+
+/// What the piece of a source needs to be performed, in samples of two bytes or, where `wide`, of three; or the first refusal of its
+/// texts, or the name that can't be read. Texts are read before any is refused, but the score isn't begun behind an orchestra of
+/// more than 1,048,576 bytes. The demo leaves the shelf as it was.
+pub fn load<'a, F: Shelf>(
+    alloc: Global,
+    shelf: &mut F,
+    source: &Source<'a>,
+    wide: bool,
+) -> Result<Setup, Stop<'a>>
+    ensures piece { IfOk result (λ s. SourceMeans (F.tells shelf.old) wide (piece_in source.now) (Ok (composition_of s))) }
+    // The samples of the piece fit a sound file.
+    ensures within { IfOk result (λ s. size_of (bytes_of wide) (s.plot.cycles * s.orchestra.head.ksmps) s.orchestra.head ≤ most_wav_bytes) }
+    ensures refused { (r : Refused) → result ≡ Err (stop.Refused r) → SourceMeans (F.tells shelf.old) wide (piece_in source.now) (Err r) }
+    ensures unread { (name : _) → result ≡ Err (stop.Unread name) → CannotRead (F.tells shelf.old) (F.tells shelf.new) (piece_in source.now) name.now }
+    // Want of memory alone has no clause.
+    ensures rest { OnOk result (LeavesUnread (F.tells shelf.old) (F.tells shelf.new) (piece_in source.now)) }
+    ensures rest_refused { (r : Refused) → result ≡ Err (stop.Refused r) → LeavesUnread (F.tells shelf.old) (F.tells shelf.new) (piece_in source.now) }
+    ensures shelf { WasRead (F.tells shelf.old) (F.tells shelf.new) (piece_in source.now) }
+    ensures files { (F.tells shelf.new).files ≡ (F.tells shelf.old).files }
+{
+    let texts = match read_source(alloc, shelf, source) {
+        Ok(texts) => texts,
+        Err(Or::Fault(name)) => return Err(Stop::Unread(name)),
+        Err(Or::OutOfMemory) => return Err(Stop::OutOfMemory),
+    };
+    match compile_source(alloc, &texts, wide) {
+        Ok(setup) => Ok(setup),
+        Err(Or::Fault(refused)) => Err(Stop::Refused(refused)),
+        Err(Or::OutOfMemory) => Err(Stop::OutOfMemory),
+    }
+}

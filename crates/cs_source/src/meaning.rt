@@ -1,0 +1,84 @@
+// What the texts of a source are compiled to.
+ghost use Rattle.std.specs.Prelude.{◌≡◌, ◌≤◌, ◌*◌, Err, IfOk, Ok, length, nat_lt};
+ghost use Rattle.cs_base.specs.Limits.{most_csd_bytes, most_wav_bytes};
+ghost use Rattle.cs_base.specs.declared.fault.Or.TheVariants as or;
+ghost use Rattle.cs_setup.specs.Setups.{composition_of};
+ghost use Rattle.cs_source.specs.Meaning.{FileMeans, MeanAt, PartsMean};
+ghost use Rattle.cs_source.specs.declared.refused.Refused.{Refused};
+ghost use Rattle.cs_source.specs.inner.Read.{MeansAsRead};
+ghost use Rattle.cs_wav.specs.Wav.{bytes_of, size_of};
+
+use crate::csd::{FirstLines, part_of, told_in};
+use crate::refused::Refused;
+use crate::source::SourceText;
+use cs_base::{Limit, LimitHit, MOST_CSD_BYTES, Or};
+use cs_compile::compile;
+use cs_csd::{Parts, split_csd};
+use cs_setup::Setup;
+use std::alloc::Global;
+
+/// What the piece of the texts needs to be performed, in samples of two bytes or, where `wide`, of three; or their first refusal.
+pub fn compile_source(alloc: Global, source: &SourceText, wide: bool) -> Result<Setup, Or<Refused>>
+    ensures piece { IfOk result (λ s. MeansAsRead wide source.now (Ok (composition_of s))) }
+    ensures within { IfOk result (λ s. size_of (bytes_of wide) (s.plot.cycles * s.orchestra.head.ksmps) s.orchestra.head ≤ most_wav_bytes) }
+    ensures refused { (r : Refused) → result ≡ Err (or.Fault r) → MeansAsRead wide source.now (Err r) }
+{
+    match source {
+        SourceText::Pair { orchestra, score } => {
+            compile_at(alloc, orchestra, score, FirstLines { orc: 1, sco: 1 }, wide)
+        }
+        SourceText::Csd { text } => compile_file(alloc, text, wide),
+    }
+}
+
+// The same of one file with both texts.
+fn compile_file(alloc: Global, text: &[u8], wide: bool) -> Result<Setup, Or<Refused>>
+    ensures piece { IfOk result (λ s. FileMeans (nat_lt most_csd_bytes (length text.now)) wide text.now (Ok (composition_of s))) }
+    ensures within { IfOk result (λ s. size_of (bytes_of wide) (s.plot.cycles * s.orchestra.head.ksmps) s.orchestra.head ≤ most_wav_bytes) }
+    ensures refused { (r : Refused) → result ≡ Err (or.Fault r) → FileMeans (nat_lt most_csd_bytes (length text.now)) wide text.now (Err r) }
+{
+    if text.len() > MOST_CSD_BYTES {
+        return Err(Or::Fault(Refused::Limit(LimitHit {
+            limit: Limit::CsdBytes,
+            line: 0,
+        })));
+    }
+    match split_csd(text) {
+        Ok(parts) => compile_parts(alloc, text, parts, wide),
+        Err(fault) => Err(Or::Fault(Refused::Csd(fault))),
+    }
+}
+
+// The same of a file whose tags were read.
+fn compile_parts(alloc: Global, text: &[u8], parts: Parts, wide: bool) -> Result<Setup, Or<Refused>>
+    ensures piece { IfOk result (λ s. PartsMean wide text.now (Ok parts) (Ok (composition_of s))) }
+    ensures within { IfOk result (λ s. size_of (bytes_of wide) (s.plot.cycles * s.orchestra.head.ksmps) s.orchestra.head ≤ most_wav_bytes) }
+    ensures refused { (r : Refused) → result ≡ Err (or.Fault r) → PartsMean wide text.now (Ok parts) (Err r) }
+{
+    let first = FirstLines {
+        orc: parts.orc.line,
+        sco: parts.sco.line,
+    };
+    let orchestra = part_of(text, parts.orc);
+    let score = part_of(text, parts.sco);
+    compile_at(alloc, orchestra, score, first, wide)
+}
+
+// The same of two texts that begin at these lines of a file.
+fn compile_at(
+    alloc: Global,
+    orchestra: &[u8],
+    score: &[u8],
+    first: FirstLines,
+    wide: bool,
+) -> Result<Setup, Or<Refused>>
+    ensures piece { IfOk result (λ s. MeanAt wide first.orc first.sco orchestra.now score.now (Ok (composition_of s))) }
+    ensures within { IfOk result (λ s. size_of (bytes_of wide) (s.plot.cycles * s.orchestra.head.ksmps) s.orchestra.head ≤ most_wav_bytes) }
+    ensures refused { (r : Refused) → result ≡ Err (or.Fault r) → MeanAt wide first.orc first.sco orchestra.now score.now (Err r) }
+{
+    match compile(alloc, orchestra, score, wide) {
+        Ok(setup) => Ok(setup),
+        Err(Or::Fault(refusal)) => Err(Or::Fault(told_in(first, refusal))),
+        Err(Or::OutOfMemory) => Err(Or::OutOfMemory),
+    }
+}

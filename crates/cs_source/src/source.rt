@@ -1,0 +1,102 @@
+// The texts of a source, as far as they are read.
+ghost use Rattle.std.specs.Prelude.{◌≡◌, IfErr, IfOk, OnOk};
+ghost use Rattle.cs_reading.specs.Orders.{piece_in};
+ghost use Rattle.cs_reading.specs.Reading.{one_file, two_files};
+ghost use Rattle.cs_source.specs.Loaded.{CannotRead, LeavesUnread, WasRead};
+ghost use Rattle.cs_source.specs.Texts.{demo_notes};
+ghost use Rattle.cs_source.specs.inner.Read.{AreRead, IfFault, IsReadOf};
+
+use crate::read::{ReadFault, read_text};
+use cs_base::{MOST_CSD_BYTES, MOST_ORCHESTRA_BYTES, MOST_SCORE_BYTES, Or};
+use cs_demo::{demo_orchestra, demo_score};
+use cs_edge::Shelf;
+use cs_reading::Source;
+use std::alloc::{AllocError, Global};
+
+/// The texts of a source, of each one byte more than it may have at most.
+#[derive(Drop)]
+pub enum SourceText {
+    /// An orchestra and a score; the score is empty behind an orchestra that is too long.
+    Pair { orchestra: Vec<u8>, score: Vec<u8> },
+    /// One file with both.
+    Csd { text: Vec<u8> },
+}
+
+/// Reads what the words ask for, or answers the name that can't be read.
+pub fn read_source<'a, F: Shelf>(
+    alloc: Global,
+    shelf: &mut F,
+    source: &Source<'a>,
+) -> Result<SourceText, Or<&'a str>>
+    ensures read { IfOk result (λ text. AreRead (F.tells shelf.old).files (piece_in source.now) text) }
+    ensures rest { OnOk result (LeavesUnread (F.tells shelf.old) (F.tells shelf.new) (piece_in source.now)) }
+    ensures unread { IfErr result (λ e. IfFault e (λ name. CannotRead (F.tells shelf.old) (F.tells shelf.new) (piece_in source.now) name.now)) }
+    ensures shelf { WasRead (F.tells shelf.old) (F.tells shelf.new) (piece_in source.now) }
+    ensures files { (F.tells shelf.new).files ≡ (F.tells shelf.old).files }
+{
+    match *source {
+        Source::TwoFiles { orchestra, score } => read_files(alloc, shelf, orchestra, score),
+        Source::OneFile { csd } => read_file(alloc, shelf, csd),
+        Source::Demo { notes } => match demo_texts(alloc, notes.number()) {
+            Ok(text) => Ok(text),
+            Err(_) => Err(Or::OutOfMemory),
+        },
+    }
+}
+
+// Reads an orchestra and a score. Where the orchestra is too long, the score isn't begun.
+fn read_files<'a, F: Shelf>(
+    alloc: Global,
+    shelf: &mut F,
+    orc: &'a str,
+    sco: &'a str,
+) -> Result<SourceText, Or<&'a str>>
+    ensures read { IfOk result (λ text. AreRead (F.tells shelf.old).files (two_files orc.now sco.now) text) }
+    ensures rest { OnOk result (LeavesUnread (F.tells shelf.old) (F.tells shelf.new) (two_files orc.now sco.now)) }
+    ensures unread { IfErr result (λ e. IfFault e (λ name. CannotRead (F.tells shelf.old) (F.tells shelf.new) (two_files orc.now sco.now) name.now)) }
+    ensures shelf { WasRead (F.tells shelf.old) (F.tells shelf.new) (two_files orc.now sco.now) }
+    ensures files { (F.tells shelf.new).files ≡ (F.tells shelf.old).files }
+{
+    let orchestra = match read_text(alloc, shelf, orc, MOST_ORCHESTRA_BYTES + 1) {
+        Ok(text) => text,
+        Err(ReadFault::Shelf) => return Err(Or::Fault(orc)),
+        Err(ReadFault::OutOfMemory) => return Err(Or::OutOfMemory),
+    };
+    if orchestra.len() > MOST_ORCHESTRA_BYTES {
+        let score = Vec::new(alloc);
+        return Ok(SourceText::Pair { orchestra, score });
+    }
+    match read_text(alloc, shelf, sco, MOST_SCORE_BYTES + 1) {
+        Ok(score) => Ok(SourceText::Pair { orchestra, score }),
+        Err(ReadFault::Shelf) => Err(Or::Fault(sco)),
+        Err(ReadFault::OutOfMemory) => Err(Or::OutOfMemory),
+    }
+}
+
+// Reads one file with both.
+fn read_file<'a, F: Shelf>(
+    alloc: Global,
+    shelf: &mut F,
+    csd: &'a str,
+) -> Result<SourceText, Or<&'a str>>
+    ensures read { IfOk result (λ text. AreRead (F.tells shelf.old).files (one_file csd.now) text) }
+    ensures rest { OnOk result (LeavesUnread (F.tells shelf.old) (F.tells shelf.new) (one_file csd.now)) }
+    ensures unread { IfErr result (λ e. IfFault e (λ name. CannotRead (F.tells shelf.old) (F.tells shelf.new) (one_file csd.now) name.now)) }
+    ensures shelf { WasRead (F.tells shelf.old) (F.tells shelf.new) (one_file csd.now) }
+    ensures files { (F.tells shelf.new).files ≡ (F.tells shelf.old).files }
+{
+    match read_text(alloc, shelf, csd, MOST_CSD_BYTES + 1) {
+        Ok(text) => Ok(SourceText::Csd { text }),
+        Err(ReadFault::Shelf) => Err(Or::Fault(csd)),
+        Err(ReadFault::OutOfMemory) => Err(Or::OutOfMemory),
+    }
+}
+
+// The texts of the demo.
+fn demo_texts(alloc: Global, notes: u32) -> Result<SourceText, AllocError>
+    ensures { IfOk result (λ text. IsReadOf (demo_notes notes) text) }
+{
+    let orchestra = demo_orchestra(alloc)?;
+    let score = demo_score(alloc, notes)?;
+    Ok(SourceText::Pair { orchestra, score })
+}
