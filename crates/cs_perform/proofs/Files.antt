@@ -1,0 +1,111 @@
+-- The bytes that a sink has taken, where it is written: piece behind piece, up to the whole file.
+use Rattle.std.proofs.Common.{◌≡◌, ◌≤◌, ◌<◌, ℕ, zero, suc, ◌+◌, ◌*◌, ◌-◌, ◌%◌, ◌^◌, ◌==◌, ◌&&◌, ℤ, Bool, true, false, List, [], ◌∷◌, ◌++◌, length, replicate, refl, ap, sym, ◌∙◌, subst, inl, inr, arith, append_assoc, append-nil, if◌then◌else◌, ⊎_elim, ◌⊎◌, Err}
+use Rattle.std.specs.Result.{IsErrOf}
+use Rattle.std.proofs.lemmas.List.{replicate-append-replicate}
+use Rattle.cs_base.specs.declared.head.Head.{Head}
+use Rattle.cs_edge.specs.declared.moves.Move.{Move}
+use Rattle.cs_edge.specs.declared.moves.Move.TheVariants.{Write}
+use Rattle.cs_edge.specs.Told.{IsFront, Rose}
+use Rattle.cs_edge.specs.Moves.{SinkTold, Held, AreAll, Grown, TakenMore, WroteMore, Wrote, Stopped, Finished}
+use Rattle.cs_edge.proofs.Chains.{follows_on, grown_on, front_more}
+use Rattle.cs_edge.proofs.Stories.{more_none, wrote_on, stopped_writes, stopped_untouched}
+use Rattle.cs_perform.specs.Hearing.{IfWritten}
+use Rattle.cs_perform.specs.inner.Ends.{Finishes, Stops, padding}
+
+-- bytes more, and more again
+with_more : List ℕ → Held → Held
+with_more bytes held = record { name = held.name; bytes = held.bytes ++ bytes }
+
+more_twice : (xs ys : List ℕ) (a b c : Held) → TakenMore xs a b → TakenMore ys b c → TakenMore (xs ++ ys) a c
+more_twice xs ys a b c p q =
+    q ∙ (ap (λ (held : Held). let h : Held = record { name = held.name; bytes = held.bytes ++ ys } in h) p
+    ∙ ap (λ (bytes : List ℕ). let held : Held = record { name = a.name; bytes = bytes } in held) (append_assoc a.bytes xs ys))
+
+all_both : (move : Move) (x y : List Move) → AreAll move x → AreAll move y → AreAll move (x ++ y)
+all_both move x y p q = (p.0 + q.0, rw (p.1, q.1) (replicate-append-replicate p.0 q.0 move))
+
+pub more_both : (a b c : SinkTold) (xs ys : List ℕ) → WroteMore a b xs → WroteMore b c ys → WroteMore a c (xs ++ ys)
+more_both a b c xs ys w m = record {
+  taken = follows_on (TakenMore xs) (TakenMore ys) (TakenMore (xs ++ ys)) (more_twice xs ys) a.held b.held c.held w.taken m.taken;
+  made = follows_on (Grown (AreAll Write)) (Grown (AreAll Write)) (Grown (AreAll Write))
+      (grown_on (AreAll Write) (AreAll Write) (AreAll Write) (all_both Write)) a.moves b.moves c.moves w.made m.made;
+  later = omega (arith, w.later, m.later);
+}
+
+-- FRONTS
+
+pub front_all : (l : List ℕ) → IsFront l l
+front_all l = ([], sym (append-nil l))
+
+pub front_of_front : (a b c : List ℕ) → IsFront a b → IsFront b c → IsFront a c
+front_of_front a b c f g =
+    (f.0 ++ g.0, g.1 ∙ ap (λ (l : List ℕ). l ++ g.0) f.1 ∙ append_assoc a f.0 g.0)
+
+pub front_behind : (before front bytes : List ℕ) → IsFront front bytes → IsFront (before ++ front) (before ++ bytes)
+front_behind before front bytes f =
+    (f.0, ap (λ (l : List ℕ). before ++ l) f.1 ∙ sym (append_assoc before front f.0))
+
+-- A SINK THAT IS WRITTEN, OR NOT
+
+module _ {W : Type 0} (tells : W → SinkTold) where
+  pub none_written : (w : Bool) (a : W) → IfWritten tells w a a (λ b n. WroteMore b n [])
+  none_written true a = more_none (tells a)
+  none_written false a = refl
+
+  pub more_written : (w : Bool) (a b c : W) (xs ys : List ℕ) → IfWritten tells w a b (λ x y. WroteMore x y xs)
+      → IfWritten tells w b c (λ x y. WroteMore x y ys) → IfWritten tells w a c (λ x y. WroteMore x y (xs ++ ys))
+  more_written true a b c xs ys p q = more_both (tells a) (tells b) (tells c) xs ys p q
+  more_written false a b c xs ys p q = q ∙ p
+
+  pub file_written : (w : Bool) (a b c : W) (name xs ys : List ℕ) → IfWritten tells w a b (λ x y. Wrote x y name xs)
+      → IfWritten tells w b c (λ x y. WroteMore x y ys) → IfWritten tells w a c (λ x y. Wrote x y name (xs ++ ys))
+  file_written true a b c name xs ys p q = wrote_on (tells a) (tells b) (tells c) name xs ys p q
+  file_written false a b c name xs ys p q = q ∙ p
+
+  pub file_stopped : (w : Bool) (a b : W) (name front whole : List ℕ) → IfWritten tells w a b (λ x y. Wrote x y name front)
+      → IsFront front whole → IfWritten tells w a b (λ x y. Stopped x y name whole)
+  file_stopped true a b name front whole p f = stopped_writes (tells a) (tells b) name front whole p f
+  file_stopped false a b name front whole p f = p
+
+  pub file_untouched : (w : Bool) (a : W) (name whole : List ℕ) → IfWritten tells w a a (λ x y. Stopped x y name whole)
+  file_untouched true a name whole = stopped_untouched (tells a) (tells a) name whole refl
+  file_untouched false a name whole = refl
+
+  pub file_finished : (w : Bool) (a b c : W) (name bytes last : List ℕ) → IfWritten tells w a b (λ x y. Wrote x y name bytes)
+      → IfWritten tells w b c (Finishes last) → IfWritten tells w a c (λ x y. Finished x y name (bytes ++ last))
+  file_finished true a b c name bytes last p q = q (tells a) name bytes p
+  file_finished false a b c name bytes last p q = q ∙ p
+
+  pub file_not_finished : (w : Bool) (a b c : W) (name bytes last : List ℕ) → IfWritten tells w a b (λ x y. Wrote x y name bytes)
+      → IfWritten tells w b c (Stops last) → IfWritten tells w a c (λ x y. Stopped x y name (bytes ++ last))
+  file_not_finished true a b c name bytes last p q = q (tells a) name bytes p
+  file_not_finished false a b c name bytes last p q = q ∙ p
+
+  pub file_paused : (w : Bool) (a b : W) (name bytes : List ℕ) (Q : Type 0) → IfWritten tells w a b (λ x y. Wrote x y name bytes)
+      → IfWritten tells w a b (λ x y. Q ⊎ Wrote x y name bytes)
+  file_paused true a b name bytes Q p = inr p
+  file_paused false a b name bytes Q p = p
+
+  pub file_unbegun : (w : Bool) (a : W) (name bytes : List ℕ) (Q : Type 0) → Q → IfWritten tells w a a (λ x y. Q ⊎ Wrote x y name bytes)
+  file_unbegun true a name bytes Q q = inl q
+  file_unbegun false a name bytes Q q = refl
+
+  -- the count of faults doesn't fall meanwhile
+  pub faults_after : (w : Bool) (a b : W) (bytes : List ℕ) → IfWritten tells w a b (λ x y. WroteMore x y bytes)
+      → (tells a).faults ≤ (tells b).faults
+  faults_after true a b bytes p = p.later
+  faults_after false a b bytes p =
+      let same : (tells b).faults ≡ (tells a).faults = ap (λ (x : W). (tells x).faults) p in omega (arith, same)
+
+  pub faults_begun : (w : Bool) (a b : W) (name bytes : List ℕ) → IfWritten tells w a b (λ x y. Wrote x y name bytes)
+      → (tells a).faults ≤ (tells b).faults
+  faults_begun true a b name bytes p = p.later
+  faults_begun false a b name bytes p =
+      let same : (tells b).faults ≡ (tells a).faults = ap (λ (x : W). (tells x).faults) p in omega (arith, same)
+
+pub rose_later : (a b c : ℕ) → a ≤ b → Rose b c → Rose a c
+rose_later a b c h r = ⊎_elim (λ x. inl (let lt : a < c = omega (arith, x) in lt)) (λ x. inr x) r
+
+-- the same error of another call
+pub error_as : {A B E : Type 0} (x y : E) → IsErrOf {T = A} (Err x) y → IsErrOf {T = B} (Err x) y
+error_as x y e = let same : x ≡ y = cc in ap (λ (z : _). Err z) same

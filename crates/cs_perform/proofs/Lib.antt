@@ -1,0 +1,10 @@
+pub mod Cycles
+pub mod Feet
+pub mod Files
+pub mod Frames
+pub mod Performing
+pub mod Pieces
+pub mod Standings
+pub mod Telling
+pub mod Turning
+pub mod Wholes

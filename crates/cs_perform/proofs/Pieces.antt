@@ -1,0 +1,43 @@
+-- A sink that is written piece by piece.
+use Rattle.std.proofs.Common.{◌≡◌, ◌≤◌, ℕ, List, [], ◌++◌, Result, Ok, Err, OnOk, OnErr, ap, sym, ◌∙◌, append_assoc}
+use Rattle.cs_edge.specs.declared.moves.Move.TheVariants.{End}
+use Rattle.cs_edge.specs.Told.{Follows, IsFront}
+use Rattle.cs_edge.specs.Moves.{SinkTold, GrownBy, WroteMore, Wrote, Stopped, Finished}
+use Rattle.cs_edge.proofs.Chains.{front_more}
+use Rattle.cs_edge.proofs.Stories.{wrote_on, stopped_writes, stopped_end, finished}
+use Rattle.cs_perform.specs.inner.Ends.{Finishes, Stops}
+
+-- what holds however a call ended
+pub however_ok : {T E P : Type 0} (r : Result T E) → P → OnOk r P
+however_ok (Ok x) p = p
+however_ok (Err e) p = tt
+
+pub however_err : {T E P : Type 0} (r : Result T E) → P → OnErr r P
+however_err (Ok x) p = tt
+however_err (Err e) p = p
+
+-- a front of some bytes stands in front of what they are in front of
+pub front_behind : (front bytes before : List ℕ) → IsFront front bytes → IsFront (before ++ front) (before ++ bytes)
+front_behind front bytes before f =
+    (f.0, ap (λ (l : List ℕ). before ++ l) f.1 ∙ sym (append_assoc before front f.0))
+
+-- the file's first bytes were written in part
+pub begun_in_part : (a b c : SinkTold) (name first : List ℕ) → Wrote a b name []
+    → (front : List ℕ) × IsFront front first × WroteMore b c front → (rest : List ℕ) → Stopped a c name (first ++ rest)
+begun_in_part a b c name first w s rest =
+    stopped_writes a c name s.0 (first ++ rest) (wrote_on a b c name [] s.0 w s.2) (front_more s.0 first rest s.1)
+
+-- and its last ones
+pub ended_in_part : (a b : SinkTold) (last : List ℕ) → (front : List ℕ) × IsFront front last × WroteMore a b front → Stops last a b
+ended_in_part a b last s start name bytes w =
+    stopped_writes start b name (bytes ++ s.0) (bytes ++ last) (wrote_on start a b name bytes s.0 w s.2) (front_behind s.0 last bytes s.1)
+
+pub ended : (a b c : SinkTold) (last : List ℕ) → WroteMore a b last → Follows b.held c.held (λ before now. now ≡ before)
+    → Follows b.moves c.moves (GrownBy End) → b.faults ≤ c.faults → Finishes last a c
+ended a b c last m held moves later start name bytes w =
+    finished start b c name (bytes ++ last) (wrote_on start a b name bytes last w m) held moves later
+
+pub end_failed : (a b c : SinkTold) (last : List ℕ) → WroteMore a b last → Follows b.held c.held (λ before now. now ≡ before)
+    → Follows b.moves c.moves (GrownBy End) → b.faults ≤ c.faults → Stops last a c
+end_failed a b c last m held moves later start name bytes w =
+    stopped_end start c name (bytes ++ last) (ended a b c last m held moves later start name bytes w)

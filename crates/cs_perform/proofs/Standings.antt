@@ -1,0 +1,104 @@
+-- What is kept of a performance, from step to step.
+use Rattle.std.proofs.Common.{◌≡◌, ◌≤◌, ◌<◌, ℕ, zero, suc, ℤ, pos, List, [], ◌∷◌, length, map, replicate, refl, ap, sym, ◌∙◌, subst, arith}
+use Rattle.std.specs.List.{All}
+use Rattle.std.proofs.lemmas.List.{length-map}
+use Rattle.std.proofs.lemmas.Slice.Zip.{AllZip-long}
+use Rattle.cs_cells.specs.Areas.{word_count}
+use Rattle.cs_cells.specs.Cells.{Cells, values}
+use Rattle.cs_cells.specs.Serial.{serial_cells, serial_jobs}
+use Rattle.cs_cells.specs.declared.footprint.Area.{Area}
+use Rattle.cs_cells.specs.declared.footprint.Footprint.{Footprint}
+use Rattle.cs_course.specs.Course.{begins}
+use Rattle.cs_course.specs.Moments.{Composition, Active, Moment}
+use Rattle.cs_graph.specs.Graph.{Dependencies, IsFit, IsLevelled}
+use Rattle.cs_life.specs.Standing.{Plays, Stands}
+use Rattle.cs_life.specs.declared.life.Life.{Life}
+use Rattle.cs_rule.specs.Plans.{IsFootprint}
+use Rattle.cs_setup.specs.Setups.{SetupData, composition_of}
+use Rattle.cs_voice.specs.VoiceData.{VoiceData}
+use Rattle.cs_voice.specs.VoiceMeaning.{voice_job}
+use Rattle.cs_perform.specs.declared.course.Course.{Course}
+use Rattle.cs_perform.specs.inner.Courses.{IsCourseOf}
+
+-- as many notes play as there are voices, and ends of notes
+pub count_active : (c : Composition) (life : Life) (voices : List VoiceData) (cells : Cells) (m : Moment)
+    → Stands c life voices cells m → length m.active ≡ length voices
+count_active c life voices cells m s = AllZip-long (Plays c life.stage life.made.items) voices m.active s.stand.play
+
+pub count_ends : (c : Composition) (life : Life) (voices : List VoiceData) (cells : Cells) (m : Moment)
+    → Stands c life voices cells m → length voices ≡ length life.ends.items
+count_ends c life voices cells m s =
+    sym (count_active c life voices cells m s) ∙ sym (length-map m.active (λ (a : Active). a.ends)) ∙ sym (ap length s.ends)
+
+-- as many cells as the layout has
+pub count_cells : (s : SetupData) (life : Life) (voices : List VoiceData) (cells : Cells) (m : Moment) → life.setup.now ≡ s
+    → Stands (composition_of s) life voices cells m → length cells ≡ word_count s.layout
+count_cells s life voices cells m is st =
+    st.stand.long ∙ ap word_count (st.layout ∙ ap (λ (t : SetupData). t.layout) is)
+
+-- a step that is told of the life's own setup
+pub of_setup : (s : SetupData) (life : Life) (voices : List VoiceData) (cells : Cells) (m : Moment) → life.setup.now ≡ s
+    → Stands (composition_of s) life voices cells m → Stands (composition_of life.setup.now) life voices cells m
+of_setup s life voices cells m is st =
+    let P : SetupData → Type 0 = λ t. Stands (composition_of t) life voices cells m in subst P (sym is) st
+
+pub begun_at : (s t : SetupData) (life next : Life) (voices voices' : List VoiceData) (cells cells' : Cells) (cycle : ℕ) (m : Moment)
+    → t ≡ s → ((m : Moment) → Stands (composition_of t) life voices cells m → Stands (composition_of t) next voices' cells' (begins (composition_of t) cycle m))
+    → Stands (composition_of s) life voices cells m → Stands (composition_of s) next voices' cells' (begins (composition_of s) cycle m)
+begun_at s t life next voices voices' cells cells' cycle m is step st =
+    let P : SetupData → Type 0 = λ u. Stands (composition_of u) life voices cells m in
+    let Q : SetupData → Type 0 = λ u. Stands (composition_of u) next voices' cells' (begins (composition_of u) cycle m) in
+    subst Q is (step m (subst P (sym is) st))
+
+-- what is so of voices in the areas of the stage is so of them in those of the desk
+pub areas_of_desk : (s : SetupData) (life : Life) (areas : List Area) (voices : List VoiceData) (cells : Cells) (m : Moment)
+    → life.setup.now ≡ s → areas ≡ s.layout → Stands (composition_of s) life voices cells m → life.stage.layout.now ≡ areas
+areas_of_desk s life areas voices cells m is e st = st.layout ∙ ap (λ (t : SetupData). t.layout) is ∙ sym e
+
+-- words of 0 are cells of 0
+pub zero_cells : (n : ℕ) → values (replicate n 0) ≡ replicate n (pos 0)
+zero_cells zero = refl
+zero_cells (suc n) = ap (λ (l : List ℤ). pos 0 ∷ l) (zero_cells n)
+
+-- a course is its own
+pub own_course : (feet : List Footprint) (course : Course) → IsCourseOf feet course → IsCourseOf course.feet.items course
+own_course feet course is =
+    let P : List Footprint → Type 0 = λ l. IsCourseOf l course in subst P (sym is.feet_are) is
+
+-- a course whose graph came back
+pub kept_course : (course next : Course) → next.graph.value ≡ course.graph.value → next.feet.items ≡ course.feet.items
+    → IsCourseOf course.feet.items course → IsCourseOf next.feet.items next
+kept_course course next same feet is =
+    let P : Dependencies → Type 0 = λ g. IsFit course.feet.items g.edges in
+    let Q : List Footprint → Type 0 = λ l. IsFit l next.graph.value.edges in
+    let L : Dependencies → Type 0 = λ g. IsLevelled course.feet.items g.levels in
+    let R : List Footprint → Type 0 = λ l. IsLevelled l next.graph.value.levels in
+    record {
+      feet_are = refl;
+      notes = ap (λ (g : Dependencies). length g.levels) same ∙ is.notes ∙ ap length (sym feet);
+      fit = subst Q (sym feet) (subst P (sym same) is.fit);
+      levelled = subst R (sym feet) (subst L (sym same) is.levelled);
+    }
+
+-- voices and cells that came back
+pub ran_at : (c : Composition) (life : Life) (voices voices' : List VoiceData) (cells cells' : Cells) (m : Moment)
+    → voices' ≡ serial_jobs voice_job voices cells → cells' ≡ serial_cells voice_job voices cells
+    → Stands c life (serial_jobs voice_job voices cells) (serial_cells voice_job voices cells) m → Stands c life voices' cells' m
+ran_at c life voices voices' cells cells' m jobs left st =
+    let P : List VoiceData → Type 0 = λ l. Stands c life l (serial_cells voice_job voices cells) m in
+    let Q : Cells → Type 0 = λ l. Stands c life voices' l m in
+    subst Q (sym left) (subst P (sym jobs) st)
+
+-- the footprints of the voices are in the desk's areas
+pub areas_same : (s : SetupData) (life : Life) (areas : List Area) (voices : List VoiceData) (cells : Cells) (m : Moment)
+    → life.setup.now ≡ s → areas ≡ s.layout → Stands (composition_of s) life voices cells m
+    → All (λ (v : VoiceData). v.areas ≡ life.stage.layout.now) voices → All (λ (v : VoiceData). v.areas ≡ areas) voices
+areas_same s life areas voices cells m is e st all k d lt = all k d lt ∙ areas_of_desk s life areas voices cells m is e st
+
+pub feet_in_areas : (s : SetupData) (life : Life) (areas : List Area) (voices : List VoiceData) (cells : Cells) (m : Moment)
+    → life.setup.now ≡ s → areas ≡ s.layout → Stands (composition_of s) life voices cells m
+    → All (λ (v : VoiceData). IsFootprint (length life.stage.layout.now) v.foot) voices
+    → All (λ (v : VoiceData). IsFootprint (length areas) v.foot) voices
+feet_in_areas s life areas voices cells m is e st all =
+    let P : List Area → Type 0 = λ l. All (λ (v : VoiceData). IsFootprint (length l) v.foot) voices in
+    subst P (areas_of_desk s life areas voices cells m is e st) all

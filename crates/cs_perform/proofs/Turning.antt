@@ -1,0 +1,52 @@
+-- The levels of a course are the turns of the notes that play.
+use Rattle.std.proofs.Common.{◌≡◌, ℕ, ◌+◌, Bool, true, false, List, [], ◌∷◌, ◌++◌, length, map, refl, ap, sym, ◌∙◌, subst, append_assoc, append-nil}
+use Rattle.std.specs.List.{AllZip, flat_map, range_with_len}
+use Rattle.cs_cells.specs.declared.footprint.Area.{Area}
+use Rattle.cs_cells.specs.declared.footprint.Footprint.{Footprint}
+use Rattle.cs_course.specs.Moments.{Active, Composition}
+use Rattle.cs_life.specs.Standing.{Plays}
+use Rattle.cs_turns.specs.Turns.{IsFootOf, line_of, notes_in, turn_lines_before, turns_in}
+use Rattle.cs_voice.specs.VoiceData.{VoiceData}
+use Rattle.cs_voice.specs.declared.stage.Stage.{Stage}
+use Rattle.cs_perform.specs.Performances.{if_told}
+use Rattle.cs_perform.proofs.Frames.{rows_more}
+
+foot_of : (c : Composition) (stage : Stage) (flags : List Bool) (areas : List Area) (v : VoiceData) (a : Active)
+    → stage.layout.now ≡ areas → Plays c stage flags v a → IsFootOf areas a.body v.foot
+foot_of c stage flags areas v a e p =
+    let here : IsFootOf stage.layout.now a.body p.foot = record { uses = p.of.uses; writes = p.of.writes; there = p.of.there } in
+    let P : List Area → Type 0 = λ l. IsFootOf l a.body p.foot in
+    let Q : Footprint → Type 0 = λ f. IsFootOf areas a.body f in
+    subst Q p.on.parts.foot (subst P e here)
+
+-- the footprints of voices are those of their notes
+pub feet_of_notes : (c : Composition) (stage : Stage) (flags : List Bool) (areas : List Area) (voices : List VoiceData) (active : List Active)
+    → stage.layout.now ≡ areas → AllZip (Plays c stage flags) voices active
+    → AllZip (λ (a : Active) (f : Footprint). IsFootOf areas a.body f) active (map (λ (v : VoiceData). v.foot) voices)
+feet_of_notes c stage flags areas [] [] e p = tt
+feet_of_notes c stage flags areas [] (a ∷ rest) e p = absurd p
+feet_of_notes c stage flags areas (v ∷ voices) [] e p = absurd p
+feet_of_notes c stage flags areas (v ∷ voices) (a ∷ rest) e p =
+    (foot_of c stage flags areas v a e p.0, feet_of_notes c stage flags areas voices rest e p.1)
+
+-- LINES
+
+pub told_both : (told : Bool) (xs ys : List ℕ) → if_told told xs ++ if_told told ys ≡ if_told told (xs ++ ys)
+told_both true xs ys = refl
+told_both false xs ys = refl
+
+pub lines_more : (c : Composition) (n : ℕ) → turn_lines_before c (n + 1) ≡ turn_lines_before c n ++ line_of n (turns_in c (notes_in c n))
+lines_more c n = rows_more (λ cycle. line_of cycle (turns_in c (notes_in c cycle))) n
+
+-- the lines of one cycle more
+pub told_more : (told : Bool) (c : Composition) (n : ℕ) (start before now : List ℕ) → before ≡ start ++ if_told told (turn_lines_before c n)
+    → now ≡ before ++ if_told told (line_of n (turns_in c (notes_in c n))) → now ≡ start ++ if_told told (turn_lines_before c (n + 1))
+told_more told c n start before now so_far here =
+    let line : List ℕ = line_of n (turns_in c (notes_in c n)) in
+    here ∙ ap (λ (l : List ℕ). l ++ if_told told line) so_far
+    ∙ append_assoc start (if_told told (turn_lines_before c n)) (if_told told line)
+    ∙ ap (λ (l : List ℕ). start ++ l) (told_both told (turn_lines_before c n) line ∙ ap (if_told told) (sym (lines_more c n)))
+
+pub no_lines : (told : Bool) (c : Composition) (start : List ℕ) → start ≡ start ++ if_told told (turn_lines_before c 0)
+no_lines true c start = sym (append-nil start)
+no_lines false c start = sym (append-nil start)

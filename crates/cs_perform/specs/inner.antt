@@ -1,0 +1,5 @@
+-- what only private clauses cite
+pub mod Courses
+pub mod Ends
+pub mod Plays
+pub mod Stands

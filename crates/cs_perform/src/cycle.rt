@@ -1,0 +1,109 @@
+// One control cycle.
+ghost use Rattle.std.specs.Prelude.{◌≡◌, ◌+◌, ◌*◌, ◌≤◌, ◌^◌, ℕ, ℤ, List, ◌++◌, length, true, IfOk, OnOk, OnErr};
+ghost use Rattle.std.specs.List.{count_by};
+ghost use Rattle.cs_course.specs.Course.{begins, moment_at};
+ghost use Rattle.cs_course.specs.Heard.{mix_in};
+ghost use Rattle.cs_course.specs.Moments.{Moment};
+ghost use Rattle.cs_edge.specs.Told.{HasCause, IsFront};
+ghost use Rattle.cs_edge.specs.Moves.{WroteMore};
+ghost use Rattle.cs_perform.specs.Hearing.{IfWritten, Told};
+ghost use Rattle.cs_perform.specs.Performances.{if_told};
+ghost use Rattle.cs_perform.specs.inner.Stands.{CountsCycle, IsAt, IsReady};
+ghost use Rattle.cs_setup.specs.Setups.{SetupData, composition_of};
+ghost use Rattle.cs_turns.specs.Turns.{line_of, notes_in, turns_in};
+ghost use Rattle.cs_wav.specs.Wav.{bytes_of, is_out_of_range, samples_of};
+
+use crate::crew::Crew;
+use crate::order::Order;
+use crate::stand::Stand;
+use crate::taps::tell;
+use crate::turns::tell_turns;
+use crate::writing::{put, samples};
+use cs_base::{Head, OutOfMemory};
+use cs_desk::Tally;
+use cs_edge::{Failed, Gate, Sink, Tap};
+use cs_setup::Setup;
+use std::alloc::Global;
+use std::sync::Wait;
+use std::thread::Threads;
+
+/// The notes of a cycle begin, perform it and leave, and the tally counts it. Its mix is in the block, and its line of turns behind
+/// the others, where they are told.
+pub(crate) fn play_cycle<'t, R: Threads + Wait + Sync, G: Gate + Sync>(
+    alloc: Global,
+    setup: &Setup,
+    crew: &Crew<'_, R, G>,
+    told: bool,
+    cycle: u32,
+    mut stand: Stand<'t>,
+    mix: &mut [i64],
+    tally: &mut Tally,
+    turns: &mut Vec<u8>,
+) -> Result<Stand<'t>, OutOfMemory>
+    requires at { IsAt setup.now stand (moment_at (composition_of setup.now) cycle) }
+    requires mix { length mix.old ≡ setup.now.orchestra.head.ksmps * setup.now.orchestra.head.nchnls }
+    requires tally { (tally.old.cycles ≤ 2 ^ 63) × (tally.old.notes ≤ 2 ^ 63) }
+    ensures at { IfOk result (λ next. IsAt setup.now next (moment_at (composition_of setup.now) (cycle + 1))) }
+    ensures heard { OnOk result (mix.new ≡ mix_in (composition_of setup.now) cycle) }
+    ensures counted { OnOk result (CountsCycle (composition_of setup.now) cycle tally.old tally.new) }
+    ensures turns { OnOk result (turns.new.items
+        ≡ turns.old.items ++ if_told told (line_of cycle (turns_in (composition_of setup.now) (notes_in (composition_of setup.now) cycle)))) }
+    ensures memory { OnErr result (tally.new ≡ tally.old) }
+{
+    let Ok(()) = prepare(alloc, setup, told, cycle, &mut stand, turns) else {
+        return Err(OutOfMemory);
+    };
+    let mut stand = stand.run(alloc, crew, cycle, tally);
+    stand.mix_into(&setup.orchestra().head, mix);
+    stand.end();
+    Ok(stand)
+}
+
+/// The notes of a cycle begin, all is made ready for them, and their line of turns is told.
+fn prepare(
+    alloc: Global,
+    setup: &Setup,
+    told: bool,
+    cycle: u32,
+    stand: &mut Stand<'_>,
+    turns: &mut Vec<u8>,
+) -> Result<(), OutOfMemory>
+    requires at { (m : Moment) × IsAt setup.now stand.old m }
+    ensures begun { OnOk result ((m : Moment) → IsAt setup.now stand.old m
+        → IsAt setup.now stand.new (begins (composition_of setup.now) cycle m)) }
+    ensures ready { OnOk result (IsReady stand.new) }
+    ensures turns { OnOk result ((m : Moment) → IsAt setup.now stand.old m → turns.new.items
+        ≡ turns.old.items ++ if_told told (line_of cycle (turns_in (composition_of setup.now) (begins (composition_of setup.now) cycle m).active))) }
+{
+    stand.begin(alloc, cycle)?;
+    stand.make_ready(alloc, setup.layout())?;
+    tell_turns(alloc, setup, told, cycle, stand, turns)
+}
+
+/// The mix of a cycle is told to the taps, and its samples are written. It answers how many of them had to be brought into range.
+pub(crate) fn pour<K: Sink>(
+    order: Order,
+    head: &Head,
+    mix: &[i64],
+    out: &mut [u8],
+    wav: &mut K,
+    taps: &mut Vec<Box<dyn Tap>>,
+) -> Result<u32, Failed>
+    requires few { length mix.now ≤ 65536 }
+    requires room { length out.old ≡ length mix.now * bytes_of order.wide }
+    ensures told { Told (λ t h. stands_for t h) taps.old.items taps.new.items mix.now }
+    ensures written { OnOk result (IfWritten K.tells order.write wav.old wav.new
+        (λ b n. WroteMore b n (samples_of (bytes_of order.wide) head.now.dbfs mix.now))) }
+    ensures stopped { OnErr result ((front : List ℕ) × IsFront front (samples_of (bytes_of order.wide) head.now.dbfs mix.now)
+        × IfWritten K.tells order.write wav.old wav.new (λ b n. WroteMore b n front)) }
+    ensures ordered { OnErr result (order.write ≡ true) }
+    ensures cause { HasCause (K.tells wav.old).faults (K.tells wav.new).faults result }
+    ensures out_of_range { IfOk result (λ n. n ≡ count_by (is_out_of_range (bytes_of order.wide) head.now.dbfs) mix.now) }
+{
+    tell(taps, mix);
+    let outside = samples(order.wide, mix, head, out);
+    match put(order.write, wav, out) {
+        Ok(()) => Ok(outside),
+        Err(failed) => Err(failed),
+    }
+}

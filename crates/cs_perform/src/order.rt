@@ -1,0 +1,39 @@
+// What a performance is asked for, and what comes of it.
+use cs_base::Bytes;
+
+/// What is asked for.
+#[derive(Clone, Copy, Debug, PartialEq, Eq)]
+pub struct Order {
+    /// Whether the sound file is written. Else the sink has no call.
+    pub write: bool,
+    /// Whether samples have 24 bits. Else they have 16.
+    pub wide: bool,
+    /// Whether the lines of turns are told.
+    pub turns: bool,
+}
+
+/// What comes out beside the sound.
+#[derive(Debug, Drop)]
+pub struct Outcome {
+    /// How many frames there are, each of which has a value a channel.
+    pub frames: u32,
+    /// How many control cycles.
+    pub cycles: u32,
+    /// How many starts there were that started a note.
+    pub started: u64,
+    /// How many starts there were that started nothing.
+    pub not_started: u64,
+    /// How many samples had to be brought into range.
+    pub out_of_range: u64,
+    /// The lines of turns of the first 1,000 cycles, where they were asked for.
+    pub turns: Bytes,
+}
+
+/// Why a piece wasn't performed whole.
+#[derive(Clone, Copy, Debug, PartialEq, Eq)]
+pub enum PlayFault {
+    /// The sink failed.
+    Sink,
+    /// Memory was refused.
+    OutOfMemory,
+}

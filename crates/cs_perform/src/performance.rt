@@ -1,0 +1,208 @@
+// A piece is performed into a sink, to taps, with a tally.
+ghost use Rattle.std.specs.Prelude.{◌≡◌, ◌+◌, ◌*◌, ◌≤◌, ◌<◌, ◌^◌, ◌++◌, ◌%◌, ℕ, true, length, IfOk, OnOk, OnErr, IsErrOf};
+ghost use Rattle.std.specs.List.{count_by};
+ghost use Rattle.cs_base.specs.Limits.{most_wav_bytes};
+ghost use Rattle.cs_course.specs.Course.{begins, moment_at, opening};
+ghost use Rattle.cs_course.specs.Heard.{frames_of};
+ghost use Rattle.cs_course.specs.Moments.{Moment};
+ghost use Rattle.cs_edge.specs.Told.{HasCause, Rose};
+ghost use Rattle.cs_life.specs.Standing.{kept_count};
+ghost use Rattle.cs_perform.specs.Performances.{IsOutcomeOf, IsPart, IsPaused, IsWhole, if_told};
+ghost use Rattle.cs_perform.specs.inner.Plays.{PausedOn, PlayedInPart, PlayedOn};
+ghost use Rattle.cs_perform.specs.inner.Stands.{IsAt};
+ghost use Rattle.cs_setup.specs.Setups.{SetupData, composition_of};
+ghost use Rattle.cs_turns.specs.Turns.{turn_lines_of};
+ghost use Rattle.cs_wav.specs.Wav.{bytes_of, is_out_of_range, samples_of};
+
+use crate::blocks::Blocks;
+use crate::crew::Crew;
+use crate::cycle::{play_cycle, pour};
+use crate::order::{Order, Outcome, PlayFault};
+use crate::sizes::{ends_odd, first_bytes, frames_in};
+use crate::stand::Stand;
+use crate::writing::{begin, finish};
+use cs_base::{Bytes, OutOfMemory};
+use cs_desk::Tally;
+use cs_edge::{Gate, Sink, Tap};
+use cs_setup::Setup;
+use std::alloc::Global;
+use std::sync::Wait;
+use std::thread::Threads;
+
+/// Performs a piece: cycle by cycle its notes are run by the crew, the tally counts the cycle by its receipt, the mix is told to
+/// each of `taps`, and its samples are written to `wav`, which is begun with `name`, where the order says so. Blocks and the opening
+/// take their memory before the sink is begun; notes, graphs and larger desks take theirs as they come. `Sink` where a call of the
+/// sink failed, `OutOfMemory` where memory was refused. `tally` has counted at most 2^62 cycles and notes, and the samples of the
+/// piece are at most 2^31 bytes.
+pub fn perform<K: Sink, R: Threads + Wait + Sync, G: Gate + Sync>(
+    alloc: Global,
+    setup: &Setup,
+    order: Order,
+    crew: &Crew<'_, R, G>,
+    name: &str,
+    wav: &mut K,
+    taps: &mut Vec<Box<dyn Tap>>,
+    tally: &mut Tally,
+) -> Result<Outcome, PlayFault>
+    requires tally { (tally.old.cycles ≤ 2 ^ 62) × (tally.old.notes ≤ 2 ^ 62) }
+    requires bytes { setup.now.plot.cycles * setup.now.orchestra.head.ksmps * setup.now.orchestra.head.nchnls
+        * bytes_of order.wide ≤ most_wav_bytes }
+    ensures whole { OnOk result (IsWhole (λ t h. stands_for t h) K.tells (composition_of setup.now)
+        setup.now.orchestra.head order name.now taps.old.items taps.new.items tally.old tally.new wav.old wav.new) }
+    ensures outcome { IfOk result (IsOutcomeOf (composition_of setup.now) order.wide) }
+    ensures turns { IfOk result (λ o. o.turns ≡ if_told order.turns (turn_lines_of (composition_of setup.now))) }
+    // Bytes, taps and tally are those of one number of cycles.
+    ensures part { OnErr result (IsPart (λ t h. stands_for t h) K.tells (composition_of setup.now)
+        setup.now.orchestra.head order name.now taps.old.items taps.new.items tally.old tally.new wav.old wav.new) }
+    // Want of memory comes between two cycles.
+    ensures memory { IsErrOf result PlayFault.OutOfMemory → IsPaused (λ t h. stands_for t h) K.tells (composition_of setup.now)
+        setup.now.orchestra.head order name.now taps.old.items taps.new.items tally.old tally.new wav.old wav.new }
+    ensures sink { IsErrOf result PlayFault.Sink → (order.write ≡ true) × Rose (K.tells wav.old).faults (K.tells wav.new).faults }
+{
+    let Ok(tables) = setup.tables_at(alloc) else {
+        return Err(PlayFault::OutOfMemory);
+    };
+    let Ok(mut blocks) = Blocks::new(alloc, &setup.orchestra().head, order.wide) else {
+        return Err(PlayFault::OutOfMemory);
+    };
+    let Ok(stand) = Stand::new(alloc, setup, &tables) else {
+        return Err(PlayFault::OutOfMemory);
+    };
+    play(
+        alloc,
+        setup,
+        order,
+        crew,
+        name,
+        wav,
+        taps,
+        tally,
+        stand,
+        &mut blocks.mix,
+        &mut blocks.out,
+    )
+}
+
+/// The performance from its opening on.
+fn play<'t, K: Sink, R: Threads + Wait + Sync, G: Gate + Sync>(
+    alloc: Global,
+    setup: &Setup,
+    order: Order,
+    crew: &Crew<'_, R, G>,
+    name: &str,
+    wav: &mut K,
+    taps: &mut Vec<Box<dyn Tap>>,
+    tally: &mut Tally,
+    stand: Stand<'t>,
+    mix: &mut [i64],
+    out: &mut [u8],
+) -> Result<Outcome, PlayFault>
+    requires tally { (tally.old.cycles ≤ 2 ^ 62) × (tally.old.notes ≤ 2 ^ 62) }
+    requires bytes { setup.now.plot.cycles * setup.now.orchestra.head.ksmps * setup.now.orchestra.head.nchnls
+        * bytes_of order.wide ≤ most_wav_bytes }
+    requires at { IsAt setup.now stand (opening (composition_of setup.now)) }
+    requires mix { length mix.old ≡ setup.now.orchestra.head.ksmps * setup.now.orchestra.head.nchnls }
+    requires out { length out.old ≡ setup.now.orchestra.head.ksmps * setup.now.orchestra.head.nchnls * bytes_of order.wide }
+    ensures whole { OnOk result (IsWhole (λ t h. stands_for t h) K.tells (composition_of setup.now)
+        setup.now.orchestra.head order name.now taps.old.items taps.new.items tally.old tally.new wav.old wav.new) }
+    ensures outcome { IfOk result (IsOutcomeOf (composition_of setup.now) order.wide) }
+    ensures turns { IfOk result (λ o. o.turns ≡ if_told order.turns (turn_lines_of (composition_of setup.now))) }
+    ensures part { OnErr result (IsPart (λ t h. stands_for t h) K.tells (composition_of setup.now)
+        setup.now.orchestra.head order name.now taps.old.items taps.new.items tally.old tally.new wav.old wav.new) }
+    ensures memory { IsErrOf result PlayFault.OutOfMemory → IsPaused (λ t h. stands_for t h) K.tells (composition_of setup.now)
+        setup.now.orchestra.head order name.now taps.old.items taps.new.items tally.old tally.new wav.old wav.new }
+    ensures sink { IsErrOf result PlayFault.Sink → (order.write ≡ true) × Rose (K.tells wav.old).faults (K.tells wav.new).faults }
+{
+    let frames = frames_in(setup, order.wide);
+    let first = first_bytes(setup, order.wide, frames);
+    let Ok(()) = begin(order.write, wav, name, &first) else {
+        return Err(PlayFault::Sink);
+    };
+    let mut turns = Vec::new(alloc);
+    let (stand, out_of_range) = match play_all(
+        alloc, setup, order, crew, wav, taps, tally, stand, mix, out, &mut turns,
+    ) {
+        Ok(played) => played,
+        Err(fault) => return Err(fault),
+    };
+    let cycles = setup.plot().cycles;
+    let Ok((started, not_started)) = close(alloc, cycles, stand) else {
+        return Err(PlayFault::OutOfMemory);
+    };
+    let Ok(()) = finish(order.write, ends_odd(setup, order.wide, frames), wav) else {
+        return Err(PlayFault::Sink);
+    };
+    Ok(Outcome {
+        frames,
+        cycles,
+        started,
+        not_started,
+        out_of_range,
+        turns: Bytes::from_vec(turns),
+    })
+}
+
+/// All cycles. It answers how many samples were out of range.
+fn play_all<'t, K: Sink, R: Threads + Wait + Sync, G: Gate + Sync>(
+    alloc: Global,
+    setup: &Setup,
+    order: Order,
+    crew: &Crew<'_, R, G>,
+    wav: &mut K,
+    taps: &mut Vec<Box<dyn Tap>>,
+    tally: &mut Tally,
+    mut stand: Stand<'t>,
+    mix: &mut [i64],
+    out: &mut [u8],
+    turns: &mut Vec<u8>,
+) -> Result<(Stand<'t>, u64), PlayFault>
+    requires tally { (tally.old.cycles ≤ 2 ^ 62) × (tally.old.notes ≤ 2 ^ 62) }
+    requires at { IsAt setup.now stand (moment_at (composition_of setup.now) 0) }
+    requires mix { length mix.old ≡ setup.now.orchestra.head.ksmps * setup.now.orchestra.head.nchnls }
+    requires out { length out.old ≡ setup.now.orchestra.head.ksmps * setup.now.orchestra.head.nchnls * bytes_of order.wide }
+    ensures at { IfOk result (λ r. IsAt setup.now r.0 (moment_at (composition_of setup.now) setup.now.plot.cycles)) }
+    ensures played { OnOk result (PlayedOn (λ t h. stands_for t h) K.tells (composition_of setup.now) order.write setup.now.plot.cycles
+        taps.old.items taps.new.items tally.old tally.new wav.old wav.new
+        (samples_of (bytes_of order.wide) setup.now.orchestra.head.dbfs (frames_of (composition_of setup.now)))) }
+    ensures out_of_range { IfOk result (λ r. r.1 ≡ count_by (is_out_of_range (bytes_of order.wide) setup.now.orchestra.head.dbfs)
+        (frames_of (composition_of setup.now))) }
+    ensures turns { OnOk result (turns.new.items ≡ turns.old.items ++ if_told order.turns (turn_lines_of (composition_of setup.now))) }
+    ensures part { OnErr result (PlayedInPart (λ t h. stands_for t h) K.tells (composition_of setup.now) order.write
+        (bytes_of order.wide) setup.now.orchestra.head.dbfs taps.old.items taps.new.items tally.old tally.new wav.old wav.new) }
+    ensures memory { IsErrOf result PlayFault.OutOfMemory → PausedOn (λ t h. stands_for t h) K.tells (composition_of setup.now) order.write
+        (bytes_of order.wide) setup.now.orchestra.head.dbfs taps.old.items taps.new.items tally.old tally.new wav.old wav.new }
+    ensures sink { IsErrOf result PlayFault.Sink → (order.write ≡ true) × Rose (K.tells wav.old).faults (K.tells wav.new).faults }
+{
+    let mut outside = 0u64;
+    for cycle in 0..setup.plot().cycles {
+        let Ok(next) = play_cycle(
+            alloc,
+            setup,
+            crew,
+            order.turns,
+            cycle,
+            stand,
+            mix,
+            tally,
+            turns,
+        ) else {
+            return Err(PlayFault::OutOfMemory);
+        };
+        stand = next;
+        let Ok(more) = pour(order, &setup.orchestra().head, mix, out, wav, taps) else {
+            return Err(PlayFault::Sink);
+        };
+        outside += u64::from(more);
+    }
+    Ok((stand, outside))
+}
+
+/// The events at the very end are done. It answers how many starts there were that started a note, and that didn't.
+fn close(alloc: Global, cycle: u32, mut stand: Stand<'_>) -> Result<(u64, u64), OutOfMemory>
+    requires at { (s : SetupData) × (m : Moment) × IsAt s stand m }
+    ensures started { IfOk result (λ n. (s : SetupData) (m : Moment) → IsAt s stand.entry m
+        → (n.0 ≡ kept_count (begins (composition_of s) cycle m).started) × (n.1 ≡ kept_count (begins (composition_of s) cycle m).not_started)) }
+{
+    stand.begin(alloc, cycle)?;
+    Ok((stand.life.started(), stand.life.not_started()))
+}

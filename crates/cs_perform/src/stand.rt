@@ -1,0 +1,150 @@
+// All that is kept of a performance from cycle to cycle.
+ghost use Rattle.std.specs.Prelude.{◌≡◌, ◌+◌, ◌*◌, ◌≤◌, ◌^◌, ℕ, [], length, map, pos, replicate, IfOk, OnOk};
+ghost use Rattle.cs_base.specs.Limits.{most_notes};
+ghost use Rattle.cs_cells.specs.Areas.{word_count};
+ghost use Rattle.cs_course.specs.Course.{begins, moment_at, opening, performed, turned_off};
+ghost use Rattle.cs_course.specs.Heard.{mix_in};
+ghost use Rattle.cs_course.specs.Moments.{Moment};
+ghost use Rattle.cs_desk.specs.Desk.{areas, cells};
+ghost use Rattle.cs_perform.specs.inner.Stands.{IsAt, IsReady};
+ghost use Rattle.cs_setup.specs.Setups.{SetupData, composition_of};
+ghost use Rattle.cs_voice.specs.Memory.{table_of};
+ghost use Rattle.cs_voice.specs.VoiceData.{made};
+
+use crate::course::Course;
+use crate::crew::Crew;
+use crate::room::make_room;
+use crate::running::run_counted;
+use cs_base::{Head, OutOfMemory};
+use cs_cells::Layout;
+use cs_desk::{Desk, Tally};
+use cs_edge::Gate;
+use cs_life::{Life, serial_runs_perform, voices_are_heard};
+use cs_mix::mix;
+use cs_setup::Setup;
+use cs_voice::{TableAt, Voice};
+use std::alloc::Global;
+use std::sync::Wait;
+use std::thread::Threads;
+
+/// For how many notes and edges there is room at first.
+const FIRST_ROOM: (u32, u32) = (16, 32);
+
+/// What is kept of a performance: its life, the notes that play, in the order of performing, the cells that they share, and the
+/// course of their cycle.
+#[derive(Drop)]
+pub(crate) struct Stand<'t> {
+    pub life: Life<'t>,
+    pub voices: Vec<Voice<'t>>,
+    pub desk: Desk<Voice<'t>>,
+    pub course: Course,
+}
+
+impl<'t> Stand<'t> {
+    /// At the opening of a performance.
+    pub fn new(
+        alloc: Global,
+        setup: &'t Setup,
+        tables: &'t [TableAt<'t>],
+    ) -> Result<Stand<'t>, OutOfMemory>
+        requires { map table_of tables.now ≡ map made (composition_of setup.now).tables }
+        ensures { IfOk result (λ stand. IsAt setup.now stand (opening (composition_of setup.now))) }
+    {
+        let mut desk = first_desk(alloc, setup.layout())?;
+        let life = Life::new(alloc, setup, tables, &mut desk)?;
+        let voices = Vec::new(alloc);
+        let course = Course::of_jobs::<Voice<'t>>(alloc, &[])?;
+        Ok(Stand {
+            life,
+            voices,
+            desk,
+            course,
+        })
+    }
+
+    /// The notes of a cycle begin.
+    pub fn begin(&mut self, alloc: Global, cycle: u32) -> Result<(), OutOfMemory>
+        requires at { (s : SetupData) × (m : Moment) × IsAt s self.old m }
+        ensures begun { OnOk result ((s : SetupData) (m : Moment) → IsAt s self.old m → IsAt s self.new (begins (composition_of s) cycle m)) }
+    {
+        self.life
+            .begin_cycle(alloc, cycle, &mut self.voices, &mut self.desk)
+    }
+
+    /// The course becomes that of the notes that play, and the desk has room for their cycle.
+    pub fn make_ready(&mut self, alloc: Global, layout: &Layout) -> Result<(), OutOfMemory>
+        requires at { (s : SetupData) × (m : Moment) × IsAt s self.old m × (s.layout ≡ layout.now) }
+        ensures at { OnOk result ((s : SetupData) (m : Moment) → IsAt s self.old m → IsAt s self.new m) }
+        ensures ready { OnOk result (IsReady self.new) }
+    {
+        self.course.follow(alloc, &self.voices)?;
+        let (notes, edges) = (self.course.graph.len(), self.course.graph.edge_count());
+        make_room(alloc, layout, &mut self.desk, notes, edges)
+    }
+
+    /// The notes that play perform the cycle, which the tally counts.
+    pub fn run<R: Threads + Wait + Sync, G: Gate + Sync>(
+        self,
+        alloc: Global,
+        crew: &Crew<'_, R, G>,
+        cycle: u32,
+        tally: &mut Tally,
+    ) -> Stand<'t>
+        requires at { (s : SetupData) × (m : Moment) × IsAt s self m }
+        requires ready { IsReady self }
+        requires tally { (tally.old.cycles ≤ 2 ^ 63) × (tally.old.notes ≤ 2 ^ 63) }
+        ensures performed { (s : SetupData) (m : Moment) → IsAt s self.entry m → IsAt s result (performed (composition_of s) m) }
+        ensures cycles { tally.new.cycles ≡ tally.old.cycles + 1 }
+        ensures notes { tally.new.notes ≡ tally.old.notes + length self.entry.voices.items }
+    {
+        let Stand {
+            life,
+            voices,
+            desk,
+            course: Course { graph, feet },
+        } = self;
+        serial_runs_perform();
+        let (voices, desk, graph) = run_counted(alloc, crew, cycle, graph, desk, voices, tally);
+        Stand {
+            life,
+            voices,
+            desk,
+            course: Course { graph, feet },
+        }
+    }
+
+    /// What the notes that played give together.
+    pub fn mix_into(&self, head: &Head, block: &mut [i64])
+        requires at { (s : SetupData) × (m : Moment) × IsAt s self.now m × (s.orchestra.head ≡ head.now) }
+        requires block { length block.old ≡ head.now.ksmps * head.now.nchnls }
+        ensures { (s : SetupData) (n : ℕ)
+            → IsAt s self.now (performed (composition_of s) (begins (composition_of s) n (moment_at (composition_of s) n)))
+            → s.orchestra.head ≡ head.now → block.new ≡ mix_in (composition_of s) n }
+    {
+        voices_are_heard();
+        mix(
+            &self.voices,
+            head.ksmps as usize,
+            head.nchnls as usize,
+            block,
+        );
+    }
+
+    /// The notes that were turned off leave.
+    pub fn end(&mut self)
+        requires at { (s : SetupData) × (m : Moment) × IsAt s self.old m }
+        ensures ended { (s : SetupData) (m : Moment) → IsAt s self.old m → IsAt s self.new (turned_off m) }
+    {
+        self.life.end_cycle(&mut self.voices);
+    }
+}
+
+/// A desk whose cells are all 0.
+fn first_desk<'t>(alloc: Global, layout: &Layout) -> Result<Desk<Voice<'t>>, OutOfMemory>
+    ensures areas { IfOk result (λ d. areas d ≡ layout.now) }
+    ensures cells { IfOk result (λ d. cells d ≡ replicate (word_count layout.now) (pos 0)) }
+{
+    let words = vec![in alloc; 0u64; layout.words() as usize]?;
+    let (notes, edges) = FIRST_ROOM;
+    Desk::new(alloc, layout, &words, notes, edges)
+}

@@ -1,0 +1,50 @@
+// The lines that tell in which turn each note comes.
+ghost use Rattle.std.specs.Prelude.{◌≡◌, ◌++◌, OnOk};
+ghost use Rattle.cs_course.specs.Moments.{Moment};
+ghost use Rattle.cs_perform.specs.Performances.{if_told};
+ghost use Rattle.cs_perform.specs.inner.Stands.{IsAt, IsReady};
+ghost use Rattle.cs_setup.specs.Setups.{composition_of};
+ghost use Rattle.cs_turns.specs.Turns.{line_of, turns_in};
+
+use crate::stand::Stand;
+use cs_base::OutOfMemory;
+use cs_setup::Setup;
+use cs_turns::{add_turns, layouts_have_the_stock, turns_are_levels};
+use std::alloc::Global;
+
+/// Adds the line of a cycle whose notes have begun, where it is told.
+pub(crate) fn tell_turns(
+    alloc: Global,
+    setup: &Setup,
+    told: bool,
+    cycle: u32,
+    stand: &Stand<'_>,
+    turns: &mut Vec<u8>,
+) -> Result<(), OutOfMemory>
+    requires at { (m : Moment) × IsAt setup.now stand.now m }
+    requires ready { IsReady stand.now }
+    ensures { OnOk result ((m : Moment) → IsAt setup.now stand.now m
+        → turns.new.items ≡ turns.old.items ++ if_told told (line_of cycle (turns_in (composition_of setup.now) m.active))) }
+{
+    if !told {
+        return Ok(());
+    }
+    add_line(alloc, setup, cycle, stand, turns)
+}
+
+fn add_line(
+    alloc: Global,
+    setup: &Setup,
+    cycle: u32,
+    stand: &Stand<'_>,
+    turns: &mut Vec<u8>,
+) -> Result<(), OutOfMemory>
+    requires { IsReady stand.now }
+    ensures { OnOk result ((m : Moment) → IsAt setup.now stand.now m
+        → turns.new.items ≡ turns.old.items ++ line_of cycle (turns_in (composition_of setup.now) m.active)) }
+{
+    setup.facts();
+    layouts_have_the_stock();
+    turns_are_levels();
+    add_turns(alloc, turns, cycle, &stand.course.graph)
+}
