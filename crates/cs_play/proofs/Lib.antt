@@ -1,12 +1,4 @@
-pub mod Frames
-pub mod Played
-pub mod Readings
-pub mod Saying
-pub mod Voices
-pub mod Refusals
-pub mod Heads
-pub mod Loads
-pub mod Orchestras
-pub mod Firsts
+pub mod Deciding
+pub mod Meanings
 pub mod Runs
-pub mod SixLines
+pub mod Saying

@@ -1,279 +1,223 @@
--- How a run ends: one lemma for each way.
-use Rattle.std.proofs.Common.{◌≡◌, ◌<◌, ◌≤◌, ◌⊎◌, ℕ, List, length, String, Option, Some, None, refl, ap, sym, subst, ◌∙◌, inl, inr, ⊎_elim, arith}
-use Rattle.std.specs.Global.{Global}
-use Rattle.std.proofs.lemmas.Bool.{cases_lt}
-use Rattle.cs_edge.specs.declared.files.NamedBytes.{NamedBytes}
+-- How a run ends: one lemma for each way out.
+use Rattle.std.proofs.Common.{◌≡◌, ◌++◌, ◌*◌, ℕ, List, [], Bool, true, false, not, Result, Some, None, Ok, Err, refl, ap, sym, subst, ◌∙◌, inl, inr}
+use Rattle.std.specs.List.{count_by, flat_map}
+use Rattle.cs_base.specs.declared.head.Head.{Head}
+use Rattle.cs_course.specs.Course.{closing}
+use Rattle.cs_course.specs.Heard.{frames_of}
+use Rattle.cs_course.specs.Moments.{Composition}
+use Rattle.cs_desk.specs.declared.receipt.Tally.{Tally}
+use Rattle.cs_edge.specs.Moves.{WroteMore}
 use Rattle.cs_edge.specs.Told.{Rose}
-use Rattle.cs_edge.specs.Moves.{SinkTold}
-use Rattle.cs_edge.specs.Files.{ShelfTold, file_named}
-use Rattle.cs_tempo.specs.declared.plot.Plot.{Plot}
-use Rattle.cs_play.specs.declared.orchestra.Orchestra.{Orchestra}
+use Rattle.cs_life.specs.Standing.{kept_count}
+use Rattle.cs_perform.specs.Performances.{IsOutcomeOf, IsPart, IsPaused, IsWhole, if_told}
+use Rattle.cs_perform.specs.declared.order.Outcome.{Outcome}
+use Rattle.cs_play.specs.Endings.{EndsBy, IsLoaded, IsRefusal, IsUntouched, is_wide, order_of}
+use Rattle.cs_play.specs.Report.{count_lines, counts_of, line_room, report_of}
+use Rattle.cs_play.specs.Runs.{IsRun}
+use Rattle.cs_play.specs.Scene.{Scene, Sight, scene}
+use Rattle.cs_play.specs.Status.{refusal}
+use Rattle.cs_play.specs.Talk.{Says, SaysPart, message_of}
 use Rattle.cs_play.specs.declared.status.Status.{Status}
-use Rattle.cs_play.specs.declared.status.Status.TheVariants.{Ok, Usage, ShelfFault, OrcRefused, ScoreRefused, Limit, SinkFault, OutOfMemory, NotBuilt}
-use Rattle.cs_play.specs.Load.{IsUnread, LeavesUnread, ReadsTexts}
-use Rattle.cs_play.specs.inner.Stops.{IsLoaded, IsRefused}
-use Rattle.cs_base.specs.Limits.{most_orchestra_bytes}
-use Rattle.cs_base.specs.declared.limit.Limit.TheVariants as bound
-use Rattle.cs_play.specs.Refusal.{FirstRefusal, IsPiece, passed_nowhere}
-use Rattle.cs_play.specs.Refusal.FirstRefusal.{long_orchestra}
-use Rattle.cs_play.specs.Run.{IsRun}
-use Rattle.cs_play.specs.Sound.{Plays, PlaysPart, sound_name}
-use Rattle.cs_play.specs.Status.{IsRefusal}
-use Rattle.cs_play.specs.Talk.{Says, message_of}
-use Rattle.cs_play.specs.Texts.{HasTexts, IfTold, AreTold, LacksOne}
-use Rattle.cs_play.specs.Words.{ForNames, reading}
-use Rattle.cs_play.proofs.Firsts.{one_first, not_refused}
+use Rattle.cs_play.specs.declared.status.Status.TheVariants as status
+use Rattle.cs_play.specs.inner.Counts.{counts_in}
+use Rattle.cs_reading.specs.Reading.{Asked, Text, reading}
+use Rattle.cs_source.specs.Loaded.{CannotRead, LeavesUnread, SourceMeans, WasRead}
+use Rattle.cs_source.specs.declared.refused.Refused.{Refused}
+use Rattle.cs_source.specs.declared.refused.Refused.TheVariants as refused
+use Rattle.cs_turns.specs.Turns.{turn_lines_of}
+use Rattle.cs_typed.specs.TypedTree.{header_of_head}
+use Rattle.cs_wav.specs.Wav.{bytes_of, is_out_of_range}
 
--- TEXTS that are told
+same_lines : (a b c d e a' b' c' d' e' : ℕ) → a ≡ a' → b ≡ b' → c ≡ c' → d ≡ d' → e ≡ e' → count_lines a b c d e ≡ count_lines a' b' c' d' e'
+same_lines a b c d e a' b' c' d' e' p q r s t = cc
 
-two_texts : (x y : List ℕ) (o : Option (List ℕ)) → o ≡ Some x → o ≡ Some y → x ≡ y
-two_texts x y o e h = cc
+-- the counts that the performer answered are those of the composition
+counts_told : (c : Composition) (wide : Bool) (o : Outcome) → IsOutcomeOf c wide o → counts_in o ≡ counts_of c wide
+unfolding counts_of
+counts_told c wide o is =
+    same_lines o.frames o.cycles o.started o.not_started o.out_of_range (c.cycles * c.head.ksmps) c.cycles (kept_count (closing c).started)
+    (kept_count (closing c).not_started) (count_by (is_out_of_range (bytes_of wide) c.head.dbfs) (frames_of c))
+    is.frames is.cycles is.started is.not_started is.out_of_range
 
-found_lacks : (x : List ℕ) (o : Option (List ℕ)) → o ≡ Some x → o ≡ None → ⊥
-found_lacks x o e h = cc
+not_silent : (silent : Bool) → not silent ≡ true → silent ≡ false
+not_silent true e = sym e
+not_silent false e = refl
 
--- texts that the files have aren't lacking
-has_lacks : (files : List NamedBytes) (orc sco x y : List ℕ) → HasTexts files orc sco x y → LacksOne (Some files) orc sco → ⊥
-has_lacks files orc sco x y has (inl none) = found_lacks x (file_named orc files) has.orchestra_found none
-has_lacks files orc sco x y has (inr l) =
-    let same = two_texts x l.0 (file_named orc files) has.orchestra_found l.1 in
-    let short : length x ≤ most_orchestra_bytes = omega (arith, l.2, ap length same) in
-    found_lacks y (file_named sco files) (has.score_found short) l.3
+module _ {F K T B : Type 0} (see : Sight F K T B) where
+  -- a status is what was said to be one
+  pub is_status : (words : List Text) (r s : Status) (before now : Scene F K T B) → r ≡ s → IsRun see words s before now → IsRun see words r before now
+  is_status words r s before now e run = let P : Status → Type 0 = λ x. IsRun see words x before now in subst P (sym e) run
 
-pub told_lacks : (P : List ℕ → List ℕ → Type 0) (files : Option (List NamedBytes)) (orc sco : List ℕ) → AreTold files orc sco P → LacksOne files orc sco → ⊥
-told_lacks P None orc sco told l = told
-told_lacks P (Some files) orc sco told l = has_lacks files orc sco told.0 told.1 told.2 l
+  untouched : (shelf shelf' : F) (wav : K) (talk talk' : T) (taps : List B) (tally : Tally)
+      → IsUntouched see (scene shelf wav talk taps tally) (scene shelf' wav talk' taps tally)
+  untouched shelf shelf' wav talk talk' taps tally = record { wav = refl; taps = refl; tally = refl }
 
-pub texts_lack : (P : List ℕ → List ℕ → Type 0) (files : Option (List NamedBytes)) (orc sco : List ℕ) → IfTold files orc sco P → LacksOne files orc sco → ⊥
-texts_lack P None orc sco told l = l
-texts_lack P (Some files) orc sco told l = has_lacks files orc sco told.0 told.1 told.2 l
+  pub usage_run : (words : List Text) (shelf : F) (wav : K) (talk talk' : T) (taps : List B) (tally : Tally) → reading words ≡ None
+      → Says (see.talk talk) (see.talk talk') (message_of status.Usage [])
+      → IsRun see words status.Usage (scene shelf wav talk taps tally) (scene shelf wav talk' taps tally)
+  usage_run words shelf wav talk talk' taps tally e says = record {
+    ended = record { unread = e; shelf = refl; untouched = untouched shelf shelf wav talk talk' taps tally; line = says };
+    shelf = inl refl;
+  }
 
--- two readings of the files are of one orchestra, and of one score where that is begun
-same_orchestra : (files : List NamedBytes) (orc sco x y x' y' : List ℕ) → HasTexts files orc sco x y → HasTexts files orc sco x' y' → x ≡ x'
-same_orchestra files orc sco x y x' y' has has' = two_texts x x' (file_named orc files) has.orchestra_found has'.orchestra_found
+  -- want of memory as the words were read
+  pub starved_run : (words : List Text) (shelf : F) (wav : K) (talk talk' : T) (taps : List B) (tally : Tally)
+      → Says (see.talk talk) (see.talk talk') (message_of status.OutOfMemory [])
+      → IsRun see words status.OutOfMemory (scene shelf wav talk taps tally) (scene shelf wav talk' taps tally)
+  starved_run words shelf wav talk talk' taps tally says = record {
+    ended = record { performed = inl (untouched shelf shelf wav talk talk' taps tally); line = says };
+    shelf = inl refl;
+  }
 
-same_score : (files : List NamedBytes) (orc sco x y x' y' : List ℕ) → HasTexts files orc sco x y → HasTexts files orc sco x' y' → length x ≤ most_orchestra_bytes → y ≡ y'
-same_score files orc sco x y x' y' has has' short =
-    let same = same_orchestra files orc sco x y x' y' has has' in
-    let short' : length x' ≤ most_orchestra_bytes = omega (arith, short, ap length same) in
-    two_texts y y' (file_named sco files) (has.score_found short) (has'.score_found short')
+  -- want of memory as the source was read
+  pub unloaded_run : (words : List Text) (asked : Asked) (shelf shelf' : F) (wav : K) (talk talk' : T) (taps : List B) (tally : Tally)
+      → reading words ≡ Some asked → WasRead (see.shelf shelf) (see.shelf shelf') asked.piece
+      → Says (see.talk talk) (see.talk talk') (message_of status.OutOfMemory [])
+      → IsRun see words status.OutOfMemory (scene shelf wav talk taps tally) (scene shelf' wav talk' taps tally)
+  unloaded_run words asked shelf shelf' wav talk talk' taps tally e was says = record {
+    ended = record { performed = inl (untouched shelf shelf' wav talk talk' taps tally); line = says };
+    shelf = inr (asked, e, was);
+  }
 
-first_of : (files : List NamedBytes) (orc sco x y x' y' : List ℕ) (s t : Status) → HasTexts files orc sco x y → HasTexts files orc sco x' y'
-    → FirstRefusal x y s → FirstRefusal x' y' t → s ≡ t
-first_of files orc sco x y x' y' s t has has' r r' =
-    let same = same_orchestra files orc sco x y x' y' has has' in
-    ⊎_elim
-    (λ long. let long' : most_orchestra_bytes < length x' = omega (arith, long, ap length same) in
-    one_first x y s (passed_nowhere bound.OrchestraBytes) r (long_orchestra long) ∙ sym (one_first x' y' t (passed_nowhere bound.OrchestraBytes) r' (long_orchestra long')))
-    (λ short. let P : List ℕ → Type 0 = λ l. FirstRefusal l y' t in
-    let Q : List ℕ → Type 0 = λ l. FirstRefusal x l t in
-    one_first x y s t r (subst Q (sym (same_score files orc sco x y x' y' has has' short)) (subst P (sym same) r')))
-    (cases_lt most_orchestra_bytes (length x))
+  pub unread_run : (words : List Text) (asked : Asked) (name : List ℕ) (shelf shelf' : F) (wav : K) (talk talk' : T) (taps : List B) (tally : Tally)
+      → reading words ≡ Some asked → WasRead (see.shelf shelf) (see.shelf shelf') asked.piece
+      → CannotRead (see.shelf shelf) (see.shelf shelf') asked.piece name
+      → Says (see.talk talk) (see.talk talk') (message_of status.ShelfFault name)
+      → IsRun see words status.ShelfFault (scene shelf wav talk taps tally) (scene shelf' wav talk' taps tally)
+  unread_run words asked name shelf shelf' wav talk talk' taps tally e was unread says = record {
+    ended = (asked, e, record { name = name; unread = unread; untouched = untouched shelf shelf' wav talk talk' taps tally; line = says });
+    shelf = inr (asked, e, was);
+  }
 
--- the refusal that is told is the one
-pub told_first : (files : Option (List NamedBytes)) (orc sco : List ℕ) (s t : Status) → AreTold files orc sco (λ x y. FirstRefusal x y s)
-    → IfTold files orc sco (λ x y. FirstRefusal x y t) → s ≡ t
-told_first None orc sco s t told it = absurd told
-told_first (Some files) orc sco s t told it = first_of files orc sco told.0 told.1 it.0 it.1 s t told.2 it.2 told.3 it.3
+  loaded : (asked : Asked) (wide : Bool) (r : Result Composition Refused) (before now : Scene F K T B) → wide ≡ is_wide asked.width
+      → SourceMeans (see.shelf before.shelf) wide asked.piece r → LeavesUnread (see.shelf before.shelf) (see.shelf now.shelf) asked.piece
+      → IsLoaded see asked before now r
+  loaded asked wide r before now w means rest =
+      let P : Bool → Type 0 = λ x. SourceMeans (see.shelf before.shelf) x asked.piece r in
+      record { means = subst P w means; rest = rest }
 
-piece_first : (files : List NamedBytes) (orc sco x y x' y' : List ℕ) (s : Status) (o : Orchestra) (plot : Plot) → HasTexts files orc sco x y → HasTexts files orc sco x' y'
-    → FirstRefusal x y s → IsPiece x' y' o plot → ⊥
-piece_first files orc sco x y x' y' s o plot has has' r p =
-    let same = same_orchestra files orc sco x' y' x y has' has in
-    let same' = same_score files orc sco x' y' x y has' has p.short.short_orchestra in
-    let P : List ℕ → Type 0 = λ l. IsPiece l y' o plot in
-    let Q : List ℕ → Type 0 = λ l. IsPiece x l o plot in
-    not_refused x y s o plot r (subst Q same' (subst P same p))
+  -- each refusal ends as its status says
+  ends_refused : (words : List Text) (asked : Asked) (r : Refused) (before now : Scene F K T B) → reading words ≡ Some asked → IsRefusal see r asked before now
+      → EndsBy see (refusal r) words before now
+  ends_refused words asked (refused.Csd f) before now e is = (asked, e, is)
+  ends_refused words asked (refused.Orc f) before now e is = (asked, e, is)
+  ends_refused words asked (refused.Score f) before now e is = (asked, e, is)
+  ends_refused words asked (refused.Limit h) before now e is = (asked, e, is)
 
--- no piece is refused
-pub first_no_piece : (files : Option (List NamedBytes)) (orc sco : List ℕ) (s : Status) (o : Orchestra) (plot : Plot)
-    → AreTold files orc sco (λ x y. FirstRefusal x y s) → IfTold files orc sco (λ x y. IsPiece x y o plot) → ⊥
-first_no_piece None orc sco s o plot told it = told
-first_no_piece (Some files) orc sco s o plot told it = piece_first files orc sco told.0 told.1 it.0 it.1 s o plot told.2 it.2 told.3 it.3
+  pub refused_run : (words : List Text) (asked : Asked) (wide : Bool) (r : Refused) (shelf shelf' : F) (wav : K) (talk talk' : T) (taps : List B) (tally : Tally)
+      → wide ≡ is_wide asked.width → reading words ≡ Some asked → WasRead (see.shelf shelf) (see.shelf shelf') asked.piece
+      → SourceMeans (see.shelf shelf) wide asked.piece (Err r) → LeavesUnread (see.shelf shelf) (see.shelf shelf') asked.piece
+      → Says (see.talk talk) (see.talk talk') (message_of (refusal r) [])
+      → IsRun see words (refusal r) (scene shelf wav talk taps tally) (scene shelf' wav talk' taps tally)
+  refused_run words asked wide r shelf shelf' wav talk talk' taps tally w e was means rest says = record {
+    ended = ends_refused words asked r (scene shelf wav talk taps tally) (scene shelf' wav talk' taps tally) e
+        (record { loaded = loaded asked wide (Err r) (scene shelf wav talk taps tally) (scene shelf' wav talk' taps tally) w means rest; untouched = untouched shelf shelf' wav talk talk' taps tally; line = says });
+    shelf = inr (asked, e, was);
+  }
 
-pub piece_no_first : (files : Option (List NamedBytes)) (orc sco : List ℕ) (s : Status)
-    → AreTold files orc sco (λ x y. (o : Orchestra) × (plot : Plot) × IsPiece x y o plot) → IfTold files orc sco (λ x y. FirstRefusal x y s) → ⊥
-piece_no_first None orc sco s told it = told
-piece_no_first (Some files) orc sco s told it = piece_first files orc sco it.0 it.1 told.0 told.1 s told.3.0 told.3.1 it.2 told.2 it.3 told.3.2
+  -- A COMPOSITION, which was performed whole
 
--- NAMES
+  -- the report as it was written
+  report_is : (c : Composition) (wide turns : Bool) (o : Outcome) (taps : List B) → IsOutcomeOf c wide o → o.turns ≡ if_told turns (turn_lines_of c)
+      → counts_in o ++ flat_map (λ tap. see.line tap line_room) taps ++ o.turns ≡ report_of see.line c wide turns taps
+  report_is c wide turns o taps is lines =
+      ap (λ (l : List ℕ). l ++ flat_map (λ tap. see.line tap line_room) taps ++ o.turns) (counts_told c wide o is)
+      ∙ ap (λ (l : List ℕ). counts_of c wide ++ flat_map (λ tap. see.line tap line_room) taps ++ l) lines
 
-pub at_names : (P : List ℕ → List ℕ → Type 0) (read : Option (List ℕ × List ℕ)) (orc sco : List ℕ) → read ≡ Some (orc, sco) → ForNames read P → P orc sco
-at_names P read orc sco e f = subst (λ (o : Option (List ℕ × List ℕ)). ForNames o P) e f
+  pub ok_run : (words : List Text) (asked : Asked) (wide : Bool) (c : Composition) (head : Head) (o : Outcome) (shelf shelf' : F) (wav wav' : K) (talk talk' : T)
+      (taps taps' : List B) (tally tally' : Tally)
+      → wide ≡ is_wide asked.width → reading words ≡ Some asked → WasRead (see.shelf shelf) (see.shelf shelf') asked.piece
+      → SourceMeans (see.shelf shelf) wide asked.piece (Ok c) → LeavesUnread (see.shelf shelf) (see.shelf shelf') asked.piece
+      → header_of_head head ≡ c.head
+      → IsWhole see.stands see.wav c head (order_of asked) asked.sound_file taps taps' tally tally' wav wav'
+      → IsOutcomeOf c (is_wide asked.width) o → o.turns ≡ if_told asked.turns (turn_lines_of c)
+      → WroteMore (see.talk talk) (see.talk talk') (counts_in o ++ flat_map (λ tap. see.line tap line_room) taps' ++ o.turns)
+      → IsRun see words status.Ok (scene shelf wav talk taps tally) (scene shelf' wav' talk' taps' tally')
+  ok_run words asked wide c head o shelf shelf' wav wav' talk talk' taps taps' tally tally' w e was means rest same whole is lines wrote =
+      let P : List ℕ → Type 0 = λ l. WroteMore (see.talk talk) (see.talk talk') l in record {
+        ended = (
+          asked,
+          e,
+          record {
+            c = c;
+            loaded = loaded asked wide (Ok c) (scene shelf wav talk taps tally) (scene shelf' wav' talk' taps' tally') w means rest;
+            performed = record { head = head; head_is = same; whole = whole };
+            report = subst P (report_is c (is_wide asked.width) asked.turns o taps' is lines) wrote;
+          },
+        );
+        shelf = inr (asked, e, was);
+      }
 
-pub names_at : (P : List ℕ → List ℕ → Type 0) (read : Option (List ℕ × List ℕ)) (orc sco : List ℕ) → read ≡ Some (orc, sco) → P orc sco → ForNames read P
-names_at P read orc sco e p = subst (λ (o : Option (List ℕ × List ℕ)). ForNames o P) (sym e) p
+  pub talk_fault_run : (words : List Text) (asked : Asked) (wide : Bool) (c : Composition) (head : Head) (o : Outcome) (shelf shelf' : F) (wav wav' : K) (talk talk' : T)
+      (taps taps' : List B) (tally tally' : Tally)
+      → wide ≡ is_wide asked.width → reading words ≡ Some asked → WasRead (see.shelf shelf) (see.shelf shelf') asked.piece
+      → SourceMeans (see.shelf shelf) wide asked.piece (Ok c) → LeavesUnread (see.shelf shelf) (see.shelf shelf') asked.piece
+      → header_of_head head ≡ c.head
+      → IsWhole see.stands see.wav c head (order_of asked) asked.sound_file taps taps' tally tally' wav wav'
+      → IsOutcomeOf c (is_wide asked.width) o → o.turns ≡ if_told asked.turns (turn_lines_of c)
+      → SaysPart (see.talk talk) (see.talk talk') (counts_in o ++ flat_map (λ tap. see.line tap line_room) taps' ++ o.turns)
+      → IsRun see words status.TalkFault (scene shelf wav talk taps tally) (scene shelf' wav' talk' taps' tally')
+  talk_fault_run words asked wide c head o shelf shelf' wav wav' talk talk' taps taps' tally tally' w e was means rest same whole is lines part =
+      let P : List ℕ → Type 0 = λ l. SaysPart (see.talk talk) (see.talk talk') l in record {
+        ended = (
+          asked,
+          e,
+          record {
+            c = c;
+            loaded = loaded asked wide (Ok c) (scene shelf wav talk taps tally) (scene shelf' wav' talk' taps' tally') w means rest;
+            performed = record { head = head; head_is = same; whole = whole };
+            report = subst P (report_is c (is_wide asked.width) asked.turns o taps' is lines) part;
+          },
+        );
+        shelf = inr (asked, e, was);
+      }
 
-no_names : (P : List ℕ → List ℕ → Type 0) (read : Option (List ℕ × List ℕ)) → read ≡ None → ForNames read P → ⊥
-no_names P read e f = subst (λ (o : Option (List ℕ × List ℕ)). ForNames o P) e f
+  -- and one of which some cycles were
+  pub sink_run : (words : List Text) (asked : Asked) (wide : Bool) (c : Composition) (head : Head) (shelf shelf' : F) (wav wav' : K) (talk talk' : T)
+      (taps taps' : List B) (tally tally' : Tally)
+      → wide ≡ is_wide asked.width → reading words ≡ Some asked → WasRead (see.shelf shelf) (see.shelf shelf') asked.piece
+      → SourceMeans (see.shelf shelf) wide asked.piece (Ok c) → LeavesUnread (see.shelf shelf) (see.shelf shelf') asked.piece
+      → header_of_head head ≡ c.head
+      → IsPart see.stands see.wav c head (order_of asked) asked.sound_file taps taps' tally tally' wav wav'
+      → (not asked.silent ≡ true) × Rose (see.wav wav).faults (see.wav wav').faults
+      → Says (see.talk talk) (see.talk talk') (message_of status.SinkFault [])
+      → IsRun see words status.SinkFault (scene shelf wav talk taps tally) (scene shelf' wav' talk' taps' tally')
+  sink_run words asked wide c head shelf shelf' wav wav' talk talk' taps taps' tally tally' w e was means rest same part cause says = record {
+    ended = (
+      asked,
+      e,
+      record {
+        c = c;
+        loaded = loaded asked wide (Ok c) (scene shelf wav talk taps tally) (scene shelf' wav' talk' taps' tally') w means rest;
+        performed = record { head = head; head_is = same; part = part };
+        written = not_silent asked.silent cause.0;
+        rose = cause.1;
+        line = says;
+      },
+    );
+    shelf = inr (asked, e, was);
+  }
 
-some_names : (read : Option (List ℕ × List ℕ)) (names : List ℕ × List ℕ) → read ≡ Some names → read ≡ None → ⊥
-some_names read names e h = cc
-
--- STATUSES
-
--- a status that comes before the texts, or for want of memory
-neither : (s : Status) → (s ≡ Ok → ⊥) → (s ≡ SinkFault → ⊥) → (IsRefusal s → ⊥) → (s ≡ Ok) ⊎ ((s ≡ SinkFault) ⊎ IsRefusal s) → ⊥
-neither s p q r (inl e) = p e
-neither s p q r (inr (inl e)) = q e
-neither s p q r (inr (inr h)) = r h
-
-pub record IsOther (s : Status) : Type 0 where
-  pub not_ok : s ≡ Ok → ⊥
-  pub not_usage : s ≡ Usage → ⊥
-  pub not_unread : s ≡ ShelfFault → ⊥
-  pub not_sink : s ≡ SinkFault → ⊥
-
--- a refusal is none of the others
-other : (s : Status) → IsRefusal s → IsOther s
-other Ok r = absurd r
-other Usage r = absurd r
-other ShelfFault r = absurd r
-other (OrcRefused f) r = record { not_ok = λ e. absurd (cc); not_usage = λ e. absurd (cc); not_unread = λ e. absurd (cc); not_sink = λ e. absurd (cc) }
-other (ScoreRefused f) r = record { not_ok = λ e. absurd (cc); not_usage = λ e. absurd (cc); not_unread = λ e. absurd (cc); not_sink = λ e. absurd (cc) }
-other (Limit hit) r = record { not_ok = λ e. absurd (cc); not_usage = λ e. absurd (cc); not_unread = λ e. absurd (cc); not_sink = λ e. absurd (cc) }
-other SinkFault r = absurd r
-other OutOfMemory r = absurd r
-other NotBuilt r = record { not_ok = λ e. absurd (cc); not_usage = λ e. absurd (cc); not_unread = λ e. absurd (cc); not_sink = λ e. absurd (cc) }
-
--- WAYS TO END
-
-abbrev Refusing : Option (List NamedBytes) → Status → List ℕ → List ℕ → Type 0
-Refusing files s orc sco = AreTold files orc sco (λ x y. FirstRefusal x y s)
-
-abbrev Playing : Option (List NamedBytes) → List ℕ → List ℕ → Type 0
-Playing files orc sco = AreTold files orc sco (λ x y. (o : Orchestra) × (plot : Plot) × IsPiece x y o plot)
-
-pub usage_run : {F K T : Type 0} (st : F → ShelfTold) (wt : K → SinkTold) (kt : T → SinkTold) (words : List (String Global)) (shelf : F) (wav : K) (talk talk' : T)
-    (name : List ℕ) → reading words ≡ None → Says (kt talk) (kt talk') (message_of Usage name) → IsRun st wt kt words Usage shelf shelf wav wav talk talk'
-usage_run st wt kt words shelf wav talk talk' name none says = record {
-  usage = ((λ e. none), (λ e. refl));
-  ok = λ e. absurd (cc);
-  shelf_fault = λ e. absurd (cc);
-  lacking = λ f. absurd (no_names (LacksOne (st shelf).files) (reading words) none f);
-  refused = λ r. absurd r;
-  refusing = λ s f calm. absurd (no_names (Refusing (st shelf).files s) (reading words) none f);
-  sink_fault = λ e. absurd (cc);
-  sink_front = λ e. absurd (cc);
-  untouched = inr (inr refl);
-  complete = λ f calm calm'. absurd (no_names (Playing (st shelf).files) (reading words) none f);
-  moves = inl refl;
-  rest = λ h. absurd (neither Usage (λ e. absurd (cc)) (λ e. absurd (cc)) (λ r. r) h);
-  silent = λ e. absurd (cc);
-  message = λ n. (name, (λ e. absurd (cc)), says);
-}
-
-pub unread_run : {F K T : Type 0} (st : F → ShelfTold) (wt : K → SinkTold) (kt : T → SinkTold) (words : List (String Global)) (shelf shelf' : F) (wav : K) (talk talk' : T)
-    (orc sco name : List ℕ) → reading words ≡ Some (orc, sco) → IsUnread (st shelf) (st shelf') orc sco name → ReadsTexts (st shelf) (st shelf') orc sco
-    → Says (kt talk) (kt talk') (message_of ShelfFault name) → IsRun st wt kt words ShelfFault shelf shelf' wav wav talk talk'
-unread_run st wt kt words shelf shelf' wav talk talk' orc sco name names u reads says = record {
-  usage = ((λ e. absurd (cc)), (λ none. absurd (some_names (reading words) (orc, sco) names none)));
-  ok = λ e. absurd (cc);
-  shelf_fault = λ e. ⊎_elim (λ r. inl r) (λ l. inr (names_at (LacksOne (st shelf).files) (reading words) orc sco names l)) u.cause;
-  lacking = λ f. inl refl;
-  refused = λ r. absurd r;
-  refusing = λ s f calm. absurd (⊎_elim calm
-      (told_lacks (λ x y. FirstRefusal x y s) (st shelf).files orc sco (at_names (Refusing (st shelf).files s) (reading words) orc sco names f)) u.cause);
-  sink_fault = λ e. absurd (cc);
-  sink_front = λ e. absurd (cc);
-  untouched = inr (inr refl);
-  complete = λ f calm calm'. absurd (⊎_elim calm
-      (told_lacks (λ x y. (o : Orchestra) × (plot : Plot) × IsPiece x y o plot) (st shelf).files orc sco
-      (at_names (Playing (st shelf).files) (reading words) orc sco names f)) u.cause);
-  moves = inr (names_at (ReadsTexts (st shelf) (st shelf')) (reading words) orc sco names reads);
-  rest = λ h. absurd (neither ShelfFault (λ e. absurd (cc)) (λ e. absurd (cc)) (λ r. r) h);
-  silent = λ e. absurd (cc);
-  message = λ n. (name, (λ e. names_at (λ o s. IsUnread (st shelf) (st shelf') o s name) (reading words) orc sco names u), says);
-}
-
-pub refused_run : {F K T : Type 0} (st : F → ShelfTold) (wt : K → SinkTold) (kt : T → SinkTold) (words : List (String Global)) (s : Status) (shelf shelf' : F) (wav : K)
-    (talk talk' : T) (orc sco name : List ℕ) → reading words ≡ Some (orc, sco) → IsRefused (st shelf) (st shelf') orc sco s
-    → ReadsTexts (st shelf) (st shelf') orc sco → Says (kt talk) (kt talk') (message_of s name) → IsRun st wt kt words s shelf shelf' wav wav talk talk'
-refused_run st wt kt words s shelf shelf' wav talk talk' orc sco name names r reads says =
-    let is = other s r.refusal in
-    record {
-      usage = ((λ e. absurd (is.not_usage e)), (λ none. absurd (some_names (reading words) (orc, sco) names none)));
-      ok = λ e. absurd (is.not_ok e);
-      shelf_fault = λ e. absurd (is.not_unread e);
-      lacking = λ f. absurd (texts_lack (λ x y. FirstRefusal x y s) (st shelf).files orc sco r.texts
-          (at_names (LacksOne (st shelf).files) (reading words) orc sco names f));
-      refused = λ h. names_at (λ o c. IfTold (st shelf).files o c (λ x y. FirstRefusal x y s)) (reading words) orc sco names r.texts;
-      refusing = λ t f calm. inl (sym (told_first (st shelf).files orc sco t s (at_names (Refusing (st shelf).files t) (reading words) orc sco names f) r.texts));
-      sink_fault = λ e. absurd (is.not_sink e);
-      sink_front = λ e. absurd (is.not_sink e);
-      untouched = inr (inr refl);
-      complete = λ f calm calm'. absurd (piece_no_first (st shelf).files orc sco s (at_names (Playing (st shelf).files) (reading words) orc sco names f) r.texts);
-      moves = inr (names_at (ReadsTexts (st shelf) (st shelf')) (reading words) orc sco names reads);
-      rest = λ h. names_at (LeavesUnread (st shelf) (st shelf')) (reading words) orc sco names r.rest;
-      silent = λ e. absurd (is.not_ok e);
-      message = λ n. (name, (λ e. absurd (is.not_unread e)), says);
-    }
-
-pub memory_run : {F K T : Type 0} (st : F → ShelfTold) (wt : K → SinkTold) (kt : T → SinkTold) (words : List (String Global)) (shelf shelf' : F) (wav wav' : K) (talk talk' : T)
-    (orc sco name : List ℕ) → reading words ≡ Some (orc, sco) → ReadsTexts (st shelf) (st shelf') orc sco → wav' ≡ wav
-    → Says (kt talk) (kt talk') (message_of OutOfMemory name) → IsRun st wt kt words OutOfMemory shelf shelf' wav wav' talk talk'
-memory_run st wt kt words shelf shelf' wav wav' talk talk' orc sco name names reads same says = record {
-  usage = ((λ e. absurd (cc)), (λ none. absurd (some_names (reading words) (orc, sco) names none)));
-  ok = λ e. absurd (cc);
-  shelf_fault = λ e. absurd (cc);
-  lacking = λ f. inr refl;
-  refused = λ r. absurd r;
-  refusing = λ s f calm. inr refl;
-  sink_fault = λ e. absurd (cc);
-  sink_front = λ e. absurd (cc);
-  untouched = inr (inr same);
-  complete = λ f calm calm'. inr refl;
-  moves = inr (names_at (ReadsTexts (st shelf) (st shelf')) (reading words) orc sco names reads);
-  rest = λ h. absurd (neither OutOfMemory (λ e. absurd (cc)) (λ e. absurd (cc)) (λ r. r) h);
-  silent = λ e. absurd (cc);
-  message = λ n. (name, (λ e. absurd (cc)), says);
-}
-
-pub ok_run : {F K T : Type 0} (st : F → ShelfTold) (wt : K → SinkTold) (kt : T → SinkTold) (words : List (String Global)) (shelf shelf' : F) (wav wav' : K) (talk talk' : T)
-    (orc sco : List ℕ) (o : Orchestra) (plot : Plot) → reading words ≡ Some (orc, sco) → IsLoaded (st shelf) (st shelf') orc sco o plot
-    → ReadsTexts (st shelf) (st shelf') orc sco → Plays (wt wav) (wt wav') sound_name o plot → talk' ≡ talk → IsRun st wt kt words Ok shelf shelf' wav wav' talk talk'
-ok_run st wt kt words shelf shelf' wav wav' talk talk' orc sco o plot names l reads plays same = record {
-  usage = ((λ e. absurd (cc)), (λ none. absurd (some_names (reading words) (orc, sco) names none)));
-  ok = λ e. names_at (λ a c. (p : Orchestra) × (q : Plot) × IfTold (st shelf).files a c (λ x y. IsPiece x y p q) × Plays (wt wav) (wt wav') sound_name p q)
-      (reading words) orc sco names (o, plot, l.texts, plays);
-  shelf_fault = λ e. absurd (cc);
-  lacking = λ f. absurd (texts_lack (λ x y. IsPiece x y o plot) (st shelf).files orc sco l.texts (at_names (LacksOne (st shelf).files) (reading words) orc sco names f));
-  refused = λ r. absurd r;
-  refusing = λ s f calm. absurd (first_no_piece (st shelf).files orc sco s o plot (at_names (Refusing (st shelf).files s) (reading words) orc sco names f) l.texts);
-  sink_fault = λ e. absurd (cc);
-  sink_front = λ e. absurd (cc);
-  untouched = inl refl;
-  complete = λ f calm calm'. inl refl;
-  moves = inr (names_at (ReadsTexts (st shelf) (st shelf')) (reading words) orc sco names reads);
-  rest = λ h. names_at (LeavesUnread (st shelf) (st shelf')) (reading words) orc sco names l.rest;
-  silent = λ e. same;
-  message = λ n. absurd (n refl);
-}
-
-pub sink_run : {F K T : Type 0} (st : F → ShelfTold) (wt : K → SinkTold) (kt : T → SinkTold) (words : List (String Global)) (shelf shelf' : F) (wav wav' : K) (talk talk' : T)
-    (orc sco name : List ℕ) (o : Orchestra) (plot : Plot) → reading words ≡ Some (orc, sco) → IsLoaded (st shelf) (st shelf') orc sco o plot
-    → ReadsTexts (st shelf) (st shelf') orc sco → Rose (wt wav).faults (wt wav').faults → PlaysPart (wt wav) (wt wav') sound_name o plot
-    → Says (kt talk) (kt talk') (message_of SinkFault name) → IsRun st wt kt words SinkFault shelf shelf' wav wav' talk talk'
-sink_run st wt kt words shelf shelf' wav wav' talk talk' orc sco name o plot names l reads rose part says = record {
-  usage = ((λ e. absurd (cc)), (λ none. absurd (some_names (reading words) (orc, sco) names none)));
-  ok = λ e. absurd (cc);
-  shelf_fault = λ e. absurd (cc);
-  lacking = λ f. absurd (texts_lack (λ x y. IsPiece x y o plot) (st shelf).files orc sco l.texts (at_names (LacksOne (st shelf).files) (reading words) orc sco names f));
-  refused = λ r. absurd r;
-  refusing = λ s f calm. absurd (first_no_piece (st shelf).files orc sco s o plot (at_names (Refusing (st shelf).files s) (reading words) orc sco names f) l.texts);
-  sink_fault = λ e. rose;
-  sink_front = λ e. names_at (λ a c. (p : Orchestra) × (q : Plot) × IfTold (st shelf).files a c (λ x y. IsPiece x y p q) × PlaysPart (wt wav) (wt wav') sound_name p q)
-      (reading words) orc sco names (o, plot, l.texts, part);
-  untouched = inr (inl refl);
-  complete = λ f calm calm'. absurd (calm' rose);
-  moves = inr (names_at (ReadsTexts (st shelf) (st shelf')) (reading words) orc sco names reads);
-  rest = λ h. names_at (LeavesUnread (st shelf) (st shelf')) (reading words) orc sco names l.rest;
-  silent = λ e. absurd (cc);
-  message = λ n. (name, (λ e. absurd (cc)), says);
-}
-
--- the status that a run gives is the one that it ended with
-pub ended : {F K T : Type 0} (st : F → ShelfTold) (wt : K → SinkTold) (kt : T → SinkTold) (words : List (String Global)) (r s : Status) (shelf shelf' : F) (wav wav' : K)
-    (talk talk' : T) → r ≡ s → IsRun st wt kt words s shelf shelf' wav wav' talk talk' → IsRun st wt kt words r shelf shelf' wav wav' talk talk'
-ended st wt kt words r s shelf shelf' wav wav' talk talk' e run =
-    subst (λ (x : Status). IsRun st wt kt words x shelf shelf' wav wav' talk talk') (sym e) run
+  pub cut_short_run : (words : List Text) (asked : Asked) (wide : Bool) (c : Composition) (head : Head) (shelf shelf' : F) (wav wav' : K) (talk talk' : T)
+      (taps taps' : List B) (tally tally' : Tally)
+      → wide ≡ is_wide asked.width → reading words ≡ Some asked → WasRead (see.shelf shelf) (see.shelf shelf') asked.piece
+      → SourceMeans (see.shelf shelf) wide asked.piece (Ok c) → LeavesUnread (see.shelf shelf) (see.shelf shelf') asked.piece
+      → header_of_head head ≡ c.head
+      → IsPaused see.stands see.wav c head (order_of asked) asked.sound_file taps taps' tally tally' wav wav'
+      → Says (see.talk talk) (see.talk talk') (message_of status.OutOfMemory [])
+      → IsRun see words status.OutOfMemory (scene shelf wav talk taps tally) (scene shelf' wav' talk' taps' tally')
+  cut_short_run words asked wide c head shelf shelf' wav wav' talk talk' taps taps' tally tally' w e was means rest same paused says = record {
+    ended = record {
+      performed = inr (
+        asked,
+        e,
+        record {
+          c = c;
+          loaded = loaded asked wide (Ok c) (scene shelf wav talk taps tally) (scene shelf' wav' talk' taps' tally') w means rest;
+          performed = record { head = head; head_is = same; paused = paused };
+        },
+      );
+      line = says;
+    };
+    shelf = inr (asked, e, was);
+  }

@@ -1,11 +1,8 @@
-pub mod Load
-pub mod Mix
-pub mod Orchestra
-pub mod Refusal
-pub mod Run
-pub mod Sound
+pub mod Alike
+pub mod Endings
+pub mod Report
+pub mod Runs
+pub mod Scene
 pub mod Status
 pub mod Talk
-pub mod Texts
-pub mod Words
 pub mod inner

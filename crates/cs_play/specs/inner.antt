@@ -1,6 +1,2 @@
--- what only private clauses cite
-pub mod Blocks
-pub mod Pieces
-pub mod Reading
-pub mod Stage
-pub mod Stops
+-- what private clauses cite alone
+pub mod Counts

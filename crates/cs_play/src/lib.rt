@@ -1,28 +1,21 @@
-//! The program as one call: an orchestra and a score in, a sound file out. It stands on all the crates of texts and time.
+//! The program as one call: the words behind its name in, a sound file and a report out.
 //!
-//! The one contract is that of `csplay`, the record `IsRun`: a run that ends Ok has written exactly the WAV of the mix
-//! that the two texts mean, and every other status has its stated cause, its line on talk, and leaves what it says.
-//! What is built is the whole score, every refusal of an orchestra, and of the orchestras that are right the six-line
-//! one; `stage`, `play` and the six lines of `orchestra` go when the whole language is performed, and nothing above
-//! `piece` and `perform` notices.
+//! The one contract: `csplay` ends as `IsRun` says (specs/Runs): each status by what has come about (`EndsBy`, specs/Endings), over
+//! what shelf, sound file, talk and meters tell before and after; and the shelf was read by the source that the words ask for, or
+//! not at all. What follows for every two runs and for every run are calls of `laws`: the same bytes for every number of workers,
+//! and that words, a lacking name, a refusal and a sound decide the status, want of memory aside.
 //!
-//! In reading order: `words` (two names), `status`, `talk` (its line), `orchestra` (what an orchestra says),
-//! `piece` (what two texts mean), `read` (a text of a shelf), `load` (both texts), `stage` (the notes that sound),
-//! `blocks`, `play` (the file, cycle by cycle), `perform`, and `top` (the whole run).
+//! How a report and a line are made, and in how many writes, may be changed without anyone noticing; so may the number of workers.
+//!
+//! Modules in reading order: `status`, `talk` (the line of a status), `report`, `top` (the whole run), `laws`.
 #![tactic(auto)]
 
-mod blocks;
-mod load;
-mod orchestra;
-mod perform;
-mod piece;
-mod play;
-mod read;
-mod stage;
+mod laws;
+mod report;
 mod status;
 mod talk;
 mod top;
-mod words;
 
+pub use laws::{lacking_decides, refusals_decide, same_bytes, sounds_decide, words_decide};
 pub use status::Status;
 pub use top::csplay;

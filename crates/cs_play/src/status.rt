@@ -1,16 +1,19 @@
+// How a run ended.
 ghost use Rattle.std.specs.Prelude.{◌≡◌};
-ghost use Rattle.cs_play.specs.Status.{status_number};
+ghost use Rattle.cs_play.specs.Status.{refusal, status_number};
 
 use cs_base::{LimitHit, OrcFault, ScoreFault};
+use cs_csd::CsdFault;
+use cs_source::Refused;
 
 /// How a run ended.
 #[derive(Clone, Copy, Debug, PartialEq, Eq)]
 pub enum Status {
-    /// Both texts were read, and the sound file is whole.
+    /// The piece was performed whole, its sound file is whole, and so is the report.
     Ok,
-    /// The words aren't two names.
+    /// The words have no reading.
     Usage,
-    /// A text couldn't be read.
+    /// A file of the piece couldn't be read.
     ShelfFault,
     /// The orchestra breaks a rule of the language.
     OrcRefused(OrcFault),
@@ -22,8 +25,10 @@ pub enum Status {
     SinkFault,
     /// Memory was refused.
     OutOfMemory,
-    /// The orchestra isn't one that can be played yet.
-    NotBuilt,
+    /// The report couldn't be written. The sound file is whole.
+    TalkFault,
+    /// The tags of a file with both texts break a rule.
+    CsdRefused(CsdFault),
 }
 
 impl Status {
@@ -40,7 +45,20 @@ impl Status {
             Status::Limit(_) => 6,
             Status::SinkFault => 7,
             Status::OutOfMemory => 8,
-            Status::NotBuilt => 10,
+            Status::TalkFault => 9,
+            Status::CsdRefused(_) => 11,
+        }
+    }
+
+    /// The status of a refusal.
+    pub fn of_refusal(refused: Refused) -> Status
+        ensures { result ≡ refusal refused }
+    {
+        match refused {
+            Refused::Csd(fault) => Status::CsdRefused(fault),
+            Refused::Orc(fault) => Status::OrcRefused(fault),
+            Refused::Score(fault) => Status::ScoreRefused(fault),
+            Refused::Limit(hit) => Status::Limit(hit),
         }
     }
 }

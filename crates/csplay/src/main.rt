@@ -2,7 +2,8 @@
 //! status's number. All that it promises is the contract of that call.
 #![tactic(auto)]
 
-use cs_edge::{FileShelf, FileSink, OpenGate, TalkOut};
+use cs_desk::Tally;
+use cs_edge::{FileShelf, FileSink, OpenGate, PeakTap, TalkOut, Tap, write_all};
 use cs_play::{Status, csplay};
 use std::alloc::AllocError;
 use std::process::ExitCode;
@@ -15,10 +16,18 @@ fn main(rt: HostRuntime) -> ExitCode {
     ExitCode::from(run(&rt).number())
 }
 
-/// Calls `csplay` over the system's files and standard output.
+/// Calls `csplay` over the system's files and standard output, with a meter of the peak.
 fn run<R: Env + Files + Print + AllocGlobal + Threads + Wait + Sync>(rt: &R) -> Status {
     let Ok(words) = words_of(rt) else {
-        return Status::OutOfMemory;
+        return starved(rt);
+    };
+    // The meter is made where it is used: a function that makes one and hands it out isn't proved.
+    let mut taps: Vec<Box<dyn Tap>> = Vec::new(rt.alloc());
+    let Ok(peak) = Box::new(rt.alloc(), PeakTap::new()) else {
+        return starved(rt);
+    };
+    let Ok(()) = taps.push(peak) else {
+        return starved(rt);
     };
     csplay(
         rt,
@@ -27,9 +36,17 @@ fn run<R: Env + Files + Print + AllocGlobal + Threads + Wait + Sync>(rt: &R) -> 
         &mut FileShelf::new(rt),
         &mut FileSink::new(rt),
         &mut TalkOut::new(rt),
-        &mut Vec::new(rt.alloc()),
+        &mut taps,
         &OpenGate::new(),
+        &mut Tally::new(),
     )
+}
+
+/// Memory was refused before the call.
+fn starved<R: Print>(rt: &R) -> Status {
+    match write_all(&mut TalkOut::new(rt), b"out of memory\n") {
+        Ok(()) | Err(_) => Status::OutOfMemory,
+    }
 }
 
 /// The words behind the program's name; none where one isn't UTF-8, so that the program says how it is used.

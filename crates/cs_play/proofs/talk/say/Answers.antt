@@ -2,12 +2,12 @@ use Rattle.std.proofs.Common.{refl}
 use Rattle.cs_play.proofs.Saying.{said_more, said_part}
 use Rattle.cs_play.proofs.talk.say.Goals as goal
 
-pub returns-in_default : goal.returns-in_default
-returns-in_default g c =
+pub returns-in-Err-clause-part : goal.returns-in-Err-clause-part
+returns-in-Err-clause-part g c =
     said_part (λ piece. piece.now) c.args.pieces.now c.loop-piece.piece-index _ c.as_bytes.result.now _ _ _ c.loop-piece-test.true
-    c.as_bytes.ensures.value c.loop-piece.invariant c.in_default.ensures.stopped (c.in_default.ensures.cause.rose refl)
+    c.as_bytes.ensures.value c.loop-piece.invariant c.in-Err.ensures.stopped (c.in-Err.ensures.cause.rose refl)
 
 pub loop-piece-preserved : goal.loop-piece-preserved
 loop-piece-preserved g c =
     said_more (λ piece. piece.now) c.args.pieces.now c.loop-piece.piece-index _ c.as_bytes.result.now _ _ _ c.loop-piece-test.true
-    c.as_bytes.ensures.value c.loop-piece.invariant c.in-Ok.ensures.written
+    c.as_bytes.ensures.value c.loop-piece.invariant c.in_default.ensures.written

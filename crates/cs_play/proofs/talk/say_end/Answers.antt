@@ -1,16 +1,16 @@
 use Rattle.std.proofs.Common.{refl}
-use Rattle.cs_play.specs.declared.status.Status.TheVariants.{SinkFault, OutOfMemory, NotBuilt}
+use Rattle.cs_play.specs.declared.status.Status.TheVariants.{ShelfFault, SinkFault, OutOfMemory}
 use Rattle.cs_play.proofs.Saying.{says_message}
 use Rattle.cs_play.proofs.talk.say_end.Goals as goal
 
-pub returns-in-SinkFault-clause-message : goal.returns-in-SinkFault-clause-message
-returns-in-SinkFault-clause-message g c =
-    says_message _ _ c.args.status SinkFault c.args.name.now _ c.in-SinkFault.is refl c.say-in-SinkFault.ensures
+pub returns-in-ShelfFault-clause-line : goal.returns-in-ShelfFault-clause-line
+returns-in-ShelfFault-clause-line g c =
+    says_message _ _ c.args.status ShelfFault c.args.name.now _ c.in-ShelfFault.is refl c.say_line-in-ShelfFault.ensures
 
-pub returns-in-OutOfMemory-clause-message : goal.returns-in-OutOfMemory-clause-message
-returns-in-OutOfMemory-clause-message g c =
-    says_message _ _ c.args.status OutOfMemory c.args.name.now _ c.in-OutOfMemory.is refl c.say-in-OutOfMemory.ensures
+pub returns-in-SinkFault-clause-line : goal.returns-in-SinkFault-clause-line
+returns-in-SinkFault-clause-line g c =
+    says_message _ _ c.args.status SinkFault c.args.name.now _ c.in-SinkFault.is refl c.say_line-in-SinkFault.ensures
 
-pub returns-in-NotBuilt-clause-message : goal.returns-in-NotBuilt-clause-message
-returns-in-NotBuilt-clause-message g c =
-    says_message _ _ c.args.status NotBuilt c.args.name.now _ c.in-NotBuilt.is refl c.say-in-NotBuilt.ensures
+pub returns-in-OutOfMemory-clause-line : goal.returns-in-OutOfMemory-clause-line
+returns-in-OutOfMemory-clause-line g c =
+    says_message _ _ c.args.status OutOfMemory c.args.name.now _ c.in-OutOfMemory.is refl c.say_line-in-OutOfMemory.ensures

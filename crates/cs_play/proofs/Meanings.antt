@@ -1,0 +1,94 @@
+-- What the texts of a run mean, where they are known.
+use Rattle.std.proofs.Common.{◌≡◌, ℕ, Bool, List, Option, Some, None, Result, Ok, Err, ap, sym, subst, ◌∙◌, ⊎_elim}
+use Rattle.cs_course.specs.Moments.{Composition}
+use Rattle.cs_edge.specs.Files.{ShelfTold}
+use Rattle.cs_edge.specs.Told.{Rose}
+use Rattle.cs_edge.specs.declared.files.NamedBytes.{NamedBytes}
+use Rattle.cs_play.specs.Alike.{AreTexts, TellAlike}
+use Rattle.cs_reading.specs.Reading.{Piece, two_files, one_file, demo}
+use Rattle.cs_source.specs.Loaded.{CannotRead, SourceMeans}
+use Rattle.cs_source.specs.Meaning.{Mean}
+use Rattle.cs_source.specs.Texts.{Texts, both, csd, demo_notes, Fit, Have, HaveWhereTold, Lack, LackWhereTold}
+use Rattle.cs_source.specs.declared.refused.Refused.{Refused}
+
+-- texts have one meaning; files have one pair of texts; and what files lack they don't have
+abbrev pub OneMeaning : Type 0
+OneMeaning = (wide : Bool) (t : Texts) (r s : Result Composition Refused) → Mean wide t r → Mean wide t s → r ≡ s
+
+abbrev pub OnePair : Type 0
+OnePair = (files : List NamedBytes) (piece : Piece) (t u : Texts) → Have files piece t → Have files piece u → t ≡ u
+
+abbrev pub NoneLacking : Type 0
+NoneLacking = (files : List NamedBytes) (piece : Piece) (t : Texts) (name : List ℕ) → Lack files piece name → Have files piece t → ⊥
+
+demo_texts : (n : ℕ) (t : Texts) → Fit (demo n) t → t ≡ demo_notes n
+demo_texts n (both a b) f = absurd f
+demo_texts n (csd a) f = absurd f
+demo_texts n (demo_notes m) f = ap demo_notes (sym f)
+
+-- the texts that are known are those of the source
+same_texts : OnePair → (files : Option (List NamedBytes)) (piece : Piece) (t u : Texts) → AreTexts files piece t → Fit piece u
+    → HaveWhereTold files piece u → t ≡ u
+same_texts one files (demo n) t u known fit have = known ∙ sym (demo_texts n u fit)
+same_texts one None (two_files orc sco) t u known fit have = absurd known
+same_texts one None (one_file name) t u known fit have = absurd known
+same_texts one (Some files) (two_files orc sco) t u known fit have = one files (two_files orc sco) t u known have
+same_texts one (Some files) (one_file name) t u known fit have = one files (one_file name) t u known have
+
+-- so what they mean is what the source means
+pub source_means : OneMeaning → OnePair → (told : ShelfTold) (wide : Bool) (piece : Piece) (t : Texts) (r s : Result Composition Refused)
+    → AreTexts told.files piece t → Mean wide t r → SourceMeans told wide piece s → r ≡ s
+source_means meaning pair told wide piece t r s known mean source =
+    let P : Texts → Type 0 = λ u. Mean wide u r in
+    meaning wide source.texts r s (subst P (same_texts pair told.files piece t source.texts known source.fit source.have) mean) source.mean
+
+-- and none of them is lacking
+known_lack : NoneLacking → (files : Option (List NamedBytes)) (piece : Piece) (t : Texts) (name : List ℕ) → AreTexts files piece t
+    → LackWhereTold files piece name → ⊥
+known_lack none None piece t name known lack = absurd lack
+known_lack none (Some files) (demo n) t name known lack = absurd lack
+known_lack none (Some files) (two_files orc sco) t name known lack = none files (two_files orc sco) t name lack known
+known_lack none (Some files) (one_file csd_name) t name known lack = none files (one_file csd_name) t name lack known
+
+-- so that a name can't be read only where the shelf failed
+pub known_unread : NoneLacking → (told now : ShelfTold) (piece : Piece) (t : Texts) (name : List ℕ) → AreTexts told.files piece t
+    → CannotRead told now piece name → Rose told.faults now.faults
+known_unread none told now piece t name known unread =
+    ⊎_elim (λ rose. rose) (λ lack. absurd (known_lack none told.files piece t name known lack)) unread.cause
+
+have_lack : NoneLacking → (files : Option (List NamedBytes)) (piece : Piece) (t : Texts) (name : List ℕ) → HaveWhereTold files piece t
+    → LackWhereTold files piece name → ⊥
+have_lack none None piece t name have lack = lack
+have_lack none (Some files) piece t name have lack = none files piece t name lack have
+
+-- texts of a source aren't lacking
+pub source_lacks : NoneLacking → (told : ShelfTold) (wide : Bool) (piece : Piece) (r : Result Composition Refused) (name : List ℕ)
+    → SourceMeans told wide piece r → LackWhereTold told.files piece name → ⊥
+source_lacks none told wide piece r name source lack = have_lack none told.files piece source.texts name source.have lack
+
+-- two sources that tell alike have the same texts
+alike_texts : OnePair → (a b : Option (List NamedBytes)) (piece : Piece) (t u : Texts) → TellAlike piece a b → Fit piece t → Fit piece u
+    → HaveWhereTold a piece t → HaveWhereTold b piece u → t ≡ u
+alike_texts one a b (demo n) t u told fit fit' have have' = demo_texts n t fit ∙ sym (demo_texts n u fit')
+alike_texts one a b (two_files orc sco) t u told fit fit' have have' =
+    one told.0 (two_files orc sco) t u (rw told.1 at have) (rw told.2 at have')
+alike_texts one a b (one_file name) t u told fit fit' have have' =
+    one told.0 (one_file name) t u (rw told.1 at have) (rw told.2 at have')
+
+pub alike_means : OneMeaning → OnePair → (told told' : ShelfTold) (wide : Bool) (piece : Piece) (r s : Result Composition Refused)
+    → TellAlike piece told.files told'.files → SourceMeans told wide piece r → SourceMeans told' wide piece s → r ≡ s
+alike_means meaning pair told told' wide piece r s alike source source' =
+    let P : Texts → Type 0 = λ u. Mean wide u r in
+    meaning wide source'.texts r s
+    (subst P (alike_texts pair told.files told'.files piece source.texts source'.texts alike source.fit source'.fit source.have source'.have) source.mean)
+    source'.mean
+
+-- answers that are the same have the same value
+pub same_refusal : (r s : Refused) → (let a : Result Composition Refused = Err r in a) ≡ Err s → r ≡ s
+same_refusal r s e = cc
+
+pub same_composition : (c d : Composition) → (let a : Result Composition Refused = Ok c in a) ≡ Ok d → c ≡ d
+same_composition c d e = cc
+
+pub refused_composition : (c : Composition) (r : Refused) → (let a : Result Composition Refused = Ok c in a) ≡ Err r → ⊥
+refused_composition c r e = cc
