@@ -22,7 +22,11 @@ pub struct Once {
     pub has_words: bool,
     pub hex: bool,
     pub calls: bool,
+    pub report: bool,
     pub twice: bool,
+    pub meet: bool,
+    /// The room of a mirror; 0 is none.
+    pub mirror: u32,
 }
 
 impl Once {
@@ -36,7 +40,10 @@ impl Once {
             has_words: false,
             hex: false,
             calls: false,
+            report: false,
             twice: false,
+            meet: false,
+            mirror: 0,
         }
     }
 
@@ -61,6 +68,7 @@ impl Once {
         match what {
             Shown::Hex => self.hex = true,
             Shown::Calls => self.calls = true,
+            Shown::Report => self.report = true,
         }
     }
 }

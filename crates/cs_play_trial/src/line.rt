@@ -15,6 +15,8 @@ pub enum Shown {
     Hex,
     /// The calls made on the three objects.
     Calls,
+    /// The report of a run that ended Ok.
+    Report,
 }
 
 /// A text that is added so many times, with or without a line feed behind it.
@@ -43,6 +45,10 @@ pub enum Line<'a> {
     Show(Shown),
     /// The case runs twice on one shelf.
     Twice,
+    /// Two notes of the first cycle meet, or the line says that they didn't.
+    Meet,
+    /// A mirror with room for so many values is told the mix too.
+    Mirror(u32),
     /// The case of this name runs.
     Play(&'a [u8]),
     /// None of these.
@@ -70,7 +76,10 @@ fn line_of_word(line: &[u8]) -> Line<'_> {
         b"room" => room_of(rest),
         b"hex" => Line::Show(Shown::Hex),
         b"calls" => Line::Show(Shown::Calls),
+        b"report" => Line::Show(Shown::Report),
         b"twice" => Line::Twice,
+        b"meet" => Line::Meet,
+        b"mirror" => Line::Mirror(number_of(rest)),
         b"play" => Line::Play(rest),
         _ => comment_or_wrong(word),
     }

@@ -5,10 +5,12 @@
 //! Nothing is proved of the answers here, only that the trials are safe.
 //!
 //! In reading order: `line` (what a line of a case file says), `text` (its escapes), `desk` (the case that is being
-//! made), `play` (the runs of a case), `show` (its line) and `wave` (the samples in it).
+//! made), `gate` (where two
+//! notes meet), `play` (the runs of a case), `show` (its line) and `wave` (the samples in it).
 #![tactic(auto)]
 
 mod desk;
+mod gate;
 mod line;
 mod play;
 mod show;
@@ -76,6 +78,8 @@ fn follow<R: Files + Print + AllocGlobal + Threads + Wait + Sync>(
         Line::Room(object, most) => desk.once.limit(object, most),
         Line::Show(what) => desk.once.show(what),
         Line::Twice => desk.once.twice = true,
+        Line::Meet => desk.once.meet = true,
+        Line::Mirror(room) => desk.once.mirror = room,
         Line::Play(name) => {
             say(rt, name, desk)?;
             desk.forget();

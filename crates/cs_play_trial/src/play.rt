@@ -1,8 +1,12 @@
 // The runs of a case.
 use crate::desk::{Desk, Once};
+use crate::gate::Meeting;
 use crate::show::{Outcome, add_line};
 use cs_base::{Bytes, Text};
-use cs_edge::{Calls, Files, MemShelf, MemSink, NamedBytes, OpenGate};
+use cs_desk::Tally;
+use cs_edge::{
+    Calls, Files, Gate, MemShelf, MemSink, MirrorTap, NamedBytes, OpenGate, PeakTap, Tap,
+};
 use cs_play::csplay;
 use std::alloc::{AllocError, Global};
 use std::sync::Wait;
@@ -46,24 +50,49 @@ fn run_on<R: AllocGlobal + Threads + Wait + Sync>(
 ) -> Result<(), AllocError> {
     let mut wav = sink_of(rt.alloc(), once.wav_fails, once.wav_room)?;
     let mut talk = sink_of(rt.alloc(), once.talk_fails, once.talk_room)?;
-    let status = run(rt, words, shelf, &mut wav, &mut talk);
+    let meeting = Meeting::new();
+    let mut told = Vec::new(rt.alloc());
+    let room = once.mirror;
+    let status = if once.meet {
+        run(
+            rt, words, shelf, &mut wav, &mut talk, &meeting, room, &mut told,
+        )?
+    } else {
+        let gate = OpenGate::new();
+        run(
+            rt, words, shelf, &mut wav, &mut talk, &gate, room, &mut told,
+        )?
+    };
     let outcome = Outcome {
         status,
         shelf: &*shelf,
         wav: &wav,
         talk: &talk,
+        met: meeting.took_place(),
+        told: &told,
     };
     add_line(out, name, once, outcome)
 }
 
-fn run<R: AllocGlobal + Threads + Wait + Sync>(
+fn run<R: AllocGlobal + Threads + Wait + Sync, G: Gate + Sync>(
     rt: &R,
     words: &[String],
     shelf: &mut MemShelf,
     wav: &mut MemSink,
     talk: &mut MemSink,
-) -> u8 {
-    let mut taps = Vec::new(rt.alloc());
+    gate: &G,
+    room: u32,
+    told: &mut Vec<u8>,
+) -> Result<u8, AllocError> {
+    let mut taps: Vec<Box<dyn Tap>> = Vec::new(rt.alloc());
+    taps.push(Box::new(rt.alloc(), PeakTap::new())?)?;
+    if room > 0 {
+        let Ok(mirror) = MirrorTap::new(rt.alloc(), room) else {
+            return Err(AllocError);
+        };
+        taps.push(Box::new(rt.alloc(), mirror)?)?;
+    }
+    let mut tally = Tally::new();
     let status = csplay(
         rt,
         rt.alloc(),
@@ -72,9 +101,23 @@ fn run<R: AllocGlobal + Threads + Wait + Sync>(
         wav,
         talk,
         &mut taps,
-        &OpenGate::new(),
+        gate,
+        &mut tally,
     );
-    status.number()
+    if room > 0 {
+        add_told(&taps, told)?;
+    }
+    Ok(status.number())
+}
+
+// The line of the last meter.
+fn add_told(taps: &[Box<dyn Tap>], told: &mut Vec<u8>) -> Result<(), AllocError> {
+    if let Some(tap) = taps.last() {
+        let mut line = [0u8; 64];
+        let count = tap.line(&mut line);
+        told.extend_from_slice(&line[..count.min(64)])?;
+    }
+    Ok(())
 }
 
 // The words, one a line; what isn't UTF-8 is left out.
@@ -99,6 +142,8 @@ fn shelf_of(alloc: Global, desk: &Desk) -> Result<MemShelf, AllocError> {
     let mut files = Files::new(alloc);
     files.push(file_of(alloc, "a.orc", &desk.orchestra)?)?;
     files.push(file_of(alloc, "a.sco", &desk.score)?)?;
+    // A file with both texts is written as an orchestra.
+    files.push(file_of(alloc, "a.csd", &desk.orchestra)?)?;
     Ok(MemShelf::new(alloc, files, failing(alloc, desk.once.shelf_fails)?))
 }
 

@@ -12,9 +12,14 @@ pub struct Outcome<'a> {
     pub shelf: &'a MemShelf,
     pub wav: &'a MemSink,
     pub talk: &'a MemSink,
+    /// Whether two notes met at the gate.
+    pub met: bool,
+    /// The line of a mirror.
+    pub told: &'a [u8],
 }
 
-/// Writes a case's line: its name, the status, the line on talk, and the sound file where one was begun.
+/// Writes a case's line: its name, the status, the line on talk (the report where it is asked for), and the sound file where one
+/// was begun.
 pub fn add_line(
     out: &mut String,
     name: &[u8],
@@ -24,9 +29,21 @@ pub fn add_line(
     add_shown(out, name)?;
     out.push_str(": ")?;
     add_number(out, u64::from(outcome.status))?;
-    add_talk(out, outcome.talk.taken())?;
+    if outcome.status != 0 || once.report {
+        add_talk(out, outcome.talk.taken())?;
+    }
     if !outcome.wav.moves().is_empty() {
         add_sound(out, outcome.wav.taken(), once.hex)?;
+    }
+    if once.meet {
+        out.push_str(if outcome.met { "; met" } else { "; not met" })?;
+    }
+    if once.mirror > 0 {
+        out.push_str("; ")?;
+        add_shown(
+            out,
+            outcome.told.strip_suffix(b"\n").unwrap_or(outcome.told),
+        )?;
     }
     if once.calls {
         add_calls(out, "; shelf", outcome.shelf.moves())?;
