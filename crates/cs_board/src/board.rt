@@ -13,6 +13,7 @@ use std::sync::Arc;
 
 /// What one worker steps with. A seat is used by one thread at a time; `Board::begin` gives the
 /// first, and `Board::split` the others. It holds no job between two calls.
+#[derive(Drop)]
 pub struct BoardSeat<J> {
     pub(crate) badge: Badge<View<J>>,
     /// The note that it claimed last.
