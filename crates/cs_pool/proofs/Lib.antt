@@ -1,0 +1,5 @@
+pub mod Ends
+pub mod Exchanging
+pub mod Found
+pub mod Seats
+pub mod Shared

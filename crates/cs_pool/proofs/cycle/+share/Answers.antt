@@ -1,0 +1,45 @@
+use Rattle.std.proofs.Common.{rules, ap, ◌∙◌, subst}
+use Rattle.std.proofs.lemmas.List.Elements.{All-cons, All-tail}
+use Rattle.std.specs.Arc.{arc_value}
+use Rattle.std.specs.List.{All}
+use Rattle.cs_board.specs.Board.{plan, name, view, IsSeatOf}
+use Rattle.cs_pool.proofs.Seats.{ready_kept, leads_kept, leads_joined}
+use Rattle.cs_pool.specs.declared.line.Line.{Line}
+use Rattle.cs_pool.specs.inner.Lines.{IsIdle}
+use Rattle.cs_pool.proofs.cycle.+share.Goals as goal
+
+pub returns-in_default-part_in-clause-idle : goal.returns-in_default-part_in-clause-idle
+returns-in_default-part_in-clause-idle g t c =
+    let P : Line g.row.J.Denot → Type 0 = λ line. IsIdle line in
+    let rest : All P c.in-Some.rest.now = All-tail P c.in-Some.line.now c.in-Some.rest.now (subst (All P) c.in-Some.ensures.cases.0 c.requires.idle) in
+    All-cons P c.part_in.new.self c.in-Some.rest.now c.part_in.ensures.idle rest
+
+pub share-requires : goal.share-requires
+share-requires g t c κs within =
+    let P : Line g.row.J.Denot → Type 0 = λ line. IsIdle line in
+    let before = view c.args.first.now in
+    let of = subst (λ b. IsSeatOf g.J.Job.means (plan b) (name b) c.split-seat.new.seat) c.deref-2.ensures c.split-seat.ensures.seat in (
+      search rules,
+      (
+        search rules,
+        (
+          search rules,
+          (
+            search rules,
+            (
+              All-tail P c.in-Some.line.now c.in-Some.rest.now (subst (All P) c.in-Some.ensures.cases.0 c.requires.idle),
+              (
+                ready_kept g.J.Job.means (arc_value c.args.board.now) c.args.first.now c.split-seat.new.seat c.requires.ready of c.split-seat.ensures.view,
+                leads_kept before (view c.split-seat.new.seat) c.requires.leads c.split-seat.ensures.view,
+              ),
+            ),
+          ),
+        ),
+      ),
+    )
+
+pub returns-clause-leads : goal.returns-clause-leads
+returns-clause-leads g t c =
+    let through = c.await_seat-seat.ensures.seat (arc_value c.in-Ok.part) c.split-seat.result c.give.ensures in
+    leads_joined (view c.args.first.now) (view c.split-seat.new.seat) (view c.share.new.first) (view c.await_seat-seat.result) (view c.join.new.seat)
+    c.split-seat.ensures.view c.share.ensures.leads (through.seat.number ∙ ap (λ v. v.number) c.split-seat.ensures.new) c.join.ensures.view

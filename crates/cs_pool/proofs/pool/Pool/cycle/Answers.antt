@@ -1,0 +1,14 @@
+use Rattle.std.proofs.Common.{◌≡◌, ◌∙◌, length, ap}
+use Rattle.cs_board.specs.Board.{plan}
+use Rattle.cs_cells.proofs.SerialRun.{length-serial_jobs}
+use Rattle.cs_cells.specs.Serial.{serial_jobs}
+use Rattle.cs_desk.specs.Desk.{cells}
+use Rattle.cs_pool.proofs.pool.Pool.cycle.Goals as goal
+
+pub returns-clause-notes : goal.returns-clause-notes
+returns-clause-notes g c =
+    let is : c.rest.result.0 ≡ serial_jobs g.J.Job.means c.args.jobs.items (cells c.args.desk) =
+    c.rest.ensures.jobs
+    ∙ ap (λ b. serial_jobs g.J.Job.means (plan b).jobs (plan b).cells) c.play-board.ensures.board
+    ∙ ap (λ k. serial_jobs g.J.Job.means k.jobs k.cells) c.open-board.ensures.plan in
+    ap length is ∙ length-serial_jobs g.J.Job.means c.args.jobs.items (cells c.args.desk)

@@ -1,0 +1,35 @@
+-- What the two ends of a mailbox know.
+use Rattle.std.specs.Prelude.{ℕ, List, [], ◌∷◌, Option, Some, None}
+use Rattle.std.specs.Arc.{arc_value}
+use Rattle.cs_board.specs.declared.board.Board.{Board}
+use Rattle.cs_board.specs.declared.board.BoardSeat.{BoardSeat}
+use Rattle.cs_pool.specs.declared.letter.Letter.{Letter}
+use Rattle.cs_pool.specs.declared.letter.Letter.TheVariants as letter
+use Rattle.cs_pool.specs.declared.letter.Task.{Task}
+use Rattle.cs_pool.specs.declared.view.Errand.{Errand}
+use Rattle.cs_pool.specs.declared.view.Knows.{Knows}
+use Rattle.cs_pool.specs.declared.view.Role.TheVariants.{Caller, Helper}
+
+module _ {J : Type 0} where
+  -- this seat of this board
+  abbrev pub errand : Board J → BoardSeat J → Errand J
+  errand board seat = record { board = board; seat = seat }
+
+  -- the seat that goes out with a task, and its board
+  abbrev pub errand_of : Task J → Errand J
+  errand_of task = errand (arc_value task.board) task.seat
+
+  -- what the task hands out that an end has written into its slot
+  abbrev pub task_in : List (ℕ × Letter J) → Option (Errand J)
+  task_in [] = None
+  task_in ((k, letter.Nothing) ∷ xs) = None
+  task_in ((k, letter.Task task) ∷ xs) = Some (errand_of task)
+  task_in ((k, letter.Answer seat) ∷ xs) = None
+
+  -- the caller's view: this is out, or nothing
+  abbrev pub caller : Option (Errand J) → Knows J
+  caller out = record { role = Caller; out = out }
+
+  -- the helper's view: it is on duty with this, or free
+  abbrev pub helper : Option (Errand J) → Knows J
+  helper out = record { role = Helper; out = out }

@@ -1,0 +1,4 @@
+pub mod Letters
+pub mod Mailboxes
+pub mod Pools
+pub mod inner

@@ -1,0 +1,21 @@
+-- What the caller knows of a helper.
+use Rattle.std.specs.Arc.{arc_value}
+use Rattle.cs_board.specs.declared.board.Board.{Board}
+use Rattle.cs_board.specs.declared.board.BoardSeat.{BoardSeat}
+use Rattle.cs_pool.specs.Mailboxes.{HasNothingOut, HasOut}
+use Rattle.cs_pool.specs.declared.line.Line.{Line}
+
+module _ {J : Type 0} where
+  -- the helper has nothing that is the caller's
+  abbrev pub IsIdle : Line J → Type 0
+  IsIdle line = HasNothingOut (arc_value line.mailbox) line.end
+
+  -- this seat of this board is out at the helper
+  abbrev pub IsLent : Line J → Board J → BoardSeat J → Type 0
+  IsLent line board seat = HasOut (arc_value line.mailbox) line.end board seat
+
+  -- something is out
+  pub record IsBusy (line : Line J) : Type 0 where
+    pub board : Board J
+    pub seat : BoardSeat J
+    pub lent : IsLent line board seat

@@ -1,0 +1,201 @@
+// One control cycle.
+ghost use Rattle.std.specs.Prelude.{◌≡◌, map, length, All};
+ghost use Rattle.std.specs.Arc.{arc_value};
+ghost use Rattle.cs_board.specs.Board.{plan, name, view, IsSeatOf};
+ghost use Rattle.cs_desk.specs.Desk.{areas, cells, note_room, word_room, HasRoom};
+ghost use Rattle.cs_cells.specs.Serial.{serial_cells, serial_jobs};
+ghost use Rattle.cs_crew.specs.Crew.{IsReady, IsDone};
+ghost use Rattle.cs_crew.specs.inner.Numbered.{IsFirst};
+ghost use Rattle.cs_graph.specs.Graph.{IsFit};
+ghost use Rattle.cs_pool.specs.Pools.{helpers, ended, next_cycle};
+ghost use Rattle.cs_pool.specs.inner.Lines.{IsIdle};
+ghost use Rattle.cs_rule.specs.Plans.{IsFootprint};
+ghost use Rattle.cs_rule.specs.Views.{opening_view};
+
+use crate::letter::Task;
+use crate::line::Line;
+use crate::pool::Pool;
+use cs_board::{Board, BoardSeat};
+use cs_cells::{Job, serial_laws};
+use cs_crew::work;
+use cs_desk::{Desk, Receipt};
+use cs_edge::Gate;
+use cs_graph::Graph;
+use std::alloc::Global;
+use std::sync::{Arc, Wait};
+use std::thread;
+use std::thread::Threads;
+
+/// How many cycles the caller plays alone after one that it had done before any helper began. So
+/// short cycles neither wake helpers nor keep them looking, which would take the caller's processor
+/// time.
+const SPARED: u32 = 128;
+
+impl<'e, J: Job + Send + Drop, R: Threads + Wait + Sync, G: Gate + Sync> Pool<'e, J, R, G> {
+    /// Runs the notes of one control cycle, and answers a receipt with their jobs, the desk, and
+    /// the graph, as if the notes had run one by one in serial order over the desk's cells.
+    ///
+    /// `graph` is that of the jobs, which stand in serial order; it serves as many cycles as the
+    /// same notes are active. The desk's layout is that of each job, and it has room for the cycle.
+    /// No more helpers get a part than can have a note at once beside the caller, who works too.
+    /// The gate is called with `cycle` and the note's place before each note is run. It can't fail:
+    /// where there is no memory for the parts of further helpers, those with a part and the caller
+    /// run all notes.
+    pub fn cycle(
+        &mut self,
+        cycle: u32,
+        graph: Arc<Graph, Global>,
+        desk: Desk<J>,
+        jobs: Vec<J>,
+    ) -> (Receipt<J>, Desk<J>, Arc<Graph, Global>)
+        requires notes { length graph.value.levels ≡ length jobs.items }
+        requires fit { IsFit (map J.means.foot jobs.items) graph.value.edges }
+        requires areas { All (λ j. J.means.areas j ≡ areas desk) jobs.items }
+        requires footprints { All (λ j. IsFootprint (length (areas desk)) (J.means.foot j)) jobs.items }
+        requires room { HasRoom desk (length jobs.items) (length graph.value.edges) }
+        ensures jobs { result.0 ≡ serial_jobs J.means jobs.items (cells desk) }
+        ensures cells { cells result.1 ≡ serial_cells J.means jobs.items (cells desk) }
+        // What stays, so that the next cycle can follow.
+        ensures notes { length result.0 ≡ length jobs.items }
+        ensures footprints { map J.means.foot result.0 ≡ map J.means.foot jobs.items }
+        ensures layouts { map J.means.areas result.0 ≡ map J.means.areas jobs.items }
+        ensures areas { areas result.1 ≡ areas desk }
+        ensures count { length (cells result.1) ≡ length (cells desk) }
+        ensures room { (note_room result.1 ≡ note_room desk) × (word_room result.1 ≡ word_room desk) }
+        ensures graph { result.2.value ≡ graph.value }
+        ensures ended { ended self.new ≡ next_cycle (ended self.old) }
+        ensures helpers { helpers self.new ≡ helpers self.old }
+    {
+        let others = self.wanted(graph.useful_workers().saturating_sub(1));
+        serial_laws::<J>();
+        let (board, first) = desk.open(graph, jobs);
+        let (board, first) = self.play(board, first, others, cycle);
+        self.ended = self.ended.saturating_add(1);
+        Desk::rest(board, first)
+    }
+
+    /// How many helpers are to get a part, where so many could have a note at once beside the
+    /// caller: none for a while after a cycle that the caller had done before any helper began.
+    fn wanted(&mut self, others: u32) -> u32
+        ensures ended { ended self.new ≡ ended self.old }
+        ensures helpers { helpers self.new ≡ helpers self.old }
+    {
+        if self.spared == 0 {
+            return others;
+        }
+        self.spared -= 1;
+        0
+    }
+
+    /// The cycle on its board, by the caller and so many others, or as many as there are. It answers
+    /// the board, of which nobody else has a share any more, and the first seat.
+    fn play(
+        &mut self,
+        board: Board<J>,
+        mut first: BoardSeat<J>,
+        others: u32,
+        cycle: u32,
+    ) -> (Board<J>, BoardSeat<J>)
+        requires first { IsSeatOf J.means (plan board) (name board) first }
+        requires opening { view first ≡ opening_view (plan board) }
+        ensures board { result.0 ≡ board }
+        ensures done { IsDone J.means board result.1 }
+        ensures alone { IsFirst 0 (view result.1) }
+        ensures ended { ended self.new ≡ ended self.old }
+        ensures helpers { helpers self.new ≡ helpers self.old }
+    {
+        if others == 0 || self.lines.is_empty() {
+            work(self.rt, &board, &mut first, cycle, self.gate);
+            return (board, first);
+        }
+        match Arc::new(self.alloc, board) {
+            Ok(board) => {
+                let lines = self.lines.as_mut_slice();
+                let mut begun = false;
+                share(
+                    self.rt, self.gate, self.alloc, lines, others, &board, &mut first, cycle,
+                    &mut begun,
+                );
+                self.spared = if begun { 0 } else { SPARED };
+                (sole(self.rt, board), first)
+            }
+            Err(refused) => {
+                let board = refused.value;
+                work(self.rt, &board, &mut first, cycle, self.gate);
+                (board, first)
+            }
+        }
+    }
+}
+
+/// The caller and so many others work at the board, or as many others as there are helpers: each of
+/// these gets a seat of its own and gives it back. `begun` becomes true where one of them has begun
+/// before the caller was done.
+fn share<J: Job + Drop, R: Wait, G: Gate>(
+    rt: &R,
+    gate: &G,
+    alloc: Global,
+    lines: &mut [Line<J>],
+    others: u32,
+    board: &Arc<Board<J>, Global>,
+    first: &mut BoardSeat<J>,
+    cycle: u32,
+    begun: &mut bool,
+)
+    requires idle { All (λ line. IsIdle line) lines.old }
+    requires ready { IsReady J.means (arc_value board.now) first.old }
+    requires leads { IsFirst (view first.old).made (view first.old) }
+    ensures idle { All (λ line. IsIdle line) lines.new }
+    ensures done { IsDone J.means (arc_value board.now) first.new }
+    ensures leads { IsFirst (view first.old).made (view first.new) }
+{
+    if others == 0 {
+        work(rt, board, first, cycle, gate);
+        return;
+    }
+    let Some((line, rest)) = lines.split_first_mut() else {
+        work(rt, board, first, cycle, gate);
+        return;
+    };
+    let Ok((part, member)) = line.part_in(alloc, board) else {
+        work(rt, board, first, cycle, gate);
+        return;
+    };
+    let seat = board.split(first);
+    line.give(Task {
+        board: part,
+        seat,
+        cycle,
+        member,
+    });
+    share(
+        rt,
+        gate,
+        alloc,
+        rest,
+        others - 1,
+        board,
+        first,
+        cycle,
+        begun,
+    );
+    *begun |= line.has_begun();
+    let seat = line.await_seat(rt);
+    board.join(first, seat);
+}
+
+/// The board, once nobody else has a share of it. Each helper let its share go before it gave its
+/// seat back, so there is nothing to wait for.
+fn sole<J: Job, R: Wait>(rt: &R, board: Arc<Board<J>, Global>) -> Board<J>
+    ensures { result ≡ arc_value board }
+{
+    let mut shared = board;
+    for _ in rt.forever() {
+        match Arc::try_unwrap(shared) {
+            Ok(board) => return board,
+            Err(board) => shared = board,
+        }
+        thread::yield_now();
+    }
+    unreachable!()
+}

@@ -1,0 +1,121 @@
+// What a helper does from its start to the end of the performance.
+ghost use Rattle.std.specs.Arc.{arc_value};
+ghost use Rattle.cs_pool.specs.Mailboxes.{IsFree};
+
+use crate::letter::{GIVEN, OVER, Task};
+use crate::mailbox::{HelperEnd, Mailbox};
+use crossbeam_utils::sync::Parker;
+use cs_cells::Job;
+use cs_crew::work;
+use cs_edge::Gate;
+use std::alloc::Global;
+use std::hint::spin_loop;
+use std::sync::{Arc, Wait};
+use std::thread;
+
+/// How often a helper looks for a task before it sleeps.
+const LOOKS: u32 = 2_200;
+
+/// How many of these looks follow each other at once, some microseconds together. Between the
+/// others it lets other threads go first, so that in a row of cycles with some tens of microseconds
+/// between them nobody has to be woken.
+const BRISK_LOOKS: u32 = 2_000;
+
+/// How often a helper that finds a task looks whether it still lies there before it takes it, some
+/// tens of microseconds together. A cycle that the caller has played by then is not shared at all:
+/// notes and cells that wander between processors would cost more than such a cycle takes.
+const HESITATION: u32 = 32_000;
+
+/// How many tasks a helper takes at once after one that outlasted its hesitation. Then it hesitates
+/// again.
+const EAGER_TASKS: u32 = 32;
+
+/// Takes part in each cycle for which there is a task in the mailbox, until there will be none.
+pub(crate) fn help<J: Job + Drop, G: Gate, R: Wait>(
+    rt: &R,
+    gate: &G,
+    mailbox: Arc<Mailbox<J>, Global>,
+    mut end: HelperEnd<J>,
+    parker: Parker<Global>,
+)
+    requires { IsFree (arc_value mailbox) end }
+{
+    let mut eager = 0;
+    for _ in rt.forever() {
+        match await_word(rt, &mailbox, &parker) {
+            GIVEN => eager = serve(rt, gate, &mailbox, &mut end, eager),
+            OVER => return,
+            _ => {}
+        }
+    }
+    unreachable!()
+}
+
+/// Looks for a task, or for the end of all tasks, for a while, and then sleeps until the caller
+/// wakes it. It answers the word as it found it last.
+fn await_word<J: Job + Drop, R: Wait>(
+    rt: &R,
+    mailbox: &Mailbox<J>,
+    parker: &Parker<Global>,
+) -> u64 {
+    for look in 0..LOOKS {
+        let word = mailbox.word();
+        if word == GIVEN || word == OVER {
+            return word;
+        }
+        pause(look, BRISK_LOOKS);
+    }
+    parker.park(rt);
+    mailbox.word()
+}
+
+/// Between the look of this number and the next, where so many are brisk.
+pub(crate) fn pause(look: u32, brisk: u32) {
+    if look < brisk {
+        spin_loop();
+    } else {
+        thread::yield_now();
+    }
+}
+
+/// One task, unless the caller has taken it back: the helper works at its seat, lets its share of
+/// the board go, gives the seat back, and leaves the group, in this order. `eager` is how many tasks
+/// it is still to take at once; so is the answer.
+fn serve<J: Job + Drop, G: Gate, R: Wait>(
+    rt: &R,
+    gate: &G,
+    mailbox: &Mailbox<J>,
+    end: &mut HelperEnd<J>,
+    eager: u32,
+) -> u32
+    requires { IsFree mailbox.now end.old }
+    ensures { IsFree mailbox.now end.new }
+{
+    if eager == 0 {
+        hesitate(mailbox);
+    }
+    let Some(task) = mailbox.take(end) else {
+        return 0;
+    };
+    let Task {
+        board,
+        mut seat,
+        cycle,
+        member,
+    } = task;
+    work(rt, &board, &mut seat, cycle, gate);
+    drop(board);
+    mailbox.give_back(end, seat);
+    member.leave(mailbox, end);
+    eager.checked_sub(1).unwrap_or(EAGER_TASKS)
+}
+
+/// Lets the caller take a task back that it plays itself within a short while.
+fn hesitate<J: Job + Drop>(mailbox: &Mailbox<J>) {
+    for _ in 0..HESITATION {
+        if mailbox.word() != GIVEN {
+            return;
+        }
+        spin_loop();
+    }
+}

@@ -1,0 +1,54 @@
+// What lies in a helper's mailbox, and the values of its word.
+ghost use Rattle.std.specs.Prelude.{◌≡◌};
+
+use crate::member::Member;
+use cs_board::{Board, BoardSeat};
+use cs_cells::Job;
+use std::alloc::Global;
+use std::sync::Arc;
+
+/// Nothing is out, and no task lies in the mailbox.
+pub(crate) const EMPTY: u64 = 0;
+/// A task lies in the mailbox, and the helper hasn't taken it.
+pub(crate) const GIVEN: u64 = 1;
+/// The helper has taken the task, and works at it.
+pub(crate) const TAKEN: u64 = 2;
+/// The helper's seat lies in the mailbox, after its work.
+pub(crate) const BACK: u64 = 3;
+/// There will be no further task.
+pub(crate) const OVER: u64 = 4;
+
+/// A helper's part in one control cycle: a share of the cycle's board, a seat at it, the cycle's
+/// number for the gate, and the helper's membership in the group that the caller waits for.
+#[derive(Drop)]
+pub(crate) struct Task<J: Job> {
+    pub(crate) board: Arc<Board<J>, Global>,
+    pub(crate) seat: BoardSeat<J>,
+    pub(crate) cycle: u32,
+    pub(crate) member: Member,
+}
+
+impl<J: Job + Drop> Task<J> {
+    /// The seat alone.
+    pub(crate) fn into_seat(self) -> BoardSeat<J>
+        ensures { result ≡ self.seat }
+    {
+        let Task {
+            board,
+            seat,
+            cycle: _,
+            member,
+        } = self;
+        drop(board);
+        drop(member);
+        seat
+    }
+}
+
+/// What lies in a mailbox: a task from the caller, or the seat that comes back from the helper.
+#[derive(Drop)]
+pub(crate) enum Letter<J: Job> {
+    Nothing,
+    Task(Task<J>),
+    Answer(BoardSeat<J>),
+}

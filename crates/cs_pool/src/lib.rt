@@ -1,0 +1,23 @@
+//! The standing crew of a performance: helpers that are started once, and take part in each control cycle for which the caller gives
+//! them a seat at the cycle's board. Between cycles they look for work for a while, and then sleep.
+//!
+//! The one contract: `Pool::cycle` answers what `run_cycle` answers, a receipt with the jobs and the desk with the cells of the
+//! serial run, for every number of helpers and every interleaving of their steps, in each of any number of cycles.
+//!
+//! How a helper gets its seat and gives it back, how it is woken, how long anybody looks before it sleeps, how many helpers get a
+//! part in a cycle, and who runs which note, may change without anyone above noticing. In reading order: `letter` (what lies in a
+//! helper's mailbox), `member`, `view` (what its two ends know), `mailbox_rule`, `mailbox`, `helper` (what a helper does), `line`
+//! (the caller's side of one helper), `pool` (all helpers, started and ended), `cycle`.
+#![tactic(auto)]
+
+mod cycle;
+mod helper;
+mod letter;
+mod line;
+mod mailbox;
+mod mailbox_rule;
+mod member;
+mod pool;
+mod view;
+
+pub use pool::Pool;

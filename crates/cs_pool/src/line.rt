@@ -1,0 +1,213 @@
+// The caller's side of one helper.
+ghost use Rattle.std.specs.Prelude.{◌≡◌, IfOk, IfSome, IfNone};
+ghost use Rattle.std.specs.Arc.{arc_value};
+ghost use Rattle.cs_board.specs.declared.board.Board.{Board};
+ghost use Rattle.cs_board.specs.declared.board.BoardSeat.{BoardSeat};
+ghost use Rattle.cs_crew.specs.Crew.{IsDone, IsThrough};
+ghost use Rattle.cs_pool.specs.Mailboxes.{HasNothingOut, IsFree};
+ghost use Rattle.cs_pool.specs.inner.Lines.{IsIdle, IsLent, IsBusy};
+
+use crate::helper::{help, pause};
+use crate::letter::{GIVEN, TAKEN, Task};
+use crate::mailbox::{CallerEnd, HelperEnd, Mailbox};
+use crate::member::Member;
+use crossbeam_utils::sync::{Parker, Unparker, WaitGroup};
+use cs_board::{Board, BoardSeat};
+use cs_cells::Job;
+use cs_edge::Gate;
+use std::alloc::{AllocError, Global};
+use std::sync::{Arc, Wait};
+use std::thread;
+use std::thread::{JoinHandle, Scope, Threads};
+
+/// How often the caller looks for the seat of a helper that still works, before it sleeps until the
+/// helper has given the seat back.
+const LOOKS: u32 = 1_200;
+
+/// How many of these looks follow each other at once, a few microseconds together. Between the
+/// others it lets other threads go first.
+const BRISK_LOOKS: u32 = 1_000;
+
+/// The mailbox of a helper and the caller's end of it, with what wakes the helper and what its
+/// thread is joined by.
+pub(crate) struct Line<J: Job> {
+    pub(crate) mailbox: Arc<Mailbox<J>, Global>,
+    pub(crate) end: CallerEnd<J>,
+    unparker: Unparker<Global>,
+    handle: JoinHandle<()>,
+    /// The caller's own membership in the group that the helper leaves after its work. It lasts from
+    /// cycle to cycle, until the caller has to wait for the group.
+    group: Option<WaitGroup<Global>>,
+}
+
+impl<J: Job + Drop> Line<J> {
+    /// Starts a helper in a thread of the scope.
+    pub(crate) fn start<'s, 'e, R, G>(
+        rt: &'e R,
+        scope: &'s Scope<'s, &'e ()>,
+        alloc: Global,
+        gate: &'e G,
+    ) -> Result<Line<J>, AllocError>
+    where
+        J: Send + 's,
+        R: Threads + Wait + Sync,
+        G: Gate + Sync,
+        ensures { IfOk result (λ line. IsIdle line) }
+    {
+        let (mailbox, theirs, end, helper_end) = shared_mailbox::<J>(alloc)?;
+        let (parker, unparker) = bell(alloc)?;
+        let handle = scope.spawn(move || help(rt, gate, theirs, helper_end, parker))?;
+        Ok(Line {
+            mailbox,
+            end,
+            unparker,
+            handle,
+            group: None,
+        })
+    }
+
+    /// What the helper needs beside its seat: a share of the board, and a membership in the group.
+    pub(crate) fn part_in(
+        &mut self,
+        alloc: Global,
+        board: &Arc<Board<J>, Global>,
+    ) -> Result<(Arc<Board<J>, Global>, Member), AllocError>
+        requires { IsIdle self.old }
+        ensures idle { IsIdle self.new }
+        ensures share { IfOk result (λ r. arc_value r.0 ≡ arc_value board.now) }
+    {
+        let share = Arc::try_clone(board)?;
+        let member = joined(alloc, &mut self.group)?;
+        Ok((share, member))
+    }
+
+    /// Hands a task out to the helper, and wakes it.
+    pub(crate) fn give(&mut self, task: Task<J>)
+        requires idle { IsIdle self.old }
+        requires task { IsDone J.means (arc_value task.board) task.seat }
+        ensures { IsLent self.new (arc_value task.board) task.seat }
+    {
+        self.mailbox.give(&mut self.end, task);
+        self.unparker.unpark();
+    }
+
+    /// Whether the helper has taken its task, as far as a look tells.
+    pub(crate) fn has_begun(&self) -> bool {
+        self.mailbox.word() != GIVEN
+    }
+
+    /// The seat that is out, after its work. A helper that hasn't begun is not waited for: its seat
+    /// is taken back. Else the caller looks for the seat for a while, and then sleeps until the
+    /// helper leaves the group.
+    pub(crate) fn await_seat<R: Wait>(&mut self, rt: &R) -> BoardSeat<J>
+        requires { IsBusy self.old }
+        ensures home { IsIdle self.new }
+        ensures seat { (b : Board J.row.Denot) (s : BoardSeat J.row.Denot)
+            → IsLent self.old b s → IsThrough J.means b s result }
+    {
+        if let Some(seat) = self.look() {
+            return seat;
+        }
+        if let Some(group) = self.group.take() {
+            group.wait(rt);
+        }
+        for _ in rt.forever() {
+            if let Some(seat) = self.collect() {
+                return seat;
+            }
+            thread::yield_now();
+        }
+        unreachable!()
+    }
+
+    /// The seat that is out, where it is found within a while.
+    fn look(&mut self) -> Option<BoardSeat<J>>
+        requires { IsBusy self.old }
+        ensures home { IfSome result (λ _. IsIdle self.new) }
+        ensures some { (b : Board J.row.Denot) (s : BoardSeat J.row.Denot)
+            → IsLent self.old b s → IfSome result (λ r. IsThrough J.means b s r) }
+        ensures busy { IfNone result (IsBusy self.new) }
+        ensures none { (b : Board J.row.Denot) (s : BoardSeat J.row.Denot)
+            → IsLent self.old b s → IfNone result (IsLent self.new b s) }
+    {
+        for look in 0..LOOKS {
+            if let Some(seat) = self.collect() {
+                return Some(seat);
+            }
+            pause(look, BRISK_LOOKS);
+        }
+        None
+    }
+
+    /// The seat that is out, where it has come back or the helper hasn't begun.
+    fn collect(&mut self) -> Option<BoardSeat<J>>
+        requires { IsBusy self.old }
+        ensures home { IfSome result (λ _. IsIdle self.new) }
+        ensures some { (b : Board J.row.Denot) (s : BoardSeat J.row.Denot)
+            → IsLent self.old b s → IfSome result (λ r. IsThrough J.means b s r) }
+        ensures busy { IfNone result (IsBusy self.new) }
+        ensures none { (b : Board J.row.Denot) (s : BoardSeat J.row.Denot)
+            → IsLent self.old b s → IfNone result (IsLent self.new b s) }
+    {
+        let mailbox: &Mailbox<J> = &self.mailbox;
+        if mailbox.word() == TAKEN {
+            return None;
+        }
+        mailbox.collect(&mut self.end)
+    }
+
+    /// Tells the helper that there will be no further task, wakes it, and joins its thread.
+    pub(crate) fn close<R: Threads>(self, rt: &R)
+        requires { IsIdle self }
+    {
+        let Line {
+            mailbox,
+            mut end,
+            unparker,
+            handle,
+            group: _,
+        } = self;
+        mailbox.end(&mut end);
+        unparker.unpark();
+        handle.join(rt);
+    }
+}
+
+/// A mailbox with two owners, and its two ends.
+fn shared_mailbox<J: Job + Drop>(
+    alloc: Global,
+) -> Result<
+    (
+        Arc<Mailbox<J>, Global>,
+        Arc<Mailbox<J>, Global>,
+        CallerEnd<J>,
+        HelperEnd<J>,
+    ),
+    AllocError,
+>
+    ensures caller { IfOk result (λ r. HasNothingOut (arc_value r.0) r.2) }
+    ensures helper { IfOk result (λ r. IsFree (arc_value r.1) r.3) }
+{
+    let (mailbox, end, helper_end) = Mailbox::new(alloc)?;
+    let mine = Arc::new(alloc, mailbox)?;
+    let theirs = Arc::try_clone(&mine)?;
+    Ok((mine, theirs, end, helper_end))
+}
+
+/// A membership in the group, which is made where there is none.
+fn joined(alloc: Global, group: &mut Option<WaitGroup<Global>>) -> Result<Member, AllocError> {
+    if let Some(group) = group {
+        return Member::of(group);
+    }
+    let made = WaitGroup::new(alloc)?;
+    let member = Member::of(&made)?;
+    *group = Some(made);
+    Ok(member)
+}
+
+/// What a helper sleeps on, and what wakes it.
+fn bell(alloc: Global) -> Result<(Parker<Global>, Unparker<Global>), AllocError> {
+    let parker = Parker::new(alloc)?;
+    let unparker = parker.unparker().clone()?;
+    Ok((parker, unparker))
+}

@@ -1,0 +1,180 @@
+// The mailbox of one helper: the caller gives it a task in each cycle and gets its seat back.
+ghost use Rattle.std.specs.Prelude.{◌≡◌, IfOk, IfSome, IfNone};
+ghost use Rattle.std.specs.Arc.{arc_value};
+ghost use Rattle.cs_board.specs.declared.board.Board.{Board};
+ghost use Rattle.cs_board.specs.declared.board.BoardSeat.{BoardSeat};
+ghost use Rattle.cs_crew.specs.Crew.{IsReady, IsDone, IsThrough};
+
+use crate::letter::{BACK, EMPTY, GIVEN, Letter, OVER, TAKEN, Task};
+use crate::mailbox_rule::{
+    Close, Collect, Fetch, Give, GiveBack, MailboxRule, Part, Take, Withdraw,
+};
+use crate::view::Knows;
+use atomic_table::{Seat, Table};
+use cs_board::BoardSeat;
+use cs_cells::Job;
+use std::alloc::{AllocError, Global};
+
+/// What one end of a mailbox steps with.
+pub(crate) type End<J> = Seat<Letter<J>, Knows<J>>;
+
+/// The mailbox of one helper: a word, a slot, and two ends, the caller's and the helper's.
+#[derive(Drop)]
+pub(crate) struct Mailbox<J: Job> {
+    pub(crate) table: Table<Letter<J>, Knows<J>, (), MailboxRule, Global>,
+    ghost sized: { (table.shared.table_id.words ≡ 1) × (table.shared.table_id.slots ≡ 1) },
+}
+
+/// The caller's end of a mailbox.
+#[derive(Drop)]
+pub(crate) struct CallerEnd<J: Job> {
+    pub(crate) seat: End<J>,
+}
+
+/// The helper's end of a mailbox.
+#[derive(Drop)]
+pub(crate) struct HelperEnd<J: Job> {
+    pub(crate) seat: End<J>,
+}
+
+impl<J: Job + Drop> Mailbox<J> {
+    ghost use Rattle.cs_pool.specs.Mailboxes.{HasNothingOut, HasOut, IsFree, IsOnDuty};
+
+    /// A mailbox and its two ends. It fails only for want of memory.
+    pub(crate) fn new(alloc: Global) -> Result<(Mailbox<J>, CallerEnd<J>, HelperEnd<J>), AllocError>
+        ensures caller { IfOk result (λ r. HasNothingOut r.0 r.1) }
+        ensures helper { IfOk result (λ r. IsFree r.0 r.2) }
+    {
+        let mut slots = Vec::with_capacity(alloc, 1)?;
+        slots.push_reserved(Letter::Nothing);
+        let Ok((table, mut seat)) = Table::new(alloc, &[EMPTY], slots, &()) else {
+            return Err(AllocError);
+        };
+        table.shared.load::<Fetch>(&mut seat, 0);
+        let other = table.shared.split_seat::<Part>(&mut seat);
+        Ok((
+            Mailbox { table },
+            CallerEnd { seat },
+            HelperEnd { seat: other },
+        ))
+    }
+
+    /// The caller hands out a task, whose seat does nothing and owes nothing.
+    pub(crate) fn give(&self, end: &mut CallerEnd<J>, task: Task<J>)
+        requires end { HasNothingOut self.now end.old }
+        requires task { IsDone J.means (arc_value task.board) task.seat }
+        ensures { HasOut self.now end.new (arc_value task.board) task.seat }
+    {
+        let shared = &self.table.shared;
+        let held = shared.exchange(&mut end.seat, 0, Letter::Task(task));
+        drop(held);
+        shared.store::<Give>(&mut end.seat, 0, GIVEN);
+    }
+
+    /// The seat that is out, after its work, where the helper has given it back, or as it was handed
+    /// out, where the helper hasn't taken its task; else None, and it stays out.
+    pub(crate) fn collect(&self, end: &mut CallerEnd<J>) -> Option<BoardSeat<J>>
+        requires { (b : Board J.row.Denot) × (s : BoardSeat J.row.Denot)
+            × HasOut self.now end.old b s }
+        ensures some { (b : Board J.row.Denot) (s : BoardSeat J.row.Denot)
+            → HasOut self.now end.old b s → IfSome result (λ r. IsThrough J.means b s r) }
+        ensures home { IfSome result (λ _. HasNothingOut self.now end.new) }
+        ensures none { (b : Board J.row.Denot) (s : BoardSeat J.row.Denot)
+            → HasOut self.now end.old b s → IfNone result (HasOut self.now end.new b s) }
+    {
+        match self.fetch_answer(end) {
+            Some(seat) => Some(seat),
+            None => self.withdraw(end),
+        }
+    }
+
+    /// The seat that is out, where it has come back.
+    fn fetch_answer(&self, end: &mut CallerEnd<J>) -> Option<BoardSeat<J>>
+        requires { (b : Board J.row.Denot) × (s : BoardSeat J.row.Denot)
+            × HasOut self.now end.old b s }
+        ensures some { (b : Board J.row.Denot) (s : BoardSeat J.row.Denot)
+            → HasOut self.now end.old b s → IfSome result (λ r. IsThrough J.means b s r) }
+        ensures home { IfSome result (λ _. HasNothingOut self.now end.new) }
+        ensures none { (b : Board J.row.Denot) (s : BoardSeat J.row.Denot)
+            → HasOut self.now end.old b s → IfNone result (HasOut self.now end.new b s) }
+    {
+        let shared = &self.table.shared;
+        let found = shared.compare_exchange::<Collect>(&mut end.seat, 0, BACK, EMPTY);
+        if found != BACK {
+            return None;
+        }
+        let letter = shared.exchange(&mut end.seat, 0, Letter::Nothing);
+        let Letter::Answer(seat) = letter else {
+            unreachable!()
+        };
+        Some(seat)
+    }
+
+    /// The seat that is out, where the helper hasn't taken its task.
+    fn withdraw(&self, end: &mut CallerEnd<J>) -> Option<BoardSeat<J>>
+        requires { (b : Board J.row.Denot) × (s : BoardSeat J.row.Denot)
+            × HasOut self.now end.old b s }
+        ensures some { (b : Board J.row.Denot) (s : BoardSeat J.row.Denot)
+            → HasOut self.now end.old b s → IfSome result (λ r. IsThrough J.means b s r) }
+        ensures home { IfSome result (λ _. HasNothingOut self.now end.new) }
+        ensures none { (b : Board J.row.Denot) (s : BoardSeat J.row.Denot)
+            → HasOut self.now end.old b s → IfNone result (HasOut self.now end.new b s) }
+    {
+        let shared = &self.table.shared;
+        let found = shared.compare_exchange::<Withdraw>(&mut end.seat, 0, GIVEN, EMPTY);
+        if found != GIVEN {
+            return None;
+        }
+        let letter = shared.exchange(&mut end.seat, 0, Letter::Nothing);
+        let Letter::Task(task) = letter else {
+            unreachable!()
+        };
+        Some(task.into_seat())
+    }
+
+    /// There will be no further task: the helper ends when it finds that.
+    pub(crate) fn end(&self, end: &mut CallerEnd<J>)
+        requires { HasNothingOut self.now end.old }
+        ensures { HasNothingOut self.now end.new }
+    {
+        self.table.shared.store::<Close>(&mut end.seat, 0, OVER);
+    }
+
+    /// A look at the word, one of those of `letter`. It may have changed since.
+    pub(crate) fn word(&self) -> u64 {
+        self.table.shared.peek(0)
+    }
+
+    /// The helper takes the task that was handed out, or answers None where there is none.
+    pub(crate) fn take(&self, end: &mut HelperEnd<J>) -> Option<Task<J>>
+        requires { IsFree self.now end.old }
+        ensures some { IfSome result (λ task. IsOnDuty
+            self.now end.new (arc_value task.board) task.seat) }
+        ensures ready { IfSome result (λ task. IsReady
+            J.means (arc_value task.board) task.seat) }
+        ensures none { IfNone result (IsFree self.now end.new) }
+    {
+        let shared = &self.table.shared;
+        let found = shared.compare_exchange::<Take>(&mut end.seat, 0, GIVEN, TAKEN);
+        if found != GIVEN {
+            return None;
+        }
+        let letter = shared.exchange(&mut end.seat, 0, Letter::Nothing);
+        let Letter::Task(task) = letter else {
+            unreachable!()
+        };
+        Some(task)
+    }
+
+    /// The helper gives its seat back, after its work.
+    pub(crate) fn give_back(&self, end: &mut HelperEnd<J>, seat: BoardSeat<J>)
+        requires { (b : Board J.row.Denot) × (s : BoardSeat J.row.Denot)
+            × IsOnDuty self.now end.old b s × IsThrough J.means b s seat }
+        ensures { IsFree self.now end.new }
+    {
+        let shared = &self.table.shared;
+        let held = shared.exchange(&mut end.seat, 0, Letter::Answer(seat));
+        drop(held);
+        shared.store::<GiveBack>(&mut end.seat, 0, BACK);
+    }
+}

@@ -1,0 +1,92 @@
+// The mailbox's rule as a rule of a table, and what each kind of step tells.
+use crate::letter::Letter;
+use crate::view::Knows;
+use atomic_table::{Play, Split, TableRule};
+use cs_cells::Job;
+
+pub(crate) struct MailboxRule;
+
+impl<J: Job> TableRule<Letter<J>, Knows<J>, ()> for MailboxRule {
+    ghost use Rattle.cs_pool.specs.inner.Exchange.{Always, beginning};
+    ghost use Rattle.cs_pool.specs.declared.view.Role.TheVariants.{Maker};
+
+    ghost holds = { λ _. Always J.means };
+
+    ghost first = { λ _. beginning Maker };
+}
+
+/// The first end takes the slot along, at a load.
+pub(crate) struct Fetch;
+
+impl<J: Job> Play<Letter<J>, Knows<J>> for Fetch {
+    ghost use Rattle.cs_pool.specs.inner.Telling.{fetched};
+
+    ghost then = { fetched };
+}
+
+/// The helper's end is split off the first one, which is the caller's from then on.
+pub(crate) struct Part;
+
+impl<J: Job> Split<Knows<J>> for Part {
+    ghost use Rattle.std.specs.Prelude.{None};
+    ghost use Rattle.cs_pool.specs.Letters.{caller, helper};
+
+    ghost left = { λ _. caller None };
+
+    ghost right = { λ _. helper None };
+}
+
+/// A task is handed out: the slot goes home, and the word is GIVEN.
+pub(crate) struct Give;
+
+impl<J: Job> Play<Letter<J>, Knows<J>> for Give {
+    ghost use Rattle.cs_pool.specs.inner.Telling.{gave};
+
+    ghost then = { gave };
+}
+
+/// A task is taken: the word, which was GIVEN, is TAKEN, and the slot is the helper's.
+pub(crate) struct Take;
+
+impl<J: Job> Play<Letter<J>, Knows<J>> for Take {
+    ghost use Rattle.cs_pool.specs.inner.Telling.{took};
+
+    ghost then = { took J.means };
+}
+
+/// The helper's seat is given back: the slot goes home, and the word is BACK.
+pub(crate) struct GiveBack;
+
+impl<J: Job> Play<Letter<J>, Knows<J>> for GiveBack {
+    ghost use Rattle.cs_pool.specs.inner.Telling.{gave_back};
+
+    ghost then = { gave_back };
+}
+
+/// The answer is taken: the word, which was BACK, is EMPTY, and the slot is the caller's.
+pub(crate) struct Collect;
+
+impl<J: Job> Play<Letter<J>, Knows<J>> for Collect {
+    ghost use Rattle.cs_pool.specs.inner.Telling.{collected};
+
+    ghost then = { collected J.means };
+}
+
+/// A task that nobody has taken is taken back: the word, which was GIVEN, is EMPTY, and the slot is
+/// the caller's.
+pub(crate) struct Withdraw;
+
+impl<J: Job> Play<Letter<J>, Knows<J>> for Withdraw {
+    ghost use Rattle.cs_pool.specs.inner.Telling.{withdrew};
+
+    ghost then = { withdrew J.means };
+}
+
+/// The word is OVER.
+pub(crate) struct Close;
+
+impl<J: Job> Play<Letter<J>, Knows<J>> for Close {
+    ghost use Rattle.cs_pool.specs.inner.Telling.{closed};
+
+    ghost then = { closed };
+}

@@ -1,0 +1,112 @@
+// The standing crew: its helpers, and how many cycles it has played.
+ghost use Rattle.std.specs.Prelude.{◌≡◌, ◌<◌, ◌≤◌, All, length};
+ghost use Rattle.cs_pool.specs.inner.Lines.{IsIdle};
+
+use crate::line::Line;
+use cs_cells::Job;
+use cs_edge::Gate;
+use std::alloc::Global;
+use std::sync::Wait;
+use std::thread::{Scope, Threads};
+
+/// The crew of a whole performance: helpers that were started once, and the caller. Between two
+/// cycles each helper has nothing that is the caller's: no seat of a cycle's board, and no share of
+/// it. It is closed at the end, and can't be let go otherwise, since its helpers wait for it.
+pub struct Pool<'e, J: Job, R, G> {
+    pub(crate) rt: &'e R,
+    pub(crate) gate: &'e G,
+    pub(crate) alloc: Global,
+    pub(crate) lines: Vec<Line<J>>,
+    pub(crate) ended: u64,
+    /// How many of the next cycles the caller plays alone.
+    pub(crate) spared: u32,
+    ghost idle: { All (λ line. IsIdle line) lines.items },
+}
+
+impl<'e, J: Job + Send + Drop, R: Threads + Wait + Sync, G: Gate + Sync> Pool<'e, J, R, G> {
+    ghost use Rattle.cs_pool.specs.Pools.{helpers, ended};
+
+    /// A crew of so many workers, 1 to 32, of which the caller is one, so that one worker starts no
+    /// thread and takes no memory. It can't fail: a helper for which there is no memory or no
+    /// thread only leaves more to the others. The helpers are threads of `scope`, and each worker
+    /// calls `gate` before it runs a note.
+    pub fn new<'s>(
+        rt: &'e R,
+        scope: &'s Scope<'s, &'e ()>,
+        alloc: Global,
+        workers: u32,
+        gate: &'e G,
+    ) -> Pool<'e, J, R, G>
+    where
+        J: 's,
+        requires workers { (1 ≤ workers) × (workers ≤ 32) }
+        ensures few { helpers result < workers }
+        ensures ended { ended result ≡ 0 }
+    {
+        Pool {
+            rt,
+            gate,
+            alloc,
+            lines: start_all(rt, scope, alloc, workers - 1, gate),
+            ended: 0,
+            spared: 0,
+        }
+    }
+
+    /// How many helpers there are, 0 to 31.
+    pub fn helpers(&self) -> usize
+        ensures { result ≡ helpers self.now }
+    {
+        self.lines.len()
+    }
+
+    /// Ends the helpers and joins their threads. It answers how many cycles were played, or 2^64 - 1
+    /// where that is less.
+    pub fn close(self) -> u64
+        ensures { result ≡ ended self.entry }
+    {
+        let Pool {
+            rt,
+            gate: _,
+            alloc: _,
+            lines,
+            ended,
+            spared: _,
+        } = self;
+        close_all(rt, lines);
+        ended
+    }
+}
+
+/// So many helpers, or as many as there is memory and threads for.
+fn start_all<'s, 'e, J: Job + Send + Drop + 's, R: Threads + Wait + Sync, G: Gate + Sync>(
+    rt: &'e R,
+    scope: &'s Scope<'s, &'e ()>,
+    alloc: Global,
+    helpers: u32,
+    gate: &'e G,
+) -> Vec<Line<J>>
+    ensures idle { All (λ line. IsIdle line) result.items }
+    ensures few { length result.items ≤ helpers }
+{
+    let Ok(mut lines) = Vec::with_capacity(alloc, helpers as usize) else {
+        return Vec::new(alloc);
+    };
+    for _ in 0..helpers {
+        let Ok(line) = Line::start(rt, scope, alloc, gate) else {
+            return lines;
+        };
+        lines.push_reserved(line);
+    }
+    lines
+}
+
+/// Ends all helpers and joins their threads.
+fn close_all<J: Job + Drop, R: Threads>(rt: &R, mut lines: Vec<Line<J>>)
+    requires { All (λ line. IsIdle line) lines.items }
+{
+    while let Some(line) = lines.pop() {
+        line.close(rt);
+    }
+    lines.destroy_empty();
+}
