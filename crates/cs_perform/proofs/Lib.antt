@@ -2,6 +2,7 @@ pub mod Cycles
 pub mod Feet
 pub mod Files
 pub mod Frames
+pub mod Loans
 pub mod Performing
 pub mod Pieces
 pub mod Standings

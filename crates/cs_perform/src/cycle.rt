@@ -13,8 +13,8 @@ ghost use Rattle.cs_setup.specs.Setups.{SetupData, composition_of};
 ghost use Rattle.cs_turns.specs.Turns.{line_of, notes_in, turns_in};
 ghost use Rattle.cs_wav.specs.Wav.{bytes_of, is_out_of_range, samples_of};
 
-use crate::crew::Crew;
 use crate::order::Order;
+use crate::runner::Runner;
 use crate::stand::Stand;
 use crate::taps::tell;
 use crate::turns::tell_turns;
@@ -23,6 +23,7 @@ use cs_base::{Head, OutOfMemory};
 use cs_desk::Tally;
 use cs_edge::{Failed, Gate, Sink, Tap};
 use cs_setup::Setup;
+use cs_voice::Voice;
 use std::alloc::Global;
 use std::sync::Wait;
 use std::thread::Threads;
@@ -32,7 +33,7 @@ use std::thread::Threads;
 pub(crate) fn play_cycle<'t, R: Threads + Wait + Sync, G: Gate + Sync>(
     alloc: Global,
     setup: &Setup,
-    crew: &Crew<'_, R, G>,
+    runner: &mut Runner<'_, Voice<'t>, R, G>,
     told: bool,
     cycle: u32,
     mut stand: Stand<'t>,
@@ -53,7 +54,7 @@ pub(crate) fn play_cycle<'t, R: Threads + Wait + Sync, G: Gate + Sync>(
     let Ok(()) = prepare(alloc, setup, told, cycle, &mut stand, turns) else {
         return Err(OutOfMemory);
     };
-    let mut stand = stand.run(alloc, crew, cycle, tally);
+    let mut stand = stand.run(alloc, runner, cycle, tally);
     stand.mix_into(&setup.orchestra().head, mix);
     stand.end();
     Ok(stand)

@@ -14,17 +14,20 @@ ghost use Rattle.cs_setup.specs.Setups.{SetupData, composition_of};
 ghost use Rattle.cs_turns.specs.Turns.{turn_lines_of};
 ghost use Rattle.cs_wav.specs.Wav.{bytes_of, is_out_of_range, samples_of};
 
-use crate::blocks::Blocks;
+use crate::by_crew::play_by_crew;
 use crate::crew::Crew;
 use crate::cycle::{play_cycle, pour};
 use crate::order::{Order, Outcome, PlayFault};
+use crate::runner::Runner;
 use crate::sizes::{ends_odd, first_bytes, frames_in};
 use crate::stand::Stand;
+use crate::start::Start;
 use crate::writing::{begin, finish};
 use cs_base::{Bytes, OutOfMemory};
 use cs_desk::Tally;
 use cs_edge::{Gate, Sink, Tap};
 use cs_setup::Setup;
+use cs_voice::Voice;
 use std::alloc::Global;
 use std::sync::Wait;
 use std::thread::Threads;
@@ -62,33 +65,18 @@ pub fn perform<K: Sink, R: Threads + Wait + Sync, G: Gate + Sync>(
     let Ok(tables) = setup.tables_at(alloc) else {
         return Err(PlayFault::OutOfMemory);
     };
-    let Ok(mut blocks) = Blocks::new(alloc, &setup.orchestra().head, order.wide) else {
+    let Ok(start) = Start::new(alloc, setup, &tables, order.wide) else {
         return Err(PlayFault::OutOfMemory);
     };
-    let Ok(stand) = Stand::new(alloc, setup, &tables) else {
-        return Err(PlayFault::OutOfMemory);
-    };
-    play(
-        alloc,
-        setup,
-        order,
-        crew,
-        name,
-        wav,
-        taps,
-        tally,
-        stand,
-        &mut blocks.mix,
-        &mut blocks.out,
-    )
+    play_by_crew(alloc, setup, order, crew, name, wav, taps, tally, start)
 }
 
 /// The performance from its opening on.
-fn play<'t, K: Sink, R: Threads + Wait + Sync, G: Gate + Sync>(
+pub(crate) fn play<'t, K: Sink, R: Threads + Wait + Sync, G: Gate + Sync>(
     alloc: Global,
     setup: &Setup,
     order: Order,
-    crew: &Crew<'_, R, G>,
+    runner: &mut Runner<'_, Voice<'t>, R, G>,
     name: &str,
     wav: &mut K,
     taps: &mut Vec<Box<dyn Tap>>,
@@ -120,7 +108,7 @@ fn play<'t, K: Sink, R: Threads + Wait + Sync, G: Gate + Sync>(
     };
     let mut turns = Vec::new(alloc);
     let (stand, out_of_range) = match play_all(
-        alloc, setup, order, crew, wav, taps, tally, stand, mix, out, &mut turns,
+        alloc, setup, order, runner, wav, taps, tally, stand, mix, out, &mut turns,
     ) {
         Ok(played) => played,
         Err(fault) => return Err(fault),
@@ -147,7 +135,7 @@ fn play_all<'t, K: Sink, R: Threads + Wait + Sync, G: Gate + Sync>(
     alloc: Global,
     setup: &Setup,
     order: Order,
-    crew: &Crew<'_, R, G>,
+    runner: &mut Runner<'_, Voice<'t>, R, G>,
     wav: &mut K,
     taps: &mut Vec<Box<dyn Tap>>,
     tally: &mut Tally,
@@ -178,7 +166,7 @@ fn play_all<'t, K: Sink, R: Threads + Wait + Sync, G: Gate + Sync>(
         let Ok(next) = play_cycle(
             alloc,
             setup,
-            crew,
+            runner,
             order.turns,
             cycle,
             stand,

@@ -5,9 +5,8 @@ ghost use Rattle.cs_desk.specs.Desk.{areas, cells, HasRoom};
 ghost use Rattle.cs_graph.specs.Graph.{IsFit};
 ghost use Rattle.cs_rule.specs.Plans.{IsFootprint};
 
-use crate::crew::Crew;
+use crate::runner::Runner;
 use cs_cells::Job;
-use cs_crew::run_cycle;
 use cs_desk::{Desk, Tally};
 use cs_edge::Gate;
 use cs_graph::Graph;
@@ -16,9 +15,9 @@ use std::sync::{Arc, Wait};
 use std::thread::Threads;
 
 /// Jobs run in a cycle, which the tally counts.
-pub(crate) fn run_counted<J: Job + Send, R: Threads + Wait + Sync, G: Gate + Sync>(
+pub(crate) fn run_counted<J: Job + Send + Drop, R: Threads + Wait + Sync, G: Gate + Sync>(
     alloc: Global,
-    crew: &Crew<'_, R, G>,
+    runner: &mut Runner<'_, J, R, G>,
     cycle: u32,
     graph: Arc<Graph, Global>,
     desk: Desk<J>,
@@ -38,15 +37,6 @@ pub(crate) fn run_counted<J: Job + Send, R: Threads + Wait + Sync, G: Gate + Syn
     ensures cycles { tally.new.cycles ≡ tally.old.cycles + 1 }
     ensures notes { tally.new.notes ≡ tally.old.notes + length jobs.items }
 {
-    let (receipt, desk, graph) = run_cycle(
-        crew.rt,
-        alloc,
-        crew.workers,
-        cycle,
-        graph,
-        desk,
-        jobs,
-        crew.gate,
-    );
+    let (receipt, desk, graph) = runner.run(alloc, cycle, graph, desk, jobs);
     (tally.add(receipt), desk, graph)
 }

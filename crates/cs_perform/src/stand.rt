@@ -12,8 +12,8 @@ ghost use Rattle.cs_voice.specs.Memory.{table_of};
 ghost use Rattle.cs_voice.specs.VoiceData.{made};
 
 use crate::course::Course;
-use crate::crew::Crew;
 use crate::room::make_room;
+use crate::runner::Runner;
 use crate::running::run_counted;
 use cs_base::{Head, OutOfMemory};
 use cs_cells::Layout;
@@ -86,7 +86,7 @@ impl<'t> Stand<'t> {
     pub fn run<R: Threads + Wait + Sync, G: Gate + Sync>(
         self,
         alloc: Global,
-        crew: &Crew<'_, R, G>,
+        runner: &mut Runner<'_, Voice<'t>, R, G>,
         cycle: u32,
         tally: &mut Tally,
     ) -> Stand<'t>
@@ -104,7 +104,7 @@ impl<'t> Stand<'t> {
             course: Course { graph, feet },
         } = self;
         serial_runs_perform();
-        let (voices, desk, graph) = run_counted(alloc, crew, cycle, graph, desk, voices, tally);
+        let (voices, desk, graph) = run_counted(alloc, runner, cycle, graph, desk, voices, tally);
         Stand {
             life,
             voices,

@@ -1,8 +1,8 @@
 -- How all that is kept of a performance stands.
-use Rattle.std.specs.Prelude.{ℕ, ◌≡◌, ◌+◌, ◌*◌, ◌≤◌, List, length, map}
+use Rattle.std.specs.Prelude.{ℕ, Bool, ◌≡◌, ◌+◌, ◌*◌, ◌≤◌, List, length, map}
 use Rattle.cs_base.specs.Limits.{most_notes}
 use Rattle.cs_base.specs.declared.head.Head.{Head}
-use Rattle.cs_course.specs.Course.{played_in}
+use Rattle.cs_course.specs.Course.{opening, played_in}
 use Rattle.cs_course.specs.Moments.{Composition, Moment}
 use Rattle.cs_desk.specs.Desk.{areas, cells, HasRoom}
 use Rattle.cs_desk.specs.declared.receipt.Tally.{Tally}
@@ -12,6 +12,7 @@ use Rattle.cs_voice.specs.VoiceData.{VoiceData}
 use Rattle.cs_wav.specs.Wav.{bytes_of}
 use Rattle.cs_perform.specs.declared.blocks.Blocks.{Blocks}
 use Rattle.cs_perform.specs.declared.stand.Stand.{Stand}
+use Rattle.cs_perform.specs.declared.start.Start.{Start}
 use Rattle.cs_perform.specs.inner.Courses.{IsCourseOf}
 
 -- what is kept stands at a moment of a setup's performance, and the course is one
@@ -36,3 +37,8 @@ pub record CountsCycle (c : Composition) (n : ℕ) (before now : Tally) : Type 0
 pub record AreBlocksOf (head : Head) (bytes : ℕ) (b : Blocks) : Type 0 where
   pub mix : length b.mix.items ≡ head.ksmps * head.nchnls
   pub out : length b.out.items ≡ head.ksmps * head.nchnls * bytes
+
+-- what a performance begins with: all that is kept stands at the opening, and the blocks have place
+pub record IsStart (s : SetupData) (wide : Bool) (start : Start) : Type 0 where
+  pub at : IsAt s start.stand (opening (composition_of s))
+  pub place : AreBlocksOf s.orchestra.head (bytes_of wide) start.blocks

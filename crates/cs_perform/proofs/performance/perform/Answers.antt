@@ -10,18 +10,10 @@ pub returns-in_default-new-clause-part : goal.returns-in_default-new-clause-part
 returns-in_default-new-clause-part g c =
     part_untouched (λ b h. (goal.Tap-dyn g (b.vtable, b.value)).stands_for b.value h) g.K.Sink.tells (composition_of c.args.setup.now) _ _ _ _ _ _
 
-pub returns-in_default-new-2-clause-part : goal.returns-in_default-new-2-clause-part
-returns-in_default-new-2-clause-part g c =
-    part_untouched (λ b h. (goal.Tap-dyn g (b.vtable, b.value)).stands_for b.value h) g.K.Sink.tells (composition_of c.args.setup.now) _ _ _ _ _ _
-
 pub returns-in_default-clause-memory : goal.returns-in_default-clause-memory
 returns-in_default-clause-memory g c e =
     paused_untouched (λ b h. (goal.Tap-dyn g (b.vtable, b.value)).stands_for b.value h) g.K.Sink.tells (composition_of c.args.setup.now) _ _ _ _ _ _
 
 pub returns-in_default-new-clause-memory : goal.returns-in_default-new-clause-memory
 returns-in_default-new-clause-memory g c e =
-    paused_untouched (λ b h. (goal.Tap-dyn g (b.vtable, b.value)).stands_for b.value h) g.K.Sink.tells (composition_of c.args.setup.now) _ _ _ _ _ _
-
-pub returns-in_default-new-2-clause-memory : goal.returns-in_default-new-2-clause-memory
-returns-in_default-new-2-clause-memory g c e =
     paused_untouched (λ b h. (goal.Tap-dyn g (b.vtable, b.value)).stands_for b.value h) g.K.Sink.tells (composition_of c.args.setup.now) _ _ _ _ _ _

@@ -1,0 +1,178 @@
+// A performance by a crew: where the crew stands, its helpers are threads of a scope that lasts for the performance.
+ghost use Rattle.std.specs.Prelude.{◌≡◌, ◌≤◌};
+ghost use Rattle.cs_perform.specs.inner.Crews.{MayPlay, Performs};
+
+use crate::crew::Crew;
+use crate::order::{Order, Outcome, PlayFault};
+use crate::performance::play;
+use crate::runner::Runner;
+use crate::start::Start;
+use cs_desk::Tally;
+use cs_edge::{Gate, Sink, Tap};
+use cs_pool::Pool;
+use cs_setup::Setup;
+use cs_voice::Voice;
+use std::alloc::Global;
+use std::sync::Wait;
+use std::thread;
+use std::thread::{Scope, Threads};
+
+/// The performance from its opening on, by a crew.
+pub(crate) fn play_by_crew<'e, K: Sink, R: Threads + Wait + Sync, G: Gate + Sync>(
+    alloc: Global,
+    setup: &Setup,
+    order: Order,
+    crew: &'e Crew<'e, R, G>,
+    name: &str,
+    wav: &mut K,
+    taps: &mut Vec<Box<dyn Tap>>,
+    tally: &mut Tally,
+    start: Start<'_>,
+) -> Result<Outcome, PlayFault>
+    requires { MayPlay setup.now order tally.old start }
+    ensures { Performs (λ t h. stands_for t h) K.tells setup.now order name.now taps.old.items taps.new.items
+        tally.old tally.new wav.old wav.new result }
+{
+    if crew.standing {
+        play_in_loan(alloc, setup, order, crew, name, wav, taps, tally, start)
+    } else {
+        let runner = Runner::Each(crew);
+        play_with(alloc, setup, order, runner, name, wav, taps, tally, start)
+    }
+}
+
+/// By whoever runs the notes of each cycle, who has ended when it returns.
+fn play_with<'t, K: Sink, R: Threads + Wait + Sync, G: Gate + Sync>(
+    alloc: Global,
+    setup: &Setup,
+    order: Order,
+    runner: Runner<'_, Voice<'t>, R, G>,
+    name: &str,
+    wav: &mut K,
+    taps: &mut Vec<Box<dyn Tap>>,
+    tally: &mut Tally,
+    start: Start<'t>,
+) -> Result<Outcome, PlayFault>
+    requires { MayPlay setup.now order tally.old start }
+    ensures { Performs (λ t h. stands_for t h) K.tells setup.now order name.now taps.old.items taps.new.items
+        tally.old tally.new wav.old wav.new result }
+{
+    let Start { stand, mut blocks } = start;
+    let mut runner = runner;
+    let played = play(
+        alloc,
+        setup,
+        order,
+        &mut runner,
+        name,
+        wav,
+        taps,
+        tally,
+        stand,
+        &mut blocks.mix,
+        &mut blocks.out,
+    );
+    runner.close();
+    played
+}
+
+/// What the caller of a performance lends it. A scope's closure says nothing of a reference that it captures by itself, so all are
+/// handed to it as one value and come back as one.
+#[derive(Drop)]
+struct Loan<'a, K> {
+    wav: &'a mut K,
+    taps: &'a mut Vec<Box<dyn Tap>>,
+    tally: &'a mut Tally,
+}
+
+/// By a standing crew, to which sink, taps and tally are lent.
+fn play_in_loan<'a, 'e, 't, K: Sink, R: Threads + Wait + Sync, G: Gate + Sync>(
+    alloc: Global,
+    setup: &Setup,
+    order: Order,
+    crew: &Crew<'e, R, G>,
+    name: &str,
+    wav: &'a mut K,
+    taps: &'a mut Vec<Box<dyn Tap>>,
+    tally: &'a mut Tally,
+    start: Start<'t>,
+) -> Result<Outcome, PlayFault>
+    requires { MayPlay setup.now order tally.old start }
+    ensures { Performs (λ t h. stands_for t h) K.tells setup.now order name.now taps.old.items taps.new.items
+        tally.old tally.new wav.old wav.new result }
+{
+    let (rt, workers, gate) = (crew.rt, crew.workers, crew.gate);
+    let loan = Loan { wav, taps, tally };
+    let (played, loan) = play_in_scope(alloc, setup, order, rt, workers, gate, name, start, loan);
+    let Loan { wav, taps, tally } = loan;
+    take_back(wav, taps, tally);
+    played
+}
+
+/// The loans end: that it is handed all references that came back at once tells what is behind each at its end.
+fn take_back<A, B, C>(a: &mut A, b: &mut B, c: &mut C)
+    ensures { (a.new ≡ a.old) × (b.new ≡ b.old) × (c.new ≡ c.old) }
+{}
+
+/// By a standing crew of so many workers, in a scope of its own.
+fn play_in_scope<'a, 'e, 't, K: Sink, R: Threads + Wait + Sync, G: Gate + Sync>(
+    alloc: Global,
+    setup: &Setup,
+    order: Order,
+    rt: &'e R,
+    workers: u32,
+    gate: &'e G,
+    name: &str,
+    start: Start<'t>,
+    loan: Loan<'a, K>,
+) -> (Result<Outcome, PlayFault>, Loan<'a, K>)
+    requires workers { (1 ≤ workers) × (workers ≤ 32) }
+    requires begun { MayPlay setup.now order loan.tally.now start }
+    ensures same { (result.1.wav.ghost_name ≡ loan.entry.wav.ghost_name) × (result.1.taps.ghost_name ≡ loan.entry.taps.ghost_name)
+        × (result.1.tally.ghost_name ≡ loan.entry.tally.ghost_name) }
+    ensures performed { Performs (λ t h. stands_for t h) K.tells setup.now order name.now loan.entry.taps.now.items
+        result.1.taps.now.items loan.entry.tally.now result.1.tally.now loan.entry.wav.now result.1.wav.now result.0 }
+{
+    thread::scope(
+        thread::scope_env(),
+        rt,
+        move |scope|
+            requires workers { (1 ≤ workers) × (workers ≤ 32) }
+            requires begun { MayPlay setup.now order loan.tally.now start }
+            ensures same { (result.1.wav.ghost_name ≡ loan.entry.wav.ghost_name) × (result.1.taps.ghost_name ≡ loan.entry.taps.ghost_name)
+                × (result.1.tally.ghost_name ≡ loan.entry.tally.ghost_name) }
+            ensures performed { Performs (λ t h. stands_for t h) K.tells setup.entry.now order name.entry.now loan.entry.taps.now.items
+                result.1.taps.now.items loan.entry.tally.now result.1.tally.now loan.entry.wav.now result.1.wav.now result.0 }
+        {
+            play_loan(
+                alloc, scope, setup, order, rt, workers, gate, name, start, loan,
+            )
+        },
+    )
+}
+
+/// By a standing crew of so many workers, whose helpers are threads of this scope and have ended when it returns.
+fn play_loan<'a, 's, 'e, 't: 's, K: Sink, R: Threads + Wait + Sync, G: Gate + Sync>(
+    alloc: Global,
+    scope: &'s Scope<'s, &'e ()>,
+    setup: &Setup,
+    order: Order,
+    rt: &'e R,
+    workers: u32,
+    gate: &'e G,
+    name: &str,
+    start: Start<'t>,
+    loan: Loan<'a, K>,
+) -> (Result<Outcome, PlayFault>, Loan<'a, K>)
+    requires workers { (1 ≤ workers) × (workers ≤ 32) }
+    requires begun { MayPlay setup.now order loan.tally.now start }
+    ensures same { (result.1.wav.ghost_name ≡ loan.entry.wav.ghost_name) × (result.1.taps.ghost_name ≡ loan.entry.taps.ghost_name)
+        × (result.1.tally.ghost_name ≡ loan.entry.tally.ghost_name) }
+    ensures performed { Performs (λ t h. stands_for t h) K.tells setup.now order name.now loan.entry.taps.now.items
+        result.1.taps.now.items loan.entry.tally.now result.1.tally.now loan.entry.wav.now result.1.wav.now result.0 }
+{
+    let Loan { wav, taps, tally } = loan;
+    let runner = Runner::Standing(Pool::new(rt, scope, alloc, workers, gate));
+    let played = play_with(alloc, setup, order, runner, name, wav, taps, tally, start);
+    (played, Loan { wav, taps, tally })
+}
