@@ -88,7 +88,7 @@ fn follow<R: Threads + Wait + Sync, F: Shelf, K: Sink, T: Sink, G: Gate + Sync>(
     }
 }
 
-/// Performs a piece as the words ask for it. `--pool` changes nothing yet.
+/// Performs a piece as the words ask for it: with `--pool` by a crew that is started once, else by one that is started in each cycle.
 fn play<R: Threads + Wait + Sync, K: Sink, G: Gate + Sync>(
     rt: &R,
     alloc: Global,
@@ -114,7 +114,7 @@ fn play<R: Threads + Wait + Sync, K: Sink, G: Gate + Sync>(
     ensures sink { IsErrOf result PlayFault.Sink → ((order_of (asked_in order.now)).write ≡ true)
         × Rose (K.tells wav.old).faults (K.tells wav.new).faults }
 {
-    let crew = Crew::new(rt, workers_of(rt, order.workers.number()), gate);
+    let crew = Crew::new(rt, workers_of(rt, order.workers.number()), order.pool, gate);
     perform(
         alloc,
         setup,
