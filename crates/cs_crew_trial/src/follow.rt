@@ -19,7 +19,7 @@ use std::sync::{Arc, Wait};
 use std::thread::Threads;
 
 /// The most notes and edges that a cycle may have here.
-const ROOM: (u32, u32) = (16, 120);
+pub const ROOM: (u32, u32) = (16, 120);
 
 /// The desk and the jobs after a cycle of these jobs. None where there is no memory or no room for
 /// it, or where a footprint isn't in order.
@@ -53,7 +53,7 @@ fn after_cycle<J: Job + Send + Drop, R: Threads + Wait + Sync>(
 }
 
 /// The graph of the jobs' footprints, for which the desk has room.
-fn shared_graph<J: Job>(
+pub fn shared_graph<J: Job>(
     alloc: Global,
     layout: &Layout,
     jobs: &[J],
@@ -77,7 +77,7 @@ fn shared_graph<J: Job>(
 }
 
 /// The desk and its words, where these and the notes are what the fold leaves.
-fn agreeing<'t>(
+pub fn agreeing<'t>(
     alloc: Global,
     layout: &Layout,
     mut desk: Desk<Mini<'t>>,
@@ -162,7 +162,8 @@ fn all_follow<'t, R: Threads + Wait + Sync>(
     true
 }
 
-fn draw_cycles(
+/// So many cycles of random notes, by the parts of their notes.
+pub fn draw_cycles(
     alloc: Global,
     dice: &mut Dice,
     areas: &[Area],

@@ -19,9 +19,9 @@ mod random;
 
 pub use counted::{Counted, counting_jobs};
 pub use crews::{CYCLE, add_by_crew, after_cycles, crewed, play_cycles, words_after};
-pub use follow::cycles_follow;
+pub use follow::{ROOM, agreeing, cycles_follow, draw_cycles, shared_graph};
 pub use gates::{Meeting, Watcher};
-pub use random::{Dice, plays_as_fold};
+pub use random::{Dice, draw_layout, draw_words, folded, plays_as_fold};
 
 #[cfg(test)]
 mod crew_tests;

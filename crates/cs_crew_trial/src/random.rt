@@ -113,7 +113,7 @@ fn are_alike(notes: &[Mini<'_>], others: &[Mini<'_>]) -> bool {
 }
 
 /// The words and the notes that the fold leaves.
-pub(crate) fn folded<'t>(
+pub fn folded<'t>(
     alloc: Global,
     layout: &Layout,
     areas: &'t [Area],
@@ -215,11 +215,8 @@ pub(crate) fn draw_parts(
     Ok(parts)
 }
 
-pub(crate) fn draw_words(
-    alloc: Global,
-    dice: &mut Dice,
-    count: u32,
-) -> Result<Vec<u64>, AllocError> {
+/// So many random words.
+pub fn draw_words(alloc: Global, dice: &mut Dice, count: u32) -> Result<Vec<u64>, AllocError> {
     let mut words = Vec::new(alloc);
     for _ in 0..count {
         words.push(u64::from(dice.roll(1_000)))?;
@@ -247,7 +244,7 @@ fn plays_on<R: Threads + Wait + Sync>(
 }
 
 /// Areas of one to six resources, and their layout.
-pub(crate) fn draw_layout(alloc: Global, dice: &mut Dice) -> Option<(Vec<Area>, Layout)>
+pub fn draw_layout(alloc: Global, dice: &mut Dice) -> Option<(Vec<Area>, Layout)>
     ensures { IfSome result (λ l. l.1 ≡ l.0.items) }
 {
     let count = 1 + dice.roll(6);
