@@ -1,10 +1,12 @@
 // Notes of a text, as they begin and sound.
 ghost use Rattle.std.specs.Prelude.{◌≡◌, ◌<◌, ◌≤◌, ℕ, length, All, IfOk, IfSome, OnOk};
 ghost use Rattle.cs_cells.specs.Areas.{word_count};
+ghost use Rattle.cs_code.specs.Lowered.{AreInstrumentsOf};
+ghost use Rattle.cs_typed.specs.TypedTree as trees;
 ghost use Rattle.cs_voice_trial.specs.Pieces.{AreTrialTables, IsReady, PlaysOver};
 
 use crate::piece::{Piece, Ready, read, ready_for};
-use cs_base::{Num, OutOfMemory};
+use cs_base::{Head, Num, OutOfMemory};
 use cs_cells::{Bank, Layout, PlainBank, run_all};
 use cs_ir::Ask;
 use cs_note::instruments_are_performed;
@@ -13,12 +15,12 @@ use cs_voice::{Stage, TableAt, Voice};
 use std::alloc::Global;
 
 /// What came of the notes of a text.
-#[derive(Debug, Drop)]
+#[derive(Drop)]
 pub enum Heard {
-    /// The frames of the first channel of the last note, cycle by cycle, and whether it had ended after each.
+    /// The frames of the last note, cycle by cycle and in each cycle channel by channel, and whether it had ended after each.
     Frames(Vec<i64>, Vec<bool>),
-    /// A note didn't begin: it asked for this table, after it had asked for so many notes.
-    NoTable(i64, usize),
+    /// A note didn't begin: a unit of it wanted the table of this number.
+    NoTable(i64),
     /// A note didn't begin: its delays were of so many samples together.
     DelayTooLong(u64),
 }
@@ -78,9 +80,14 @@ fn cycle<B: Bank>(layout: &Layout, voices: &mut [Voice<'_>], bank: &mut B)
     run_all(voices, bank);
 }
 
-/// What a note gives to the first channel in this cycle.
-fn hear(voice: &Voice<'_>, ksmps: u32, frames: &mut Vec<i64>) -> Result<(), OutOfMemory> {
-    match voice.channel(0) {
+/// What a note gives to a channel in this cycle.
+fn hear(
+    voice: &Voice<'_>,
+    channel: u32,
+    ksmps: u32,
+    frames: &mut Vec<i64>,
+) -> Result<(), OutOfMemory> {
+    match voice.channel(channel as usize) {
         Some(row) => {
             for value in row {
                 frames.push(value.raw())?;
@@ -95,13 +102,35 @@ fn hear(voice: &Voice<'_>, ksmps: u32, frames: &mut Vec<i64>) -> Result<(), OutO
     Ok(())
 }
 
+/// What a note gives to every channel in this cycle.
+fn hear_all(voice: &Voice<'_>, head: &Head, frames: &mut Vec<i64>) -> Result<(), OutOfMemory> {
+    for channel in 0..head.nchnls {
+        hear(voice, channel, head.ksmps, frames)?;
+    }
+    Ok(())
+}
+
+/// Writes down what the last of some notes gives in this cycle, and whether it has ended with it.
+fn note_down(
+    voices: &[Voice<'_>],
+    head: &Head,
+    frames: &mut Vec<i64>,
+    ended: &mut Vec<bool>,
+) -> Result<(), OutOfMemory> {
+    if let Some(last) = voices.last() {
+        hear_all(last, head, frames)?;
+        ended.push(last.ended())?;
+    }
+    Ok(())
+}
+
 /// Some cycles of notes that have begun, as the last of them is heard.
 fn sound<B: Bank>(
     alloc: Global,
     piece: &Piece,
     voices: &mut [Voice<'_>],
     bank: &mut B,
-    cycles: u32,
+    cycles: usize,
 ) -> Result<Heard, OutOfMemory>
     requires over { All (λ v. v.areas ≡ piece.now.layout) voices.old }
     requires get { (a : ℕ) → a < word_count piece.now.layout → B.can_get (B.rest bank.old) a }
@@ -112,10 +141,7 @@ fn sound<B: Bank>(
     let mut ended = Vec::new(alloc);
     for _ in 0..cycles {
         cycle(&piece.layout, voices, bank);
-        if let Some(last) = voices.last() {
-            hear(last, piece.typed.head.ksmps, &mut frames)?;
-            ended.push(last.ended())?;
-        }
+        note_down(voices, &piece.typed.head, &mut frames, &mut ended)?;
     }
     Ok(Heard::Frames(frames, ended))
 }
@@ -127,6 +153,7 @@ fn join_in<'p, B: Bank>(
     ready: &'p Ready<'p>,
     tables: &'p [TableAt<'p>],
     made: &[bool; 3],
+    asks: &mut Vec<Ask>,
     voices: &mut Vec<Voice<'p>>,
     bank: &mut B,
 ) -> Result<Option<Heard>, OutOfMemory>
@@ -140,77 +167,132 @@ fn join_in<'p, B: Bank>(
     ensures long { length (B.cells bank.new) ≡ length (B.cells bank.old) }
     ensures rest { B.rest bank.new ≡ B.rest bank.old }
 {
-    let mut asks = Vec::new(alloc);
     let mut fields = Vec::new(alloc);
     for number in 1..=5u32 {
         fields.push(Num::of_raw(i64::from(number) * 65_536))?;
     }
-    match begin(alloc, piece, ready, tables, made, fields, &mut asks, bank)? {
+    match begin(alloc, piece, ready, tables, made, fields, asks, bank)? {
         Started::Live(voice) => {
             voices.push(voice)?;
             Ok(None)
         }
-        Started::NoTable { number } => Ok(Some(Heard::NoTable(number, asks.len()))),
+        Started::NoTable { number } => Ok(Some(Heard::NoTable(number))),
         Started::DelayTooLong { samples } => Ok(Some(Heard::DelayTooLong(samples))),
     }
 }
 
-/// One note, through some cycles.
-fn alone<'p, B: Bank>(
+/// Begins a note, and then another where there is one; the answer is why one didn't begin.
+fn join_all<'p, B: Bank>(
     alloc: Global,
     piece: &'p Piece,
     first: &'p Ready<'p>,
+    second: &'p Option<Ready<'p>>,
     tables: &'p [TableAt<'p>],
     made: &[bool; 3],
+    asks: &mut Vec<Ask>,
+    voices: &mut Vec<Voice<'p>>,
     bank: &mut B,
-    cycles: u32,
-) -> Result<Heard, OutOfMemory>
+) -> Result<Option<Heard>, OutOfMemory>
     requires first { IsReady piece.now.typed piece.now.layout first.now.instrument.now first.now.foot }
+    requires second { IfSome second.now (λ r. IsReady piece.now.typed piece.now.layout r.instrument.now r.foot) }
     requires tables { AreTrialTables tables.now }
     requires get { (a : ℕ) → a < word_count piece.now.layout → B.can_get (B.rest bank.old) a }
     requires set { (a : ℕ) → a < word_count piece.now.layout → B.can_set (B.rest bank.old) a }
     requires cells { word_count piece.now.layout ≤ length (B.cells bank.old) }
+    requires over { All (λ v. v.areas ≡ piece.now.layout) voices.old.items }
+    ensures over { OnOk result (All (λ v. v.areas ≡ piece.now.layout) voices.new.items) }
+    ensures long { length (B.cells bank.new) ≡ length (B.cells bank.old) }
+    ensures rest { B.rest bank.new ≡ B.rest bank.old }
 {
-    let mut voices = Vec::new(alloc);
-    if let Some(refused) = join_in(alloc, piece, first, tables, made, &mut voices, bank)? {
+    let refused = join_in(alloc, piece, first, tables, made, asks, voices, bank)?;
+    if refused.is_some() {
         return Ok(refused);
     }
-    sound(alloc, piece, &mut voices, bank, cycles)
+    match second {
+        Some(second) => join_in(alloc, piece, second, tables, made, asks, voices, bank),
+        None => Ok(None),
+    }
 }
 
-/// Two notes, through some cycles.
+/// One note or two, through some cycles.
 fn together<'p, B: Bank>(
     alloc: Global,
     piece: &'p Piece,
     first: &'p Ready<'p>,
-    second: &'p Ready<'p>,
+    second: &'p Option<Ready<'p>>,
     tables: &'p [TableAt<'p>],
     made: &[bool; 3],
+    asks: &mut Vec<Ask>,
     bank: &mut B,
-    cycles: u32,
+    cycles: usize,
 ) -> Result<Heard, OutOfMemory>
     requires first { IsReady piece.now.typed piece.now.layout first.now.instrument.now first.now.foot }
-    requires second { IsReady piece.now.typed piece.now.layout second.now.instrument.now second.now.foot }
+    requires second { IfSome second.now (λ r. IsReady piece.now.typed piece.now.layout r.instrument.now r.foot) }
     requires tables { AreTrialTables tables.now }
     requires get { (a : ℕ) → a < word_count piece.now.layout → B.can_get (B.rest bank.old) a }
     requires set { (a : ℕ) → a < word_count piece.now.layout → B.can_set (B.rest bank.old) a }
     requires cells { word_count piece.now.layout ≤ length (B.cells bank.old) }
 {
     let mut voices = Vec::new(alloc);
-    if let Some(refused) = join_in(alloc, piece, first, tables, made, &mut voices, bank)? {
-        return Ok(refused);
+    let refused = join_all(
+        alloc,
+        piece,
+        first,
+        second,
+        tables,
+        made,
+        asks,
+        &mut voices,
+        bank,
+    )?;
+    match refused {
+        Some(refused) => Ok(refused),
+        None => sound(alloc, piece, &mut voices, bank, cycles),
     }
-    if let Some(refused) = join_in(alloc, piece, second, tables, made, &mut voices, bank)? {
-        return Ok(refused);
-    }
-    sound(alloc, piece, &mut voices, bank, cycles)
 }
 
 /// The notes of instruments 1 and, where there is one, 2, begun in this order with the p-fields 1 to 5, through some cycles.
-/// Table 1 is frozen, with the points 0, 1, 0 and -1; tables 2 and 3 are live, of four points, which are 0.
-pub fn play(alloc: Global, source: &[u8], made: [bool; 3], cycles: u32) -> Option<Heard> {
+/// Table 1 is frozen, with the points 0, 1, 0 and -1; tables 2 and 3 are live, of four points, which are 0. What the notes ask
+/// for comes behind `asks`.
+pub fn play(
+    alloc: Global,
+    source: &[u8],
+    made: [bool; 3],
+    cycles: usize,
+    asks: &mut Vec<Ask>,
+) -> Option<Heard> {
     let piece = read(alloc, source)?;
-    let mut words = words_for(alloc, &piece.layout)?;
+    play_piece(alloc, &piece, &made, asks, cycles)
+}
+
+/// The notes of a piece, over cells that are 0.
+fn play_piece(
+    alloc: Global,
+    piece: &Piece,
+    made: &[bool; 3],
+    asks: &mut Vec<Ask>,
+    cycles: usize,
+) -> Option<Heard>
+    requires { AreInstrumentsOf (trees.orchestra piece.now.typed) piece.now.lowered.instruments }
+{
+    let first = ready_for(alloc, piece, 1)?;
+    let second = ready_for(alloc, piece, 2);
+    play_ready(alloc, piece, &first, &second, made, asks, cycles)
+}
+
+/// One note or two, over cells that are 0.
+fn play_ready<'p>(
+    alloc: Global,
+    piece: &'p Piece,
+    first: &'p Ready<'p>,
+    second: &'p Option<Ready<'p>>,
+    made: &[bool; 3],
+    asks: &mut Vec<Ask>,
+    cycles: usize,
+) -> Option<Heard>
+    requires first { IsReady piece.now.typed piece.now.layout first.now.instrument.now first.now.foot }
+    requires second { IfSome second.now (λ r. IsReady piece.now.typed piece.now.layout r.instrument.now r.foot) }
+{
     let points = [
         Num::of_raw(0),
         Num::of_raw(65_536),
@@ -218,34 +300,12 @@ pub fn play(alloc: Global, source: &[u8], made: [bool; 3], cycles: u32) -> Optio
         Num::of_raw(-65_536),
     ];
     let tables = tables_of(&points);
-    let first = ready_for(alloc, &piece, 1)?;
-    let second = ready_for(alloc, &piece, 2);
-    play_over(
-        alloc, &piece, &first, &second, &tables, &made, &mut words, cycles,
+    let mut words = words_for(alloc, &piece.layout)?;
+    let mut bank = PlainBank::new(&mut words);
+    together(
+        alloc, piece, first, second, &tables, made, asks, &mut bank, cycles,
     )
-}
-
-/// One note or two, over words that are as many as the layout's.
-fn play_over<'p>(
-    alloc: Global,
-    piece: &'p Piece,
-    first: &'p Ready<'p>,
-    second: &'p Option<Ready<'p>>,
-    tables: &'p [TableAt<'p>],
-    made: &[bool; 3],
-    words: &mut Vec<u64>,
-    cycles: u32,
-) -> Option<Heard>
-    requires first { IsReady piece.now.typed piece.now.layout first.now.instrument.now first.now.foot }
-    requires second { IfSome second.now (λ r. IsReady piece.now.typed piece.now.layout r.instrument.now r.foot) }
-    requires tables { AreTrialTables tables.now }
-    requires cells { length words.old.items ≡ word_count piece.now.layout }
-{
-    let mut bank = PlainBank::new(words);
-    match second {
-        Some(second) => together(alloc, piece, first, second, tables, made, &mut bank, cycles).ok(),
-        None => alone(alloc, piece, first, tables, made, &mut bank, cycles).ok(),
-    }
+    .ok()
 }
 
 /// As many words as a layout has cells, all 0.

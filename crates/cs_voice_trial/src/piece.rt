@@ -88,6 +88,15 @@ pub fn read(alloc: Global, source: &[u8]) -> Option<Piece>
 {
     let orc = tree_of(alloc, source)?;
     let typed = typed_of(alloc, &orc)?;
+    laid_out(alloc, typed)
+}
+
+// A typed text, lowered and laid out.
+fn laid_out(alloc: Global, typed: TypedOrc) -> Option<Piece>
+    requires rated { IsWellRated (trees.orchestra typed) }
+    requires distinct { IsDistinct eqb (all_numbers (trees.orchestra typed).instrs) }
+    ensures { IfSome result (λ p. AreInstrumentsOf (trees.orchestra p.typed) p.lowered.instruments) }
+{
     let layout = layout_of(alloc, &typed)?;
     let lowered = lower(alloc, &typed).ok()?;
     Some(Piece {
