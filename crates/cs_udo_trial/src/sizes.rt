@@ -66,9 +66,9 @@ fn two_thousand(rt: HostRuntime) {
     assert!(rt; is(hundreds(rt.alloc(), 19, 101), "#4 152"));
 }
 
-// D0 does nothing; each of the next calls two of the one before. One call of the last stands at the end.
+// Double00 does nothing; each of the next calls the one before twice. One call of the last stands at the end.
 fn add_doubles(text: &mut Vec<u8>, first: usize, times: usize) -> bool {
-    if !add(text, 1, "opcode D00, 0, 0\nendop\n") {
+    if !add(text, 1, "opcode Double00, 0, 0\nendop\n") {
         return false;
     }
     for i in first..times {
@@ -87,7 +87,7 @@ fn add_doubles(text: &mut Vec<u8>, first: usize, times: usize) -> bool {
 }
 
 fn add_name(text: &mut Vec<u8>, number: usize) -> bool {
-    text.push(b'D').is_ok()
+    add(text, 1, "Double")
         && text.push(b'0' + (number / 10 % 10) as u8).is_ok()
         && text.push(b'0' + (number % 10) as u8).is_ok()
 }
