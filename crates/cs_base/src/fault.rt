@@ -7,7 +7,7 @@ use std::alloc::{AllocError, AllocFailed};
 use thiserror::Error;
 
 /// Memory was refused. It is an answer of its own, and no clause says when it comes.
-#[derive(Clone, Copy, Debug, PartialEq, Eq)]
+#[derive(Clone, Copy)]
 pub struct OutOfMemory;
 
 impl From<AllocError> for OutOfMemory {
@@ -23,7 +23,7 @@ impl<T: Drop> From<AllocFailed<T>> for OutOfMemory {
 }
 
 /// A fault of a text, or want of memory.
-#[derive(Clone, Copy, Debug, PartialEq, Eq)]
+#[derive(Clone, Copy)]
 pub enum Or<F> {
     Fault(F),
     OutOfMemory,
@@ -56,29 +56,29 @@ impl<F> From<OutOfMemory> for Or<F> {
 /// The kinds of fault of an orchestra: 1 to 4 are found by tokens, 5 to 11 and 20 to 23 by grammar, 12 to 19 by rates and names.
 #[derive(Clone, Copy, Debug, PartialEq, Eq)]
 pub enum OrcKind {
-    BadByte,
-    BadToken,
-    BadNumber,
-    OpenComment,
-    Unexpected,
-    MissingEndin,
-    NestedInstr,
-    InstrNumber,
-    InstrTwice,
-    MissingEndif,
-    NotInProfile,
-    UnknownOpcode,
-    Undefined,
-    RateMismatch,
-    ArgCount,
-    HeaderValue,
-    HeaderTwice,
-    ChannelRate,
-    OutCount,
-    Recursion,
-    OpcodeTwice,
-    XinXout,
-    MissingEndop,
+    BadByte = 1,
+    BadToken = 2,
+    BadNumber = 3,
+    OpenComment = 4,
+    Unexpected = 5,
+    MissingEndin = 6,
+    NestedInstr = 7,
+    InstrNumber = 8,
+    InstrTwice = 9,
+    MissingEndif = 10,
+    NotInProfile = 11,
+    UnknownOpcode = 12,
+    Undefined = 13,
+    RateMismatch = 14,
+    ArgCount = 15,
+    HeaderValue = 16,
+    HeaderTwice = 17,
+    ChannelRate = 18,
+    OutCount = 19,
+    Recursion = 20,
+    OpcodeTwice = 21,
+    XinXout = 22,
+    MissingEndop = 23,
 }
 
 impl OrcKind {
@@ -86,31 +86,7 @@ impl OrcKind {
     pub fn number(self) -> u8
         ensures { result ≡ orc_kind_number self }
     {
-        match self {
-            OrcKind::BadByte => 1,
-            OrcKind::BadToken => 2,
-            OrcKind::BadNumber => 3,
-            OrcKind::OpenComment => 4,
-            OrcKind::Unexpected => 5,
-            OrcKind::MissingEndin => 6,
-            OrcKind::NestedInstr => 7,
-            OrcKind::InstrNumber => 8,
-            OrcKind::InstrTwice => 9,
-            OrcKind::MissingEndif => 10,
-            OrcKind::NotInProfile => 11,
-            OrcKind::UnknownOpcode => 12,
-            OrcKind::Undefined => 13,
-            OrcKind::RateMismatch => 14,
-            OrcKind::ArgCount => 15,
-            OrcKind::HeaderValue => 16,
-            OrcKind::HeaderTwice => 17,
-            OrcKind::ChannelRate => 18,
-            OrcKind::OutCount => 19,
-            OrcKind::Recursion => 20,
-            OrcKind::OpcodeTwice => 21,
-            OrcKind::XinXout => 22,
-            OrcKind::MissingEndop => 23,
-        }
+        self as u8
     }
 
     /// The kind's name, as a refusal prints it.
@@ -148,16 +124,16 @@ impl OrcKind {
 /// The kinds of fault of a score, in the order of their numbers.
 #[derive(Clone, Copy, Debug, PartialEq, Eq)]
 pub enum ScoreKind {
-    BadStatement,
-    BadNumber,
-    MissingField,
-    NothingToCarry,
-    BadTempo,
-    BadGen,
-    BadTableSize,
-    TableResized,
-    NegativeTime,
-    NotInProfile,
+    BadStatement = 1,
+    BadNumber = 2,
+    MissingField = 3,
+    NothingToCarry = 4,
+    BadTempo = 5,
+    BadGen = 6,
+    BadTableSize = 7,
+    TableResized = 8,
+    NegativeTime = 9,
+    NotInProfile = 10,
 }
 
 impl ScoreKind {
@@ -165,18 +141,7 @@ impl ScoreKind {
     pub fn number(self) -> u8
         ensures { result ≡ score_kind_number self }
     {
-        match self {
-            ScoreKind::BadStatement => 1,
-            ScoreKind::BadNumber => 2,
-            ScoreKind::MissingField => 3,
-            ScoreKind::NothingToCarry => 4,
-            ScoreKind::BadTempo => 5,
-            ScoreKind::BadGen => 6,
-            ScoreKind::BadTableSize => 7,
-            ScoreKind::TableResized => 8,
-            ScoreKind::NegativeTime => 9,
-            ScoreKind::NotInProfile => 10,
-        }
+        self as u8
     }
 
     /// The kind's name, as a refusal prints it.

@@ -3,7 +3,7 @@ ghost use Rattle.std.specs.Prelude.{◌≤◌, pos, ◌<ℤ◌};
 use crate::Num;
 
 /// What holds for a whole piece: frames a second, frames a control cycle, channels, and the value of full scale.
-#[derive(Clone, Copy, Debug, PartialEq, Eq)]
+#[derive(Clone, Copy)]
 pub struct Head {
     /// Frames a second, from 1 to 192,000.
     pub sr: u32,

@@ -20,7 +20,8 @@ pub const MOST_TABLES: usize = 300;
 pub const MOST_EVENTS: usize = 100_000;
 /// Bytes of the samples of a sound file.
 pub const MOST_WAV_BYTES: u64 = 2_147_483_648;
-/// Words of all shared resources together: one a variable, a channel or a zak place, one a point of a table.
+/// Words of all shared resources together: one a point of a table, and one a variable, a channel or a zak place, or as
+/// many as a control cycle has frames where it is of sounds.
 pub const MOST_WORDS: usize = 65_536;
 /// Samples of all delay lines of one note.
 pub const MOST_DELAY_SAMPLES: usize = 262_144;
@@ -34,19 +35,19 @@ pub const MOST_CSD_BYTES: usize = 5_242_880;
 /// A stated limit, in the order of their numbers. It is passed where what it counts is more than its greatest number.
 #[derive(Clone, Copy, Debug, PartialEq, Eq)]
 pub enum Limit {
-    OrchestraBytes,
-    ScoreBytes,
-    Instruments,
-    Statements,
-    Notes,
-    Tables,
-    Events,
-    WavBytes,
-    Words,
-    DelaySamples,
-    Resources,
-    Asks,
-    CsdBytes,
+    OrchestraBytes = 1,
+    ScoreBytes = 2,
+    Instruments = 3,
+    Statements = 4,
+    Notes = 5,
+    Tables = 6,
+    Events = 7,
+    WavBytes = 8,
+    Words = 9,
+    DelaySamples = 10,
+    Resources = 11,
+    Asks = 12,
+    CsdBytes = 13,
 }
 
 impl Limit {
@@ -54,21 +55,7 @@ impl Limit {
     pub fn number(self) -> u8
         ensures { result ≡ limit_number self }
     {
-        match self {
-            Limit::OrchestraBytes => 1,
-            Limit::ScoreBytes => 2,
-            Limit::Instruments => 3,
-            Limit::Statements => 4,
-            Limit::Notes => 5,
-            Limit::Tables => 6,
-            Limit::Events => 7,
-            Limit::WavBytes => 8,
-            Limit::Words => 9,
-            Limit::DelaySamples => 10,
-            Limit::Resources => 11,
-            Limit::Asks => 12,
-            Limit::CsdBytes => 13,
-        }
+        self as u8
     }
 
     /// The greatest number that it lets be.

@@ -98,9 +98,9 @@ impl Num {
     {
         // Both arms are the same text: in the first the compiler knows that the product fits into 64 bits.
         if is_short(self.raw) && is_short(other.raw) {
-            Num::of_wide(floored(times(self.raw, other.raw), ONE))
+            Num::of_wide(scaled(self, other))
         } else {
-            Num::of_wide(floored(times(self.raw, other.raw), ONE))
+            Num::of_wide(scaled(self, other))
         }
     }
 
@@ -180,6 +180,14 @@ fn is_short(x: i64) -> bool
     ensures { IsTrue result ↔ ((neg_ℤ (pos (2 ^ 31)) ≤ℤ x) × (x <ℤ pos (2 ^ 31))) }
 {
     i32::MIN as i64 <= x && x <= i32::MAX as i64
+}
+
+// The product in 65,536ths, rounded down.
+#[inline(always)]
+fn scaled(x: Num, y: Num) -> i128
+    ensures { result ≡ floor_div (x *ℤ y) one }
+{
+    floored(times(x.raw, y.raw), ONE)
 }
 
 // The exact product.

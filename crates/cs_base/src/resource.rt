@@ -76,7 +76,7 @@ impl Rate {
 
 /// What notes share. The number of a variable or a channel is its place in first-seen order, that of a zak
 /// resource the place in its space, that of a table the table's number.
-#[derive(Clone, Copy, Debug, PartialEq, Eq)]
+#[derive(Clone, Copy, PartialEq, Eq)]
 pub enum Res {
     Gi(usize),
     Gk(usize),

@@ -1,4 +1,3 @@
 mod Areas
 pub mod Laid
 pub mod SerialRun
-mod Fold

@@ -1,9 +1,12 @@
-use Rattle.std.specs.Prelude.{◌≡◌, ℕ, List, length, take, sum_by, nat_lt, Option, Some, None, slice_get, if◌then◌else◌}
+use Rattle.std.specs.Prelude.{◌≡◌, ◌<◌, ℕ, List, length, take, sum_by, nat_lt, Option, Some, None, slice_get, if◌then◌else◌}
+use Rattle.std.specs.List.{Contains}
+use Rattle.std.specs.List.Sorted.{IsStrictlyIncreasing}
 use Rattle.cs_base.specs.declared.resource.Res.{Res}
 use Rattle.cs_base.specs.Limits.{most_resources, most_words}
 use Rattle.cs_base.specs.declared.limit.Limit.TheVariants as limit
 use Rattle.cs_base.specs.declared.limit.LimitHit.{LimitHit}
 use Rattle.cs_cells.specs.declared.footprint.Area.{Area}
+use Rattle.cs_cells.specs.declared.footprint.Footprint.{Footprint}
 
 -- the area at this place is the resource's
 abbrev pub HasPlace : List Area → Res → ℕ → Type 0
@@ -23,3 +26,11 @@ abbrev pub limit_passed : List Area → Option LimitHit
 limit_passed areas =
     if nat_lt most_resources (length areas) then Some (record { limit = limit.Resources; line = 0 })
     else (if nat_lt most_words (word_count areas) then Some (record { limit = limit.Words; line = 0 }) else None)
+
+-- A footprint in a layout of n areas names each place once, ascending, each one of the layout's; what is written is also
+-- used.
+pub record IsFootprint (n : ℕ) (f : Footprint) : Type 0 where
+  pub uses : IsStrictlyIncreasing f.uses
+  pub writes : IsStrictlyIncreasing f.writes
+  pub within : (r : ℕ) → Contains f.uses r → r < n
+  pub written : (r : ℕ) → Contains f.writes r → Contains f.uses r

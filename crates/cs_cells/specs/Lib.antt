@@ -1,5 +1,4 @@
 pub mod Areas
-pub mod Boxed
 pub mod Cells
 pub mod Examples
 pub mod Meaning

@@ -1,7 +1,7 @@
 use cs_base::{Places, Res};
 
 /// A resource's cells in a layout: `length` cells from the address `first` on.
-#[derive(Clone, Copy, Debug, PartialEq, Eq)]
+#[derive(Clone, Copy)]
 pub struct Area {
     pub res: Res,
     pub first: u32,
@@ -10,7 +10,7 @@ pub struct Area {
 
 /// What a note may touch, as places of areas in a layout, ascending, each once. Whatever is written
 /// counts as used.
-#[derive(Debug, Drop)]
+#[derive(Drop)]
 pub struct Footprint {
     pub uses: Places,
     pub writes: Places,

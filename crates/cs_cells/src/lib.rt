@@ -7,12 +7,11 @@
 //! of the serial run (`serial_laws`), on which any order of running rests.
 //!
 //! How a layout finds a resource, and how a bank keeps its cells, may change without anyone above
-//! noticing. In reading order: `footprint`, `layout`, `bank`, `job`, `boxed`, `serial`; `examples` works
+//! noticing. In reading order: `footprint`, `layout`, `bank`, `job`, `serial`; `examples` works
 //! a small layout out.
 #![tactic(auto)]
 
 mod bank;
-mod boxed;
 mod examples;
 mod footprint;
 mod job;
@@ -24,4 +23,4 @@ pub use examples::layout_examples;
 pub use footprint::{Area, Footprint};
 pub use job::Job;
 pub use layout::Layout;
-pub use serial::{run_all, serial_laws};
+pub use serial::serial_laws;

@@ -1,7 +1,7 @@
 use Rattle.std.specs.Prelude.{List, Some, drop}
 use Rattle.cs_edge.specs.declared.moves.Move.{Move}
-use Rattle.cs_edge.specs.declared.script.Script.{Script}
-use Rattle.cs_edge.specs.declared.mem_shelf.MemShelf.{MemShelf}
+use Rattle.cs_edge.specs.declared.fakes.script.Script.{Script}
+use Rattle.cs_edge.specs.declared.fakes.mem_shelf.MemShelf.{MemShelf}
 use Rattle.cs_edge.specs.Files.{ShelfTold}
 use Rattle.cs_edge.specs.Memory.{bytes_at, told_moves}
 

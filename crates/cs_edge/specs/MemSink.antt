@@ -1,7 +1,7 @@
 use Rattle.std.specs.Prelude.{ℕ, List}
 use Rattle.cs_edge.specs.declared.moves.Move.{Move}
-use Rattle.cs_edge.specs.declared.script.Script.{Script}
-use Rattle.cs_edge.specs.declared.mem_sink.MemSink.{MemSink}
+use Rattle.cs_edge.specs.declared.fakes.script.Script.{Script}
+use Rattle.cs_edge.specs.declared.fakes.mem_sink.MemSink.{MemSink}
 use Rattle.cs_edge.specs.Moves.{SinkTold}
 use Rattle.cs_edge.specs.Memory.{told_moves, told_taken}
 

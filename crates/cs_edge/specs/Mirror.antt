@@ -1,5 +1,5 @@
 use Rattle.std.specs.Prelude.{ℕ, ℤ, List, length, take}
-use Rattle.cs_edge.specs.declared.mirror.MirrorTap.{MirrorTap}
+use Rattle.cs_edge.specs.declared.fakes.mirror.MirrorTap.{MirrorTap}
 
 -- how many values a mirror has room for
 abbrev pub room_of : MirrorTap → ℕ

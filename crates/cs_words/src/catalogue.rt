@@ -1,12 +1,14 @@
 // The catalogue: one row an opcode, which says all that the layers above ask of it.
 ghost use Rattle.std.specs.Prelude.{◌≡◌, length, filter};
-ghost use Rattle.cs_words.specs.Catalogue.{row, row_of, named, catalogued, letter_at, takes_count, further, may_follow, result_count, takes, is_text, is_settled, is_moving, settled_letters, moving_letters, follows_settled, may_follow_settled, unit_takes};
+ghost use Rattle.cs_words.specs.declared.catalogue.Family.TheVariants as family;
+ghost use Rattle.cs_words.specs.inner.Families.{family_of};
+ghost use Rattle.cs_words.specs.Catalogue.{row, row_of, named, catalogued, letter_at, takes_count, further, may_follow, result_count, takes, is_text, is_settled, is_moving, settled_letters, follows_settled, may_follow_settled, unit_takes};
 
 use cs_base::Rate;
 use std::marker::Model;
 
 /// The opcodes of the profile, one variant each.
-#[derive(Clone, Copy, Debug, PartialEq, Eq)]
+#[derive(Clone, Copy, PartialEq, Eq)]
 pub enum Opcode {
     Init,
     Oscil,
@@ -47,7 +49,7 @@ pub enum Opcode {
 }
 
 /// What an opcode takes as an argument.
-#[derive(Clone, Copy, PartialEq, Eq)]
+#[derive(Clone, Copy)]
 pub enum Letter {
     /// `i`: a value that is known when the note begins.
     Init,
@@ -105,7 +107,7 @@ impl Letter {
 }
 
 /// What may follow the arguments that must be given.
-#[derive(Clone, Copy, PartialEq, Eq)]
+#[derive(Clone, Copy)]
 pub enum More {
     Nothing,
     /// One more argument, or none.
@@ -117,14 +119,14 @@ pub enum More {
 }
 
 /// Which zak space: that of control values, or that of sounds.
-#[derive(Clone, Copy, PartialEq, Eq)]
+#[derive(Clone, Copy)]
 pub enum Space {
     Control,
     Audio,
 }
 
 /// How an opcode is performed.
-#[derive(Clone, Copy, PartialEq, Eq)]
+#[derive(Clone, Copy)]
 pub enum Shape {
     /// Sets its variable once, as the note begins.
     Init,
@@ -250,14 +252,92 @@ const S: Letter = Letter::Text;
 pub fn signature_of(opcode: Opcode) -> Signature
     ensures { result ≡ row_of opcode }
 {
+    match family_of(opcode) {
+        Family::Wave => wave_row(opcode),
+        Family::Filter => filter_row(opcode),
+        Family::Effect => effect_row(opcode),
+        Family::Zak => zak_row(opcode),
+        Family::Channel => channel_row(opcode),
+    }
+}
+
+// The catalogue in parts, since each row more makes the proof of the others longer.
+#[derive(Clone, Copy)]
+pub(crate) enum Family {
+    /// What gives a wave, a ramp or a point of a table.
+    Wave,
+    /// What gives one value for another.
+    Filter,
+    /// What sets, stores, goes out, ends a note or asks for one.
+    Effect,
+    /// The zak space.
+    Zak,
+    /// Channels.
+    Channel,
+}
+
+fn family_of(opcode: Opcode) -> Family
+    ensures { result ≡ family_of opcode }
+{
     match opcode {
-        Opcode::Init => row("init", &IKA, &[I], More::Nothing, Shape::Init),
+        Opcode::Oscil
+        | Opcode::Oscili
+        | Opcode::Phasor
+        | Opcode::Line
+        | Opcode::Linseg
+        | Opcode::Linen
+        | Opcode::Table
+        | Opcode::Tablei => Family::Wave,
+        Opcode::Delay
+        | Opcode::Biquad
+        | Opcode::Integ
+        | Opcode::Diff
+        | Opcode::Samphold
+        | Opcode::Limit
+        | Opcode::Interp
+        | Opcode::Downsamp => Family::Filter,
+        Opcode::Init
+        | Opcode::Tablew
+        | Opcode::Out
+        | Opcode::Outs
+        | Opcode::Outch
+        | Opcode::Turnoff
+        | Opcode::Schedule
+        | Opcode::EventI => Family::Effect,
+        Opcode::Zakinit
+        | Opcode::Zkr
+        | Opcode::Zar
+        | Opcode::Zkw
+        | Opcode::Zaw
+        | Opcode::Zawm
+        | Opcode::Zkcl
+        | Opcode::Zacl => Family::Zak,
+        Opcode::Chnget | Opcode::Chnset | Opcode::Chnmix | Opcode::Chnclear => Family::Channel,
+    }
+}
+
+fn wave_row(opcode: Opcode) -> Signature
+    requires { family_of opcode ≡ family.Wave }
+    ensures { result ≡ row_of opcode }
+{
+    match opcode {
         Opcode::Oscil => row("oscil", &KA, &[X, X, F], More::Perhaps(I), Shape::Unit),
         Opcode::Oscili => row("oscili", &KA, &[X, X, F], More::Perhaps(I), Shape::Unit),
         Opcode::Phasor => row("phasor", &KA, &[X], More::Perhaps(I), Shape::Unit),
         Opcode::Line => row("line", &KA, &[I, I, I], More::Nothing, Shape::Unit),
         Opcode::Linseg => row("linseg", &KA, &[I, I, I], More::Pairs(I, I), Shape::Unit),
         Opcode::Linen => row("linen", &KA, &[X, I, I, I], More::Nothing, Shape::Unit),
+        Opcode::Table => row("table", &IKA, &[X, F], More::Nothing, Shape::Unit),
+        Opcode::Tablei => row("tablei", &IKA, &[X, F], More::Nothing, Shape::Unit),
+        _ => unreachable!(),
+    }
+}
+
+fn filter_row(opcode: Opcode) -> Signature
+    requires { family_of opcode ≡ family.Filter }
+    ensures { result ≡ row_of opcode }
+{
+    match opcode {
         Opcode::Delay => row("delay", &AUDIO, &[A, I], More::Nothing, Shape::Unit),
         Opcode::Biquad => row(
             "biquad",
@@ -266,19 +346,38 @@ pub fn signature_of(opcode: Opcode) -> Signature
             More::Nothing,
             Shape::Unit,
         ),
-        Opcode::Table => row("table", &IKA, &[X, F], More::Nothing, Shape::Unit),
-        Opcode::Tablei => row("tablei", &IKA, &[X, F], More::Nothing, Shape::Unit),
-        Opcode::Tablew => row("tablew", &NONE, &[V, V, F], More::Nothing, Shape::Store),
         Opcode::Integ => row("integ", &KA, &[X], More::Nothing, Shape::Unit),
         Opcode::Diff => row("diff", &KA, &[X], More::Nothing, Shape::Unit),
         Opcode::Samphold => row("samphold", &KA, &[X, X], More::Nothing, Shape::Unit),
         Opcode::Limit => row("limit", &IKA, &[X, K, K], More::Nothing, Shape::Unit),
         Opcode::Interp => row("interp", &AUDIO, &[K], More::Nothing, Shape::Unit),
         Opcode::Downsamp => row("downsamp", &CONTROL, &[A], More::Nothing, Shape::Unit),
+        _ => unreachable!(),
+    }
+}
+
+fn effect_row(opcode: Opcode) -> Signature
+    requires { family_of opcode ≡ family.Effect }
+    ensures { result ≡ row_of opcode }
+{
+    match opcode {
+        Opcode::Init => row("init", &IKA, &[I], More::Nothing, Shape::Init),
+        Opcode::Tablew => row("tablew", &NONE, &[V, V, F], More::Nothing, Shape::Store),
         Opcode::Out => row("out", &NONE, &[A], More::Each(A), Shape::Out),
         Opcode::Outs => row("outs", &NONE, &[A, A], More::Nothing, Shape::Out),
         Opcode::Outch => row("outch", &NONE, &[K, A], More::Pairs(K, A), Shape::OutAt),
         Opcode::Turnoff => row("turnoff", &NONE, &[], More::Nothing, Shape::Turnoff),
+        Opcode::Schedule => row("schedule", &NONE, &[I, I, I], More::Each(I), Shape::Ask),
+        Opcode::EventI => row("event_i", &NONE, &[S, I, I, I], More::Each(I), Shape::Ask),
+        _ => unreachable!(),
+    }
+}
+
+fn zak_row(opcode: Opcode) -> Signature
+    requires { family_of opcode ≡ family.Zak }
+    ensures { result ≡ row_of opcode }
+{
+    match opcode {
         Opcode::Zakinit => row("zakinit", &NONE, &[I, I], More::Nothing, Shape::ZakInit),
         Opcode::Zkr => row(
             "zkr",
@@ -323,12 +422,20 @@ pub fn signature_of(opcode: Opcode) -> Signature
             More::Nothing,
             Shape::ZakClear(Space::Audio),
         ),
+        _ => unreachable!(),
+    }
+}
+
+fn channel_row(opcode: Opcode) -> Signature
+    requires { family_of opcode ≡ family.Channel }
+    ensures { result ≡ row_of opcode }
+{
+    match opcode {
         Opcode::Chnget => row("chnget", &IKA, &[S], More::Nothing, Shape::ChannelGet),
         Opcode::Chnset => row("chnset", &NONE, &[V, S], More::Nothing, Shape::ChannelPut),
         Opcode::Chnmix => row("chnmix", &NONE, &[A, S], More::Nothing, Shape::ChannelMix),
         Opcode::Chnclear => row("chnclear", &NONE, &[S], More::Nothing, Shape::ChannelClear),
-        Opcode::Schedule => row("schedule", &NONE, &[I, I, I], More::Each(I), Shape::Ask),
-        Opcode::EventI => row("event_i", &NONE, &[S, I, I, I], More::Each(I), Shape::Ask),
+        _ => unreachable!(),
     }
 }
 
@@ -400,13 +507,6 @@ impl Signature {
         settled_among(self.fixed)
     }
 
-    /// How many of the arguments that must be given may change while the note sounds.
-    pub fn moving_count(&self) -> usize
-        ensures { result ≡ length (moving_letters self.now) }
-    {
-        moving_among(self.fixed)
-    }
-
     /// Whether it takes so many settled arguments.
     pub fn takes_settled(&self, count: usize) -> bool
         ensures { result ≡ unit_takes self.now count }
@@ -433,19 +533,6 @@ fn settled_among(letters: &[Letter]) -> usize
     let mut count: usize = 0;
     for letter in letters {
         if letter.is_settled() {
-            count += 1;
-        }
-    }
-    count
-}
-
-// How many of these letters are moving.
-fn moving_among(letters: &[Letter]) -> usize
-    ensures { result ≡ length (filter is_moving letters.now) }
-{
-    let mut count: usize = 0;
-    for letter in letters {
-        if letter.is_moving() {
             count += 1;
         }
     }

@@ -5,7 +5,7 @@ ghost use Rattle.cs_words.specs.Signs.{sign_of, plain_sign, operator_of, is_arit
 use crate::table::looked_up;
 
 /// An operator between two expressions.
-#[derive(Clone, Copy, Debug, PartialEq, Eq)]
+#[derive(Clone, Copy, PartialEq, Eq)]
 pub enum BinOp {
     Or,
     And,
@@ -42,7 +42,7 @@ impl BinOp {
 }
 
 /// What a sign is.
-#[derive(Clone, Copy, Debug, PartialEq, Eq)]
+#[derive(Clone, Copy, PartialEq, Eq)]
 pub enum Sign {
     Open,
     Close,

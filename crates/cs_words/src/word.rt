@@ -9,7 +9,7 @@ use crate::name::is_name;
 use crate::table::looked_up;
 
 /// The words that no variable and no opcode may be called.
-#[derive(Clone, Copy, Debug, PartialEq, Eq)]
+#[derive(Clone, Copy, PartialEq, Eq)]
 pub enum Keyword {
     Instr,
     Endin,
@@ -25,7 +25,7 @@ pub enum Keyword {
 }
 
 /// What a header line sets, and what an expression may read.
-#[derive(Clone, Copy, Debug, PartialEq, Eq)]
+#[derive(Clone, Copy, PartialEq, Eq)]
 pub enum HeadName {
     /// Frames a second.
     Sr,
@@ -40,7 +40,7 @@ pub enum HeadName {
 }
 
 /// A function that an expression may call.
-#[derive(Clone, Copy, Debug, PartialEq, Eq)]
+#[derive(Clone, Copy, PartialEq, Eq)]
 pub enum Func {
     Int,
     Frac,
@@ -51,7 +51,7 @@ pub enum Func {
 }
 
 /// What a word is.
-#[derive(Clone, Copy, Debug, PartialEq, Eq)]
+#[derive(Clone, Copy, PartialEq, Eq)]
 pub enum Word {
     Keyword(Keyword),
     Header(HeadName),
