@@ -80,6 +80,13 @@ pub left_valued : {A : Type 0} (a : A) (st : Left) → left (valued a st) ≡ st
 left_valued a (Ok ts) = refl
 left_valued a (Err f) = refl
 
+-- a value that is handed on, with what must follow it
+pub followed : {U B : Type 0} (sees : U → B) (r : Result U (Or OrcFault)) (v : U) (rest : List Symbol) (st : Left) (Q : Reading B → Type 0)
+    → IfOk r (λ x. x ≡ v) → Passes r rest st → ((p : Left) → st ≡ p → Q (valued (sees v) p)) → Gives sees r rest Q
+followed sees (Ok x) v rest st Q h e k = subst (λ y. Q (Ok (sees y, rest))) (sym h) (k (Ok rest) e)
+followed sees (Err (or.Fault f)) v rest st Q h e k = k (Err f) e
+followed sees (Err or.OutOfMemory) v rest st Q h e k = tt
+
 -- ---- a value that is seen in another way
 
 abbrev value_in : {A : Type 0} → A → Reading A → A

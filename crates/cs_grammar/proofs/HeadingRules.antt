@@ -1,5 +1,6 @@
 -- The line of `opcode`, the names of `xin` and the results of `xout`, as the parser meets them.
 use Rattle.std.proofs.Common.{◌≡◌, ◌≢◌, ◌∙◌, ◌≤◌, ◌-◌, ◌++◌, ◌&&◌, ℕ, Bool, zero, suc, true, false, List, [], ◌∷◌, Ok, Err, if◌then◌else◌, refl, arith, ap, sym}
+use Rattle.cs_base.specs.declared.fault.OrcFault.{OrcFault}
 use Rattle.cs_base.specs.declared.fault.OrcKind.TheVariants as orc
 use Rattle.cs_base.specs.declared.resource.Rate.{Rate}
 use Rattle.cs_grammar.proofs.Gives.{left_through, ended_is, ended_mapped, valued}
@@ -34,6 +35,16 @@ heading_is s line ts n us vs o a b e =
     (sym (left_through s expected.Comma n us ∙ b))
     ∙ ap (λ x. ended s (three (heading_of line) x (types s (left (through s expected.Comma x)))
     (types s (left (through s expected.Comma (types s (left (through s expected.Comma x)))))))) (sym a)
+
+-- a line without the comma behind its name
+
+pub heading_uncut : (s : Scope) (line : ℕ) (ts : List Symbol) (n : List ℕ) (us : List Symbol) (f : OrcFault) → new_name s ts ≡ Ok (n, us)
+    → past s expected.Comma us ≡ Err f → Err f ≡ heading s line ts
+heading_uncut s line ts n us f a b =
+    let way : Left → Reading Heading = (λ x. ended s (three (heading_of line) (Ok (n, us)) (types s x) (types s (left (through s expected.Comma (types s x)))))) in
+    let all : Reading (List ℕ) → Reading Heading = (λ x. ended s (three (heading_of line) x (types s (left (through s expected.Comma x)))
+    (types s (left (through s expected.Comma (types s (left (through s expected.Comma x)))))))) in
+    ap way (sym (left_through s expected.Comma n us ∙ b)) ∙ ap all (sym a)
 
 -- its results and inputs, part by part
 

@@ -20,15 +20,10 @@ use Rattle.cs_grammar.specs.inner.Answers.{Gives, IsClosed, past}
 
 -- ---- brackets
 
-pub group_fails : {s : Scope} {ts : List Symbol} (e : Expression) (mid : List Symbol) (f : OrcFault) → part_form ts ≡ part.Bracket
-    → ReadsExpr s at.Expr (Ok (after ts)) (Ok (e, mid)) → next_is expected.Question mid ≡ false → past s expected.Close mid ≡ Err f
-    → ReadsExpr s at.Fact (Ok ts) (Err f)
-group_fails {s} {ts} e mid f m h q p = subst (ReadsExpr s at.Fact (Ok ts)) (through_is s expected.Close e mid (Err f) p) (fact_group m h q)
-
-pub group_reads : {s : Scope} {ts : List Symbol} (e : Expression) (mid rest : List Symbol) → part_form ts ≡ part.Bracket
-    → ReadsExpr s at.Expr (Ok (after ts)) (Ok (e, mid)) → next_is expected.Question mid ≡ false → past s expected.Close mid ≡ Ok rest
-    → ReadsExpr s at.Fact (Ok ts) (Ok (e, rest))
-group_reads {s} {ts} e mid rest m h q p = subst (ReadsExpr s at.Fact (Ok ts)) (through_is s expected.Close e mid (Ok rest) p) (fact_group m h q)
+pub group_is : {s : Scope} {ts : List Symbol} (e : Expression) (mid : List Symbol) (st : Left) → part_form ts ≡ part.Bracket
+    → ReadsExpr s at.Expr (Ok (after ts)) (Ok (e, mid)) → next_is expected.Question mid ≡ false → past s expected.Close mid ≡ st
+    → ReadsExpr s at.Fact (Ok ts) (valued e st)
+group_is {s} {ts} e mid st m h q p = subst (ReadsExpr s at.Fact (Ok ts)) (through_is s expected.Close e mid st p) (fact_group m h q)
 
 -- an expression, and the symbol that must follow it
 pub closed_is : {s : Scope} {ts : List Symbol} (end : Expected) (e : Expression) (mid : List Symbol) (st : Left)

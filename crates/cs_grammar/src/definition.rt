@@ -13,9 +13,8 @@ use crate::parser::Parser;
 use crate::scope::Scope;
 use crate::symbol::Expected;
 use crate::tree::{Args, Stmts, Udo};
-use cs_base::{Items, Names, Or, OrcFault};
+use cs_base::{Items, Name, Names, Or, OrcFault};
 use cs_words::NameSet;
-use std::alloc::AllocError;
 
 /// What a definition has between the line of `opcode` and `endop`.
 #[derive(Drop)]
@@ -23,6 +22,28 @@ pub struct Inside {
     pub names: Names,
     pub body: Stmts,
     pub given: Args,
+}
+
+fn defined_as(heading: Heading, name: Name, lines: Inside) -> Udo
+    requires { name ≡ heading.name }
+    ensures { definition result ≡ of_inside heading.entry (inside lines) }
+{
+    let Heading {
+        line,
+        outs,
+        ins,
+        ..
+    } = heading;
+    let Inside { names, body, given } = lines;
+    Udo {
+        line,
+        name,
+        outs,
+        ins,
+        names,
+        body,
+        result: given,
+    }
 }
 
 impl<'s> Parser<'s> {
@@ -47,8 +68,9 @@ impl<'s> Parser<'s> {
         ensures name { IfOk result (λ u. u.name ≡ head.entry.name) }
         ensures goes { length self.new ≤ length self.old }
     {
+        let name = Items::from_vec(head.name().to_vec(self.alloc())?);
         let lines = self.lines(&Scope::in_definition(head.name(), defined), &head, defined)?;
-        Ok(self.defined_as(head, lines)?)
+        Ok(defined_as(head, name, lines))
     }
 
     // Reads the lines of a definition, and the line of `endop`.
@@ -63,9 +85,8 @@ impl<'s> Parser<'s> {
         ensures goes { length self.new ≤ length self.old }
     {
         let lines = self.inside(scope, head)?;
-        self.pass(scope, Expected::Endop)?;
-        self.end_line(&Scope::outside(defined))?;
-        Ok(lines)
+        let lines = self.followed(scope, Expected::Endop, lines)?;
+        self.ended(&Scope::outside(defined), lines)
     }
 
     // Reads the names of the inputs, the statements, the results.
@@ -77,26 +98,5 @@ impl<'s> Parser<'s> {
         let body = self.block(scope)?;
         let given = self.results(scope, head.outs())?;
         Ok(Inside { names, body, given })
-    }
-
-    fn defined_as(&self, heading: Heading, lines: Inside) -> Result<Udo, AllocError>
-        ensures { IfOk result (λ u. definition u ≡ of_inside heading.entry (inside lines)) }
-    {
-        let Heading {
-            line,
-            name,
-            outs,
-            ins,
-        } = heading;
-        let Inside { names, body, given } = lines;
-        Ok(Udo {
-            line,
-            name: Items::from_vec(name.to_vec(self.alloc())?),
-            outs,
-            ins,
-            names,
-            body,
-            result: given,
-        })
     }
 }

@@ -213,7 +213,7 @@ impl<'s> Parser<'s> {
         Ok(Expr::Pair(op, left, right))
     }
 
-    fn boxes(&self, left: Expr, right: Expr) -> Result<(Box<Expr>, Box<Expr>), Or<OrcFault>>
+    fn boxes<T: Drop>(&self, left: T, right: T) -> Result<(Box<T>, Box<T>), Or<OrcFault>>
         ensures left { IfOk result (λ p. box_value p.0 ≡ left) }
         ensures right { IfOk result (λ p. box_value p.1 ≡ right) }
         ensures memory { IfErr result (λ e. e ≡ or.OutOfMemory) }
@@ -291,8 +291,7 @@ impl<'s> Parser<'s> {
         ensures goes { length self.new ≤ length self.old }
     {
         let part = self.expr(scope, Level::Expr)?;
-        self.pass(scope, end)?;
-        Ok(part)
+        self.followed(scope, end, part)
     }
 
     // An expression in brackets, or a choice.
@@ -308,8 +307,7 @@ impl<'s> Parser<'s> {
         if self.next_is(Expected::Question) {
             return self.choice(scope, first);
         }
-        self.pass(scope, Expected::Close)?;
-        Ok(first)
+        self.followed(scope, Expected::Close, first)
     }
 
     // What follows the condition of a choice.

@@ -176,7 +176,6 @@ impl<'s> Parser<'s> {
         let outs = self.types(scope)?;
         self.pass(scope, Expected::Comma)?;
         let ins = self.types(scope)?;
-        self.end_line(scope)?;
-        Ok((outs, ins))
+        self.ended(scope, (outs, ins))
     }
 }

@@ -156,8 +156,7 @@ impl<'s> Parser<'s> {
     {
         self.skip();
         let numbers = self.numbers(scope, given)?;
-        self.end_line(scope)?;
-        Ok(numbers)
+        self.ended(scope, numbers)
     }
 
     // Reads the statements of an instrument, and the line of `endin`.
@@ -167,9 +166,8 @@ impl<'s> Parser<'s> {
         ensures goes { length self.new ≤ length self.old }
     {
         let body = self.block(scope)?;
-        self.pass(scope, Expected::Endin)?;
-        self.end_line(&Scope::outside(defined))?;
-        Ok(body)
+        let body = self.followed(scope, Expected::Endin, body)?;
+        self.ended(&Scope::outside(defined), body)
     }
 
     // Reads the header line that is next, into an orchestra.
@@ -242,7 +240,7 @@ impl<'s> Parser<'s> {
         Ok(())
     }
 
-    // Reads what is next, into an orchestra. Answers whether there was anything.
+    // Reads what is next, into an orchestra.
     fn add_item(
         &mut self,
         orc: &mut Orc,
@@ -268,8 +266,17 @@ impl<'s> Parser<'s> {
         ensures { Gives orchestra result self.new (ReadsOrc [] [] (Ok self.old)) }
     {
         let alloc = self.alloc();
-        let mut orc = empty(alloc);
-        self.add_items(&mut orc, &mut NameSet::new(alloc), &mut Given::new(alloc))?;
+        self.items(&mut NameSet::new(alloc), &mut Given::new(alloc))
+    }
+
+    // The same, where nothing is defined and no number is given so far.
+    fn items(&mut self, defined: &mut NameSet<'s>, given: &mut Given) -> Result<Orc, Or<OrcFault>>
+        requires defined { defined.old ≡ [] }
+        requires given { given.old ≡ [] }
+        ensures { Gives orchestra result self.new (ReadsOrc [] [] (Ok self.old)) }
+    {
+        let mut orc = empty(self.alloc());
+        self.add_items(&mut orc, defined, given)?;
         Ok(orc)
     }
 

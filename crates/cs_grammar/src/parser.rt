@@ -165,4 +165,29 @@ impl<'s> Parser<'s> {
             _ => Err(self.misfit(scope, OrcKind::Unexpected)),
         }
     }
+
+    /// A value that was read, with the symbol that must follow it.
+    pub fn followed<T: Drop>(
+        &mut self,
+        scope: &Scope,
+        expected: Expected,
+        value: T,
+    ) -> Result<T, Or<OrcFault>>
+        ensures value { IfOk result (λ kept. kept ≡ value) }
+        ensures passes { Passes result self.new (past scope.now expected self.old) }
+        ensures goes { length self.new ≤ length self.old }
+    {
+        self.pass(scope, expected)?;
+        Ok(value)
+    }
+
+    /// A value that was read, with the end of its line.
+    pub fn ended<T: Drop>(&mut self, scope: &Scope, value: T) -> Result<T, Or<OrcFault>>
+        ensures value { IfOk result (λ kept. kept ≡ value) }
+        ensures passes { Passes result self.new (line_past scope.now (next self.old).kind self.old) }
+        ensures goes { length self.new ≤ length self.old }
+    {
+        self.end_line(scope)?;
+        Ok(value)
+    }
 }

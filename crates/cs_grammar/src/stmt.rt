@@ -114,8 +114,7 @@ impl<'s> Parser<'s> {
     {
         let line = self.line();
         let what = self.what(scope)?;
-        self.end_line(scope)?;
-        Ok(OrcStmt { line, what })
+        self.ended(scope, OrcStmt { line, what })
     }
 
     #[cycle(stmt)]
@@ -226,8 +225,7 @@ impl<'s> Parser<'s> {
         ensures goes { length self.new ≤ length self.old }
     {
         let cond = self.closed(scope, Expected::Then)?;
-        self.end_line(scope)?;
-        Ok(cond)
+        self.ended(scope, cond)
     }
 
     // The statements after `else`, if it is next, and `endif`.
@@ -239,13 +237,12 @@ impl<'s> Parser<'s> {
         ensures goes { length self.new ≤ length self.old }
     {
         if !self.next_is(Expected::Else) {
-            self.pass(scope, Expected::Endif)?;
-            return Ok(Vec::new(self.alloc()));
+            let none = Vec::new(self.alloc());
+            return self.followed(scope, Expected::Endif, none);
         }
         self.skip();
         self.end_line(scope)?;
         let stmts = self.block(scope)?;
-        self.pass(scope, Expected::Endif)?;
-        Ok(stmts)
+        self.followed(scope, Expected::Endif, stmts)
     }
 }

@@ -3,6 +3,8 @@ ghost use Rattle.std.specs.Prelude.{◌≡◌, ◌≤◌, ◌<◌, ◌^◌, IfOk
 ghost use Rattle.std.specs.List.{All};
 ghost use Rattle.cs_grammar.specs.Kinds.{is, is_word, is_plain, ends_line};
 ghost use Rattle.cs_grammar.specs.Symbols.{symbols, kind_after, unquoted, counted};
+ghost use Rattle.cs_grammar.specs.declared.symbol.Kind.TheVariants as kind;
+ghost use Rattle.cs_words.specs.declared.word.Word.TheVariants as word;
 
 use cs_base::{Num, OutOfMemory};
 use cs_lex::{Mark, Token};
@@ -74,23 +76,42 @@ impl Expected {
     pub fn is(self, kind: Kind) -> bool
         ensures { result ≡ is self kind }
     {
+        match kind {
+            Kind::Sign(sign) => self.is_sign(sign),
+            Kind::Word(Word::Keyword(keyword)) => self.is_keyword(keyword),
+            Kind::Text => matches!(self, Expected::Text),
+            Kind::End => matches!(self, Expected::End),
+            _ => false,
+        }
+    }
+
+    fn is_sign(self, sign: Sign) -> bool
+        ensures { result ≡ is self (kind.Sign sign) }
+    {
         match self {
-            Expected::Open => matches!(kind, Kind::Sign(Sign::Open)),
-            Expected::Close => matches!(kind, Kind::Sign(Sign::Close)),
-            Expected::Comma => matches!(kind, Kind::Sign(Sign::Comma)),
-            Expected::Equals => matches!(kind, Kind::Sign(Sign::Equals)),
-            Expected::Question => matches!(kind, Kind::Sign(Sign::Question)),
-            Expected::Colon => matches!(kind, Kind::Sign(Sign::Colon)),
-            Expected::Text => matches!(kind, Kind::Text),
-            Expected::Then => matches!(kind, Kind::Word(Word::Keyword(Keyword::Then))),
-            Expected::Elseif => matches!(kind, Kind::Word(Word::Keyword(Keyword::Elseif))),
-            Expected::Else => matches!(kind, Kind::Word(Word::Keyword(Keyword::Else))),
-            Expected::Endif => matches!(kind, Kind::Word(Word::Keyword(Keyword::Endif))),
-            Expected::Endin => matches!(kind, Kind::Word(Word::Keyword(Keyword::Endin))),
-            Expected::Endop => matches!(kind, Kind::Word(Word::Keyword(Keyword::Endop))),
-            Expected::Xin => matches!(kind, Kind::Word(Word::Keyword(Keyword::Xin))),
-            Expected::Xout => matches!(kind, Kind::Word(Word::Keyword(Keyword::Xout))),
-            Expected::End => matches!(kind, Kind::End),
+            Expected::Open => matches!(sign, Sign::Open),
+            Expected::Close => matches!(sign, Sign::Close),
+            Expected::Comma => matches!(sign, Sign::Comma),
+            Expected::Equals => matches!(sign, Sign::Equals),
+            Expected::Question => matches!(sign, Sign::Question),
+            Expected::Colon => matches!(sign, Sign::Colon),
+            _ => false,
+        }
+    }
+
+    fn is_keyword(self, keyword: Keyword) -> bool
+        ensures { result ≡ is self (kind.Word (word.Keyword keyword)) }
+    {
+        match self {
+            Expected::Then => matches!(keyword, Keyword::Then),
+            Expected::Elseif => matches!(keyword, Keyword::Elseif),
+            Expected::Else => matches!(keyword, Keyword::Else),
+            Expected::Endif => matches!(keyword, Keyword::Endif),
+            Expected::Endin => matches!(keyword, Keyword::Endin),
+            Expected::Endop => matches!(keyword, Keyword::Endop),
+            Expected::Xin => matches!(keyword, Keyword::Xin),
+            Expected::Xout => matches!(keyword, Keyword::Xout),
+            _ => false,
         }
     }
 }

@@ -63,7 +63,7 @@ pub struct Arm {
 pub type Arms = Vec<Arm>;
 
 /// A header line, as `sr = 48000`.
-#[derive(Clone, Copy, PartialEq, Eq)]
+#[derive(Clone, Copy)]
 pub struct HeadLine {
     pub line: u32,
     pub name: HeadName,

@@ -171,7 +171,6 @@ impl<'s> Parser<'s> {
             return Err(self.fault(OrcKind::XinXout));
         }
         self.skip();
-        self.end_line(scope)?;
-        Ok(names)
+        self.ended(scope, names)
     }
 }

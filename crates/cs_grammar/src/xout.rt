@@ -42,8 +42,7 @@ impl<'s> Parser<'s> {
     {
         self.skip();
         let values = self.list(scope, Role::Result)?;
-        self.end_line(scope)?;
-        Ok(values)
+        self.ended(scope, values)
     }
 
     // The values of `xout` at a line: one for each result, and then `endop`.

@@ -6,13 +6,14 @@ ghost use Rattle.cs_words.specs.Catalogue.{catalogued};
 ghost use Rattle.cs_grammar.specs.Tree.{argument};
 ghost use Rattle.cs_typed.specs.Places.{stands_outside, is_starting, is_writing};
 ghost use Rattle.cs_typing.specs.Calls.{fits, all_fit, bound_of, may_result, is_sound, any_sound, is_even, kind_of, channel_use, text_of, is_too_wide, argument_known, all_known, rates_agree, counts_agree, row_fault, is_still, plain_rate, call_rate, typed_argument, typed_arguments, typed_row, call_fault, call_known, typed_call};
-ghost use Rattle.cs_typing.specs.Known.{known_with, variable, given_all};
+ghost use Rattle.cs_typing.specs.Known.{known_with, variable, given_all, use_channel};
 ghost use Rattle.cs_typing.specs.Settings.{at};
 ghost use Rattle.cs_typed.specs.TypedTree as typed;
 ghost use Rattle.cs_typing.specs.inner.Answers.{Gives};
 
 use crate::expr::{is_value, rate_of, reads_known, typed_expression};
 use crate::known::{Channel, Shared, Table, give};
+use crate::making::add;
 use cs_base::{Name, Or, OrcFault, OrcKind, OutOfMemory, Rate};
 use cs_grammar::Arg;
 use cs_typed::{Setting, TypedArg, TypedArgs, TypedStmt, TypedWhat, Vars};
@@ -314,14 +315,13 @@ fn add_argument<'t>(
     match (arg, role) {
         (Arg::Value(e), _) => {
             let e = typed_expression(alloc, shared, locals, e)?;
-            made.push(TypedArg::Value(e))?;
+            add(made, TypedArg::Value(e))
         }
         (Arg::Text(name), Some(kind)) => {
-            made.push(TypedArg::Text(shared.channel(kind, name.as_slice())))?;
+            add(made, TypedArg::Text(shared.channel(kind, name.as_slice())))
         }
-        (Arg::Text(_), None) => {}
+        (Arg::Text(_), None) => Ok(()),
     }
-    Ok(())
 }
 
 // The typed forms of arguments.
@@ -401,8 +401,32 @@ pub fn call<'t>(
         return Err(broken(line, kind));
     }
     let made = typed_row(alloc, line, shared, locals, opcode, &row, results, args)?;
+    Ok(noted(
+        shared,
+        locals,
+        results,
+        channel_use(row.shape(), results, args),
+        text_of(args),
+        made,
+    )?)
+}
+
+// Notes what a call gives: its results, and the channel that it uses. What was made of it is handed on.
+fn noted<'t, T: Drop>(
+    shared: &mut Shared<'t>,
+    locals: &mut Table<'t>,
+    results: &'t [Name],
+    role: Option<Channel>,
+    channel: &'t [u8],
+    made: T,
+) -> Result<T, OutOfMemory>
+    ensures made { IfOk result (λ m. m ≡ made) }
+    ensures known { OnOk result (known_with shared.new locals.new
+        ≡ known_with (use_channel shared.old role channel.now)
+        (given_all (known_with shared.old locals.old) results.now).locals) }
+{
     give_all(locals, results)?;
-    shared.use_channel(channel_use(row.shape(), results, args), text_of(args))?;
+    shared.use_channel(role, channel)?;
     Ok(made)
 }
 

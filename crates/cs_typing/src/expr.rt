@@ -1,17 +1,18 @@
 // Expressions: their rates, whether they are values or conditions, what they read, and their typed form.
 ghost use Rattle.std.specs.Prelude.{◌≡◌, IfOk};
 ghost use Rattle.cs_grammar.specs.Tree.{expression};
-ghost use Rattle.cs_base.specs.Rates.{faster};
+ghost use Rattle.std.specs.Box.{box_value};
 ghost use Rattle.cs_base.specs.declared.resource.Rate.TheVariants as rate;
 ghost use Rattle.cs_typing.specs.Expressions.{rate_of, applied_rate, is_control_name, is_value, is_condition, reads_known, typed_expression};
 ghost use Rattle.cs_typing.specs.Known.{known_with};
 ghost use Rattle.cs_typed.specs.TypedTree as typed;
 
 use crate::known::{Shared, Table};
+use crate::making::in_box;
 use cs_base::{OutOfMemory, Rate};
 use cs_grammar::Expr;
 use cs_typed::{TypedExpr, TypedPart};
-use cs_words::{BinOp, Func, name_rate};
+use cs_words::{Func, name_rate};
 use std::alloc::Global;
 
 /// The rate of an expression: the fastest of its parts.
@@ -91,6 +92,7 @@ pub fn reads_known<'t>(shared: &Shared<'t>, locals: &Table<'t>, e: &Expr) -> boo
 }
 
 /// The typed form of an expression, with its rate beside each part.
+#[cycle(typed)]
 pub fn typed_expression<'t>(
     alloc: Global,
     shared: &Shared<'t>,
@@ -109,17 +111,37 @@ pub fn typed_expression<'t>(
             rate: name_rate(name.as_slice()),
             what: TypedPart::Var(shared.variable(locals, name.as_slice())),
         }),
-        Expr::Neg(a) => negated(alloc, typed_expression(alloc, shared, locals, a)?),
+        Expr::Neg(a) => {
+            let a = boxed(alloc, shared, locals, a)?;
+            Ok(TypedExpr {
+                rate: a.rate,
+                what: TypedPart::Neg(a),
+            })
+        }
         Expr::Pair(op, a, b) => {
-            let a = typed_expression(alloc, shared, locals, a)?;
-            paired(alloc, *op, a, typed_expression(alloc, shared, locals, b)?)
+            let a = boxed(alloc, shared, locals, a)?;
+            let b = boxed(alloc, shared, locals, b)?;
+            Ok(TypedExpr {
+                rate: a.rate.faster(b.rate),
+                what: TypedPart::Pair(*op, a, b),
+            })
         }
         Expr::Pick(c, a, b) => {
-            let c = typed_expression(alloc, shared, locals, c)?;
-            let a = typed_expression(alloc, shared, locals, a)?;
-            picked(alloc, c, a, typed_expression(alloc, shared, locals, b)?)
+            let c = boxed(alloc, shared, locals, c)?;
+            let a = boxed(alloc, shared, locals, a)?;
+            let b = boxed(alloc, shared, locals, b)?;
+            Ok(TypedExpr {
+                rate: c.rate.faster(a.rate.faster(b.rate)),
+                what: TypedPart::Pick(c, a, b),
+            })
         }
-        Expr::Call(func, a) => applied(alloc, *func, typed_expression(alloc, shared, locals, a)?),
+        Expr::Call(func, a) => {
+            let a = boxed(alloc, shared, locals, a)?;
+            Ok(TypedExpr {
+                rate: applied_rate(*func, a.rate),
+                what: TypedPart::Call(*func, a),
+            })
+        }
     }
 }
 
@@ -133,58 +155,28 @@ fn still(what: TypedPart) -> TypedExpr
     }
 }
 
-fn negated(alloc: Global, a: TypedExpr) -> Result<TypedExpr, OutOfMemory>
-    ensures form { IfOk result (λ made. typed.expression made ≡ typed.neg a.rate (typed.expression a)) }
-    ensures rate { IfOk result (λ made. made.rate ≡ a.rate) }
+// The typed form of a part, which stands in a box.
+#[cycle(typed)]
+fn boxed<'t>(
+    alloc: Global,
+    shared: &Shared<'t>,
+    locals: &Table<'t>,
+    e: &Expr,
+) -> Result<Box<TypedExpr>, OutOfMemory>
+    ensures form { IfOk result (λ made. typed.expression (box_value made)
+        ≡ typed_expression (known_with shared.now locals.now) (expression e.now)) }
+    ensures rate { IfOk result (λ made. (box_value made).rate ≡ rate_of (expression e.now)) }
 {
-    let rate = a.rate;
-    Ok(TypedExpr {
-        rate,
-        what: TypedPart::Neg(Box::new(alloc, a)?),
-    })
+    let made = typed_expression(alloc, shared, locals, e)?;
+    in_box(alloc, made)
 }
 
-fn paired(alloc: Global, op: BinOp, a: TypedExpr, b: TypedExpr) -> Result<TypedExpr, OutOfMemory>
-    ensures form { IfOk result (λ made. typed.expression made
-        ≡ typed.pair (faster a.rate b.rate) op (typed.expression a) (typed.expression b)) }
-    ensures rate { IfOk result (λ made. made.rate ≡ faster a.rate b.rate) }
+// The rate of a function's value.
+fn applied_rate(func: Func, rate: Rate) -> Rate
+    ensures { result ≡ applied_rate func rate }
 {
-    let rate = a.rate.faster(b.rate);
-    let a = Box::new(alloc, a)?;
-    let b = Box::new(alloc, b)?;
-    Ok(TypedExpr {
-        rate,
-        what: TypedPart::Pair(op, a, b),
-    })
-}
-
-fn picked(alloc: Global, c: TypedExpr, a: TypedExpr, b: TypedExpr) -> Result<TypedExpr, OutOfMemory>
-    ensures form { IfOk result (λ made. typed.expression made
-        ≡ typed.pick (faster c.rate (faster a.rate b.rate)) (typed.expression c) (typed.expression a) (typed.expression b)) }
-    ensures rate { IfOk result (λ made. made.rate ≡ faster c.rate (faster a.rate b.rate)) }
-{
-    let rate = c.rate.faster(a.rate.faster(b.rate));
-    let c = Box::new(alloc, c)?;
-    let a = Box::new(alloc, a)?;
-    let b = Box::new(alloc, b)?;
-    Ok(TypedExpr {
-        rate,
-        what: TypedPart::Pick(c, a, b),
-    })
-}
-
-fn applied(alloc: Global, func: Func, a: TypedExpr) -> Result<TypedExpr, OutOfMemory>
-    ensures form { IfOk result (λ made. typed.expression made
-        ≡ typed.apply (applied_rate func a.rate) func (typed.expression a)) }
-    ensures rate { IfOk result (λ made. made.rate ≡ applied_rate func a.rate) }
-{
-    let rate = if matches!(func, Func::I) {
-        Rate::Init
-    } else {
-        a.rate
-    };
-    Ok(TypedExpr {
-        rate,
-        what: TypedPart::Call(func, Box::new(alloc, a)?),
-    })
+    match func {
+        Func::I => Rate::Init,
+        _ => rate,
+    }
 }

@@ -224,3 +224,12 @@ pub fn give<'t>(locals: &mut Table<'t>, name: &'t [u8]) -> Result<(), OutOfMemor
         locals.add(name)
     }
 }
+
+/// The same; what is made of a statement is handed on.
+pub fn given<'t, T: Drop>(locals: &mut Table<'t>, name: &'t [u8], made: T) -> Result<T, OutOfMemory>
+    ensures made { IfOk result (λ m. m ≡ made) }
+    ensures known { OnOk result (locals.new ≡ after_giving locals.old name.now) }
+{
+    give(locals, name)?;
+    Ok(made)
+}

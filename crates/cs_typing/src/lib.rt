@@ -7,9 +7,9 @@
 //! instrument (`instruments_have_no_zakinit`), and each instrument's number stands once (`numbers_stand_once`). How names
 //! are looked up may be changed without anyone above noticing.
 //!
-//! To be read in this order: `known` (names and their numbers), `expr`, `call`, `stmt` (what is judged where it stands),
-//! `headers`, `zak` and `settle` (what holds for the whole piece), `globals` (the variables that all instruments share),
-//! `orc` (the parts in the order of the text), `laws`. What is made, the typed tree, is the layer below.
+//! To be read in this order: `known` (names and their numbers), `making` (boxes and lists), `expr`, `call`, `stmt` (what is
+//! judged where it stands), `headers`, `zak` and `settle` (what holds for the whole piece), `globals` (the variables that all
+//! instruments share), `orc` (the parts in the order of the text), `laws`. What is made, the typed tree, is the layer below.
 #![tactic(auto)]
 
 mod call;
@@ -18,6 +18,7 @@ mod globals;
 mod headers;
 mod known;
 mod laws;
+mod making;
 mod orc;
 mod settle;
 mod stmt;

@@ -16,6 +16,7 @@ ghost use Rattle.cs_typing.specs.inner.Walk.{Judged, GivesOrc, parts_fault, type
 
 use crate::globals::all_globals;
 use crate::known::{Shared, Table};
+use crate::making::add;
 use crate::settle::{Setup, settings};
 use crate::stmt::block;
 use cs_base::{Items, Numbers, Or, OrcFault, OutOfMemory};
@@ -81,8 +82,7 @@ impl Done {
         ensures known { OnOk result (shared.new
             ≡ (known_item (known_with shared.old locals.old) (body (tree.instrument i.now))).shared) }
     {
-        self.instrs.push(instrument(alloc, channels, shared, i)?)?;
-        Ok(())
+        Ok(add(&mut self.instrs, instrument(alloc, channels, shared, i)?)?)
     }
 }
 
@@ -124,8 +124,8 @@ fn instrument<'t>(
     ensures known { OnOk result (shared.new
         ≡ (known_block (known_with shared.old no_names) (tree.block i.now.body.items)).shared) }
 {
-    let body = instrument_body(alloc, channels, shared, i)?;
     let numbers = copied(alloc, &i.numbers)?;
+    let body = instrument_body(alloc, channels, shared, i)?;
     Ok(TypedInstr {
         line: i.line,
         numbers,

@@ -13,7 +13,8 @@ ghost use Rattle.cs_typing.specs.inner.Answers.{Gives, GivesArm, GivesArms};
 
 use crate::call::{broken, call};
 use crate::expr::{is_condition, is_value, rate_of, reads_known, typed_expression};
-use crate::known::{Shared, Table, give};
+use crate::known::{Shared, Table, given};
+use crate::making::add;
 use cs_base::{Or, OrcFault, OrcKind, Rate};
 use cs_grammar::{Arm, Expr, OrcStmt, StmtWhat};
 use cs_typed::{Setting, TypedArm, TypedArms, TypedExpr, TypedStmt, TypedStmts, TypedWhat, Var};
@@ -118,8 +119,7 @@ fn assigned<'t>(
     }
     let var = shared.variable(locals, name);
     let value = typed_expression(alloc, shared, locals, e)?;
-    give(locals, name)?;
-    Ok((var, value))
+    Ok((var, given(locals, name, value)?))
 }
 
 // `name = e`
@@ -276,7 +276,7 @@ pub fn block<'t>(
 {
     let mut done = Vec::new(alloc);
     for s in stmts {
-        done.push(stmt(alloc, setting, shared, locals, s)?)?;
+        add(&mut done, stmt(alloc, setting, shared, locals, s)?)?;
     }
     Ok(done)
 }
@@ -296,7 +296,7 @@ fn arms<'t>(
 {
     let mut done = Vec::new(alloc);
     for a in list {
-        done.push(arm(alloc, setting, shared, locals, line, a)?)?;
+        add(&mut done, arm(alloc, setting, shared, locals, line, a)?)?;
     }
     Ok(done)
 }

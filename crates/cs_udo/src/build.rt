@@ -331,12 +331,12 @@ fn add_arm(part: &Part, made: &mut MadeArms, a: &Arm) -> Result<(), OutOfMemory>
     ensures { OnOk result (MakesArm (opcodes_of (definitions_of part.now.library.now) part.now.visible) (owned part.now.owner) made.old made.new
         (tree.expression (out-Arm a.now).cond) (tree.block (out-Arm a.now).body.items)) }
 {
-    let cond = owned_expr(part.alloc, part.owner, &a.cond)?;
     let mut inner = Made {
         stmts: Vec::new(part.alloc),
         next: made.next,
     };
     add_block(part, &mut inner, &a.body)?;
+    let cond = owned_expr(part.alloc, part.owner, &a.cond)?;
     made.next = inner.next;
     made.arms.push(arm_of(cond, inner.stmts))?;
     Ok(())

@@ -1,5 +1,6 @@
 // Expressions and arguments with the names of an owner's variables.
-ghost use Rattle.std.specs.Prelude.{◌≡◌, map, IfOk};
+ghost use Rattle.std.specs.Prelude.{◌≡◌, map, IfOk, Ok};
+ghost use Rattle.std.specs.Box.{box_value};
 ghost use Rattle.cs_grammar.specs.Tree as tree;
 ghost use Rattle.cs_udo.specs.Names.{renamed, renamed_argument};
 ghost use Rattle.cs_udo.specs.inner.Owners.{owned};
@@ -7,7 +8,6 @@ ghost use Rattle.cs_udo.specs.inner.Owners.{owned};
 use crate::owner::{Owner, copied, owned_name};
 use cs_base::{Name, OutOfMemory};
 use cs_grammar::{Arg, Args, Expr};
-use cs_words::{BinOp, Func};
 use std::alloc::Global;
 
 /// An expression with the names of an owner's variables.
@@ -19,48 +19,27 @@ pub fn owned_expr(alloc: Global, owner: Owner, e: &Expr) -> Result<Expr, OutOfMe
         Expr::Field(number) => Ok(Expr::Field(*number)),
         Expr::Head(name) => Ok(Expr::Head(*name)),
         Expr::Var(name) => Ok(Expr::Var(owned_name(alloc, owner, name.as_slice())?)),
-        Expr::Neg(a) => negated(alloc, owned_expr(alloc, owner, a)?),
+        Expr::Neg(a) => Ok(Expr::Neg(boxed(alloc, owned_expr(alloc, owner, a))?)),
         Expr::Pair(op, a, b) => {
-            let a = owned_expr(alloc, owner, a)?;
-            paired(alloc, *op, a, owned_expr(alloc, owner, b)?)
+            let a = boxed(alloc, owned_expr(alloc, owner, a))?;
+            let b = boxed(alloc, owned_expr(alloc, owner, b))?;
+            Ok(Expr::Pair(*op, a, b))
         }
         Expr::Pick(c, a, b) => {
-            let c = owned_expr(alloc, owner, c)?;
-            let a = owned_expr(alloc, owner, a)?;
-            picked(alloc, c, a, owned_expr(alloc, owner, b)?)
+            let c = boxed(alloc, owned_expr(alloc, owner, c))?;
+            let a = boxed(alloc, owned_expr(alloc, owner, a))?;
+            let b = boxed(alloc, owned_expr(alloc, owner, b))?;
+            Ok(Expr::Pick(c, a, b))
         }
-        Expr::Call(func, a) => applied(alloc, *func, owned_expr(alloc, owner, a)?),
+        Expr::Call(func, a) => Ok(Expr::Call(*func, boxed(alloc, owned_expr(alloc, owner, a))?)),
     }
 }
 
-fn negated(alloc: Global, a: Expr) -> Result<Expr, OutOfMemory>
-    ensures { IfOk result (λ made. tree.expression made ≡ tree.neg (tree.expression a)) }
+// What was made, in a box.
+fn boxed<T: Drop>(alloc: Global, made: Result<T, OutOfMemory>) -> Result<Box<T>, OutOfMemory>
+    ensures { IfOk result (λ b. made ≡ Ok (box_value b)) }
 {
-    Ok(Expr::Neg(Box::new(alloc, a)?))
-}
-
-fn paired(alloc: Global, op: BinOp, a: Expr, b: Expr) -> Result<Expr, OutOfMemory>
-    ensures { IfOk result (λ made. tree.expression made ≡ tree.pair op (tree.expression a) (tree.expression b)) }
-{
-    let a = Box::new(alloc, a)?;
-    let b = Box::new(alloc, b)?;
-    Ok(Expr::Pair(op, a, b))
-}
-
-fn picked(alloc: Global, c: Expr, a: Expr, b: Expr) -> Result<Expr, OutOfMemory>
-    ensures { IfOk result (λ made. tree.expression made
-        ≡ tree.pick (tree.expression c) (tree.expression a) (tree.expression b)) }
-{
-    let c = Box::new(alloc, c)?;
-    let a = Box::new(alloc, a)?;
-    let b = Box::new(alloc, b)?;
-    Ok(Expr::Pick(c, a, b))
-}
-
-fn applied(alloc: Global, func: Func, a: Expr) -> Result<Expr, OutOfMemory>
-    ensures { IfOk result (λ made. tree.expression made ≡ tree.apply func (tree.expression a)) }
-{
-    Ok(Expr::Call(func, Box::new(alloc, a)?))
+    Ok(Box::new(alloc, made?)?)
 }
 
 /// An argument with the names of an owner's variables: a text stays.

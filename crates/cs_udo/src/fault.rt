@@ -2,7 +2,7 @@
 use cs_base::{LimitHit, OrcFault};
 
 /// Why an orchestra is refused before its rates and names are looked at.
-#[derive(Clone, Copy, Debug, PartialEq, Eq)]
+#[derive(Clone, Copy)]
 pub enum ExpandFault {
     /// A call of a defined opcode that breaks a rule.
     Orc(OrcFault),

@@ -8,6 +8,7 @@ ghost use Rattle.cs_udo.specs.declared.fault.ExpandFault.{ExpandFault};
 ghost use Rattle.cs_udo.specs.Counted.{statements_hit};
 ghost use Rattle.cs_udo.specs.Expanded.{opcodes_before, expanded_block, expanded_instrument};
 ghost use Rattle.cs_udo.specs.Names.{as_it_is};
+ghost use Rattle.cs_udo.specs.Refused.{first_fault};
 ghost use Rattle.cs_udo.specs.inner.Library.{definitions_of};
 ghost use Rattle.cs_udo.specs.inner.Whole.{AreWithin, IsExpanded};
 ghost use Rattle.cs_udo.specs.Expanding.{expanding};
@@ -86,14 +87,37 @@ fn expanded(alloc: Global, orc: &Orc) -> Result<Vec<Instr>, Or<ExpandFault>>
     ensures fault { (f : ExpandFault) → result ≡ Err (or.Fault f) → expanding (tree.orchestra orc.now) ≡ Err f }
 {
     let library = Library::new(alloc, &orc.opcodes)?;
-    if let Some(fault) = first_fault(&library, orc) {
+    expanded_by(alloc, &library, orc)
+}
+
+// The same, by the orchestra's definitions.
+fn expanded_by(alloc: Global, library: &Library, orc: &Orc) -> Result<Vec<Instr>, Or<ExpandFault>>
+    requires { definitions_of library.now ≡ (tree.orchestra orc.now).opcodes }
+    ensures made { IfOk result (λ v. IsExpanded (tree.orchestra orc.now) (map tree.instrument v.items)) }
+    ensures fault { (f : ExpandFault) → result ≡ Err (or.Fault f) → expanding (tree.orchestra orc.now) ≡ Err f }
+{
+    if let Some(fault) = first_fault(library, orc) {
         return Err(Or::Fault(ExpandFault::Orc(fault)));
     }
-    let costs = costs_of(alloc, &library)?;
-    if let Some(hit) = first_limit(&library, &costs, &orc.instrs) {
+    expanded_within(alloc, library, orc)
+}
+
+// The same, where no call is refused.
+fn expanded_within(
+    alloc: Global,
+    library: &Library,
+    orc: &Orc,
+) -> Result<Vec<Instr>, Or<ExpandFault>>
+    requires definitions { definitions_of library.now ≡ (tree.orchestra orc.now).opcodes }
+    requires fine { first_fault (tree.orchestra orc.now) ≡ None }
+    ensures made { IfOk result (λ v. IsExpanded (tree.orchestra orc.now) (map tree.instrument v.items)) }
+    ensures fault { (f : ExpandFault) → result ≡ Err (or.Fault f) → expanding (tree.orchestra orc.now) ≡ Err f }
+{
+    let costs = costs_of(alloc, library)?;
+    if let Some(hit) = first_limit(library, &costs, &orc.instrs) {
         return Err(Or::Fault(ExpandFault::Limit(hit)));
     }
-    Ok(instruments_of(alloc, &library, &orc.instrs)?)
+    Ok(instruments_of(alloc, library, &orc.instrs)?)
 }
 
 /// An orchestra without definitions, in which each call of a defined opcode has become what the opcode does: or the first call

@@ -23,7 +23,7 @@ pub struct Tally {
 }
 
 /// Definitions, and what each of the first of them counts where it is called.
-#[derive(Drop)]
+#[derive(Clone, Copy)]
 pub struct Prices<'l, 't> {
     library: &'l Library<'t>,
     costs: &'l [u32],

@@ -25,7 +25,7 @@ block-loop-s-preserved t c =
     let split = dropped c.args.stmts.now c.loop-s.s-index x (omega arith) c.s-item.is in
     let after = c.in_ok-stmt.ensures.known in (
       rest_fault c.args.setting k m whole rest x split c.in_ok-stmt.ensures.gives.0 after ∙ was.0,
-      rest_typed k m whole rest x c.loop-s.done.items c.push.new.self.items c.in_ok-stmt.field-0 split c.in_ok-push.ensures.items c.in_ok-stmt.ensures.gives.1 after ∙ was.1,
+      rest_typed k m whole rest x c.loop-s.done.items c.add.new.list.items c.in_ok-stmt.field-0 split c.in_ok-add.ensures c.in_ok-stmt.ensures.gives.1 after ∙ was.1,
       rest_known k m whole rest x split after ∙ was.2,
     )
 
@@ -50,7 +50,7 @@ arms-loop-a-preserved t c els =
     let split = dropped c.args.list.now c.loop-a.a-index x (omega arith) c.a-item.is in
     let made = c.in_ok-arm.ensures in (
       rest_arms_fault c.args.setting k m c.args.line els whole rest x split made.0 made.1 made.4 ∙ was.0,
-      rest_arms_typed k m els whole rest x c.loop-a.done.items c.push.new.self.items c.in_ok-arm.field-0 split c.in_ok-push.ensures.items made.2 made.3 made.4 ∙ was.1,
+      rest_arms_typed k m els whole rest x c.loop-a.done.items c.add.new.list.items c.in_ok-arm.field-0 split c.in_ok-add.ensures made.2 made.3 made.4 ∙ was.1,
       rest_arms_known k m els whole rest x split made.4 ∙ was.2,
     )
 

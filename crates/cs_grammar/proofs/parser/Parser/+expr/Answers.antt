@@ -1,8 +1,8 @@
 use Rattle.std.proofs.Common.{◌≡◌, ◌∙◌, Ok, Err, Some, None, sym, refl, ap, subst, arith, length}
 use Rattle.cs_grammar.specs.declared.expr.Level.TheVariants as at
 use Rattle.cs_grammar.proofs.Sizes.{after_size}
-use Rattle.cs_grammar.proofs.Gives.{failed, unpassed, made}
-use Rattle.cs_grammar.proofs.Rules.{group_fails, group_reads, closed_is, call_is, pick_unmet, pick_is}
+use Rattle.cs_grammar.proofs.Gives.{failed, followed, made}
+use Rattle.cs_grammar.proofs.Rules.{group_is, closed_is, call_is, pick_unmet, pick_is}
 use Rattle.cs_grammar.proofs.Rules.{right_fails, alone, none_of, raised}
 use Rattle.cs_grammar.proofs.parser.Parser.+expr.Goals as goal
 use Rattle.cs_grammar.specs.Grammar.{ReadsTail, binary, fact_group, fact_neg, no_more, one_alone, one_more}
@@ -18,16 +18,11 @@ pub bracket-returns-in_err-first-clause-reads : goal.bracket-returns-in_err-firs
 bracket-returns-in_err-first-clause-reads t c =
     failed expression expression _ _ _ _ _ _ c.from_residual.ensures.1 c.in_err-first.ensures.reads (λ f h. fact_group c.requires (rw c.skip.ensures at h) refl)
 
-pub bracket-returns-in_err-pass-clause-reads : goal.bracket-returns-in_err-pass-clause-reads
-bracket-returns-in_err-pass-clause-reads t c =
-    unpassed (Unit {0}) expression _ _ _ _ _ _ c.from_residual-in_err-pass.ensures.1 c.in_err-pass.ensures.passes
-    (λ f p. group_fails (expression c.in_ok-first.first) c.expr.new.self f c.requires (rw c.skip.ensures at c.in_ok-first.ensures.reads)
-    (sym c.next_is.ensures ∙ c.if-next_is.false) p)
-
 pub bracket-returns-clause-reads : goal.bracket-returns-clause-reads
 bracket-returns-clause-reads t c =
-    group_reads (expression c.in_ok-first.first) c.expr.new.self c.pass.new.self c.requires (rw c.skip.ensures at c.in_ok-first.ensures.reads)
-    (sym c.next_is.ensures ∙ c.if-next_is.false) c.in_ok-pass.ensures.passes
+    followed expression c.followed.result c.in_ok-first.first _ _ _ c.followed.ensures.value c.followed.ensures.passes
+    (λ st p. group_is (expression c.in_ok-first.first) c.expr.new.self st c.requires (rw c.skip.ensures at c.in_ok-first.ensures.reads)
+    (sym c.next_is.ensures ∙ c.if-next_is.false) p)
 
 pub function-returns-in_err-argument-clause-reads : goal.function-returns-in_err-argument-clause-reads
 function-returns-in_err-argument-clause-reads t c =
@@ -43,14 +38,10 @@ pub closed-returns-in_err-part-clause-reads : goal.closed-returns-in_err-part-cl
 closed-returns-in_err-part-clause-reads t c =
     failed expression expression _ _ _ _ _ _ c.from_residual.ensures.1 c.in_err-part.ensures.reads (λ f h. (Err f, h, refl))
 
-pub closed-returns-in_err-pass-clause-reads : goal.closed-returns-in_err-pass-clause-reads
-closed-returns-in_err-pass-clause-reads t c =
-    unpassed (Unit {0}) expression _ _ _ _ _ _ c.from_residual-in_err-pass.ensures.1 c.in_err-pass.ensures.passes
-    (λ f p. closed_is c.args.end (expression c.in_ok-part.part) c.expr.new.self (Err f) c.in_ok-part.ensures.reads p)
-
 pub closed-returns-clause-reads : goal.closed-returns-clause-reads
 closed-returns-clause-reads t c =
-    closed_is c.args.end (expression c.in_ok-part.part) c.expr.new.self (Ok c.pass.new.self) c.in_ok-part.ensures.reads c.in_ok-pass.ensures.passes
+    followed expression c.followed.result c.in_ok-part.part _ _ _ c.followed.ensures.value c.followed.ensures.passes
+    (λ st p. closed_is c.args.end (expression c.in_ok-part.part) c.expr.new.self st c.in_ok-part.ensures.reads p)
 
 pub negation-returns-clause-reads : goal.negation-returns-clause-reads
 negation-returns-clause-reads t c =

@@ -4,7 +4,7 @@ use Rattle.cs_grammar.specs.declared.tree.StmtWhat.TheBlock.{hidden-the_row-OrcS
 use Rattle.cs_grammar.specs.declared.tree.StmtWhat.TheViews.{the_lemmas, roll-Arm}
 use Rattle.cs_grammar.proofs.Rows.{block_is, arms_is}
 use Rattle.cs_grammar.proofs.Sizes.{after_size}
-use Rattle.cs_grammar.proofs.Gives.{failed, unpassed}
+use Rattle.cs_grammar.proofs.Gives.{failed, followed, unpassed, valued}
 use Rattle.cs_grammar.proofs.StmtRules.{BlockSoFar, ArmsSoFar, else_in, stmts_in, arm_in, chain_in, line_is, stmt_shorter, block_begun, block_grown}
 use Rattle.cs_grammar.proofs.StmtRules.{block_fails, block_done, arms_begun, arms_unbegun, arms_grown, arms_fail, arms_done, arm_unmet, arm_is}
 use Rattle.cs_grammar.proofs.StmtRules.{endif_is, else_no_line, else_no_block, else_is}
@@ -18,17 +18,12 @@ pub stmt-returns-in_err-what-clause-reads : goal.stmt-returns-in_err-what-clause
 stmt-returns-in_err-what-clause-reads t c =
     failed (of_what (next c.args.self.now).line) statement _ _ _ _ _ _ c.from_residual.ensures.1 c.in_err-what.ensures.reads (λ f h. h)
 
-pub stmt-returns-in_err-end_line-clause-reads : goal.stmt-returns-in_err-end_line-clause-reads
-stmt-returns-in_err-end_line-clause-reads t c =
-    unpassed (Unit {0}) statement _ _ _ _ _ _ c.from_residual-in_err-end_line.ensures.1 c.in_err-end_line.ensures.passes
-    (λ f p. line_is c.args.scope.now c.args.self.now (of_what (next c.args.self.now).line c.in_ok-what.what) c.what.new.self (Err f)
-    c.in_ok-what.ensures.reads p)
-
 pub stmt-returns-clause-reads : goal.stmt-returns-clause-reads
 stmt-returns-clause-reads t c =
-    subst (λ n. ReadsStmt c.args.scope.now c.args.self.now (Ok (of_what n c.in_ok-what.what, c.end_line.new.self))) (sym c.line-line.ensures)
-    (line_is c.args.scope.now c.args.self.now (of_what (next c.args.self.now).line c.in_ok-what.what) c.what.new.self (Ok c.end_line.new.self)
-    c.in_ok-what.ensures.reads c.in_ok-end_line.ensures.passes)
+    followed statement c.ended.result _ _ _ _ c.ended.ensures.value c.ended.ensures.passes
+    (λ st p. subst (λ n. ReadsStmt c.args.scope.now c.args.self.now (valued (of_what n c.in_ok-what.what) st)) (sym c.line-line.ensures)
+    (line_is c.args.scope.now c.args.self.now (of_what (next c.args.self.now).line c.in_ok-what.what) c.what.new.self st
+    c.in_ok-what.ensures.reads p))
 
 pub arm-returns-in_err-cond-clause-reads : goal.arm-returns-in_err-cond-clause-reads
 arm-returns-in_err-cond-clause-reads t c =
@@ -133,18 +128,14 @@ arms-returns-clause-reads t c =
     arms_done c.args.scope.now c.args.self.now c.loop-self.self c.otherwise.new.self c.loop-self.chain.items (block c.in_ok-els.els.items)
     c.loop-self.invariant.reads c.in_ok-els.ensures.reads
 
-pub otherwise-returns-in_err-pass-clause-reads : goal.otherwise-returns-in_err-pass-clause-reads
-otherwise-returns-in_err-pass-clause-reads t c =
-    unpassed (Unit {0}) else_in _ _ _ _ _ _ c.from_residual.ensures.1 c.in_err-pass.ensures.passes
-    (λ f p. endif_is c.requires (Err f) (sym c.next_is.ensures ∙ c.if-not-next_is.true) p)
-
 pub otherwise-returns-then-not-next_is-clause-reads : goal.otherwise-returns-then-not-next_is-clause-reads
 otherwise-returns-then-not-next_is-clause-reads t c =
-    rw c.new.ensures.items (endif_is c.requires (Ok c.pass.new.self) (sym c.next_is.ensures ∙ c.if-not-next_is.true) c.in_ok-pass.ensures.passes)
+    followed else_in c.followed.result c.new-none.result _ _ _ c.followed.ensures.value c.followed.ensures.passes
+    (λ st p. rw c.new-none.ensures.items (endif_is c.requires st (sym c.next_is.ensures ∙ c.if-not-next_is.true) p))
 
 pub otherwise-returns-in_err-end_line-clause-reads : goal.otherwise-returns-in_err-end_line-clause-reads
 otherwise-returns-in_err-end_line-clause-reads t c =
-    unpassed (Unit {0}) else_in _ _ _ _ _ _ c.from_residual-in_err-end_line.ensures.1 c.in_err-end_line.ensures.passes
+    unpassed (Unit {0}) else_in _ _ _ _ _ _ c.from_residual.ensures.1 c.in_err-end_line.ensures.passes
     (λ f p. else_no_line c.requires f (sym c.next_is.ensures ∙ c.if-not-next_is.false) (rw c.skip.ensures at p))
 
 pub otherwise-returns-in_err-stmts-clause-reads : goal.otherwise-returns-in_err-stmts-clause-reads
@@ -153,14 +144,8 @@ otherwise-returns-in_err-stmts-clause-reads t c =
     (λ f h. else_no_block c.requires c.end_line.new.self f (sym c.next_is.ensures ∙ c.if-not-next_is.false)
     (rw c.skip.ensures at c.in_ok-end_line.ensures.passes) h)
 
-pub otherwise-returns-in_err-pass-2-clause-reads : goal.otherwise-returns-in_err-pass-2-clause-reads
-otherwise-returns-in_err-pass-2-clause-reads t c =
-    unpassed (Unit {0}) else_in _ _ _ _ _ _ c.from_residual-in_err-pass-2.ensures.1 c.in_err-pass-2.ensures.passes
-    (λ f p. else_is c.requires c.end_line.new.self c.block.new.self (block c.in_ok-stmts.stmts.items) (Err f)
-    (sym c.next_is.ensures ∙ c.if-not-next_is.false) (rw c.skip.ensures at c.in_ok-end_line.ensures.passes) c.in_ok-stmts.ensures.reads p)
-
 pub otherwise-returns-clause-reads : goal.otherwise-returns-clause-reads
 otherwise-returns-clause-reads t c =
-    else_is c.requires c.end_line.new.self c.block.new.self (block c.in_ok-stmts.stmts.items) (Ok c.pass-2.new.self)
-    (sym c.next_is.ensures ∙ c.if-not-next_is.false) (rw c.skip.ensures at c.in_ok-end_line.ensures.passes) c.in_ok-stmts.ensures.reads
-    c.in_ok-pass-2.ensures.passes
+    followed else_in c.followed-2.result c.in_ok-stmts.stmts _ _ _ c.followed-2.ensures.value c.followed-2.ensures.passes
+    (λ st p. else_is c.requires c.end_line.new.self c.block.new.self (block c.in_ok-stmts.stmts.items) st
+    (sym c.next_is.ensures ∙ c.if-not-next_is.false) (rw c.skip.ensures at c.in_ok-end_line.ensures.passes) c.in_ok-stmts.ensures.reads p)

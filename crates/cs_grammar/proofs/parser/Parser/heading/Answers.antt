@@ -1,10 +1,16 @@
 use Rattle.std.proofs.Common.{List, Ok, Err, sym}
 use Rattle.cs_base.specs.declared.resource.Rate.{Rate}
-use Rattle.cs_grammar.proofs.Gives.{failed}
-use Rattle.cs_grammar.proofs.HeadingRules.{heading_is}
+use Rattle.cs_grammar.proofs.Gives.{failed, unpassed}
+use Rattle.cs_grammar.proofs.HeadingRules.{heading_is, heading_uncut}
 use Rattle.cs_grammar.proofs.parser.Parser.heading.Goals as goal
 use Rattle.cs_grammar.specs.Headings.{Heading}
 use Rattle.cs_grammar.specs.Reading.{after, next}
+
+pub returns-in_err-pass-clause-reads : goal.returns-in_err-pass-clause-reads
+returns-in_err-pass-clause-reads c =
+    unpassed (Unit {0}) (λ (h : Heading). h) _ _ _ _ _ _ c.from_residual-in_err-pass.ensures.1 c.in_err-pass.ensures.passes
+    (λ f p. heading_uncut c.args.scope.now (next c.args.self.now).line (after c.args.self.now) c.in_ok-name.name.now c.new_name.new.self f
+    (rw c.skip.ensures at (sym c.in_ok-name.ensures.reads)) p)
 
 pub returns-in_err-outs-clause-reads : goal.returns-in_err-outs-clause-reads
 returns-in_err-outs-clause-reads c =

@@ -1,5 +1,5 @@
-use Rattle.std.proofs.Common.{Ok, Err, subst, map}
-use Rattle.cs_grammar.proofs.Gives.{failed, unpassed, ended_is}
+use Rattle.std.proofs.Common.{subst, map}
+use Rattle.cs_grammar.proofs.Gives.{failed, followed, ended_is}
 use Rattle.cs_grammar.proofs.StmtRules.{args_in}
 use Rattle.cs_grammar.proofs.parser.Parser.values.Goals as goal
 use Rattle.cs_grammar.specs.Orchestra.{ReadsXout, xout}
@@ -9,14 +9,8 @@ pub returns-in_err-values-clause-reads : goal.returns-in_err-values-clause-reads
 returns-in_err-values-clause-reads c =
     failed args_in args_in _ _ _ _ _ _ c.from_residual.ensures.1 c.in_err-values.ensures.reads (λ f h. xout (rw c.skip.ensures at h))
 
-pub returns-in_err-end_line-clause-reads : goal.returns-in_err-end_line-clause-reads
-returns-in_err-end_line-clause-reads c =
-    unpassed (Unit {0}) args_in _ _ _ _ _ _ c.from_residual-in_err-end_line.ensures.1 c.in_err-end_line.ensures.passes
-    (λ f p. subst (ReadsXout c.args.scope.now c.args.self.now)
-    (ended_is c.args.scope.now (map argument c.in_ok-values.values.items) c.list.new.self (Err f) p) (xout (rw c.skip.ensures at c.in_ok-values.ensures.reads)))
-
 pub returns-clause-reads : goal.returns-clause-reads
 returns-clause-reads c =
-    subst (ReadsXout c.args.scope.now c.args.self.now)
-    (ended_is c.args.scope.now (map argument c.in_ok-values.values.items) c.list.new.self (Ok c.end_line.new.self) c.in_ok-end_line.ensures.passes)
-    (xout (rw c.skip.ensures at c.in_ok-values.ensures.reads))
+    followed args_in c.ended.result c.in_ok-values.values _ _ _ c.ended.ensures.value c.ended.ensures.passes
+    (λ st p. subst (ReadsXout c.args.scope.now c.args.self.now)
+    (ended_is c.args.scope.now (map argument c.in_ok-values.values.items) c.list.new.self st p) (xout (rw c.skip.ensures at c.in_ok-values.ensures.reads)))
