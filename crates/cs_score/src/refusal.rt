@@ -6,7 +6,7 @@ use cs_base::{LimitHit, Or, ScoreFault, ScoreKind};
 use std::alloc::AllocError;
 
 /// Why a score wasn't read: its first fault, else the first limit that its statements pass, or want of memory.
-#[derive(Clone, Copy, Debug, PartialEq, Eq)]
+#[derive(Clone, Copy)]
 pub enum ScoreRefusal {
     Fault(ScoreFault),
     Limit(LimitHit),

@@ -1,7 +1,7 @@
 use cs_base::{Items, Num, Nums};
 
 /// A point of a tempo statement: from this beat on the tempo.
-#[derive(Clone, Copy, PartialEq, Eq)]
+#[derive(Clone, Copy)]
 pub struct TempoPoint {
     /// Millionths of a beat from the start of the section, from 0 to 9,999,999,999,999.
     pub beat: u64,
