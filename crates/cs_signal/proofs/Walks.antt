@@ -3,7 +3,7 @@ use Rattle.std.proofs.Common.{◌≡◌, ℕ, suc, ◌+◌, ◌-◌, ◌<◌, Li
 use Rattle.std.proofs.lemmas.List.{take_more_set, length-set, take_all, append-nil, get_or_default}
 use Rattle.cs_signal.specs.Operands.{argument}
 use Rattle.cs_signal.specs.Steps.{run}
-use Rattle.cs_signal.specs.inner.Walk.{HasRun}
+use Rattle.cs_signal.specs.Walk.{HasRun}
 
 pub HasRun_none : {S : Type 0} (step : S → List ℤ → S × ℤ) (at : ℕ → List ℤ) (first : S) (n : ℕ) (out : List ℤ) → length out ≡ n →
     HasRun step at first n 0 first out

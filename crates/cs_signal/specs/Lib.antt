@@ -13,4 +13,5 @@ pub mod Operands
 pub mod Pace
 pub mod Samphold
 pub mod Steps
+pub mod Walk
 pub mod inner

@@ -3,4 +3,3 @@ pub mod Level
 pub mod Pieces
 pub mod Ramp
 pub mod Ring
-pub mod Walk

@@ -38,5 +38,5 @@ pub use line::Line;
 pub use linen::Linen;
 pub use linseg::Linseg;
 pub use operand::{Operand, argument};
-pub use pace::{cycles, delay_samples, samples, steps};
+pub use pace::delay_samples;
 pub use samphold::Samphold;

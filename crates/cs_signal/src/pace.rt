@@ -6,7 +6,7 @@ ghost use Rattle.cs_signal.specs.Pace.{from_zero, pace_of, samples_of, cycles_of
 use cs_base::{Head, Num, Rate};
 
 /// A time of so many seconds in whole samples, rounded down; none where it is below 0.
-pub fn samples(time: Num, head: &Head) -> u64
+pub(crate) fn samples(time: Num, head: &Head) -> u64
     ensures value { result ≡ samples_of (pace_of head.now) time }
     ensures bounded { result < 2 ^ 49 }
 {
@@ -14,7 +14,7 @@ pub fn samples(time: Num, head: &Head) -> u64
 }
 
 /// A time of so many seconds in whole control cycles, rounded down; none where it is below 0.
-pub fn cycles(time: Num, head: &Head) -> u64
+fn cycles(time: Num, head: &Head) -> u64
     ensures value { result ≡ cycles_of (pace_of head.now) time }
     ensures bounded { result < 2 ^ 49 }
 {
@@ -22,7 +22,7 @@ pub fn cycles(time: Num, head: &Head) -> u64
 }
 
 /// A time of so many seconds in steps of a unit: of a sample each at audio rate, else of a control cycle each.
-pub fn steps(time: Num, rate: Rate, head: &Head) -> u64
+pub(crate) fn steps(time: Num, rate: Rate, head: &Head) -> u64
     ensures value { result ≡ steps_of rate (pace_of head.now) time }
     ensures bounded { result < 2 ^ 49 }
 {

@@ -6,7 +6,7 @@ use Rattle.cs_words.specs.declared.catalogue.Opcode.TheVariants as op
 use Rattle.cs_signal.proofs.Formulas.{line_law, linseg_law, linen_law, delay_law, biquad_law, integ_law, diff_law, samphold_law, limit_law, interp_law, downsamp_law}
 use Rattle.cs_signal.specs.Pace.{Pace}
 use Rattle.cs_signal.specs.Steps.{IsUnit}
-use Rattle.cs_osc.proofs.Oscillators.{oscil_is_unit, oscili_is_unit, phasor_is_unit, table_is_unit, tablei_is_unit}
+use Rattle.cs_ugen.proofs.Oscillators.{oscil_is_unit, oscili_is_unit, phasor_is_unit, table_is_unit, tablei_is_unit}
 use Rattle.cs_ugen.specs.Units.{IsUnitOpcode, Stands, StateStands, gen, opcode_of, unit_start, unit_step}
 use Rattle.cs_ugen.specs.declared.unit.Kind.{Kind}
 use Rattle.cs_ugen.specs.declared.unit.Kind.TheVariants as unit

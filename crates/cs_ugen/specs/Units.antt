@@ -19,11 +19,11 @@ use Rattle.cs_signal.specs.Operands.{operand_at}
 use Rattle.cs_signal.specs.Pace.{Pace}
 use Rattle.cs_signal.specs.declared.operand.Operand.{Operand}
 use Rattle.cs_signal.specs.Samphold.{samphold_of, samphold_start, samphold_step, SampholdStands}
-use Rattle.cs_osc.specs.Oscil.{oscil_of, oscil_start, oscil_step, OscilStands}
-use Rattle.cs_osc.specs.Oscili.{oscili_of, oscili_start, oscili_step, OsciliStands}
-use Rattle.cs_osc.specs.Phasor.{phasor_of, phasor_start, phasor_step, PhasorStands}
-use Rattle.cs_osc.specs.Table.{table_of, table_start, table_step, TableStands}
-use Rattle.cs_osc.specs.Tablei.{tablei_of, tablei_start, tablei_step, TableiStands}
+use Rattle.cs_ugen.specs.Oscil.{oscil_of, oscil_start, oscil_step, OscilStands}
+use Rattle.cs_ugen.specs.Oscili.{oscili_of, oscili_start, oscili_step, OsciliStands}
+use Rattle.cs_ugen.specs.Phasor.{phasor_of, phasor_start, phasor_step, PhasorStands}
+use Rattle.cs_ugen.specs.Table.{table_of, table_start, table_step, TableStands}
+use Rattle.cs_ugen.specs.Tablei.{tablei_of, tablei_start, tablei_step, TableiStands}
 use Rattle.cs_ugen.specs.declared.unit.Kind.{Kind}
 use Rattle.cs_ugen.specs.declared.unit.Kind.TheVariants as unit
 

@@ -5,9 +5,9 @@ ghost use Rattle.cs_signal.specs.Operands.{Lasts, operand_at};
 ghost use Rattle.cs_signal.specs.Steps.{run};
 ghost use Rattle.cs_ugen.specs.Units.{inputs_at, moving_count, opcode_of, reads_table, unit_step};
 
+use crate::Curve;
 use crate::unit::{Kind, Unit};
 use cs_base::Num;
-use cs_osc::Curve;
 use cs_signal::Operand;
 
 impl Unit {

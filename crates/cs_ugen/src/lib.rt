@@ -1,19 +1,40 @@
-//! The unit generators by opcode: one type for the state of any opcode of a note.
+//! The unit generators by opcode: what turns, what reads a table's points, and one type for the state of any opcode of a note.
 //!
-//! The one contract: `start`, `step` and `block` are `unit_start`, `unit_step` and the run of steps (specs/Units.antt),
-//! and `units_meet_their_formulas` says that these answer `gen`, the formula of an opcode over all inputs so far. Starting
-//! takes all memory, no step takes any. How the states lie in one type, and which loop runs a block, may be changed
-//! without anyone above noticing; `gen` and `Stands` may not.
+//! The one contract: `start`, `step` and `block` are `unit_start`, `unit_step` and the run of steps (specs/Units.antt), and
+//! `units_meet_their_formulas` says that these answer `gen`, the formula of an opcode over all inputs so far. A table is read
+//! through a `Curve`, which no call changes. Only a start can fail for want of memory, no step can. How a phase is kept, how the
+//! states lie in one type, and which loop runs a block, may be changed without anyone above noticing; `gen`, the formulas and
+//! `Stands` may not.
 //!
-//! Modules in reading order: `unit` (the type, and its start), `step` (one step), `block` (a whole vector of steps in
-//! one call), `laws`.
+//! Modules in reading order: `phase` (what turns), `curve` (what is read), `frozen` (a table that stays as it was made); a module
+//! an opcode: `phasor`, `oscil`, `oscili`, `table`, `tablei`; `oscillator_laws`; `unit` (the type, and its start), `step` (one
+//! step), `block` (a whole vector of steps in one call), `laws`.
 #![tactic(auto)]
 
 mod block;
+mod curve;
+mod frozen;
 mod laws;
+mod oscil;
+mod oscili;
+mod oscillator_laws;
+mod phase;
+mod phasor;
 mod step;
+mod table;
+mod tablei;
 mod unit;
 
 pub use cs_signal::delay_samples;
+pub use curve::Curve;
+pub use frozen::Frozen;
 pub use laws::{blocks_meet_their_formulas, units_meet_their_formulas};
+pub use oscil::Oscil;
+pub use oscili::Oscili;
+pub use oscillator_laws::{
+    made_tables_are_curves, oscillators_meet_their_formulas, steps_worked_by_hand,
+};
+pub use phasor::Phasor;
+pub use table::Table;
+pub use tablei::Tablei;
 pub use unit::Unit;

@@ -3,9 +3,9 @@ ghost use Rattle.std.specs.Prelude.{◌≡◌, ◌++◌, true, false, length};
 ghost use Rattle.cs_signal.specs.Biquad.{biquad_step};
 ghost use Rattle.cs_ugen.specs.Units.{moving_count, opcode_of, reads_table, unit_step};
 
+use crate::Curve;
 use crate::unit::{Kind, Unit};
 use cs_base::Num;
-use cs_osc::Curve;
 use cs_signal::{Biquad, argument};
 
 impl Unit {

@@ -1,10 +1,10 @@
 // A unit of any opcode.
 ghost use Rattle.std.specs.Prelude.{◌≡◌, IfOk, OnErr, true};
 ghost use Rattle.cs_signal.specs.Pace.{pace_of};
-ghost use Rattle.cs_ugen.specs.Units.{IsUnitOpcode, opcode_of, takes_memory, unit_start};
+ghost use Rattle.cs_ugen.specs.Units.{IsUnitOpcode, takes_memory, unit_start};
 
+use crate::{Oscil, Oscili, Phasor, Table, Tablei};
 use cs_base::{Head, Num, OutOfMemory, Rate};
-use cs_osc::{Oscil, Oscili, Phasor, Table, Tablei};
 use cs_signal::{
     Biquad, Delay, Diff, Downsamp, Integ, Interp, Limit, Line, Linen, Linseg, Samphold,
 };
@@ -109,30 +109,6 @@ impl Unit {
                 kind: Kind::Downsamp(Downsamp::start()),
             }),
             _ => unreachable!(),
-        }
-    }
-
-    /// Its opcode.
-    pub fn opcode(&self) -> Opcode
-        ensures { result ≡ opcode_of self.now }
-    {
-        match &self.kind {
-            Kind::Oscil(_) => Opcode::Oscil,
-            Kind::Oscili(_) => Opcode::Oscili,
-            Kind::Phasor(_) => Opcode::Phasor,
-            Kind::Line(_) => Opcode::Line,
-            Kind::Linseg(_) => Opcode::Linseg,
-            Kind::Linen(_) => Opcode::Linen,
-            Kind::Delay(_) => Opcode::Delay,
-            Kind::Biquad(_) => Opcode::Biquad,
-            Kind::Table(_) => Opcode::Table,
-            Kind::Tablei(_) => Opcode::Tablei,
-            Kind::Integ(_) => Opcode::Integ,
-            Kind::Diff(_) => Opcode::Diff,
-            Kind::Samphold(_) => Opcode::Samphold,
-            Kind::Limit(_) => Opcode::Limit,
-            Kind::Interp(_) => Opcode::Interp,
-            Kind::Downsamp(_) => Opcode::Downsamp,
         }
     }
 }

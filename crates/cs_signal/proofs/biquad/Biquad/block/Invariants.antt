@@ -1,7 +1,7 @@
 use Rattle.std.proofs.Common.{◌∷◌, [], length}
 use Rattle.cs_signal.specs.Operands.{operand_at}
 use Rattle.cs_signal.specs.Biquad.{biquad_step}
-use Rattle.cs_signal.specs.inner.Walk.{HasRun}
+use Rattle.cs_signal.specs.Walk.{HasRun}
 use Rattle.cs_signal.proofs.biquad.Biquad.block.Given as goal
 
 abbrev pub invariant-loop-j : goal.invariant-loop-j

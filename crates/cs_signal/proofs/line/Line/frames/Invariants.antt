@@ -1,6 +1,6 @@
 use Rattle.std.proofs.Common.{[], length}
 use Rattle.cs_signal.specs.Line.{line_step}
-use Rattle.cs_signal.specs.inner.Walk.{HasRun}
+use Rattle.cs_signal.specs.Walk.{HasRun}
 use Rattle.cs_signal.proofs.line.Line.frames.Given as goal
 
 abbrev pub invariant-loop-j : goal.invariant-loop-j

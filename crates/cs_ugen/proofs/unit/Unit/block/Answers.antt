@@ -2,7 +2,7 @@ use Rattle.std.proofs.Common.{length, refl, ap, sym, ◌∙◌}
 use Rattle.cs_ugen.specs.Units.{inputs_at, moving_count, opcode_of}
 use Rattle.cs_ugen.specs.declared.unit.Kind.TheVariants as unit
 use Rattle.cs_ugen.proofs.Blocks.{as_block, none, one, seven, three, two}
-use Rattle.cs_osc.specs.Phasor.{phasor_step}
+use Rattle.cs_ugen.specs.Phasor.{phasor_step}
 use Rattle.cs_signal.specs.Line.{line_step}
 use Rattle.cs_signal.specs.Linseg.{linseg_step}
 use Rattle.cs_signal.specs.Linen.{linen_step}

@@ -2,10 +2,10 @@ use Rattle.std.proofs.Common.{length, refl, ap, sym, ◌∙◌, ◌++◌}
 use Rattle.cs_ugen.specs.Units.{inputs_at, moving_count, opcode_of}
 use Rattle.cs_ugen.specs.declared.unit.Kind.TheVariants as unit
 use Rattle.cs_ugen.proofs.Blocks.{as_block, one, two}
-use Rattle.cs_osc.specs.Oscil.{oscil_step}
-use Rattle.cs_osc.specs.Oscili.{oscili_step}
-use Rattle.cs_osc.specs.Table.{table_step}
-use Rattle.cs_osc.specs.Tablei.{tablei_step}
+use Rattle.cs_ugen.specs.Oscil.{oscil_step}
+use Rattle.cs_ugen.specs.Oscili.{oscili_step}
+use Rattle.cs_ugen.specs.Table.{table_step}
+use Rattle.cs_ugen.specs.Tablei.{tablei_step}
 use Rattle.cs_ugen.proofs.unit.Unit.block_on.Goals.{in-Oscil, in-Oscili, in-Table, in-Tablei}
 use Rattle.cs_ugen.proofs.unit.Unit.block_on.Goals as goal
 

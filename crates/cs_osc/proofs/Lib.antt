@@ -1,6 +1,0 @@
-pub mod Curves
-pub mod Inputs
-pub mod Loops
-pub mod Oscillators
-pub mod Phases
-pub mod Quotients

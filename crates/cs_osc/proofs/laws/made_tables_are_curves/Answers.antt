@@ -1,5 +1,0 @@
-use Rattle.cs_osc.proofs.Curves.{made_len, made_curve}
-use Rattle.cs_osc.proofs.laws.made_tables_are_curves.Goals as goal
-
-pub returns : goal.returns
-returns c = record { length = made_len; curve = made_curve }

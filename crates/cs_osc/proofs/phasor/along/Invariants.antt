@@ -1,8 +1,0 @@
-use Rattle.std.proofs.Common.{◌∷◌, [], length}
-use Rattle.cs_osc.specs.Phasor.{phasor_step}
-use Rattle.cs_signal.specs.Operands.{argument}
-use Rattle.cs_signal.specs.inner.Walk.{HasRun}
-use Rattle.cs_osc.proofs.phasor.along.Given as goal
-
-abbrev pub invariant-loop-j : goal.invariant-loop-j
-invariant-loop-j l = HasRun phasor_step (λ j. argument l.cps j ∷ []) l.fn.unit (length l.fn.out) l.j l.unit l.out

@@ -1,9 +1,0 @@
-use Rattle.std.proofs.Common.{◌∷◌, [], ◌<◌, length}
-use Rattle.cs_osc.specs.Phases.{at_phase, turn}
-use Rattle.cs_osc.specs.Phasor.{phasor_step}
-use Rattle.cs_signal.specs.inner.Walk.{HasRun}
-use Rattle.cs_osc.proofs.phasor.held.Given as goal
-
-abbrev pub invariant-loop-j : goal.invariant-loop-j
-invariant-loop-j l =
-    HasRun phasor_step (λ j. l.fn.cps ∷ []) l.fn.unit (length l.fn.out) l.j (at_phase l.fn.unit l.phase) l.out × (l.phase < turn)

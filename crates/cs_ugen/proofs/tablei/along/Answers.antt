@@ -1,0 +1,30 @@
+use Rattle.std.proofs.Common.{length, refl, ◌∙◌}
+use Rattle.cs_ugen.specs.Tablei.{tablei_step}
+use Rattle.cs_signal.proofs.Walks.{HasRun_none, HasRun_step, HasRun_end}
+use Rattle.cs_ugen.proofs.Loops.{step_at}
+use Rattle.cs_ugen.proofs.tablei.along.Goals as goal
+
+pub loop-j-init : goal.loop-j-init
+loop-j-init g c = (
+  HasRun_none tablei_step _ c.args.unit.now (length c.args.out.now) c.args.out.now refl,
+  refl,
+  g.met.C.Curve.stays c.args.curve.now,
+)
+
+pub loop-j-preserved : goal.loop-j-preserved
+loop-j-preserved g c =
+    let so_far = c.loop-j.invariant in
+    let step = c.step_on.ensures in (
+      HasRun_step tablei_step _ c.args.unit.now (length c.args.out.now) c.loop-j.j c.loop-j.unit c.step_on.new.self c.loop-j.out c.step_on.result
+          so_far.0 c.loop-j-test.true (step_at tablei_step c.loop-j.unit c.at.result _ _ _ _ step.value c.at.ensures so_far.1),
+      step.same ∙ so_far.1,
+      g.met.C.Curve.chain c.args.curve.now c.loop-j.curve c.step_on.new.curve so_far.2 step.kept,
+    )
+
+pub returns : goal.returns
+returns g c =
+    let done = c.loop-j.invariant in record {
+      value = HasRun_end tablei_step _ c.args.unit.now (length c.args.out.now) c.loop-j.j c.loop-j.unit c.loop-j.out done.0 c.loop-j-test.false;
+      same = done.1;
+      kept = done.2;
+    }

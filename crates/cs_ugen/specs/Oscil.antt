@@ -1,0 +1,45 @@
+-- oscil: xamp, xcps, ifn [, iphs] reads a table as a wave, each point held until the next.
+use Rattle.std.specs.Prelude.{ℕ, ◌*◌, ◌/◌, List, drop, map, ℤ}
+use Rattle.cs_base.specs.Numbers.{product_of}
+use Rattle.cs_base.specs.declared.resource.Rate.{Rate}
+use Rattle.cs_signal.specs.Operands.{argument}
+use Rattle.cs_signal.specs.Pace.{Pace}
+use Rattle.cs_ugen.specs.Inputs.{before_last, last_of}
+use Rattle.cs_ugen.specs.Phases.{Turning, HasTurned, begun, turn, turned, phase_of}
+use Rattle.cs_ugen.specs.Points.{curve_len}
+
+-- the arguments of a step: amplitude, frequency, and the points of the table
+abbrev pub amplitude : List ℤ → ℤ
+amplitude x = argument x 0
+
+abbrev pub frequency : List ℤ → ℤ
+frequency x = argument x 1
+
+abbrev pub points : List ℤ → List ℤ
+points x = drop 2 x
+
+-- the starting phase, in turns: the settled argument after the table's number, or 0 where it isn't given
+abbrev pub start : List ℤ → ℤ
+start settled = argument settled 1
+
+-- the place of a phase in a curve, rounded down
+abbrev pub place_at : List ℤ → ℕ → ℕ
+place_at curve phase = phase * curve_len curve / turn
+
+-- the amplitude times the point at the phase's place
+abbrev pub held_wave : ℕ → List ℤ → ℤ
+held_wave phase x = product_of (amplitude x) (argument (points x) (place_at (points x) phase))
+
+-- the wave at the phase that the steps before have turned to
+unfoldable pub oscil_of : Rate → Pace → List ℤ → List (List ℤ) → ℤ
+oscil_of rate pace settled inputs =
+    held_wave (phase_of rate pace (start settled) (map frequency (before_last inputs))) (last_of inputs)
+
+abbrev pub oscil_start : Rate → Pace → List ℤ → Turning
+oscil_start rate pace settled = begun rate pace (start settled)
+
+abbrev pub oscil_step : Turning → List ℤ → Turning × ℤ
+oscil_step t x = (turned t (frequency x), held_wave t.phase x)
+
+abbrev pub OscilStands : Turning → Rate → Pace → List ℤ → List (List ℤ) → Type 0
+OscilStands t rate pace settled inputs = HasTurned t rate pace (start settled) (map frequency inputs)

@@ -1,0 +1,33 @@
+-- phasor: xcps [, iphs] gives a ramp from 0 to 1, once a turn.
+use Rattle.std.specs.Prelude.{ℕ, ◌/◌, List, map, ℤ, pos}
+use Rattle.cs_base.specs.declared.resource.Rate.{Rate}
+use Rattle.cs_signal.specs.Operands.{argument}
+use Rattle.cs_signal.specs.Pace.{Pace}
+use Rattle.cs_ugen.specs.Inputs.{before_last}
+use Rattle.cs_ugen.specs.Phases.{Turning, HasTurned, begun, turned, phase_of}
+
+-- the frequency of a step: its first argument
+abbrev pub frequency : List ℤ → ℤ
+frequency x = argument x 0
+
+-- the starting phase, in turns: the settled argument, or 0 where it isn't given
+abbrev pub start : List ℤ → ℤ
+start settled = argument settled 0
+
+-- a phase in 65,536ths of a turn
+abbrev pub ramp : ℕ → ℤ
+ramp phase = pos (phase / 256)
+
+-- the ramp at the phase that the steps before have turned to
+unfoldable pub phasor_of : Rate → Pace → List ℤ → List (List ℤ) → ℤ
+phasor_of rate pace settled inputs =
+    ramp (phase_of rate pace (start settled) (map frequency (before_last inputs)))
+
+abbrev pub phasor_start : Rate → Pace → List ℤ → Turning
+phasor_start rate pace settled = begun rate pace (start settled)
+
+abbrev pub phasor_step : Turning → List ℤ → Turning × ℤ
+phasor_step t x = (turned t (frequency x), ramp t.phase)
+
+abbrev pub PhasorStands : Turning → Rate → Pace → List ℤ → List (List ℤ) → Type 0
+PhasorStands t rate pace settled inputs = HasTurned t rate pace (start settled) (map frequency inputs)

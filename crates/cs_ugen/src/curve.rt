@@ -1,0 +1,108 @@
+// What is read: the points of a table, with the guard point behind the last of them.
+ghost use Rattle.std.specs.Prelude.{◌≡◌, ◌<◌, ◌^◌, ◌≤◌, ℤ, pos, ◌-ℤ◌, ◌*ℤ◌, unsigned_abs, List};
+ghost use Rattle.std.specs.Int.{int_rem_euclid};
+ghost use Rattle.cs_base.specs.Numbers.{IsRaw, floor_div};
+ghost use Rattle.cs_gen.specs.Tables.{curve_of};
+ghost use Rattle.cs_ugen.specs.Points.{IsCurve, between_points, curve_len, on_the_way};
+ghost use Rattle.cs_signal.specs.Operands.{argument};
+
+use cs_base::Num;
+
+/// A table as a unit reads it: `len` points and behind them the guard point, which no call changes. What a curve
+/// stands on, such as cells that it reads, stays as it is too.
+pub trait Curve {
+    /// The points, the guard point last.
+    ghost points: { Self → List ℤ };
+
+    /// What it stands on is as it was.
+    ghost kept: { Self → Self → Type 0 };
+
+    /// How many points it has before the guard point: a power of two from 2 to 65,536.
+    fn len(&self) -> u32
+        ensures value { result ≡ curve_len (points self.now) }
+        ensures curve { IsCurve (points self.now) };
+
+    /// The point at a place from 0 to `len`, that at `len` being the guard point.
+    fn at(&mut self, place: u32) -> Num
+        requires { place ≤ curve_len (points self.old) }
+        ensures value { result ≡ argument (points self.old) place }
+        ensures same { points self.new ≡ points self.old }
+        ensures kept { kept self.old self.new };
+
+    ghost stays: { (x : Self) → kept x x };
+
+    ghost chain: { (x y z : Self) → kept x y → kept y z → kept x z };
+}
+
+/// How many points a curve has before its guard point: from 2 to 65,536.
+#[inline(always)]
+pub(crate) fn len_of<C: Curve>(curve: &C) -> u32
+    ensures value { result ≡ curve_len (C.points curve.now) }
+    ensures least { 2 ≤ result }
+    ensures most { result ≤ 65536 }
+{
+    curve.len()
+}
+
+/// The curve between the point at a place and the next, so many 65,536ths of the way.
+#[inline(always)]
+#[tactic(auto, unfolding(crate::specs::Points::between_points))]
+pub(crate) fn between_points<C: Curve>(curve: &mut C, place: u32, fraction: u32) -> Num
+    requires place { place < curve_len (C.points curve.old) }
+    requires few { curve_len (C.points curve.old) ≤ 65536 }
+    requires fraction { fraction < 65536 }
+    ensures value { result ≡ between_points (C.points curve.old) place fraction }
+    ensures same { C.points curve.new ≡ C.points curve.old }
+    ensures kept { C.kept curve.old curve.new }
+{
+    let here = curve.at(place);
+    let next = curve.at(place + 1);
+    on_the_way(here, next, fraction)
+}
+
+#[inline(always)]
+fn on_the_way(here: Num, next: Num, fraction: u32) -> Num
+    requires { fraction < 65536 }
+    ensures { result ≡ on_the_way here next fraction }
+{
+    let difference = next.raw() - here.raw();
+    moved(
+        here,
+        next,
+        fraction,
+        upper(difference, fraction) + lower(difference, fraction),
+    )
+}
+
+// The value here and so much more, which lies between here and the next.
+#[inline(always)]
+fn moved(here: Num, next: Num, fraction: u32, part: i64) -> Num
+    requires fraction { fraction < 65536 }
+    requires here { IsRaw here }
+    requires next { IsRaw next }
+    requires part { part ≡ floor_div ((next -ℤ here) *ℤ pos fraction) (pos 65536) }
+    ensures { result ≡ on_the_way here next fraction }
+{
+    Num::exact(here.raw() + part)
+}
+
+// So many 65,536ths of a difference, rounded down, are those of its upper bits and those of its lower sixteen: in two
+// parts, so that each product is within 64 bits.
+#[inline(always)]
+fn upper(difference: i64, fraction: u32) -> i64
+    requires fraction { fraction < 65536 }
+    requires bounded { unsigned_abs difference < 2 ^ 48 }
+    ensures value { result ≡ floor_div difference (pos 65536) *ℤ pos fraction }
+    ensures bounded { unsigned_abs result < 2 ^ 49 }
+{
+    difference.div_euclid(65536) * i64::from(fraction)
+}
+
+#[inline(always)]
+fn lower(difference: i64, fraction: u32) -> i64
+    requires { fraction < 65536 }
+    ensures value { result ≡ floor_div (int_rem_euclid difference (pos 65536) *ℤ pos fraction) (pos 65536) }
+    ensures bounded { unsigned_abs result < 65536 }
+{
+    (difference.rem_euclid(65536) * i64::from(fraction)).div_euclid(65536)
+}

@@ -1,0 +1,87 @@
+// `phasor`: a ramp from 0 to 1, once a turn.
+ghost use Rattle.std.specs.Prelude.{◌≡◌, ◌<◌, ◌∷◌, [], length};
+ghost use Rattle.cs_ugen.specs.Phases.{turn};
+ghost use Rattle.cs_ugen.specs.Phasor.{phasor_start, phasor_step, ramp};
+ghost use Rattle.cs_signal.specs.Operands.{argument, operand_at, Lasts};
+ghost use Rattle.cs_signal.specs.Pace.{pace_of};
+ghost use Rattle.cs_signal.specs.Steps.{run};
+
+use crate::phase::{Phase, moved};
+use cs_base::{Head, Num, Rate};
+use cs_signal::{Operand, argument};
+use std::marker::Model;
+
+/// A `phasor` of a note.
+#[derive(Drop)]
+pub struct Phasor {
+    phase: Phase,
+}
+
+impl Model for Phasor {
+    ghost use Rattle.cs_ugen.specs.Phases.{Turning};
+
+    ghost Value = { Turning };
+
+    ghost view = { λ unit. unit.phase };
+}
+
+impl Phasor {
+    /// One that has no step behind it. Settled: the starting phase in turns, or nothing.
+    pub fn start(rate: Rate, head: &Head, init: &[Num]) -> Phasor
+        ensures { result ≡ phasor_start rate (pace_of head.now) init.now }
+    {
+        Phasor {
+            phase: Phase::start(rate, head, argument(init, 0)),
+        }
+    }
+
+    /// One step at this frequency.
+    pub fn step(&mut self, cps: Num) -> Num
+        ensures { (self.new, result) ≡ phasor_step self.old (cps ∷ []) }
+    {
+        ramp(self.phase.turn(cps))
+    }
+
+    /// A step for each frame of `out`.
+    pub fn block(&mut self, cps: &Operand, out: &mut [Num])
+        requires { Lasts (length out.old) cps.now }
+        ensures { (self.new, out.new)
+            ≡ run phasor_step (λ j. operand_at cps.now j ∷ []) self.old 0 (length out.old) }
+    {
+        match cps {
+            Operand::Held(cps) => held(self, *cps, out),
+            Operand::Row(row) => along(self, row, out),
+        }
+    }
+}
+
+fn held(unit: &mut Phasor, cps: Num, out: &mut [Num])
+    ensures { (unit.new, out.new) ≡ run phasor_step (λ j. cps ∷ []) unit.old 0 (length out.old) }
+{
+    let parts = unit.phase.hold(cps);
+    let mut phase = unit.phase.get();
+    for j in 0..out.len() {
+        out[j] = ramp(phase);
+        phase = moved(phase, parts);
+    }
+    unit.phase.set(phase);
+}
+
+fn along(unit: &mut Phasor, cps: &[Num], out: &mut [Num])
+    requires { length cps.now ≡ length out.old }
+    ensures { (unit.new, out.new)
+        ≡ run phasor_step (λ j. argument cps.now j ∷ []) unit.old 0 (length out.old) }
+{
+    for j in 0..out.len() {
+        out[j] = unit.step(cps[j]);
+    }
+}
+
+// A phase in 65,536ths of a turn.
+#[inline(always)]
+fn ramp(phase: u32) -> Num
+    requires { phase < turn }
+    ensures { result ≡ ramp phase }
+{
+    Num::exact(i64::from(phase / 256))
+}
