@@ -1,5 +1,5 @@
 -- Instruments and their numbers.
-use Rattle.std.specs.Prelude.{ℕ, List, [], ◌∷◌, Option, Some, None, map, ◌==◌, if◌then◌else◌}
+use Rattle.std.specs.Prelude.{ℕ, List, map}
 use Rattle.cs_ir.specs.declared.op.Code.{Code}
 
 -- An instrument: its number, what a note of it runs as it begins, and what it runs in each control cycle.
@@ -10,8 +10,3 @@ pub record Numbered : Type 0 where
 
 abbrev pub numbers_of : List Numbered → List ℕ
 numbers_of list = map (λ (i : Numbered). i.number) list
-
--- the instrument of a number, where there is one
-abbrev pub numbered : ℕ → List Numbered → Option Numbered
-numbered n [] = None
-numbered n (i ∷ rest) = if i.number == n then Some i else numbered n rest

@@ -1,9 +1,9 @@
-// Instruments, and how one is found by its number.
-ghost use Rattle.std.specs.Prelude.{◌≡◌, true, IfOk, IfSome, Some, None, IsNone};
+// Instruments, by their numbers.
+ghost use Rattle.std.specs.Prelude.{◌≡◌, true, IfOk};
 ghost use Rattle.std.specs.List.Sorted.{IsPermutation, IsStrictlyIncreasing};
 ghost use Rattle.std.specs.List.{IsDistinct};
 ghost use Rattle.std.specs.Prelude.{eqb};
-ghost use Rattle.cs_ir.specs.Instruments.{numbered, numbers_of};
+ghost use Rattle.cs_ir.specs.Instruments.{numbers_of};
 ghost use Rattle.cs_ir.specs.Validity.{valid};
 
 use crate::{Code, ValidCode};
@@ -87,12 +87,11 @@ impl Instrument {
 /// The instruments of an orchestra, by ascending number.
 #[derive(Drop)]
 pub struct Instruments {
-    numbers: Vec<u32>,
     items: Vec<Instrument>,
 }
 
 impl Model for Instruments {
-    ghost use Rattle.std.specs.Prelude.{◌≡◌, List};
+    ghost use Rattle.std.specs.Prelude.{List};
     ghost use Rattle.std.specs.List.Sorted.{IsStrictlyIncreasing};
     ghost use Rattle.cs_ir.specs.Instruments.{Numbered, numbers_of};
 
@@ -100,19 +99,18 @@ impl Model for Instruments {
 
     ghost view = { λ l. l.items.items };
 
-    ghost invariant = { λ l. (l.numbers.items ≡ numbers_of l.items.items) × IsStrictlyIncreasing (numbers_of l.items.items) };
+    ghost invariant = { λ l. IsStrictlyIncreasing (numbers_of l.items.items) };
 }
 
 impl Instruments {
     /// Instruments in any order, no two of one number, brought into the order of their numbers.
-    pub fn of(alloc: Global, mut items: Vec<Instrument>) -> Result<Instruments, OutOfMemory>
+    pub fn of(mut items: Vec<Instrument>) -> Instruments
         requires { IsDistinct eqb (numbers_of items.items) }
-        ensures same { IfOk result (λ l. IsPermutation items.items l) }
-        ensures ascending { IfOk result (λ l. IsStrictlyIncreasing (numbers_of l)) }
+        ensures same { IsPermutation items.items result }
+        ensures ascending { IsStrictlyIncreasing (numbers_of result) }
     {
         items.sort_unstable_by_key(|item: &Instrument| item.number());
-        let numbers = numbers_of(alloc, &items)?;
-        Ok(Instruments { numbers, items })
+        Instruments { items }
     }
 
     /// All of them, by ascending number.
@@ -122,25 +120,4 @@ impl Instruments {
     {
         &self.items
     }
-
-    /// The instrument of a number.
-    pub fn find(&self, number: u32) -> Option<&Instrument>
-        ensures found { IfSome result (λ i. numbered number self.now ≡ Some i.now) }
-        ensures none { IsNone result → numbered number self.now ≡ None }
-    {
-        match self.numbers.binary_search(&number) {
-            Ok(place) => Some(&self.items[place]),
-            Err(_) => None,
-        }
-    }
-}
-
-fn numbers_of(alloc: Global, items: &[Instrument]) -> Result<Vec<u32>, OutOfMemory>
-    ensures { IfOk result (λ v. v.items ≡ numbers_of items.now) }
-{
-    let mut numbers = Vec::with_capacity(alloc, items.len())?;
-    for item in items {
-        numbers.push(item.number)?;
-    }
-    Ok(numbers)
 }

@@ -3,7 +3,7 @@
 //! Its one contract: `Code::check` takes exactly the codes that can be run (specs/Validity.antt), and hands back any
 //! other; all that runs a code may rely on it. What a code does is the fold over its ops in specs/Machine.antt, in any
 //! world (specs/Worlds.antt); which of what notes share it may touch is specs/Resources.antt. How operands are stored
-//! and how an instrument is found may be changed without anyone above noticing.
+//! and how instruments are kept may be changed without anyone above noticing.
 //!
 //! To be read in this order: `register`, `operands`, `op` (what code is made of), `validity` (which code can be run),
 //! `instrument` (codes under numbers), `ask` (a note that a note asks for), `value` (operators and functions), `laws`.

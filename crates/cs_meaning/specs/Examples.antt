@@ -24,7 +24,7 @@ use Rattle.cs_meaning.specs.Plain.{Cause, Plain, Piece, plain, fresh, next_cycle
 abbrev eighths : ℤ → ℕ
 eighths t = unsigned_abs (floor_div (t *ℤ pos 8) scale)
 
--- a piece of eight frames a second and four a cycle, with one channel, without tables and generators, whose notes have 7 in each field, whose notes have 7 in each field
+-- a piece of eight frames a second and four a cycle, with one channel, without tables and generators, whose notes have 7 in each field
 abbrev pub small_piece : ℕ → ℕ → Piece
 small_piece zak_k zak_a = record {
   head = record { sr = 8; ksmps = 4; nchnls = 1; dbfs = pos (32768 * 65536) };

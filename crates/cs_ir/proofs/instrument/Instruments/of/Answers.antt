@@ -10,8 +10,6 @@ returns-clause-ascending c =
     (sorted _ (IsNonDecreasingBy-from_sort_by_key (λ (i : Numbered). i.number) _ c.sort_unstable_by_key.ensures.sorted (λ a r q k. search rules))) c.requires
 
 pub invariant_of-result : goal.invariant_of-result
-invariant_of-result c = (
-  search (rules, c.in_ok-numbers.ensures, c.deref.ensures.value),
-  rising c.args.items.items _ c.sort_unstable_by_key.ensures.permutation
-      (sorted _ (IsNonDecreasingBy-from_sort_by_key (λ (i : Numbered). i.number) _ c.sort_unstable_by_key.ensures.sorted (λ a r q k. search rules))) c.requires,
-)
+invariant_of-result c =
+    rising c.args.items.items _ c.sort_unstable_by_key.ensures.permutation
+    (sorted _ (IsNonDecreasingBy-from_sort_by_key (λ (i : Numbered). i.number) _ c.sort_unstable_by_key.ensures.sorted (λ a r q k. search rules))) c.requires

@@ -1,5 +1,0 @@
-pub mod Course
-pub mod Examples
-pub mod Heard
-pub mod Moments
-pub mod Starts

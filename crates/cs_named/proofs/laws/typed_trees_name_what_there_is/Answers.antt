@@ -1,5 +1,0 @@
-use Rattle.cs_named.proofs.Named.{orchestra_named}
-use Rattle.cs_named.proofs.laws.typed_trees_name_what_there_is.Goals as goal
-
-pub returns : goal.returns
-returns c = orchestra_named

@@ -1,0 +1,30 @@
+-- Performances worked out with the formulas of times and tables opened.
+use Rattle.std.proofs.Common.{◌≡◌, ◌++◌, refl}
+use Rattle.cs_gen.specs.Points.{plain_point, point, points_of}
+use Rattle.cs_ugen.specs.Table.{table_of}
+use Rattle.cs_ugen.specs.Units.{gen}
+use Rattle.cs_meaning.specs.Examples.{each, whole}
+use Rattle.cs_tempo.specs.Time.{cycle_of}
+use Rattle.cs_piece_meaning.specs.Course.{closing}
+use Rattle.cs_piece_meaning.specs.Heard.{frames_of}
+use Rattle.cs_piece_meaning.specs.OrderExamples.{asked_in_its_cycle, refused_late, table_made_twice}
+
+pub made_again : frames_of table_made_twice ≡ each (whole 5) ++ each (whole 9)
+unfolding gen table_of points_of point plain_point
+made_again = refl
+
+pub asked : frames_of asked_in_its_cycle ≡ each (whole 0) ++ (each (whole 7) ++ each (whole 0))
+unfolding cycle_of
+asked = refl
+
+pub refused : frames_of refused_late ≡ each (whole 9) ++ each (whole 0)
+unfolding cycle_of
+refused = refl
+
+pub refused_started : (closing refused_late).started ≡ 1
+unfolding cycle_of
+refused_started = refl
+
+pub refused_counted : (closing refused_late).not_started ≡ 1
+unfolding cycle_of
+refused_counted = refl

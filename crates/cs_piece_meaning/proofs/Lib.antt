@@ -1,0 +1,10 @@
+pub mod Asked
+pub mod Computed
+pub mod Following
+pub mod Full
+pub mod Initial
+pub mod Lists
+pub mod Standing
+pub mod Steps
+pub mod Unended
+pub mod Waits

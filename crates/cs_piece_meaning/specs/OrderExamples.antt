@@ -1,0 +1,69 @@
+-- Small performances whose order can be heard: eight frames a second, four a control cycle, one channel.
+use Rattle.std.specs.Prelude.{ℕ, pos, negsuc, [], ◌∷◌, None, false}
+use Rattle.cs_base.specs.declared.resource.Rate.TheVariants as rate
+use Rattle.cs_base.specs.declared.resource.Res.TheVariants as res
+use Rattle.cs_words.specs.declared.catalogue.Opcode.TheVariants as op
+use Rattle.cs_words.specs.declared.sign.BinOp.TheVariants as sign
+use Rattle.cs_typed.specs.TypedTree.{number, var, field, pair, value, Expression, Statement, set, call, choose, Block as Statements, no_stmt, andthen, otherwise, arm}
+use Rattle.cs_typed.specs.declared.tree.Var.TheVariants.{Local, Global}
+use Rattle.cs_meaning.specs.Examples.{counting, no_code, telling, whole, zeros}
+use Rattle.cs_tempo.specs.declared.plot.Event.{Event}
+use Rattle.cs_tempo.specs.declared.plot.EventAct.TheVariants as act
+use Rattle.cs_piece_meaning.specs.Examples.{note, piece_of_two, sounding_p4}
+use Rattle.cs_piece_meaning.specs.Moments.{Composition}
+
+abbrev lit : ℕ → Expression
+lit n = number rate.Init (whole n)
+
+abbrev first : Statement → Statements → Statements
+first s rest = andthen s rest
+
+-- if p4 == 1 then gk1 = gk1 + 1 else a1 = gk1, out a1
+abbrev pub counting_or_telling : Statements
+counting_or_telling =
+    first (choose 4 rate.Control (arm (pair rate.Init sign.Equal (field rate.Init 4) (lit 1)) counting (otherwise telling))) no_stmt
+
+-- two notes of one instrument over two cycles, with these p4, one started after the other
+abbrev pub two_of_one : ℕ → ℕ → Composition
+two_of_one p q = piece_of_two zeros counting_or_telling no_code (note 1 0 2 (whole p) ∷ note 1 0 2 (whole q) ∷ []) 2
+
+-- k1 table 0, 1; a1 = k1; out a1
+abbrev pub sounding_table : Statements
+sounding_table =
+    first (call 3 rate.Control (Local rate.Control 0 ∷ []) op.Table (value (lit 0) ∷ value (lit 1) ∷ []))
+    (first (set 4 rate.Audio (Local rate.Audio 0) (var rate.Control (Local rate.Control 0)))
+    (first (call 5 rate.Audio [] op.Out (value (var rate.Audio (Local rate.Audio 0)) ∷ [])) no_stmt))
+
+-- table 1 is made in a cycle, by GEN02 as it is given, four points of this height
+abbrev made : ℕ → ℕ → Event
+made at height = record {
+  cycle = at;
+  line = 1;
+  act = act.Table 1 (pos 4) (negsuc 1) (whole height ∷ whole height ∷ whole height ∷ whole height ∷ []);
+}
+
+-- a live table that is made in the first cycle, and again in the second, while a note reads it
+abbrev pub table_made_twice : Composition
+table_made_twice = record (piece_of_two no_code sounding_table no_code (made 0 5 ∷ note 1 0 2 (pos 0) ∷ made 1 9 ∷ []) 2) {
+  tables = record { number = 1; size = 4; frozen = None; present = false } ∷ [];
+}
+
+-- schedule 2, 0, .5, 7: a note that is asked for now
+abbrev asking_now : Statement
+asking_now =
+    call 3 rate.Init [] op.Schedule (value (lit 2) ∷ value (lit 0) ∷ value (number rate.Init (pos 32768)) ∷ value (lit 7) ∷ [])
+
+-- gk1 init 9; schedule 2, 0, .5, 7; a1 oscili 1, 1, 9: a table that isn't there
+abbrev pub asking_and_refused : Statements
+asking_and_refused =
+    first (call 2 rate.Init (Global (res.Gk 0) ∷ []) op.Init (value (lit 9) ∷ []))
+    (first asking_now
+    (first (call 4 rate.Audio (Local rate.Audio 0 ∷ []) op.Oscili (value (lit 1) ∷ value (lit 1) ∷ value (lit 9) ∷ [])) no_stmt))
+
+-- a note of the second cycle that asks for another of that cycle
+abbrev pub asked_in_its_cycle : Composition
+asked_in_its_cycle = piece_of_two no_code (first asking_now no_stmt) sounding_p4 (note 1 1 1 (pos 0) ∷ []) 3
+
+-- a note that is refused, behind what it wrote and asked for
+abbrev pub refused_late : Composition
+refused_late = piece_of_two zeros asking_and_refused telling (note 1 0 2 (pos 0) ∷ []) 2

@@ -1,9 +1,0 @@
-pub mod Computed
-pub mod Following
-pub mod Full
-pub mod Initial
-pub mod Lists
-pub mod Standing
-pub mod Steps
-pub mod Unended
-pub mod Waits

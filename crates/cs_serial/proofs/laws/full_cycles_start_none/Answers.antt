@@ -1,5 +1,0 @@
-use Rattle.cs_serial.proofs.Full.{full_starts_none}
-use Rattle.cs_serial.proofs.laws.full_cycles_start_none.Goals as goal
-
-pub returns : goal.returns
-returns c = full_starts_none

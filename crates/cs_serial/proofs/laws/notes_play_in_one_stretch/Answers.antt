@@ -1,5 +1,0 @@
-use Rattle.cs_serial.proofs.Following.{one_stretch}
-use Rattle.cs_serial.proofs.laws.notes_play_in_one_stretch.Goals as goal
-
-pub returns : goal.returns
-returns c = one_stretch

@@ -1,8 +1,0 @@
-use Rattle.cs_serial.proofs.Following.{comes, stays}
-use Rattle.cs_serial.proofs.laws.notes_play_until_their_end.Goals as goal
-
-pub returns-clause-stay : goal.returns-clause-stay
-returns-clause-stay c = stays
-
-pub returns-clause-come : goal.returns-clause-come
-returns-clause-come c = comes

@@ -1,0 +1,647 @@
+-- Expanded statements do what the statements do with frames.
+use Rattle.std.proofs.Common.{◌≡◌, ◌∙◌, ℕ, zero, suc, ◌+◌, ◌≤◌, ◌&&◌, Bool, true, false, if◌then◌else◌, List, [], ◌∷◌, map, Option, Some, None, arith, refl, sym, ap, subst}
+use Rattle.std.specs.Option.{option_or}
+use Rattle.std.specs.Str.{bytes_eq}
+use Rattle.cs_base.specs.Rates.{is_init}
+use Rattle.cs_base.specs.declared.resource.Rate.{Rate}
+use Rattle.cs_base.specs.declared.resource.Rate.TheVariants as rate
+use Rattle.cs_words.specs.Names.{name_rate}
+use Rattle.cs_grammar.specs.Tree.{Expression, Argument, value, text, Statement, set, add_to, call, choose, Block, no_stmt, andthen, joins, Arms, otherwise, arm, Definition}
+use Rattle.cs_typed.specs.TypedTree as typed
+use Rattle.cs_typed.specs.declared.tree.Var.{Var as Variable}
+use Rattle.cs_typing.specs.Statements.{all_init, choice_rate}
+use Rattle.cs_ir.specs.Values.{holds}
+use Rattle.cs_ir.specs.Waves.{Wave, if_init}
+use Rattle.cs_meaning.specs.Core as core
+use Rattle.cs_meaning.specs.Initialising as initial
+use Rattle.cs_meaning.specs.Initialising.{going, keep}
+use Rattle.cs_meaning.specs.Notes as note
+use Rattle.cs_meaning.specs.Notes.{Note, Place, past, past_parts, past_stmt, assign}
+use Rattle.cs_meaning.specs.Notes.{value as value_of}
+use Rattle.cs_meaning.specs.Performing as performing
+use Rattle.cs_udo.specs.Expanded.{Template, Opcodes, no_opcodes, assignments, value_in, called, after_called, after, after_block, after_arms, expanded, expanded_block, expanded_arms, whole_body, template, defining, defining_all}
+use Rattle.cs_udo.specs.Names.{in_frame, renamed, renamed_argument}
+use Rattle.cs_udo_meaning.specs.Frames.{Framed, seen_from, put_back, spot, Reading, variable_read, expression_read, read, past_copy, going_on, copied, init_copy, perf_copy, past_copies, init_copies, perf_copies, Action, Actions, no_actions, values_in, past_call, init_call, perf_call, past_any, init_any, perf_any, past_framed, past_block, past_arms, init_framed, init_block, init_first, init_all, perf_framed, perf_block, perf_arms, action, acting, acting_all}
+use Rattle.cs_udo_meaning.specs.Numbered.{Numbering, Tells, Variables, numbered, expression_by, statement_by, block_by, arms_by}
+use Rattle.cs_udo_meaning.specs.Stands.{own_name, Fits, Stands}
+use Rattle.cs_udo_meaning.proofs.Alike.{Alike, AlikeStmt, past_alike, past_stmt_alike, value_same, keep_same, init_same, perf_same, Agree}
+use Rattle.cs_udo_meaning.proofs.Fresh.{own_rate}
+use Rattle.cs_udo_meaning.proofs.Named.{Named, NamedAll, NamedArguments, NamedStmt, NamedBlock, NamedArms, any_names, any_arguments, any_block}
+use Rattle.cs_udo_meaning.proofs.Renamed.{KeepsRates, rate_kept, expression_renamed, set_renamed, add_renamed, call_renamed}
+use Rattle.cs_udo_meaning.proofs.Standing.{SameVariable, both_shared, variable_alike, expression_alike, set_alike, add_alike, plain_alike, Seen, to_seen, from_seen, seen_agree}
+
+-- ---- orders of frames
+
+chain : (a b c : ℕ) → a ≤ b → b ≤ c → a ≤ c
+chain a b c p q = omega (arith, p, q)
+
+one_further : (a b : ℕ) → a + 1 ≤ b → a ≤ b
+one_further a b h = omega (arith, h)
+
+abbrev GrowsIf : Option Template → Type 0
+GrowsIf None = Unit {0}
+GrowsIf (Some t) = (n : ℕ) → n ≤ t.after n
+
+pub record Grows (opcodes : Opcodes) : Type 0 where
+  pub each : (name : List ℕ) → GrowsIf (opcodes name)
+
+called_grows : (found : Option Template) → GrowsIf found → (n : ℕ) → n ≤ after_called n found
+called_grows None h n = omega arith
+called_grows (Some t) h n = h n
+
+mutual
+  pub after_grows : (opcodes : Opcodes) → Grows opcodes → (n : ℕ) (x : Statement) → n ≤ after opcodes n x
+  after_grows opcodes g n (set line x e) = omega arith
+  after_grows opcodes g n (add_to line x e) = omega arith
+  after_grows opcodes g n (call line xs name args) = called_grows (opcodes name) (g.each name) n
+  after_grows opcodes g n (choose line list) = after_arms_grows opcodes g n list
+
+  pub after_block_grows : (opcodes : Opcodes) → Grows opcodes → (n : ℕ) (b : Block) → n ≤ after_block opcodes n b
+  after_block_grows opcodes g n no_stmt = omega arith
+  after_block_grows opcodes g n (andthen x rest) =
+      chain n (after opcodes n x) (after_block opcodes (after opcodes n x) rest) (after_grows opcodes g n x)
+      (after_block_grows opcodes g (after opcodes n x) rest)
+
+  pub after_arms_grows : (opcodes : Opcodes) → Grows opcodes → (n : ℕ) (list : Arms) → n ≤ after_arms opcodes n list
+  after_arms_grows opcodes g n (otherwise b) = after_block_grows opcodes g n b
+  after_arms_grows opcodes g n (arm c b rest) =
+      chain n (after_block opcodes n b) (after_arms opcodes (after_block opcodes n b) rest) (after_block_grows opcodes g n b)
+      (after_arms_grows opcodes g (after_block opcodes n b) rest)
+
+-- ---- rates
+
+own_rates : (f : ℕ) → KeepsRates (own_name f)
+own_rates f = record { rate = own_rate f }
+
+all_init_kept : (opcodes : Opcodes) (f n : ℕ) (list : Arms) → all_init (expanded_arms opcodes (own_name f) n list) ≡ all_init list
+all_init_kept opcodes f n (otherwise b) = refl
+all_init_kept opcodes f n (arm c b rest) =
+    λ i. is_init (rate_kept (own_name f) (own_rates f) c i) && all_init_kept opcodes f (after_block opcodes n b) rest i
+
+choice_kept : (opcodes : Opcodes) (f n : ℕ) (list : Arms) → choice_rate (expanded_arms opcodes (own_name f) n list) ≡ choice_rate list
+choice_kept opcodes f n list = ap (λ b. if b then rate.Init else rate.Control) (all_init_kept opcodes f n list)
+
+-- ---- names of frames
+
+fits_inner : (n : ℕ) → 1 ≤ n → (x : List ℕ) → Fits n x
+fits_inner n h x = λ e. absurd (omega (arith, h, e))
+
+inner_name : (n : ℕ) → 1 ≤ n → own_name n ≡ in_frame n
+inner_name zero h = absurd (omega (arith, h))
+inner_name (suc n) h = refl
+
+results_in : (n : ℕ) (xs : List (List ℕ)) → map (value_in n) xs ≡ map (renamed_argument (in_frame n)) (values_in xs)
+results_in n [] = refl
+results_in n (x ∷ xs) = ap (λ l. value_in n x ∷ l) (results_in n xs)
+
+module _ {W : Type 0} (m : Reading W) (flat : Numbering) (tf : Tells flat) (to : Tells m.number) where
+  abbrev v : Variables
+  v = numbered m.shared flat
+
+  -- the expanded text, read by the numbers of its names
+  abbrev pub flat_block : Block → core.Block
+  flat_block b = core.core m.spaces (block_by m.shared (numbered m.shared flat) b)
+
+  abbrev pub flat_stmt : Statement → core.Stmt
+  flat_stmt x = core.core_stmt m.spaces (statement_by m.shared (numbered m.shared flat) x)
+
+  abbrev pub flat_arms : Arms → core.Arms
+  flat_arms list = core.core_arms m.spaces (arms_by m.shared (numbered m.shared flat) list)
+
+  abbrev pub Stand : Note W → Framed W → Type 0
+  Stand t u = Stands flat m.number t u
+
+  abbrev Same : ℕ → Variable → Variable → Type 0
+  Same f = SameVariable flat m.number f
+
+  -- ---- blocks one after another
+
+  past_joins : (p : Place) (a b : Block) → note.past_block p (flat_block (joins a b)) ≡ note.past_block (note.past_block p (flat_block a)) (flat_block b)
+  past_joins p no_stmt b = refl
+  past_joins p (andthen x rest) b = past_joins (past_stmt p (flat_stmt x)) rest b
+
+  init_joins : (p : Place) (a b : Block) (t : Note W)
+      → initial.init_block m.world p (flat_block (joins a b)) t
+      ≡ initial.init_block m.world (note.past_block p (flat_block a)) (flat_block b) (initial.init_block m.world p (flat_block a) t)
+  init_joins p no_stmt b t = refl
+  init_joins p (andthen x rest) b t = init_joins (past_stmt p (flat_stmt x)) rest b (initial.init_stmt m.world p (flat_stmt x) t)
+
+  perf_joins : (p : Place) (a b : Block) (t : Note W)
+      → performing.perf_block m.world p (flat_block (joins a b)) t
+      ≡ performing.perf_block m.world (note.past_block p (flat_block a)) (flat_block b) (performing.perf_block m.world p (flat_block a) t)
+  perf_joins p no_stmt b t = refl
+  perf_joins p (andthen x rest) b t = perf_joins (past_stmt p (flat_stmt x)) rest b (performing.perf_stmt m.world p (flat_stmt x) t)
+
+  -- ---- a statement without calls of defined opcodes
+
+  abbrev there : ℕ → Variables
+  there f x = v (own_name f x)
+
+  alike_variable : (f : ℕ) (x : List ℕ) → Fits f x → Same f (v (own_name f x)) (variable_read m x)
+  alike_variable f x fits = variable_alike m.shared flat m.number f x fits
+
+  alike_expression : (f : ℕ) (e : Expression) → Named (Fits f) e → Alike (Same f) (expression_by v (renamed (own_name f) e)) (expression_read m e)
+  alike_expression f e n =
+      subst (λ a. Alike (Same f) a (expression_read m e)) (sym (expression_renamed (own_name f) (own_rates f) v e))
+      (expression_alike (λ x. v (own_name f x)) (numbered m.shared m.number) (alike_variable f) both_shared e n)
+
+  alike_set : (f line : ℕ) (x : List ℕ) (e : Expression) → Fits f x → Named (Fits f) e
+      → AlikeStmt (Same f) (flat_stmt (set line (own_name f x) (renamed (own_name f) e))) (read m (set line x e))
+  alike_set f line x e n k =
+      subst (λ a. AlikeStmt (Same f) (core.core_stmt m.spaces a) (read m (set line x e))) (sym (set_renamed (own_name f) (own_rates f) m.shared v line x e))
+      (set_alike (λ y. v (own_name f y)) (numbered m.shared m.number) (alike_variable f) both_shared m.spaces m.shared line x e n k)
+
+  alike_add : (f line : ℕ) (x : List ℕ) (e : Expression) → Fits f x → Named (Fits f) e
+      → AlikeStmt (Same f) (flat_stmt (add_to line (own_name f x) (renamed (own_name f) e))) (read m (add_to line x e))
+  alike_add f line x e n k =
+      subst (λ a. AlikeStmt (Same f) (core.core_stmt m.spaces a) (read m (add_to line x e)))
+      (sym (add_renamed (own_name f) (own_rates f) m.shared v line x e))
+      (add_alike (λ y. v (own_name f y)) (numbered m.shared m.number) (alike_variable f) both_shared m.spaces m.shared line x e n k)
+
+  alike_call : (f line : ℕ) (xs : List (List ℕ)) (name : List ℕ) (args : List Argument) → NamedAll (Fits f) xs → NamedArguments (Fits f) args
+      → AlikeStmt (Same f) (flat_stmt (call line (map (own_name f) xs) name (map (renamed_argument (own_name f)) args))) (read m (call line xs name args))
+  alike_call f line xs name args n k =
+      subst (λ a. AlikeStmt (Same f) (core.core_stmt m.spaces a) (read m (call line xs name args)))
+      (sym (call_renamed (own_name f) (own_rates f) m.shared v line xs name args))
+      (plain_alike (λ y. v (own_name f y)) (numbered m.shared m.number) (alike_variable f) both_shared m.spaces m.shared line xs name args n k)
+
+  agree : (f : ℕ) (u : Framed W) → Agree m.world (Same f) (Seen flat m.number f u)
+  agree f u = seen_agree m.world flat m.number tf to f u
+
+  plain_init : (f : ℕ) (p : Place) (x : core.Stmt) (y : core.Stmt) (t : Note W) (u : Framed W) → AlikeStmt (Same f) x y → Stand t u
+      → Stand (initial.init_stmt m.world p x t) (put_back f (initial.init_stmt m.world p y (seen_from f u)) u)
+  plain_init f p x y t u a h =
+      from_seen flat m.number f (initial.init_stmt m.world p x t) (initial.init_stmt m.world p y (seen_from f u)) u
+      (init_same m.world (Same f) (Seen flat m.number f u) (agree f u) t (seen_from f u) (to_seen flat m.number f t u h) a p)
+
+  plain_perf : (f : ℕ) (p : Place) (x : core.Stmt) (y : core.Stmt) (t : Note W) (u : Framed W) → AlikeStmt (Same f) x y → Stand t u
+      → Stand (performing.perf_stmt m.world p x t) (put_back f (performing.perf_stmt m.world p y (seen_from f u)) u)
+  plain_perf f p x y t u a h =
+      from_seen flat m.number f (performing.perf_stmt m.world p x t) (performing.perf_stmt m.world p y (seen_from f u)) u
+      (perf_same m.world (Same f) (Seen flat m.number f u) (agree f u) t (seen_from f u) (to_seen flat m.number f t u h) a p)
+
+  -- ---- a value, what is kept of it, and a variable that takes it
+
+  value_stands : (f : ℕ) (a b : typed.Expression) (t : Note W) (u : Framed W) → Alike (Same f) a b → Stand t u → (whole : Bool) (n : ℕ)
+      → value_of m.world t whole n a ≡ value_of m.world (seen_from f u) whole n b
+  value_stands f a b t u k h whole n =
+      value_same m.world (Same f) (Seen flat m.number f u) (agree f u) t (seen_from f u) (to_seen flat m.number f t u h) k whole n n refl
+
+  keep_stands : (f : ℕ) (a b : typed.Expression) (t : Note W) (u : Framed W) → Alike (Same f) a b → Stand t u → (n : ℕ)
+      → Stand (keep m.world n a t) (put_back f (keep m.world n b (seen_from f u)) u)
+  keep_stands f a b t u k h n =
+      from_seen flat m.number f (keep m.world n a t) (keep m.world n b (seen_from f u)) u
+      (keep_same m.world (Same f) (Seen flat m.number f u) (agree f u) t (seen_from f u) (to_seen flat m.number f t u h) k n n refl)
+
+  assign_stands : (g : ℕ) (x y : Variable) (t : Note W) (u : Framed W) → Same g x y → Stand t u → (a b : Wave) → a ≡ b
+      → Stand (assign m.world x a t) (put_back g (assign m.world y b (seen_from g u)) u)
+  assign_stands g x y t u k h a b e =
+      subst (λ w. Stand (assign m.world x a t) (put_back g (assign m.world y w (seen_from g u)) u)) e
+      (from_seen flat m.number g (assign m.world x a t) (assign m.world y a (seen_from g u)) u
+      ((agree g u).assigns t (seen_from g u) (to_seen flat m.number g t u h) x y k a))
+
+  either_stands : (r : Rate) (t q : Note W) (u w : Framed W) → Stand t u → Stand q w → Stand (if_init r t q) (if_init r u w)
+  either_stands rate.Init t q u w h k = h
+  either_stands rate.Control t q u w h k = k
+  either_stands rate.Audio t q u w h k = k
+
+  going_stands : (t q : Note W) (u w : Framed W) → Stand t u → Stand q w → Stand (going m.world t q) (going_on m.world u w)
+  going_stands t q u w h k = subst (λ x. Stand (going m.world t q) (if m.world.refused x then u else w)) h.world (by (m.world.refused t.world))
+    where
+      by : (b : Bool) → Stand (if b then t else q) (if b then u else w)
+      by true = h
+      by false = k
+
+  -- the statement of the expanded text that gives a value of frame f to a variable of frame g
+  abbrev copy_of : ℕ → ℕ → ℕ → List ℕ → Expression → Statement
+  copy_of line f g x e = set line (own_name g x) (renamed (own_name f) e)
+
+  copy_past : (line f g : ℕ) (p : Place) (x : List ℕ) (e : Expression) → Named (Fits f) e → past_stmt p (flat_stmt (copy_of line f g x e)) ≡ past_copy m p x e
+  copy_past line f g p x e n =
+      λ i. past_parts (if_init (own_rate g x i) p.part (past_alike (alike_expression f e n) p.part p.part refl i)) p
+
+  copy_init : (line f g : ℕ) (p : Place) (x : List ℕ) (e : Expression) (t : Note W) (u : Framed W) → Fits g x → Named (Fits f) e → Stand t u
+      → Stand (initial.init_stmt m.world p (flat_stmt (copy_of line f g x e)) t) (init_copy m f g p x e u)
+  copy_init line f g p x e t u fits n h =
+      let a = expression_by v (renamed (own_name f) e) in
+      let b = expression_read m e in
+      let k = alike_expression f e n in
+      subst (λ r. Stand (initial.init_stmt m.world p (flat_stmt (copy_of line f g x e)) t)
+      (going_on m.world u (if_init r (copied m g x (value_of m.world (seen_from f u) true 0 b) u)
+      (put_back f (keep m.world p.part b (seen_from f u)) u)))) (own_rate g x)
+      (going_stands t _ u _ h
+      (either_stands (name_rate (own_name g x)) _ _ _ _
+      (assign_stands g (v (own_name g x)) (variable_read m x) t u (alike_variable g x fits) h _ _ (value_stands f a b t u k h true 0))
+      (keep_stands f a b t u k h p.part)))
+
+  copy_perf : (line f g : ℕ) (p : Place) (x : List ℕ) (e : Expression) (t : Note W) (u : Framed W) → Fits g x → Named (Fits f) e → Stand t u
+      → Stand (performing.perf_stmt m.world p (flat_stmt (copy_of line f g x e)) t) (perf_copy m f g p x e u)
+  copy_perf line f g p x e t u fits n h =
+      let a = expression_by v (renamed (own_name f) e) in
+      let b = expression_read m e in
+      let k = alike_expression f e n in
+      subst (λ r. Stand (performing.perf_stmt m.world p (flat_stmt (copy_of line f g x e)) t)
+      (if_init r u (copied m g x (value_of m.world (seen_from f u) false p.part b) u))) (own_rate g x)
+      (either_stands (name_rate (own_name g x)) t _ u _ h
+      (assign_stands g (v (own_name g x)) (variable_read m x) t u (alike_variable g x fits) h _ _ (value_stands f a b t u k h false p.part)))
+
+  -- ---- copies, one after another
+
+  abbrev copies_of : ℕ → ℕ → ℕ → List (List ℕ) → List Argument → Block
+  copies_of line f g xs args = assignments line (map (own_name g) xs) (map (renamed_argument (own_name f)) args)
+
+  copies_past : (line f g : ℕ) (p : Place) (xs : List (List ℕ)) (args : List Argument) → NamedArguments (Fits f) args
+      → note.past_block p (flat_block (copies_of line f g xs args)) ≡ past_copies m p xs args
+  copies_past line f g p [] [] n = refl
+  copies_past line f g p [] (a ∷ args) n = refl
+  copies_past line f g p (x ∷ xs) [] n = refl
+  copies_past line f g p (x ∷ xs) (text t ∷ args) n = refl
+  copies_past line f g p (x ∷ xs) (value e ∷ args) n =
+      ap (λ q. note.past_block q (flat_block (copies_of line f g xs args))) (copy_past line f g p x e n.0)
+      ∙ copies_past line f g (past_copy m p x e) xs args n.1
+
+  copies_init : (line f g : ℕ) (p : Place) (xs : List (List ℕ)) (args : List Argument) (t : Note W) (u : Framed W)
+      → NamedAll (Fits g) xs → NamedArguments (Fits f) args → Stand t u
+      → Stand (initial.init_block m.world p (flat_block (copies_of line f g xs args)) t) (init_copies m f g p xs args u)
+  copies_init line f g p [] [] t u fits n h = h
+  copies_init line f g p [] (a ∷ args) t u fits n h = h
+  copies_init line f g p (x ∷ xs) [] t u fits n h = h
+  copies_init line f g p (x ∷ xs) (text e ∷ args) t u fits n h = h
+  copies_init line f g p (x ∷ xs) (value e ∷ args) t u fits n h =
+      let now = initial.init_stmt m.world p (flat_stmt (copy_of line f g x e)) t in
+      subst (λ q. Stand (initial.init_block m.world q (flat_block (copies_of line f g xs args)) now)
+      (init_copies m f g (past_copy m p x e) xs args (init_copy m f g p x e u))) (sym (copy_past line f g p x e n.0))
+      (copies_init line f g (past_copy m p x e) xs args now (init_copy m f g p x e u) fits.1 n.1 (copy_init line f g p x e t u fits.0 n.0 h))
+
+  copies_perf : (line f g : ℕ) (p : Place) (xs : List (List ℕ)) (args : List Argument) (t : Note W) (u : Framed W)
+      → NamedAll (Fits g) xs → NamedArguments (Fits f) args → Stand t u
+      → Stand (performing.perf_block m.world p (flat_block (copies_of line f g xs args)) t) (perf_copies m f g p xs args u)
+  copies_perf line f g p [] [] t u fits n h = h
+  copies_perf line f g p [] (a ∷ args) t u fits n h = h
+  copies_perf line f g p (x ∷ xs) [] t u fits n h = h
+  copies_perf line f g p (x ∷ xs) (text e ∷ args) t u fits n h = h
+  copies_perf line f g p (x ∷ xs) (value e ∷ args) t u fits n h =
+      let now = performing.perf_stmt m.world p (flat_stmt (copy_of line f g x e)) t in
+      subst (λ q. Stand (performing.perf_block m.world q (flat_block (copies_of line f g xs args)) now)
+      (perf_copies m f g (past_copy m p x e) xs args (perf_copy m f g p x e u))) (sym (copy_past line f g p x e n.0))
+      (copies_perf line f g (past_copy m p x e) xs args now (perf_copy m f g p x e u) fits.1 n.1 (copy_perf line f g p x e t u fits.0 n.0 h))
+
+  -- ---- what a defined opcode does
+
+  pub record Acts (t : Template) (a : Action W) : Type 0 where
+    pub inputs : t.inputs ≡ a.inputs
+    pub results : t.results ≡ a.results
+    pub past : (p : Place) (n : ℕ) → 1 ≤ n → a.past (spot p n) ≡ spot (note.past_block p (flat_block (t.block n))) (t.after n)
+    pub init : (p : Place) (n : ℕ) → 1 ≤ n → (q : Note W) (u : Framed W) → Stand q u
+        → Stand (initial.init_block m.world p (flat_block (t.block n)) q) (a.init (spot p n) u)
+    pub perf : (p : Place) (n : ℕ) → 1 ≤ n → (q : Note W) (u : Framed W) → Stand q u
+        → Stand (performing.perf_block m.world p (flat_block (t.block n)) q) (a.perf (spot p n) u)
+
+  abbrev pub ActsIf : Option Template → Option (Action W) → Type 0
+  ActsIf None None = Unit {0}
+  ActsIf None (Some a) = ⊥
+  ActsIf (Some t) None = ⊥
+  ActsIf (Some t) (Some a) = Acts t a
+
+  pub record Act (opcodes : Opcodes) (env : Actions W) : Type 0 where
+    pub each : (name : List ℕ) → ActsIf (opcodes name) (env name)
+
+  -- ---- a call
+
+  called_is : (f n line : ℕ) (xs : List (List ℕ)) (name : List ℕ) (args : List Argument) (t : Template) (a : Action W) → 1 ≤ n → Acts t a
+      → called (own_name f) n line xs name args (Some t)
+      ≡ joins (copies_of line f n a.inputs args) (joins (t.block n) (copies_of line n f xs (values_in a.results)))
+  called_is f n line xs name args t a h k =
+      let inner_is = inner_name n h in
+      let given_results : map (value_in n) t.results ≡ map (renamed_argument (own_name n)) (values_in a.results) =
+      ap (λ l. map (value_in n) l) k.results ∙ results_in n a.results ∙ ap (λ g. map (renamed_argument g) (values_in a.results)) (sym inner_is) in
+      let inputs : map (in_frame n) t.inputs ≡ map (own_name n) a.inputs = ap (λ l. map (in_frame n) l) k.inputs ∙ ap (λ g. map g a.inputs) (sym inner_is) in
+      λ i. joins (assignments line (inputs i) (map (renamed_argument (own_name f)) args))
+      (joins (t.block n) (assignments line (map (own_name f) xs) (given_results i)))
+
+  call_past : (f n line : ℕ) (p : Place) (xs : List (List ℕ)) (name : List ℕ) (args : List Argument) (t : Template) (a : Action W) → 1 ≤ n → Acts t a
+      → NamedArguments (Fits f) args
+      → past_call m (spot p n) a xs args ≡ spot (note.past_block p (flat_block (called (own_name f) n line xs name args (Some t)))) (t.after n)
+  call_past f n line p xs name args t a h k named =
+      let given_values = values_in a.results in
+      let one = copies_of line f n a.inputs args in
+      let two = copies_of line n f xs given_values in
+      let ready = past_copies m p a.inputs args in
+      let body = note.past_block ready (flat_block (t.block n)) in
+      let moved : note.past_block p (flat_block (joins one (joins (t.block n) two))) ≡ past_copies m body xs given_values =
+      past_joins p one (joins (t.block n) two)
+      ∙ ap (λ q. note.past_block q (flat_block (joins (t.block n) two))) (copies_past line f n p a.inputs args named)
+      ∙ past_joins ready (t.block n) two
+      ∙ copies_past line n f body xs given_values (any_arguments (Fits n) (fits_inner n h) given_values) in
+      ap (λ q. spot (past_copies m q.place xs given_values) q.frame) (k.past ready n h)
+      ∙ ap (λ q. spot q (t.after n)) (sym moved ∙ ap (λ b. note.past_block p (flat_block b)) (sym (called_is f n line xs name args t a h k)))
+
+  call_init : (f n line : ℕ) (p : Place) (xs : List (List ℕ)) (name : List ℕ) (args : List Argument) (t : Template) (a : Action W) → 1 ≤ n → Acts t a
+      → NamedAll (Fits f) xs → NamedArguments (Fits f) args → (s : Note W) (u : Framed W) → Stand s u
+      → Stand (initial.init_block m.world p (flat_block (called (own_name f) n line xs name args (Some t))) s) (init_call m f (spot p n) a xs args u)
+  call_init f n line p xs name args t a h k fits named s u stand =
+      let given_values = values_in a.results in
+      let one = copies_of line f n a.inputs args in
+      let two = copies_of line n f xs given_values in
+      let ready = past_copies m p a.inputs args in
+      let body = note.past_block ready (flat_block (t.block n)) in
+      let s1 = initial.init_block m.world p (flat_block one) s in
+      let u1 = init_copies m f n p a.inputs args u in
+      let stand1 : Stand s1 u1 = copies_init line f n p a.inputs args s u (any_names (Fits n) (fits_inner n h) a.inputs) named stand in
+      let s2 = initial.init_block m.world ready (flat_block (t.block n)) s1 in
+      let u2 = a.init (spot ready n) u1 in
+      let stand2 : Stand s2 u2 = k.init ready n h s1 u1 stand1 in
+      let last : Stand (initial.init_block m.world body (flat_block two) s2) (init_copies m n f (a.past (spot ready n)).place xs given_values u2) =
+      subst (λ q. Stand (initial.init_block m.world body (flat_block two) s2) (init_copies m n f q.place xs given_values u2)) (sym (k.past ready n h))
+      (copies_init line n f body xs given_values s2 u2 fits (any_arguments (Fits n) (fits_inner n h) given_values) stand2) in
+      let framed = init_call m f (spot p n) a xs args u in
+      subst (λ b. Stand (initial.init_block m.world p (flat_block b) s) framed) (sym (called_is f n line xs name args t a h k))
+      (subst (λ z. Stand z framed)
+      (sym (init_joins p one (joins (t.block n) two) s
+      ∙ ap (λ q. initial.init_block m.world q (flat_block (joins (t.block n) two)) s1) (copies_past line f n p a.inputs args named)
+      ∙ init_joins ready (t.block n) two s1)) last)
+
+  call_perf : (f n line : ℕ) (p : Place) (xs : List (List ℕ)) (name : List ℕ) (args : List Argument) (t : Template) (a : Action W) → 1 ≤ n → Acts t a
+      → NamedAll (Fits f) xs → NamedArguments (Fits f) args → (s : Note W) (u : Framed W) → Stand s u
+      → Stand (performing.perf_block m.world p (flat_block (called (own_name f) n line xs name args (Some t))) s) (perf_call m f (spot p n) a xs args u)
+  call_perf f n line p xs name args t a h k fits named s u stand =
+      let given_values = values_in a.results in
+      let one = copies_of line f n a.inputs args in
+      let two = copies_of line n f xs given_values in
+      let ready = past_copies m p a.inputs args in
+      let body = note.past_block ready (flat_block (t.block n)) in
+      let s1 = performing.perf_block m.world p (flat_block one) s in
+      let u1 = perf_copies m f n p a.inputs args u in
+      let stand1 : Stand s1 u1 = copies_perf line f n p a.inputs args s u (any_names (Fits n) (fits_inner n h) a.inputs) named stand in
+      let s2 = performing.perf_block m.world ready (flat_block (t.block n)) s1 in
+      let u2 = a.perf (spot ready n) u1 in
+      let stand2 : Stand s2 u2 = k.perf ready n h s1 u1 stand1 in
+      let last : Stand (performing.perf_block m.world body (flat_block two) s2) (perf_copies m n f (a.past (spot ready n)).place xs given_values u2) =
+      subst (λ q. Stand (performing.perf_block m.world body (flat_block two) s2) (perf_copies m n f q.place xs given_values u2)) (sym (k.past ready n h))
+      (copies_perf line n f body xs given_values s2 u2 fits (any_arguments (Fits n) (fits_inner n h) given_values) stand2) in
+      let framed = perf_call m f (spot p n) a xs args u in
+      subst (λ b. Stand (performing.perf_block m.world p (flat_block b) s) framed) (sym (called_is f n line xs name args t a h k))
+      (subst (λ z. Stand z framed)
+      (sym (perf_joins p one (joins (t.block n) two) s
+      ∙ ap (λ q. performing.perf_block m.world q (flat_block (joins (t.block n) two)) s1) (copies_past line f n p a.inputs args named)
+      ∙ perf_joins ready (t.block n) two s1)) last)
+
+  -- a call of a defined opcode or of another
+  any_past : (f n line : ℕ) (p : Place) (xs : List (List ℕ)) (name : List ℕ) (args : List Argument) (t : Option Template) (a : Option (Action W)) → 1 ≤ n
+      → ActsIf t a
+      → NamedAll (Fits f) xs → NamedArguments (Fits f) args
+      → past_any m (spot p n) (call line xs name args) xs args a
+      ≡ spot (note.past_block p (flat_block (called (own_name f) n line xs name args t))) (after_called n t)
+  any_past f n line p xs name args None None h k fits named = ap (λ q. spot q n) (sym (past_stmt_alike (alike_call f line xs name args fits named) p))
+  any_past f n line p xs name args None (Some a) h k fits named = absurd k
+  any_past f n line p xs name args (Some t) None h k fits named = absurd k
+  any_past f n line p xs name args (Some t) (Some a) h k fits named = call_past f n line p xs name args t a h k named
+
+  any_init : (f n line : ℕ) (p : Place) (xs : List (List ℕ)) (name : List ℕ) (args : List Argument) (t : Option Template) (a : Option (Action W)) → 1 ≤ n
+      → ActsIf t a
+      → NamedAll (Fits f) xs → NamedArguments (Fits f) args → (s : Note W) (u : Framed W) → Stand s u
+      → Stand (initial.init_block m.world p (flat_block (called (own_name f) n line xs name args t)) s)
+      (init_any m f (spot p n) (call line xs name args) xs args a u)
+  any_init f n line p xs name args None None h k fits named s u stand = plain_init f p _ _ s u (alike_call f line xs name args fits named) stand
+  any_init f n line p xs name args None (Some a) h k fits named s u stand = absurd k
+  any_init f n line p xs name args (Some t) None h k fits named s u stand = absurd k
+  any_init f n line p xs name args (Some t) (Some a) h k fits named s u stand = call_init f n line p xs name args t a h k fits named s u stand
+
+  any_perf : (f n line : ℕ) (p : Place) (xs : List (List ℕ)) (name : List ℕ) (args : List Argument) (t : Option Template) (a : Option (Action W)) → 1 ≤ n
+      → ActsIf t a
+      → NamedAll (Fits f) xs → NamedArguments (Fits f) args → (s : Note W) (u : Framed W) → Stand s u
+      → Stand (performing.perf_block m.world p (flat_block (called (own_name f) n line xs name args t)) s)
+      (perf_any m f (spot p n) (call line xs name args) xs args a u)
+  any_perf f n line p xs name args None None h k fits named s u stand = plain_perf f p _ _ s u (alike_call f line xs name args fits named) stand
+  any_perf f n line p xs name args None (Some a) h k fits named s u stand = absurd k
+  any_perf f n line p xs name args (Some t) None h k fits named s u stand = absurd k
+  any_perf f n line p xs name args (Some t) (Some a) h k fits named s u stand = call_perf f n line p xs name args t a h k fits named s u stand
+
+  -- ---- statements, in the order of the text
+
+  condition_past : (f : ℕ) (p : Place) (c : Expression) → Named (Fits f) c
+      → past_parts (past p.part (expression_by v (renamed (own_name f) c))) p ≡ past_parts (past p.part (expression_read m c)) p
+  condition_past f p c named = ap (λ n. past_parts n p) (past_alike (alike_expression f c named) p.part p.part refl)
+
+  choose_stands : (b c : Bool) → b ≡ c → (t q : Note W) (u w : Framed W) → Stand t u → Stand q w → Stand (if b then t else q) (if c then u else w)
+  choose_stands b c e t q u w h k = subst (λ d. Stand (if b then t else q) (if d then u else w)) e (by b)
+    where
+      by : (d : Bool) → Stand (if d then t else q) (if d then u else w)
+      by true = h
+      by false = k
+
+  module _ (opcodes : Opcodes) (env : Actions W) (g : Grows opcodes) (k : Act opcodes env) (f : ℕ) where
+    abbrev text_of : ℕ → Statement → core.Block
+    text_of n x = flat_block (expanded opcodes (own_name f) n x)
+
+    abbrev texts_of : ℕ → Block → core.Block
+    texts_of n b = flat_block (expanded_block opcodes (own_name f) n b)
+
+    abbrev arms_of : ℕ → Arms → core.Arms
+    arms_of n list = flat_arms (expanded_arms opcodes (own_name f) n list)
+
+    at_least : (n : ℕ) (x : Statement) → 1 ≤ n → 1 ≤ after opcodes n x
+    at_least n x h = chain 1 n (after opcodes n x) h (after_grows opcodes g n x)
+
+    block_at_least : (n : ℕ) (b : Block) → 1 ≤ n → 1 ≤ after_block opcodes n b
+    block_at_least n b h = chain 1 n (after_block opcodes n b) h (after_block_grows opcodes g n b)
+
+    mutual
+      past_stands : (n : ℕ) → 1 ≤ n → (p : Place) (x : Statement) → NamedStmt (Fits f) x
+          → past_framed m env (spot p n) x ≡ spot (note.past_block p (text_of n x)) (after opcodes n x)
+      past_stands n h p (set line x e) named = ap (λ q. spot q n) (sym (past_stmt_alike (alike_set f line x e named.0 named.1) p))
+      past_stands n h p (add_to line x e) named = ap (λ q. spot q n) (sym (past_stmt_alike (alike_add f line x e named.0 named.1) p))
+      past_stands n h p (call line xs name args) named =
+          any_past f n line p xs name args (opcodes name) (env name) h (k.each name) named.0 named.1
+      past_stands n h p (choose line list) named = past_arms_stand n h p list named
+
+      pub past_block_stands : (n : ℕ) → 1 ≤ n → (p : Place) (b : Block) → NamedBlock (Fits f) b
+          → past_block m env (spot p n) b ≡ spot (note.past_block p (texts_of n b)) (after_block opcodes n b)
+      past_block_stands n h p no_stmt named = refl
+      past_block_stands n h p (andthen x rest) named =
+          ap (λ q. past_block m env q rest) (past_stands n h p x named.0)
+          ∙ past_block_stands (after opcodes n x) (at_least n x h) (note.past_block p (text_of n x)) rest named.1
+          ∙ ap (λ q. spot q (after_block opcodes (after opcodes n x) rest))
+          (sym (past_joins p (expanded opcodes (own_name f) n x) (expanded_block opcodes (own_name f) (after opcodes n x) rest)))
+
+      past_arms_stand : (n : ℕ) → 1 ≤ n → (p : Place) (list : Arms) → NamedArms (Fits f) list
+          → past_arms m env (spot p n) list ≡ spot (note.past_arms p (arms_of n list)) (after_arms opcodes n list)
+      past_arms_stand n h p (otherwise b) named = past_block_stands n h p b named
+      past_arms_stand n h p (arm c b rest) named =
+          let q = past_parts (past p.part (expression_read m c)) p in
+          ap (λ z. past_arms m env z rest) (past_block_stands n h q b named.1)
+          ∙ past_arms_stand (after_block opcodes n b) (block_at_least n b h) (note.past_block q (texts_of n b)) rest named.2
+          ∙ ap (λ z. spot (note.past_arms (note.past_block z (texts_of n b)) (arms_of (after_block opcodes n b) rest))
+          (after_arms opcodes (after_block opcodes n b) rest)) (sym (condition_past f p c named.0))
+
+    mutual
+      init_stands : (n : ℕ) → 1 ≤ n → (p : Place) (x : Statement) → NamedStmt (Fits f) x → (t : Note W) (u : Framed W) → Stand t u
+          → Stand (initial.init_block m.world p (text_of n x) t) (init_framed m env f (spot p n) x u)
+      init_stands n h p (set line x e) named t u stand = plain_init f p _ _ t u (alike_set f line x e named.0 named.1) stand
+      init_stands n h p (add_to line x e) named t u stand = plain_init f p _ _ t u (alike_add f line x e named.0 named.1) stand
+      init_stands n h p (call line xs name args) named t u stand =
+          any_init f n line p xs name args (opcodes name) (env name) h (k.each name) named.0 named.1 t u stand
+      init_stands n h p (choose line list) named t u stand =
+          let made = expanded_arms opcodes (own_name f) n list in
+          subst (λ r. Stand (initial.init_block m.world p (text_of n (choose line list)) t)
+          (going_on m.world u (if_init r (init_first m env f (spot p n) list u) (init_all m env f (spot p n) list u)))) (choice_kept opcodes f n list)
+          (going_stands t _ u _ stand
+          (either_stands (choice_rate made) _ _ _ _ (first_stands n h p list named t u stand) (all_stand n h p list named t u stand)))
+
+      pub init_block_stands : (n : ℕ) → 1 ≤ n → (p : Place) (b : Block) → NamedBlock (Fits f) b → (t : Note W) (u : Framed W) → Stand t u
+          → Stand (initial.init_block m.world p (texts_of n b) t) (init_block m env f (spot p n) b u)
+      init_block_stands n h p no_stmt named t u stand = stand
+      init_block_stands n h p (andthen x rest) named t u stand =
+          let first = expanded opcodes (own_name f) n x in
+          let other = expanded_block opcodes (own_name f) (after opcodes n x) rest in
+          let now = initial.init_block m.world p (text_of n x) t in
+          let next = init_framed m env f (spot p n) x u in
+          subst (λ z. Stand z (init_block m env f (spot p n) (andthen x rest) u)) (sym (init_joins p first other t))
+          (subst (λ q. Stand (initial.init_block m.world (note.past_block p (text_of n x)) (flat_block other) now) (init_block m env f q rest next))
+          (sym (past_stands n h p x named.0))
+          (init_block_stands (after opcodes n x) (at_least n x h) (note.past_block p (text_of n x)) rest named.1 now next
+          (init_stands n h p x named.0 t u stand)))
+
+      first_stands : (n : ℕ) → 1 ≤ n → (p : Place) (list : Arms) → NamedArms (Fits f) list → (t : Note W) (u : Framed W) → Stand t u
+          → Stand (initial.init_first m.world p (arms_of n list) t) (init_first m env f (spot p n) list u)
+      first_stands n h p (otherwise b) named t u stand = init_block_stands n h p b named t u stand
+      first_stands n h p (arm c b rest) named t u stand =
+          let flat_c = expression_by v (renamed (own_name f) c) in
+          let now = keep m.world p.part flat_c t in
+          let next = put_back f (keep m.world p.part (expression_read m c) (seen_from f u)) u in
+          let q = past_parts (past p.part (expression_read m c)) p in
+          let further = after_block opcodes n b in
+          let kept_now : Stand now next = keep_stands f flat_c (expression_read m c) t u (alike_expression f c named.0) stand p.part in
+          let one = init_block_stands n h q b named.1 now next kept_now in
+          let two = subst (λ z. Stand (initial.init_first m.world (note.past_block q (texts_of n b)) (arms_of further rest) now)
+          (init_first m env f z rest next))
+          (sym (past_block_stands n h q b named.1))
+          (first_stands further (block_at_least n b h) (note.past_block q (texts_of n b)) rest named.2 now next kept_now) in
+          subst (λ z. Stand (if holds (now.kept p.part) then initial.init_block m.world z (texts_of n b) now
+          else initial.init_first m.world (note.past_block z (texts_of n b)) (arms_of further rest) now)
+          (init_first m env f (spot p n) (arm c b rest) u)) (sym (condition_past f p c named.0))
+          (choose_stands (holds (now.kept p.part)) (holds (next.kept p.part)) (ap (λ z. holds (z p.part)) kept_now.kept) _ _ _ _ one two)
+
+      all_stand : (n : ℕ) → 1 ≤ n → (p : Place) (list : Arms) → NamedArms (Fits f) list → (t : Note W) (u : Framed W) → Stand t u
+          → Stand (initial.init_all m.world p (arms_of n list) t) (init_all m env f (spot p n) list u)
+      all_stand n h p (otherwise b) named t u stand = init_block_stands n h p b named t u stand
+      all_stand n h p (arm c b rest) named t u stand =
+          let flat_c = expression_by v (renamed (own_name f) c) in
+          let now = keep m.world p.part flat_c t in
+          let next = put_back f (keep m.world p.part (expression_read m c) (seen_from f u)) u in
+          let q = past_parts (past p.part (expression_read m c)) p in
+          let further = after_block opcodes n b in
+          let kept_now : Stand now next = keep_stands f flat_c (expression_read m c) t u (alike_expression f c named.0) stand p.part in
+          let after_t = initial.init_block m.world q (texts_of n b) now in
+          let after_u = init_block m env f (spot q n) b next in
+          let one : Stand after_t after_u = init_block_stands n h q b named.1 now next kept_now in
+          let two = subst (λ z. Stand (initial.init_all m.world (note.past_block q (texts_of n b)) (arms_of further rest) after_t)
+          (init_all m env f z rest after_u))
+          (sym (past_block_stands n h q b named.1))
+          (all_stand further (block_at_least n b h) (note.past_block q (texts_of n b)) rest named.2 after_t after_u one) in
+          subst (λ z. Stand (going m.world t (initial.init_all m.world (note.past_block z (texts_of n b)) (arms_of further rest)
+          (initial.init_block m.world z (texts_of n b) now))) (init_all m env f (spot p n) (arm c b rest) u)) (sym (condition_past f p c named.0))
+          (going_stands t _ u _ stand two)
+
+    mutual
+      perf_stands : (n : ℕ) → 1 ≤ n → (p : Place) (x : Statement) → NamedStmt (Fits f) x → (t : Note W) (u : Framed W) → Stand t u
+          → Stand (performing.perf_block m.world p (text_of n x) t) (perf_framed m env f (spot p n) x u)
+      perf_stands n h p (set line x e) named t u stand = plain_perf f p _ _ t u (alike_set f line x e named.0 named.1) stand
+      perf_stands n h p (add_to line x e) named t u stand = plain_perf f p _ _ t u (alike_add f line x e named.0 named.1) stand
+      perf_stands n h p (call line xs name args) named t u stand =
+          any_perf f n line p xs name args (opcodes name) (env name) h (k.each name) named.0 named.1 t u stand
+      perf_stands n h p (choose line list) named t u stand = perf_arms_stand n h p list named t u stand
+
+      pub perf_block_stands : (n : ℕ) → 1 ≤ n → (p : Place) (b : Block) → NamedBlock (Fits f) b → (t : Note W) (u : Framed W) → Stand t u
+          → Stand (performing.perf_block m.world p (texts_of n b) t) (perf_block m env f (spot p n) b u)
+      perf_block_stands n h p no_stmt named t u stand = stand
+      perf_block_stands n h p (andthen x rest) named t u stand =
+          let first = expanded opcodes (own_name f) n x in
+          let other = expanded_block opcodes (own_name f) (after opcodes n x) rest in
+          let now = performing.perf_block m.world p (text_of n x) t in
+          let next = perf_framed m env f (spot p n) x u in
+          subst (λ z. Stand z (perf_block m env f (spot p n) (andthen x rest) u)) (sym (perf_joins p first other t))
+          (subst (λ q. Stand (performing.perf_block m.world (note.past_block p (text_of n x)) (flat_block other) now) (perf_block m env f q rest next))
+          (sym (past_stands n h p x named.0))
+          (perf_block_stands (after opcodes n x) (at_least n x h) (note.past_block p (text_of n x)) rest named.1 now next
+          (perf_stands n h p x named.0 t u stand)))
+
+      perf_arms_stand : (n : ℕ) → 1 ≤ n → (p : Place) (list : Arms) → NamedArms (Fits f) list → (t : Note W) (u : Framed W) → Stand t u
+          → Stand (performing.perf_arms m.world p (arms_of n list) t) (perf_arms m env f (spot p n) list u)
+      perf_arms_stand n h p (otherwise b) named t u stand = perf_block_stands n h p b named t u stand
+      perf_arms_stand n h p (arm c b rest) named t u stand =
+          let flat_c = expression_by v (renamed (own_name f) c) in
+          let q = past_parts (past p.part (expression_read m c)) p in
+          let further = after_block opcodes n b in
+          let a = value_of m.world t false p.part flat_c 0 in
+          let same = value_stands f flat_c (expression_read m c) t u (alike_expression f c named.0) stand false p.part in
+          let one = perf_block_stands n h q b named.1 t u stand in
+          let two = subst (λ z. Stand (performing.perf_arms m.world (note.past_block q (texts_of n b)) (arms_of further rest) t) (perf_arms m env f z rest u))
+          (sym (past_block_stands n h q b named.1))
+          (perf_arms_stand further (block_at_least n b h) (note.past_block q (texts_of n b)) rest named.2 t u stand) in
+          subst (λ z. Stand (if holds a then performing.perf_block m.world z (texts_of n b) t
+          else performing.perf_arms m.world (note.past_block z (texts_of n b)) (arms_of further rest) t)
+          (perf_arms m env f (spot p n) (arm c b rest) u)) (sym (condition_past f p c named.0))
+          (choose_stands (holds a) (holds (value_of m.world (seen_from f u) false p.part (expression_read m c) 0))
+          (ap (λ w. holds (w 0)) same) _ _ _ _ one two)
+
+  -- ---- definitions
+
+  template_grows : (opcodes : Opcodes) → Grows opcodes → (d : Definition) (n : ℕ) → n ≤ (template opcodes d).after n
+  template_grows opcodes g d n =
+      one_further n (after_block opcodes (n + 1) (whole_body d)) (after_block_grows opcodes g (n + 1) (whole_body d))
+
+  defining_grows : (opcodes : Opcodes) → Grows opcodes → (d : Definition) → Grows (defining opcodes d)
+  defining_grows opcodes g d = record { each = λ name. by (opcodes name) (g.each name) (bytes_eq name d.name) }
+    where
+      by : (found : Option Template) → GrowsIf found → (b : Bool) → GrowsIf (option_or found (if b then Some (template opcodes d) else None))
+      by None h true = template_grows opcodes g d
+      by None h false = tt
+      by (Some t) h b = h
+
+  template_acts : (opcodes : Opcodes) (env : Actions W) → Grows opcodes → Act opcodes env → (d : Definition) → Acts (template opcodes d) (action m env d)
+  template_acts opcodes env g k d = record {
+    inputs = refl;
+    results = refl;
+    past = λ p n h. named_as n h (λ own. past_block m env (spot p (n + 1)) (whole_body d)
+        ≡ spot (note.past_block p (flat_block (expanded_block opcodes own (n + 1) (whole_body d)))) (after_block opcodes (n + 1) (whole_body d)))
+        (past_block_stands opcodes env g k n (n + 1) (more n) p (whole_body d) (any_block (Fits n) (fits_inner n h) (whole_body d)));
+    init = λ p n h t u stand. named_as n h (λ own. Stand (initial.init_block m.world p (flat_block (expanded_block opcodes own (n + 1) (whole_body d))) t)
+        (init_block m env n (spot p (n + 1)) (whole_body d) u))
+        (init_block_stands opcodes env g k n (n + 1) (more n) p (whole_body d) (any_block (Fits n) (fits_inner n h) (whole_body d)) t u stand);
+    perf = λ p n h t u stand. named_as n h (λ own. Stand (performing.perf_block m.world p (flat_block (expanded_block opcodes own (n + 1) (whole_body d))) t)
+        (perf_block m env n (spot p (n + 1)) (whole_body d) u))
+        (perf_block_stands opcodes env g k n (n + 1) (more n) p (whole_body d) (any_block (Fits n) (fits_inner n h) (whole_body d)) t u stand);
+  }
+    where
+      more : (n : ℕ) → 1 ≤ n + 1
+      more n = omega arith
+
+      named_as : (n : ℕ) → 1 ≤ n → (P : (List ℕ → List ℕ) → Type 0) → P (own_name n) → P (in_frame n)
+      named_as n h P p = subst P (inner_name n h) p
+
+  defining_acts : (opcodes : Opcodes) (env : Actions W) → Grows opcodes → Act opcodes env → (d : Definition) → Act (defining opcodes d) (acting m env d)
+  defining_acts opcodes env g k d = record { each = λ name. by (opcodes name) (env name) (k.each name) (bytes_eq name d.name) }
+    where
+      by : (t : Option Template) (a : Option (Action W)) → ActsIf t a → (b : Bool)
+          → ActsIf (option_or t (if b then Some (template opcodes d) else None)) (option_or a (if b then Some (action m env d) else None))
+      by None None h true = template_acts opcodes env g k d
+      by None None h false = tt
+      by None (Some a) h b = absurd h
+      by (Some t) None h b = absurd h
+      by (Some t) (Some a) h b = h
+
+  pub all_grow : (opcodes : Opcodes) → Grows opcodes → (ds : List Definition) → Grows (defining_all opcodes ds)
+  all_grow opcodes g [] = g
+  all_grow opcodes g (d ∷ ds) = all_grow (defining opcodes d) (defining_grows opcodes g d) ds
+
+  pub all_act : (opcodes : Opcodes) (env : Actions W) → Grows opcodes → Act opcodes env → (ds : List Definition)
+      → Act (defining_all opcodes ds) (acting_all m env ds)
+  all_act opcodes env g k [] = k
+  all_act opcodes env g k (d ∷ ds) = all_act (defining opcodes d) (acting m env d) (defining_grows opcodes g d) (defining_acts opcodes env g k d) ds
+
+  pub nothing_grows : Grows no_opcodes
+  nothing_grows = record { each = λ name. tt }
+
+  pub nothing_acts : Act no_opcodes no_actions
+  nothing_acts = record { each = λ name. tt }

@@ -1,0 +1,234 @@
+-- A note that stands as one with frames does: what a statement of a frame does to the one and to the other.
+use Rattle.std.proofs.Common.{◌≡◌, ◌∙◌, ℕ, ◌==◌, Bool, true, false, if◌then◌else◌, List, [], ◌∷◌, map, Option, Some, None, arith, refl, sym, ap, subst}
+use Rattle.std.proofs.lemmas.Bool.{and_parts}
+use Rattle.std.proofs.lemmas.Bool.Decides.{nat_tests}
+use Rattle.cs_base.proofs.Rates.{same_rate_is}
+use Rattle.cs_base.specs.Rates.{same_rate, res_rate}
+use Rattle.cs_base.specs.declared.resource.Rate.{Rate}
+use Rattle.cs_base.specs.declared.resource.Rate.TheVariants as rate
+use Rattle.cs_base.specs.declared.resource.Res.{Res}
+use Rattle.cs_words.specs.Catalogue.{row_of, catalogued}
+use Rattle.cs_words.specs.Names.{name_rate, is_global}
+use Rattle.cs_words.specs.declared.catalogue.Opcode.{Opcode}
+use Rattle.cs_grammar.specs.Tree.{Expression, number, var, field, head, neg, pair, pick, apply, Argument, value, text, set, add_to, call}
+use Rattle.cs_typed.specs.declared.tree.Var.{Var as Variable}
+use Rattle.cs_typed.specs.declared.tree.Var.TheVariants.{Local, Global}
+use Rattle.cs_typing.specs.Calls.{channel_use, call_rate}
+use Rattle.cs_typing.specs.Expressions.{rate_of}
+use Rattle.cs_typing.specs.Known.{Shared, place_in, global, channel_of}
+use Rattle.cs_typing.specs.declared.known.Channel.{Channel}
+use Rattle.cs_typing.specs.declared.known.Channel.TheVariants as channel
+use Rattle.cs_ir.specs.Machine.{same_reg, put}
+use Rattle.cs_ir.specs.Waves.{Wave, held}
+use Rattle.cs_ir.specs.Worlds.{World}
+use Rattle.cs_meaning.specs.Core.{core_stmt}
+use Rattle.cs_words.specs.declared.sign.BinOp.TheVariants as op
+use Rattle.cs_meaning.specs.Notes.{Note, reg, look, assign}
+use Rattle.cs_udo_meaning.specs.Frames.{Framed, seen_from, put_back}
+use Rattle.cs_udo_meaning.specs.Numbered.{Numbering, Tells, Variables, numbered, expression_by, arguments_by, call_by, statement_by}
+use Rattle.cs_udo_meaning.specs.Stands.{own_name, Fits, Stands}
+use Rattle.cs_udo_meaning.proofs.Alike.{Alike, alike_number, alike_var, alike_field, alike_head, alike_neg, alike_pair, alike_pick, alike_apply, AlikeVariables, no_variable, more_variables, AlikeArguments, no_argument, more_values, more_texts, AlikeStmt, alike_set, alike_empty, core_alike, Agree}
+use Rattle.cs_udo_meaning.proofs.Fresh.{own_shared, own_rate, own_local, own_apart}
+use Rattle.cs_udo_meaning.proofs.Named.{Named, NamedAll, NamedArguments}
+
+equal_tests : (i j : ℕ) → (i == j) ≡ true → i ≡ j
+equal_tests i j h = grind (arith, nat_tests)
+
+test_here : (i : ℕ) → (i == i) ≡ true
+test_here i = grind (arith, nat_tests)
+
+same_truth : (b c : Bool) → (b ≡ true → c ≡ true) → (c ≡ true → b ≡ true) → b ≡ c
+same_truth true c p q = sym (p refl)
+same_truth false true p q = q refl
+same_truth false false p q = refl
+
+same_reg_is : (r s : Rate) (n m : ℕ) → same_reg (reg r n) (reg s m) ≡ true → (r ≡ s) × (n ≡ m)
+same_reg_is r s n m h =
+    let parts = and_parts (same_rate r s) (n == m) h in (same_rate_is r s parts.0, equal_tests n m parts.1)
+
+same_reg_here : (r s : Rate) (n m : ℕ) → r ≡ s → n ≡ m → same_reg (reg r n) (reg s m) ≡ true
+same_reg_here r s n m e f = ap (λ q. same_reg (reg q n) (reg s m)) e ∙ ap (λ k. same_reg (reg s k) (reg s m)) f ∙ here s m
+  where
+    here : (q : Rate) (k : ℕ) → same_reg (reg q k) (reg q k) ≡ true
+    here rate.Init k = test_here k
+    here rate.Control k = test_here k
+    here rate.Audio k = test_here k
+
+-- ---- variables of a frame
+
+pub data SameVariable (flat own : Numbering) (f : ℕ) : Variable → Variable → Type 0 where
+  both_shared : (g : Res) → SameVariable flat own f (Global g) (Global g)
+  both_own : (x : List ℕ) → is_global x ≡ false → Fits f x → SameVariable flat own f (Local (name_rate x) (flat (own_name f x))) (Local (name_rate x) (own x))
+
+numbered_shared : (g : Shared) (s : Numbering) (x : List ℕ) → is_global x ≡ true → numbered g s x ≡ Global (global (name_rate x) (place_in g.globals x))
+numbered_shared g s x e = ap (λ b. if b then Global (global (name_rate x) (place_in g.globals x)) else Local (name_rate x) (s x)) e
+
+numbered_own : (g : Shared) (s : Numbering) (x : List ℕ) → is_global x ≡ false → numbered g s x ≡ Local (name_rate x) (s x)
+numbered_own g s x e = ap (λ b. if b then Global (global (name_rate x) (place_in g.globals x)) else Local (name_rate x) (s x)) e
+
+pub variable_alike : (g : Shared) (flat own : Numbering) (f : ℕ) (x : List ℕ) → Fits f x
+    → SameVariable flat own f (numbered g flat (own_name f x)) (numbered g own x)
+variable_alike g flat own f x fits = by (is_global x) refl
+  where
+    by : (b : Bool) → is_global x ≡ b → SameVariable flat own f (numbered g flat (own_name f x)) (numbered g own x)
+    by true e =
+        let there = Global (global (name_rate x) (place_in g.globals x)) in
+        subst (λ v. SameVariable flat own f v (numbered g own x)) (sym (ap (numbered g flat) (own_shared f x e) ∙ numbered_shared g flat x e))
+        (subst (λ w. SameVariable flat own f there w) (sym (numbered_shared g own x e)) (both_shared (global (name_rate x) (place_in g.globals x))))
+    by false e =
+        let y = own_name f x in
+        let there : numbered g flat y ≡ Local (name_rate x) (flat y) = numbered_own g flat y (own_local f x ∙ e) ∙ ap (λ r. Local r (flat y))
+        (own_rate f x) in
+        subst (λ v. SameVariable flat own f v (numbered g own x)) (sym there)
+        (subst (λ w. SameVariable flat own f (Local (name_rate x) (flat y)) w) (sym (numbered_own g own x e)) (both_own x e fits))
+
+-- ---- what is typed with them
+
+channel_alike : (V : Variable → Variable → Type 0) → ((g : Res) → V (Global g) (Global g)) → (g : Shared) (kind : Channel) (t : List ℕ)
+    → V (channel_of g kind t) (channel_of g kind t)
+channel_alike V k g channel.Control t = k _
+channel_alike V k g channel.Sound t = k _
+
+module _ {V : Variable → Variable → Type 0} {P : List ℕ → Type 0} (v w : Variables) (h : (x : List ℕ) → P x → V (v x) (w x))
+    (k : (g : Res) → V (Global g) (Global g)) where
+  pub expression_alike : (e : Expression) → Named P e → Alike V (expression_by v e) (expression_by w e)
+  expression_alike (number z) n = alike_number rate.Init z
+  expression_alike (var x) n = alike_var (name_rate x) (v x) (w x) (h x n)
+  expression_alike (field j) n = alike_field rate.Init j
+  expression_alike (head q) n = alike_head rate.Init q
+  expression_alike (neg a) n = alike_neg (rate_of (neg a)) _ _ (expression_alike a n)
+  expression_alike (pair o a b) n = alike_pair (rate_of (pair o a b)) o _ _ _ _ (expression_alike a n.0) (expression_alike b n.1)
+  expression_alike (pick c a b) n =
+      alike_pick (rate_of (pick c a b)) _ _ _ _ _ _ (expression_alike c n.0) (expression_alike a n.1) (expression_alike b n.2)
+  expression_alike (apply f a) n = alike_apply (rate_of (apply f a)) f _ _ (expression_alike a n)
+
+  arguments_alike : (g : Shared) (role : Option Channel) (args : List Argument) → NamedArguments P args
+      → AlikeArguments V (arguments_by g v role args) (arguments_by g w role args)
+  arguments_alike g role [] n = no_argument
+  arguments_alike g role (value e ∷ args) n = more_values _ _ _ _ (expression_alike e n.0) (arguments_alike g role args n.1)
+  arguments_alike g None (text t ∷ args) n = arguments_alike g None args n
+  arguments_alike g (Some kind) (text t ∷ args) n = more_texts _ _ _ _ (channel_alike V k g kind t) (arguments_alike g (Some kind) args n)
+
+  results_alike : (xs : List (List ℕ)) → NamedAll P xs → AlikeVariables V (map v xs) (map w xs)
+  results_alike [] n = no_variable
+  results_alike (x ∷ xs) n = more_variables (v x) (w x) (map v xs) (map w xs) (h x n.0) (results_alike xs n.1)
+
+  call_alike : (spaces : _) (g : Shared) (line : ℕ) (o : Option Opcode) (xs : List (List ℕ)) (args : List Argument) → NamedAll P xs → NamedArguments P args
+      → AlikeStmt V (core_stmt spaces (call_by line g v o xs args)) (core_stmt spaces (call_by line g w o xs args))
+  call_alike spaces g line None xs args n m = alike_empty rate.Init
+  call_alike spaces g line (Some o) xs args n m =
+      core_alike spaces (call_rate (row_of o).shape xs args) o (row_of o).shape (results_alike xs n)
+      (arguments_alike g (channel_use (row_of o).shape xs args) args m)
+
+  pub set_alike : (spaces : _) (g : Shared) (line : ℕ) (x : List ℕ) (e : Expression) → P x → Named P e
+      → AlikeStmt V (core_stmt spaces (statement_by g v (set line x e))) (core_stmt spaces (statement_by g w (set line x e)))
+  set_alike spaces g line x e n m = alike_set (name_rate x) (v x) (w x) _ _ (h x n) (expression_alike e m)
+
+  pub add_alike : (spaces : _) (g : Shared) (line : ℕ) (x : List ℕ) (e : Expression) → P x → Named P e
+      → AlikeStmt V (core_stmt spaces (statement_by g v (add_to line x e))) (core_stmt spaces (statement_by g w (add_to line x e)))
+  add_alike spaces g line x e n m =
+      alike_set (name_rate x) (v x) (w x) _ _ (h x n)
+      (alike_pair (name_rate x) op.Add _ _ _ _ (alike_var (name_rate x) (v x) (w x) (h x n)) (expression_alike e m))
+
+  pub plain_alike : (spaces : _) (g : Shared) (line : ℕ) (xs : List (List ℕ)) (name : List ℕ) (args : List Argument) → NamedAll P xs → NamedArguments P args
+      → AlikeStmt V (core_stmt spaces (statement_by g v (call line xs name args))) (core_stmt spaces (statement_by g w (call line xs name args)))
+  plain_alike spaces g line xs name args n m = call_alike spaces g line (catalogued name) xs args n m
+
+-- ---- a note, and the note that a frame sees
+
+pub record Seen {W : Type 0} (flat own : Numbering) (f : ℕ) (u : Framed W) (t s : Note W) : Type 0 where
+  pub mine : (x : List ℕ) → is_global x ≡ false → Fits f x → t.locals (reg (name_rate x) (flat (own_name f x))) ≡ s.locals (reg (name_rate x) (own x))
+  pub others : (g : ℕ) (x : List ℕ) → (g == f) ≡ false → is_global x ≡ false → Fits g x
+      → t.locals (reg (name_rate x) (flat (own_name g x))) ≡ u.frames g (reg (name_rate x) (own x))
+  pub kept : t.kept ≡ s.kept
+  pub world : t.world ≡ s.world
+
+pub to_seen : {W : Type 0} (flat own : Numbering) (f : ℕ) (t : Note W) (u : Framed W) → Stands flat own t u → Seen flat own f u t (seen_from f u)
+to_seen flat own f t u h = record { mine = h.locals f; others = λ g x apart. h.locals g x; kept = h.kept; world = h.world }
+
+pub from_seen : {W : Type 0} (flat own : Numbering) (f : ℕ) (t s : Note W) (u : Framed W) → Seen flat own f u t s → Stands flat own t (put_back f s u)
+from_seen {W} flat own f t s u h = record { locals = each; kept = h.kept; world = h.world }
+  where
+    each : (g : ℕ) (x : List ℕ) → is_global x ≡ false → Fits g x
+        → t.locals (reg (name_rate x) (flat (own_name g x))) ≡ (if g == f then s.locals else u.frames g) (reg (name_rate x) (own x))
+    each g x e fits = by (g == f) refl
+      where
+        by : (b : Bool) → (g == f) ≡ b → t.locals (reg (name_rate x) (flat (own_name g x))) ≡ (if b then s.locals else u.frames g) (reg (name_rate x) (own x))
+        by true same =
+            let one : g ≡ f = equal_tests g f same in
+            ap (λ n. t.locals (reg (name_rate x) (flat (own_name n x)))) one ∙ h.mine x e (λ k. fits (one ∙ k))
+        by false other = h.others g x other e fits
+
+module _ {W : Type 0} (o : World W) (flat own : Numbering) (tf : Tells flat) (to : Tells own) (f : ℕ) (u : Framed W) where
+  mine_put : (t s : Note W) → Seen flat own f u t s → (x y : List ℕ) → is_global x ≡ false → is_global y ≡ false → Fits f x → Fits f y → (a : Wave)
+      → put t.locals (reg (name_rate x) (flat (own_name f x))) a (reg (name_rate y) (flat (own_name f y)))
+      ≡ put s.locals (reg (name_rate x) (own x)) a (reg (name_rate y) (own y))
+  mine_put t s h x y ex ey fx fy a =
+      let p = same_reg (reg (name_rate y) (flat (own_name f y))) (reg (name_rate x) (flat (own_name f x))) in
+      let q = same_reg (reg (name_rate y) (own y)) (reg (name_rate x) (own x)) in
+      λ i. if same_truth p q there back i then a else h.mine y ey fy i
+    where
+      there : same_reg (reg (name_rate y) (flat (own_name f y))) (reg (name_rate x) (flat (own_name f x))) ≡ true
+          → same_reg (reg (name_rate y) (own y)) (reg (name_rate x) (own x)) ≡ true
+      there e =
+          let k = same_reg_is (name_rate y) (name_rate x) (flat (own_name f y)) (flat (own_name f x)) e in
+          let names = tf (own_name f y) (own_name f x) (own_rate f y ∙ k.0 ∙ sym (own_rate f x)) k.1 in
+          let one = (own_apart f f y x ey ex fy fx names).1 in
+          same_reg_here (name_rate y) (name_rate x) (own y) (own x) k.0 (ap own one)
+
+      back : same_reg (reg (name_rate y) (own y)) (reg (name_rate x) (own x)) ≡ true
+          → same_reg (reg (name_rate y) (flat (own_name f y))) (reg (name_rate x) (flat (own_name f x))) ≡ true
+      back e =
+          let k = same_reg_is (name_rate y) (name_rate x) (own y) (own x) e in
+          let one = to y x k.0 k.1 in
+          same_reg_here (name_rate y) (name_rate x) (flat (own_name f y)) (flat (own_name f x)) k.0 (ap (λ z. flat (own_name f z)) one)
+
+  others_put : (t s : Note W) → Seen flat own f u t s → (x : List ℕ) → is_global x ≡ false → Fits f x → (a : Wave) (g : ℕ) (y : List ℕ)
+      → (g == f) ≡ false → is_global y ≡ false → Fits g y
+      → put t.locals (reg (name_rate x) (flat (own_name f x))) a (reg (name_rate y) (flat (own_name g y))) ≡ u.frames g (reg (name_rate y) (own y))
+  others_put t s h x ex fx a g y apart ey fy = by p refl
+    where
+      p : Bool
+      p = same_reg (reg (name_rate y) (flat (own_name g y))) (reg (name_rate x) (flat (own_name f x)))
+
+      by : (b : Bool) → p ≡ b → (if b then a else t.locals (reg (name_rate y) (flat (own_name g y)))) ≡ u.frames g (reg (name_rate y) (own y))
+      by true e =
+          let k = same_reg_is (name_rate y) (name_rate x) (flat (own_name g y)) (flat (own_name f x)) e in
+          let names = tf (own_name g y) (own_name f x) (own_rate g y ∙ k.0 ∙ sym (own_rate f x)) k.1 in
+          let one = (own_apart g f y x ey ex fy fx names).0 in
+          let never : false ≡ true = sym apart ∙ ap (λ n. n == f) one ∙ test_here f in absurd (cc never)
+      by false e = h.others g y apart ey fy
+
+  assigned : (t s : Note W) → Seen flat own f u t s → (v w : Variable) → SameVariable flat own f v w → (a : Wave)
+      → Seen flat own f u (assign o v a t) (assign o w a s)
+  assigned t s h _ _ (both_shared g) a = record {
+    mine = h.mine;
+    others = h.others;
+    kept = h.kept;
+    world = ap (o.save g (held o.ksmps (res_rate g) a)) h.world;
+  }
+  assigned t s h _ _ (both_own x e fits) a = record {
+    mine = λ y ey fy. mine_put t s h x y e ey fits fy (held o.ksmps (name_rate x) a);
+    others = λ g y apart ey fy. others_put t s h x e fits (held o.ksmps (name_rate x) a) g y apart ey fy;
+    kept = h.kept;
+    world = h.world;
+  }
+
+  looked : (t s : Note W) → Seen flat own f u t s → (r : Rate) (v w : Variable) → SameVariable flat own f v w → look o t r v ≡ look o s r w
+  looked t s h r _ _ (both_shared g) = ap (λ x. held o.ksmps r (o.load g x)) h.world
+  looked t s h r _ _ (both_own x e fits) = h.mine x e fits
+
+  pub seen_agree : Agree o (SameVariable flat own f) (Seen flat own f u)
+  seen_agree = record {
+    kept = λ t s h. h.kept;
+    world = λ t s h. h.world;
+    looks = looked;
+    assigns = assigned;
+    keeps = λ t s h n z. record {
+      mine = h.mine;
+      others = h.others;
+      kept = λ i m. if m == n then z else h.kept i m;
+      world = h.world;
+    };
+    moves = λ t s h x. record { mine = h.mine; others = h.others; kept = h.kept; world = refl };
+  }

@@ -1,0 +1,311 @@
+-- What a call of a defined opcode means: each place of a call has a frame of its own, with local variables of its own.
+use Rattle.std.specs.Prelude.{ℕ, ℤ, true, false, ◌==◌, ◌+◌, List, [], ◌∷◌, ◌++◌, map, Option, Some, None, if◌then◌else◌}
+use Rattle.std.specs.Option.{option_or}
+use Rattle.std.specs.Str.{bytes_eq}
+use Rattle.cs_words.specs.Names.{name_rate}
+use Rattle.cs_grammar.specs.Tree.{Expression, var, Argument, value, Statement, set, add_to, call, choose, Block, no_stmt, andthen, Arms, otherwise, arm, Definition}
+use Rattle.cs_typed.specs.TypedTree as typed
+use Rattle.cs_typed.specs.declared.tree.Var.{Var}
+use Rattle.cs_typing.specs.Known.{Shared}
+use Rattle.cs_typing.specs.Statements.{choice_rate}
+use Rattle.cs_ir.specs.Resources.{Spaces}
+use Rattle.cs_ir.specs.Values.{holds}
+use Rattle.cs_ir.specs.Waves.{Wave, if_init, silence}
+use Rattle.cs_ir.specs.Worlds.{World}
+use Rattle.cs_ir.specs.declared.register.Reg.{Reg}
+use Rattle.cs_meaning.specs.Core.{Stmt, unit, core_stmt}
+use Rattle.cs_meaning.specs.Initialising.{keep, init_stmt}
+use Rattle.cs_meaning.specs.Notes.{Note, Place, past, past_parts, past_stmt, assign}
+use Rattle.cs_meaning.specs.Notes.{value as value_of}
+use Rattle.cs_meaning.specs.Performing.{perf_stmt}
+use Rattle.cs_udo.specs.Expanded.{before, whole_body}
+use Rattle.cs_udo.specs.Names.{slots}
+use Rattle.cs_udo_meaning.specs.Numbered.{Numbering, numbered, expression_by, statement_by}
+
+-- A note with frames: the local variables of each frame, frame 0 being the instrument's own; the values that it keeps from its
+-- initialisation, by their number in the text; and the state of the world that it sounds in.
+pub record Framed (W : Type 0) : Type 0 where
+  pub frames : ℕ → Reg → Wave
+  pub kept : ℕ → ℤ
+  pub world : W
+
+-- a note with frames that begins: all variables of all frames are 0
+abbrev pub new_framed : {W : Type 0} → W → Framed W
+new_framed x = record { frames = λ f q. silence; kept = silence; world = x }
+
+abbrev pub framed_in : {W : Type 0} → W → Framed W → Framed W
+framed_in x u = record u { world = x }
+
+-- The note as a frame sees it, and the note with what has become of it there.
+abbrev pub seen_from : {W : Type 0} → ℕ → Framed W → Note W
+seen_from f u = record { locals = u.frames f; kept = u.kept; world = u.world }
+
+abbrev pub put_back : {W : Type 0} → ℕ → Note W → Framed W → Framed W
+put_back f t u = record { frames = λ g. if g == f then t.locals else u.frames g; kept = t.kept; world = t.world }
+
+-- A spot of the text: how many values were kept and units met before it, and the frame of the next call.
+pub record Spot : Type 0 where
+  pub place : Place
+  pub frame : ℕ
+
+abbrev pub spot : Place → ℕ → Spot
+spot p f = record { place = p; frame = f }
+
+-- How statements are read: in a world, with its zak spaces, by the names that notes share and the numbers of local variables.
+pub record Reading (W : Type 0) : Type 0 where
+  pub world : World W
+  pub spaces : Spaces
+  pub shared : Shared
+  pub number : Numbering
+
+abbrev pub variable_read : {W : Type 0} → Reading W → List ℕ → Var
+variable_read m x = numbered m.shared m.number x
+
+abbrev pub expression_read : {W : Type 0} → Reading W → Expression → typed.Expression
+expression_read m e = expression_by (numbered m.shared m.number) e
+
+abbrev pub read : {W : Type 0} → Reading W → Statement → Stmt
+read m x = core_stmt m.spaces (statement_by m.shared (numbered m.shared m.number) x)
+
+-- a statement without calls of defined opcodes does in its frame what it does in a note
+abbrev pub past_plain : {W : Type 0} → Reading W → Spot → Statement → Spot
+past_plain m p x = spot (past_stmt p.place (read m x)) p.frame
+
+abbrev pub init_plain : {W : Type 0} → Reading W → ℕ → Spot → Statement → Framed W → Framed W
+init_plain m f p x u = put_back f (init_stmt m.world p.place (read m x) (seen_from f u)) u
+
+abbrev pub perf_plain : {W : Type 0} → Reading W → ℕ → Spot → Statement → Framed W → Framed W
+perf_plain m f p x u = put_back f (perf_stmt m.world p.place (read m x) (seen_from f u)) u
+
+-- A variable of frame g takes the value of an expression in frame f: a variable of rate Init as the note begins, any other in
+-- each cycle.
+abbrev pub past_copy : {W : Type 0} → Reading W → Place → List ℕ → Expression → Place
+past_copy m p x e = past_parts (if_init (name_rate x) p.part (past p.part (expression_read m e))) p
+
+abbrev pub going_on : {W : Type 0} → World W → Framed W → Framed W → Framed W
+going_on o u next = if o.refused u.world then u else next
+
+abbrev pub copied : {W : Type 0} → Reading W → ℕ → List ℕ → Wave → Framed W → Framed W
+copied m g x w u = put_back g (assign m.world (variable_read m x) w (seen_from g u)) u
+
+abbrev pub init_copy : {W : Type 0} → Reading W → ℕ → ℕ → Place → List ℕ → Expression → Framed W → Framed W
+init_copy m f g p x e u = going_on m.world u (if_init (name_rate x)
+    (copied m g x (value_of m.world (seen_from f u) true 0 (expression_read m e)) u)
+    (put_back f (keep m.world p.part (expression_read m e) (seen_from f u)) u))
+
+abbrev pub perf_copy : {W : Type 0} → Reading W → ℕ → ℕ → Place → List ℕ → Expression → Framed W → Framed W
+perf_copy m f g p x e u =
+    if_init (name_rate x) u (copied m g x (value_of m.world (seen_from f u) false p.part (expression_read m e)) u)
+
+-- variables of frame g take the values of arguments in frame f, from left to right
+abbrev pub past_copies : {W : Type 0} → Reading W → Place → List (List ℕ) → List Argument → Place
+past_copies m p (x ∷ xs) (value e ∷ args) = past_copies m (past_copy m p x e) xs args
+past_copies m p xs args = p
+
+abbrev pub init_copies : {W : Type 0} → Reading W → ℕ → ℕ → Place → List (List ℕ) → List Argument → Framed W → Framed W
+init_copies m f g p (x ∷ xs) (value e ∷ args) u = init_copies m f g (past_copy m p x e) xs args (init_copy m f g p x e u)
+init_copies m f g p xs args u = u
+
+abbrev pub perf_copies : {W : Type 0} → Reading W → ℕ → ℕ → Place → List (List ℕ) → List Argument → Framed W → Framed W
+perf_copies m f g p (x ∷ xs) (value e ∷ args) u = perf_copies m f g (past_copy m p x e) xs args (perf_copy m f g p x e u)
+perf_copies m f g p xs args u = u
+
+-- What a defined opcode is to its callers: the names of its inputs and of its results, and what its body does in the frame of a
+-- spot, as the note begins and in a cycle; the spot after it; and the frames of the calls and the numbers of the units in it.
+pub record Action (W : Type 0) : Type 0 where
+  pub inputs : List (List ℕ)
+  pub results : List (List ℕ)
+  pub past : Spot → Spot
+  pub calls : Spot → List ℕ
+  pub units : Spot → List ℕ
+  pub init : Spot → Framed W → Framed W
+  pub perf : Spot → Framed W → Framed W
+
+-- the defined opcodes that may be called, by name
+abbrev pub Actions : Type 0 → Type 0
+Actions W = List ℕ → Option (Action W)
+
+abbrev pub no_actions : {W : Type 0} → Actions W
+no_actions name = None
+
+-- the values of variables, as arguments
+abbrev pub values_in : List (List ℕ) → List Argument
+values_in xs = map (λ x. value (var x)) xs
+
+-- A call from frame f: its frame is the next one. The inputs take the values of the arguments; the body is done; the results take
+-- the values of `xout`.
+abbrev pub past_inputs : {W : Type 0} → Reading W → Spot → Action W → List Argument → Spot
+past_inputs m p a args = spot (past_copies m p.place a.inputs args) p.frame
+
+abbrev pub past_call : {W : Type 0} → Reading W → Spot → Action W → List (List ℕ) → List Argument → Spot
+past_call m p a xs args =
+    let q = a.past (past_inputs m p a args) in spot (past_copies m q.place xs (values_in a.results)) q.frame
+
+abbrev pub init_call : {W : Type 0} → Reading W → ℕ → Spot → Action W → List (List ℕ) → List Argument → Framed W → Framed W
+init_call m f p a xs args u =
+    let q = past_inputs m p a args in
+    init_copies m p.frame f (a.past q).place xs (values_in a.results)
+    (a.init q (init_copies m f p.frame p.place a.inputs args u))
+
+abbrev pub perf_call : {W : Type 0} → Reading W → ℕ → Spot → Action W → List (List ℕ) → List Argument → Framed W → Framed W
+perf_call m f p a xs args u =
+    let q = past_inputs m p a args in
+    perf_copies m p.frame f (a.past q).place xs (values_in a.results)
+    (a.perf q (perf_copies m f p.frame p.place a.inputs args u))
+
+-- a call of a defined opcode, or else of one of the catalogue
+abbrev pub past_any : {W : Type 0} → Reading W → Spot → Statement → List (List ℕ) → List Argument → Option (Action W) → Spot
+past_any m p x xs args None = past_plain m p x
+past_any m p x xs args (Some a) = past_call m p a xs args
+
+abbrev pub init_any : {W : Type 0} → Reading W → ℕ → Spot → Statement → List (List ℕ) → List Argument → Option (Action W)
+    → Framed W → Framed W
+init_any m f p x xs args None u = init_plain m f p x u
+init_any m f p x xs args (Some a) u = init_call m f p a xs args u
+
+abbrev pub perf_any : {W : Type 0} → Reading W → ℕ → Spot → Statement → List (List ℕ) → List Argument → Option (Action W)
+    → Framed W → Framed W
+perf_any m f p x xs args None u = perf_plain m f p x u
+perf_any m f p x xs args (Some a) u = perf_call m f p a xs args u
+
+-- the spot after statements
+abbrev pub past_condition : {W : Type 0} → Reading W → Spot → Expression → Spot
+past_condition m p c = spot (past_parts (past p.place.part (expression_read m c)) p.place) p.frame
+
+abbrev mutual
+  pub past_framed : {W : Type 0} → Reading W → Actions W → Spot → Statement → Spot
+  past_framed m env p (set line x e) = past_plain m p (set line x e)
+  past_framed m env p (add_to line x e) = past_plain m p (add_to line x e)
+  past_framed m env p (call line xs name args) = past_any m p (call line xs name args) xs args (env name)
+  past_framed m env p (choose line list) = past_arms m env p list
+
+  pub past_block : {W : Type 0} → Reading W → Actions W → Spot → Block → Spot
+  past_block m env p no_stmt = p
+  past_block m env p (andthen x rest) = past_block m env (past_framed m env p x) rest
+
+  pub past_arms : {W : Type 0} → Reading W → Actions W → Spot → Arms → Spot
+  past_arms m env p (otherwise b) = past_block m env p b
+  past_arms m env p (arm c b rest) = past_arms m env (past_block m env (past_condition m p c) b) rest
+
+-- The frames of the calls in statements, in the order of the text: that of a call, and then those of the calls in its body.
+abbrev pub frames_of_call : {W : Type 0} → Reading W → Spot → List Argument → Option (Action W) → List ℕ
+frames_of_call m p args None = []
+frames_of_call m p args (Some a) = p.frame ∷ a.calls (past_inputs m p a args)
+
+abbrev mutual
+  pub frames_of : {W : Type 0} → Reading W → Actions W → Spot → Statement → List ℕ
+  frames_of m env p (set line x e) = []
+  frames_of m env p (add_to line x e) = []
+  frames_of m env p (call line xs name args) = frames_of_call m p args (env name)
+  frames_of m env p (choose line list) = frames_of_arms m env p list
+
+  pub frames_of_block : {W : Type 0} → Reading W → Actions W → Spot → Block → List ℕ
+  frames_of_block m env p no_stmt = []
+  frames_of_block m env p (andthen x rest) = frames_of m env p x ++ frames_of_block m env (past_framed m env p x) rest
+
+  pub frames_of_arms : {W : Type 0} → Reading W → Actions W → Spot → Arms → List ℕ
+  frames_of_arms m env p (otherwise b) = frames_of_block m env p b
+  frames_of_arms m env p (arm c b rest) =
+      let q = past_condition m p c in frames_of_block m env q b ++ frames_of_arms m env (past_block m env q b) rest
+
+-- The numbers of the units in statements, in the order of the text, those in the bodies of calls too: by its number a unit has its
+-- inputs so far.
+abbrev pub unit_of : Place → Stmt → List ℕ
+unit_of p (unit r vs opcode reach xs is) = p.unit ∷ []
+unit_of p _ = []
+
+abbrev pub units_of_call : {W : Type 0} → Reading W → Spot → Statement → List Argument → Option (Action W) → List ℕ
+units_of_call m p x args None = unit_of p.place (read m x)
+units_of_call m p x args (Some a) = a.units (past_inputs m p a args)
+
+abbrev mutual
+  pub units_of : {W : Type 0} → Reading W → Actions W → Spot → Statement → List ℕ
+  units_of m env p (set line x e) = []
+  units_of m env p (add_to line x e) = []
+  units_of m env p (call line xs name args) = units_of_call m p (call line xs name args) args (env name)
+  units_of m env p (choose line list) = units_of_arms m env p list
+
+  pub units_of_block : {W : Type 0} → Reading W → Actions W → Spot → Block → List ℕ
+  units_of_block m env p no_stmt = []
+  units_of_block m env p (andthen x rest) = units_of m env p x ++ units_of_block m env (past_framed m env p x) rest
+
+  pub units_of_arms : {W : Type 0} → Reading W → Actions W → Spot → Arms → List ℕ
+  units_of_arms m env p (otherwise b) = units_of_block m env p b
+  units_of_arms m env p (arm c b rest) =
+      let q = past_condition m p c in units_of_block m env q b ++ units_of_arms m env (past_block m env q b) rest
+
+-- What statements of frame f do as the note begins. An `if` whose conditions are all known then is decided once; of any other all
+-- arms are initialised.
+abbrev mutual
+  pub init_framed : {W : Type 0} → Reading W → Actions W → ℕ → Spot → Statement → Framed W → Framed W
+  init_framed m env f p (set line x e) u = init_plain m f p (set line x e) u
+  init_framed m env f p (add_to line x e) u = init_plain m f p (add_to line x e) u
+  init_framed m env f p (call line xs name args) u = init_any m f p (call line xs name args) xs args (env name) u
+  init_framed m env f p (choose line list) u =
+      going_on m.world u (if_init (choice_rate list) (init_first m env f p list u) (init_all m env f p list u))
+
+  pub init_block : {W : Type 0} → Reading W → Actions W → ℕ → Spot → Block → Framed W → Framed W
+  init_block m env f p no_stmt u = u
+  init_block m env f p (andthen x rest) u = init_block m env f (past_framed m env p x) rest (init_framed m env f p x u)
+
+  pub init_first : {W : Type 0} → Reading W → Actions W → ℕ → Spot → Arms → Framed W → Framed W
+  init_first m env f p (otherwise b) u = init_block m env f p b u
+  init_first m env f p (arm c b rest) u =
+      let now = put_back f (keep m.world p.place.part (expression_read m c) (seen_from f u)) u in
+      let q = past_condition m p c in
+      if holds (now.kept p.place.part) then init_block m env f q b now
+      else init_first m env f (past_block m env q b) rest now
+
+  pub init_all : {W : Type 0} → Reading W → Actions W → ℕ → Spot → Arms → Framed W → Framed W
+  init_all m env f p (otherwise b) u = init_block m env f p b u
+  init_all m env f p (arm c b rest) u =
+      let now = put_back f (keep m.world p.place.part (expression_read m c) (seen_from f u)) u in
+      let q = past_condition m p c in
+      going_on m.world u (init_all m env f (past_block m env q b) rest (init_block m env f q b now))
+
+-- What statements of frame f do in a control cycle. An `if` takes the first arm whose condition holds.
+abbrev mutual
+  pub perf_framed : {W : Type 0} → Reading W → Actions W → ℕ → Spot → Statement → Framed W → Framed W
+  perf_framed m env f p (set line x e) u = perf_plain m f p (set line x e) u
+  perf_framed m env f p (add_to line x e) u = perf_plain m f p (add_to line x e) u
+  perf_framed m env f p (call line xs name args) u = perf_any m f p (call line xs name args) xs args (env name) u
+  perf_framed m env f p (choose line list) u = perf_arms m env f p list u
+
+  pub perf_block : {W : Type 0} → Reading W → Actions W → ℕ → Spot → Block → Framed W → Framed W
+  perf_block m env f p no_stmt u = u
+  perf_block m env f p (andthen x rest) u = perf_block m env f (past_framed m env p x) rest (perf_framed m env f p x u)
+
+  pub perf_arms : {W : Type 0} → Reading W → Actions W → ℕ → Spot → Arms → Framed W → Framed W
+  perf_arms m env f p (otherwise b) u = perf_block m env f p b u
+  perf_arms m env f p (arm c b rest) u =
+      let q = past_condition m p c in
+      if holds (value_of m.world (seen_from f u) false p.place.part (expression_read m c) 0)
+      then perf_block m env f q b u else perf_arms m env f (past_block m env q b) rest u
+
+-- What a definition does in the frame of a spot: its statements, and then the values of `xout`, which go into places of the frame.
+-- The calls in it have the frames from the next one on.
+abbrev pub inner : Spot → Spot
+inner p = spot p.place (p.frame + 1)
+
+abbrev pub action : {W : Type 0} → Reading W → Actions W → Definition → Action W
+action m env d = record {
+  inputs = d.names;
+  results = slots 0 d.outs;
+  past = λ p. past_block m env (inner p) (whole_body d);
+  calls = λ p. frames_of_block m env (inner p) (whole_body d);
+  units = λ p. units_of_block m env (inner p) (whole_body d);
+  init = λ p u. init_block m env p.frame (inner p) (whole_body d) u;
+  perf = λ p u. perf_block m env p.frame (inner p) (whole_body d) u;
+}
+
+-- the opcodes after one more definition, and after more: each may call those before it
+abbrev pub acting : {W : Type 0} → Reading W → Actions W → Definition → Actions W
+acting m env d name = option_or (env name) (if bytes_eq name d.name then Some (action m env d) else None)
+
+abbrev pub acting_all : {W : Type 0} → Reading W → Actions W → List Definition → Actions W
+acting_all m env [] = env
+acting_all m env (d ∷ ds) = acting_all m (acting m env d) ds
+
+-- the opcodes that are defined in front of a line
+abbrev pub actions_before : {W : Type 0} → Reading W → ℕ → List Definition → Actions W
+actions_before m line ds = acting_all m no_actions (before line ds)

@@ -1,0 +1,25 @@
+-- How a note of an expanded instrument stands to the note with frames.
+use Rattle.std.specs.Prelude.{ℕ, zero, suc, false, List, ◌≡◌}
+use Rattle.cs_words.specs.Names.{name_rate, is_global}
+use Rattle.cs_grammar.specs.WellFormed.{HasNoStop}
+use Rattle.cs_meaning.specs.Notes.{Note, reg}
+use Rattle.cs_udo.specs.Names.{in_frame, as_it_is}
+use Rattle.cs_udo_meaning.specs.Frames.{Framed}
+use Rattle.cs_udo_meaning.specs.Numbered.{Numbering}
+
+-- The name that a variable of a frame has in the expanded text: an instrument's own variables keep theirs.
+abbrev pub own_name : ℕ → List ℕ → List ℕ
+own_name zero x = as_it_is x
+own_name (suc f) x = in_frame (suc f) x
+
+-- a name of a frame: in a text no name has a full stop
+abbrev pub Fits : ℕ → List ℕ → Type 0
+Fits f x = f ≡ 0 → HasNoStop x
+
+-- The note stands as the note with frames does: the local variables of each frame under the names that they have in the expanded
+-- text, the same values kept, the same state of the world. Two numberings tell which registers the names have.
+pub record Stands {W : Type 0} (flat own : Numbering) (t : Note W) (u : Framed W) : Type 0 where
+  pub locals : (f : ℕ) (x : List ℕ) → is_global x ≡ false → Fits f x
+      → t.locals (reg (name_rate x) (flat (own_name f x))) ≡ u.frames f (reg (name_rate x) (own x))
+  pub kept : t.kept ≡ u.kept
+  pub world : t.world ≡ u.world

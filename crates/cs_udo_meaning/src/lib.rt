@@ -1,0 +1,19 @@
+//! What calls of defined opcodes mean, and that an expanded orchestra means it.
+//!
+//! A crate of definitions and laws. specs/Frames says what a note does whose places of calls have frames, a frame for each place,
+//! in any world and over the meaning of one statement (cs_meaning); specs/Stands how a note of the expanded text stands to it;
+//! specs/Lives what a note is from its beginning on, and `MeansFrames`, that the one means the other; specs/Numbered the typed form
+//! of statements by a number for each local name, and specs/Typed that this is what typing gives; specs/Untouched which frames
+//! statements leave alone; specs/Examples small instruments.
+//!
+//! Its one contract: `expansion_means_calls`, a law that no other crate cites, and `expansions_can_be_lowered`, on which the
+//! compiling of texts rests. How names are made fresh and how frames are numbered may be changed in cs_udo without anyone above
+//! noticing.
+#![tactic(auto)]
+
+mod laws;
+
+pub use laws::{
+    calls_have_frames_of_their_own, calls_worked_by_hand, expansion_means_calls,
+    expansions_can_be_lowered, typing_is_by_numbers,
+};

@@ -1,0 +1,313 @@
+-- A voice stays in the room that its codes' counts give it.
+use Rattle.std.proofs.Common.{◌≡◌, ℕ, ℤ, pos, ◌+◌, ◌-◌, ◌&&◌, ◌||◌, ◌==◌, Bool, true, false, not, List, [], ◌∷◌, map, length, nat_lt, nat_le, slice_index_or, Option, Some, None, if◌then◌else◌, refl, sym, ◌∙◌, ap, subst, arith, eqb, eqb-true}
+use Rattle.std.specs.List.{list_all}
+use Rattle.std.proofs.lemmas.Bool.{and_parts}
+use Rattle.std.proofs.lemmas.Bool.Decides.{nat_tests}
+use Rattle.cs_base.specs.Limits.{most_delay_samples}
+use Rattle.cs_base.specs.Rates.{is_audio, same_rate}
+use Rattle.cs_base.specs.declared.resource.Rate.{Rate}
+use Rattle.cs_base.specs.declared.resource.Rate.TheVariants as rate
+use Rattle.cs_base.specs.declared.resource.Res.{Res}
+use Rattle.cs_base.proofs.Rates.{same_rate_is}
+use Rattle.cs_words.specs.Catalogue.{row_of}
+use Rattle.cs_words.specs.declared.catalogue.Opcode.{Opcode}
+use Rattle.cs_words.specs.declared.catalogue.Shape.{Shape}
+use Rattle.cs_words.specs.declared.catalogue.Shape.TheVariants as shape
+use Rattle.cs_words.specs.declared.catalogue.Space.{Space}
+use Rattle.cs_words.specs.declared.catalogue.Space.TheVariants as space
+use Rattle.cs_signal.specs.Delay.{delay_length}
+use Rattle.cs_ir.specs.Machine.{Machine, same_reg, write, acts, is_done, step, run, gives, new_machine}
+use Rattle.cs_ir.specs.Validity.{has_register, writes, finds, takes_from, is_fine, fine_from}
+use Rattle.cs_ir.specs.Waves.{Wave, held, silence, operand, first_values}
+use Rattle.cs_ir.specs.Resources.{takes_table}
+use Rattle.cs_ir.specs.declared.op.Act.{Act}
+use Rattle.cs_ir.specs.declared.op.Act.TheVariants as act
+use Rattle.cs_ir.specs.declared.op.Op.{Op}
+use Rattle.cs_ir.specs.declared.op.Reach.{Reach}
+use Rattle.cs_ir.specs.declared.register.Counts.{Counts}
+use Rattle.cs_ir.specs.declared.register.Reg.{Reg}
+use Rattle.cs_cells.specs.Cells.{Cells, cell}
+use Rattle.cs_cells.specs.declared.footprint.Area.{Area}
+use Rattle.cs_meaning.specs.Plain.{Piece, Table, find_table, table_number, is_there, is_delay, is_live, index, at_place, has_place, added}
+use Rattle.cs_voice_meaning.specs.VoiceWorld.{Playing, VoiceState, save, unit_plays, may_touch, points_read, played, has_played, table_stored, store_plays, does, starts, begun, delayed, put_unit, out_to, out_to_numbered, voice_world, pace_of, fresh_voice}
+use Rattle.cs_voice_meaning.specs.Voices.{Sheet, Sounding, IsPlayable, IsSound, begins, seen, initialised, voice_of, performed, has_channel, have_channels}
+use Rattle.cs_voice_meaning.specs.Room.{FitsIn, VoiceFits}
+
+-- ---- registers and frames
+
+same_reg_is : (p q : Reg) → same_reg p q ≡ true → p ≡ q
+same_reg_is p q h =
+    let both = and_parts (same_rate p.rate q.rate) (eqb p.index q.index) h in
+    let r = same_rate_is p.rate q.rate both.0 in
+    let i = eqb-true p.index q.index both.1 in
+    ap (λ r. record { rate = r; index = p.index }) r ∙ ap (λ n. record { rate = q.rate; index = n }) i
+
+twice : (b : Bool) (x : ℤ) → (if b then (if b then x else pos 0) else pos 0) ≡ (if b then x else pos 0)
+twice true x = refl
+twice false x = refl
+
+held_twice : (ksmps : ℕ) (r : Rate) (w : Wave) → held ksmps r (held ksmps r w) ≡ held ksmps r w
+held_twice ksmps rate.Init w = refl
+held_twice ksmps rate.Control w = refl
+held_twice ksmps rate.Audio w = λ i j. twice (nat_lt j ksmps) (w j) i
+
+past_frames : (b : Bool) (x : ℤ) → (if b then x else pos 0) ≡ x → b ≡ false → x ≡ pos 0
+past_frames true x h e = absurd (cc)
+past_frames false x h e = sym h
+
+kept_frames : (b : Bool) (x : ℤ) → (b ≡ false → x ≡ pos 0) → (if b then x else pos 0) ≡ x
+kept_frames true x h = refl
+kept_frames false x h = sym (h refl)
+
+zero_added : (x y : ℤ) → x ≡ pos 0 → y ≡ pos 0 → added (λ j. x) (λ j. y) 0 ≡ pos 0
+zero_added x y e f = ap (λ z. added (λ j. z) (λ j. y) 0) e ∙ ap (λ z. added (λ j. pos 0) (λ j. z) 0) f
+
+added_held : (ksmps : ℕ) (w v : Wave) → held ksmps rate.Audio w ≡ w → held ksmps rate.Audio v ≡ v → held ksmps rate.Audio (added w v) ≡ added w v
+added_held ksmps w v h k = λ i j. at j i
+  where
+    at : (j : ℕ) → held ksmps rate.Audio (added w v) j ≡ added w v j
+    at j = kept_frames (nat_lt j ksmps) (added w v j)
+        (λ past. zero_added (w j) (v j) (past_frames (nat_lt j ksmps) (w j) (λ i. h i j) past) (past_frames (nat_lt j ksmps) (v j) (λ i. k i j) past))
+
+audio_is : (r : Rate) → is_audio r ≡ true → r ≡ rate.Audio
+audio_is rate.Init h = absurd (cc)
+audio_is rate.Control h = absurd (cc)
+audio_is rate.Audio h = refl
+
+module _ (areas : List Area) (piece : Piece) (counts : Counts) where
+  abbrev pub Fits : Machine VoiceState → Type 0
+  Fits m = FitsIn counts piece.head.ksmps piece.head.nchnls m.regs m.world.units m.world.outs
+
+  abbrev Sound : Wave → Type 0
+  Sound w = held piece.head.ksmps rate.Audio w ≡ w
+
+  -- the world as a machine that fits has it
+  abbrev Room : VoiceState → Type 0
+  Room x = ((u : ℕ) → nat_lt u counts.units ≡ false → x.units u ≡ None) × ((c : ℕ) → nat_lt c piece.head.nchnls ≡ false → x.outs c ≡ silence) × ((c : ℕ) → Sound (x.outs c))
+
+  room_of : (m : Machine VoiceState) → Fits m → Room m.world
+  room_of m f = (f.units, f.outs, f.frames)
+
+  in_room : (m : Machine VoiceState) (x : VoiceState) → Fits m → Room x → Fits (record m { world = x })
+  in_room m x f r = record { regs = f.regs; keeps = f.keeps; units = r.0; outs = r.1; frames = r.2 }
+
+  either_room : (b : Bool) (x y : VoiceState) → Room x → Room y → Room (if b then x else y)
+  either_room true x y h k = h
+  either_room false x y h k = k
+
+  either_room_of : (b : Bool) (p q : VoiceState × Wave) → Room p.0 → Room q.0 → Room (if b then p else q).0
+  either_room_of true p q h k = h
+  either_room_of false p q h k = k
+
+  -- ---- a register is written
+
+  put_other : (b : Bool) (q into : Reg) (w v : Wave) → same_reg q into ≡ b → has_register counts into ≡ true → has_register counts q ≡ false → v ≡ silence → (if b then w else v) ≡ silence
+  put_other true q into w v e there past h = absurd (let same : q ≡ into = same_reg_is q into e in let t : has_register counts q ≡ true = ap (has_register counts) same ∙ there in cc)
+  put_other false q into w v e there past h = h
+
+  put_held : (b : Bool) (q into : Reg) (w v : Wave) → same_reg q into ≡ b → held piece.head.ksmps q.rate v ≡ v
+      → held piece.head.ksmps q.rate (if b then held piece.head.ksmps into.rate w else v) ≡ (if b then held piece.head.ksmps into.rate w else v)
+  put_held true q into w v e h =
+      subst (λ (p : Reg). held piece.head.ksmps p.rate (held piece.head.ksmps into.rate w) ≡ held piece.head.ksmps into.rate w) (sym (same_reg_is q into e)) (held_twice piece.head.ksmps into.rate w)
+  put_held false q into w v e h = h
+
+  write_fits : (into : Reg) (w : Wave) (m : Machine VoiceState) → has_register counts into ≡ true → Fits m → Fits (write piece.head.ksmps into w m)
+  write_fits into w m there f = record {
+    regs = λ q past. put_other (same_reg q into) q into (held piece.head.ksmps into.rate w) (m.regs q) refl there past (f.regs q past);
+    keeps = λ q. put_held (same_reg q into) q into w (m.regs q) refl (f.keeps q);
+    units = f.units;
+    outs = f.outs;
+    frames = f.frames;
+  }
+
+  -- ---- a unit is put where there is one
+
+  put_past : (b : Bool) (p : Playing) (o : Option Playing) (u n : ℕ) → (n == u) ≡ b → nat_lt u counts.units ≡ true → nat_lt n counts.units ≡ false → o ≡ None → (if b then Some p else o) ≡ None
+  put_past true p o u n e there past h = absurd (let same : n ≡ u = eqb-true n u e in let t : nat_lt n counts.units ≡ true = ap (λ k. nat_lt k counts.units) same ∙ there in cc)
+  put_past false p o u n e there past h = h
+
+  put_room : (u : ℕ) (p : Playing) (x : VoiceState) → nat_lt u counts.units ≡ true → Room x → Room (put_unit u p x)
+  put_room u p x there r = (λ n past. put_past (n == u) p (x.units n) u n refl there past (r.0 n past), r.1, r.2)
+
+  unit_room : (opcode : Opcode) (r : Rate) (u : ℕ) (reach : Reach) (ws : List Wave) (o : Option Playing) (x : VoiceState) → nat_lt u counts.units ≡ true → Room x
+      → Room (unit_plays areas piece opcode r u reach ws o x).0
+  unit_room opcode r u reach ws None x there k = k
+  unit_room opcode r u reach ws (Some p) x there k =
+      let done = played piece.head.ksmps r p ws (points_read areas piece opcode p x) in
+      either_room_of (may_touch opcode reach p) (has_played u r p done x) (x, silence) (put_room u (record p { state = done.0 }) x there k) k
+
+  table_room : (r : Rate) (ws : List Wave) (o : Option Table) (x : VoiceState) → Room x → Room (table_stored areas piece.head.ksmps r ws o x)
+  table_room r ws None x k = k
+  table_room r ws (Some t) x k = either_room (is_live t) _ x k k
+
+  store_room : (opcode : Opcode) (r : Rate) (reach : Reach) (ws : List Wave) (o : Option Playing) (x : VoiceState) → Room x → Room (store_plays areas piece opcode r reach ws o x)
+  store_room opcode r reach ws None x k = k
+  store_room opcode r reach ws (Some p) x k =
+      either_room (may_touch opcode reach p) (table_stored areas piece.head.ksmps r ws (find_table piece.tables p.table) x) x (table_room r ws (find_table piece.tables p.table) x k) k
+
+  place_room : (sp : Space) (reach : Reach) (i : Option ℕ) (x : VoiceState) (w : Res → Wave) → Room x → Room (at_place piece sp reach i x (λ g. save areas g (w g) x))
+  place_room sp reach None x w k = k
+  place_room sp reach (Some n) x w k = either_room (has_place piece sp reach n) _ x k k
+
+  does_room : (sh : Shape) (opcode : Opcode) (r : Rate) (u : ℕ) (reach : Reach) (ws : List Wave) (x : VoiceState) → nat_lt u counts.units ≡ true → Room x
+      → Room (does areas piece sh opcode r u reach ws x).0
+  does_room shape.Unit opcode r u reach ws x there k = unit_room opcode r u reach ws (x.units u) x there k
+  does_room shape.Store opcode r u reach ws x there k = store_room opcode r reach ws (x.units u) x k
+  does_room (shape.ZakGet sp) opcode r u reach ws x there k = k
+  does_room (shape.ZakPut sp) opcode r u reach ws x there k = place_room sp reach (index (operand 1 ws 0)) x _ k
+  does_room shape.ZakMix opcode r u reach ws x there k = place_room space.Audio reach (index (operand 1 ws 0)) x _ k
+  does_room (shape.ZakClear sp) opcode r u reach ws x there k = k
+  does_room shape.Init opcode r u reach ws x there k = k
+  does_room shape.Out opcode r u reach ws x there k = k
+  does_room shape.OutAt opcode r u reach ws x there k = k
+  does_room shape.Turnoff opcode r u reach ws x there k = k
+  does_room shape.ZakInit opcode r u reach ws x there k = k
+  does_room shape.ChannelGet opcode r u reach ws x there k = k
+  does_room shape.ChannelPut opcode r u reach ws x there k = k
+  does_room shape.ChannelMix opcode r u reach ws x there k = k
+  does_room shape.ChannelClear opcode r u reach ws x there k = k
+  does_room shape.Ask opcode r u reach ws x there k = k
+
+  starts_room : (opcode : Opcode) (r : Rate) (u : ℕ) (is : List ℤ) (x : VoiceState) → nat_lt u counts.units ≡ true → Room x → Room (starts piece opcode r u is x)
+  starts_room opcode r u is x there k =
+      let samples : ℕ = x.delays + delay_length (pace_of piece.head) (slice_index_or is 0 (pos 0)) in
+      either_room (takes_table opcode && not (is_there (find_table piece.tables (table_number is)))) _ _ k
+      (either_room (is_delay opcode) (delayed (pace_of piece.head) samples opcode r u is x) _
+      (either_room (nat_le samples most_delay_samples) (begun (pace_of piece.head) opcode r u is (record x { delays = samples })) _ (put_room u _ (record x { delays = samples }) there k) k)
+      (put_room u _ x there k))
+
+  -- ---- what goes out
+
+  out_past : (b : Bool) (w v : Wave) (n c : ℕ) → (n == c) ≡ b → nat_lt c piece.head.nchnls ≡ true → nat_lt n piece.head.nchnls ≡ false → v ≡ silence → (if b then w else v) ≡ silence
+  out_past true w v n c e there past h = absurd (let same : n ≡ c = eqb-true n c e in let t : nat_lt n piece.head.nchnls ≡ true = ap (λ k. nat_lt k piece.head.nchnls) same ∙ there in cc)
+  out_past false w v n c e there past h = h
+
+  either_sound : (b : Bool) (w v : Wave) → Sound w → Sound v → Sound (if b then w else v)
+  either_sound true w v h k = h
+  either_sound false w v h k = k
+
+  out_room : (c : ℕ) (w : Wave) (x : VoiceState) → nat_lt c piece.head.nchnls ≡ true → Sound w → Room x → Room (out_to c w x)
+  out_room c w x there sound k = (
+    k.0,
+    λ n past. out_past (n == c) (added (x.outs n) w) (x.outs n) n c refl there past (k.1 n past),
+    λ n. either_sound (n == c) (added (x.outs n) w) (x.outs n) (added_held piece.head.ksmps (x.outs n) w (k.2 n) sound) (k.2 n),
+  )
+
+  channel_below : (n channels : ℕ) → (nat_le 1 n && nat_le n channels) ≡ true → nat_lt (n - 1) channels ≡ true
+  channel_below n channels h = let both = and_parts (nat_le 1 n) (nat_le n channels) h in grind (arith, nat_tests)
+
+  when_room : (b : Bool) (x y : VoiceState) → (b ≡ true → Room x) → Room y → Room (if b then x else y)
+  when_room true x y h k = h refl
+  when_room false x y h k = k
+
+  out_at_room : (i : Option ℕ) (w : Wave) (x : VoiceState) → Sound w → Room x → Room (out_to_numbered piece.head.nchnls i w x)
+  out_at_room None w x sound k = k
+  out_at_room (Some n) w x sound k =
+      when_room (nat_le 1 n && nat_le n piece.head.nchnls) (out_to (n - 1) w x) x (λ there. out_room (n - 1) w x (channel_below n piece.head.nchnls there) sound k) k
+
+  reg_sound : (m : Machine VoiceState) (x : Reg) → Fits m → is_audio x.rate ≡ true → Sound (m.regs x)
+  reg_sound m x f h = subst (λ r. held piece.head.ksmps r (m.regs x) ≡ m.regs x) (audio_is x.rate h) (f.keeps x)
+
+  -- what a valid op sends out is a sound
+  out_sound : (m : Machine VoiceState) (c : ℕ) (r : Rate) (from : List Reg) → takes_from (act.Out c) r from ≡ true → Fits m → Sound (operand 0 (map m.regs from))
+  out_sound m c r [] h f = absurd (cc)
+  out_sound m c r (x ∷ []) h f = reg_sound m x f h
+  out_sound m c r (x ∷ y ∷ from) h f = absurd (cc)
+
+  out_at_sound : (m : Machine VoiceState) (r : Rate) (from : List Reg) → takes_from act.OutAt r from ≡ true → Fits m → Sound (operand 1 (map m.regs from))
+  out_at_sound m r [] h f = absurd (cc)
+  out_at_sound m r (x ∷ []) h f = absurd (cc)
+  out_at_sound m r (x ∷ y ∷ []) h f = reg_sound m y f (and_parts (not (is_audio x.rate)) (is_audio y.rate) h).1
+  out_at_sound m r (x ∷ y ∷ z ∷ from) h f = absurd (cc)
+
+  written_there : (b c : Bool) → (not b || c) ≡ true → b ≡ true → c ≡ true
+  written_there true c h e = h
+  written_there false c h e = absurd (cc)
+
+  written_fits : (b : Bool) (into : Reg) (p : VoiceState × Wave) (m : Machine VoiceState) → (b ≡ true → has_register counts into ≡ true) → Room p.0 → Fits m
+      → Fits (if b then write piece.head.ksmps into p.1 (record m { world = p.0 }) else record m { world = p.0 })
+  written_fits true into p m there k f = write_fits into p.1 (record m { world = p.0 }) (there refl) (in_room m p.0 f k)
+  written_fits false into p m there k f = in_room m p.0 f k
+
+  acts_fit : (t : Act) (into : Reg) (from : List Reg) (end place : ℕ) (m : Machine VoiceState) → (writes t ≡ true → has_register counts into ≡ true) → finds counts end place t ≡ true
+      → takes_from t into.rate from ≡ true → has_channel piece.head.nchnls t ≡ true → Fits m → Fits (acts (voice_world areas piece) t into (map m.regs from) m)
+  acts_fit (act.Const z) into from end place m w fi ta ch f = write_fits into _ m (w refl) f
+  acts_fit (act.Field k) into from end place m w fi ta ch f = write_fits into _ m (w refl) f
+  acts_fit (act.Head k) into from end place m w fi ta ch f = write_fits into _ m (w refl) f
+  acts_fit act.Copy into from end place m w fi ta ch f = write_fits into _ m (w refl) f
+  acts_fit act.Neg into from end place m w fi ta ch f = write_fits into _ m (w refl) f
+  acts_fit (act.Pair b) into from end place m w fi ta ch f = write_fits into _ m (w refl) f
+  acts_fit act.Pick into from end place m w fi ta ch f = write_fits into _ m (w refl) f
+  acts_fit (act.Call g) into from end place m w fi ta ch f = write_fits into _ m (w refl) f
+  acts_fit (act.Load g) into from end place m w fi ta ch f = write_fits into _ m (w refl) f
+  acts_fit (act.Save g) into from end place m w fi ta ch f = in_room m (acts (voice_world areas piece) (act.Save g) into (map m.regs from) m).world f (room_of m f)
+  acts_fit (act.Start opcode k) into from end place m w fi ta ch f =
+      in_room m (acts (voice_world areas piece) (act.Start opcode k) into (map m.regs from) m).world f (starts_room opcode into.rate k (first_values (map m.regs from)) m.world fi (room_of m f))
+  acts_fit (act.Unit opcode k reach) into from end place m w fi ta ch f =
+      written_fits (gives opcode) into (does areas piece (row_of opcode).shape opcode into.rate k reach (map m.regs from) m.world) m w
+      (does_room (row_of opcode).shape opcode into.rate k reach (map m.regs from) m.world fi (room_of m f)) f
+  acts_fit (act.Jump to) into from end place m w fi ta ch f = record { regs = f.regs; keeps = f.keeps; units = f.units; outs = f.outs; frames = f.frames }
+  acts_fit (act.Unless to) into from end place m w fi ta ch f = record { regs = f.regs; keeps = f.keeps; units = f.units; outs = f.outs; frames = f.frames }
+  acts_fit (act.Out c) into from end place m w fi ta ch f = in_room m (acts (voice_world areas piece) (act.Out c) into (map m.regs from) m).world f (out_room c (operand 0 (map m.regs from)) m.world ch (out_sound m c into.rate from ta f) (room_of m f))
+  acts_fit act.OutAt into from end place m w fi ta ch f =
+      in_room m (acts (voice_world areas piece) act.OutAt into (map m.regs from) m).world f (out_at_room (index (operand 0 (map m.regs from) 0)) (operand 1 (map m.regs from)) m.world (out_at_sound m into.rate from ta f) (room_of m f))
+  acts_fit act.Turnoff into from end place m w fi ta ch f = in_room m (acts (voice_world areas piece) act.Turnoff into (map m.regs from) m).world f (room_of m f)
+  acts_fit act.Ask into from end place m w fi ta ch f = in_room m (acts (voice_world areas piece) act.Ask into (map m.regs from) m).world f (room_of m f)
+
+  either_fits : (b : Bool) (n m : Machine VoiceState) → Fits n → Fits m → Fits (if b then n else m)
+  either_fits true n m h k = h
+  either_fits false n m h k = k
+
+  step_fits : (end place : ℕ) (op : Op) (m : Machine VoiceState) → is_fine counts end place op ≡ true → has_channel piece.head.nchnls op.act ≡ true → Fits m
+      → Fits (step (voice_world areas piece) place op m)
+  step_fits end place op m fine ch f =
+      let own : Bool = not (writes op.act) || has_register counts op.into in
+      let reads : Bool = list_all (has_register counts) op.from in
+      let names : Bool = finds counts end place op.act in
+      let takes : Bool = takes_from op.act op.into.rate op.from in
+      let outer = and_parts (own && reads && names) takes fine in
+      let middle = and_parts (own && reads) names outer.0 in
+      let into = and_parts own reads middle.0 in
+      either_fits (is_done (voice_world areas piece) place m) (acts (voice_world areas piece) op.act op.into (map m.regs op.from) m) m
+      (acts_fit op.act op.into op.from end place m (written_there (writes op.act) (has_register counts op.into) into.0) middle.1 outer.1 ch f) f
+
+  -- a machine that fits goes on so
+  pub run_fits : (end place : ℕ) (ops : List Op) (m : Machine VoiceState) → fine_from counts end place ops ≡ true → have_channels piece.head.nchnls ops ≡ true → Fits m
+      → Fits (run (voice_world areas piece) place ops m)
+  run_fits end place [] m fine ch f = f
+  run_fits end place (op ∷ ops) m fine ch f =
+      let now = and_parts (is_fine counts end place op) (fine_from counts end (place + 1) ops) fine in
+      let channel = and_parts (has_channel piece.head.nchnls op.act) (have_channels piece.head.nchnls ops) ch in
+      run_fits end (place + 1) ops (step (voice_world areas piece) place op m) now.1 channel.1 (step_fits end place op m now.0 channel.0 f)
+
+silent_held : (ksmps : ℕ) (r : Rate) → held ksmps r silence ≡ silence
+silent_held ksmps rate.Init = refl
+silent_held ksmps rate.Control = refl
+silent_held ksmps rate.Audio = λ i j. both (nat_lt j ksmps) i
+  where
+    both : (b : Bool) → (if b then pos 0 else pos 0) ≡ pos 0
+    both true = refl
+    both false = refl
+
+-- a voice begins so, and stays so
+pub begins_fitting : (s : Sheet) (counts : Counts) (cells : ℕ → ℤ) → IsPlayable s → fine_from counts (length s.init) 0 s.init ≡ true → VoiceFits counts (voice_of s (initialised s cells))
+begins_fitting s counts cells playable fine =
+    run_fits s.areas s.piece counts (length s.init) 0 s.init (new_machine (fresh_voice cells)) fine playable.init_channels
+    (record {
+      regs = λ q past. refl;
+      keeps = λ q. silent_held s.piece.head.ksmps q.rate;
+      units = λ u past. refl;
+      outs = λ c past. refl;
+      frames = λ c. silent_held s.piece.head.ksmps rate.Audio;
+    })
+
+pub goes_on_fitting : (v : Sounding) (counts : Counts) (c : Cells) → IsSound v → fine_from counts (length v.sheet.perf) 0 v.sheet.perf ≡ true → VoiceFits counts v → VoiceFits counts (performed v c)
+goes_on_fitting v counts c playable fine fits =
+    run_fits v.sheet.areas v.sheet.piece counts (length v.sheet.perf) 0 v.sheet.perf (begins v (seen v.sheet (cell c))) fine playable.perf_channels
+    (record {
+      regs = fits.regs;
+      keeps = fits.keeps;
+      units = fits.units;
+      outs = λ c past. refl;
+      frames = λ c. silent_held v.sheet.piece.head.ksmps rate.Audio;
+    })

@@ -1,0 +1,78 @@
+-- When the world of a voice is in the state of the plain one; and that codes keep it so.
+use Rattle.std.specs.Prelude.{ℕ, ℤ, ◌≡◌, true, List, ◌++◌, Option, Some, None}
+use Rattle.std.specs.List.{AllByRecursion}
+use Rattle.cs_base.specs.declared.resource.Rate.{Rate}
+use Rattle.cs_base.specs.declared.resource.Res.{Res}
+use Rattle.cs_words.specs.declared.catalogue.Opcode.{Opcode}
+use Rattle.cs_signal.specs.Pace.{Pace}
+use Rattle.cs_ugen.specs.Units.{IsUnitOpcode, Stands}
+use Rattle.cs_ir.specs.Machine.{Machine, run}
+use Rattle.cs_ir.specs.Validity.{has_value}
+use Rattle.cs_ir.specs.Resources.{Stock, unit_uses}
+use Rattle.cs_ir.specs.declared.op.Act.{Act}
+use Rattle.cs_ir.specs.declared.op.Act.TheVariants as act
+use Rattle.cs_ir.specs.declared.op.Op.{Op}
+use Rattle.cs_cells.specs.declared.footprint.Area.{Area}
+use Rattle.cs_meaning.specs.Plain.{Piece, Plain, History, table_number, plain}
+use Rattle.cs_voice_meaning.specs.Placing.{HasArea, IsPlaced}
+use Rattle.cs_voice_meaning.specs.VoiceWorld.{Playing, VoiceState, load, pace_of, the_generators, voice_world}
+
+-- each of some resources is named
+abbrev pub AreNamed : (Res → Type 0) → List Res → Type 0
+AreNamed N gs = AllByRecursion N gs
+
+-- Which opcode and rate the unit of each number has.
+abbrev pub Kinds : Type 0
+Kinds = ℕ → Opcode × Rate
+
+-- An op at a rate touches what is named and no other, has its units as they are, and saves into no table.
+abbrev pub ActNamed : Stock → Kinds → (Res → Type 0) → Act → Rate → Type 0
+ActNamed stock kinds N (act.Load g) r = N g
+ActNamed stock kinds N (act.Save g) r = N g × (has_value g ≡ true)
+ActNamed stock kinds N (act.Start opcode u) r = kinds u ≡ (opcode, r)
+ActNamed stock kinds N (act.Unit opcode u reach) r = (kinds u ≡ (opcode, r)) × AreNamed N (unit_uses stock opcode reach)
+ActNamed stock kinds N _ r = Unit {0}
+
+abbrev pub OpsNamed : Stock → Kinds → (Res → Type 0) → List Op → Type 0
+OpsNamed stock kinds N ops = AllByRecursion (λ op. ActNamed stock kinds N op.act op.into.rate) ops
+
+-- two machines in related states: the same registers and the same next op
+pub record Alike {V W : Type 0} (R : V → W → Type 0) (m : Machine V) (n : Machine W) : Type 0 where
+  pub regs : m.regs ≡ n.regs
+  pub next : m.next ≡ n.next
+  pub world : R m.world n.world
+
+-- a unit that plays has come to where all its inputs so far bring it
+pub record Plays (pace : Pace) (kind : Opcode × Rate) (p : Playing) (h : History) : Type 0 where
+  pub opcode : h.opcode ≡ kind.0
+  pub rate : h.rate ≡ kind.1
+  pub table : p.table ≡ table_number h.settled
+  pub stands : IsUnitOpcode kind.0 → Stands p.state kind.0 kind.1 pace h.settled h.inputs
+
+abbrev pub SameUnit : Pace → Opcode × Rate → Option Playing → Option History → Type 0
+SameUnit pace kind None None = Unit {0}
+SameUnit pace kind (Some p) (Some h) = Plays pace kind p h
+SameUnit pace kind None (Some h) = ⊥
+SameUnit pace kind (Some p) None = ⊥
+
+-- The voice's world is in the state of the plain world: what is named has the same value, each unit has come to where its
+-- inputs bring it, and the rest is the same; of what it asked for, all but what it had asked for earlier.
+pub record SameState (N : Res → Type 0) (areas : List Area) (kinds : Kinds) (pace : Pace) (earlier : List (List ℤ))
+    (x : VoiceState) (y : Plain) : Type 0 where
+  pub shared : (g : Res) → N g → load areas g x ≡ y.shared g
+  pub units : (u : ℕ) → SameUnit pace (kinds u) (x.units u) (y.units u)
+  pub delays : x.delays ≡ y.delays
+  pub outs : x.outs ≡ y.outs
+  pub ended : x.ended ≡ y.ended
+  pub asks : y.asks ≡ earlier ++ x.asks
+  pub cause : x.cause ≡ y.cause
+
+-- Machines that run the same ops in the voice's world and in the plain one, from the same state, come to the same state: at all
+-- resources that have areas, where the ops touch no others.
+abbrev pub DoAlike : Type 0
+DoAlike = (areas : List Area) (stock : Stock) (piece : Piece) (kinds : Kinds) (earlier : List (List ℤ)) →
+    IsPlaced areas stock piece → piece.generators ≡ the_generators (pace_of piece.head) →
+    (ops : List Op) (m : Machine VoiceState) (n : Machine Plain) → OpsNamed stock kinds (HasArea areas) ops →
+    Alike (SameState (HasArea areas) areas kinds (pace_of piece.head) earlier) m n →
+    Alike (SameState (HasArea areas) areas kinds (pace_of piece.head) earlier) (run (voice_world areas piece) 0 ops m)
+    (run (plain piece) 0 ops n)

@@ -1,0 +1,139 @@
+-- A voice as a job: what it plays from, how it begins, what a cycle makes of it, and what it leaves.
+use Rattle.std.specs.Prelude.{ℕ, ℤ, pos, ◌≡◌, ◌||◌, Bool, true, List, [], map, length, nat_lt, Option, Some, None, if◌then◌else◌}
+use Rattle.std.specs.List.{list_all, range_with_len, AllByRecursion}
+use Rattle.cs_base.specs.declared.resource.Res.{Res}
+use Rattle.cs_ir.specs.Cycles.{are_of_cycle}
+use Rattle.cs_ir.specs.Machine.{Machine, new_machine, run}
+use Rattle.cs_ir.specs.Resources.{Stock, act_writes}
+use Rattle.cs_ir.specs.Waves.{Wave, silence}
+use Rattle.cs_ir.specs.declared.op.Act.{Act}
+use Rattle.cs_ir.specs.declared.op.Act.TheVariants as act
+use Rattle.cs_ir.specs.declared.op.Op.{Op}
+use Rattle.cs_ir.specs.declared.register.Reg.{Reg}
+use Rattle.cs_cells.specs.Cells.{Cells, cell, covers, in_area}
+use Rattle.cs_cells.specs.Meaning.{Meaning}
+use Rattle.cs_cells.specs.declared.footprint.Area.{Area}
+use Rattle.cs_cells.specs.declared.footprint.Footprint.{Footprint}
+use Rattle.cs_meaning.specs.Plain.{Piece}
+use Rattle.cs_voice_meaning.specs.Placing.{area_of, HasArea, IsPlaced}
+use Rattle.cs_voice_meaning.specs.VoiceWorld.{Playing, VoiceState, fresh_voice, voice_world}
+use Rattle.cs_voice_meaning.specs.Follows.{Kinds, AreNamed, OpsNamed}
+
+-- What a voice plays from: the number of its instrument, its age, which is how many notes were started before it, the piece and
+-- the areas that it sounds in, its footprint, and the codes that begin it and perform it.
+pub record Sheet : Type 0 where
+  pub number : ℕ
+  pub age : ℕ
+  pub piece : Piece
+  pub areas : List Area
+  pub foot : Footprint
+  pub init : List Op
+  pub perf : List Op
+
+-- A voice: what it plays from, its registers and units, the samples of its delays, its output channels, and whether it was
+-- turned off.
+pub record Sounding : Type 0 where
+  pub sheet : Sheet
+  pub regs : Reg → Wave
+  pub units : ℕ → Option Playing
+  pub delays : ℕ
+  pub outs : ℕ → Wave
+  pub ended : Bool
+
+-- what the code that begins a voice does, over cells
+abbrev pub initialised : Sheet → (ℕ → ℤ) → Machine VoiceState
+initialised s cells = run (voice_world s.areas s.piece) 0 s.init (new_machine (fresh_voice cells))
+
+-- the voice that a machine has become
+abbrev pub voice_of : Sheet → Machine VoiceState → Sounding
+voice_of s m = record {
+  sheet = s;
+  regs = m.regs;
+  units = m.world.units;
+  delays = m.world.delays;
+  outs = m.world.outs;
+  ended = m.world.ended;
+}
+
+-- whether a cell is one that the voice may use, or may write
+abbrev pub may_use : Sheet → ℕ → Bool
+may_use s a = covers s.areas s.foot.uses a || covers s.areas s.foot.writes a
+
+abbrev pub may_write : Sheet → ℕ → Bool
+may_write s a = covers s.areas s.foot.writes a
+
+-- the cells as the voice sees them: any that it doesn't use is 0
+abbrev pub seen : Sheet → (ℕ → ℤ) → ℕ → ℤ
+seen s cells a = if may_use s a then cells a else pos 0
+
+-- the voice as a machine that begins a cycle over cells, with its output cleared; and the machine after the cycle
+abbrev pub begins : Sounding → (ℕ → ℤ) → Machine VoiceState
+begins v cells = record {
+  regs = v.regs;
+  next = 0;
+  world = record {
+    cells = cells;
+    units = v.units;
+    delays = v.delays;
+    outs = λ c. silence;
+    ended = v.ended;
+    asks = [];
+    cause = None;
+  };
+}
+
+abbrev pub cycle : Sounding → (ℕ → ℤ) → Machine VoiceState
+cycle v cells = run (voice_world v.sheet.areas v.sheet.piece) 0 v.sheet.perf (begins v cells)
+
+-- the voice after a cycle
+abbrev pub performed : Sounding → Cells → Sounding
+performed v c = voice_of v.sheet (cycle v (seen v.sheet (cell c)))
+
+-- the cells after it: those that it may write, as the code leaves them
+abbrev pub left_by : Sounding → Cells → Cells
+left_by v c = map (λ a. if may_write v.sheet a then (cycle v (seen v.sheet (cell c))).world.cells a else cell c a)
+    (range_with_len 0 (length c))
+
+-- a resource has an area of which the voice may use each cell, or may write each cell
+abbrev pub IsUsed : Sheet → Res → Type 0
+IsUsed s g = (area : Area) × (area_of s.areas g ≡ Some area) × ((a : ℕ) → in_area (Some area) a ≡ true → may_use s a ≡ true)
+
+abbrev pub IsWritten : Sheet → Res → Type 0
+IsWritten s g = (a : ℕ) → in_area (area_of s.areas g) a ≡ true → may_write s a ≡ true
+
+abbrev pub OpsWritten : Stock → (Res → Type 0) → List Op → Type 0
+OpsWritten stock N ops = AllByRecursion (λ op. AreNamed N (act_writes stock op.act)) ops
+
+-- whether each op that sends to a channel finds it
+abbrev pub has_channel : ℕ → Act → Bool
+has_channel channels (act.Out c) = nat_lt c channels
+has_channel channels _ = true
+
+abbrev pub have_channels : ℕ → List Op → Bool
+have_channels channels ops = list_all (λ op. has_channel channels op.act) ops
+
+-- What can be played: what the codes touch has its area, and in a cycle lies in the footprint; each unit is of one kind, each
+-- channel is there; and a cycle takes no memory and refuses nothing.
+pub record IsPlayable (s : Sheet) : Type 0 where
+  pub stock : Stock
+  pub kinds : Kinds
+  pub placed : IsPlaced s.areas stock s.piece
+  pub init_uses : OpsNamed stock kinds (HasArea s.areas) s.init
+  pub perf_uses : OpsNamed stock kinds (IsUsed s) s.perf
+  pub perf_writes : OpsWritten stock (IsWritten s) s.perf
+  pub init_channels : have_channels s.piece.head.nchnls s.init ≡ true
+  pub perf_channels : have_channels s.piece.head.nchnls s.perf ≡ true
+  pub perf_acts : are_of_cycle s.perf ≡ true
+
+abbrev pub IsSound : Sounding → Type 0
+IsSound v = IsPlayable v.sheet
+
+-- what a voice means as a job
+abbrev pub voice_means : Meaning Sounding
+voice_means = record {
+  areas = λ v. v.sheet.areas;
+  foot = λ v. v.sheet.foot;
+  after = performed;
+  leaves = left_by;
+  valid = IsSound;
+}

@@ -1,0 +1,32 @@
+// Small codes worked out: a call that does nothing, whose contract says what comes of them.
+ghost use Rattle.std.specs.Prelude.{◌≡◌, ◌∷◌, [], pos, true, None, Some};
+ghost use Rattle.cs_meaning.specs.Plain.{no_table, delay_too_long};
+ghost use Rattle.cs_voice_meaning.specs.Examples.{whole, cells_of, start, begun, heard, counting, writing, reading, ending, missing_table, two_delays};
+ghost use Rattle.cs_voice_meaning.specs.Voices.{performed, left_by};
+
+/// Codes that voices play, worked out from the definitions.
+pub fn voices_worked_by_hand()
+    // gk1 counts up, and no other cell changes.
+    ensures counted { left_by (begun counting) (cells_of (whole 3) (whole 8) (whole 9))
+        ≡ cells_of (whole 4) (whole 8) (whole 9) }
+    // One voice writes a zak place, and the next reads it in the same cycle.
+    ensures written { left_by (begun writing) (cells_of (whole 3) (whole 8) (whole 9))
+        ≡ cells_of (whole 3) (whole 70) (whole 9) }
+    ensures read { heard (begun (reading (1 ∷ []))) (left_by (begun writing) (cells_of (whole 3) (whole 8) (whole 9)))
+        ≡ whole 70 ∷ whole 70 ∷ whole 70 ∷ whole 70 ∷ [] }
+    // A place that isn't in the footprint isn't seen.
+    ensures unseen { heard (begun (reading [])) (cells_of (whole 3) (whole 8) (whole 9))
+        ≡ whole 0 ∷ whole 0 ∷ whole 0 ∷ whole 0 ∷ [] }
+    // A note that was turned off sounds to the end of its cycle; what goes out to a channel is added.
+    ensures ends { (performed (begun ending) (cells_of (whole 3) (whole 8) (whole 9))).ended ≡ true }
+    ensures goes_out { heard (begun ending) (cells_of (whole 3) (whole 8) (whole 9))
+        ≡ whole 4 ∷ whole 4 ∷ whole 4 ∷ whole 4 ∷ [] }
+    // A start that is refused keeps what was written and asked for before, and does nothing after.
+    ensures refused { (start missing_table).world.cause ≡ Some (no_table (pos 9)) }
+    ensures kept { (start missing_table).world.cells 0 ≡ whole 5 }
+    ensures asked { (start missing_table).world.asks ≡ (whole 5 ∷ whole 0 ∷ whole 0 ∷ []) ∷ [] }
+    // Delays of 2^18 samples together, and of one sample more.
+    ensures delays { (start (two_delays (whole 16384) (whole 16384))).world.cause ≡ None }
+    ensures long_delays { (start (two_delays (whole 16384) (pos 1073750016))).world.cause
+        ≡ Some (delay_too_long 262145) }
+{}

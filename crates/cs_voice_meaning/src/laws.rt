@@ -1,0 +1,39 @@
+// What holds of every voice: calls that do nothing, whose contracts are the laws.
+ghost use Rattle.std.specs.Prelude.{◌≡◌, ◌<◌, ℕ, ℤ, [], None, length, true};
+ghost use Rattle.cs_cells.specs.Cells.{Cells, cell};
+ghost use Rattle.cs_cells.specs.Meaning.{Frames};
+ghost use Rattle.cs_voice_meaning.specs.Follows.{DoAlike};
+ghost use Rattle.cs_ir.specs.Validity.{fine_from};
+ghost use Rattle.cs_ir.specs.declared.register.Counts.{Counts};
+ghost use Rattle.cs_voice_meaning.specs.Room.{VoiceFits};
+ghost use Rattle.cs_voice_meaning.specs.Voices.{Sheet, Sounding, IsPlayable, IsSound, initialised, voice_means, performed, left_by, cycle, voice_of};
+
+/// A code does in the voice's world, over cells and the states of units, what it does in the plain world of the meaning.
+pub fn voices_stand_for_notes()
+    ensures { DoAlike }
+{}
+
+/// The frame law of voices; and what a voice does over the cells of its footprint alone is what its code does over all
+/// cells.
+pub fn voices_obey_the_frame_law()
+    ensures frames { Frames voice_means }
+    ensures voice { (v : Sounding) (c : Cells) → IsSound v
+        → performed v c ≡ voice_of v.sheet (cycle v (cell c)) }
+    ensures cells { (v : Sounding) (c : Cells) (a : ℕ) → IsSound v → a < length c
+        → cell (left_by v c) a ≡ (cycle v (cell c)).world.cells a }
+{}
+
+/// A control cycle refuses nothing, asks for nothing and starts no delay: it takes no memory.
+pub fn cycles_refuse_nothing()
+    ensures { (v : Sounding) (cells : ℕ → ℤ) → IsSound v → ((cycle v cells).world.cause ≡ None)
+        × ((cycle v cells).world.asks ≡ []) × ((cycle v cells).world.delays ≡ v.delays) }
+{}
+
+/// A voice that plays valid codes needs the registers and units that they count, and the channels and frames of its piece:
+/// past these there is nothing, as it begins and after each cycle.
+pub fn voices_fit_their_room()
+    ensures begins { (s : Sheet) (counts : Counts) (cells : ℕ → ℤ) → IsPlayable s
+        → fine_from counts (length s.init) 0 s.init ≡ true → VoiceFits counts (voice_of s (initialised s cells)) }
+    ensures goes_on { (v : Sounding) (counts : Counts) (c : Cells) → IsSound v
+        → fine_from counts (length v.sheet.perf) 0 v.sheet.perf ≡ true → VoiceFits counts v → VoiceFits counts (performed v c) }
+{}
