@@ -13,11 +13,11 @@ use crate::args::Call;
 use crate::frame::{Bases, Layout, Pass, Step};
 use crate::reach::reach_of;
 use crate::unit::Run;
-use crate::value::{Sum, Value};
+use crate::value::Value;
 use crate::{init, perf};
-use cs_base::{Num, OutOfMemory, Rate};
+use cs_base::{OutOfMemory, Rate};
 use cs_ir::Op;
-use cs_typed::{TypedArg, TypedExpr, TypedPart, Var};
+use cs_typed::{TypedArg, TypedExpr, Var};
 use cs_words::{Shape, signature_of};
 use std::alloc::Global;
 
@@ -184,11 +184,8 @@ fn get(
 {
     match (call.results, call.args) {
         ([v, ..], [TypedArg::Text(c), ..]) => {
-            let read = TypedExpr {
-                rate: call.rate,
-                what: TypedPart::Var(*c),
-            };
-            assign(ops, layout.bases, pass, p, call.rate, *v, &Value::Of(&read))
+            let read = Value::Read(call.rate, *c);
+            assign(ops, layout.bases, pass, p, call.rate, *v, &read)
         }
         _ => unit(alloc, ops, layout, pass, p, call),
     }
@@ -222,11 +219,7 @@ fn taken(adds: bool, channel: Var, e: &TypedExpr) -> Value<'_>
         else expression e.now) }
 {
     if adds {
-        Value::Added(Sum {
-            rate: Rate::Audio,
-            first: channel,
-            second: e,
-        })
+        Value::Added(Rate::Audio, channel, e)
     } else {
         Value::Of(e)
     }
@@ -277,11 +270,7 @@ fn clear(
 {
     match call.args {
         [TypedArg::Text(c), ..] => {
-            let zero = TypedExpr {
-                rate: Rate::Init,
-                what: TypedPart::Number(Num::of_raw(0)),
-            };
-            assign(ops, layout.bases, pass, p, call.rate, *c, &Value::Of(&zero))
+            assign(ops, layout.bases, pass, p, call.rate, *c, &Value::Zero)
         }
         _ => unit(alloc, ops, layout, pass, p, call),
     }

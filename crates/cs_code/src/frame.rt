@@ -8,8 +8,7 @@ ghost use Rattle.cs_code.specs.inner.Frames.{op_of, kept_reg, temp};
 use cs_base::{OutOfMemory, Rate};
 use cs_ir::{Act, Op, Operands, Reg};
 
-/// Of each rate the number of the first register that is free for what is worked out in between;
-/// and the register of the
+/// For each rate the number of the first register that is free for what is worked out in between, and the register of the
 /// first kept value.
 #[derive(Clone, Copy)]
 pub struct Bases {

@@ -8,9 +8,10 @@ ghost use Rattle.cs_code.specs.inner.Code.{init_code, keep_all_code};
 ghost use Rattle.cs_code.specs.inner.Emitted.{frame_of, place_of, value_of, picks_of};
 
 use crate::args::{Call, Which, keep_all, operands};
+use crate::expr::{keep_value, set};
 use crate::frame::{Bases, Step, add, push};
 use crate::unit::{Run, run_unit, start_unit};
-use crate::value::{Value, keep_value, set};
+use crate::value::Value;
 use cs_base::{OutOfMemory, Rate};
 use cs_ir::{Act, Op, Operands, Reg};
 use cs_typed::Var;

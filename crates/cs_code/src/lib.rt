@@ -5,7 +5,7 @@
 //! every piece, use and write what it does, and are valid (specs/Lowered.antt). Which ops are made is the crate's own
 //! (specs/inner/Code.antt) and may be changed without anyone above noticing.
 //!
-//! To be read in this order: `frame` (where values stand among the registers), `expr` and `value` (expressions), `args`,
+//! To be read in this order: `frame` (where values stand among the registers), `value` and `expr` (expressions), `args`,
 //! `reach` and `unit` (calls of units), `init` and `perf` (simple statements in either pass), `call` (what a call is short
 //! for), `jumps` (jumps that are aimed once their end is known), `stmt` (statements, blocks, arms), `census` (local variables), `counts`
 //! (registers in use), `codes` (both codes of a block), `orchestra` (`lower`: codes checked, and instruments by number).

@@ -68,7 +68,7 @@ fn instruments_of(alloc: Global, zak: Zak, orc: &TypedOrc) -> Result<Instruments
     ensures { IfOk result (λ l. AreInstrumentsOf (typed.orchestra orc.now) l) }
 {
     let list = in_text(alloc, zak, orc.head.nchnls, &orc.instrs)?;
-    Instruments::of(alloc, list)
+    Ok(Instruments::of(list))
 }
 
 // The instruments in the order of the text.

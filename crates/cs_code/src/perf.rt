@@ -10,9 +10,10 @@ ghost use Rattle.cs_code.specs.inner.Emitted.{frame_of, place_of, value_of, pick
 ghost use Rattle.cs_code.specs.inner.Frames.{op_of};
 
 use crate::args::{Call, Which, operands};
+use crate::expr::set;
 use crate::frame::{Bases, Step, add, push};
 use crate::unit::{Run, run_unit};
-use crate::value::{Value, set};
+use crate::value::Value;
 use cs_base::{OutOfMemory, Rate};
 use cs_ir::{Act, Op, Operands, Reg};
 use cs_typed::Var;

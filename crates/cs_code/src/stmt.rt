@@ -17,7 +17,7 @@ use crate::call::{assign, call};
 use crate::expr::{keep, operand};
 use crate::frame::{Layout, Pass, Spot, Step, kept_reg, push};
 use crate::jumps::{aim, aim_all};
-use crate::value::{Sum, Value};
+use crate::value::Value;
 use cs_base::{OutOfMemory, Rate};
 use cs_ir::{Act, Op, Operands};
 use cs_typed::{TypedArm, TypedExpr, TypedStmt, TypedWhat};
@@ -92,12 +92,8 @@ fn stmt(
     match &s.what {
         TypedWhat::Set(v, e) => assign(ops, layout.bases, pass, p, s.rate, *v, &Value::Of(e)),
         TypedWhat::AddTo(v, e) => {
-            let sum = Sum {
-                rate: s.rate,
-                first: *v,
-                second: e,
-            };
-            assign(ops, layout.bases, pass, p, s.rate, *v, &Value::Added(sum))
+            let value = Value::Added(s.rate, *v, e);
+            assign(ops, layout.bases, pass, p, s.rate, *v, &value)
         }
         TypedWhat::Call(results, opcode, args) => {
             let made = Call {

@@ -1,4 +1,3 @@
-pub mod Completing
 pub mod Covering
 pub mod Holding
 pub mod Marking

@@ -1,4 +1,3 @@
-pub mod Complete
 pub mod Examples
 pub mod Footprints
 pub mod inner

@@ -65,7 +65,7 @@ fn marks_of(alloc: Global, ops: &[Op], layout: &Layout) -> Result<Marks, OutOfMe
 }
 
 /// How many places each zak space has.
-pub fn sizes_of(layout: &Layout) -> Sizes
+fn sizes_of(layout: &Layout) -> Sizes
     ensures { result ≡ (stock_of layout.now).spaces }
 {
     Sizes {

@@ -1,6 +1,6 @@
 // What holds of footprints: calls that do nothing, whose contracts are the laws.
 ghost use Rattle.std.specs.Prelude.{◌≡◌, ◌↔◌, ◌<◌, ◌≤◌, ℕ, true, List, [], ◌∷◌, length, Some};
-ghost use Rattle.std.specs.List.{Contains, list_all};
+ghost use Rattle.std.specs.List.{Contains};
 ghost use Rattle.std.specs.List.Sorted.{IsStrictlyIncreasing};
 ghost use Rattle.cs_base.specs.declared.resource.Res.{Res};
 ghost use Rattle.cs_base.specs.declared.resource.Res.TheVariants as res;
@@ -13,7 +13,6 @@ ghost use Rattle.cs_ir.specs.Resources.{act_uses, act_writes, ops_use, ops_write
 ghost use Rattle.cs_ir.specs.declared.op.Act.TheVariants.{Load, Save, Unit};
 ghost use Rattle.cs_ir.specs.declared.op.Op.{Op};
 ghost use Rattle.cs_ir.specs.declared.op.Reach.TheVariants.{Nothing, Span, Any};
-ghost use Rattle.cs_rwset.specs.Complete.{has_area};
 ghost use Rattle.cs_rwset.specs.Examples.{seven_areas, used, written};
 ghost use Rattle.cs_rwset.specs.Footprints.{place_count, places_holding, stock_of};
 
@@ -71,12 +70,6 @@ pub fn written_is_used()
     ensures { (areas : List Area) (ops : List Op) (place : ℕ)
         → Contains (places_holding areas (ops_write (stock_of areas) ops)) place
         → Contains (places_holding areas (ops_use (stock_of areas) ops)) place }
-{}
-
-/// All of some resources have areas where each has a place.
-pub fn areas_are_there()
-    ensures { (areas : List Area) (rs : List Res) → list_all (has_area areas) rs ≡ true
-        ↔ ((r : Res) → Contains rs r → (place : ℕ) × HasPlace areas r place) }
 {}
 
 /// Footprints worked out from the definitions, in a layout of seven areas: `gk1` at place 0, a channel at 1, three zak

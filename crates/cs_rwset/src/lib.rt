@@ -5,19 +5,16 @@
 //! alone, a computed one all that may be reached (`reach_of_numbers`).
 //!
 //! How the places are collected, here by marks, may be changed without anyone above noticing. To be read in this order:
-//! `named` (what an op names), `marks`, `code`, `places` (whether a layout has what a code
-//! may use), `laws` (what holds of footprints, and worked examples).
+//! `named` (what an op names), `marks`, `code`, `laws` (what holds of footprints, and worked examples).
 #![tactic(auto)]
 
 mod code;
 mod laws;
 mod marks;
 mod named;
-mod places;
 
 pub use code::footprint;
 pub use laws::{
-    areas_are_there, cells_are_of_resources, footprints_are_of_ops, footprints_worked_by_hand,
+    cells_are_of_resources, footprints_are_of_ops, footprints_worked_by_hand,
     places_are_of_resources, reach_of_numbers, written_is_used,
 };
-pub use places::has_areas;

@@ -146,7 +146,7 @@ fn narrowed_place(space: Space, place: usize, sizes: &Sizes) -> Named
     }
 }
 
-pub fn reaches(reach: Reach, number: usize) -> bool
+fn reaches(reach: Reach, number: usize) -> bool
     ensures { result ≡ reaches reach number }
 {
     match reach {

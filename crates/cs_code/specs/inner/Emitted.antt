@@ -1,5 +1,5 @@
 -- What the functions that make code work on, in the words of the definitions.
-use Rattle.std.specs.Prelude.{ℕ, Bool, true, false, not, zero, suc, ◌+◌, ◌-◌, ◌&&◌, ◌++◌, List, [], ◌∷◌, length, min, nat_lt, nat_le, Option, Some, None, map, if◌then◌else◌}
+use Rattle.std.specs.Prelude.{ℕ, Bool, true, false, not, zero, suc, ◌+◌, ◌-◌, ◌&&◌, ◌++◌, List, [], ◌∷◌, length, min, nat_lt, nat_le, Option, Some, None, map, if◌then◌else◌, pos}
 use Rattle.cs_base.specs.Rates.{is_init}
 use Rattle.cs_base.specs.declared.resource.Rate.{Rate}
 use Rattle.cs_base.specs.declared.resource.Rate.TheVariants as rate
@@ -28,7 +28,6 @@ use Rattle.cs_code.specs.declared.frame.Step.{Step}
 use Rattle.cs_code.specs.declared.frame.Zak.{Zak}
 use Rattle.cs_code.specs.declared.reach.Known.{Known}
 use Rattle.cs_code.specs.declared.reach.Known.TheVariants as known
-use Rattle.cs_code.specs.declared.value.Sum.{Sum}
 use Rattle.cs_code.specs.declared.value.Value.{Value}
 use Rattle.cs_code.specs.declared.value.Value.TheVariants as value
 use Rattle.cs_code.specs.inner.Code.{keep_code, operand_code, init_code, init_block_code, first_code, perf_code, perf_block_code, perf_arms_code}
@@ -49,13 +48,12 @@ place_of p = record { part = p.part; unit = p.unit }
 abbrev pub spaces_of : Zak → Spaces
 spaces_of z = record { control = z.control; audio = z.audio }
 
--- what a variable has and a value are added; and what a variable takes
-abbrev pub sum_of : Sum → Expression
-sum_of s = plus s.rate s.first (typed.expression s.second.now)
-
+-- what a variable takes
 abbrev pub value_of : Value → Expression
 value_of (value.Of e) = typed.expression e.now
-value_of (value.Added s) = sum_of s
+value_of (value.Read r v) = var r v
+value_of (value.Added r v e) = plus r v (typed.expression e.now)
+value_of value.Zero = number rate.Init (pos 0)
 
 -- the code of the kept parts of an expression that changes, and the number after theirs
 abbrev pub parts_code : Frame → ℕ → Expression → List Op
