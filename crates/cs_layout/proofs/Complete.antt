@@ -21,7 +21,7 @@ use Rattle.cs_layout.proofs.Counted.{spaces_are}
 use Rattle.cs_layout.proofs.Tails.{from_gk, from_ga, from_control, from_sound, from_zk, from_za}
 use Rattle.cs_meaning.specs.Plain.{Piece, Table}
 use Rattle.cs_rwset.specs.Footprints.{stock_of, table_number}
-use Rattle.cs_sounding.specs.Placing.{IsPlaced, IsTablePlaced, area_of, cell_count}
+use Rattle.cs_voice_meaning.specs.Placing.{IsPlaced, IsTablePlaced, area_of, cell_count}
 use Rattle.cs_typed.specs.TypedTree.{SharedNames}
 
 -- each resource has its area at its own position

@@ -10,7 +10,7 @@ use Rattle.cs_base.proofs.Tests.{by_test, some_is}
 use Rattle.cs_cells.specs.Areas.{word_count}
 use Rattle.cs_cells.specs.declared.footprint.Area.{Area}
 use Rattle.cs_layout.specs.Layouts.{Shared, laid_from}
-use Rattle.cs_sounding.specs.Placing.{area_of}
+use Rattle.cs_voice_meaning.specs.Placing.{area_of}
 
 abbrev pub laid : ℕ → Shared → Area
 laid first s = record { res = s.res; first = first; length = s.cells }

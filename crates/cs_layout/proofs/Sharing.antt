@@ -12,7 +12,7 @@ use Rattle.cs_ir.specs.Validity.{has_value}
 use Rattle.cs_layout.specs.Layouts.{Shared, numbered, of_tables, shared_by, is_shared, AreApart}
 use Rattle.cs_layout.proofs.Tails.{from_gk, from_ga, from_control, from_sound, from_zk, from_za}
 use Rattle.cs_layout.specs.declared.areas.LiveTable.{LiveTable}
-use Rattle.cs_sounding.specs.Placing.{cell_count}
+use Rattle.cs_voice_meaning.specs.Placing.{cell_count}
 use Rattle.cs_typed.specs.TypedTree.{SharedNames}
 
 -- what holds at each place of two lists, one behind the other

@@ -6,8 +6,8 @@ use Rattle.cs_words.specs.declared.catalogue.Space.{Space}
 use Rattle.cs_words.specs.declared.catalogue.Space.TheVariants as space
 use Rattle.cs_ir.specs.Resources.{Spaces, places_of, zak_place}
 use Rattle.cs_typed.specs.TypedTree.{SharedNames}
-use Rattle.cs_sounding.specs.Placing.{area_of}
-use Rattle.cs_access.specs.Access.{spaces_of}
+use Rattle.cs_voice_meaning.specs.Placing.{area_of}
+use Rattle.cs_machine.specs.Access.{spaces_of}
 use Rattle.cs_layout.specs.Layouts.{areas_of}
 use Rattle.cs_layout.specs.declared.areas.LiveTable.{LiveTable}
 use Rattle.cs_layout.proofs.Complete.{there}

@@ -2,7 +2,7 @@
 ghost use Rattle.std.specs.Prelude.{ℕ, ◌≡◌, ◌<◌, List, Some, true};
 ghost use Rattle.std.specs.List.{All};
 ghost use Rattle.std.specs.Option.{is_some};
-ghost use Rattle.cs_access.specs.Access.{AreSpaces, spaces_of};
+ghost use Rattle.cs_machine.specs.Access.{AreSpaces, spaces_of};
 ghost use Rattle.cs_base.specs.Rates.{res_rate};
 ghost use Rattle.cs_base.specs.declared.resource.Res.{Res};
 ghost use Rattle.cs_cells.specs.Areas.{IsLaid};
@@ -13,7 +13,7 @@ ghost use Rattle.cs_layout.specs.Layouts.{AreApart, AreLive, areas_of, is_shared
 ghost use Rattle.cs_layout.specs.declared.areas.LiveTable.{LiveTable};
 ghost use Rattle.cs_meaning.specs.Plain.{Piece};
 ghost use Rattle.cs_rwset.specs.Footprints.{stock_of};
-ghost use Rattle.cs_sounding.specs.Placing.{IsPlaced, area_of, cell_count};
+ghost use Rattle.cs_voice_meaning.specs.Placing.{IsPlaced, area_of, cell_count};
 ghost use Rattle.cs_typed.specs.TypedTree.{SharedNames};
 
 /// Areas follow one another and no resource has two; a resource has one exactly where the piece has the resource, with a cell

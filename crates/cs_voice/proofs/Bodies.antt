@@ -9,10 +9,10 @@ use Rattle.cs_ir.specs.declared.op.Act.{Act}
 use Rattle.cs_ir.specs.declared.op.Act.TheVariants as act
 use Rattle.cs_ir.specs.declared.op.Op.{Op}
 use Rattle.cs_cells.specs.Cells.{in_area}
-use Rattle.cs_sounding.specs.Follows.{ActNamed, AreNamed, OpsNamed, Kinds}
-use Rattle.cs_sounding.specs.Placing.{HasArea}
-use Rattle.cs_sounding.specs.Voices.{Sheet, IsUsed, IsWritten, OpsWritten, may_use, may_write}
-use Rattle.cs_state.specs.States.{CanDo, MayTouch}
+use Rattle.cs_voice_meaning.specs.Follows.{ActNamed, AreNamed, OpsNamed, Kinds}
+use Rattle.cs_voice_meaning.specs.Placing.{HasArea}
+use Rattle.cs_voice_meaning.specs.Voices.{Sheet, IsUsed, IsWritten, OpsWritten, may_use, may_write}
+use Rattle.cs_machine.specs.States.{CanDo, MayTouch}
 
 -- ---- what a voice may touch lets each of its ops be done
 

@@ -13,20 +13,21 @@ use Rattle.cs_cells.specs.Cells.{Cells, cell}
 use Rattle.cs_cells.specs.Meaning.{Uses, Writes}
 use Rattle.cs_cells.specs.declared.footprint.Area.{Area}
 use Rattle.cs_cells.specs.declared.footprint.Footprint.{Footprint}
-use Rattle.cs_registers.specs.Outputs.{ChannelFile, outs, refilled}
-use Rattle.cs_registers.specs.Registers.{RegisterFile, filled, values}
-use Rattle.cs_registers.specs.Rows.{row_of}
-use Rattle.cs_access.specs.Access.{AreSpaces, spaces_of}
-use Rattle.cs_player.specs.Players.{PlayerData, playing}
-use Rattle.cs_sounding.specs.Placing.{HasArea, IsPlaced}
-use Rattle.cs_sounding.specs.VoiceWorld.{VoiceState, voice_world}
-use Rattle.cs_sounding.specs.Voices.{begins, cycle, performed, voice_of}
-use Rattle.cs_sounding.proofs.FrameLaw.{voice_frames}
-use Rattle.cs_sounding.proofs.OnAllCells.{performed_on_all, left_on_all}
-use Rattle.cs_sounding.specs.Follows.{OpsNamed}
-use Rattle.cs_state.specs.States.{CanDo, IsStateIn, machine_of, header_of, unit_at}
-use Rattle.cs_state.specs.declared.state.State.{State}
-use Rattle.cs_state.specs.declared.state.Setting.{Setting}
+use Rattle.cs_machine.specs.Outputs.{ChannelFile, outs, refilled}
+use Rattle.cs_machine.specs.Registers.{RegisterFile, filled, values}
+use Rattle.cs_machine.specs.Rows.{row_of}
+use Rattle.cs_machine.specs.Access.{AreSpaces, spaces_of}
+use Rattle.cs_machine.specs.Players.{PlayerData, playing}
+use Rattle.cs_voice_meaning.specs.Placing.{HasArea, IsPlaced}
+use Rattle.cs_voice_meaning.specs.VoiceWorld.{VoiceState, voice_world}
+use Rattle.cs_voice_meaning.specs.Voices.{begins, cycle, performed, voice_of}
+use Rattle.cs_voice_meaning.proofs.FrameLaw.{voice_frames}
+use Rattle.cs_voice_meaning.proofs.OnAllCells.{performed_on_all, left_on_all}
+use Rattle.cs_voice_meaning.specs.Follows.{OpsNamed}
+use Rattle.cs_typed.specs.TypedTree.{header_of_head}
+use Rattle.cs_machine.specs.States.{CanDo, IsStateIn, machine_of, unit_at}
+use Rattle.cs_machine.specs.declared.state.State.{State}
+use Rattle.cs_machine.specs.declared.state.Setting.{Setting}
 use Rattle.cs_voice.specs.declared.stage.Stage.{Stage}
 use Rattle.cs_voice.specs.Cycles.{CanRun, Context, HasRun}
 use Rattle.cs_voice.specs.Memory.{IsKept, voice_in}
@@ -100,7 +101,7 @@ module _ (number age : ℕ) (stage : Stage) (foot : Footprint) (code : Code) (fi
       record {
         setting = record {
           layout = refl;
-          head = ap header_of (sym head);
+          head = ap header_of_head (sym head);
           spaces = λ i. record { control = sym zak_k i; audio = sym zak_a i };
           fields = λ k. ap (λ l. argument l (k - 1)) (sym given);
         };

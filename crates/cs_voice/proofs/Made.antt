@@ -4,10 +4,7 @@ use Rattle.std.specs.Option.{option_map}
 use Rattle.std.proofs.lemmas.List.{length-map}
 use Rattle.cs_base.specs.declared.resource.Rate.{Rate}
 use Rattle.cs_base.specs.declared.resource.Res.{Res}
-use Rattle.cs_words.specs.Catalogue.{row_of}
 use Rattle.cs_words.specs.declared.catalogue.Opcode.{Opcode}
-use Rattle.cs_words.specs.declared.catalogue.Opcode.TheVariants as op
-use Rattle.cs_words.specs.declared.catalogue.Shape.TheVariants as shape
 use Rattle.cs_ir.specs.Resources.{Stock, takes_table}
 use Rattle.cs_ir.specs.declared.op.Act.{Act}
 use Rattle.cs_ir.specs.declared.op.Act.TheVariants as act
@@ -18,15 +15,16 @@ use Rattle.cs_ir.specs.declared.register.Counts.{Counts}
 use Rattle.cs_cells.specs.declared.footprint.Area.{Area}
 use Rattle.cs_cells.specs.declared.footprint.Footprint.{Footprint}
 use Rattle.cs_meaning.specs.Plain.{Generators, Piece, Table, find_table}
-use Rattle.cs_registers.specs.Outputs.{outs, refilled}
-use Rattle.cs_registers.specs.Registers.{filled, values}
-use Rattle.cs_player.specs.Players.{PlayerData, playing}
-use Rattle.cs_sounding.specs.Follows.{ActNamed, Kinds, OpsNamed}
-use Rattle.cs_sounding.specs.Placing.{IsPlaced, IsTablePlaced}
-use Rattle.cs_sounding.specs.VoiceWorld.{Playing}
-use Rattle.cs_sounding.specs.Voices.{Sheet, IsPlayable, IsUsed}
-use Rattle.cs_state.specs.States.{IsPlayerOf, IsStateIn}
-use Rattle.cs_state.specs.declared.state.State.{State}
+use Rattle.cs_machine.specs.Outputs.{outs, refilled}
+use Rattle.cs_machine.specs.Registers.{filled, values}
+use Rattle.cs_machine.specs.Players.{PlayerData, playing}
+use Rattle.cs_voice_meaning.proofs.StoresPlay.{stores_take}
+use Rattle.cs_voice_meaning.specs.Follows.{ActNamed, Kinds, OpsNamed}
+use Rattle.cs_voice_meaning.specs.Placing.{IsPlaced, IsTablePlaced}
+use Rattle.cs_voice_meaning.specs.VoiceWorld.{Playing}
+use Rattle.cs_voice_meaning.specs.Voices.{Sheet, IsPlayable, IsUsed}
+use Rattle.cs_machine.specs.States.{IsPlayerOf, IsStateIn}
+use Rattle.cs_machine.specs.declared.state.State.{State}
 use Rattle.cs_voice.specs.declared.stage.Stage.{Stage}
 use Rattle.cs_voice.specs.Memory.{IsKept, MakeVoice, voice_in}
 use Rattle.cs_voice.specs.VoiceData.{VoiceData, IsOn, OpsStoreInto, StoresInto, made, piece_of, sheet_of, table_at, units_in}
@@ -80,44 +78,6 @@ module _ (areas : List Area) (g : Generators) (piece : Piece) where
 
 -- ---- what a voice stores into was made
 
-store_takes : (o : Opcode) → (row_of o).shape ≡ shape.Store → takes_table o ≡ true
-store_takes op.Init h = absurd (cc)
-store_takes op.Oscil h = absurd (cc)
-store_takes op.Oscili h = absurd (cc)
-store_takes op.Phasor h = absurd (cc)
-store_takes op.Line h = absurd (cc)
-store_takes op.Linseg h = absurd (cc)
-store_takes op.Linen h = absurd (cc)
-store_takes op.Delay h = absurd (cc)
-store_takes op.Biquad h = absurd (cc)
-store_takes op.Table h = absurd (cc)
-store_takes op.Tablei h = absurd (cc)
-store_takes op.Tablew h = refl
-store_takes op.Integ h = absurd (cc)
-store_takes op.Diff h = absurd (cc)
-store_takes op.Samphold h = absurd (cc)
-store_takes op.Limit h = absurd (cc)
-store_takes op.Interp h = absurd (cc)
-store_takes op.Downsamp h = absurd (cc)
-store_takes op.Out h = absurd (cc)
-store_takes op.Outs h = absurd (cc)
-store_takes op.Outch h = absurd (cc)
-store_takes op.Turnoff h = absurd (cc)
-store_takes op.Zakinit h = absurd (cc)
-store_takes op.Zkr h = absurd (cc)
-store_takes op.Zar h = absurd (cc)
-store_takes op.Zkw h = absurd (cc)
-store_takes op.Zaw h = absurd (cc)
-store_takes op.Zawm h = absurd (cc)
-store_takes op.Zkcl h = absurd (cc)
-store_takes op.Zacl h = absurd (cc)
-store_takes op.Chnget h = absurd (cc)
-store_takes op.Chnset h = absurd (cc)
-store_takes op.Chnmix h = absurd (cc)
-store_takes op.Chnclear h = absurd (cc)
-store_takes op.Schedule h = absurd (cc)
-store_takes op.EventI h = absurd (cc)
-
 same_some : (x y : Table) → Some x ≡ Some y → x ≡ y
 same_some x y e = cc
 
@@ -132,7 +92,7 @@ module _ (areas : List Area) (piece : Piece) (kinds : Kinds) (counts : Counts) (
   unit_stores N stock opcode u reach r named stores z t at found =
       let there = player_with (slice_index_or s.players.items u None) z (sym (ap (λ f. option_map (λ (p : Playing). p.table) (f u)) (units_are s.players.items)) ∙ at) in
       let of = st.players u there.0 there.1 in
-      let takes : takes_table (kinds u).0 ≡ true = ap (λ (k : Opcode × Rate). takes_table k.0) named.0 ∙ store_takes opcode stores in
+      let takes : takes_table (kinds u).0 ≡ true = ap (λ (k : Opcode × Rate). takes_table k.0) named.0 ∙ stores_take opcode stores in
       let on = of.table takes in
       let same : on.table ≡ t = same_some on.table t (sym on.found ∙ ap (find_table piece.tables) there.2 ∙ found) in
       ap (λ (x : Table). x.present) (sym same) ∙ on.present

@@ -23,7 +23,7 @@ use Rattle.cs_ir.specs.declared.op.Reach.{Reach}
 use Rattle.cs_ir.specs.declared.register.Reg.{Reg}
 use Rattle.cs_cells.specs.declared.footprint.Area.{Area}
 use Rattle.cs_meaning.specs.Plain.{Generators, Piece, Table, find_table, read_points, is_live, index, at_place, has_place}
-use Rattle.cs_sounding.specs.VoiceWorld.{Playing, VoiceState, load, save, put_unit, may_touch, points_read, played, has_played, unit_plays, table_stored, store_plays, does, out_to_numbered, voice_world}
+use Rattle.cs_voice_meaning.specs.VoiceWorld.{Playing, VoiceState, load, save, put_unit, may_touch, points_read, played, has_played, unit_plays, table_stored, store_plays, does, out_to_numbered, voice_world}
 use Rattle.cs_voice.specs.VoiceData.{OpsStoreInto, StoresInto, made, table_at}
 
 -- ---- a unit keeps its table

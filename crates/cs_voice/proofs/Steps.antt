@@ -1,22 +1,28 @@
 -- The ops of a code, one after another.
-use Rattle.std.proofs.Common.{◌≡◌, ℕ, ℤ, zero, suc, ◌+◌, ◌<◌, ◌≤◌, Bool, true, false, List, [], ◌∷◌, length, map, drop, get_or, nat_lt, None, refl, sym, ◌∙◌, ap, subst, arith}
+use Rattle.std.proofs.Common.{◌≡◌, ℕ, ℤ, zero, suc, ◌+◌, ◌<◌, ◌≤◌, Bool, true, false, List, [], ◌∷◌, length, map, drop, get_or, nat_lt, None, if◌then◌else◌, refl, sym, ◌∙◌, ap, subst, arith}
 use Rattle.std.specs.List.{AllByRecursion, list_all}
 use Rattle.std.proofs.lemmas.Bool.{and_parts}
 use Rattle.std.proofs.lemmas.Bool.Decides.{nat_tests}
 use Rattle.cs_ir.specs.Cycles.{is_of_cycle}
 use Rattle.cs_ir.specs.Machine.{Machine, acts, run}
 use Rattle.cs_ir.specs.Validity.{fine_from, is_fine}
+use Rattle.cs_ir.specs.Values.{holds}
+use Rattle.cs_ir.specs.Waves.{Wave, operand}
+use Rattle.cs_ir.specs.declared.op.Act.{Act}
+use Rattle.cs_ir.specs.declared.op.Act.TheVariants as act
 use Rattle.cs_ir.specs.declared.op.Op.{Op}
+use Rattle.cs_ir.specs.declared.register.Reg.{Reg}
 use Rattle.cs_ir.specs.declared.register.Counts.{Counts}
 use Rattle.cs_cells.specs.declared.footprint.Area.{Area}
-use Rattle.cs_registers.specs.Registers.{values}
-use Rattle.cs_sounding.specs.VoiceWorld.{VoiceState, voice_world}
-use Rattle.cs_sounding.specs.Voices.{has_channel}
-use Rattle.cs_state.specs.States.{Does, IsStateIn, machine_of}
-use Rattle.cs_state.specs.declared.state.State.{State}
-use Rattle.cs_state.specs.declared.state.Setting.{Setting}
-use Rattle.cs_acts.specs.Ready.{DoesOp, IsReady}
-use Rattle.cs_voice.specs.Cycles.{CanRun, CanStep, Context, HasRun, HasStepped}
+use Rattle.cs_machine.specs.Registers.{values}
+use Rattle.cs_voice_meaning.specs.VoiceWorld.{VoiceState, voice_world}
+use Rattle.cs_voice_meaning.specs.Voices.{has_channel}
+use Rattle.cs_machine.specs.States.{Does, IsStateIn, machine_of}
+use Rattle.cs_machine.specs.declared.state.State.{State}
+use Rattle.cs_machine.specs.declared.state.Setting.{Setting}
+use Rattle.cs_voice.specs.Ready.{CanBeDone, DoesOp, is_here}
+use Rattle.cs_voice.specs.inner.Jumps.{GoesOn, is_jump}
+use Rattle.cs_voice.specs.Cycles.{CanRun, CanStep, Context, HasMoved, HasRun, HasStepped}
 use Rattle.cs_voice.proofs.Passing.{run_from, one_on, on_to, at_end}
 
 -- ---- one op of a code
@@ -44,8 +50,8 @@ fine_here c end from (x ∷ ops) (suc n) op h low e =
 
 -- ---- an op that was done
 
-module _ (areas : List Area) (c : Context) (op : Op) (place : ℕ) (s : State) (cells : ℕ → ℤ) (st : IsStateIn areas c.piece c.kinds c.counts s) where
-  pub did : (t : State) (after : ℕ → ℤ) → Does areas c.piece c.kinds c.counts op.act op.into op.from s cells t after → HasStepped areas c op place (place + 1) s cells t after
+module _ (areas : List Area) (c : Context) (op : Op) (place : ℕ) (s : State) (cells : ℕ → ℤ) where
+  did : (t : State) (after : ℕ → ℤ) → Does areas c.piece c.kinds c.counts op.act op.into op.from s cells t after → HasStepped areas c op place (place + 1) s cells t after
   did t after h = record {
     moved = λ next near. record {
       next = next;
@@ -56,24 +62,50 @@ module _ (areas : List Area) (c : Context) (op : Op) (place : ℕ) (s : State) (
     state = h.state;
   }
 
+  moved_on : (t : Act) (into : Reg) (ws : List Wave) (to : ℕ) → GoesOn t ws place to → (next : ℕ) → next ≤ place
+      → HasMoved place to (acts (voice_world areas c.piece) t into ws (machine_of s cells next [] None)) s cells
+  moved_on (act.Jump later) into ws to g next near = record { next = later; machine = refl; below = omega (arith, g); there = λ far. sym g }
+  moved_on (act.Unless later) into ws to g next near = by (holds (operand 0 ws 0)) g
+    where
+      by : (b : Bool) → to ≡ (if b then place + 1 else later)
+          → HasMoved place to (record (machine_of s cells next [] None) { next = if b then next else later }) s cells
+      by true h = record { next = next; machine = refl; below = omega (arith, near, h); there = λ far. absurd (omega (arith, far, h)) }
+      by false h = record { next = later; machine = refl; below = omega (arith, h); there = λ far. sym h }
+  moved_on _ into ws to g next near = absurd g
+
+  -- a jump changes neither state nor cells
+  pub did_jump : (to : ℕ) → IsStateIn areas c.piece c.kinds c.counts s → GoesOn op.act (map (values s.regs) op.from) place to
+      → HasStepped areas c op place to s cells s cells
+  did_jump to st g = record { moved = λ next near. moved_on op.act op.into (map (values s.regs) op.from) to g next near; state = st }
+
 -- ---- what a code that can be run needs of each op
 
 module _ (can_get can_set : ℕ → Type 0) (count : ℕ) (at : Setting) (c : Context) (ops : List Op) (s : State) where
   -- each op of a code that can be run can be done
   pub can_step : (n : ℕ) (op : Op) → CanRun can_get can_set count at c ops s → n < length ops → op ≡ get_or ops n op
       → CanStep can_get can_set count at c (length ops) n op s
-  can_step n op h low e = record {
-    setting = h.setting;
-    placed = h.placed;
-    spaces = h.spaces;
-    zak = h.zak;
-    state = h.state;
-    fine = ap (λ k. is_fine c.counts (length ops) k op) (let p : n ≡ 0 + n = omega arith in p) ∙ fine_here c.counts (length ops) 0 ops n op h.fine low e;
-    named = all_at _ ops n op h.named low e;
-    channel = passes_at (λ (o : Op). has_channel c.piece.head.nchnls o.act) ops n op h.channels low e;
-    acts = passes_at (λ (o : Op). is_of_cycle o.act) ops n op h.acts low e;
-    can = all_at _ ops n op h.can low e;
-  }
+  can_step n op h low e =
+      let there : is_fine s.regs.counts (length ops) n op ≡ true =
+      ap (λ k. is_fine k (length ops) n op) h.state.registers
+      ∙ ap (λ k. is_fine c.counts (length ops) k op) (let p : n ≡ 0 + n = omega arith in p) ∙ fine_here c.counts (length ops) 0 ops n op h.fine low e in
+      record {
+        ready = record {
+          setting = h.setting;
+          placed = h.placed;
+          spaces = h.spaces;
+          zak = h.zak;
+          state = subst (λ k. IsStateIn at.layout.now c.piece c.kinds k s) (sym h.state.registers) h.state;
+          end = length ops;
+          place = n;
+          fine = there;
+          named = all_at _ ops n op h.named low e;
+          channel = passes_at (λ (o : Op). has_channel c.piece.head.nchnls o.act) ops n op h.channels low e;
+          can = all_at _ ops n op h.can low e;
+        };
+        counts = h.state.registers;
+        fine = there;
+        acts = passes_at (λ (o : Op). is_of_cycle o.act) ops n op h.acts low e;
+      }
 
   -- and it can still be run from another state of its code
   pub can_go_on : (t : State) → CanRun can_get can_set count at c ops s → IsStateIn at.layout.now c.piece c.kinds c.counts t → CanRun can_get can_set count at c ops t
@@ -90,28 +122,31 @@ module _ (can_get can_set : ℕ → Type 0) (count : ℕ) (at : Setting) (c : Co
     can = h.can;
   }
 
-module _ (can_get can_set : ℕ → Type 0) (count : ℕ) (at : Setting) (c : Context) (s : State) where
-  pub ready : (end place : ℕ) (op : Op) → CanStep can_get can_set count at c end place op s → IsReady can_get can_set count at c.piece c.kinds c.stock op s
-  ready end place op h = record {
-    setting = h.setting;
-    placed = h.placed;
-    spaces = h.spaces;
-    zak = h.zak;
-    state = subst (λ n. IsStateIn at.layout.now c.piece c.kinds n s) (sym h.state.registers) h.state;
-    end = end;
-    place = place;
-    fine = ap (λ n. is_fine n end place op) h.state.registers ∙ h.fine;
-    named = h.named;
-    channel = h.channel;
-    can = h.can;
-  }
+-- what is done in a cycle starts nothing and asks for nothing
+here_in_cycle : (t : Act) → is_jump t ≡ false → is_of_cycle t ≡ true → is_here t ≡ true
+here_in_cycle (act.Jump to) h g = absurd cc
+here_in_cycle (act.Unless to) h g = absurd cc
+here_in_cycle (act.Start o u) h g = absurd cc
+here_in_cycle act.Ask h g = absurd cc
+here_in_cycle _ h g = refl
+
+module _ (can_get can_set : ℕ → Type 0) (count : ℕ) (at : Setting) (c : Context) (s : State) (end place : ℕ) (op : Op)
+    (h : CanStep can_get can_set count at c end place op s) where
+  pub here_of_step : is_jump op.act ≡ false → is_here op.act ≡ true
+  here_of_step goes = here_in_cycle op.act goes h.acts
+
+  pub can_be_done : CanBeDone can_get can_set count at op s
+  can_be_done = record { piece = c.piece; kinds = c.kinds; stock = c.stock; ready = h.ready }
 
   -- and what it does there
-  pub does_step : (end place : ℕ) (op : Op) (before : ℕ → ℤ) (t : State) (after : ℕ → ℤ) → DoesOp can_get can_set count at op s before t after
-      → CanStep can_get can_set count at c end place op s → HasStepped at.layout.now c op place (place + 1) s before t after
-  does_step end place op before t after d h =
-      did at.layout.now c op place s before h.state t after
-      (subst (λ n. Does at.layout.now c.piece c.kinds n op.act op.into op.from s before t after) h.state.registers (d c.piece c.kinds c.stock (ready end place op h)))
+  pub does_step : (before : ℕ → ℤ) (t : State) (after : ℕ → ℤ) → DoesOp can_get can_set count at op s before t after
+      → HasStepped at.layout.now c op place (place + 1) s before t after
+  does_step before t after d =
+      did at.layout.now c op place s before t after
+      (subst (λ n. Does at.layout.now c.piece c.kinds n op.act op.into op.from s before t after) h.counts (d c.piece c.kinds c.stock h.ready))
+
+  pub jump_step : (before : ℕ → ℤ) (to : ℕ) → GoesOn op.act (map (values s.regs) op.from) place to → HasStepped at.layout.now c op place to s before s before
+  jump_step before to g = did_jump at.layout.now c op place s before to (subst (λ n. IsStateIn at.layout.now c.piece c.kinds n s) h.counts h.ready.state) g
 
 -- ---- the loop
 

@@ -4,11 +4,11 @@ use Rattle.std.specs.List.{range_with_len}
 use Rattle.cs_signal.specs.Operands.{argument}
 use Rattle.cs_ir.specs.Machine.{Machine}
 use Rattle.cs_cells.specs.Cells.{Cells, cell}
-use Rattle.cs_sounding.specs.VoiceWorld.{VoiceState}
-use Rattle.cs_sounding.specs.Voices.{Sheet, begins, cycle, may_write, performed, left_by, seen, voice_of}
+use Rattle.cs_voice_meaning.specs.VoiceWorld.{VoiceState}
+use Rattle.cs_voice_meaning.specs.Voices.{Sheet, begins, cycle, may_write, performed, left_by, seen, voice_of}
 use Rattle.cs_voice.specs.VoiceData.{VoiceData, IsOn, IsSheetFor, OpsStoreInto, piece_of, sheet_of, sounding, sounding_on, table_at, units_in}
 use Rattle.cs_voice.specs.VoiceMeaning.{IsVoice, Performs, after, leaves}
-use Rattle.cs_voice.specs.inner.Jobs.{after_voice, performed_fits, taken, units_taken}
+use Rattle.cs_voice.specs.Jobs.{after_voice, performed_fits, taken, units_taken}
 use Rattle.cs_voice.proofs.Sheets.{run_keeps_tables, run_same}
 
 -- ---- any sheet that it plays from

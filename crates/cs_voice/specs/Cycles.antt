@@ -9,16 +9,17 @@ use Rattle.cs_ir.specs.declared.op.Op.{Op}
 use Rattle.cs_ir.specs.declared.register.Counts.{Counts}
 use Rattle.cs_cells.specs.declared.footprint.Area.{Area}
 use Rattle.cs_meaning.specs.Plain.{Piece}
-use Rattle.cs_access.specs.Access.{AreSpaces, spaces_of}
-use Rattle.cs_acts.specs.Cells.{spaces_at}
-use Rattle.cs_registers.specs.Registers.{values}
-use Rattle.cs_sounding.specs.Placing.{HasArea, IsPlaced}
-use Rattle.cs_sounding.specs.VoiceWorld.{VoiceState, voice_world}
-use Rattle.cs_sounding.specs.Follows.{Kinds, ActNamed, OpsNamed}
-use Rattle.cs_sounding.specs.Voices.{has_channel, have_channels}
-use Rattle.cs_state.specs.States.{CanDo, IsSettingOf, IsStateIn, machine_of}
-use Rattle.cs_state.specs.declared.state.State.{State}
-use Rattle.cs_state.specs.declared.state.Setting.{Setting}
+use Rattle.cs_machine.specs.Access.{AreSpaces, spaces_of}
+use Rattle.cs_voice.specs.Cells.{spaces_at}
+use Rattle.cs_voice.specs.Ready.{IsReady}
+use Rattle.cs_machine.specs.Registers.{values}
+use Rattle.cs_voice_meaning.specs.Placing.{HasArea, IsPlaced}
+use Rattle.cs_voice_meaning.specs.VoiceWorld.{VoiceState, voice_world}
+use Rattle.cs_voice_meaning.specs.Follows.{Kinds, OpsNamed}
+use Rattle.cs_voice_meaning.specs.Voices.{have_channels}
+use Rattle.cs_machine.specs.States.{CanDo, IsSettingOf, IsStateIn, machine_of}
+use Rattle.cs_machine.specs.declared.state.State.{State}
+use Rattle.cs_machine.specs.declared.state.Setting.{Setting}
 
 -- What a code is run in: the piece, what it has beside its variables, which opcode each unit has, and how many registers and units
 -- there are.
@@ -28,19 +29,13 @@ pub record Context : Type 0 where
   pub kinds : Kinds
   pub counts : Counts
 
--- An op at a place of a code of so many can be done in a control cycle over a bank: it is fine there, what it touches has its area
--- and may be touched, its unit is the one of its opcode, and its channel is there.
+-- An op at a place of a code of so many can be done in a control cycle over a bank: it may be done, is fine there, and is one
+-- of a cycle.
 pub record CanStep (can_get can_set : ℕ → Type 0) (count : ℕ) (at : Setting) (c : Context) (end place : ℕ) (op : Op) (s : State) : Type 0 where
-  pub setting : IsSettingOf at at.layout.now c.piece
-  pub placed : IsPlaced at.layout.now c.stock c.piece
-  pub spaces : AreSpaces at.layout.now
-  pub zak : spaces_of at.layout.now ≡ spaces_at at
-  pub state : IsStateIn at.layout.now c.piece c.kinds c.counts s
-  pub fine : is_fine c.counts end place op ≡ true
-  pub named : ActNamed c.stock c.kinds (HasArea at.layout.now) op.act op.into.rate
-  pub channel : has_channel c.piece.head.nchnls op.act ≡ true
+  pub ready : IsReady can_get can_set count at c.piece c.kinds c.stock op s
+  pub counts : s.regs.counts ≡ c.counts
+  pub fine : is_fine s.regs.counts end place op ≡ true
   pub acts : is_of_cycle op.act ≡ true
-  pub can : CanDo can_get can_set count at.layout.now c.stock op.act
 
 -- A code can be run in a control cycle over a bank: each of its ops can be done.
 pub record CanRun (can_get can_set : ℕ → Type 0) (count : ℕ) (at : Setting) (c : Context) (ops : List Op) (s : State) : Type 0 where

@@ -1,5 +1,14 @@
+pub mod Cells
+pub mod Ready
+pub mod Units
+pub mod Passing
+pub mod Starting
+pub mod Starts
+pub mod Tables
+pub mod Mixing
 pub mod Cycles
 pub mod Memory
 pub mod VoiceData
 pub mod VoiceMeaning
+pub mod Jobs
 pub mod inner

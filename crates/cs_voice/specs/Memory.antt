@@ -6,11 +6,12 @@ use Rattle.cs_ir.specs.Validity.{valid}
 use Rattle.cs_ir.specs.declared.op.Code.{Code}
 use Rattle.cs_cells.specs.declared.footprint.Footprint.{Footprint}
 use Rattle.cs_meaning.specs.Plain.{Table}
-use Rattle.cs_access.specs.Access.{AreSpaces, spaces_of}
-use Rattle.cs_player.specs.Players.{playing}
-use Rattle.cs_sounding.specs.Voices.{Sheet, IsPlayable}
-use Rattle.cs_state.specs.States.{IsStateIn, header_of}
-use Rattle.cs_state.specs.declared.state.State.{State}
+use Rattle.cs_machine.specs.Access.{AreSpaces, spaces_of}
+use Rattle.cs_machine.specs.Players.{playing}
+use Rattle.cs_voice_meaning.specs.Voices.{Sheet, IsPlayable}
+use Rattle.cs_typed.specs.TypedTree.{header_of_head}
+use Rattle.cs_machine.specs.States.{IsStateIn}
+use Rattle.cs_machine.specs.declared.state.State.{State}
 use Rattle.cs_voice.specs.declared.body.Body.{Body}
 use Rattle.cs_voice.specs.declared.stage.Stage.{Stage}
 use Rattle.cs_voice.specs.declared.stage.TableAt.{TableAt}
@@ -31,7 +32,7 @@ abbrev pub voice_in : ℕ → ℕ → Stage → Footprint → Code → List ℤ 
 voice_in number age stage foot code fields s = record {
   number = number;
   age = age;
-  head = header_of stage.head.now;
+  head = header_of_head stage.head.now;
   spaces = record { control = stage.zak_k; audio = stage.zak_a };
   tables = map table_of stage.tables.now;
   areas = stage.layout.now;

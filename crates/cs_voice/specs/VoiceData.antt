@@ -14,10 +14,10 @@ use Rattle.cs_ir.specs.declared.op.Op.{Op}
 use Rattle.cs_cells.specs.declared.footprint.Area.{Area}
 use Rattle.cs_cells.specs.declared.footprint.Footprint.{Footprint}
 use Rattle.cs_meaning.specs.Plain.{Piece, Table, find_table}
-use Rattle.cs_registers.specs.Outputs.{ChannelFile, outs, refilled}
-use Rattle.cs_registers.specs.Registers.{RegisterFile, filled, values}
-use Rattle.cs_sounding.specs.VoiceWorld.{Playing, pace_of, the_generators}
-use Rattle.cs_sounding.specs.Voices.{Sheet, Sounding}
+use Rattle.cs_machine.specs.Outputs.{ChannelFile, outs, refilled}
+use Rattle.cs_machine.specs.Registers.{RegisterFile, filled, values}
+use Rattle.cs_voice_meaning.specs.VoiceWorld.{Playing, pace_of, the_generators}
+use Rattle.cs_voice_meaning.specs.Voices.{Sheet, Sounding}
 
 -- A voice: the number of its instrument and its age; the header, the zak spaces, the tables and the areas that it sounds in; its
 -- p-fields, its footprint and its code; and its registers, its units, the samples of its delays, its output channels, and whether

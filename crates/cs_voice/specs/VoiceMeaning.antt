@@ -3,9 +3,9 @@ use Rattle.std.specs.Prelude.{◌≡◌, true, length}
 use Rattle.cs_ir.specs.Validity.{valid}
 use Rattle.cs_cells.specs.Cells.{Cells}
 use Rattle.cs_cells.specs.Meaning.{Meaning}
-use Rattle.cs_registers.specs.Outputs.{outs, refilled}
-use Rattle.cs_registers.specs.Registers.{filled, values}
-use Rattle.cs_sounding.specs.Voices.{Sheet, IsPlayable, performed, left_by}
+use Rattle.cs_machine.specs.Outputs.{outs, refilled}
+use Rattle.cs_machine.specs.Registers.{filled, values}
+use Rattle.cs_voice_meaning.specs.Voices.{Sheet, IsPlayable, performed, left_by}
 use Rattle.cs_voice.specs.VoiceData.{VoiceData, IsOn, sheet_of, sounding, sounding_on, taking}
 
 -- What is so of each voice: its code is valid and can be played; it has as many registers, units and channels as its code and its

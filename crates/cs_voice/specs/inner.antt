@@ -1,2 +1,6 @@
-pub mod Jobs
+pub mod Zak
+-- What private clauses alone cite.
+pub mod Begun
+pub mod Jumps
+pub mod Places
 pub mod Rooms

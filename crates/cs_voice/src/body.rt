@@ -2,7 +2,7 @@
 ghost use Rattle.std.specs.Prelude.{◌≡◌, ◌<◌, ℕ, length};
 ghost use Rattle.cs_cells.specs.Meaning.{Uses, Writes};
 ghost use Rattle.cs_ir.specs.Waves.{silence};
-ghost use Rattle.cs_registers.specs.Outputs.{outs};
+ghost use Rattle.cs_machine.specs.Outputs.{outs};
 ghost use Rattle.cs_voice.specs.Memory.{IsBody, data_of};
 ghost use Rattle.cs_voice.specs.VoiceMeaning.{after, leaves, voice_job};
 
@@ -11,7 +11,7 @@ use crate::stage::Stage;
 use cs_base::Num;
 use cs_cells::{Bank, Footprint};
 use cs_ir::Code;
-use cs_state::{Setting, State};
+use cs_machine::{Setting, State};
 
 /// What a note performs, and what it has come to.
 #[derive(Drop)]

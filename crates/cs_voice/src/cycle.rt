@@ -1,19 +1,13 @@
 // A control cycle: a code from place to place.
-ghost use Rattle.std.specs.Prelude.{◌≡◌, ◌<◌, ◌∷◌, [], true, length, map};
+ghost use Rattle.std.specs.Prelude.{◌≡◌, ◌<◌, length};
 ghost use Rattle.cs_cells.specs.Cells.{cell};
-ghost use Rattle.cs_ir.specs.Validity.{has_register};
-ghost use Rattle.cs_ir.specs.Values.{holds};
-ghost use Rattle.cs_ir.specs.Waves.{operand};
-ghost use Rattle.cs_ir.specs.declared.register.Reg.{Reg};
-ghost use Rattle.cs_registers.specs.Registers.{values};
 ghost use Rattle.cs_voice.specs.Cycles.{CanRun, CanStep, Context, HasRun, HasStepped};
-ghost use Rattle.std.specs.List.{list_all};
 
-use cs_acts::act;
+use crate::any::act;
+use crate::jumps::jump;
 use cs_cells::Bank;
-use cs_ir::{Act, Op, Reg, holds};
-use cs_registers::Registers;
-use cs_state::{Setting, State};
+use cs_ir::Op;
+use cs_machine::{Setting, State};
 
 /// Runs a code over a cycle. What a jump passes over costs nothing.
 pub(crate) fn perform<B: Bank>(state: &mut State<'_>, at: &Setting<'_>, ops: &[Op], bank: &mut B)
@@ -53,30 +47,11 @@ fn step<B: Bank>(
     ensures long { length (B.cells bank.new) ≡ length (B.cells bank.old) }
     ensures rest { B.rest bank.new ≡ B.rest bank.old }
 {
-    match op.act {
-        Act::Jump(to) => to,
-        Act::Unless(to) => {
-            if condition(&state.regs, op.from.as_slice()) {
-                place + 1
-            } else {
-                to
-            }
-        }
-        _ => {
+    match jump(&state.regs, op, place) {
+        Some(to) => to,
+        None => {
             act(state, at, op, bank);
             place + 1
         }
-    }
-}
-
-/// Whether the condition of an op holds.
-fn condition(regs: &Registers, from: &[Reg]) -> bool
-    requires one { (x : Reg) × (from.now ≡ x ∷ []) }
-    requires there { list_all (has_register regs.now.counts) from.now ≡ true }
-    ensures { result ≡ holds (operand 0 (map (values regs.now) from.now) 0) }
-{
-    match from {
-        [x] => holds(regs.first(*x)),
-        _ => unreachable!(),
     }
 }

@@ -1,6 +1,6 @@
 // What holds of every voice: a call that does nothing, whose contract is the law.
 ghost use Rattle.cs_cells.specs.Cells.{Cells};
-ghost use Rattle.cs_sounding.specs.Voices.{Sheet};
+ghost use Rattle.cs_voice_meaning.specs.Voices.{Sheet};
 ghost use Rattle.cs_voice.specs.VoiceData.{VoiceData, IsOn};
 ghost use Rattle.cs_voice.specs.VoiceMeaning.{IsVoice, Performs};
 

@@ -1,8 +1,8 @@
 // A note as it sounds: a job that performs its code once a control cycle.
 ghost use Rattle.std.specs.Prelude.{◌≡◌, length, IfOk, IfSome, IfNone};
 ghost use Rattle.cs_ir.specs.Waves.{silence};
-ghost use Rattle.cs_registers.specs.Outputs.{outs};
-ghost use Rattle.cs_registers.specs.Rows.{row_wave};
+ghost use Rattle.cs_machine.specs.Outputs.{outs};
+ghost use Rattle.cs_machine.specs.Rows.{row_wave};
 ghost use Rattle.cs_voice.specs.Memory.{MakeVoice, voice_in};
 
 use crate::body::Body;
@@ -10,7 +10,7 @@ use crate::stage::Stage;
 use cs_base::{Num, OutOfMemory};
 use cs_cells::{Bank, Footprint, Job};
 use cs_ir::Code;
-use cs_state::State;
+use cs_machine::State;
 use std::alloc::Global;
 use std::marker::Model;
 
@@ -100,7 +100,7 @@ impl<'p> Voice<'p> {
 
 impl<'p> Job for Voice<'p> {
     ghost use Rattle.cs_voice.specs.VoiceMeaning.{voice_job};
-    ghost use Rattle.cs_voice.specs.inner.Jobs.{voice_job_frames};
+    ghost use Rattle.cs_voice.specs.Jobs.{voice_job_frames};
 
     ghost means = { voice_job };
 

@@ -9,10 +9,10 @@ use Rattle.cs_base.proofs.Tests.{by_test}
 use Rattle.cs_ir.specs.Validity.{has_register}
 use Rattle.cs_ir.specs.Waves.{Wave, constant, held, silence}
 use Rattle.cs_ir.specs.declared.register.Reg.{Reg}
-use Rattle.cs_registers.specs.Outputs.{ChannelFile, outs, refilled}
-use Rattle.cs_registers.specs.Registers.{RegisterFile, filled, reg, values}
-use Rattle.cs_registers.specs.Rows.{row_of, row_wave}
-use Rattle.cs_registers.proofs.Frames.{at_or_past, held_row, row_held}
+use Rattle.cs_machine.specs.Outputs.{ChannelFile, outs, refilled}
+use Rattle.cs_machine.specs.Registers.{RegisterFile, filled, reg, values}
+use Rattle.cs_machine.specs.Rows.{row_of, row_wave}
+use Rattle.cs_machine.proofs.Frames.{at_or_past, held_row, row_held}
 
 module _ {A : Type 0} (f : ℕ → A) (n : ℕ) where
   -- a list of what a function has at the first numbers

@@ -1,5 +1,5 @@
 use Rattle.std.proofs.Common.{refl}
-use Rattle.cs_state.specs.declared.state.Setting.{Setting}
+use Rattle.cs_machine.specs.declared.state.Setting.{Setting}
 use Rattle.cs_voice.proofs.Cycled.{able, context, run_cells, run_job, run_kept}
 use Rattle.cs_voice.proofs.body.Body.run.Goals as goal
 

@@ -1,3 +1,0 @@
-pub mod Access
-pub mod Live
-pub mod inner

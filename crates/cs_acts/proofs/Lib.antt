@@ -1,9 +1,0 @@
-pub mod Fitting
-pub mod Places
-pub mod Playing
-pub mod Points
-pub mod Ran
-pub mod Readying
-pub mod Sharing
-pub mod Stored
-pub mod Touching

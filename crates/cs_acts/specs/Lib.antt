@@ -1,4 +1,0 @@
-pub mod Cells
-pub mod Ready
-pub mod Units
-pub mod inner

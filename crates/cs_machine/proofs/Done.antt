@@ -1,0 +1,136 @@
+-- What an act leaves of a state: the same room, and one register that was written.
+use Rattle.std.proofs.Common.{◌≡◌, ℕ, ℤ, List, length, map, Option, None, slice_index_or, sym, ◌∙◌, ap}
+use Rattle.cs_ir.specs.Machine.{acts, put, write}
+use Rattle.cs_ir.specs.Waves.{Wave, held}
+use Rattle.cs_ir.specs.declared.op.Act.{Act}
+use Rattle.cs_ir.specs.declared.register.Counts.{Counts}
+use Rattle.cs_ir.specs.declared.register.Reg.{Reg}
+use Rattle.cs_cells.specs.declared.footprint.Area.{Area}
+use Rattle.cs_meaning.specs.Plain.{Piece, Cause}
+use Rattle.cs_machine.specs.Outputs.{outs}
+use Rattle.cs_machine.specs.Registers.{IsWritten, values}
+use Rattle.cs_voice_meaning.specs.Follows.{Kinds}
+use Rattle.cs_voice_meaning.specs.VoiceWorld.{voice_world}
+use Rattle.cs_machine.specs.declared.state.State.{State}
+use Rattle.cs_machine.specs.States.{machine_of, unit_at, HasRoom, IsStateIn, Does}
+
+-- as much room, and the same units
+pub record SameRoom (old new : State) : Type 0 where
+  pub counts : new.regs.counts ≡ old.regs.counts
+  pub frames : new.regs.ksmps ≡ old.regs.ksmps
+  pub channels : length new.outs.rows ≡ length old.outs.rows
+  pub channel_frames : new.outs.ksmps ≡ old.outs.ksmps
+  pub players : new.players.items ≡ old.players.items
+  pub row : length new.row.items ≡ old.regs.ksmps
+
+-- such a state still is one of its code and piece
+pub still_in : (areas : List Area) (piece : Piece) (kinds : Kinds) (counts : Counts) (old new : State) → SameRoom old new
+    → IsStateIn areas piece kinds counts old → IsStateIn areas piece kinds counts new
+still_in areas piece kinds counts old new same state = record {
+  registers = same.counts ∙ state.registers;
+  frames = same.frames ∙ state.frames;
+  channels = same.channels ∙ state.channels;
+  channel_frames = same.channel_frames ∙ state.channel_frames;
+  units = ap length same.players ∙ state.units;
+  row = same.row ∙ state.frames;
+  players = λ u p is. state.players u p (ap (λ ps. slice_index_or ps u None) (sym same.players) ∙ is);
+}
+
+-- a state of a piece has the room that calls ask for
+pub has_room : (areas : List Area) (piece : Piece) (kinds : Kinds) (counts : Counts) (s : State)
+    → IsStateIn areas piece kinds counts s → HasRoom s
+has_room areas piece kinds counts s state = record {
+  row = state.row ∙ sym state.frames;
+  channels = state.channel_frames ∙ sym state.frames;
+}
+
+-- the units, channels, delays and the end are those that a state had
+pub record KeepsRest (old new : State) : Type 0 where
+  pub players : new.players.items ≡ old.players.items
+  pub outs : new.outs ≡ old.outs
+  pub delays : new.delays ≡ old.delays
+  pub ended : new.ended ≡ old.ended
+
+-- the machine of a state of which one register was written
+pub written_machine : (ksmps : ℕ) (old new : State) (into : Reg) (w : Wave) → KeepsRest old new → old.regs.ksmps ≡ ksmps
+    → IsWritten old.regs into w new.regs → (before after : ℕ → ℤ) → after ≡ before → (next : ℕ) (asks : List (List ℤ)) (cause : Option Cause)
+    → machine_of new after next asks cause ≡ write ksmps into w (machine_of old before next asks cause)
+written_machine ksmps old new into w rest frames written before after same next asks cause = λ i. record {
+  regs = (written.values ∙ ap (λ n. put (values old.regs) into (held n into.rate w)) frames) i;
+  next = next;
+  world = record {
+    cells = same i;
+    units = unit_at (rest.players i);
+    delays = rest.delays i;
+    outs = outs (rest.outs i);
+    ended = rest.ended i;
+    asks = asks;
+    cause = cause;
+  };
+}
+
+-- where one register was written there is as much room
+pub written_room : (old new : State) (into : Reg) (w : Wave) → KeepsRest old new → IsWritten old.regs into w new.regs
+    → length new.row.items ≡ old.regs.ksmps → SameRoom old new
+written_room old new into w rest written row = record {
+  counts = written.counts;
+  frames = written.ksmps;
+  channels = ap (λ o. length o.rows) rest.outs;
+  channel_frames = ap (λ o. o.ksmps) rest.outs;
+  players = rest.players;
+  row = row;
+}
+
+-- An act that writes one register is done by a state of which it was written.
+pub writes : (areas : List Area) (piece : Piece) (kinds : Kinds) (counts : Counts) (act : Act) (into : Reg) (from : List Reg) (w : Wave)
+    (old new : State) (before after : ℕ → ℤ) → KeepsRest old new → after ≡ before → IsStateIn areas piece kinds counts old
+    → IsWritten old.regs into w new.regs → length new.row.items ≡ old.regs.ksmps
+    → ((next : ℕ) (asks : List (List ℤ)) (cause : Option Cause)
+    → acts (voice_world areas piece) act into (map (values old.regs) from) (machine_of old before next asks cause)
+    ≡ write piece.head.ksmps into w (machine_of old before next asks cause))
+    → Does areas piece kinds counts act into from old before new after
+writes areas piece kinds counts act into from w old new before after rest same state written row does = record {
+  machine = λ next asks cause.
+      written_machine piece.head.ksmps old new into w rest state.frames written before after same next asks cause
+      ∙ sym (does next asks cause);
+  state = still_in areas piece kinds counts old new (written_room old new into w rest written row) state;
+}
+
+-- An act that changes cells alone is done where they change as it says.
+pub record KeepsMachine (old new : State) : Type 0 where
+  pub regs : new.regs ≡ old.regs
+  pub rest : KeepsRest old new
+
+pub changes : (areas : List Area) (piece : Piece) (kinds : Kinds) (counts : Counts) (act : Act) (into : Reg) (from : List Reg)
+    (old new : State) (before after : ℕ → ℤ) → KeepsMachine old new → IsStateIn areas piece kinds counts old
+    → length new.row.items ≡ old.regs.ksmps
+    → ((next : ℕ) (asks : List (List ℤ)) (cause : Option Cause)
+    → acts (voice_world areas piece) act into (map (values old.regs) from) (machine_of old before next asks cause)
+    ≡ machine_of old after next asks cause)
+    → Does areas piece kinds counts act into from old before new after
+changes areas piece kinds counts act into from old new before after keeps state row does = record {
+  machine = λ next asks cause. same_machine next asks cause ∙ sym (does next asks cause);
+  state = still_in areas piece kinds counts old new (record {
+    counts = ap (λ r. r.counts) keeps.regs;
+    frames = ap (λ r. r.ksmps) keeps.regs;
+    channels = ap (λ o. length o.rows) keeps.rest.outs;
+    channel_frames = ap (λ o. o.ksmps) keeps.rest.outs;
+    players = keeps.rest.players;
+    row = row;
+  }) state;
+}
+  where
+    same_machine : (next : ℕ) (asks : List (List ℤ)) (cause : Option Cause) → machine_of new after next asks cause ≡ machine_of old after next asks cause
+    same_machine next asks cause = λ i. record {
+      regs = values (keeps.regs i);
+      next = next;
+      world = record {
+        cells = after;
+        units = unit_at (keeps.rest.players i);
+        delays = keeps.rest.delays i;
+        outs = outs (keeps.rest.outs i);
+        ended = keeps.rest.ended i;
+        asks = asks;
+        cause = cause;
+      };
+    }

@@ -1,0 +1,131 @@
+-- Arguments that stand for registers give a unit what the registers are.
+use Rattle.std.proofs.Common.{◌≡◌, ◌≢◌, ℕ, zero, suc, ◌+◌, ◌<◌, ◌≤◌, ◌==◌, true, List, [], ◌∷◌, ◌++◌, length, map, nat_le, take, get_or, set, ℤ, refl, sym, ◌∙◌, ap, subst, arith}
+use Rattle.std.specs.List.{All}
+use Rattle.std.proofs.lemmas.Bool.{eqb-true}
+use Rattle.std.proofs.lemmas.Bool.Decides.{nat_tests}
+use Rattle.std.proofs.lemmas.List.{get_or-set_same, get_or-set_other}
+use Rattle.std.proofs.lemmas.List.Elements.{All-cons, All-head, All-nil, All-tail}
+use Rattle.cs_base.proofs.Tests.{by_test}
+use Rattle.cs_ir.specs.Waves.{Wave}
+use Rattle.cs_ir.specs.declared.register.Reg.{Reg}
+use Rattle.cs_machine.proofs.Frames.{apart}
+use Rattle.cs_machine.specs.inner.Gathered.{IsFirstAt, StandsAt, StandsFor, no_register}
+use Rattle.cs_signal.specs.declared.operand.Operand.{Operand}
+use Rattle.cs_ugen.specs.Units as units
+use Rattle.cs_ugen.specs.Units.{moving_count, opcode_of}
+use Rattle.cs_ugen.specs.declared.unit.Kind.{Kind}
+use Rattle.cs_ugen.specs.declared.unit.Kind.TheVariants as unit
+use Rattle.cs_voice_meaning.specs.VoiceWorld.{inputs_at}
+
+-- no unit takes more than seven arguments at a step
+few_test : (k : Kind) → nat_le (moving_count (opcode_of k)) 7 ≡ true
+few_test (unit.Oscil s) = refl
+few_test (unit.Oscili s) = refl
+few_test (unit.Phasor s) = refl
+few_test (unit.Line s) = refl
+few_test (unit.Linseg s) = refl
+few_test (unit.Linen s) = refl
+few_test (unit.Delay s) = refl
+few_test (unit.Biquad s) = refl
+few_test (unit.Table s) = refl
+few_test (unit.Tablei s) = refl
+few_test (unit.Integ s) = refl
+few_test (unit.Diff s) = refl
+few_test (unit.Samphold s) = refl
+few_test (unit.Limit s) = refl
+few_test (unit.Interp s) = refl
+few_test (unit.Downsamp s) = refl
+
+pub few : (k : Kind) (n : ℕ) → n ≡ moving_count (opcode_of k) → n ≤ 7
+few k n e = subst (λ m. m ≤ 7) (sym e) (let h = few_test k in grind (arith, nat_tests))
+
+-- what stands at a place of a list doesn't hang on what is read past its end
+default : {A : Type 0} (xs : List A) (j : ℕ) (d e : A) → j < length xs → get_or xs j d ≡ get_or xs j e
+default [] j d e low = absurd (omega (arith, low))
+default (x ∷ xs) zero d e low = refl
+default (x ∷ xs) (suc j) d e low = default xs j d e (omega (arith, low))
+
+pub register_is : (rs : List Reg) (j : ℕ) (r : Reg) → j < length rs → r ≡ get_or rs j r → r ≡ get_or rs j no_register
+register_is rs j r low is = is ∙ default rs j r no_register low
+
+-- one more place of a list has what it should have
+pub more_set : {A : Type 0} (P : ℕ → A → Type 0) (xs : List A) (d x : A) (j : ℕ) → j < length xs → P j x → ((i : ℕ) → i < j → P i (get_or xs i d))
+    → (i : ℕ) → i < j + 1 → P i (get_or (set xs j x) i d)
+more_set P xs d x j low here before i h = by_test (i == j)
+    (λ yes. let e : i ≡ j = eqb-true i j yes in
+    subst (λ k. P k (get_or (set xs j x) k d)) (sym e) (subst (P j) (sym (get_or-set_same xs j x d low)) here))
+    (λ no. let other : i ≢ j = apart i j no in
+    subst (P i) (sym (get_or-set_other xs j i x d other)) (before i (let m : i < j = grind (arith, nat_tests) in m)))
+
+-- each of seven operands stands for its register
+pub seven_stand : (f : Reg → Wave) (rs : List Reg) (a b c d e g h : Operand)
+    → (0 < length rs → StandsFor f a (get_or rs 0 no_register)) → (1 < length rs → StandsFor f b (get_or rs 1 no_register))
+    → (2 < length rs → StandsFor f c (get_or rs 2 no_register)) → (3 < length rs → StandsFor f d (get_or rs 3 no_register))
+    → (4 < length rs → StandsFor f e (get_or rs 4 no_register)) → (5 < length rs → StandsFor f g (get_or rs 5 no_register))
+    → (6 < length rs → StandsFor f h (get_or rs 6 no_register)) → length rs ≤ 7
+    → (j : ℕ) → j < length rs → StandsAt f (a ∷ b ∷ c ∷ d ∷ e ∷ g ∷ h ∷ []) rs j
+seven_stand f rs a b c d e g h x0 x1 x2 x3 x4 x5 x6 most zero low = x0 low
+seven_stand f rs a b c d e g h x0 x1 x2 x3 x4 x5 x6 most (suc zero) low = x1 low
+seven_stand f rs a b c d e g h x0 x1 x2 x3 x4 x5 x6 most (suc (suc zero)) low = x2 low
+seven_stand f rs a b c d e g h x0 x1 x2 x3 x4 x5 x6 most (suc (suc (suc zero))) low = x3 low
+seven_stand f rs a b c d e g h x0 x1 x2 x3 x4 x5 x6 most (suc (suc (suc (suc zero)))) low = x4 low
+seven_stand f rs a b c d e g h x0 x1 x2 x3 x4 x5 x6 most (suc (suc (suc (suc (suc zero))))) low = x5 low
+seven_stand f rs a b c d e g h x0 x1 x2 x3 x4 x5 x6 most (suc (suc (suc (suc (suc (suc zero)))))) low = x6 low
+seven_stand f rs a b c d e g h x0 x1 x2 x3 x4 x5 x6 most (suc (suc (suc (suc (suc (suc (suc j))))))) low = absurd (omega (arith, low, most))
+
+pub three_stand : (f : Reg → Wave) (rs : List Reg) (a b c : Operand)
+    → (0 < length rs → StandsFor f a (get_or rs 0 no_register)) → (1 < length rs → StandsFor f b (get_or rs 1 no_register))
+    → (2 < length rs → StandsFor f c (get_or rs 2 no_register)) → length rs ≤ 3
+    → (j : ℕ) → j < length rs → StandsAt f (a ∷ b ∷ c ∷ []) rs j
+three_stand f rs a b c x0 x1 x2 most zero low = x0 low
+three_stand f rs a b c x0 x1 x2 most (suc zero) low = x1 low
+three_stand f rs a b c x0 x1 x2 most (suc (suc zero)) low = x2 low
+three_stand f rs a b c x0 x1 x2 most (suc (suc (suc j))) low = absurd (omega (arith, low, most))
+
+pub three_first : (f : Reg → Wave) (rs : List Reg) (a b c : ℤ)
+    → (0 < length rs → a ≡ f (get_or rs 0 no_register) 0) → (1 < length rs → b ≡ f (get_or rs 1 no_register) 0)
+    → (2 < length rs → c ≡ f (get_or rs 2 no_register) 0) → length rs ≤ 3
+    → (j : ℕ) → j < length rs → IsFirstAt f (a ∷ b ∷ c ∷ []) rs j
+three_first f rs a b c x0 x1 x2 most zero low = x0 low
+three_first f rs a b c x0 x1 x2 most (suc zero) low = x1 low
+three_first f rs a b c x0 x1 x2 most (suc (suc zero)) low = x2 low
+three_first f rs a b c x0 x1 x2 most (suc (suc (suc j))) low = absurd (omega (arith, low, most))
+
+pub three_last : (P : Operand → Type 0) (a b c : Operand) → P a → P b → P c → All P (a ∷ b ∷ c ∷ [])
+three_last P a b c x0 x1 x2 = All-cons P a (b ∷ c ∷ []) x0 (All-cons P b (c ∷ []) x1 (All-cons P c [] x2 (All-nil P)))
+
+pub seven_last : (P : Operand → Type 0) (a b c d e g h : Operand) → P a → P b → P c → P d → P e → P g → P h → All P (a ∷ b ∷ c ∷ d ∷ e ∷ g ∷ h ∷ [])
+seven_last P a b c d e g h x0 x1 x2 x3 x4 x5 x6 =
+    All-cons P a (b ∷ c ∷ d ∷ e ∷ g ∷ h ∷ []) x0 (All-cons P b (c ∷ d ∷ e ∷ g ∷ h ∷ []) x1 (All-cons P c (d ∷ e ∷ g ∷ h ∷ []) x2
+    (All-cons P d (e ∷ g ∷ h ∷ []) x3 (All-cons P e (g ∷ h ∷ []) x4 (All-cons P g (h ∷ []) x5 (All-cons P h [] x6 (All-nil P)))))))
+
+-- the first so many of elements of which all have something
+pub all_taken : {A : Type 0} (P : A → Type 0) (n : ℕ) (xs : List A) → All P xs → All P (take n xs)
+all_taken P zero xs all = All-nil P
+all_taken P (suc n) [] all = All-nil P
+all_taken P (suc n) (x ∷ xs) all = All-cons P x (take n xs) (All-head P x xs all) (all_taken P n xs (All-tail P x xs all))
+
+pub taken_long : {A : Type 0} (n : ℕ) (xs : List A) → n ≤ length xs → length (take n xs) ≡ n
+taken_long zero xs h = refl
+taken_long (suc n) [] h = absurd (omega (arith, h))
+taken_long (suc n) (x ∷ xs) h = ap suc (taken_long n xs (omega (arith, h)))
+
+-- operands that stand for registers, as many of them, are what the registers are
+pub same_inputs : (f : Reg → Wave) (os : List Operand) (rs : List Reg) (points : List ℤ) → length rs ≤ length os
+    → ((j : ℕ) → j < length rs → StandsAt f os rs j)
+    → (λ j. units.inputs_at (take (length rs) os) j ++ points) ≡ inputs_at (map f rs) points
+same_inputs f os rs points long h = λ i j. at os rs long h j i ++ points
+  where
+    at : (os : List Operand) (rs : List Reg) → length rs ≤ length os → ((j : ℕ) → j < length rs → StandsAt f os rs j)
+        → (j : ℕ) → units.inputs_at (take (length rs) os) j ≡ map (λ (w : Wave). w j) (map f rs)
+    at os [] long h j = refl
+    at [] (r ∷ rs) long h j = absurd (omega (arith, long))
+    at (o ∷ os) (r ∷ rs) long h j =
+        λ i. h 0 (omega arith) j i ∷ at os rs (omega (arith, long)) (λ k low. h (suc k) (omega (arith, low))) j i
+
+pub same_firsts : (f : Reg → Wave) (xs : List ℤ) (rs : List Reg) → length rs ≤ length xs → ((j : ℕ) → j < length rs → IsFirstAt f xs rs j)
+    → take (length rs) xs ≡ map (λ (w : Wave). w 0) (map f rs)
+same_firsts f xs [] long h = refl
+same_firsts f [] (r ∷ rs) long h = absurd (omega (arith, long))
+same_firsts f (x ∷ xs) (r ∷ rs) long h =
+    λ i. h 0 (omega arith) i ∷ same_firsts f xs rs (omega (arith, long)) (λ k low. h (suc k) (omega (arith, low))) i

@@ -1,0 +1,93 @@
+-- States of which a channel was given a row.
+use Rattle.std.proofs.Common.{◌≡◌, ℕ, ℤ, ◌-◌, ◌&&◌, Bool, true, false, List, length, map, nat_le, Option, Some, None, if◌then◌else◌, refl, sym, ◌∙◌, ap}
+use Rattle.std.proofs.lemmas.Bool.{false≢true}
+use Rattle.cs_base.specs.Rates.{is_audio}
+use Rattle.cs_base.specs.declared.resource.Rate.{Rate}
+use Rattle.cs_base.specs.declared.resource.Rate.TheVariants as rate
+use Rattle.cs_base.proofs.Tests.{some_is}
+use Rattle.cs_ir.specs.Machine.{Machine, acts, in_world}
+use Rattle.cs_ir.specs.Waves.{Wave}
+use Rattle.cs_ir.specs.declared.op.Act.{Act}
+use Rattle.cs_ir.specs.declared.register.Counts.{Counts}
+use Rattle.cs_ir.specs.declared.register.Reg.{Reg}
+use Rattle.cs_cells.specs.declared.footprint.Area.{Area}
+use Rattle.cs_meaning.specs.Plain.{Piece, Cause}
+use Rattle.cs_machine.specs.Outputs.{IsGiven}
+use Rattle.cs_machine.specs.Registers.{reg, values}
+use Rattle.cs_voice_meaning.specs.Follows.{Kinds}
+use Rattle.cs_voice_meaning.specs.VoiceWorld.{VoiceState, out_to, out_to_numbered, voice_world}
+use Rattle.cs_machine.specs.declared.state.State.{State}
+use Rattle.cs_machine.specs.States.{machine_of, unit_at, IsStateIn, Does}
+use Rattle.cs_machine.specs.inner.Channels.{channel_below}
+use Rattle.cs_machine.proofs.Done.{still_in}
+
+-- all but the channels is what a state had
+pub record KeepsAllButOuts (old new : State) : Type 0 where
+  pub regs : new.regs ≡ old.regs
+  pub players : new.players.items ≡ old.players.items
+  pub delays : new.delays ≡ old.delays
+  pub ended : new.ended ≡ old.ended
+  pub row : new.row ≡ old.row
+
+pub given_machine : (old new : State) (c : ℕ) (w : Wave) → KeepsAllButOuts old new → IsGiven old.outs c w new.outs
+    → (cells : ℕ → ℤ) (next : ℕ) (asks : List (List ℤ)) (cause : Option Cause)
+    → machine_of new cells next asks cause ≡ (let m : Machine VoiceState = machine_of old cells next asks cause in in_world (out_to c w m.world) m)
+given_machine old new c w rest given cells next asks cause = λ i. record {
+  regs = values (rest.regs i);
+  next = next;
+  world = record {
+    cells = cells;
+    units = unit_at (rest.players i);
+    delays = rest.delays i;
+    outs = given.outs i;
+    ended = rest.ended i;
+    asks = asks;
+    cause = cause;
+  };
+}
+
+-- An act that gives to one channel is done by a state whose channel was given to.
+pub gives_to : (areas : List Area) (piece : Piece) (kinds : Kinds) (counts : Counts) (act : Act) (into : Reg) (from : List Reg) (c : ℕ) (w : Wave)
+    (old new : State) (cells : ℕ → ℤ) → KeepsAllButOuts old new → IsStateIn areas piece kinds counts old → IsGiven old.outs c w new.outs
+    → ((m : Machine VoiceState) → acts (voice_world areas piece) act into (map (values old.regs) from) m
+    ≡ in_world (out_to c w m.world) m)
+    → Does areas piece kinds counts act into from old cells new cells
+gives_to areas piece kinds counts act into from c w old new cells rest state given does = record {
+  machine = λ next asks cause. given_machine old new c w rest given cells next asks cause ∙ sym (does (machine_of old cells next asks cause));
+  state = still_in areas piece kinds counts old new (record {
+    counts = ap (λ r. r.counts) rest.regs;
+    frames = ap (λ r. r.ksmps) rest.regs;
+    channels = given.channels;
+    channel_frames = given.ksmps;
+    players = rest.players;
+    row = ap (λ r. length r.items) rest.row ∙ state.row ∙ sym state.frames;
+  }) state;
+}
+
+-- a register of sound, by its number
+pub sound_register : (x : Reg) → is_audio x.rate ≡ true → reg rate.Audio x.index ≡ x
+sound_register x h = at x.rate x.index h
+  where
+    at : (r : Rate) (n : ℕ) → is_audio r ≡ true → reg rate.Audio n ≡ reg r n
+    at rate.Audio n h = refl
+    at rate.Init n h = absurd (false≢true h)
+    at rate.Control n h = absurd (false≢true h)
+
+-- what is given to the channel of a number, and nothing where there is no such channel
+pub numbered_channel : (channels : ℕ) (number : Option ℕ) (c : ℕ) (w : Wave) (x : VoiceState) → channel_below channels number ≡ Some c
+    → out_to_numbered channels number w x ≡ out_to c w x
+numbered_channel channels None c w x h = cc
+numbered_channel channels (Some n) c w x h = at (nat_le 1 n && nat_le n channels) h
+  where
+    at : (b : Bool) → (if b then Some (n - 1) else None) ≡ Some c → (if b then out_to (n - 1) w x else x) ≡ out_to c w x
+    at true e = ap (λ k. out_to k w x) (some_is (n - 1) c e)
+    at false e = cc
+
+pub no_channel : (channels : ℕ) (number : Option ℕ) (w : Wave) (x : VoiceState) → channel_below channels number ≡ None
+    → out_to_numbered channels number w x ≡ x
+no_channel channels None w x h = refl
+no_channel channels (Some n) w x h = at (nat_le 1 n && nat_le n channels) h
+  where
+    at : (b : Bool) → (if b then Some (n - 1) else None) ≡ None → (if b then out_to (n - 1) w x else x) ≡ x
+    at true e = cc
+    at false e = refl

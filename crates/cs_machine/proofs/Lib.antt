@@ -1,0 +1,13 @@
+pub mod Channels
+pub mod Frames
+pub mod Putting
+pub mod Clearing
+pub mod Curved
+pub mod Found
+pub mod Storing
+pub mod Writing
+pub mod Gathered
+pub mod Unchanging
+pub mod Done
+pub mod Fresh
+pub mod Given

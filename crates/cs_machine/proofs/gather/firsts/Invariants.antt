@@ -1,0 +1,11 @@
+use Rattle.std.proofs.Common.{◌≡◌, ℕ, ◌<◌, length}
+use Rattle.cs_machine.specs.Registers.{values}
+use Rattle.cs_machine.specs.inner.Gathered.{IsFirstAt}
+use Rattle.cs_machine.proofs.gather.firsts.Given as goal
+
+-- the numbers before this one are those of their registers
+abbrev pub invariant-loop-j : goal.invariant-loop-j
+invariant-loop-j l = record {
+  first : (i : ℕ) → i < l.j → IsFirstAt (values l.regs) l.inputs l.from i;
+  long : length l.inputs ≡ 7;
+}

@@ -1,0 +1,16 @@
+use Rattle.std.proofs.Common.{◌∙◌, ap, arith, length, rules}
+use Rattle.cs_machine.proofs.Frames.{item_is, one_more, all_done}
+use Rattle.cs_ir.specs.Values.{combined}
+use Rattle.cs_signal.specs.Operands.{argument}
+use Rattle.cs_ir.specs.Waves.{both}
+use Rattle.cs_machine.specs.Rows.{row_wave}
+use Rattle.cs_machine.proofs.rows.by_row.Goals as goal
+
+pub loop-j-preserved : goal.loop-j-preserved
+loop-j-preserved c = record {
+  frames = one_more (both c.args.operator (row_wave c.args.xs.now) (row_wave c.args.ys.now)) c.loop-j.out c.loop-j.j c.combine.result (omega arith) c.loop-j.invariant.frames (c.combine.ensures ∙ ap (λ z. combined c.args.operator z c.index-ys-j.result) (item_is c.args.xs.now c.loop-j.j c.index-xs-j.result (omega arith) c.index-xs-j.is) ∙ ap (λ z. combined c.args.operator (argument c.args.xs.now c.loop-j.j) z) (item_is c.args.ys.now c.loop-j.j c.index-ys-j.result (omega arith) c.index-ys-j.is));
+  long = search rules;
+}
+
+pub returns-clause-frames : goal.returns-clause-frames
+returns-clause-frames c = all_done (both c.args.operator (row_wave c.args.xs.now) (row_wave c.args.ys.now)) c.loop-j.out c.loop-j.j (length c.args.out.now) c.loop-j.invariant.long (omega arith) c.loop-j.invariant.frames

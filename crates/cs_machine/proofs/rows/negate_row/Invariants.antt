@@ -1,0 +1,12 @@
+use Rattle.std.proofs.Common.{◌≡◌, length}
+use Rattle.cs_ir.specs.Values.{negated}
+use Rattle.cs_signal.specs.Operands.{operand_at}
+use Rattle.cs_machine.specs.Rows.{Begins}
+use Rattle.cs_machine.proofs.rows.negate_row.Given as goal
+
+-- the places before this one are filled
+abbrev pub invariant-loop-j : goal.invariant-loop-j
+invariant-loop-j l = record {
+  frames : Begins l.j (λ j. negated (operand_at l.x j)) l.out;
+  long : length l.out ≡ length l.initial.out;
+}

@@ -1,0 +1,6 @@
+use Rattle.std.proofs.Common.{◌≡◌, None, replicate}
+use Rattle.cs_machine.proofs.state.no_players.Given as goal
+
+-- as many places as were counted
+abbrev pub invariant-loop : goal.invariant-loop
+invariant-loop l = l.players.items ≡ replicate l.counter None

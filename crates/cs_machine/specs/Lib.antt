@@ -1,0 +1,9 @@
+pub mod Outputs
+pub mod Registers
+pub mod Rows
+pub mod Access
+pub mod Live
+pub mod Players
+pub mod Readings
+pub mod States
+pub mod inner

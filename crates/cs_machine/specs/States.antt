@@ -1,0 +1,117 @@
+-- What a note keeps from cycle to cycle, as the machine that it stands for; and what an act makes of both.
+use Rattle.std.specs.Prelude.{ℕ, ℤ, ◌≡◌, ◌+◌, ◌-◌, ◌≤◌, true, false, List, map, length, slice_index_or, Option, Some, None, if◌then◌else◌}
+use Rattle.std.specs.Option.{is_some, option_map}
+use Rattle.cs_base.specs.declared.resource.Res.{Res}
+use Rattle.cs_base.specs.declared.resource.Res.TheVariants as res
+use Rattle.cs_base.specs.declared.resource.Rate.{Rate}
+use Rattle.cs_words.specs.declared.catalogue.Opcode.{Opcode}
+use Rattle.cs_typed.specs.TypedTree.{header_of_head}
+pub use Rattle.cs_typed.specs.TypedTree.{header_of_head as header_of}
+use Rattle.cs_gen.specs.Points.{len_of}
+use Rattle.cs_ugen.specs.Points.{is_len}
+use Rattle.cs_signal.specs.Operands.{argument}
+use Rattle.cs_ugen.specs.Units.{IsUnitOpcode, opcode_of}
+use Rattle.cs_ir.specs.Machine.{Machine, acts}
+use Rattle.cs_ir.specs.Resources.{Stock, act_uses, act_writes, takes_table}
+use Rattle.cs_ir.specs.declared.op.Act.{Act}
+use Rattle.cs_ir.specs.declared.register.Counts.{Counts}
+use Rattle.cs_ir.specs.declared.register.Reg.{Reg}
+use Rattle.cs_cells.specs.declared.footprint.Area.{Area}
+use Rattle.cs_meaning.specs.Plain.{Piece, Table, Cause, find_table}
+use Rattle.cs_machine.specs.Registers.{values}
+use Rattle.cs_machine.specs.Outputs.{outs}
+use Rattle.cs_voice_meaning.specs.Placing.{area_of}
+use Rattle.cs_voice_meaning.specs.VoiceWorld.{Playing, VoiceState, voice_world}
+use Rattle.cs_voice_meaning.specs.Follows.{Kinds, AreNamed}
+use Rattle.cs_machine.specs.Access.{CanTouch}
+use Rattle.cs_machine.specs.Players.{PlayerData, has_table, playing}
+use Rattle.cs_machine.specs.declared.state.State.{State}
+use Rattle.cs_machine.specs.declared.state.Setting.{Setting}
+
+-- the unit of a number as it plays
+abbrev pub unit_at : List (Option PlayerData) → ℕ → Option Playing
+unit_at players u = option_map playing (slice_index_or players u None)
+
+-- The machine that a state stands for, over cells: with the place of the next op, what the note has asked for, and why it doesn't
+-- start, none of which is in the state.
+abbrev pub machine_of : State → (ℕ → ℤ) → ℕ → List (List ℤ) → Option Cause → Machine VoiceState
+machine_of s cells next asks cause = record {
+  regs = values s.regs;
+  next = next;
+  world = record {
+    cells = cells;
+    units = unit_at s.players.items;
+    delays = s.delays;
+    outs = outs s.outs;
+    ended = s.ended;
+    asks = asks;
+    cause = cause;
+  };
+}
+
+-- A setting is that of a piece over areas. Its fields begin with p1, and p-fields are counted from 1.
+pub record IsSettingOf (at : Setting) (areas : List Area) (piece : Piece) : Type 0 where
+  pub layout : at.layout.now ≡ areas
+  pub head : piece.head ≡ header_of_head at.head.now
+  pub spaces : piece.spaces ≡ record { control = at.zak_k; audio = at.zak_a }
+  pub fields : (k : ℕ) → piece.fields k ≡ argument at.fields.now (k - 1)
+
+-- What a unit has kept of its table is what the piece has: the points of a frozen one, or else the area that notes may change.
+pub record IsOnTable (areas : List Area) (tables : List Table) (p : PlayerData) : Type 0 where
+  pub table : Table
+  pub found : find_table tables p.table ≡ Some table
+  pub present : table.present ≡ true
+  pub points : p.points ≡ table.frozen
+  pub area : p.area ≡ (if is_some table.frozen then None else area_of areas (res.Table table.number))
+  pub has : has_table p ≡ true
+  pub power : is_len (len_of table.size) ≡ true
+  pub small : (area : Area) → p.area ≡ Some area → area.first + area.length ≤ 65536
+
+-- A unit of an opcode: its state is one of that opcode, and its table is one of the piece, or none where the opcode takes none.
+pub record IsPlayerOf (areas : List Area) (piece : Piece) (kind : Opcode × Rate) (p : PlayerData) : Type 0 where
+  pub opcode : p.opcode ≡ kind.0
+  pub state : IsUnitOpcode kind.0 → opcode_of p.state ≡ kind.0
+  pub table : takes_table kind.0 ≡ true → IsOnTable areas piece.tables p
+  pub none : takes_table kind.0 ≡ false → (p.points ≡ None) × (p.area ≡ None)
+
+-- A state has as many registers, units and channels as its code and the piece need, of as many frames; and its units are of the
+-- opcodes that the code runs.
+pub record IsStateIn (areas : List Area) (piece : Piece) (kinds : Kinds) (counts : Counts) (s : State) : Type 0 where
+  pub registers : s.regs.counts ≡ counts
+  pub frames : s.regs.ksmps ≡ piece.head.ksmps
+  pub channels : length s.outs.rows ≡ piece.head.nchnls
+  pub channel_frames : s.outs.ksmps ≡ piece.head.ksmps
+  pub units : length s.players.items ≡ counts.units
+  pub row : length s.row.items ≡ piece.head.ksmps
+  pub players : (u : ℕ) (p : PlayerData) → slice_index_or s.players.items u None ≡ Some p → IsPlayerOf areas piece (kinds u) p
+
+-- Of a state, what no call needs to know a piece for: the room for a row and the channels have the frames of the registers.
+pub record HasRoom (s : State) : Type 0 where
+  pub row : length s.row.items ≡ s.regs.ksmps
+  pub channels : s.outs.ksmps ≡ s.regs.ksmps
+
+-- A state and cells become what an act makes of them in the world of voices, and the state still is one of its code and piece.
+pub record Does (areas : List Area) (piece : Piece) (kinds : Kinds) (counts : Counts) (act : Act) (into : Reg) (from : List Reg)
+    (old : State) (before : ℕ → ℤ) (new : State) (after : ℕ → ℤ) : Type 0 where
+  pub machine : (next : ℕ) (asks : List (List ℤ)) (cause : Option Cause) → machine_of new after next asks cause
+      ≡ acts (voice_world areas piece) act into (map (values old.regs) from) (machine_of old before next asks cause)
+  pub state : IsStateIn areas piece kinds counts new
+
+-- An act that touches no cell does so in whatever piece its state is one of; or in that of a setting.
+abbrev pub DoesAnywhere : Act → Reg → List Reg → State → State → Type 0
+DoesAnywhere act into from old new = (areas : List Area) (piece : Piece) (kinds : Kinds) (counts : Counts) (cells : ℕ → ℤ)
+    → IsStateIn areas piece kinds counts old → Does areas piece kinds counts act into from old cells new cells
+
+abbrev pub DoesAt : Setting → Act → Reg → List Reg → State → State → Type 0
+DoesAt at act into from old new = (areas : List Area) (piece : Piece) (kinds : Kinds) (counts : Counts) (cells : ℕ → ℤ)
+    → IsSettingOf at areas piece → IsStateIn areas piece kinds counts old
+    → Does areas piece kinds counts act into from old cells new cells
+
+-- a resource has an area each of whose cells is one that this can be done to
+abbrev pub MayTouch : (ℕ → Type 0) → ℕ → List Area → Res → Type 0
+MayTouch allowed count areas g = (area : Area) × (area_of areas g ≡ Some area) × CanTouch allowed count area
+
+-- An act may be done over a bank: each resource that it may read has cells that may be read, and so with those that it may write.
+pub record CanDo (can_get can_set : ℕ → Type 0) (count : ℕ) (areas : List Area) (stock : Stock) (act : Act) : Type 0 where
+  pub uses : AreNamed (MayTouch can_get count areas) (act_uses stock act)
+  pub writes : AreNamed (MayTouch can_set count areas) (act_writes stock act)

@@ -1,0 +1,143 @@
+// Areas as values over a control cycle, a cell a frame.
+ghost use Rattle.std.specs.Prelude.{◌≡◌, ◌+◌, ◌<◌, ◌≤◌, length, slice_set, Some};
+ghost use Rattle.cs_machine.specs.Access.{CanTouch};
+ghost use Rattle.cs_machine.specs.Rows.{HasFrames, row_wave};
+ghost use Rattle.cs_base.specs.declared.resource.Rate.TheVariants as rate;
+ghost use Rattle.cs_cells.specs.Cells.{cell};
+ghost use Rattle.cs_ir.specs.Waves.{constant, silence};
+ghost use Rattle.cs_meaning.specs.Plain.{added};
+ghost use Rattle.cs_signal.specs.Operands.{argument};
+ghost use Rattle.cs_voice_meaning.specs.Placing.{wave_in, with_wave};
+
+use cs_base::Num;
+use cs_cells::{Area, Bank};
+
+/// Reads an area into a row: a cell a frame, and 0 beyond the area.
+pub fn read_row<B: Bank>(bank: &mut B, area: Area, row: &mut [Num])
+    requires read { CanTouch (B.can_get (B.rest bank.old)) (length (B.cells bank.old)) area }
+    requires small { area.first + area.length ≤ 65536 }
+    ensures frames { HasFrames (wave_in rate.Audio area (cell (B.cells bank.old))) row.new }
+    ensures row { length row.new ≡ length row.old }
+    ensures same { B.cells bank.new ≡ B.cells bank.old }
+    ensures rest { B.rest bank.new ≡ B.rest bank.old }
+{
+    for j in 0..row.len() {
+        row[j] = at_frame(bank, area, j);
+    }
+}
+
+/// Writes a row into an area of as many cells.
+pub fn write_row<B: Bank>(bank: &mut B, area: Area, row: &[Num])
+    requires row { length row.now ≡ area.length }
+    requires write { CanTouch (B.can_set (B.rest bank.old)) (length (B.cells bank.old)) area }
+    requires small { area.first + area.length ≤ 65536 }
+    ensures cells { cell (B.cells bank.new) ≡ with_wave (Some area) (row_wave row.now) (cell (B.cells bank.old)) }
+    ensures long { length (B.cells bank.new) ≡ length (B.cells bank.old) }
+    ensures rest { B.rest bank.new ≡ B.rest bank.old }
+{
+    for j in 0..row.len() {
+        set_frame(bank, area, j, number_at(row, j));
+    }
+}
+
+/// Writes one value into an area of one cell.
+pub fn write_value<B: Bank>(bank: &mut B, area: Area, value: Num)
+    requires one { area.length ≡ 1 }
+    requires write { CanTouch (B.can_set (B.rest bank.old)) (length (B.cells bank.old)) area }
+    requires small { area.first + area.length ≤ 65536 }
+    ensures cells { cell (B.cells bank.new) ≡ with_wave (Some area) (constant value) (cell (B.cells bank.old)) }
+    ensures long { length (B.cells bank.new) ≡ length (B.cells bank.old) }
+    ensures rest { B.rest bank.new ≡ B.rest bank.old }
+{
+    set_frame(bank, area, 0, value);
+}
+
+/// Adds a row to what an area of as many cells holds.
+pub fn mix_row<B: Bank>(bank: &mut B, area: Area, row: &[Num])
+    requires row { length row.now ≡ area.length }
+    requires read { CanTouch (B.can_get (B.rest bank.old)) (length (B.cells bank.old)) area }
+    requires write { CanTouch (B.can_set (B.rest bank.old)) (length (B.cells bank.old)) area }
+    requires small { area.first + area.length ≤ 65536 }
+    ensures cells { cell (B.cells bank.new) ≡ with_wave (Some area)
+        (added (wave_in rate.Audio area (cell (B.cells bank.old))) (row_wave row.now)) (cell (B.cells bank.old)) }
+    ensures long { length (B.cells bank.new) ≡ length (B.cells bank.old) }
+    ensures rest { B.rest bank.new ≡ B.rest bank.old }
+{
+    for j in 0..row.len() {
+        let before = at_frame(bank, area, j);
+        set_frame(bank, area, j, before.add(number_at(row, j)));
+    }
+}
+
+/// Sets each cell of an area to 0.
+pub(crate) fn clear<B: Bank>(bank: &mut B, area: Area)
+    requires write { CanTouch (B.can_set (B.rest bank.old)) (length (B.cells bank.old)) area }
+    requires small { area.first + area.length ≤ 65536 }
+    ensures cells { cell (B.cells bank.new) ≡ with_wave (Some area) silence (cell (B.cells bank.old)) }
+    ensures long { length (B.cells bank.new) ≡ length (B.cells bank.old) }
+    ensures rest { B.rest bank.new ≡ B.rest bank.old }
+{
+    for j in 0..area.length as usize {
+        set_frame(bank, area, j, Num::exact(0));
+    }
+}
+
+/// What an area holds at a frame, 0 beyond it.
+#[inline(always)]
+fn at_frame<B: Bank>(bank: &mut B, area: Area, frame: usize) -> Num
+    requires read { CanTouch (B.can_get (B.rest bank.old)) (length (B.cells bank.old)) area }
+    requires small { area.first + area.length ≤ 65536 }
+    ensures value { result ≡ wave_in rate.Audio area (cell (B.cells bank.old)) frame }
+    ensures same { B.cells bank.new ≡ B.cells bank.old }
+    ensures rest { B.rest bank.new ≡ B.rest bank.old }
+{
+    if frame < area.length as usize {
+        get_frame(bank, area, frame)
+    } else {
+        Num::exact(0)
+    }
+}
+
+/// One cell of an area.
+#[inline(always)]
+pub(crate) fn get_frame<B: Bank>(bank: &mut B, area: Area, frame: usize) -> Num
+    requires read { CanTouch (B.can_get (B.rest bank.old)) (length (B.cells bank.old)) area }
+    requires small { area.first + area.length ≤ 65536 }
+    requires frame { frame < area.length }
+    ensures value { result ≡ cell (B.cells bank.old) (area.first + frame) }
+    ensures same { B.cells bank.new ≡ B.cells bank.old }
+    ensures rest { B.rest bank.new ≡ B.rest bank.old }
+{
+    bank.get(address(area, frame))
+}
+
+/// One cell of an area takes a value.
+#[inline(always)]
+pub(crate) fn set_frame<B: Bank>(bank: &mut B, area: Area, frame: usize, value: Num)
+    requires write { CanTouch (B.can_set (B.rest bank.old)) (length (B.cells bank.old)) area }
+    requires small { area.first + area.length ≤ 65536 }
+    requires frame { frame < area.length }
+    ensures cells { B.cells bank.new ≡ slice_set (B.cells bank.old) (area.first + frame) value }
+    ensures rest { B.rest bank.new ≡ B.rest bank.old }
+{
+    bank.set(address(area, frame), value);
+}
+
+/// The address of an area's cell.
+#[inline(always)]
+fn address(area: Area, frame: usize) -> u32
+    requires small { area.first + area.length ≤ 65536 }
+    requires frame { frame < area.length }
+    ensures { result ≡ area.first + frame }
+{
+    area.first + frame as u32
+}
+
+/// The number of a row at a frame.
+#[inline(always)]
+fn number_at(row: &[Num], frame: usize) -> Num
+    requires { frame < length row.now }
+    ensures { result ≡ argument row.now frame }
+{
+    row[frame]
+}

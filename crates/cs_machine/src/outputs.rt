@@ -1,0 +1,189 @@
+// Output channels: what a note gives to each of them in a cycle.
+ghost use Rattle.std.specs.Prelude.{◌≡◌, ◌<◌, ℕ, [], length, replicate, pos, slice_index_or, IfOk, IfSome, IfNone};
+ghost use Rattle.cs_base.specs.Numbers.{sum_of};
+ghost use Rattle.cs_ir.specs.Waves.{both, silence};
+ghost use Rattle.cs_machine.specs.Outputs.{IsGiven, outs, refilled};
+ghost use Rattle.cs_machine.specs.Rows.{HasFrames, row_wave};
+ghost use Rattle.cs_machine.specs.inner.Kept.{AreRows};
+ghost use Rattle.cs_words.specs.declared.sign.BinOp.TheVariants as op;
+
+use crate::registers::zeros;
+use cs_base::{Num, OutOfMemory};
+use std::alloc::Global;
+use std::marker::Model;
+
+/// A channel: a row, and whether anything was given to it in this cycle. What its row holds counts only where it was.
+#[derive(Drop)]
+struct Channel {
+    row: Vec<Num>,
+    sounding: bool,
+}
+
+impl Model for Channel {
+    ghost use Rattle.std.specs.Prelude.{ℤ, List};
+    ghost use Rattle.cs_machine.specs.inner.Kept.{shown};
+
+    ghost Value = { List ℤ };
+
+    ghost view = { λ c. shown c.sounding c.row.items };
+}
+
+impl Channel {
+    fn new(alloc: Global, ksmps: usize) -> Result<Channel, OutOfMemory>
+        ensures { IfOk result (λ c. c ≡ replicate ksmps (pos 0)) }
+    {
+        Ok(Channel {
+            row: zeros(alloc, ksmps)?,
+            sounding: false,
+        })
+    }
+
+    fn clear(&mut self)
+        ensures { self.new ≡ replicate (length self.old) (pos 0) }
+    {
+        self.sounding = false;
+    }
+
+    /// The first row of a cycle is copied, more are added.
+    fn give(&mut self, row: &[Num])
+        requires { length row.now ≡ length self.old }
+        ensures frames { HasFrames (both op.Add (row_wave self.old) (row_wave row.now)) self.new }
+        ensures long { length self.new ≡ length self.old }
+    {
+        if self.sounding {
+            add_row(row, &mut self.row);
+        } else {
+            begin_row(row, &mut self.row);
+            self.sounding = true;
+        }
+    }
+
+    fn row(&self) -> Option<&[Num]>
+        ensures some { IfSome result (λ row. row.now ≡ self.now) }
+        ensures none { IfNone result (self.now ≡ replicate (length self.now) (pos 0)) }
+    {
+        if self.sounding { Some(&self.row) } else { None }
+    }
+}
+
+/// What a note gives to each channel in a control cycle: a row a channel. Contracts see what each channel has at each
+/// frame.
+#[derive(Drop)]
+pub struct Outputs {
+    channels: Vec<Channel>,
+    ksmps: usize,
+}
+
+impl Model for Outputs {
+    ghost use Rattle.cs_machine.specs.Outputs.{ChannelFile};
+    ghost use Rattle.cs_machine.specs.inner.Kept.{AreRows};
+
+    ghost Value = { ChannelFile };
+
+    ghost view = { λ o. record { rows = o.channels.items; ksmps = o.ksmps } };
+
+    ghost invariant = { λ o. AreRows o.ksmps o.channels.items };
+}
+
+impl Outputs {
+    /// So many channels, all of them silent. All memory that they need is taken now.
+    pub fn new(alloc: Global, count: usize, ksmps: usize) -> Result<Outputs, OutOfMemory>
+        ensures outs { IfOk result (λ o. outs o ≡ (λ n. silence)) }
+        ensures channels { IfOk result (λ o. length o.rows ≡ count) }
+        ensures ksmps { IfOk result (λ o. o.ksmps ≡ ksmps) }
+    {
+        Ok(Outputs {
+            channels: channels(alloc, count, ksmps)?,
+            ksmps,
+        })
+    }
+
+    /// How many channels there are; what they have is all that they are.
+    pub fn len(&self) -> usize
+        ensures value { result ≡ length self.now.rows }
+        ensures whole { refilled self.now (outs self.now) ≡ self.now }
+    {
+        self.channels.len()
+    }
+
+    /// Makes each channel silent.
+    pub fn clear(&mut self)
+        ensures outs { outs self.new ≡ (λ n. silence) }
+        ensures channels { length self.new.rows ≡ length self.old.rows }
+        ensures ksmps { self.new.ksmps ≡ self.old.ksmps }
+    {
+        clear_all(&mut self.channels);
+    }
+
+    /// Adds a row to a channel, counted from 0.
+    pub fn give(&mut self, channel: usize, row: &[Num])
+        requires channel { channel < length self.old.rows }
+        requires row { length row.now ≡ self.old.ksmps }
+        ensures { IsGiven self.old channel (row_wave row.now) self.new }
+    {
+        self.channels[channel].give(row);
+    }
+
+    /// What a channel has, a number a frame; None where it is silent.
+    pub fn channel(&self, channel: usize) -> Option<&[Num]>
+        ensures some { IfSome result (λ row. row_wave row.now ≡ outs self.now channel) }
+        ensures long { IfSome result (λ row. length row.now ≡ self.now.ksmps) }
+        ensures none { IfNone result (outs self.now channel ≡ silence) }
+    {
+        if channel < self.channels.len() {
+            self.channels[channel].row()
+        } else {
+            None
+        }
+    }
+}
+
+fn channels(alloc: Global, count: usize, ksmps: usize) -> Result<Vec<Channel>, OutOfMemory>
+    ensures { IfOk result (λ v. v.items ≡ replicate count (replicate ksmps (pos 0))) }
+{
+    let mut all = Vec::with_capacity(alloc, count)?;
+    for _ in 0..count {
+        all.push(Channel::new(alloc, ksmps)?)?;
+    }
+    Ok(all)
+}
+
+fn clear_all(channels: &mut [Channel])
+    ensures silent { (n : ℕ) → row_wave (slice_index_or channels.new n []) ≡ silence }
+    ensures rows { (ksmps : ℕ) → AreRows ksmps channels.old → AreRows ksmps channels.new }
+    ensures long { length channels.new ≡ length channels.old }
+{
+    for n in 0..channels.len() {
+        channels[n].clear();
+    }
+}
+
+/// The first row of a channel: 0 and it.
+fn begin_row(row: &[Num], channel: &mut [Num])
+    requires { length row.now ≡ length channel.old }
+    ensures frames { HasFrames (both op.Add silence (row_wave row.now)) channel.new }
+    ensures long { length channel.new ≡ length channel.old }
+{
+    for j in 0..channel.len() {
+        channel[j] = first(row[j]);
+    }
+}
+
+/// The sum of 0 and a number.
+#[inline(always)]
+fn first(x: Num) -> Num
+    ensures { result ≡ sum_of (pos 0) x }
+{
+    x
+}
+
+/// A further row of a channel.
+fn add_row(row: &[Num], channel: &mut [Num])
+    requires { length row.now ≡ length channel.old }
+    ensures frames { HasFrames (both op.Add (row_wave channel.old) (row_wave row.now)) channel.new }
+    ensures long { length channel.new ≡ length channel.old }
+{
+    for j in 0..channel.len() {
+        channel[j] = channel[j].add(row[j]);
+    }
+}

@@ -1,0 +1,158 @@
+// A unit of a note, with the table that it was started with.
+ghost use Rattle.std.specs.Prelude.{◌≡◌, ◌++◌, ◌||◌, not, true, unsigned_abs, length, None, Some};
+ghost use Rattle.std.specs.List.{All};
+ghost use Rattle.cs_cells.specs.Cells.{cell};
+ghost use Rattle.cs_ir.specs.Resources.{reaches};
+ghost use Rattle.cs_machine.specs.Players.{CanRead, SamePlayer, curve_at, has_table};
+ghost use Rattle.cs_gen.specs.Points.{len_of};
+ghost use Rattle.cs_ugen.specs.Points.{is_len};
+ghost use Rattle.cs_signal.specs.Operands.{Lasts};
+ghost use Rattle.cs_signal.specs.Steps.{run};
+ghost use Rattle.cs_ugen.specs.Units.{inputs_at, moving_count, opcode_of, unit_step};
+
+use crate::live::LiveTable;
+use crate::reaches;
+use cs_base::Num;
+use cs_cells::{Area, Bank};
+use cs_ir::Reach;
+use cs_signal::Operand;
+use cs_ugen::{Frozen, Unit};
+use cs_words::Opcode;
+use std::marker::Model;
+
+/// Where the table of a unit is.
+#[derive(Drop)]
+enum Reads<'t> {
+    Nothing,
+    Frozen(Frozen<'t>),
+    Live(Area),
+}
+
+/// A unit, or a store into a table, as a note keeps it.
+#[derive(Drop)]
+pub struct Player<'t> {
+    opcode: Opcode,
+    table: i64,
+    unit: Unit,
+    reads: Reads<'t>,
+}
+
+impl<'t> Model for Player<'t> {
+    ghost use Rattle.cs_machine.specs.Players.{PlayerData};
+    ghost use Rattle.cs_machine.specs.Readings.{area_in, points_in};
+
+    ghost Value = { PlayerData };
+
+    ghost view = { λ p. record {
+      opcode = p.opcode;
+      table = p.table;
+      state = p.unit;
+      points = points_in p.reads;
+      area = area_in p.reads;
+    } };
+}
+
+impl<'t> Player<'t> {
+    /// A player of an opcode without a table. `table` is the number of none that there is.
+    pub fn new(opcode: Opcode, table: i64, unit: Unit) -> Player<'t>
+        ensures { result ≡ record { opcode = opcode; table = table; state = unit; points = None; area = None } }
+    {
+        Player {
+            opcode,
+            table,
+            unit,
+            reads: Reads::Nothing,
+        }
+    }
+
+    /// A player of an opcode on a frozen table: the table's number, and its points.
+    pub fn on_frozen(opcode: Opcode, table: i64, unit: Unit, points: &'t [Num]) -> Player<'t>
+        requires { is_len (len_of (length points.now)) ≡ true }
+        ensures { result ≡ record { opcode = opcode; table = table; state = unit; points = Some points.entry.now; area = None } }
+    {
+        Player {
+            opcode,
+            table,
+            unit,
+            reads: Reads::Frozen(Frozen::new(points)),
+        }
+    }
+
+    /// A player of an opcode on a live table: the table's number, and its area.
+    pub fn on_live(opcode: Opcode, table: i64, unit: Unit, area: Area) -> Player<'t>
+        ensures { result ≡ record { opcode = opcode; table = table; state = unit; points = None; area = Some area } }
+    {
+        Player {
+            opcode,
+            table,
+            unit,
+            reads: Reads::Live(area),
+        }
+    }
+
+    /// Whether it may touch its table: it has none, or the reach has the table's number.
+    #[inline(always)]
+    pub fn may_touch(&self, reach: Reach) -> bool
+        ensures { result ≡ (not (has_table self.now) || reaches reach (unsigned_abs self.now.table)) }
+    {
+        match &self.reads {
+            Reads::Nothing => true,
+            _ => reaches(reach, self.table.unsigned_abs() as usize),
+        }
+    }
+
+    /// The area of its table, where that is live.
+    pub fn live(&self) -> Option<Area>
+        ensures { result ≡ self.now.area }
+    {
+        match &self.reads {
+            Reads::Live(area) => Some(*area),
+            _ => None,
+        }
+    }
+
+    /// A step for each frame of `row`.
+    pub fn block<B: Bank>(&mut self, inputs: &[Operand], bank: &mut B, row: &mut [Num])
+        requires count { length inputs.now ≡ moving_count (opcode_of self.old.state) }
+        requires last { All (Lasts (length row.old)) inputs.now }
+        requires read { CanRead (B.can_get (B.rest bank.old)) (length (B.cells bank.old)) self.old }
+        ensures value { (self.new.state, row.new) ≡ run unit_step
+            (λ j. inputs_at inputs.now j ++ curve_at self.old.points self.old.area (cell (B.cells bank.old)))
+            self.old.state 0 (length row.old) }
+        ensures player { SamePlayer self.old self.new }
+        ensures same { B.cells bank.new ≡ B.cells bank.old }
+        ensures rest { B.rest bank.new ≡ B.rest bank.old }
+    {
+        match &mut self.reads {
+            Reads::Nothing => self.unit.block(inputs, row),
+            Reads::Frozen(curve) => self.unit.block_on(inputs, curve, row),
+            Reads::Live(area) => {
+                let mut table = LiveTable::new(bank, *area);
+                self.unit.block_on(inputs, &mut table, row);
+                let _ = table.into_bank();
+            }
+        }
+    }
+
+    /// One step.
+    pub fn step<B: Bank>(&mut self, inputs: &[Num], bank: &mut B) -> Num
+        requires count { length inputs.now ≡ moving_count (opcode_of self.old.state) }
+        requires read { CanRead (B.can_get (B.rest bank.old)) (length (B.cells bank.old)) self.old }
+        ensures value { (self.new.state, result) ≡ unit_step self.old.state
+            (inputs.now ++ curve_at self.old.points self.old.area (cell (B.cells bank.old))) }
+        ensures player { SamePlayer self.old self.new }
+        ensures same { B.cells bank.new ≡ B.cells bank.old }
+        ensures rest { B.rest bank.new ≡ B.rest bank.old }
+    {
+        match &mut self.reads {
+            Reads::Nothing => self.unit.step(inputs),
+            Reads::Frozen(curve) => self.unit.step_on(inputs, curve),
+            Reads::Live(area) => {
+                let mut table = LiveTable::new(bank, *area);
+                let value = self.unit.step_on(inputs, &mut table);
+                let _ = table.into_bank();
+                value
+            }
+        }
+    }
+}

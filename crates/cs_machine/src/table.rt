@@ -1,0 +1,53 @@
+// Live tables that are stored into.
+ghost use Rattle.std.specs.Prelude.{◌≡◌, ◌+◌, ◌-◌, ◌<◌, ◌≤◌, ◌%◌, true, length, Some};
+ghost use Rattle.cs_machine.specs.Access.{CanTouch};
+ghost use Rattle.cs_base.specs.declared.resource.Rate.TheVariants as rate;
+ghost use Rattle.cs_cells.specs.Cells.{cell};
+ghost use Rattle.cs_gen.specs.Points.{len_of};
+ghost use Rattle.cs_meaning.specs.Plain.{Table, places_of_indices, stored, table_place};
+ghost use Rattle.cs_ugen.specs.Points.{is_len};
+ghost use Rattle.cs_signal.specs.Operands.{operand_at};
+ghost use Rattle.cs_voice_meaning.specs.Placing.{wave_in, with_wave};
+
+use crate::area_rows::set_frame;
+use cs_base::Num;
+use cs_cells::{Area, Bank};
+use cs_signal::Operand;
+
+// The power of two of a size.
+pub(crate) fn power_below(size: u32) -> u32
+    ensures { result ≡ len_of size }
+{
+    size - size % 2
+}
+
+/// Stores into a live table: at each step a value, at the place of an index brought into the table.
+pub fn store<B: Bank>(bank: &mut B, area: Area, steps: usize, sig: &Operand, ndx: &Operand)
+    requires power { is_len (len_of area.length) ≡ true }
+    requires write { CanTouch (B.can_set (B.rest bank.old)) (length (B.cells bank.old)) area }
+    requires small { area.first + area.length ≤ 65536 }
+    ensures cells { (t : Table) → t.size ≡ area.length → cell (B.cells bank.new) ≡ with_wave (Some area)
+        (stored (places_of_indices t (operand_at ndx.now)) (operand_at sig.now) steps
+        (wave_in rate.Audio area (cell (B.cells bank.old)))) (cell (B.cells bank.old)) }
+    ensures long { length (B.cells bank.new) ≡ length (B.cells bank.old) }
+    ensures rest { B.rest bank.new ≡ B.rest bank.old }
+{
+    let len = power_below(area.length);
+    for j in 0..steps {
+        let place = place_of(ndx.at(j), len);
+        set_frame(bank, area, place as usize, sig.at(j));
+    }
+}
+
+// The place of an index: its whole part, rounded down, brought into 0 .. len - 1.
+fn place_of(ndx: Num, len: u32) -> u32
+    requires { 1 ≤ len }
+    ensures value { result ≡ table_place len ndx }
+    ensures inside { result < len }
+{
+    ndx.raw()
+        .div_euclid(65536)
+        .min(i64::from(len - 1))
+        .max(0)
+        .unsigned_abs() as u32
+}

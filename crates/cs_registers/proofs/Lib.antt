@@ -1,3 +1,0 @@
-pub mod Channels
-pub mod Frames
-pub mod Putting

@@ -1,9 +1,0 @@
-use Rattle.std.proofs.Common.{◌≡◌, subst}
-use Rattle.cs_registers.specs.Outputs.{ChannelFile, outs, refilled}
-use Rattle.cs_registers.proofs.Channels.{refilled_again}
-use Rattle.cs_registers.proofs.outputs.Outputs.len.Goals as goal
-
-pub returns-clause-whole : goal.returns-clause-whole
-returns-clause-whole c =
-    let f : ChannelFile = record { rows = c.self.inside.channels.items; ksmps = c.self.inside.ksmps } in
-    subst (λ g. refilled g (outs g) ≡ g) c.self.view_is (refilled_again f c.self.invariant)

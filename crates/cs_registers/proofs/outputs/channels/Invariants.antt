@@ -1,6 +1,0 @@
-use Rattle.std.proofs.Common.{◌≡◌, pos, replicate}
-use Rattle.cs_registers.proofs.outputs.channels.Given as goal
-
--- as many channels as were counted
-abbrev pub invariant-loop : goal.invariant-loop
-invariant-loop l = l.all.items ≡ replicate l.counter (replicate l.ksmps (pos 0))

@@ -1,6 +1,0 @@
-use Rattle.std.proofs.Common.{◌≡◌, map, pos, replicate}
-use Rattle.cs_registers.proofs.registers.rows.Given as goal
-
--- as many rows as were counted
-abbrev pub invariant-loop : goal.invariant-loop
-invariant-loop l = map (λ row. row.items) l.all.items ≡ replicate l.counter (replicate l.ksmps (pos 0))

@@ -1,4 +1,0 @@
-pub mod Outputs
-pub mod Registers
-pub mod Rows
-pub mod inner

@@ -1,3 +1,0 @@
--- What private clauses alone cite.
-pub mod Begun
-pub mod Jumps

@@ -1,6 +1,0 @@
-use Rattle.std.proofs.Common.{◌≡◌, None, replicate}
-use Rattle.cs_state.proofs.state.no_players.Given as goal
-
--- as many places as were counted
-abbrev pub invariant-loop : goal.invariant-loop
-invariant-loop l = l.players.items ≡ replicate l.counter None

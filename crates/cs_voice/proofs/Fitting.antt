@@ -1,0 +1,169 @@
+-- What an op of a valid code has: its registers, as many operands as its act takes, and their rates.
+use Rattle.std.proofs.Common.{◌≡◌, ℕ, ◌<◌, Bool, true, false, not, ◌&&◌, ◌||◌, List, [], ◌∷◌, length, refl, sym, ◌∙◌, ap, subst, ltb-true}
+use Rattle.std.specs.List.{list_all}
+use Rattle.std.proofs.lemmas.Bool.{and_parts}
+use Rattle.cs_base.specs.Rates.{is_audio, within}
+use Rattle.cs_base.specs.declared.resource.Rate.{Rate}
+use Rattle.cs_ir.specs.Validity.{finds, has_register, is_fine, takes_from, writes}
+use Rattle.cs_ir.specs.declared.op.Act.{Act}
+use Rattle.cs_ir.specs.declared.op.Act.TheVariants as act
+use Rattle.cs_ir.specs.declared.op.Op.{Op}
+use Rattle.cs_ir.specs.declared.register.Counts.{Counts}
+use Rattle.cs_ir.specs.declared.register.Reg.{Reg}
+use Rattle.cs_voice_meaning.specs.Voices.{has_channel}
+use Rattle.cs_machine.specs.declared.state.Setting.{Setting}
+use Rattle.cs_machine.specs.declared.state.State.{State}
+use Rattle.cs_machine.specs.States.{DoesAnywhere, DoesAt}
+use Rattle.cs_voice.specs.Ready.{IsFit}
+
+-- ---- the parts of what is fine
+
+pub record Parts (counts : Counts) (op : Op) : Type 0 where
+  pub into : writes op.act ≡ true → has_register counts op.into ≡ true
+  pub from : list_all (has_register counts) op.from ≡ true
+  pub takes : takes_from op.act op.into.rate op.from ≡ true
+
+written_there : (w b : Bool) → (not w || b) ≡ true → w ≡ true → b ≡ true
+written_there true b h e = h
+written_there false b h e = absurd (cc)
+
+pub parts : (counts : Counts) (end place : ℕ) (op : Op) → is_fine counts end place op ≡ true → Parts counts op
+parts counts end place op h =
+    let abc = and_parts ((not (writes op.act) || has_register counts op.into) && list_all (has_register counts) op.from && finds counts end place op.act) (takes_from op.act op.into.rate op.from) h in
+    let ab = and_parts ((not (writes op.act) || has_register counts op.into) && list_all (has_register counts) op.from) (finds counts end place op.act) abc.0 in
+    let a = and_parts (not (writes op.act) || has_register counts op.into) (list_all (has_register counts) op.from) ab.0 in
+    record {
+      into = λ w. written_there (writes op.act) (has_register counts op.into) a.0 w;
+      from = a.1;
+      takes = abc.1;
+    }
+
+pub found : (counts : Counts) (end place : ℕ) (op : Op) → is_fine counts end place op ≡ true → finds counts end place op.act ≡ true
+found counts end place op h =
+    let abc = and_parts ((not (writes op.act) || has_register counts op.into) && list_all (has_register counts) op.from && finds counts end place op.act) (takes_from op.act op.into.rate op.from) h in
+    (and_parts ((not (writes op.act) || has_register counts op.into) && list_all (has_register counts) op.from) (finds counts end place op.act) abc.0).1
+
+-- ---- operands by number
+
+pub first_there : (counts : Counts) (from : List Reg) (x : Reg) (rest : List Reg) → list_all (has_register counts) from ≡ true → from ≡ x ∷ rest → has_register counts x ≡ true
+first_there counts from x rest h e = (and_parts (has_register counts x) (list_all (has_register counts) rest) (ap (list_all (has_register counts)) (sym e) ∙ h)).0
+
+pub second_there : (counts : Counts) (from : List Reg) (x y : Reg) (rest : List Reg) → list_all (has_register counts) from ≡ true → from ≡ x ∷ y ∷ rest → has_register counts y ≡ true
+second_there counts from x y rest h e =
+    first_there counts (y ∷ rest) y rest (and_parts (has_register counts x) (list_all (has_register counts) (y ∷ rest)) (ap (list_all (has_register counts)) (sym e) ∙ h)).1 refl
+
+pub third_there : (counts : Counts) (from : List Reg) (x y z : Reg) (rest : List Reg) → list_all (has_register counts) from ≡ true → from ≡ x ∷ y ∷ z ∷ rest → has_register counts z ≡ true
+third_there counts from x y z rest h e =
+    second_there counts (y ∷ z ∷ rest) y z rest (and_parts (has_register counts x) (list_all (has_register counts) (y ∷ z ∷ rest)) (ap (list_all (has_register counts)) (sym e) ∙ h)).1 refl
+
+-- ---- how many operands
+
+-- the acts that take none, one, two and three
+abbrev pub is_bare : Act → Bool
+is_bare (act.Const n) = true
+is_bare (act.Field k) = true
+is_bare (act.Head n) = true
+is_bare act.Turnoff = true
+is_bare (act.Load g) = true
+is_bare _ = false
+
+abbrev pub is_single : Act → Bool
+is_single act.Copy = true
+is_single act.Neg = true
+is_single (act.Call f) = true
+is_single (act.Save g) = true
+is_single (act.Out c) = true
+is_single _ = false
+
+abbrev pub is_double : Act → Bool
+is_double (act.Pair b) = true
+is_double act.OutAt = true
+is_double _ = false
+
+pub no_operands : (a : Act) (r : Rate) (xs : List Reg) → is_bare a ≡ true → takes_from a r xs ≡ true → xs ≡ []
+no_operands (act.Const n) r [] b h = refl
+no_operands (act.Const n) r (x ∷ xs) b h = absurd (cc)
+no_operands (act.Field k) r [] b h = refl
+no_operands (act.Field k) r (x ∷ xs) b h = absurd (cc)
+no_operands (act.Head n) r [] b h = refl
+no_operands (act.Head n) r (x ∷ xs) b h = absurd (cc)
+no_operands act.Turnoff r [] b h = refl
+no_operands act.Turnoff r (x ∷ xs) b h = absurd (cc)
+no_operands (act.Load g) r [] b h = refl
+no_operands (act.Load g) r (x ∷ xs) b h = absurd (cc)
+no_operands a r xs b h = absurd (cc)
+
+pub one_operand : (a : Act) (r : Rate) (xs : List Reg) → is_single a ≡ true → takes_from a r xs ≡ true → length xs ≡ 1
+one_operand act.Copy r [] b h = absurd (cc)
+one_operand act.Copy r (x ∷ []) b h = refl
+one_operand act.Copy r (x ∷ y ∷ xs) b h = absurd (cc)
+one_operand act.Neg r [] b h = absurd (cc)
+one_operand act.Neg r (x ∷ []) b h = refl
+one_operand act.Neg r (x ∷ y ∷ xs) b h = absurd (cc)
+one_operand (act.Call f) r [] b h = absurd (cc)
+one_operand (act.Call f) r (x ∷ []) b h = refl
+one_operand (act.Call f) r (x ∷ y ∷ xs) b h = absurd (cc)
+one_operand (act.Save g) r [] b h = absurd (cc)
+one_operand (act.Save g) r (x ∷ []) b h = refl
+one_operand (act.Save g) r (x ∷ y ∷ xs) b h = absurd (cc)
+one_operand (act.Out c) r [] b h = absurd (cc)
+one_operand (act.Out c) r (x ∷ []) b h = refl
+one_operand (act.Out c) r (x ∷ y ∷ xs) b h = absurd (cc)
+one_operand a r xs b h = absurd (cc)
+
+pub two_operands : (a : Act) (r : Rate) (xs : List Reg) → is_double a ≡ true → takes_from a r xs ≡ true → length xs ≡ 2
+two_operands (act.Pair o) r [] b h = absurd (cc)
+two_operands (act.Pair o) r (x ∷ []) b h = absurd (cc)
+two_operands (act.Pair o) r (x ∷ y ∷ []) b h = refl
+two_operands (act.Pair o) r (x ∷ y ∷ z ∷ xs) b h = absurd (cc)
+two_operands act.OutAt r [] b h = absurd (cc)
+two_operands act.OutAt r (x ∷ []) b h = absurd (cc)
+two_operands act.OutAt r (x ∷ y ∷ []) b h = refl
+two_operands act.OutAt r (x ∷ y ∷ z ∷ xs) b h = absurd (cc)
+two_operands a r xs b h = absurd (cc)
+
+pub three_operands : (r : Rate) (xs : List Reg) → takes_from act.Pick r xs ≡ true → length xs ≡ 3
+three_operands r [] h = absurd (cc)
+three_operands r (x ∷ []) h = absurd (cc)
+three_operands r (x ∷ y ∷ []) h = absurd (cc)
+three_operands r (x ∷ y ∷ z ∷ []) h = refl
+three_operands r (x ∷ y ∷ z ∷ v ∷ xs) h = absurd (cc)
+
+-- ---- rates of operands
+
+not_true : (b : Bool) → not b ≡ true → b ≡ false
+not_true false h = refl
+not_true true h = absurd (cc)
+
+pub out_sounds : (c : ℕ) (r : Rate) (xs : List Reg) (x : Reg) → takes_from (act.Out c) r xs ≡ true → xs ≡ x ∷ [] → is_audio x.rate ≡ true
+out_sounds c r xs x h e = ap (takes_from (act.Out c) r) (sym e) ∙ h
+
+pub numbered_sounds : (r : Rate) (xs : List Reg) (n x : Reg) → takes_from act.OutAt r xs ≡ true → xs ≡ n ∷ x ∷ [] → is_audio x.rate ≡ true
+numbered_sounds r xs n x h e = (and_parts (not (is_audio n.rate)) (is_audio x.rate) (ap (takes_from act.OutAt r) (sym e) ∙ h)).1
+
+pub picks_by_held : (r : Rate) (xs : List Reg) (c x y : Reg) → takes_from act.Pick r xs ≡ true → xs ≡ c ∷ x ∷ y ∷ [] → is_audio c.rate ≡ false
+picks_by_held r xs c x y h e =
+    let abc = and_parts (not (is_audio c.rate) && within c.rate r && within x.rate r) (within y.rate r) (ap (takes_from act.Pick r) (sym e) ∙ h) in
+    let ab = and_parts (not (is_audio c.rate) && within c.rate r) (within x.rate r) abc.0 in
+    not_true (is_audio c.rate) (and_parts (not (is_audio c.rate)) (within c.rate r) ab.0).0
+
+pub channel_there : (channels c : ℕ) (a : Act) → a ≡ act.Out c → has_channel channels a ≡ true → c < channels
+channel_there channels c a e h = ltb-true c channels (ap (has_channel channels) (sym e) ∙ h)
+
+-- ---- an op that does an act
+
+pub does_at : (at : Setting) (a b : Act) (into : Reg) (xs ys : List Reg) (old new : State) → a ≡ b → xs ≡ ys → DoesAt at b into ys old new → DoesAt at a into xs old new
+does_at at a b into xs ys old new e f h =
+    subst (λ d. DoesAt at d into xs old new) (sym e) (subst (λ l. DoesAt at b into l old new) (sym f) h)
+
+pub does_anywhere : (at : Setting) (a b : Act) (into : Reg) (xs ys : List Reg) (old new : State) → a ≡ b → xs ≡ ys → DoesAnywhere b into ys old new → DoesAt at a into xs old new
+does_anywhere at a b into xs ys old new e f h =
+    does_at at a b into xs ys old new e f (λ areas piece kinds counts cells setting state. h areas piece kinds counts cells state)
+
+-- an op whose act is known takes what the act takes
+pub takes_as : (op : Op) (a : Act) → op.act ≡ a → takes_from op.act op.into.rate op.from ≡ true → takes_from a op.into.rate op.from ≡ true
+takes_as op a e h = ap (λ b. takes_from b op.into.rate op.from) (sym e) ∙ h
+
+-- an op whose act takes no operand has none
+pub bare_from : (op : Op) (s : State) (a : Act) → IsFit op s → op.act ≡ a → is_bare a ≡ true → op.from ≡ []
+bare_from op s a fit e b = no_operands a op.into.rate op.from b (takes_as op a e (parts s.regs.counts fit.end fit.place op fit.fine).takes)

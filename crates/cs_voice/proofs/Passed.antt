@@ -1,0 +1,339 @@
+-- The code that begins a note, op by op.
+use Rattle.std.proofs.Common.{◌≡◌, ℕ, ℤ, ◌+◌, ◌<◌, ◌≤◌, ◌⊎◌, inl, inr, Bool, true, false, ◌&&◌, List, [], ◌∷◌, ◌++◌, length, map, nat_lt, nat_le, slice_get, Option, Some, None, if◌then◌else◌, refl, sym, ◌∙◌, ap, subst, append_assoc, arith}
+use Rattle.std.specs.Option.{option_map}
+use Rattle.std.specs.List.{list_all}
+use Rattle.std.proofs.lemmas.Bool.{and_parts}
+use Rattle.std.proofs.lemmas.Bool.Decides.{nat_tests}
+use Rattle.cs_words.specs.declared.catalogue.Opcode.{Opcode}
+use Rattle.cs_ir.specs.Asks.{ask_of}
+use Rattle.cs_ir.specs.Cycles.{are_of_cycle, is_of_cycle}
+use Rattle.cs_ir.specs.Machine.{acts}
+use Rattle.cs_words.specs.Catalogue.{row_of, unit_takes}
+use Rattle.cs_base.specs.declared.resource.Rate.{Rate}
+use Rattle.cs_ir.specs.Units.{is_started}
+use Rattle.cs_ir.specs.Validity.{finds, is_fine, is_still, may_run_at, starts_with, takes_from}
+use Rattle.cs_ir.specs.Values.{holds}
+use Rattle.cs_ir.specs.Waves.{Wave, first_values, operand}
+use Rattle.cs_ir.specs.declared.ask.Ask.{Ask}
+use Rattle.cs_ir.specs.declared.op.Act.{Act}
+use Rattle.cs_ir.specs.declared.op.Act.TheVariants as act
+use Rattle.cs_ir.specs.declared.op.Code.{Code}
+use Rattle.cs_ir.specs.declared.op.Op.{Op}
+use Rattle.cs_ir.specs.declared.register.Counts.{Counts}
+use Rattle.cs_ir.specs.declared.register.Reg.{Reg}
+use Rattle.cs_voice.specs.Cells.{spaces_at}
+use Rattle.cs_voice.specs.Ready.{CanBeDone, DoesOp, IsReady, is_here}
+use Rattle.cs_machine.specs.Access.{AreSpaces, spaces_of}
+use Rattle.cs_cells.specs.Areas.{word_count}
+use Rattle.cs_cells.specs.declared.footprint.Area.{Area}
+use Rattle.cs_meaning.specs.Plain.{Piece}
+use Rattle.cs_machine.specs.Registers.{values}
+use Rattle.cs_voice_meaning.specs.Placing.{HasArea, IsPlaced}
+use Rattle.cs_voice_meaning.specs.VoiceWorld.{voice_world}
+use Rattle.cs_voice_meaning.specs.Follows.{ActNamed, Kinds}
+use Rattle.cs_voice_meaning.specs.Voices.{Sheet, IsPlayable}
+use Rattle.cs_voice_meaning.proofs.Steady.{run_steady}
+use Rattle.cs_typed.specs.TypedTree.{header_of_head}
+use Rattle.cs_machine.specs.States.{CanDo, Does, IsStateIn, machine_of}
+use Rattle.cs_machine.specs.declared.state.State.{State}
+use Rattle.cs_voice.specs.Passing.{CanDoOp, CanPass, IsDone, IsFound, IsOpOf, IsStateOf, Passes}
+use Rattle.cs_voice.specs.Tables.{CanAllBePlayed, tables_of}
+use Rattle.cs_voice.specs.Starting.{Starts, cause_of}
+use Rattle.cs_voice.specs.declared.begin.Refusal.{Refusal}
+use Rattle.cs_voice.specs.declared.tables.Finds.{Finds}
+use Rattle.cs_voice.specs.inner.Jumps.{GoesOn, is_jump}
+use Rattle.cs_voice.proofs.Ops.{can_do, names_of, op_of, takes_of}
+use Rattle.cs_voice.proofs.Running.{IsUpTo, begins, ends, jumps, one_more, refuses}
+
+none_more : {A : Type 0} (xs : List A) → xs ++ [] ≡ xs
+none_more [] = refl
+none_more (x ∷ xs) = ap (λ ys. x ∷ ys) (none_more xs)
+
+map_more : {A B : Type 0} (f : A → B) (xs ys : List A) → map f (xs ++ ys) ≡ map f xs ++ map f ys
+map_more f [] ys = refl
+map_more f (x ∷ xs) ys = ap (λ zs. f x ∷ zs) (map_more f xs ys)
+
+-- what is done here starts nothing and asks for nothing
+steady_here : (t : Act) → is_here t ≡ true → is_of_cycle t ≡ true
+steady_here (act.Start o u) h = absurd cc
+steady_here act.Ask h = absurd cc
+steady_here (act.Jump to) h = refl
+steady_here (act.Unless to) h = refl
+steady_here _ h = refl
+
+steady_one : (op : Op) → is_of_cycle op.act ≡ true → are_of_cycle (op ∷ []) ≡ true
+steady_one op e = ap (λ b. b && true) e
+
+-- Over a bank of all cells an op that isn't a jump, a start or an ask may be done, and what it does is what its sheet says.
+module _ (get set : ℕ → Type 0) (count : ℕ) (finds : Finds) (ms : List Bool) (s : Sheet) (found : IsFound finds ms s)
+    (gets : (a : ℕ) → a < word_count s.areas → get a) (sets : (a : ℕ) → a < word_count s.areas → set a) (long : word_count s.areas ≤ count)
+    (op : Op) (old : State) (fine : IsOpOf s old.regs.counts op) (state : IsStateOf s old.regs.counts old) where
+  here : s.areas ≡ finds.at.layout.now
+  here = sym found.setting.layout
+
+  ready : (p : IsPlayable s) → IsReady get set count finds.at s.piece p.kinds p.stock op old
+  unfolding here
+  ready p = record {
+    setting = record { layout = refl; head = found.setting.head; spaces = found.setting.spaces; fields = found.setting.fields };
+    placed = subst (λ areas. IsPlaced areas p.stock s.piece) here p.placed;
+    spaces = subst AreSpaces here found.places;
+    zak = subst (λ areas. spaces_of areas ≡ spaces_at finds.at) here (found.spaces ∙ found.setting.spaces);
+    state = subst (λ areas. IsStateIn areas s.piece p.kinds old.regs.counts old) here (state.in_piece p);
+    end = fine.end;
+    place = fine.place;
+    fine = fine.fine;
+    named = subst (λ areas. ActNamed p.stock p.kinds (HasArea areas) op.act op.into.rate) here (fine.named p);
+    channel = fine.channel;
+    can = subst (λ areas. CanDo get set count areas p.stock op.act) here (can_do get set count s.areas p.stock p.kinds op.act op.into.rate p.placed.laid gets sets long (fine.named p));
+  }
+
+  pub can_be_done : IsPlayable s → CanBeDone get set count finds.at op old
+  can_be_done p = record { piece = s.piece; kinds = p.kinds; stock = p.stock; ready = ready p }
+
+  pub done_here : IsPlayable s → is_here op.act ≡ true → (new : State) (before after : ℕ → ℤ) (asked : List Ask)
+      → DoesOp get set count finds.at op old before new after → IsDone s op old before asked new after asked None
+  done_here p at new before after asked does = record {
+    more = [];
+    asks = sym (none_more asked);
+    machine = λ next earlier. ap (λ e. machine_of new after next e None) (none_more earlier) ∙ (own p).machine next earlier None;
+    state = record {
+      in_piece = λ q. (own q).state;
+      delays =
+          let kept = run_steady s.areas s.piece 0 (op ∷ []) (machine_of old before 0 [] None) (steady_one op (steady_here op.act at)) in
+          let same : new.delays ≡ old.delays = ap (λ m. m.world.delays) ((own p).machine 0 [] None) ∙ ap (λ z. z.delays) kept in
+          let low = state.delays in
+          omega arith;
+    };
+  }
+    where
+      own : (q : IsPlayable s) → Does s.areas s.piece q.kinds old.regs.counts op.act op.into op.from old before new after
+      own q = subst (λ areas. Does areas s.piece q.kinds old.regs.counts op.act op.into op.from old before new after) found.setting.layout (does s.piece q.kinds q.stock (ready q))
+
+-- a note is asked for
+pub done_ask : (s : Sheet) (op : Op) (old : State) (cells : ℕ → ℤ) (asked : List Ask) → op.act ≡ act.Ask → IsStateOf s old.regs.counts old
+    → IsDone s op old cells asked old cells (asked ++ ask_of (first_values (map (values old.regs) op.from)) ∷ []) None
+done_ask s op old cells asked is state = record {
+  more = first_values (map (values old.regs) op.from) ∷ [];
+  asks = refl;
+  machine = λ next earlier. ap (λ t. acts (voice_world s.areas s.piece) t op.into (map (values old.regs) op.from) (machine_of old cells next earlier None)) (sym is);
+  state = state;
+}
+
+-- a unit is started, or isn't
+pub done_start : (s : Sheet) (op : Op) (o : Opcode) (u : ℕ) (areas : List Area) (old new : State) (cells : ℕ → ℤ) (asked : List Ask) (refused : Option Refusal)
+    → op.act ≡ act.Start o u → areas ≡ s.areas → IsPlayable s
+    → ((p : IsPlayable s) → Starts areas s.piece p.kinds old.regs.counts o op.into.rate u (first_values (map (values old.regs) op.from)) old new refused)
+    → IsDone s op old cells asked new cells asked refused
+done_start s op o u areas old new cells asked refused is same p starts = record {
+  more = [];
+  asks = sym (none_more asked);
+  machine = λ next earlier. ap (λ e. machine_of new cells next e (option_map cause_of refused)) (none_more earlier)
+      ∙ (own p).machine cells next earlier
+      ∙ ap (λ t. acts (voice_world s.areas s.piece) t op.into (map (values old.regs) op.from) (machine_of old cells next earlier None)) (sym is);
+  state = record { in_piece = λ q. (own q).state; delays = (own p).delays };
+}
+  where
+    own : (q : IsPlayable s) → Starts s.areas s.piece q.kinds old.regs.counts o op.into.rate u (first_values (map (values old.regs) op.from)) old new refused
+    own q = subst (λ x. Starts x s.piece q.kinds old.regs.counts o op.into.rate u (first_values (map (values old.regs) op.from)) old new refused) same (starts q)
+
+-- The code is done up to a place.
+pub record IsPassed (s : Sheet) (first : State) (before : ℕ → ℤ) (asked : List Ask) (place : ℕ) (now : State) (cells : ℕ → ℤ) (given : List Ask) : Type 0 where
+  pub next : ℕ
+  pub more : List (List ℤ)
+  pub asks : given ≡ asked ++ map ask_of more
+  pub up : IsUpTo (voice_world s.areas s.piece) s.init (machine_of first before 0 [] None) place (machine_of now cells next more None)
+  pub counted : now.regs.counts ≡ first.regs.counts
+  pub state : IsStateOf s first.regs.counts now
+
+pub passed_none : (s : Sheet) (first : State) (before : ℕ → ℤ) (asked : List Ask) → IsStateOf s first.regs.counts first
+    → IsPassed s first before asked 0 first before asked
+passed_none s first before asked state = record {
+  next = 0;
+  more = [];
+  asks = sym (none_more asked);
+  up = begins (voice_world s.areas s.piece) s.init (machine_of first before 0 [] None) refl;
+  counted = refl;
+  state = state;
+}
+
+-- a jump
+jumped : (s : Sheet) (now : State) (cells : ℕ → ℤ) (next : ℕ) (more : List (List ℤ)) (t : Act) (into : Reg) (ws : List Wave) (place to : ℕ) → GoesOn t ws place to
+    → (n : ℕ) × (machine_of now cells n more None ≡ acts (voice_world s.areas s.piece) t into ws (machine_of now cells next more None)) × (((n ≡ next) × (to ≡ place + 1)) ⊎ (n ≡ to))
+jumped s now cells next more (act.Jump later) into ws place to g = (later, refl, inr (sym g))
+jumped s now cells next more (act.Unless later) into ws place to g = by (holds (operand 0 ws 0)) g
+  where
+    by : (b : Bool) → to ≡ (if b then place + 1 else later)
+        → (n : ℕ) × (machine_of now cells n more None ≡ record (machine_of now cells next more None) { next = if b then next else later }) × (((n ≡ next) × (to ≡ place + 1)) ⊎ (n ≡ to))
+    by true h = (next, refl, inl (refl, h))
+    by false h = (later, refl, inr (sym h))
+jumped s now cells next more _ into ws place to g = absurd g
+
+later_on : (counts : Counts) (end place to : ℕ) (t : Act) (ws : List Wave) → finds counts end place t ≡ true → GoesOn t ws place to → place < to
+later_on counts end place to (act.Jump later) ws f g =
+    let p = and_parts (nat_lt place later) (nat_le later end) f in let h = p.0 in grind (arith, nat_tests)
+later_on counts end place to (act.Unless later) ws f g = by (holds (operand 0 ws 0)) g
+  where
+    by : (b : Bool) → to ≡ (if b then place + 1 else later) → place < to
+    by true h = omega arith
+    by false h = let p = and_parts (nat_lt place later) (nat_le later end) f in let q = p.0 in grind (arith, nat_tests)
+later_on counts end place to _ ws f g = absurd g
+
+pub jump_later : (counts : Counts) (end place to : ℕ) (op : Op) (ws : List Wave) → is_fine counts end place op ≡ true → GoesOn op.act ws place to → place < to
+jump_later counts end place to op ws fine g = later_on counts end place to op.act ws (names_of counts end place op fine) g
+
+pub passed_jump : (s : Sheet) (first : State) (before : ℕ → ℤ) (asked : List Ask) (place to : ℕ) (now : State) (cells : ℕ → ℤ) (asks : List Ask) (op : Op)
+    → IsPassed s first before asked place now cells asks → slice_get s.init place ≡ Some op → place < to
+    → GoesOn op.act (map (values now.regs) op.from) place to → IsPassed s first before asked to now cells asks
+passed_jump s first before asked place to now cells asks op u at later g =
+    let j = jumped s now cells u.next u.more op.act op.into (map (values now.regs) op.from) place to g in
+    record {
+      next = j.0;
+      more = u.more;
+      asks = u.asks;
+      up = up_by j.0 j.1 j.2;
+      counted = u.counted;
+      state = u.state;
+    }
+  where
+    up_by : (n : ℕ) → machine_of now cells n u.more None ≡ acts (voice_world s.areas s.piece) op.act op.into (map (values now.regs) op.from) (machine_of now cells u.next u.more None)
+        → (((n ≡ u.next) × (to ≡ place + 1)) ⊎ (n ≡ to))
+        → IsUpTo (voice_world s.areas s.piece) s.init (machine_of first before 0 [] None) to (machine_of now cells n u.more None)
+    up_by n e (inl h) =
+        let below : n ≤ place + 1 = let q = h.0 in let r = u.up.next in omega arith in
+        subst (λ k. IsUpTo (voice_world s.areas s.piece) s.init (machine_of first before 0 [] None) k (machine_of now cells n u.more None)) (sym h.1)
+        (one_more (voice_world s.areas s.piece) s.init (machine_of first before 0 [] None) place op (machine_of now cells u.next u.more None) (machine_of now cells n u.more None) u.up at refl e below)
+    up_by n e (inr h) = jumps (voice_world s.areas s.piece) s.init (machine_of first before 0 [] None) place to op (machine_of now cells u.next u.more None) (machine_of now cells n u.more None) u.up at refl e h later
+
+more_asked : (asked now new : List Ask) (some more : List (List ℤ)) → now ≡ asked ++ map ask_of some → new ≡ now ++ map ask_of more → new ≡ asked ++ map ask_of (some ++ more)
+more_asked asked now new some more e f =
+    f ∙ ap (λ xs. xs ++ map ask_of more) e ∙ append_assoc asked (map ask_of some) (map ask_of more) ∙ ap (λ xs. asked ++ xs) (sym (map_more ask_of some more))
+
+-- an op was done
+pub passed_one : (s : Sheet) (first : State) (before : ℕ → ℤ) (asked : List Ask) (place : ℕ) (now new : State) (cells after : ℕ → ℤ) (asks asks_new : List Ask) (op : Op)
+    → IsPlayable s → IsPassed s first before asked place now cells asks → slice_get s.init place ≡ Some op
+    → IsDone s op now cells asks new after asks_new None → IsPassed s first before asked (place + 1) new after asks_new
+passed_one s first before asked place now new cells after asks asks_new op p u at d = record {
+  next = u.next;
+  more = u.more ++ d.more;
+  asks = more_asked asked asks asks_new u.more d.more u.asks d.asks;
+  up = one_more (voice_world s.areas s.piece) s.init (machine_of first before 0 [] None) place op (machine_of now cells u.next u.more None) (machine_of new after u.next (u.more ++ d.more) None)
+      u.up at refl (d.machine u.next u.more) (let r = u.up.next in omega arith);
+  counted = (d.state.in_piece p).registers ∙ u.counted;
+  state = subst (λ c. IsStateOf s c new) u.counted d.state;
+}
+
+-- the end, and a refusal
+pub passed_all : (s : Sheet) (first : State) (before : ℕ → ℤ) (asked : List Ask) (place : ℕ) (now : State) (cells : ℕ → ℤ) (asks : List Ask)
+    → IsPassed s first before asked place now cells asks → length s.init ≤ place → Passes s first before asked now cells asks None
+passed_all s first before asked place now cells asks u h = record {
+  next = u.next;
+  more = u.more;
+  asks = u.asks;
+  machine = ends (voice_world s.areas s.piece) s.init (machine_of first before 0 [] None) place (machine_of now cells u.next u.more None) u.up h;
+  state = u.state;
+}
+
+pub passed_refused : (s : Sheet) (first : State) (before : ℕ → ℤ) (asked : List Ask) (place : ℕ) (now new : State) (cells after : ℕ → ℤ) (asks asks_new : List Ask) (op : Op) (refused : Refusal)
+    → IsPassed s first before asked place now cells asks → slice_get s.init place ≡ Some op
+    → IsDone s op now cells asks new after asks_new (Some refused) → Passes s first before asked new after asks_new (Some refused)
+passed_refused s first before asked place now new cells after asks asks_new op refused u at d = record {
+  next = u.next;
+  more = u.more ++ d.more;
+  asks = more_asked asked asks asks_new u.more d.more u.asks d.asks;
+  machine = refuses (voice_world s.areas s.piece) s.init (machine_of first before 0 [] None) place op (machine_of now cells u.next u.more None)
+      (machine_of new after u.next (u.more ++ d.more) (Some (cause_of refused))) u.up at refl (d.machine u.next u.more) refl;
+  state = subst (λ c. IsStateOf s c new) u.counted d.state;
+}
+
+-- where a jump goes on
+pub goes_jump : (t : Act) (ws : List Wave) (place to : ℕ) → t ≡ act.Jump to → GoesOn t ws place to
+goes_jump t ws place to is = let P : Act → Type 0 = λ a. GoesOn a ws place to in subst P (sym is) refl
+
+pub goes_on_here : (t : Act) (ws : List Wave) (place later : ℕ) → t ≡ act.Unless later → holds (operand 0 ws 0) ≡ true → GoesOn t ws place (place + 1)
+goes_on_here t ws place later is h =
+    let P : Act → Type 0 = λ a. GoesOn a ws place (place + 1) in
+    subst P (sym is) (sym (ap (λ b. if b then place + 1 else later) h))
+
+pub goes_on_later : (t : Act) (ws : List Wave) (place later : ℕ) → t ≡ act.Unless later → holds (operand 0 ws 0) ≡ false → GoesOn t ws place later
+goes_on_later t ws place later is h =
+    let P : Act → Type 0 = λ a. GoesOn a ws place later in
+    subst P (sym is) (sym (ap (λ b. if b then place + 1 else later) h))
+
+takes_one : (later : ℕ) (r : Rate) (xs : List Reg) → takes_from (act.Unless later) r xs ≡ true → (x : Reg) × (xs ≡ x ∷ [])
+takes_one later r [] e = absurd cc
+takes_one later r (x ∷ []) e = (x, refl)
+takes_one later r (x ∷ y ∷ xs) e = absurd cc
+
+pub condition_of : (counts : Counts) (end place later : ℕ) (op : Op) → is_fine counts end place op ≡ true → op.act ≡ act.Unless later → (x : Reg) × (op.from ≡ x ∷ [])
+condition_of counts end place later op fine is =
+    takes_one later op.into.rate op.from (subst (λ t. takes_from t op.into.rate op.from ≡ true) is (takes_of counts end place op fine))
+
+-- what isn't a jump, a start or an ask is done by the acts over cells
+pub here_of : (t : Act) → is_jump t ≡ false → ((o : Opcode) (u : ℕ) → t ≡ act.Start o u → ⊥) → (t ≡ act.Ask → ⊥) → is_here t ≡ true
+here_of (act.Jump to) j s a = absurd cc
+here_of (act.Unless to) j s a = absurd cc
+here_of (act.Start o u) j s a = absurd (s o u refl)
+here_of act.Ask j s a = absurd (a refl)
+here_of _ j s a = refl
+
+-- what a start names and takes
+starts_at : (counts : Counts) (end place u : ℕ) (o : Opcode) → finds counts end place (act.Start o u) ≡ true → u < counts.units
+starts_at counts end place u o f = grind (arith, nat_tests)
+
+pub start_there : (counts : Counts) (end place u : ℕ) (o : Opcode) (op : Op) → is_fine counts end place op ≡ true → op.act ≡ act.Start o u → u < counts.units
+start_there counts end place u o op fine is =
+    starts_at counts end place u o (subst (λ t. finds counts end place t ≡ true) is (names_of counts end place op fine))
+
+pub start_takes : (counts : Counts) (end place u : ℕ) (o : Opcode) (op : Op) → is_fine counts end place op ≡ true → op.act ≡ act.Start o u → is_started (row_of o).shape ≡ true
+start_takes counts end place u o op fine is =
+    let all : starts_with (row_of o) op.into.rate op.from ≡ true = subst (λ t. takes_from t op.into.rate op.from ≡ true) is (takes_of counts end place op fine) in
+    let outer = and_parts (is_started (row_of o).shape && unit_takes (row_of o) (length op.from) && list_all is_still op.from) (may_run_at (row_of o) op.into.rate) all in
+    let middle = and_parts (is_started (row_of o).shape && unit_takes (row_of o) (length op.from)) (list_all is_still op.from) outer.0 in
+    (and_parts (is_started (row_of o).shape) (unit_takes (row_of o) (length op.from)) middle.0).0
+
+-- a start, and an ask, as they are done
+pub started_op : (finds : Finds) (ms : List Bool) (s : Sheet) (op : Op) (o : Opcode) (u : ℕ) (settled : List ℤ) (old new : State) (cells : ℕ → ℤ) (asked : List Ask) (refused : Option Refusal)
+    → op.act ≡ act.Start o u → IsFound finds ms s → IsPlayable s → IsOpOf s old.regs.counts op → IsStateOf s old.regs.counts old
+    → settled ≡ first_values (map (values old.regs) op.from)
+    → ((piece : Piece) (kinds : Kinds) (counts : Counts) → piece.head ≡ header_of_head finds.at.head.now → piece.tables ≡ tables_of finds.tables.now ms
+    → kinds u ≡ (o, op.into.rate) → IsStateIn finds.at.layout.now piece kinds counts old
+    → Starts finds.at.layout.now piece kinds counts o op.into.rate u settled old new refused)
+    → IsDone s op old cells asked new cells asked refused
+started_op finds ms s op o u settled old new cells asked refused is found playable fine state same starts =
+    done_start s op o u finds.at.layout.now old new cells asked refused is found.setting.layout playable
+    (λ p. subst (λ xs. Starts finds.at.layout.now s.piece p.kinds old.regs.counts o op.into.rate u xs old new refused) same
+    (starts s.piece p.kinds old.regs.counts found.setting.head found.tables
+    (subst (λ t. ActNamed p.stock p.kinds (HasArea s.areas) t op.into.rate) is (fine.named p))
+    (subst (λ areas. IsStateIn areas s.piece p.kinds old.regs.counts old) (sym found.setting.layout) (state.in_piece p))))
+
+pub asked_op : (s : Sheet) (op : Op) (settled : List ℤ) (old : State) (cells : ℕ → ℤ) (asked given : List Ask) → op.act ≡ act.Ask → IsStateOf s old.regs.counts old
+    → settled ≡ first_values (map (values old.regs) op.from) → given ≡ asked ++ ask_of settled ∷ []
+    → IsDone s op old cells asked old cells given None
+asked_op s op settled old cells asked given is state same new =
+    subst (λ xs. IsDone s op old cells asked old cells xs None) (sym (new ∙ ap (λ vs. asked ++ ask_of vs ∷ []) same)) (done_ask s op old cells asked is state)
+
+-- each table that can be played
+pub all_played : (finds : Finds) (ms : List Bool) (s : Sheet) → IsFound finds ms s → CanAllBePlayed finds.at.layout.now (tables_of finds.tables.now ms)
+all_played finds ms s found =
+    subst (λ areas. CanAllBePlayed areas (tables_of finds.tables.now ms)) (sym found.setting.layout)
+    (subst (λ ts. CanAllBePlayed s.areas ts) found.tables found.can_be_played)
+
+-- the next op can be done
+pub able_again : {R : Type 0} (get set : R → ℕ → Type 0) (r q : R) (n m : ℕ) (finds : Finds) (ms : List Bool) (code : Code) (s : Sheet) (first : State) (before : ℕ → ℤ) (asked : List Ask)
+    (place : ℕ) (now : State) (cells : ℕ → ℤ) (given : List Ask) (op : Op) → q ≡ r → m ≡ n → CanPass (get r) (set r) n finds ms code s first
+    → IsPassed s first before asked place now cells given → slice_get code.ops.items place ≡ Some op → CanDoOp (get q) (set q) m finds ms op s now
+able_again get set r q n m finds ms code s first before asked place now cells given op rest long can u at = record {
+  begin = record {
+    found = can.begin.found;
+    playable = can.begin.playable;
+    state = subst (λ k. IsStateOf s k now) (sym u.counted) u.state;
+    gets = λ a low. subst (λ x. get x a) (sym rest) (can.begin.gets a low);
+    sets = λ a low. subst (λ x. set x a) (sym rest) (can.begin.sets a low);
+    long = subst (λ k. word_count s.areas ≤ k) (sym long) can.begin.long;
+  };
+  fine = op_of s code now.regs.counts place op can.begin.playable can.same can.valid (u.counted ∙ can.counts) at;
+}
+
+pub none_if : (o : Option Refusal) → ((x : Refusal) → o ≡ Some x → ⊥) → o ≡ None
+none_if None h = refl
+none_if (Some x) h = absurd (h x refl)

@@ -1,0 +1,135 @@
+-- Zak places: what their opcodes do at the place that a value names.
+use Rattle.std.proofs.Common.{◌≡◌, ℕ, ℤ, pos, ◌≤◌, ◌&&◌, Bool, true, false, List, [], ◌∷◌, length, nat_lt, Option, Some, None, if◌then◌else◌, refl, sym, ◌∙◌, ap, subst, arith, ltb-true}
+use Rattle.std.proofs.lemmas.Bool.{and_parts}
+use Rattle.std.proofs.lemmas.Bool.Decides.{nat_tests}
+use Rattle.std.proofs.lemmas.List.{get_or_past}
+use Rattle.cs_base.specs.Rates.{res_rate}
+use Rattle.cs_base.specs.declared.resource.Rate.TheVariants as rate
+use Rattle.cs_base.specs.declared.resource.Res.{Res}
+use Rattle.cs_base.proofs.Tests.{by_test, some_is}
+use Rattle.cs_words.specs.declared.catalogue.Opcode.TheVariants as op
+use Rattle.cs_words.specs.declared.catalogue.Space.{Space}
+use Rattle.cs_words.specs.declared.catalogue.Space.TheVariants as space
+use Rattle.cs_ir.specs.Machine.{Machine, acts, in_world, write}
+use Rattle.cs_ir.specs.Resources.{Spaces, places_of, reaches, zak_place}
+use Rattle.cs_ir.specs.Validity.{has_value}
+use Rattle.cs_ir.specs.Waves.{Wave, held, silence}
+use Rattle.cs_ir.specs.declared.op.Act.TheVariants as act
+use Rattle.cs_ir.specs.declared.op.Reach.{Reach}
+use Rattle.cs_ir.specs.declared.register.Reg.{Reg}
+use Rattle.cs_cells.specs.declared.footprint.Area.{Area}
+use Rattle.cs_meaning.specs.Plain.{Piece, added, at_place, index, is_cleared}
+use Rattle.cs_machine.specs.Rows.{row_wave}
+use Rattle.cs_voice_meaning.specs.Placing.{area_of, wave_in, wave_of, with_wave}
+use Rattle.cs_voice_meaning.specs.VoiceWorld.{VoiceState, cleared, load, saved, voice_world}
+use Rattle.cs_machine.proofs.Writing.{frame_past}
+use Rattle.cs_voice.specs.Cells.{MayReach, clear_of, get_of, put_of, spaces_at}
+use Rattle.cs_voice.specs.inner.Zak.{reached}
+use Rattle.cs_machine.specs.States.{MayTouch}
+use Rattle.cs_machine.specs.declared.state.Setting.{Setting}
+
+-- ---- the opcodes as acts
+
+pub getting : (areas : List Area) (piece : Piece) (s : Space) (u : ℕ) (reach : Reach) (into : Reg) (v : Wave) (m : Machine VoiceState)
+    → acts (voice_world areas piece) (act.Unit (get_of s) u reach) into (v ∷ []) m
+    ≡ write piece.head.ksmps into (at_place piece s reach (index (v 0)) silence (λ g. load areas g m.world)) m
+getting areas piece space.Control u reach into v m = refl
+getting areas piece space.Audio u reach into v m = refl
+
+pub putting : (areas : List Area) (piece : Piece) (s : Space) (u : ℕ) (reach : Reach) (into : Reg) (w v : Wave) (m : Machine VoiceState)
+    → acts (voice_world areas piece) (act.Unit (put_of s) u reach) into (w ∷ v ∷ []) m
+    ≡ in_world (at_place piece s reach (index (v 0)) m.world (λ g. saved areas piece.head.ksmps g w m.world)) m
+putting areas piece space.Control u reach into w v m = refl
+putting areas piece space.Audio u reach into w v m = refl
+
+pub mixing : (areas : List Area) (piece : Piece) (u : ℕ) (reach : Reach) (into : Reg) (w v : Wave) (m : Machine VoiceState)
+    → acts (voice_world areas piece) (act.Unit op.Zawm u reach) into (w ∷ v ∷ []) m
+    ≡ in_world (at_place piece space.Audio reach (index (v 0)) m.world
+    (λ g. saved areas piece.head.ksmps g (added (load areas g m.world) w) m.world)) m
+mixing areas piece u reach into w v m = refl
+
+pub clearing : (areas : List Area) (piece : Piece) (s : Space) (u : ℕ) (reach : Reach) (into : Reg) (v w : Wave) (m : Machine VoiceState)
+    → acts (voice_world areas piece) (act.Unit (clear_of s) u reach) into (v ∷ w ∷ []) m
+    ≡ in_world (cleared areas (is_cleared piece s reach (v 0) (w 0)) m.world) m
+clearing areas piece space.Control u reach into v w m = refl
+clearing areas piece space.Audio u reach into v w m = refl
+
+-- ---- the place that a number names
+
+pub at_reached : {A : Type 0} (at : Setting) (piece : Piece) (s : Space) (reach : Reach) (k : Option ℕ) (g : Res) (other : A) (found : Res → A)
+    → piece.spaces ≡ spaces_at at → reached at s reach k ≡ Some g → at_place piece s reach k other found ≡ found g
+at_reached at piece s reach None g other found same h = absurd cc
+at_reached {A} at piece s reach (Some n) g other found same h =
+    ap (λ (spaces : Spaces). if nat_lt n (places_of spaces s) && reaches reach n then found (zak_place s n) else other) same
+    ∙ by (nat_lt n (places_of (spaces_at at) s) && reaches reach n) h
+  where
+    by : (b : Bool) → (if b then Some (zak_place s n) else None) ≡ Some g → (if b then found (zak_place s n) else other) ≡ found g
+    by true e = ap found (some_is (zak_place s n) g e)
+    by false e = absurd cc
+
+pub not_reached : {A : Type 0} (at : Setting) (piece : Piece) (s : Space) (reach : Reach) (k : Option ℕ) (other : A) (found : Res → A)
+    → piece.spaces ≡ spaces_at at → reached at s reach k ≡ None → at_place piece s reach k other found ≡ other
+not_reached at piece s reach None other found same h = refl
+not_reached {A} at piece s reach (Some n) other found same h =
+    ap (λ (spaces : Spaces). if nat_lt n (places_of spaces s) && reaches reach n then found (zak_place s n) else other) same
+    ∙ by (nat_lt n (places_of (spaces_at at) s) && reaches reach n) h
+  where
+    by : (b : Bool) → (if b then Some (zak_place s n) else None) ≡ None → (if b then found (zak_place s n) else other) ≡ other
+    by true e = absurd cc
+    by false e = refl
+
+pub reached_here : {can : ℕ → Type 0} (count : ℕ) (at : Setting) (s : Space) (reach : Reach) (k : Option ℕ) (g : Res)
+    → MayReach can count at s reach → reached at s reach k ≡ Some g → MayTouch can count at.layout.now g
+reached_here count at s reach None g may h = absurd cc
+reached_here {can} count at s reach (Some n) g may h = by_test (nat_lt n (places_of (spaces_at at) s) && reaches reach n)
+    (λ yes. let parts = and_parts (nat_lt n (places_of (spaces_at at) s)) (reaches reach n) yes in
+    let here : Some (zak_place s n) ≡ Some g = sym (ap (λ b. if b then Some (zak_place s n) else None) yes) ∙ h in
+    subst (MayTouch can count at.layout.now) (some_is (zak_place s n) g here)
+    (may n (ltb-true n (places_of (spaces_at at) s) parts.0) parts.1))
+    (λ no. let none : None ≡ Some g = sym (ap (λ b. if b then Some (zak_place s n) else None) no) ∙ h in absurd cc)
+
+place_of_number : (at : Setting) (s : Space) (reach : Reach) (k : Option ℕ) (g : Res) → reached at s reach k ≡ Some g
+    → (n : ℕ) × (zak_place s n ≡ g)
+place_of_number at s reach None g h = absurd cc
+place_of_number at s reach (Some n) g h = (n, by (nat_lt n (places_of (spaces_at at) s) && reaches reach n) h)
+  where
+    by : (b : Bool) → (if b then Some (zak_place s n) else None) ≡ Some g → zak_place s n ≡ g
+    by true e = some_is (zak_place s n) g e
+    by false e = absurd cc
+
+pub reached_value : (at : Setting) (s : Space) (reach : Reach) (k : Option ℕ) (g : Res) → reached at s reach k ≡ Some g → has_value g ≡ true
+reached_value at s reach k g h = let p = place_of_number at s reach k g h in subst (λ r. has_value r ≡ true) p.1 (place_value s p.0)
+  where
+    place_value : (s : Space) (n : ℕ) → has_value (zak_place s n) ≡ true
+    place_value space.Control n = refl
+    place_value space.Audio n = refl
+
+pub reached_sound : (at : Setting) (reach : Reach) (k : Option ℕ) (g : Res) → reached at space.Audio reach k ≡ Some g → res_rate g ≡ rate.Audio
+reached_sound at reach k g h = let p = place_of_number at space.Audio reach k g h in sym (ap res_rate p.1)
+
+-- ---- what is mixed is nothing beyond the cycle
+
+pub mixed_held : (n : ℕ) (area : Area) (cells : ℕ → ℤ) (row : List ℤ) → area.length ≡ n → length row ≡ n
+    → added (wave_in rate.Audio area cells) (row_wave row) ≡ held n rate.Audio (added (wave_in rate.Audio area cells) (row_wave row))
+mixed_held n area cells row size long = λ i j. at j i
+  where
+    at : (j : ℕ) → added (wave_in rate.Audio area cells) (row_wave row) j
+        ≡ held n rate.Audio (added (wave_in rate.Audio area cells) (row_wave row)) j
+    at j = by_test (nat_lt j n)
+        (λ yes. sym (ap (λ b. if b then added (wave_in rate.Audio area cells) (row_wave row) j else pos 0) yes))
+        (λ no. let far : n ≤ j = grind (arith, nat_tests) in
+        ap (λ z. added (λ i. z) (row_wave row) j) (frame_past area cells j (omega (arith, far, size)))
+        ∙ ap (λ z. added (λ i. pos 0) (λ i. z) j) (get_or_past row j (pos 0) (omega (arith, far, long)))
+        ∙ sym (ap (λ b. if b then added (wave_in rate.Audio area cells) (row_wave row) j else pos 0) no))
+
+-- what the act of mixing makes of cells
+pub mixed_here : (areas : List Area) (g : Res) (area : Area) (x : Wave) (row : List ℤ) (n ksmps : ℕ) (before after : ℕ → ℤ)
+    → area_of areas g ≡ Some area → res_rate g ≡ rate.Audio → area.length ≡ n → length row ≡ n → n ≡ ksmps → row_wave row ≡ x
+    → after ≡ with_wave (Some area) (added (wave_in rate.Audio area before) (row_wave row)) before
+    → with_wave (area_of areas g) (held ksmps (res_rate g) (added (wave_of (area_of areas g) (res_rate g) before) x)) before ≡ after
+mixed_here areas g area x row n ksmps before after found sound size long same own is =
+    ap (λ o. with_wave o (held ksmps (res_rate g) (added (wave_of o (res_rate g) before) x)) before) found
+    ∙ ap (λ r. with_wave (Some area) (held ksmps r (added (wave_in r area before) x)) before) sound
+    ∙ ap (λ y. with_wave (Some area) (held ksmps rate.Audio (added (wave_in rate.Audio area before) y)) before) (sym own)
+    ∙ ap (λ k. with_wave (Some area) (held k rate.Audio (added (wave_in rate.Audio area before) (row_wave row))) before) (sym same)
+    ∙ ap (λ w. with_wave (Some area) w before) (sym (mixed_held n area before row size long)) ∙ sym is

@@ -1,0 +1,326 @@
+-- Units that were put into a state, and starts that were refused.
+use Rattle.std.proofs.Common.{◌≡◌, ◌≢◌, ℕ, ℤ, pos, ◌+◌, ◌<◌, ◌≤◌, ◌==◌, Bool, true, false, not, ◌&&◌, ◌||◌, List, length, nat_le, slice_index_or, slice_set, Option, Some, None, if◌then◌else◌, refl, sym, ◌∙◌, ap, subst, arith}
+use Rattle.std.specs.Option.{is_some, option_map}
+use Rattle.std.proofs.lemmas.Bool.{eqb-true}
+use Rattle.std.proofs.lemmas.Bool.Decides.{nat_tests}
+use Rattle.std.proofs.lemmas.List.{get_or-set_same, get_or-set_other, length-set}
+use Rattle.cs_base.specs.Limits.{most_delay_samples}
+use Rattle.cs_base.specs.declared.resource.Rate.{Rate}
+use Rattle.cs_base.specs.declared.resource.Res.TheVariants as res
+use Rattle.cs_base.proofs.Tests.{by_test}
+use Rattle.cs_words.specs.Catalogue.{row_of}
+use Rattle.cs_words.specs.declared.catalogue.Opcode.{Opcode}
+use Rattle.cs_words.specs.declared.catalogue.Opcode.TheVariants as op
+use Rattle.cs_signal.specs.Delay.{delay_length}
+use Rattle.cs_signal.specs.Pace.{Pace}
+use Rattle.cs_ugen.specs.Units.{IsUnitOpcode, unit_start}
+use Rattle.cs_ugen.specs.declared.unit.Kind.{Kind}
+use Rattle.cs_ugen.proofs.Units.{state_starts}
+use Rattle.cs_ir.specs.Machine.{Machine, in_world}
+use Rattle.cs_ir.specs.Resources.{takes_table}
+use Rattle.cs_ir.specs.Units.{is_started}
+use Rattle.cs_ir.specs.declared.register.Counts.{Counts}
+use Rattle.cs_cells.specs.declared.footprint.Area.{Area}
+use Rattle.cs_meaning.specs.Plain.{Piece, Table, Cause, delay_too_long, find_table, is_there, is_delay, table_number}
+use Rattle.cs_machine.specs.Registers.{values}
+use Rattle.cs_machine.specs.Outputs.{outs}
+use Rattle.cs_voice_meaning.specs.Placing.{area_of}
+use Rattle.cs_voice_meaning.specs.VoiceWorld.{Playing, VoiceState, pace_of, starts}
+use Rattle.cs_voice_meaning.specs.Follows.{Kinds}
+use Rattle.cs_machine.specs.Players.{PlayerData, playing}
+use Rattle.cs_machine.specs.States.{machine_of, unit_at, IsStateIn, IsPlayerOf}
+use Rattle.cs_machine.specs.declared.state.State.{State}
+use Rattle.cs_voice.specs.Starting.{HasUnit, Starts, cause_of, player_alone, player_on}
+use Rattle.cs_voice.specs.Tables.{CanBePlayed, CanAllBePlayed}
+use Rattle.cs_voice.specs.inner.Begun.{BeginsDelay, BeginsOnTable, IsBegunOn}
+use Rattle.cs_voice.specs.declared.begin.Refusal.{Refusal}
+
+apart : (m n : ℕ) → (m == n) ≡ false → m ≢ n
+apart m n h = grind (arith, nat_tests)
+
+-- the units of a list of which one was put
+set_at : (ps : List (Option PlayerData)) (u n : ℕ) (p : PlayerData) → u < length ps
+    → unit_at (slice_set ps u (Some p)) n ≡ (if n == u then Some (playing p) else unit_at ps n)
+set_at ps u n p low = by_test (n == u)
+    (λ yes. let e : n ≡ u = eqb-true n u yes in
+    ap (unit_at (slice_set ps u (Some p))) e ∙ ap (option_map playing) (get_or-set_same ps u (Some p) None low)
+    ∙ sym (ap (λ b. if b then Some (playing p) else unit_at ps n) yes))
+    (λ no. ap (option_map playing) (get_or-set_other ps u n (Some p) None (apart n u no))
+    ∙ sym (ap (λ b. if b then Some (playing p) else unit_at ps n) no))
+
+-- the machine of a state into which a unit was put
+unit_machine : (old new : State) (u samples : ℕ) (p : PlayerData) → HasUnit old u p samples new → u < length old.players.items
+    → (cells : ℕ → ℤ) (next : ℕ) (asks : List (List ℤ)) (cause : Option Cause)
+    → machine_of new cells next asks cause ≡ record {
+      regs = values old.regs;
+      next = next;
+      world = record {
+        cells = cells;
+        units = λ n. if n == u then Some (playing p) else unit_at old.players.items n;
+        delays = samples;
+        outs = outs old.outs;
+        ended = old.ended;
+        asks = asks;
+        cause = cause;
+      };
+    }
+unit_machine old new u samples p has low cells next asks cause = λ i. record {
+  regs = values (has.regs i);
+  next = next;
+  world = record {
+    cells = cells;
+    units = λ n. (ap (λ ps. unit_at ps n) has.players ∙ set_at old.players.items u n p low) i;
+    delays = has.delays i;
+    outs = outs (has.outs i);
+    ended = has.ended i;
+    asks = asks;
+    cause = cause;
+  };
+}
+
+some_same : {A : Type 0} (x y : A) → Some x ≡ Some y → x ≡ y
+some_same x y e = cc
+
+-- it still is a state of its code and piece, if the unit is one that the code runs
+unit_state : (areas : List Area) (piece : Piece) (kinds : Kinds) (counts : Counts) (old new : State) (u samples : ℕ) (p : PlayerData)
+    → HasUnit old u p samples new → u < length old.players.items → IsStateIn areas piece kinds counts old → IsPlayerOf areas piece (kinds u) p
+    → IsStateIn areas piece kinds counts new
+unit_state areas piece kinds counts old new u samples p has low state player = record {
+  registers = ap (λ r. r.counts) has.regs ∙ state.registers;
+  frames = ap (λ r. r.ksmps) has.regs ∙ state.frames;
+  channels = ap (λ o. length o.rows) has.outs ∙ state.channels;
+  channel_frames = ap (λ o. o.ksmps) has.outs ∙ state.channel_frames;
+  units = ap length has.players ∙ length-set old.players.items u (Some p) ∙ state.units;
+  row = ap (λ v. length v.items) has.row ∙ state.row;
+  players = λ n q is. by_test (n == u)
+      (λ yes. let e : n ≡ u = eqb-true n u yes in
+      let at : slice_index_or (slice_set old.players.items u (Some p)) n None ≡ Some q = ap (λ ps. slice_index_or ps n None) (sym has.players) ∙ is in
+      let here : Some p ≡ Some q = sym (ap (λ k. slice_index_or (slice_set old.players.items u (Some p)) k None) e ∙ get_or-set_same old.players.items u (Some p) None low) ∙ at in
+      let P : PlayerData → Type 0 = λ r. IsPlayerOf areas piece (kinds n) r in
+      let K : ℕ → Type 0 = λ k. IsPlayerOf areas piece (kinds k) p in
+      subst P (some_same p q here) (subst K (sym e) player))
+      (λ no. state.players n q (sym (get_or-set_other old.players.items u n (Some p) None (apart n u no)) ∙ ap (λ ps. slice_index_or ps n None) (sym has.players) ∙ is));
+}
+
+-- what takes a table is no delay, and a unit without one isn't a store
+no_delay : (o : Opcode) → takes_table o ≡ true → is_delay o ≡ false
+no_delay op.Delay h = absurd cc
+no_delay op.Init h = refl
+no_delay op.Oscil h = refl
+no_delay op.Oscili h = refl
+no_delay op.Phasor h = refl
+no_delay op.Line h = refl
+no_delay op.Linseg h = refl
+no_delay op.Linen h = refl
+no_delay op.Biquad h = refl
+no_delay op.Table h = refl
+no_delay op.Tablei h = refl
+no_delay op.Tablew h = refl
+no_delay _ h = refl
+
+no_store : (o : Opcode) → is_started (row_of o).shape ≡ true → takes_table o ≡ false → IsUnitOpcode o
+no_store op.Oscil h t = refl
+no_store op.Oscili h t = refl
+no_store op.Phasor h t = refl
+no_store op.Line h t = refl
+no_store op.Linseg h t = refl
+no_store op.Linen h t = refl
+no_store op.Delay h t = refl
+no_store op.Biquad h t = refl
+no_store op.Table h t = refl
+no_store op.Tablei h t = refl
+no_store op.Tablew h t = absurd cc
+no_store op.Integ h t = refl
+no_store op.Diff h t = refl
+no_store op.Samphold h t = refl
+no_store op.Limit h t = refl
+no_store op.Interp h t = refl
+no_store op.Downsamp h t = refl
+no_store _ h t = absurd cc
+
+no_test : (o : Opcode) → is_delay o ≡ true → takes_table o ≡ false
+no_test op.Delay h = refl
+no_test _ h = absurd cc
+
+-- the player of a unit is one of its opcode
+has_one : (o : Option (List ℤ)) (a : Option Area) → (o ≡ None → (x : Area) × (a ≡ Some x)) → (is_some o || is_some (if is_some o then None else a)) ≡ true
+has_one (Some ps) a h = refl
+has_one None a h = let e = h refl in ap is_some e.1
+
+on_is : (areas : List Area) (piece : Piece) (o : Opcode) (r : Rate) (pace : Pace) (settled : List ℤ) (t : Table) → takes_table o ≡ true
+    → find_table piece.tables (table_number settled) ≡ Some t → t.present ≡ true → CanBePlayed areas t
+    → ((area : Area) → (player_on areas t o (table_number settled) (unit_start o r pace settled)).area ≡ Some area → area.first + area.length ≤ 65536)
+    → IsPlayerOf areas piece (o, r) (player_on areas t o (table_number settled) (unit_start o r pace settled))
+on_is areas piece o r pace settled t takes found present can small = record {
+  opcode = refl;
+  state = λ unit. (state_starts o r pace settled unit).opcode;
+  table = λ again. record {
+    table = t;
+    found = found;
+    present = present;
+    points = refl;
+    area = refl;
+    has = has_one t.frozen (area_of areas (res.Table t.number)) can.area;
+    power = can.power;
+    small = small;
+  };
+  none = λ no. absurd (let e : true ≡ false = sym takes ∙ no in cc);
+}
+
+alone_is : (areas : List Area) (piece : Piece) (o : Opcode) (r : Rate) (pace : Pace) (settled : List ℤ) → takes_table o ≡ false
+    → IsPlayerOf areas piece (o, r) (player_alone o (table_number settled) (unit_start o r pace settled))
+alone_is areas piece o r pace settled takes = record {
+  opcode = refl;
+  state = λ unit. (state_starts o r pace settled unit).opcode;
+  table = λ again. absurd (let e : true ≡ false = sym again ∙ takes in cc);
+  none = λ no. (refl, refl);
+}
+
+-- what the start of a unit is, by its tests
+no_refusal : (a b : Bool) → b ≡ true → (a && not b) ≡ false
+no_refusal true b e = ap not e
+no_refusal false b e = refl
+
+no_look : (a b : Bool) → a ≡ false → (a && not b) ≡ false
+no_look a b e = ap (λ x. x && not b) e
+
+a_refusal : (a b : Bool) → a ≡ true → b ≡ false → (a && not b) ≡ true
+a_refusal a b e f = ap (λ x. x && not b) e ∙ ap not f
+
+if_false : {A : Type 0} (b : Bool) (x y : A) → b ≡ false → (if b then x else y) ≡ y
+if_false true x y e = absurd cc
+if_false false x y e = refl
+
+if_true : {A : Type 0} (b : Bool) (x y : A) → b ≡ true → (if b then x else y) ≡ x
+if_true true x y e = refl
+if_true false x y e = absurd cc
+
+within : (n : ℕ) → n ≤ most_delay_samples → nat_le n most_delay_samples ≡ true
+within n h = grind (arith, nat_tests)
+
+beyond : (n : ℕ) → most_delay_samples < n → nat_le n most_delay_samples ≡ false
+beyond n h = grind (arith, nat_tests)
+
+-- a unit as it plays, put among those of a state
+with_unit : (cells : ℕ → ℤ) (next : ℕ) (asks : List (List ℤ)) (s : State) (u samples : ℕ) (p : Playing) → Machine VoiceState
+with_unit cells next asks s u samples p = record {
+  regs = values s.regs;
+  next = next;
+  world = record {
+    cells = cells;
+    units = λ n. if n == u then Some p else unit_at s.players.items n;
+    delays = samples;
+    outs = outs s.outs;
+    ended = s.ended;
+    asks = asks;
+    cause = None;
+  };
+}
+
+module _ (areas : List Area) (piece : Piece) (kinds : Kinds) (counts : Counts) (o : Opcode) (r : Rate) (u : ℕ) (settled : List ℤ) (old new : State) where
+  -- what is refused
+  refused_is : (refused : Refusal) → new ≡ old → IsStateIn areas piece kinds counts old → old.delays ≤ most_delay_samples
+      → ((x : VoiceState) → x.delays ≡ old.delays → starts piece o r u settled x ≡ record x { cause = Some (cause_of refused) })
+      → Starts areas piece kinds counts o r u settled old new (Some refused)
+  refused_is refused same state small is = record {
+    machine = λ cells next asks. ap (λ s. machine_of s cells next asks (Some (cause_of refused))) same
+        ∙ sym (ap (λ w. in_world w (machine_of old cells next asks None)) (is (machine_of old cells next asks None).world refl));
+    state = subst (λ s. IsStateIn areas piece kinds counts s) (sym same) state;
+    delays = subst (λ s. s.delays ≤ most_delay_samples) (sym same) small;
+  }
+
+  -- what is started
+  started_is : (samples : ℕ) (p : PlayerData) → HasUnit old u p samples new → u < length old.players.items
+      → IsStateIn areas piece kinds counts old → IsPlayerOf areas piece (o, r) p → kinds u ≡ (o, r) → samples ≤ most_delay_samples
+      → ((cells : ℕ → ℤ) (next : ℕ) (asks : List (List ℤ)) → in_world (starts piece o r u settled (machine_of old cells next asks None).world) (machine_of old cells next asks None)
+      ≡ with_unit cells next asks old u samples (playing p))
+      → Starts areas piece kinds counts o r u settled old new None
+  unfolding with_unit
+  started_is samples p has low state player kind small is = record {
+    machine = λ cells next asks. unit_machine old new u samples p has low cells next asks None ∙ sym (is cells next asks);
+    state = unit_state areas piece kinds counts old new u samples p has low state (let K : Opcode × Rate → Type 0 = λ k. IsPlayerOf areas piece k p in subst K (sym kind) player);
+    delays = let e = has.delays in omega arith;
+  }
+
+  module _ (pace : Pace) (same_pace : pace_of piece.head ≡ pace) (kind : kinds u ≡ (o, r)) (state : IsStateIn areas piece kinds counts old)
+      (low : u < length old.players.items) (small : old.delays ≤ most_delay_samples) where
+    pub on_table : (refused : Option Refusal) → takes_table o ≡ true → CanAllBePlayed areas piece.tables
+        → BeginsOnTable areas piece.tables (table_number settled) o (unit_start o r pace settled) u old new refused
+        → Starts areas piece kinds counts o r u settled old new refused
+    unfolding with_unit
+    on_table None takes can b =
+        started_is old.delays (player_on areas b.table o (table_number settled) (unit_start o r pace settled)) b.has low state
+        (on_is areas piece o r pace settled b.table takes b.found b.present (can (table_number settled) b.table b.found) b.small) kind small
+        (λ cells next asks.
+        ap (λ w. in_world w (machine_of old cells next asks None))
+        (if_false (takes_table o && not (is_there (find_table piece.tables (table_number settled)))) _ _
+        (no_refusal (takes_table o) (is_there (find_table piece.tables (table_number settled))) (ap is_there b.found ∙ b.present))
+        ∙ if_false (is_delay o) _ _ (no_delay o takes))
+        ∙ ap (λ q. with_unit cells next asks old u old.delays (record { table = table_number settled; state = unit_start o r q settled })) same_pace)
+    on_table (Some refused) takes can b =
+        refused_is refused b.same state small
+        (λ x e. if_true (takes_table o && not (is_there (find_table piece.tables (table_number settled)))) _ _
+        (a_refusal (takes_table o) (is_there (find_table piece.tables (table_number settled))) takes b.missing)
+        ∙ ap (λ f. record x { cause = Some (cause_of f) }) (sym b.cause))
+
+    pub alone : takes_table o ≡ false → is_delay o ≡ false
+        → HasUnit old u (player_alone o (table_number settled) (unit_start o r pace settled)) old.delays new
+        → Starts areas piece kinds counts o r u settled old new None
+    unfolding with_unit
+    alone takes delay has =
+        started_is old.delays (player_alone o (table_number settled) (unit_start o r pace settled)) has low state
+        (alone_is areas piece o r pace settled takes) kind small
+        (λ cells next asks.
+        ap (λ w. in_world w (machine_of old cells next asks None))
+        (if_false (takes_table o && not (is_there (find_table piece.tables (table_number settled)))) _ _
+        (no_look (takes_table o) (is_there (find_table piece.tables (table_number settled))) takes)
+        ∙ if_false (is_delay o) _ _ delay)
+        ∙ ap (λ q. with_unit cells next asks old u old.delays (record { table = table_number settled; state = unit_start o r q settled })) same_pace)
+
+    pub a_delay : (refused : Option Refusal) → is_delay o ≡ true
+        → BeginsDelay (old.delays + delay_length pace (slice_index_or settled 0 (pos 0)))
+        (player_alone o (table_number settled) (unit_start o r pace settled)) u old new refused
+        → Starts areas piece kinds counts o r u settled old new refused
+    unfolding with_unit
+    a_delay None delay b =
+        let samples : ℕ = old.delays + delay_length pace (slice_index_or settled 0 (pos 0)) in
+        started_is samples (player_alone o (table_number settled) (unit_start o r pace settled)) b.has low state
+        (alone_is areas piece o r pace settled (no_test o delay)) kind b.within
+        (λ cells next asks.
+        ap (λ w. in_world w (machine_of old cells next asks None))
+        (if_false (takes_table o && not (is_there (find_table piece.tables (table_number settled)))) _ _
+        (no_look (takes_table o) (is_there (find_table piece.tables (table_number settled))) (no_test o delay))
+        ∙ if_true (is_delay o) _ _ delay
+        ∙ if_true (nat_le (old.delays + delay_length (pace_of piece.head) (slice_index_or settled 0 (pos 0))) most_delay_samples) _ _
+        (within (old.delays + delay_length (pace_of piece.head) (slice_index_or settled 0 (pos 0)))
+        (let P : Pace → Type 0 = λ q. old.delays + delay_length q (slice_index_or settled 0 (pos 0)) ≤ most_delay_samples in subst P (sym same_pace) b.within)))
+        ∙ ap (λ q. with_unit cells next asks old u (old.delays + delay_length q (slice_index_or settled 0 (pos 0))) (record { table = table_number settled; state = unit_start o r q settled })) same_pace)
+    a_delay (Some refused) delay b =
+        refused_is refused b.same state small
+        (λ x e.
+        let more : ℕ → ℕ = λ n. n + delay_length (pace_of piece.head) (slice_index_or settled 0 (pos 0)) in
+        if_false (takes_table o && not (is_there (find_table piece.tables (table_number settled)))) _ _
+        (no_look (takes_table o) (is_there (find_table piece.tables (table_number settled))) (no_test o delay))
+        ∙ if_true (is_delay o) _ _ delay
+        ∙ if_false (nat_le (x.delays + delay_length (pace_of piece.head) (slice_index_or settled 0 (pos 0))) most_delay_samples) _ _
+        (beyond (x.delays + delay_length (pace_of piece.head) (slice_index_or settled 0 (pos 0)))
+        (let P : ℕ → Type 0 = λ n. most_delay_samples < n in
+        subst P (sym (ap (λ n. n + delay_length (pace_of piece.head) (slice_index_or settled 0 (pos 0))) e ∙ ap (λ q. old.delays + delay_length q (slice_index_or settled 0 (pos 0))) same_pace)) b.beyond))
+        ∙ ap (λ f. record x { cause = Some f })
+        (ap delay_too_long (ap (λ n. n + delay_length (pace_of piece.head) (slice_index_or settled 0 (pos 0))) e ∙ ap (λ q. old.delays + delay_length q (slice_index_or settled 0 (pos 0))) same_pace)
+        ∙ sym (ap cause_of b.cause)))
+
+-- a unit that was put on a table
+pub begun_on : (areas : List Area) (tables : List Table) (t : Table) (number n m : ℤ) (o : Opcode) (state k : Kind) (u : ℕ) (old new : State) (p : PlayerData)
+    → n ≡ number → m ≡ number → Some t ≡ find_table tables n → t.present ≡ true → k ≡ state → p ≡ player_on areas t o m k
+    → ((area : Area) → p.area ≡ Some area → area.first + area.length ≤ 65536) → HasUnit old u p old.delays new
+    → IsBegunOn areas tables number o state u old new
+begun_on areas tables t number n m o state k u old new p e d found present f g small has =
+    let full : p ≡ player_on areas t o number state = g ∙ (λ i. player_on areas t o (d i) (f i)) in
+    record {
+      table = t;
+      found = sym (found ∙ ap (find_table tables) e);
+      present = present;
+      has = subst (λ q. HasUnit old u q old.delays new) full has;
+      small = λ area is. small area (ap (λ q. q.area) full ∙ is);
+    }

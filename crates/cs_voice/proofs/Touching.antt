@@ -1,0 +1,112 @@
+-- What an op that runs a unit may do: its table, and the zak places that it reaches.
+use Rattle.std.proofs.Common.{◌≡◌, ℕ, ℤ, ◌+◌, ◌≤◌, Bool, true, false, not, ◌||◌, List, [], length, nat_lt, unsigned_abs, Option, Some, None, if◌then◌else◌, refl, sym, ◌∙◌, ap, subst}
+use Rattle.std.specs.Option.{is_some}
+use Rattle.std.proofs.lemmas.Bool.{and_from, lt-ltb}
+use Rattle.cs_base.proofs.Tests.{some_is}
+use Rattle.cs_base.specs.declared.resource.Rate.{Rate}
+use Rattle.cs_base.specs.declared.resource.Res.{Res}
+use Rattle.cs_base.specs.declared.resource.Res.TheVariants as res
+use Rattle.cs_words.specs.declared.catalogue.Opcode.{Opcode}
+use Rattle.cs_words.specs.declared.catalogue.Space.{Space}
+use Rattle.cs_gen.specs.Points.{len_of}
+use Rattle.cs_ugen.specs.Points.{is_len}
+use Rattle.cs_ugen.specs.Units.{IsUnitOpcode, moving_count, opcode_of, reads_table}
+use Rattle.cs_ir.specs.Resources.{Stock, places_of, places_within, reaches, tables_within, takes_table}
+use Rattle.cs_ir.specs.declared.op.Reach.{Reach}
+use Rattle.cs_ir.specs.declared.register.Reg.{Reg}
+use Rattle.cs_cells.specs.declared.footprint.Area.{Area}
+use Rattle.cs_meaning.specs.Plain.{Piece}
+use Rattle.cs_machine.specs.Access.{CanTouch}
+use Rattle.cs_machine.specs.Players.{PlayerData, has_table}
+use Rattle.cs_voice_meaning.proofs.Naming.{place_named}
+use Rattle.cs_voice_meaning.proofs.UnitsPlay.{table_named}
+use Rattle.cs_voice_meaning.specs.Follows.{AreNamed, Kinds}
+use Rattle.cs_voice_meaning.specs.Placing.{IsPlaced, area_of}
+use Rattle.cs_machine.specs.States.{IsOnTable, IsPlayerOf, MayTouch}
+use Rattle.cs_machine.specs.declared.state.Setting.{Setting}
+use Rattle.cs_voice.specs.Cells.{MayReach, spaces_at}
+use Rattle.cs_voice.specs.Units.{MayPlay, MayStore, may_play}
+use Rattle.cs_voice.proofs.Points.{IsLiveOn, live_table, table_taken, unit_result}
+
+-- ---- tables
+
+-- what is known of the area of a unit's live table
+pub record IsTouched (allowed : ℕ → Type 0) (count : ℕ) (reach : Reach) (p : PlayerData) (area : Area) : Type 0 where
+  pub power : is_len (len_of area.length) ≡ true
+  pub small : area.first + area.length ≤ 65536
+  pub can : may_play reach p ≡ true → CanTouch allowed count area
+
+-- a table that has an area isn't frozen
+not_frozen : (frozen : Option (List ℤ)) (o area : Option Area) (a : Area) → area ≡ (if is_some frozen then None else o) → area ≡ Some a → frozen ≡ None
+not_frozen None o area a is at = refl
+not_frozen (Some points) o area a is at = absurd (cc)
+
+in_reach : (has b : Bool) → (not has || b) ≡ true → has ≡ true → b ≡ true
+in_reach true b h e = h
+in_reach false b h e = absurd (cc)
+
+the_area : (allowed : ℕ → Type 0) (count : ℕ) (areas : List Area) (g : Res) (a : Area) → area_of areas g ≡ Some a → MayTouch allowed count areas g → CanTouch allowed count a
+the_area allowed count areas g a at may = subst (CanTouch allowed count) (some_is may.0 a (sym may.1 ∙ at)) may.2
+
+pub touched : (allowed : ℕ → Type 0) (count : ℕ) (areas : List Area) (stock : Stock) (piece : Piece) (kinds : Kinds) (reach : Reach) (p : PlayerData) (on : IsOnTable areas piece.tables p)
+    → IsPlaced areas stock piece → AreNamed (MayTouch allowed count areas) (tables_within stock reach) → (area : Area) → p.area ≡ Some area → IsTouched allowed count reach p area
+touched allowed count areas stock piece kinds reach p on placed named area at =
+    let open_table : on.table.frozen ≡ None = not_frozen on.table.frozen (area_of areas (res.Table on.table.number)) p.area area on.area at in
+    let live : IsLiveOn areas on.table area = live_table areas stock piece p on placed open_table area at in
+    record {
+      power = subst (λ n. is_len (len_of n) ≡ true) (sym live.size) on.power;
+      small = on.small area at;
+      can = λ may. the_area allowed count areas (res.Table on.table.number) area live.area
+          (table_named areas stock piece kinds (MayTouch allowed count areas) [] placed reach p.table on.table named
+          (in_reach (has_table p) (reaches reach (unsigned_abs p.table)) may on.has) on.found open_table);
+    }
+
+-- a unit that has an area takes a table
+takes_with : (areas : List Area) (piece : Piece) (kind : Opcode × Rate) (p : PlayerData) → IsPlayerOf areas piece kind p → (area : Area) → p.area ≡ Some area → takes_table kind.0 ≡ true
+takes_with areas piece kind p is area at = sym (table_taken areas piece kind p is) ∙ has p.points p.area at
+  where
+    has : (points : Option (List ℤ)) (o : Option Area) → o ≡ Some area → (is_some points || is_some o) ≡ true
+    has None o e = ap is_some e
+    has (Some points) o e = refl
+
+when_taken : (N : Res → Type 0) (b : Bool) (l : List Res) → AreNamed N (if b then l else []) → b ≡ true → AreNamed N l
+when_taken N true l h e = h
+when_taken N false l h e = absurd (cc)
+
+pub may_run : (allowed : ℕ → Type 0) (count : ℕ) (areas : List Area) (stock : Stock) (piece : Piece) (kinds : Kinds) (opcode : Opcode) (r : Rate) (reach : Reach) (from : List Reg) (p : PlayerData)
+    → IsUnitOpcode opcode → length from ≡ moving_count opcode → IsPlaced areas stock piece
+    → AreNamed (MayTouch allowed count areas) (if takes_table opcode then tables_within stock reach else []) → IsPlayerOf areas piece (opcode, r) p → MayPlay allowed count reach from p
+may_run allowed count areas stock piece kinds opcode r reach from p unit long placed named is =
+    let same : opcode_of p.state ≡ opcode = is.state unit in
+    let there : (area : Area) → p.area ≡ Some area → IsTouched allowed count reach p area =
+    λ area at. let takes = takes_with areas piece (opcode, r) p is area at in
+    touched allowed count areas stock piece kinds reach p (is.table takes) placed (when_taken (MayTouch allowed count areas) (takes_table opcode) (tables_within stock reach) named takes) area at in
+    record {
+      unit = subst IsUnitOpcode (sym same) unit;
+      operands = long ∙ ap moving_count (sym same);
+      read = λ may. record {
+        reads = ap reads_table same ∙ (unit_result opcode unit).table ∙ sym (table_taken areas piece (opcode, r) p is);
+        live = λ area at. (there area at).can may;
+        power = λ area at. (there area at).power;
+        small = λ area at. (there area at).small;
+      };
+    }
+
+pub may_store : (allowed : ℕ → Type 0) (count : ℕ) (areas : List Area) (stock : Stock) (piece : Piece) (kinds : Kinds) (opcode : Opcode) (r : Rate) (reach : Reach) (p : PlayerData)
+    → takes_table opcode ≡ true → IsPlaced areas stock piece → AreNamed (MayTouch allowed count areas) (tables_within stock reach) → IsPlayerOf areas piece (opcode, r) p → MayStore allowed count reach p
+may_store allowed count areas stock piece kinds opcode r reach p takes placed named is =
+    let there : (area : Area) → p.area ≡ Some area → IsTouched allowed count reach p area =
+    touched allowed count areas stock piece kinds reach p (is.table takes) placed named in
+    record {
+      power = λ area at. (there area at).power;
+      small = λ area at. (there area at).small;
+      write = λ area at may. (there area at).can may;
+    }
+
+-- ---- zak places
+
+pub may_reach : (allowed : ℕ → Type 0) (count : ℕ) (at : Setting) (stock : Stock) (piece : Piece) (s : Space) (reach : Reach) → stock.spaces ≡ piece.spaces → piece.spaces ≡ spaces_at at
+    → AreNamed (MayTouch allowed count at.layout.now) (places_within stock s reach) → MayReach allowed count at s reach
+may_reach allowed count at stock piece s reach same here named n low within =
+    place_named (MayTouch allowed count at.layout.now) stock (spaces_at at) s reach n (same ∙ here) named
+    (and_from (nat_lt n (places_of (spaces_at at) s)) (reaches reach n) (lt-ltb n (places_of (spaces_at at) s) low) within)

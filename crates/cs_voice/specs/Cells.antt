@@ -1,0 +1,55 @@
+-- Acts over the cells of a bank.
+use Rattle.std.specs.Prelude.{ℕ, ℤ, ◌≡◌, ◌<◌, true, List, Some}
+use Rattle.cs_base.specs.Rates.{res_rate}
+use Rattle.cs_base.specs.declared.resource.Res.{Res}
+use Rattle.cs_words.specs.declared.catalogue.Opcode.{Opcode}
+use Rattle.cs_words.specs.declared.catalogue.Opcode.TheVariants as op
+use Rattle.cs_words.specs.declared.catalogue.Space.{Space}
+use Rattle.cs_words.specs.declared.catalogue.Space.TheVariants as space
+use Rattle.cs_ir.specs.Resources.{Spaces, Stock, places_of, reaches, zak_place}
+use Rattle.cs_ir.specs.Validity.{has_value}
+use Rattle.cs_ir.specs.declared.op.Act.{Act}
+use Rattle.cs_ir.specs.declared.op.Reach.{Reach}
+use Rattle.cs_ir.specs.declared.register.Counts.{Counts}
+use Rattle.cs_ir.specs.declared.register.Reg.{Reg}
+use Rattle.cs_cells.specs.declared.footprint.Area.{Area}
+use Rattle.cs_meaning.specs.Plain.{Piece}
+use Rattle.cs_voice_meaning.specs.Follows.{Kinds}
+use Rattle.cs_voice_meaning.specs.Placing.{IsPlaced, area_of, cell_count}
+use Rattle.cs_machine.specs.States.{Does, IsSettingOf, IsStateIn, MayTouch}
+use Rattle.cs_machine.specs.declared.state.Setting.{Setting}
+use Rattle.cs_machine.specs.declared.state.State.{State}
+
+-- An act makes of a state and cells what it makes in whatever piece the setting is of, whose areas are placed and whose state it is.
+abbrev pub DoesOver : Setting → Act → Reg → List Reg → State → (ℕ → ℤ) → State → (ℕ → ℤ) → Type 0
+DoesOver at act into from old before new after = (areas : List Area) (piece : Piece) (stock : Stock) (kinds : Kinds) (counts : Counts)
+    → IsSettingOf at areas piece → IsPlaced areas stock piece → IsStateIn areas piece kinds counts old
+    → Does areas piece kinds counts act into from old before new after
+
+-- Areas of values have as many cells as a value has in a control cycle of so many frames.
+pub record AreSized (areas : List Area) (ksmps : ℕ) : Type 0 where
+  pub frames : 0 < ksmps
+  pub cells : (g : Res) (area : Area) → area_of areas g ≡ Some area → has_value g ≡ true
+      → area.length ≡ cell_count ksmps (res_rate g)
+
+-- the zak spaces of a setting
+abbrev pub spaces_at : Setting → Spaces
+spaces_at at = record { control = at.zak_k; audio = at.zak_a }
+
+-- what can be done to the cells of each zak place that a unit may reach
+abbrev pub MayReach : (ℕ → Type 0) → ℕ → Setting → Space → Reach → Type 0
+MayReach allowed count at s reach = (n : ℕ) → n < places_of (spaces_at at) s → reaches reach n ≡ true
+    → MayTouch allowed count at.layout.now (zak_place s n)
+
+-- the opcodes that read a place of a space, write it and clear places
+abbrev pub get_of : Space → Opcode
+get_of space.Control = op.Zkr
+get_of space.Audio = op.Zar
+
+abbrev pub put_of : Space → Opcode
+put_of space.Control = op.Zkw
+put_of space.Audio = op.Zaw
+
+abbrev pub clear_of : Space → Opcode
+clear_of space.Control = op.Zkcl
+clear_of space.Audio = op.Zacl

@@ -1,0 +1,87 @@
+-- The code that a note begins with, done up to its end or up to a refusal.
+use Rattle.std.specs.Prelude.{ℕ, ℤ, Bool, ◌≡◌, ◌≤◌, ◌<◌, ◌++◌, true, List, [], length, map, Option, None}
+use Rattle.std.specs.Option.{option_map}
+use Rattle.cs_base.specs.Limits.{most_delay_samples}
+use Rattle.cs_ir.specs.Asks.{ask_of}
+use Rattle.cs_ir.specs.Machine.{acts, run}
+use Rattle.cs_ir.specs.Validity.{is_fine, valid}
+use Rattle.cs_ir.specs.declared.ask.Ask.{Ask}
+use Rattle.cs_ir.specs.declared.op.Code.{Code}
+use Rattle.cs_ir.specs.declared.op.Op.{Op}
+use Rattle.cs_ir.specs.declared.register.Counts.{Counts}
+use Rattle.cs_cells.specs.Areas.{word_count}
+use Rattle.cs_machine.specs.Access.{AreSpaces, spaces_of}
+use Rattle.cs_machine.specs.Registers.{values}
+use Rattle.cs_voice_meaning.specs.Placing.{HasArea}
+use Rattle.cs_voice_meaning.specs.VoiceWorld.{voice_world}
+use Rattle.cs_voice_meaning.specs.Follows.{ActNamed}
+use Rattle.cs_voice_meaning.specs.Voices.{Sheet, IsPlayable, has_channel}
+use Rattle.cs_machine.specs.States.{machine_of, IsSettingOf, IsStateIn}
+use Rattle.cs_machine.specs.declared.state.State.{State}
+use Rattle.cs_voice.specs.Starting.{cause_of}
+use Rattle.cs_voice.specs.Tables.{CanAllBePlayed, tables_of}
+use Rattle.cs_voice.specs.declared.begin.Refusal.{Refusal}
+use Rattle.cs_voice.specs.declared.tables.Finds.{Finds}
+
+-- What a note that begins finds is what its sheet says, and can be played on.
+pub record IsFound (finds : Finds) (ms : List Bool) (s : Sheet) : Type 0 where
+  pub setting : IsSettingOf finds.at s.areas s.piece
+  pub places : AreSpaces s.areas
+  pub spaces : spaces_of s.areas ≡ s.piece.spaces
+  pub made : length ms ≡ length finds.tables.now
+  pub tables : s.piece.tables ≡ tables_of finds.tables.now ms
+  pub can_be_played : CanAllBePlayed s.areas s.piece.tables
+
+-- a state of a sheet's code, with its delays within their limit
+pub record IsStateOf (s : Sheet) (counts : Counts) (state : State) : Type 0 where
+  pub in_piece : (p : IsPlayable s) → IsStateIn s.areas s.piece p.kinds counts state
+  pub delays : state.delays ≤ most_delay_samples
+
+-- An op of the code that begins a sheet's notes: it is fine at some place of a code of some length, and what it names is there.
+pub record IsOpOf (s : Sheet) (counts : Counts) (op : Op) : Type 0 where
+  pub end : ℕ
+  pub place : ℕ
+  pub fine : is_fine counts end place op ≡ true
+  pub named : (p : IsPlayable s) → ActNamed p.stock p.kinds (HasArea s.areas) op.act op.into.rate
+  pub channel : has_channel s.piece.head.nchnls op.act ≡ true
+
+-- A note of a sheet can begin: what it finds is what the sheet says, the sheet can be played, the state is one of its code, and each
+-- cell of the piece can be read and written.
+pub record CanBegin (get set : ℕ → Type 0) (count : ℕ) (finds : Finds) (ms : List Bool) (s : Sheet) (now : State) : Type 0 where
+  pub found : IsFound finds ms s
+  pub playable : IsPlayable s
+  pub state : IsStateOf s now.regs.counts now
+  pub gets : (a : ℕ) → a < word_count s.areas → get a
+  pub sets : (a : ℕ) → a < word_count s.areas → set a
+  pub long : word_count s.areas ≤ count
+
+-- so can a code of the sheet; and an op of such a code
+pub record CanPass (get set : ℕ → Type 0) (count : ℕ) (finds : Finds) (ms : List Bool) (code : Code) (s : Sheet) (now : State) : Type 0 where
+  pub begin : CanBegin get set count finds ms s now
+  pub same : s.init ≡ code.ops.items
+  pub valid : valid code ≡ true
+  pub counts : now.regs.counts ≡ code.counts
+
+pub record CanDoOp (get set : ℕ → Type 0) (count : ℕ) (finds : Finds) (ms : List Bool) (op : Op) (s : Sheet) (now : State) : Type 0 where
+  pub begin : CanBegin get set count finds ms s now
+  pub fine : IsOpOf s now.regs.counts op
+
+-- An op is done: state and cells become what it makes of them in the world of voices, what it asks for comes behind what was
+-- asked for, and where it is refused it is for the same cause.
+pub record IsDone (s : Sheet) (op : Op) (old : State) (before : ℕ → ℤ) (asked : List Ask) (new : State) (after : ℕ → ℤ) (given : List Ask)
+    (refused : Option Refusal) : Type 0 where
+  pub more : List (List ℤ)
+  pub asks : given ≡ asked ++ map ask_of more
+  pub machine : (next : ℕ) (earlier : List (List ℤ)) → machine_of new after next (earlier ++ more) (option_map cause_of refused)
+      ≡ acts (voice_world s.areas s.piece) op.act op.into (map (values old.regs) op.from) (machine_of old before next earlier None)
+  pub state : IsStateOf s old.regs.counts new
+
+-- The code is done, to its end or up to what is refused; of the machine the place of the next op alone isn't told.
+pub record Passes (s : Sheet) (old : State) (before : ℕ → ℤ) (asked : List Ask) (new : State) (after : ℕ → ℤ) (given : List Ask)
+    (refused : Option Refusal) : Type 0 where
+  pub next : ℕ
+  pub more : List (List ℤ)
+  pub asks : given ≡ asked ++ map ask_of more
+  pub machine : run (voice_world s.areas s.piece) 0 s.init (machine_of old before 0 [] None)
+      ≡ machine_of new after next more (option_map cause_of refused)
+  pub state : IsStateOf s old.regs.counts new

@@ -1,0 +1,68 @@
+-- When an op may be done on a state over a bank.
+use Rattle.std.specs.Prelude.{ℕ, ℤ, ◌≡◌, Bool, true, false, length}
+use Rattle.cs_ir.specs.Resources.{Stock}
+use Rattle.cs_ir.specs.Validity.{is_fine}
+use Rattle.cs_ir.specs.declared.op.Act.{Act}
+use Rattle.cs_ir.specs.declared.op.Act.TheVariants as act
+use Rattle.cs_ir.specs.declared.op.Op.{Op}
+use Rattle.cs_meaning.specs.Plain.{Piece}
+use Rattle.cs_machine.specs.Access.{AreSpaces, spaces_of}
+use Rattle.cs_voice_meaning.specs.Placing.{HasArea, IsPlaced}
+use Rattle.cs_voice_meaning.specs.Follows.{ActNamed, Kinds}
+use Rattle.cs_voice_meaning.specs.Voices.{has_channel}
+use Rattle.cs_voice.specs.Cells.{spaces_at}
+use Rattle.cs_machine.specs.States.{CanDo, Does, HasRoom, IsSettingOf, IsStateIn}
+use Rattle.cs_machine.specs.declared.state.Setting.{Setting}
+use Rattle.cs_machine.specs.declared.state.State.{State}
+
+-- The acts that are done here: all but those that go on at another op, start a unit or ask for a note.
+abbrev pub is_here : Act → Bool
+is_here (act.Jump to) = false
+is_here (act.Unless to) = false
+is_here (act.Start opcode u) = false
+is_here act.Ask = false
+is_here _ = true
+
+-- An op of a valid code may be done: the setting is that of a piece, whose areas are placed; the state is one of the code and the
+-- piece; the units are of the op's opcode, and its channel is there; and what it touches may be read or written.
+pub record IsReady (can_get can_set : ℕ → Type 0) (count : ℕ) (at : Setting) (piece : Piece) (kinds : Kinds) (stock : Stock)
+    (op : Op) (s : State) : Type 0 where
+  pub setting : IsSettingOf at at.layout.now piece
+  pub placed : IsPlaced at.layout.now stock piece
+  pub spaces : AreSpaces at.layout.now
+  pub zak : spaces_of at.layout.now ≡ spaces_at at
+  pub state : IsStateIn at.layout.now piece kinds s.regs.counts s
+  pub end : ℕ
+  pub place : ℕ
+  pub fine : is_fine s.regs.counts end place op ≡ true
+  pub named : ActNamed stock kinds (HasArea at.layout.now) op.act op.into.rate
+  pub channel : has_channel piece.head.nchnls op.act ≡ true
+  pub can : CanDo can_get can_set count at.layout.now stock op.act
+
+-- some piece in which it may be done
+pub record CanBeDone (can_get can_set : ℕ → Type 0) (count : ℕ) (at : Setting) (op : Op) (s : State) : Type 0 where
+  pub piece : Piece
+  pub kinds : Kinds
+  pub stock : Stock
+  pub ready : IsReady can_get can_set count at piece kinds stock op s
+
+-- In whatever piece it may be done, the op is done there.
+abbrev pub DoesOp : (ℕ → Type 0) → (ℕ → Type 0) → ℕ → Setting → Op → State → (ℕ → ℤ) → State → (ℕ → ℤ) → Type 0
+DoesOp can_get can_set count at op old before new after = (piece : Piece) (kinds : Kinds) (stock : Stock)
+    → IsReady can_get can_set count at piece kinds stock op old
+    → Does at.layout.now piece kinds old.regs.counts op.act op.into op.from old before new after
+
+-- The acts that touch registers and output channels alone.
+abbrev pub is_plain : Act → Bool
+is_plain (act.Load g) = false
+is_plain (act.Save g) = false
+is_plain (act.Unit opcode u reach) = false
+is_plain a = is_here a
+
+-- An op of a valid code fits a state: its registers and its channel are there.
+pub record IsFit (op : Op) (s : State) : Type 0 where
+  pub end : ℕ
+  pub place : ℕ
+  pub fine : is_fine s.regs.counts end place op ≡ true
+  pub room : HasRoom s
+  pub channel : has_channel (length s.outs.rows) op.act ≡ true

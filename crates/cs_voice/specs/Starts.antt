@@ -1,0 +1,56 @@
+-- How a note begins.
+use Rattle.std.specs.Prelude.{ℕ, ℤ, ◌≡◌, ◌-◌, Bool, List, Some, None}
+use Rattle.cs_signal.specs.Operands.{argument}
+use Rattle.cs_ir.specs.Instruments.{Numbered}
+use Rattle.cs_ir.specs.Machine.{Machine}
+use Rattle.cs_cells.specs.declared.footprint.Footprint.{Footprint}
+use Rattle.cs_meaning.specs.Plain.{Piece, no_table, delay_too_long}
+use Rattle.cs_voice_meaning.specs.VoiceWorld.{VoiceState, pace_of, the_generators}
+use Rattle.cs_voice_meaning.specs.Voices.{Sheet, voice_of}
+use Rattle.cs_typed.specs.TypedTree.{header_of_head}
+use Rattle.cs_voice.specs.VoiceData.{VoiceData, IsOn, sounding_on}
+use Rattle.cs_voice.specs.declared.stage.Stage.{Stage}
+use Rattle.cs_voice.specs.Tables.{tables_of}
+use Rattle.cs_voice.specs.declared.begin.Refusal.{Refusal}
+use Rattle.cs_voice.specs.declared.begin.Refusal.TheVariants as refusal
+use Rattle.cs_voice.specs.declared.note.Started.{Started}
+use Rattle.cs_voice.specs.declared.note.Started.TheVariants as started
+
+-- the piece as a note of these p-fields finds it, of whose tables each has been made by now or not
+abbrev pub piece_at : Stage → List Bool → List ℤ → Piece
+piece_at stage made fields = record {
+  head = header_of_head stage.head.now;
+  spaces = record { control = stage.zak_k; audio = stage.zak_a };
+  tables = tables_of stage.tables.now made;
+  generators = the_generators (pace_of (header_of_head stage.head.now));
+  fields = λ k. argument fields (k - 1);
+}
+
+-- what a note of an instrument plays from
+abbrev pub sheet_at : Numbered → ℕ → Footprint → Stage → List Bool → List ℤ → Sheet
+sheet_at instrument age foot stage made fields = record {
+  number = instrument.number;
+  age = age;
+  piece = piece_at stage made fields;
+  areas = stage.layout.now;
+  foot = foot;
+  init = instrument.init.ops.items;
+  perf = instrument.perf.ops.items;
+}
+
+-- the voice that a machine has become, which plays from a sheet
+pub record IsLive (s : Sheet) (m : Machine VoiceState) (v : VoiceData) : Type 0 where
+  pub cause : m.world.cause ≡ None
+  pub sounds : sounding_on s v ≡ voice_of s m
+  pub plays : IsOn s v
+
+-- What came of a note, by the machine that began: a voice, exactly where nothing was refused, or else the cause.
+abbrev pub IsStarted : Sheet → Machine VoiceState → Started → Type 0
+IsStarted s m (started.Live v) = IsLive s m v
+IsStarted s m (started.NoTable number) = m.world.cause ≡ Some (no_table number)
+IsStarted s m (started.DelayTooLong samples) = m.world.cause ≡ Some (delay_too_long samples)
+
+-- what is told of a refusal
+abbrev pub started_as : Refusal → Started
+started_as (refusal.NoTable number) = started.NoTable number
+started_as (refusal.DelayTooLong samples) = started.DelayTooLong samples

@@ -1,0 +1,153 @@
+// The sum of what voices give to each channel at each frame.
+ghost use Rattle.std.specs.Prelude.{◌≡◌, ◌≢◌, ◌<◌, ◌≤◌, ◌+◌, ◌*◌, ◌+ℤ◌, ℕ, length, pos, slice_index_or, All};
+ghost use Rattle.cs_base.specs.Limits.{most_notes};
+ghost use Rattle.cs_base.specs.Numbers.{IsRaw};
+ghost use Rattle.cs_machine.specs.Outputs.{outs};
+ghost use Rattle.cs_signal.specs.Operands.{argument};
+ghost use Rattle.cs_voice.specs.Mixing.{mixed, sum_at};
+ghost use Rattle.cs_voice.specs.VoiceData.{VoiceData};
+ghost use Rattle.cs_voice.specs.inner.Places.{HasRoom, place};
+
+use crate::Voice;
+use cs_base::Num;
+use cs_wav::add_block;
+
+/// How many frames of a channel are summed at a time.
+const FRAMES: usize = 32;
+
+/// Writes what `voices`, at most 512, give together in a control cycle of `frames` frames to `channels` channels: whole 65,536ths
+/// without bounds, frame by frame, channel beside channel. `out` has a number for each channel of each frame; what it held
+/// doesn't matter.
+pub fn mix(voices: &[Voice<'_>], frames: usize, channels: usize, out: &mut [i64])
+    requires voices { All (λ (v : VoiceData). v.outs.ksmps ≡ frames) voices.now }
+    requires few { length voices.now ≤ most_notes }
+    requires long { length out.old ≡ frames * channels }
+    ensures { out.new ≡ mixed frames channels voices.now }
+{
+    for channel in 0..channels {
+        mix_channel(voices, frames, channel, channels, out);
+    }
+}
+
+/// One channel, some frames at a time.
+fn mix_channel(
+    voices: &[Voice<'_>],
+    frames: usize,
+    channel: usize,
+    channels: usize,
+    out: &mut [i64],
+)
+    requires voices { All (λ (v : VoiceData). v.outs.ksmps ≡ frames) voices.now }
+    requires few { length voices.now ≤ most_notes }
+    requires channel { channel < channels }
+    requires long { length out.old ≡ frames * channels }
+    ensures sums { (j : ℕ) → j < frames → place channels out.new j channel ≡ sum_at voices.now j channel }
+    ensures others { (j c : ℕ) → c < channels → c ≢ channel → place channels out.new j c ≡ place channels out.old j c }
+    ensures long { length out.new ≡ length out.old }
+{
+    let mut from = 0;
+    while from < frames {
+        from = mix_part(voices, frames, from, channel, channels, out);
+    }
+}
+
+/// Some frames of a channel from one on, and tells the frame behind them.
+fn mix_part(
+    voices: &[Voice<'_>],
+    frames: usize,
+    from: usize,
+    channel: usize,
+    channels: usize,
+    out: &mut [i64],
+) -> usize
+    requires voices { All (λ (v : VoiceData). v.outs.ksmps ≡ frames) voices.now }
+    requires few { length voices.now ≤ most_notes }
+    requires from { from < frames }
+    requires channel { channel < channels }
+    requires long { length out.old ≡ frames * channels }
+    ensures sums { (j : ℕ) → from ≤ j → j < result → place channels out.new j channel ≡ sum_at voices.now j channel }
+    ensures before { (j : ℕ) → j < from → place channels out.new j channel ≡ place channels out.old j channel }
+    ensures others { (j c : ℕ) → c < channels → c ≢ channel → place channels out.new j c ≡ place channels out.old j c }
+    ensures long { length out.new ≡ length out.old }
+    ensures further { from < result }
+    ensures within { result ≤ frames }
+{
+    let count = FRAMES.min(frames - from);
+    let mut room = [0; FRAMES];
+    let sums = &mut room[..count];
+    sum_voices(voices, frames, from, channel, sums);
+    put(sums, from, channel, channels, out);
+    from + count
+}
+
+/// What voices give to a channel from a frame on, in place of zeros.
+fn sum_voices(voices: &[Voice<'_>], frames: usize, from: usize, channel: usize, sums: &mut [i64])
+    requires voices { All (λ (v : VoiceData). v.outs.ksmps ≡ frames) voices.now }
+    requires few { length voices.now ≤ most_notes }
+    requires from { from + length sums.old ≤ frames }
+    requires short { length sums.old ≤ 32 }
+    requires silent { (j : ℕ) → slice_index_or sums.old j (pos 0) ≡ pos 0 }
+    ensures sums { (j : ℕ) → j < length sums.old → slice_index_or sums.new j (pos 0) ≡ sum_at voices.now (from + j) channel }
+    ensures long { length sums.new ≡ length sums.old }
+{
+    let mut room = [0; FRAMES];
+    let part = &mut room[..sums.len()];
+    for voice in voices {
+        add_voice(voice, from, channel, part, sums);
+    }
+}
+
+/// Adds what a voice gives to a channel from a frame on; nothing, where it is silent there. `part` is room for as many numbers.
+fn add_voice(voice: &Voice<'_>, from: usize, channel: usize, part: &mut [i64], sums: &mut [i64])
+    requires from { from + length sums.old ≤ voice.now.outs.ksmps }
+    requires part { length part.old ≡ length sums.old }
+    requires room { HasRoom sums.old }
+    ensures sums { (j : ℕ) → j < length sums.old → slice_index_or sums.new j (pos 0)
+        ≡ slice_index_or sums.old j (pos 0) +ℤ outs voice.now.outs channel (from + j) }
+    ensures raw { (j : ℕ) → j < length sums.old → IsRaw (outs voice.now.outs channel (from + j)) }
+    ensures long { length sums.new ≡ length sums.old }
+    ensures part { length part.new ≡ length part.old }
+{
+    if let Some(row) = voice.channel(channel) {
+        add_row(&row[from..from + sums.len()], part, sums);
+    }
+}
+
+/// Adds a row, a number a frame.
+fn add_row(row: &[Num], part: &mut [i64], sums: &mut [i64])
+    requires long { length row.now ≡ length sums.old }
+    requires part { length part.old ≡ length sums.old }
+    requires room { HasRoom sums.old }
+    ensures sums { (j : ℕ) → slice_index_or sums.new j (pos 0) ≡ slice_index_or sums.old j (pos 0) +ℤ argument row.now j }
+    ensures raw { (j : ℕ) → j < length row.now → IsRaw (argument row.now j) }
+    ensures long { length sums.new ≡ length sums.old }
+    ensures part { length part.new ≡ length part.old }
+{
+    copy_raw(row, part);
+    add_block(sums, part);
+}
+
+/// Whole 65,536ths of each number.
+fn copy_raw(row: &[Num], part: &mut [i64])
+    requires { length part.old ≡ length row.now }
+    ensures value { part.new ≡ row.now }
+    ensures raw { (j : ℕ) → j < length row.now → IsRaw (argument row.now j) }
+{
+    for j in 0..row.len() {
+        part[j] = row[j].raw();
+    }
+}
+
+/// Sums come into their places of a channel from a frame on.
+fn put(sums: &[i64], from: usize, channel: usize, channels: usize, out: &mut [i64])
+    requires channel { channel < channels }
+    requires long { (from + length sums.now) * channels ≤ length out.old }
+    ensures sums { (j : ℕ) → j < length sums.now → place channels out.new (from + j) channel ≡ slice_index_or sums.now j (pos 0) }
+    ensures before { (j : ℕ) → j < from → place channels out.new j channel ≡ place channels out.old j channel }
+    ensures others { (j c : ℕ) → c < channels → c ≢ channel → place channels out.new j c ≡ place channels out.old j c }
+    ensures long { length out.new ≡ length out.old }
+{
+    for j in 0..sums.len() {
+        out[(from + j) * channels + channel] = sums[j];
+    }
+}

@@ -1,0 +1,150 @@
+// Any act but those that go on at another op, start a unit or ask for a note.
+ghost use Rattle.std.specs.Prelude.{◌≡◌, [], ◌∷◌, length, true};
+ghost use Rattle.cs_voice.specs.Ready.{CanBeDone, DoesOp, IsFit, is_here, is_plain};
+ghost use Rattle.cs_cells.specs.Cells.{cell};
+ghost use Rattle.cs_ir.specs.declared.op.Act.TheVariants as acts;
+ghost use Rattle.cs_machine.specs.States.{DoesAt};
+
+use crate::shared::{load, save};
+use crate::store::store_points;
+use crate::unit::run_unit;
+use crate::zak::{zak_clear, zak_get, zak_mix, zak_put};
+use cs_cells::Bank;
+use cs_ir::{Act, Op, Reach, Reg};
+use cs_machine::{Setting, State};
+use cs_words::{Opcode, Space};
+
+/// Does an op of a valid code on a state, over the cells of a bank: any but a jump, the start of a unit and the asking for
+/// a note.
+pub(crate) fn act<B: Bank>(state: &mut State<'_>, at: &Setting<'_>, op: &Op, bank: &mut B)
+    requires here { is_here op.now.act ≡ true }
+    requires ready { CanBeDone (B.can_get (B.rest bank.old)) (B.can_set (B.rest bank.old)) (length (B.cells bank.old)) at.now
+        op.now state.old }
+    ensures does { DoesOp (B.can_get (B.rest bank.old)) (B.can_set (B.rest bank.old)) (length (B.cells bank.old)) at.now
+        op.now state.old (cell (B.cells bank.old)) state.new (cell (B.cells bank.new)) }
+    ensures long { length (B.cells bank.new) ≡ length (B.cells bank.old) }
+    ensures rest { B.rest bank.new ≡ B.rest bank.old }
+{
+    match op.act {
+        Act::Load(res) => load(state, at, op.into, res, bank),
+        Act::Save(res) => save(state, at, res, one(op.from.as_slice()), bank),
+        Act::Unit(opcode, number, reach) => unit(state, at, op, opcode, number, reach, bank),
+        _ => plain(state, at, op),
+    }
+}
+
+/// An op that runs a unit, by its opcode.
+fn unit<B: Bank>(
+    state: &mut State<'_>,
+    at: &Setting<'_>,
+    op: &Op,
+    opcode: Opcode,
+    number: usize,
+    reach: Reach,
+    bank: &mut B,
+)
+    requires act { op.now.act ≡ acts.Unit opcode number reach }
+    requires ready { CanBeDone (B.can_get (B.rest bank.old)) (B.can_set (B.rest bank.old)) (length (B.cells bank.old)) at.now
+        op.now state.old }
+    ensures does { DoesOp (B.can_get (B.rest bank.old)) (B.can_set (B.rest bank.old)) (length (B.cells bank.old)) at.now
+        op.now state.old (cell (B.cells bank.old)) state.new (cell (B.cells bank.new)) }
+    ensures long { length (B.cells bank.new) ≡ length (B.cells bank.old) }
+    ensures rest { B.rest bank.new ≡ B.rest bank.old }
+{
+    let from = op.from.as_slice();
+    match opcode {
+        Opcode::Zkr => zak_get(state, at, Space::Control, reach, op.into, one(from), bank),
+        Opcode::Zar => zak_get(state, at, Space::Audio, reach, op.into, one(from), bank),
+        Opcode::Zkw => {
+            let (x, number) = two(from);
+            zak_put(state, at, Space::Control, reach, x, number, bank);
+        }
+        Opcode::Zaw => {
+            let (x, number) = two(from);
+            zak_put(state, at, Space::Audio, reach, x, number, bank);
+        }
+        Opcode::Zawm => {
+            let (x, number) = two(from);
+            zak_mix(state, at, reach, x, number, bank);
+        }
+        Opcode::Zkcl => {
+            let (first, last) = two(from);
+            zak_clear(state, at, Space::Control, reach, first, last, bank);
+        }
+        Opcode::Zacl => {
+            let (first, last) = two(from);
+            zak_clear(state, at, Space::Audio, reach, first, last, bank);
+        }
+        Opcode::Tablew => {
+            let (signal, index) = two(from);
+            store_points(state, number, reach, op.into, signal, index, bank);
+        }
+        _ => run_unit(state, number, reach, op.into, from, bank),
+    }
+}
+
+/// An op that touches registers and output channels alone.
+fn plain(state: &mut State<'_>, at: &Setting<'_>, op: &Op)
+    requires plain { is_plain op.now.act ≡ true }
+    requires fit { IsFit op.now state.old }
+    ensures { DoesAt at.now op.now.act op.now.into op.now.from state.old state.new }
+{
+    let into = op.into;
+    let from = op.from.as_slice();
+    match op.act {
+        Act::Const(value) => state.number(into, value),
+        Act::Field(field) => state.field(at, into, field),
+        Act::Head(name) => state.header(at, into, name),
+        Act::Copy => state.copy(into, one(from)),
+        Act::Neg => state.negate(into, one(from)),
+        Act::Call(function) => state.apply(function, into, one(from)),
+        Act::Pair(operator) => {
+            let (x, y) = two(from);
+            state.combine(operator, into, x, y);
+        }
+        Act::Pick => {
+            let (condition, x, y) = three(from);
+            state.pick(into, condition, x, y);
+        }
+        Act::Out(channel) => state.send(channel, one(from)),
+        Act::OutAt => {
+            let (number, x) = two(from);
+            state.send_at(number, x);
+        }
+        Act::Turnoff => state.turn_off(),
+        _ => unreachable!(),
+    }
+}
+
+/// The one register that an op reads.
+fn one(from: &[Reg]) -> Reg
+    requires { length from.now ≡ 1 }
+    ensures { from.now ≡ result ∷ [] }
+{
+    match from {
+        [x] => *x,
+        _ => unreachable!(),
+    }
+}
+
+/// The two registers that an op reads.
+fn two(from: &[Reg]) -> (Reg, Reg)
+    requires { length from.now ≡ 2 }
+    ensures { from.now ≡ result.0 ∷ result.1 ∷ [] }
+{
+    match from {
+        [x, y] => (*x, *y),
+        _ => unreachable!(),
+    }
+}
+
+/// The three registers that an op reads.
+fn three(from: &[Reg]) -> (Reg, Reg, Reg)
+    requires { length from.now ≡ 3 }
+    ensures { from.now ≡ result.0 ∷ result.1 ∷ result.2 ∷ [] }
+{
+    match from {
+        [x, y, z] => (*x, *y, *z),
+        _ => unreachable!(),
+    }
+}

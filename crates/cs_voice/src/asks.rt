@@ -1,0 +1,33 @@
+// Notes that a note asks for as it begins.
+ghost use Rattle.std.specs.Prelude.{◌≡◌, ◌++◌, ◌∷◌, [], map, true, OnOk};
+ghost use Rattle.std.specs.List.{list_all};
+ghost use Rattle.cs_ir.specs.Asks.{ask_of};
+ghost use Rattle.cs_ir.specs.Validity.{has_register};
+ghost use Rattle.cs_ir.specs.Waves.{first_values};
+ghost use Rattle.cs_machine.specs.Registers.{values};
+
+use cs_base::{Num, OutOfMemory};
+use cs_ir::{Ask, Reg};
+use cs_machine::Registers;
+use std::alloc::Global;
+
+/// What some values ask for comes behind what was asked for before.
+pub(crate) fn ask(alloc: Global, asks: &mut Vec<Ask>, values: &[Num]) -> Result<(), OutOfMemory>
+    ensures { OnOk result (asks.new.items ≡ asks.old.items ++ ask_of values.now ∷ []) }
+{
+    let asked = Ask::of(alloc, values)?;
+    asks.push(asked)?;
+    Ok(())
+}
+
+/// What registers are as the note begins, in place of what `into` held.
+pub(crate) fn gather(regs: &Registers, from: &[Reg], into: &mut Vec<Num>) -> Result<(), OutOfMemory>
+    requires { list_all (has_register regs.now.counts) from.now ≡ true }
+    ensures { OnOk result (into.new.items ≡ first_values (map (values regs.now) from.now)) }
+{
+    into.clear();
+    for register in from {
+        into.push(regs.first(*register))?;
+    }
+    Ok(())
+}

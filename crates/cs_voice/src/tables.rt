@@ -1,0 +1,68 @@
+// The tables of a piece, as a note that begins finds them.
+ghost use Rattle.std.specs.Prelude.{◌≡◌, ◌&&◌, ◌==◌, not, unsigned_abs, length};
+ghost use Rattle.std.specs.Int.{is_negative};
+ghost use Rattle.std.specs.Option.{option_map};
+ghost use Rattle.cs_ir.specs.Resources.{takes_table};
+ghost use Rattle.cs_meaning.specs.Plain.{find_table, table_number};
+ghost use Rattle.cs_voice.specs.Tables.{table_at, tables_of};
+
+use crate::TableAt;
+use cs_base::Num;
+use cs_machine::Setting;
+use cs_words::Opcode;
+
+/// What a note that begins finds; beside it stands of each table whether it has been made by now.
+#[derive(Clone, Copy)]
+pub(crate) struct Finds<'s, 'p> {
+    pub at: Setting<'s>,
+    /// The tables of the piece.
+    pub tables: &'s [TableAt<'p>],
+}
+
+/// A table that was found, and whether it has been made by now.
+#[derive(Clone, Copy)]
+pub(crate) struct Found<'p> {
+    pub table: TableAt<'p>,
+    pub made: bool,
+}
+
+/// The first table of a number.
+pub(crate) fn find<'p>(tables: &[TableAt<'p>], made: &[bool], number: i64) -> Option<Found<'p>>
+    requires { length made.now ≡ length tables.now }
+    ensures { option_map (λ f. table_at f.table f.made) result ≡ find_table (tables_of tables.now made.now) number }
+{
+    for place in 0..tables.len() {
+        let table = tables[place];
+        if has_number(&table, number) {
+            let made = made[place];
+            return Some(Found { table, made });
+        }
+    }
+    None
+}
+
+fn has_number(table: &TableAt, number: i64) -> bool
+    ensures { result ≡ (not (is_negative number) && table.now.number == unsigned_abs number) }
+{
+    !number.is_negative() && table.number == number.unsigned_abs() as usize
+}
+
+/// The number of the table that a unit asks for: the whole number below its first settled value.
+pub(crate) fn table_number(settled: &[Num]) -> i64
+    ensures { result ≡ table_number settled.now }
+{
+    match settled.get(0) {
+        Some(value) => value.raw().div_euclid(65_536),
+        None => 0,
+    }
+}
+
+/// Whether a table's number is among the arguments of an opcode.
+pub(crate) fn takes_table(opcode: Opcode) -> bool
+    ensures { result ≡ takes_table opcode }
+{
+    matches!(
+        opcode,
+        Opcode::Oscil | Opcode::Oscili | Opcode::Table | Opcode::Tablei | Opcode::Tablew
+    )
+}

@@ -1,0 +1,162 @@
+// Zak places, read, written, mixed into and cleared by the numbers that values name.
+ghost use Rattle.std.specs.Prelude.{◌≡◌, ℕ, [], ◌∷◌, length, true};
+ghost use Rattle.cs_machine.specs.Access.{AreSpaces, spaces_of};
+ghost use Rattle.cs_voice.specs.Cells.{AreSized, DoesOver, MayReach, clear_of, get_of, put_of, spaces_at};
+ghost use Rattle.cs_voice.specs.inner.Zak.{reached};
+ghost use Rattle.cs_base.specs.Rates.{is_audio};
+ghost use Rattle.cs_base.specs.declared.resource.Rate.TheVariants as rate;
+ghost use Rattle.cs_cells.specs.Cells.{cell};
+ghost use Rattle.cs_ir.specs.Resources.{places_of};
+ghost use Rattle.cs_ir.specs.Validity.{has_register};
+ghost use Rattle.cs_ir.specs.declared.op.Act.TheVariants as act;
+ghost use Rattle.cs_ir.specs.declared.register.Reg.{Reg};
+ghost use Rattle.cs_meaning.specs.Plain.{index};
+ghost use Rattle.cs_words.specs.declared.catalogue.Opcode.TheVariants as op;
+ghost use Rattle.cs_words.specs.declared.catalogue.Space.TheVariants as space;
+ghost use Rattle.cs_machine.specs.States.{HasRoom, MayTouch};
+
+use crate::shared::{area_at, read, write};
+use cs_base::{Num, Rate, Res};
+use cs_cells::{Area, Bank};
+use cs_ir::{Reach, Reg};
+use cs_machine::{Registers, Setting, State, clear_places, index, mix_row, reaches, zak_place};
+use cs_words::Space;
+
+/// Reads the zak place that a value names, or 0 where there is none within reach: the act `Unit` of `zkr` and `zar`.
+pub(crate) fn zak_get<B: Bank>(
+    state: &mut State<'_>,
+    at: &Setting<'_>,
+    space: Space,
+    reach: Reach,
+    into: Reg,
+    number: Reg,
+    bank: &mut B,
+)
+    requires into { has_register state.old.regs.counts into ≡ true }
+    requires number { has_register state.old.regs.counts number ≡ true }
+    requires room { HasRoom state.old }
+    requires sized { AreSized at.now.layout.now state.old.regs.ksmps }
+    requires read { MayReach (B.can_get (B.rest bank.old)) (length (B.cells bank.old)) at.now space reach }
+    ensures does { (unit : ℕ) → DoesOver at.now (act.Unit (get_of space) unit reach) into (number ∷ []) state.old
+        (cell (B.cells bank.old)) state.new (cell (B.cells bank.new)) }
+    ensures same { B.cells bank.new ≡ B.cells bank.old }
+    ensures rest { B.rest bank.new ≡ B.rest bank.old }
+{
+    match place(at, space, reach, state.regs.first(number)) {
+        Some(res) => {
+            let area = area_at(at, res);
+            read(
+                &mut state.regs,
+                &mut state.row,
+                into,
+                res.rate(),
+                area,
+                bank,
+            );
+        }
+        None => state.regs.hold(into, Num::exact(0), &mut state.row),
+    }
+}
+
+/// Writes a register to the zak place that a value names, where it is within reach: the act `Unit` of `zkw` and `zaw`.
+pub(crate) fn zak_put<B: Bank>(
+    state: &mut State<'_>,
+    at: &Setting<'_>,
+    space: Space,
+    reach: Reach,
+    x: Reg,
+    number: Reg,
+    bank: &mut B,
+)
+    requires x { has_register state.old.regs.counts x ≡ true }
+    requires number { has_register state.old.regs.counts number ≡ true }
+    requires room { HasRoom state.old }
+    requires sized { AreSized at.now.layout.now state.old.regs.ksmps }
+    requires write { MayReach (B.can_set (B.rest bank.old)) (length (B.cells bank.old)) at.now space reach }
+    ensures does { (unit : ℕ) (into : Reg) → DoesOver at.now (act.Unit (put_of space) unit reach) into (x ∷ number ∷ [])
+        state.old (cell (B.cells bank.old)) state.new (cell (B.cells bank.new)) }
+    ensures long { length (B.cells bank.new) ≡ length (B.cells bank.old) }
+    ensures rest { B.rest bank.new ≡ B.rest bank.old }
+{
+    if let Some(res) = place(at, space, reach, state.regs.first(number)) {
+        let area = area_at(at, res);
+        write(&state.regs, &mut state.row, x, res.rate(), area, bank);
+    }
+}
+
+/// Adds a register of sound to the zak place that a value names, where it is within reach: the act `Unit` of `zawm`.
+pub(crate) fn zak_mix<B: Bank>(
+    state: &mut State<'_>,
+    at: &Setting<'_>,
+    reach: Reach,
+    x: Reg,
+    number: Reg,
+    bank: &mut B,
+)
+    requires x { has_register state.old.regs.counts x ≡ true }
+    requires sound { is_audio x.rate ≡ true }
+    requires number { has_register state.old.regs.counts number ≡ true }
+    requires room { HasRoom state.old }
+    requires sized { AreSized at.now.layout.now state.old.regs.ksmps }
+    requires read { MayReach (B.can_get (B.rest bank.old)) (length (B.cells bank.old)) at.now space.Audio reach }
+    requires write { MayReach (B.can_set (B.rest bank.old)) (length (B.cells bank.old)) at.now space.Audio reach }
+    ensures does { (unit : ℕ) (into : Reg) → DoesOver at.now (act.Unit op.Zawm unit reach) into (x ∷ number ∷ [])
+        state.old (cell (B.cells bank.old)) state.new (cell (B.cells bank.new)) }
+    ensures long { length (B.cells bank.new) ≡ length (B.cells bank.old) }
+    ensures rest { B.rest bank.new ≡ B.rest bank.old }
+{
+    if let Some(res) = place(at, Space::Audio, reach, state.regs.first(number)) {
+        let area = area_at(at, res);
+        mix_row(bank, area, state.regs.row(x.index));
+    }
+}
+
+/// Sets the zak places from one value to another to 0, as far as they are within reach: the act `Unit` of `zkcl` and `zacl`.
+pub(crate) fn zak_clear<B: Bank>(
+    state: &mut State<'_>,
+    at: &Setting<'_>,
+    space: Space,
+    reach: Reach,
+    first: Reg,
+    last: Reg,
+    bank: &mut B,
+)
+    requires first { has_register state.old.regs.counts first ≡ true }
+    requires last { has_register state.old.regs.counts last ≡ true }
+    requires spaces { AreSpaces at.now.layout.now }
+    requires zak { spaces_of at.now.layout.now ≡ spaces_at at.now }
+    requires write { MayReach (B.can_set (B.rest bank.old)) (length (B.cells bank.old)) at.now space reach }
+    ensures does { (unit : ℕ) (into : Reg) → DoesOver at.now (act.Unit (clear_of space) unit reach) into (first ∷ last ∷ [])
+        state.old (cell (B.cells bank.old)) state.new (cell (B.cells bank.new)) }
+    ensures long { length (B.cells bank.new) ≡ length (B.cells bank.old) }
+    ensures rest { B.rest bank.new ≡ B.rest bank.old }
+{
+    clear_places(
+        bank,
+        at.layout,
+        space,
+        reach,
+        state.regs.first(first),
+        state.regs.first(last),
+    );
+}
+
+/// The zak place that a value names, where its space has it and it is within reach.
+fn place(at: &Setting<'_>, space: Space, reach: Reach, value: Num) -> Option<Res>
+    ensures { result ≡ reached at.now space reach (index value) }
+{
+    match index(value) {
+        Some(n) if n < places(at, space) && reaches(reach, n) => Some(zak_place(space, n)),
+        _ => None,
+    }
+}
+
+/// How many places a zak space has.
+fn places(at: &Setting<'_>, space: Space) -> usize
+    ensures { result ≡ places_of (spaces_at at.now) space }
+{
+    match space {
+        Space::Control => at.zak_k as usize,
+        Space::Audio => at.zak_a as usize,
+    }
+}
