@@ -6,13 +6,13 @@ use Rattle.cs_board.specs.Board.{view, first_of, IsViewOf, HasRoom, IsSeatOf}
 use Rattle.cs_board.specs.Resting.{IsLaying}
 use Rattle.cs_board.specs.declared.board.BoardSeat.{BoardSeat}
 use Rattle.cs_cells.specs.Meaning.{Meaning}
-use Rattle.cs_rule.specs.Plans.{IsPlan, edge_count}
-use Rattle.cs_rule.specs.Views.{opening_view}
-use Rattle.cs_rule.specs.Words.{all_words}
-use Rattle.cs_rule.specs.inner.Opening.{each_below, first_status, first_watch, opening_words}
-use Rattle.cs_rule.specs.declared.view.Plan.{Plan}
-use Rattle.cs_rule.specs.declared.view.Still.{Still}
-use Rattle.cs_rule.proofs.Opening.{length-each_below, at_each_below, roots_within}
+use Rattle.cs_board.specs.Plans.{IsPlan, edge_count}
+use Rattle.cs_board.specs.Views.{opening_view}
+use Rattle.cs_board.specs.Words.{all_words}
+use Rattle.cs_board.specs.Opening.{each_below, first_status, first_watch, opening_words}
+use Rattle.cs_board.specs.declared.view.Plan.{Plan}
+use Rattle.cs_board.specs.declared.view.Still.{Still}
+use Rattle.cs_board.proofs.Opening.{length-each_below, at_each_below, roots_within}
 
 module _ {J : Type 0} (k : Plan J) where
   -- a cycle that is laid out can begin

@@ -3,11 +3,11 @@ use Rattle.std.proofs.Common.{◌≡◌, ℕ, zero, suc, ◌-◌, ◌<◌, List,
 use Rattle.cs_board.specs.inner.Sittings.{Beside, ClosesAt}
 use Rattle.cs_graph.specs.Graph.{IsNextOut, NoneOut}
 use Rattle.cs_graph.specs.Graph.{Edge}
-use Rattle.cs_rule.specs.Plans.{leads_out}
-use Rattle.cs_rule.specs.Views.{closing_from}
-use Rattle.cs_rule.specs.declared.view.Plan.{Plan}
-use Rattle.cs_rule.specs.declared.view.View.{View}
-use Rattle.cs_rule.proofs.Spots.{leads_out_here}
+use Rattle.cs_board.specs.Plans.{leads_out}
+use Rattle.cs_board.specs.Views.{closing_from}
+use Rattle.cs_board.specs.declared.view.Plan.{Plan}
+use Rattle.cs_board.specs.declared.view.View.{View}
+use Rattle.cs_board.proofs.Spots.{leads_out_here}
 
 -- how many edges are ahead
 abbrev pub edges_left : ℕ → Option ℕ → ℕ

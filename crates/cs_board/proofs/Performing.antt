@@ -10,12 +10,12 @@ use Rattle.cs_cells.specs.Cells.{Cells}
 use Rattle.cs_cells.specs.Meaning.{Meaning, Uses, Writes}
 use Rattle.cs_cells.proofs.SerialRun.{before-suc}
 use Rattle.cs_cells.specs.Cells.{covers}
-use Rattle.cs_rule.specs.Plans.{IsPlan, before_at, uses_at, writes_at, uses_of, writes_of}
-use Rattle.cs_rule.specs.Views.{does}
-use Rattle.cs_rule.specs.declared.view.Berth.{Berth}
-use Rattle.cs_rule.specs.declared.view.Doing.{Doing}
-use Rattle.cs_rule.specs.declared.view.Plan.{Plan}
-use Rattle.cs_rule.specs.declared.view.View.{View}
+use Rattle.cs_board.specs.Plans.{IsPlan, before_at, uses_at, writes_at, uses_of, writes_of}
+use Rattle.cs_board.specs.Views.{does}
+use Rattle.cs_board.specs.declared.view.Berth.{Berth}
+use Rattle.cs_board.specs.declared.view.Doing.{Doing}
+use Rattle.cs_board.specs.declared.view.Plan.{Plan}
+use Rattle.cs_board.specs.declared.view.View.{View}
 
 module _ {J : Type 0} where
   same_but : (v w : View J) (o : Option Doing) → w.doing ≡ o → imageless w ≡ imageless v → w ≡ record v { doing = o }

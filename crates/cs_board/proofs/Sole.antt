@@ -3,9 +3,9 @@ use Rattle.std.proofs.Common.{◌≡◌, ℕ, List, [], ◌∷◌, length, true,
 use Rattle.atomic_table.specs.Seated.{TableId}
 use Rattle.atomic_table.specs.declared.shared.Seat.{Seat}
 use Rattle.cs_board.specs.Resting.{IsSole, still_in, known_in}
-use Rattle.cs_rule.specs.declared.view.Berth.{Berth}
-use Rattle.cs_rule.specs.declared.view.Still.{Still}
-use Rattle.cs_rule.specs.declared.view.View.{View}
+use Rattle.cs_board.specs.declared.view.Berth.{Berth}
+use Rattle.cs_board.specs.declared.view.Still.{Still}
+use Rattle.cs_board.specs.declared.view.View.{View}
 
 abbrev Sits : Type 0 → Type 0
 Sits J = Seat (Berth J) (View J)

@@ -9,14 +9,14 @@ use Rattle.cs_board.specs.inner.Sittings.{IsSittingOf, tried, stopped}
 use Rattle.cs_board.specs.declared.board.Board.{Board}
 use Rattle.cs_cells.specs.Meaning.{Meaning}
 use Rattle.cs_graph.specs.Graph.{Edge}
-use Rattle.cs_rule.specs.Plays.{Sat, claimed, watched, closed}
-use Rattle.cs_rule.specs.Views.{does, ended, shut, opened}
-use Rattle.cs_rule.specs.Words.{watch_at, status_at}
-use Rattle.cs_rule.specs.declared.view.Berth.{Berth}
-use Rattle.cs_rule.specs.declared.view.Doing.{Doing}
-use Rattle.cs_rule.specs.declared.view.Plan.{Plan}
-use Rattle.cs_rule.specs.declared.view.View.{View}
-use Rattle.cs_rule.proofs.Lists.{times-without_le, times-snoc, same_no}
+use Rattle.cs_board.specs.Plays.{Sat, claimed, watched, closed}
+use Rattle.cs_board.specs.Views.{does, ended, shut, opened}
+use Rattle.cs_board.specs.Words.{watch_at, status_at}
+use Rattle.cs_board.specs.declared.view.Berth.{Berth}
+use Rattle.cs_board.specs.declared.view.Doing.{Doing}
+use Rattle.cs_board.specs.declared.view.Plan.{Plan}
+use Rattle.cs_board.specs.declared.view.View.{View}
+use Rattle.cs_board.proofs.Lists.{times-without_le, times-snoc, same_no}
 
 pub job_there : {J : Type 0} (js : List J) (t : ℕ) → t < length js → (j : J) × (slice_get js t ≡ Some j)
 job_there [] t l = absurd (omega arith)

@@ -4,12 +4,12 @@ use Rattle.std.proofs.lemmas.Bool.{cases_eq}
 use Rattle.cs_board.specs.Board.{IsIdle, IsViewOf, FoundSince}
 use Rattle.cs_board.specs.inner.Sittings.{HasClaimed, HasTried, Tries, AllTried, tried}
 use Rattle.cs_cells.specs.Meaning.{Meaning}
-use Rattle.cs_rule.specs.Counts.{times, without}
-use Rattle.cs_rule.specs.Facts.{owed}
-use Rattle.cs_rule.specs.Views.{began, missed, fresh}
-use Rattle.cs_rule.specs.declared.view.Plan.{Plan}
-use Rattle.cs_rule.specs.declared.view.View.{View}
-use Rattle.cs_rule.proofs.Lists.{times-without_le, times-without_same, empty_from_times}
+use Rattle.cs_board.specs.Counts.{times, without}
+use Rattle.cs_board.specs.Facts.{owed}
+use Rattle.cs_board.specs.Views.{began, missed, fresh}
+use Rattle.cs_board.specs.declared.view.Plan.{Plan}
+use Rattle.cs_board.specs.declared.view.View.{View}
+use Rattle.cs_board.proofs.Lists.{times-without_le, times-without_same, empty_from_times}
 
 get_longer : {X : Type 0} (xs ys : List X) (i : ℕ) (x : X) → slice_get xs i ≡ Some x → slice_get (xs ++ ys) i ≡ Some x
 get_longer [] ys i x e = absurd (cc)

@@ -6,16 +6,16 @@ use Rattle.std.specs.List.{Contains}
 use Rattle.std.specs.List.Sorted.{IsStrictlyIncreasing}
 use Rattle.cs_board.specs.inner.Sittings.{deed, deed_in, ran_out}
 use Rattle.cs_cells.specs.Meaning.{Meaning}
-use Rattle.cs_rule.specs.Counts.{one, listed}
-use Rattle.cs_rule.specs.Facts.{turned_in}
-use Rattle.cs_rule.specs.Plans.{IsPlan, area_count, places_used, places_written, uses_of, writers_before}
-use Rattle.cs_rule.specs.Views.{does}
-use Rattle.cs_rule.specs.Words.{at}
-use Rattle.cs_rule.specs.declared.view.Doing.{Doing}
-use Rattle.cs_rule.specs.declared.view.Plan.{Plan}
-use Rattle.cs_rule.specs.declared.view.View.{View}
-use Rattle.cs_rule.proofs.Conflicts.{contains_at, listed_of, used_place, written_used, written_rises}
-use Rattle.cs_rule.proofs.Counting.{count_le, increasing_few, listed_fresh}
+use Rattle.cs_board.specs.Counts.{one, listed}
+use Rattle.cs_board.specs.Facts.{turned_in}
+use Rattle.cs_board.specs.Plans.{IsPlan, area_count, places_used, places_written, uses_of, writers_before}
+use Rattle.cs_board.specs.Views.{does}
+use Rattle.cs_board.specs.Words.{at}
+use Rattle.cs_board.specs.declared.view.Doing.{Doing}
+use Rattle.cs_board.specs.declared.view.Plan.{Plan}
+use Rattle.cs_board.specs.declared.view.View.{View}
+use Rattle.cs_board.proofs.Conflicts.{contains_at, listed_of, used_place, written_used, written_rises}
+use Rattle.cs_board.proofs.Counting.{count_le, increasing_few, listed_fresh}
 
 get_default : (xs : List ℕ) (i r : ℕ) → i < length xs → get_or xs i r ≡ get_or xs i 0
 get_default [] i r l = absurd (omega arith)

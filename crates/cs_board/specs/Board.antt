@@ -8,12 +8,12 @@ use Rattle.cs_board.specs.Seen.{plan_seen}
 use Rattle.cs_board.specs.declared.board.Board.{Board}
 use Rattle.cs_board.specs.declared.board.BoardSeat.{BoardSeat}
 use Rattle.cs_graph.specs.Graph.{Dependencies}
-use Rattle.cs_rule.specs.Facts.{owed}
-use Rattle.cs_rule.specs.Plans.{IsPlan, before_at, places_used, places_written, writers_before}
-use Rattle.cs_rule.specs.Views.{newcomer, no_plan, fresh}
-use Rattle.cs_rule.specs.declared.view.Doing.{Doing}
-use Rattle.cs_rule.specs.declared.view.Plan.{Plan}
-use Rattle.cs_rule.specs.declared.view.View.{View}
+use Rattle.cs_board.specs.Facts.{owed}
+use Rattle.cs_board.specs.Plans.{IsPlan, before_at, places_used, places_written, writers_before}
+use Rattle.cs_board.specs.Views.{newcomer, no_plan, fresh}
+use Rattle.cs_board.specs.declared.view.Doing.{Doing}
+use Rattle.cs_board.specs.declared.view.Plan.{Plan}
+use Rattle.cs_board.specs.declared.view.View.{View}
 
 abbrev pub note_in : Option Doing → ℕ
 note_in None = 0

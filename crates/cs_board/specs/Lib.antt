@@ -2,4 +2,15 @@ pub mod Seen
 pub mod Board
 pub mod Built
 pub mod Resting
+pub mod Counts
+pub mod Ending
+pub mod Facts
+pub mod Keys
+pub mod Laws
+pub mod Plans
+pub mod Plays
+pub mod Rule
+pub mod Views
+pub mod Words
+pub mod Opening
 pub mod inner

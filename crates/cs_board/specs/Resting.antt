@@ -6,14 +6,14 @@ use Rattle.atomic_table.specs.declared.shared.Seat.{Seat}
 use Rattle.cs_cells.specs.Areas.{word_count}
 use Rattle.cs_cells.specs.Cells.{values}
 use Rattle.cs_cells.specs.declared.footprint.Area.{Area}
-use Rattle.cs_rule.specs.Plans.{area_count, edge_count}
-use Rattle.cs_rule.specs.Views.{slot_row}
-use Rattle.cs_rule.specs.Words.{Words, at, all_words, IsSized}
-use Rattle.cs_rule.specs.inner.Opening.{each_below, first_status, first_watch}
-use Rattle.cs_rule.specs.declared.view.Berth.{Berth}
-use Rattle.cs_rule.specs.declared.view.Plan.{Plan}
-use Rattle.cs_rule.specs.declared.view.Still.{Still}
-use Rattle.cs_rule.specs.declared.view.View.{View}
+use Rattle.cs_board.specs.Plans.{area_count, edge_count}
+use Rattle.cs_board.specs.Views.{slot_row}
+use Rattle.cs_board.specs.Words.{Words, at, all_words, IsSized}
+use Rattle.cs_board.specs.Opening.{each_below, first_status, first_watch}
+use Rattle.cs_board.specs.declared.view.Berth.{Berth}
+use Rattle.cs_board.specs.declared.view.Plan.{Plan}
+use Rattle.cs_board.specs.declared.view.Still.{Still}
+use Rattle.cs_board.specs.declared.view.View.{View}
 
 -- how many words a cycle of so many notes and edges needs
 abbrev pub wide : List Area → ℕ → ℕ → ℕ

@@ -4,13 +4,13 @@ ghost use Rattle.cs_board.specs.inner.Banks.{imageless};
 ghost use Rattle.cs_board.specs.Board.{plan};
 ghost use Rattle.cs_board.specs.inner.Sittings.{IsSittingOf, deed, ran_out};
 ghost use Rattle.cs_cells.specs.Cells.{cell};
-ghost use Rattle.cs_rule.specs.Plans.{uses_at, writes_at, before_at};
-ghost use Rattle.cs_rule.specs.Views.{does, set_image, fresh};
+ghost use Rattle.cs_board.specs.Plans.{uses_at, writes_at, before_at};
+ghost use Rattle.cs_board.specs.Views.{does, set_image, fresh};
 
 use crate::board::{Board, Sitting};
+use crate::{Look, Set};
 use cs_base::Num;
 use cs_cells::{Bank, Job};
-use cs_rule::{Look, Set};
 
 impl<J: Job> Board<J> {
     /// A look at a cell that the note uses.

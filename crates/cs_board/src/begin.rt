@@ -4,14 +4,14 @@ ghost use Rattle.std.specs.Vec.{vec_capacity};
 ghost use Rattle.cs_board.specs.Board.{plan, name, view, graph_of, IsSeatOf, IsIdle, IsViewOf};
 ghost use Rattle.cs_board.specs.Built.{IsBuilt};
 ghost use Rattle.cs_board.specs.Resting.{IsSole, IsLaying, areas_in, known_in};
-ghost use Rattle.cs_rule.specs.Ending.{IsLast, IsOver};
-ghost use Rattle.cs_rule.specs.Plans.{IsPlan};
-ghost use Rattle.cs_rule.specs.Views.{opening_view, plan_laid};
+ghost use Rattle.cs_board.specs.Ending.{IsLast, IsOver};
+ghost use Rattle.cs_board.specs.Plans.{IsPlan};
+ghost use Rattle.cs_board.specs.Views.{opening_view, plan_laid};
 
 use crate::board::{Berths, Board, BoardSeat, Frame, Sitting};
+use crate::{Begin, Berth, End};
 use cs_cells::Job;
 use cs_graph::Graph;
-use cs_rule::{Begin, Berth, End};
 use std::alloc::Global;
 use std::snapshot::Snapshot;
 use std::sync::Arc;

@@ -3,10 +3,10 @@ ghost use Rattle.std.specs.Prelude.{◌≡◌};
 ghost use Rattle.cs_board.specs.Seen.{plan_seen};
 ghost use Rattle.cs_board.specs.Built.{IsBuilt};
 
+use crate::{Berth, Key, Rule, View};
 use atomic_table::{Badge, Seat, Table};
 use cs_cells::Job;
 use cs_graph::Graph;
-use cs_rule::{Berth, Key, Rule, View};
 use std::alloc::Global;
 use std::snapshot::Snapshot;
 use std::sync::Arc;
@@ -57,7 +57,7 @@ pub struct Board<J: Job> {
 impl<J: Job> Board<J> {
     ghost use Rattle.std.specs.Prelude.{◌≡◌, ◌+◌, length};
     ghost use Rattle.cs_board.specs.Board.{plan, name};
-    ghost use Rattle.cs_rule.specs.Words.{word_total};
+    ghost use Rattle.cs_board.specs.Words.{word_total};
 
     /// The graph of the cycle.
     pub(crate) fn graph(&self) -> &Graph

@@ -3,11 +3,11 @@ ghost use Rattle.std.specs.Prelude.{◌≡◌, ◌+◌, ◌<◌, ℕ, ◌∷◌,
 ghost use Rattle.cs_board.specs.Board.{plan, name, view, IsSeatOf, IsIdle, HasRun, SameSeat, note_of};
 ghost use Rattle.cs_board.specs.inner.Sittings.{IsSittingOf, Beside, ClosesAt};
 ghost use Rattle.cs_graph.specs.Graph.{Edge, IsNextOut, NoneOut};
-ghost use Rattle.cs_rule.specs.Views.{closing_from};
+ghost use Rattle.cs_board.specs.Views.{closing_from};
 
+use crate::WATCHED;
 use crate::board::{Board, BoardSeat, Sitting};
 use cs_cells::Job;
-use cs_rule::WATCHED;
 
 impl<J: Job> Board<J> {
     /// A note that was found watching this edge watches the next one that isn't closed, or is

@@ -2,13 +2,13 @@
 ghost use Rattle.std.specs.Prelude.{◌≡◌, ◌<◌, ℕ, [], Some, true, false, IfSome};
 ghost use Rattle.cs_board.specs.Board.{plan, name, view, IsSeatOf, IsIdle, HasRoom};
 ghost use Rattle.cs_board.specs.inner.Sittings.{IsSittingOf};
-ghost use Rattle.cs_rule.specs.Views.{kept_view, given_view, joined};
-ghost use Rattle.cs_rule.specs.declared.view.Doing.{Doing};
+ghost use Rattle.cs_board.specs.Views.{kept_view, given_view, joined};
+ghost use Rattle.cs_board.specs.declared.view.Doing.{Doing};
 
 use crate::board::{Board, BoardSeat, Sitting};
+use crate::{Gather, Split};
 use atomic_table::Badge;
 use cs_cells::Job;
-use cs_rule::{Gather, Split};
 use std::mem;
 
 impl<J: Job> Board<J> {

@@ -3,19 +3,19 @@ ghost use Rattle.std.specs.Prelude.{◌≡◌, ◌+◌, ◌-◌, ◌<◌, ◌≤
 ghost use Rattle.cs_board.specs.Board.{plan, IsIdle, run_through};
 ghost use Rattle.cs_board.specs.inner.Sittings.{IsSittingOf, ClosesAt, MovesAt, MovesOut, deed, job_out, tried, stopped, ran_out};
 ghost use Rattle.cs_graph.specs.Graph.{Edge};
-ghost use Rattle.cs_rule.specs.Counts.{listed};
-ghost use Rattle.cs_rule.specs.Facts.{turned_in};
-ghost use Rattle.cs_rule.specs.Plans.{area_count, places_used, places_written, before_at, writers_before};
-ghost use Rattle.cs_rule.specs.Views.{fresh, does, next_phase, ended, shut, opened};
-ghost use Rattle.cs_rule.specs.Words.{watch_at, own_at, status_at, turn_at, cell_at};
-ghost use Rattle.cs_rule.specs.declared.view.Berth.TheVariants.{Full};
+ghost use Rattle.cs_board.specs.Counts.{listed};
+ghost use Rattle.cs_board.specs.Facts.{turned_in};
+ghost use Rattle.cs_board.specs.Plans.{area_count, places_used, places_written, before_at, writers_before};
+ghost use Rattle.cs_board.specs.Views.{fresh, does, next_phase, ended, shut, opened};
+ghost use Rattle.cs_board.specs.Words.{watch_at, own_at, status_at, turn_at, cell_at};
+ghost use Rattle.cs_board.specs.declared.view.Berth.TheVariants.{Full};
 
 use crate::board::{Board, Sitting};
-use cs_cells::Job;
-use cs_rule::{
+use crate::{
     AVAILABLE, CLOSED, Claim, Close, DONE, Finish, Give, IDLE, IN_PROGRESS, LookTurn, Open, Take,
     Turn, WATCHED, Watch,
 };
+use cs_cells::Job;
 
 impl<J: Job> Board<J> {
     fn watch_word(&self, edge: u32) -> usize

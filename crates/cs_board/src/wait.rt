@@ -2,12 +2,12 @@
 ghost use Rattle.std.specs.Prelude.{◌≡◌, ◌<◌, ℕ, [], IfSome, IfNone};
 ghost use Rattle.cs_board.specs.Board.{plan, name, view, IsSeatOf, IsIdle, IsClaimed, SameSeat, FoundSince, note_of};
 ghost use Rattle.cs_board.specs.inner.Sittings.{HasTried};
-ghost use Rattle.cs_rule.specs.declared.view.View.{View};
+ghost use Rattle.cs_board.specs.declared.view.View.{View};
 
 use crate::board::{Board, BoardSeat};
+use crate::{AVAILABLE, DONE};
 use cs_base::Steps;
 use cs_cells::Job;
-use cs_rule::{AVAILABLE, DONE};
 use std::{hint, thread};
 
 /// How long a seat that finds no note to claim looks for one: so many looks at all notes, the first

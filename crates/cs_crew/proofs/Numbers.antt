@@ -4,8 +4,8 @@ use Rattle.std.specs.List.{All}
 use Rattle.std.proofs.lemmas.Bool.{eq-eqb, ne_eqb}
 use Rattle.std.proofs.lemmas.List.{get_or_append_left, length_push}
 use Rattle.std.proofs.Math.Seq.{get_or-append_seam}
-use Rattle.cs_crew.specs.inner.Numbered.{down}
-use Rattle.cs_rule.specs.Counts.{without}
+use Rattle.cs_crew.specs.Numbered.{down}
+use Rattle.cs_board.specs.Counts.{without}
 
 module _ {A : Type 0} where
   pub before_last : (xs : List A) (x d : A) (k : ℕ) → k < length xs → get_or (xs ++ x ∷ []) k d ≡ get_or xs k d

@@ -6,10 +6,10 @@ use Rattle.std.proofs.lemmas.List.{length_push}
 use Rattle.std.proofs.lemmas.List.Elements.{All-push}
 use Rattle.cs_board.specs.Board.{view}
 use Rattle.cs_board.specs.declared.board.BoardSeat.{BoardSeat}
-use Rattle.cs_crew.specs.inner.Numbered.{down, IsFirst, IsOther, IsNumbered}
+use Rattle.cs_crew.specs.Numbered.{down, IsFirst, IsOther, IsNumbered}
 use Rattle.cs_crew.proofs.Numbers.{before_last, at_last, all_before, all_last, without_greatest}
-use Rattle.cs_rule.specs.Counts.{without}
-use Rattle.cs_rule.specs.Views.{kept_view, given_view, joined}
+use Rattle.cs_board.specs.Counts.{without}
+use Rattle.cs_board.specs.Views.{kept_view, given_view, joined}
 
 -- the first seat, and the others that were split off
 pub record IsHeld {J : Type 0} (P : BoardSeat J → Type 0) (others : List (BoardSeat J)) (first : BoardSeat J) : Type 0 where

@@ -4,7 +4,7 @@ ghost use Rattle.std.specs.Vec.{vec_capacity};
 ghost use Rattle.cs_board.specs.Board.{view};
 ghost use Rattle.cs_board.specs.declared.board.BoardSeat.{BoardSeat};
 ghost use Rattle.cs_crew.specs.Crew.{IsReady, IsDone, IsThrough};
-ghost use Rattle.cs_crew.specs.inner.Numbered.{IsFirst, IsNumbered};
+ghost use Rattle.cs_crew.specs.Numbered.{IsFirst, IsNumbered};
 
 use crate::worker::work;
 use cs_board::{Board, BoardSeat};

@@ -4,10 +4,10 @@ ghost use Rattle.cs_board.specs.Board.{plan, name, view, IsSeatOf};
 ghost use Rattle.cs_desk.specs.Desk.{areas, cells, note_room, word_room, HasRoom};
 ghost use Rattle.cs_cells.specs.Serial.{serial_cells, serial_jobs};
 ghost use Rattle.cs_crew.specs.Crew.{IsDone};
-ghost use Rattle.cs_crew.specs.inner.Numbered.{IsFirst};
+ghost use Rattle.cs_crew.specs.Numbered.{IsFirst};
 ghost use Rattle.cs_graph.specs.Graph.{IsFit};
-ghost use Rattle.cs_rule.specs.Plans.{IsFootprint};
-ghost use Rattle.cs_rule.specs.Views.{opening_view};
+ghost use Rattle.cs_cells.specs.Areas.{IsFootprint};
+ghost use Rattle.cs_board.specs.Views.{opening_view};
 
 use crate::crew::{join_all, seat_all, work_all};
 use crate::worker::work;

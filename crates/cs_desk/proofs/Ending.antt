@@ -11,12 +11,12 @@ use Rattle.cs_cells.specs.Areas.{IsLaid, word_count}
 use Rattle.cs_cells.specs.Meaning.{Meaning, Frames}
 use Rattle.cs_cells.specs.Serial.{serial_jobs}
 use Rattle.cs_cells.proofs.SerialRun.{foot-serial_jobs, length-serial_jobs}
-use Rattle.cs_rule.specs.Counts.{listed}
-use Rattle.cs_rule.specs.Plans.{IsPlan, area_count, writes_of, places_written}
-use Rattle.cs_rule.specs.declared.view.Berth.{Berth}
-use Rattle.cs_rule.specs.declared.view.Plan.{Plan}
-use Rattle.cs_rule.specs.declared.view.View.{View}
-use Rattle.cs_rule.proofs.Conflicts.{used_place, written_used}
+use Rattle.cs_board.specs.Counts.{listed}
+use Rattle.cs_board.specs.Plans.{IsPlan, area_count, writes_of, places_written}
+use Rattle.cs_board.specs.declared.view.Berth.{Berth}
+use Rattle.cs_board.specs.declared.view.Plan.{Plan}
+use Rattle.cs_board.specs.declared.view.View.{View}
+use Rattle.cs_board.proofs.Conflicts.{used_place, written_used}
 use Rattle.cs_desk.proofs.Laying.{drop_one}
 
 pub took : {A : Type 0} (xs : List A) (i : ℕ) (x : A) → slice_get xs i ≡ Some x → take (i + 1) xs ≡ take i xs ++ x ∷ []

@@ -13,19 +13,19 @@ use Rattle.cs_cells.specs.Meaning.{Meaning}
 use Rattle.cs_cells.specs.Serial.{serial_cells, serial_jobs}
 use Rattle.cs_cells.specs.declared.footprint.Area.{Area}
 use Rattle.cs_graph.specs.Graph.{Dependencies}
-use Rattle.cs_rule.specs.Counts.{listed}
-use Rattle.cs_rule.specs.Ending.{IsOver}
-use Rattle.cs_rule.specs.Plans.{area_count, edge_count, places_written}
-use Rattle.cs_rule.specs.Views.{slot_row, jobs_laid, cells_laid, plan_laid, with_word, with_home}
-use Rattle.cs_rule.specs.Words.{Words, all_words, IsSized, status_at, own_at, watch_at, turn_at, word_total}
-use Rattle.cs_rule.specs.inner.Opening.{each_below, first_status, first_watch, opening_words}
-use Rattle.cs_rule.specs.declared.view.Berth.{Berth}
-use Rattle.cs_rule.specs.declared.view.Berth.TheVariants.{Vacant, Full}
-use Rattle.cs_rule.specs.declared.view.Plan.{Plan}
-use Rattle.cs_rule.specs.declared.view.Still.{Still}
-use Rattle.cs_rule.proofs.AllWords.{set_status, set_own, set_watch, set_turn, sized_status, sized_own, sized_watch}
-use Rattle.cs_rule.proofs.Lists.{put_cases}
-use Rattle.cs_rule.proofs.Opening.{length-each_below, at_each_below}
+use Rattle.cs_board.specs.Counts.{listed}
+use Rattle.cs_board.specs.Ending.{IsOver}
+use Rattle.cs_board.specs.Plans.{area_count, edge_count, places_written}
+use Rattle.cs_board.specs.Views.{slot_row, jobs_laid, cells_laid, plan_laid, with_word, with_home}
+use Rattle.cs_board.specs.Words.{Words, all_words, IsSized, status_at, own_at, watch_at, turn_at, word_total}
+use Rattle.cs_board.specs.Opening.{each_below, first_status, first_watch, opening_words}
+use Rattle.cs_board.specs.declared.view.Berth.{Berth}
+use Rattle.cs_board.specs.declared.view.Berth.TheVariants.{Vacant, Full}
+use Rattle.cs_board.specs.declared.view.Plan.{Plan}
+use Rattle.cs_board.specs.declared.view.Still.{Still}
+use Rattle.cs_board.proofs.AllWords.{set_status, set_own, set_watch, set_turn, sized_status, sized_own, sized_watch}
+use Rattle.cs_board.proofs.Lists.{put_cases}
+use Rattle.cs_board.proofs.Opening.{length-each_below, at_each_below}
 
 module _ {A : Type 0} where
   -- what lies behind t equal elements

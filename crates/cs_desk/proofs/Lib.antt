@@ -3,3 +3,4 @@ pub mod Laying
 pub mod Ending
 pub mod Opening
 pub mod Making
+pub mod Feet

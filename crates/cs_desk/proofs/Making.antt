@@ -12,14 +12,14 @@ use Rattle.cs_desk.proofs.Sole.{cleared_of}
 use Rattle.cs_cells.specs.Areas.{IsLaid, limit_passed, word_count}
 use Rattle.cs_cells.specs.Meaning.{Meaning}
 use Rattle.cs_cells.specs.declared.footprint.Area.{Area}
-use Rattle.cs_rule.specs.Rule.{Always}
-use Rattle.cs_rule.specs.Views.{resting_view}
-use Rattle.cs_rule.specs.inner.Opening.{each_below}
-use Rattle.cs_rule.specs.declared.view.Berth.{Berth}
-use Rattle.cs_rule.specs.declared.view.Berth.TheVariants.{Vacant}
-use Rattle.cs_rule.specs.declared.view.View.{View}
-use Rattle.cs_rule.proofs.Opening.{length-each_below}
-use Rattle.cs_rule.proofs.Rests.{starts}
+use Rattle.cs_board.specs.Rule.{Always}
+use Rattle.cs_board.specs.Views.{resting_view}
+use Rattle.cs_board.specs.Opening.{each_below}
+use Rattle.cs_board.specs.declared.view.Berth.{Berth}
+use Rattle.cs_board.specs.declared.view.Berth.TheVariants.{Vacant}
+use Rattle.cs_board.specs.declared.view.View.{View}
+use Rattle.cs_board.proofs.Opening.{length-each_below}
+use Rattle.cs_board.proofs.Rests.{starts}
 
 few_areas : (areas : List Area) → limit_passed areas ≡ None → length areas ≤ most_resources
 few_areas areas h = ⊎_elim

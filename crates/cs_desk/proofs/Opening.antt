@@ -9,16 +9,16 @@ use Rattle.cs_board.specs.Built.{IsBuilt}
 use Rattle.cs_board.specs.Resting.{IsLaying, wide}
 use Rattle.cs_desk.specs.inner.Resting.{plan_over}
 use Rattle.cs_desk.proofs.Laying.{laid_plan}
-use Rattle.cs_cells.specs.Areas.{IsLaid, word_count}
+use Rattle.cs_cells.specs.Areas.{IsLaid, word_count, IsFootprint}
 use Rattle.cs_cells.specs.Cells.{values, signed}
 use Rattle.cs_cells.specs.Meaning.{Meaning}
 use Rattle.cs_cells.specs.Serial.{AllValid}
 use Rattle.cs_cells.specs.declared.footprint.Area.{Area}
 use Rattle.cs_graph.specs.Graph.{Dependencies, IsFit, LeadsForward, StandTogether}
-use Rattle.cs_rule.specs.Plans.{IsPlan, IsFootprint}
-use Rattle.cs_rule.specs.Views.{cells_laid, plan_laid}
-use Rattle.cs_rule.specs.declared.view.Plan.{Plan}
-use Rattle.cs_rule.specs.declared.view.Still.{Still}
+use Rattle.cs_board.specs.Plans.{IsPlan}
+use Rattle.cs_board.specs.Views.{cells_laid, plan_laid}
+use Rattle.cs_board.specs.declared.view.Plan.{Plan}
+use Rattle.cs_board.specs.declared.view.Still.{Still}
 
 all_at : {A : Type 0} (P : A → Type 0) (xs : List A) (t : ℕ) (x : A) → All P xs → slice_get xs t ≡ Some x → P x
 all_at P xs t x h at_ = subst P (get_or_from_slice_get xs t x x at_) (h t x (slice_get_within xs t x at_))

@@ -13,16 +13,16 @@ use Rattle.cs_base.specs.Limits.{most_resources}
 use Rattle.cs_cells.specs.Areas.{IsLaid, word_count}
 use Rattle.cs_cells.specs.Cells.{values, signed, cell}
 use Rattle.cs_cells.specs.declared.footprint.Area.{Area}
-use Rattle.cs_rule.specs.Plays.{Sat, lays, reads, reaches, leaves}
-use Rattle.cs_rule.specs.Views.{laid, with_word, with_home, cells_laid}
-use Rattle.cs_rule.specs.Words.{at}
-use Rattle.cs_rule.specs.inner.Opening.{each_below}
-use Rattle.cs_rule.specs.declared.view.Berth.{Berth}
-use Rattle.cs_rule.specs.declared.view.Berth.TheVariants.{Vacant, Full, Told}
-use Rattle.cs_rule.specs.declared.view.Still.{Still}
-use Rattle.cs_rule.specs.declared.view.View.{View}
-use Rattle.cs_rule.proofs.AllWords.{one_get, one_set}
-use Rattle.cs_rule.proofs.Opening.{length-each_below}
+use Rattle.cs_board.specs.Plays.{Sat, lays, reads, reaches, leaves}
+use Rattle.cs_board.specs.Views.{laid, with_word, with_home, cells_laid}
+use Rattle.cs_board.specs.Words.{at}
+use Rattle.cs_board.specs.Opening.{each_below}
+use Rattle.cs_board.specs.declared.view.Berth.{Berth}
+use Rattle.cs_board.specs.declared.view.Berth.TheVariants.{Vacant, Full, Told}
+use Rattle.cs_board.specs.declared.view.Still.{Still}
+use Rattle.cs_board.specs.declared.view.View.{View}
+use Rattle.cs_board.proofs.AllWords.{one_get, one_set}
+use Rattle.cs_board.proofs.Opening.{length-each_below}
 
 past_drop : (xs ys : List ℕ) (n i : ℕ) → length xs ≡ n → drop (n + i) (xs ++ ys) ≡ drop i ys
 past_drop xs ys n i l = sym (drop-drop i n (xs ++ ys)) ∙ ap (drop i) (drop_at xs ys n l)

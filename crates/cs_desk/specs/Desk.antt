@@ -6,8 +6,8 @@ use Rattle.cs_board.specs.Resting.{areas_in, known_in, wide}
 use Rattle.cs_cells.specs.Cells.{Cells, values}
 use Rattle.cs_cells.specs.declared.footprint.Area.{Area}
 use Rattle.cs_graph.specs.Graph.{Dependencies}
-use Rattle.cs_rule.specs.Views.{cells_laid}
-use Rattle.cs_rule.specs.declared.view.Plan.{Plan}
+use Rattle.cs_board.specs.Views.{cells_laid}
+use Rattle.cs_board.specs.declared.view.Plan.{Plan}
 
 -- which table, and the layout of its cells
 pub record Standing : Type 0 where

@@ -4,15 +4,14 @@ ghost use Rattle.cs_board.specs.Resting.{IsSole, known_in, areas_in};
 ghost use Rattle.cs_desk.specs.inner.Resting.{IsResting};
 ghost use Rattle.cs_cells.specs.Areas.{word_count};
 ghost use Rattle.cs_cells.specs.Cells.{values, cell};
-ghost use Rattle.cs_rule.specs.Views.{laid, with_word};
-ghost use Rattle.cs_rule.specs.declared.view.Berth.TheVariants.{Vacant};
-ghost use Rattle.cs_rule.specs.inner.Opening.{each_below};
+ghost use Rattle.cs_board.specs.Views.{laid, with_word};
+ghost use Rattle.cs_board.specs.declared.view.Berth.TheVariants.{Vacant};
+ghost use Rattle.cs_board.specs.Opening.{each_below};
 
 use atomic_table::{Refused, Table};
 use cs_base::{Num, OutOfMemory};
-use cs_board::{Berths, Sitting};
+use cs_board::{Berth, Berths, Key, Lay, Read, Sitting};
 use cs_cells::{Bank, Job, Layout};
-use cs_rule::{Berth, Key, Lay, Read};
 use std::alloc::Global;
 use std::snapshot::Snapshot;
 

@@ -7,14 +7,18 @@
 //! edges, takes no memory and can't fail.
 //!
 //! In which order words are laid and cleared may change without anyone above noticing. In reading
-//! order: `receipt`, `desk`, `room`, `open`, `rest`.
+//! order: `receipt`, `desk`, `room`, `course` (the graph that is kept from cycle to cycle), `open`,
+//! `rest`.
 #![tactic(auto)]
 
+mod course;
 mod desk;
 mod open;
 mod receipt;
 mod rest;
 mod room;
 
+pub use course::Course;
 pub use desk::Desk;
 pub use receipt::{Receipt, Tally};
+pub use room::make_room;

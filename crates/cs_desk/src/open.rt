@@ -3,19 +3,20 @@ ghost use Rattle.std.specs.Prelude.{◌≡◌, ◌+◌, ◌*◌, ◌<◌, ◌≤
 ghost use Rattle.std.specs.Vec.{vec_capacity};
 ghost use Rattle.cs_board.specs.Resting.{IsSole, IsLaying, areas_in, known_in};
 ghost use Rattle.cs_desk.specs.inner.Resting.{plan_over};
-ghost use Rattle.cs_cells.specs.Areas.{word_count};
+ghost use Rattle.cs_cells.specs.Areas.{word_count, IsFootprint};
 ghost use Rattle.cs_cells.specs.Serial.{AllValid};
 ghost use Rattle.cs_graph.specs.Graph.{IsFit};
-ghost use Rattle.cs_rule.specs.Plans.{IsPlan, IsFootprint};
-ghost use Rattle.cs_rule.specs.Views.{with_word, with_home, opening_view};
-ghost use Rattle.cs_rule.specs.declared.view.Berth.TheVariants.{Vacant, Full};
-ghost use Rattle.cs_rule.specs.inner.Opening.{first_status, first_watch};
+ghost use Rattle.cs_board.specs.Plans.{IsPlan};
+ghost use Rattle.cs_board.specs.Views.{with_word, with_home, opening_view};
+ghost use Rattle.cs_board.specs.declared.view.Berth.TheVariants.{Vacant, Full};
+ghost use Rattle.cs_board.specs.Opening.{first_status, first_watch};
 
 use crate::desk::{Desk, lay};
-use cs_board::{Berths, Board, BoardSeat, Sitting};
+use cs_board::{
+    AVAILABLE, Berth, Berths, Board, BoardSeat, IDLE, Leave, Reach, Sitting, WAITING, WATCHED,
+};
 use cs_cells::Job;
 use cs_graph::Graph;
-use cs_rule::{AVAILABLE, Berth, IDLE, Leave, Reach, WAITING, WATCHED};
 use std::alloc::Global;
 use std::sync::Arc;
 

@@ -5,16 +5,15 @@ ghost use Rattle.cs_board.specs.Board.{plan, name, view, graph_of, IsSeatOf, IsI
 ghost use Rattle.cs_board.specs.Resting.{IsSole, areas_in, known_in};
 ghost use Rattle.cs_cells.specs.Serial.{serial_cells, serial_jobs};
 ghost use Rattle.cs_desk.specs.inner.Resting.{IsClearing, ClearsTurns};
-ghost use Rattle.cs_rule.specs.Plans.{IsPlan, places_written};
-ghost use Rattle.cs_rule.specs.Views.{with_home};
-ghost use Rattle.cs_rule.specs.declared.view.Berth.TheVariants.{Vacant, Full};
+ghost use Rattle.cs_board.specs.Plans.{IsPlan, places_written};
+ghost use Rattle.cs_board.specs.Views.{with_home};
+ghost use Rattle.cs_board.specs.declared.view.Berth.TheVariants.{Vacant, Full};
 
 use crate::desk::{Desk, lay};
 use crate::receipt::Receipt;
-use cs_board::{Berths, Board, BoardSeat, Parts, Sitting};
+use cs_board::{Berth, Berths, Board, BoardSeat, Leave, Parts, Reach, Sitting};
 use cs_cells::Job;
 use cs_graph::Graph;
-use cs_rule::{Berth, Leave, Reach};
 use std::alloc::Global;
 use std::sync::Arc;
 

@@ -6,10 +6,10 @@ use Rattle.cs_board.specs.declared.board.BoardSeat.{BoardSeat}
 use Rattle.cs_cells.specs.Meaning.{Meaning}
 use Rattle.cs_crew.proofs.Numbers.{without_greatest}
 use Rattle.cs_crew.specs.Crew.{IsReady}
-use Rattle.cs_crew.specs.inner.Numbered.{down, IsFirst}
-use Rattle.cs_rule.specs.Counts.{without}
-use Rattle.cs_rule.specs.Views.{kept_view, joined}
-use Rattle.cs_rule.specs.declared.view.View.{View}
+use Rattle.cs_crew.specs.Numbered.{down, IsFirst}
+use Rattle.cs_board.specs.Counts.{without}
+use Rattle.cs_board.specs.Views.{kept_view, joined}
+use Rattle.cs_board.specs.declared.view.View.{View}
 
 module _ {J : Type 0} where
   -- v before the split, w after it: w has one more out, the greatest

@@ -5,12 +5,12 @@ ghost use Rattle.cs_board.specs.Board.{plan, name, view, IsSeatOf};
 ghost use Rattle.cs_desk.specs.Desk.{areas, cells, note_room, word_room, HasRoom};
 ghost use Rattle.cs_cells.specs.Serial.{serial_cells, serial_jobs};
 ghost use Rattle.cs_crew.specs.Crew.{IsReady, IsDone};
-ghost use Rattle.cs_crew.specs.inner.Numbered.{IsFirst};
+ghost use Rattle.cs_crew.specs.Numbered.{IsFirst};
 ghost use Rattle.cs_graph.specs.Graph.{IsFit};
 ghost use Rattle.cs_pool.specs.Pools.{helpers, ended, next_cycle};
 ghost use Rattle.cs_pool.specs.inner.Lines.{IsIdle};
-ghost use Rattle.cs_rule.specs.Plans.{IsFootprint};
-ghost use Rattle.cs_rule.specs.Views.{opening_view};
+ghost use Rattle.cs_cells.specs.Areas.{IsFootprint};
+ghost use Rattle.cs_board.specs.Views.{opening_view};
 
 use crate::letter::Task;
 use crate::line::Line;

@@ -53,13 +53,6 @@ impl<'e, J: Job + Send + Drop, R: Threads + Wait + Sync, G: Gate + Sync> Pool<'e
         }
     }
 
-    /// How many helpers there are, 0 to 31.
-    pub fn helpers(&self) -> usize
-        ensures { result ≡ helpers self.now }
-    {
-        self.lines.len()
-    }
-
     /// Ends the helpers and joins their threads. It answers how many cycles were played, or 2^64 - 1
     /// where that is less.
     pub fn close(self) -> u64

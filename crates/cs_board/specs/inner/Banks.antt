@@ -6,10 +6,10 @@ use Rattle.cs_board.specs.Board.{plan, IsViewOf}
 use Rattle.cs_board.specs.inner.Sittings.{deed}
 use Rattle.cs_board.specs.declared.board.Board.{Board}
 use Rattle.cs_cells.specs.Meaning.{Meaning}
-use Rattle.cs_rule.specs.Plans.{IsPlan, uses_at, writes_at}
-use Rattle.cs_rule.specs.declared.view.Berth.{Berth}
-use Rattle.cs_rule.specs.declared.view.Doing.{Doing}
-use Rattle.cs_rule.specs.declared.view.View.{View}
+use Rattle.cs_board.specs.Plans.{IsPlan, uses_at, writes_at}
+use Rattle.cs_board.specs.declared.view.Berth.{Berth}
+use Rattle.cs_board.specs.declared.view.Doing.{Doing}
+use Rattle.cs_board.specs.declared.view.View.{View}
 
 abbrev pub bare : Option Doing → Option Doing
 bare None = None

@@ -5,13 +5,13 @@ use Rattle.cs_board.specs.Board.{plan, IsViewOf, IsIdle, SameSeat, FoundSince}
 use Rattle.cs_board.specs.declared.board.Board.{Board}
 use Rattle.cs_cells.specs.Meaning.{Meaning}
 use Rattle.cs_graph.specs.Graph.{Edge, IsNextOut, NoneIn}
-use Rattle.cs_rule.specs.Facts.{owed}
-use Rattle.cs_rule.specs.Plans.{IsPlan, before_at}
-use Rattle.cs_rule.specs.Views.{began, missed, fresh, settled, passed}
-use Rattle.cs_rule.specs.declared.view.Berth.{Berth}
-use Rattle.cs_rule.specs.declared.view.Doing.{Doing}
-use Rattle.cs_rule.specs.declared.view.Plan.{Plan}
-use Rattle.cs_rule.specs.declared.view.View.{View}
+use Rattle.cs_board.specs.Facts.{owed}
+use Rattle.cs_board.specs.Plans.{IsPlan, before_at}
+use Rattle.cs_board.specs.Views.{began, missed, fresh, settled, passed}
+use Rattle.cs_board.specs.declared.view.Berth.{Berth}
+use Rattle.cs_board.specs.declared.view.Doing.{Doing}
+use Rattle.cs_board.specs.declared.view.Plan.{Plan}
+use Rattle.cs_board.specs.declared.view.View.{View}
 
 abbrev pub deed_in : Option Doing → Doing
 deed_in None = record { note = 0; phase = 0; held = false; image = [] }

@@ -11,16 +11,16 @@ use Rattle.cs_cells.specs.Meaning.{Meaning}
 use Rattle.cs_cells.specs.Serial.{serial_cells, serial_jobs}
 use Rattle.cs_cells.specs.declared.footprint.Area.{Area}
 use Rattle.cs_graph.specs.Graph.{Dependencies}
-use Rattle.cs_rule.specs.Counts.{listed}
-use Rattle.cs_rule.specs.Plans.{area_count, places_written}
-use Rattle.cs_rule.specs.Views.{slot_row, cells_laid}
-use Rattle.cs_rule.specs.Words.{Words, at, all_words, IsSized}
-use Rattle.cs_rule.specs.inner.Opening.{each_below}
-use Rattle.cs_rule.specs.declared.view.Berth.{Berth}
-use Rattle.cs_rule.specs.declared.view.Berth.TheVariants.{Vacant, Full, Told}
-use Rattle.cs_rule.specs.declared.view.Plan.{Plan}
-use Rattle.cs_rule.specs.declared.view.Still.{Still}
-use Rattle.cs_rule.specs.declared.view.View.{View}
+use Rattle.cs_board.specs.Counts.{listed}
+use Rattle.cs_board.specs.Plans.{area_count, places_written}
+use Rattle.cs_board.specs.Views.{slot_row, cells_laid}
+use Rattle.cs_board.specs.Words.{Words, at, all_words, IsSized}
+use Rattle.cs_board.specs.Opening.{each_below}
+use Rattle.cs_board.specs.declared.view.Berth.{Berth}
+use Rattle.cs_board.specs.declared.view.Berth.TheVariants.{Vacant, Full, Told}
+use Rattle.cs_board.specs.declared.view.Plan.{Plan}
+use Rattle.cs_board.specs.declared.view.Still.{Still}
+use Rattle.cs_board.specs.declared.view.View.{View}
 
 module _ {J : Type 0} where
   -- each slot is vacant

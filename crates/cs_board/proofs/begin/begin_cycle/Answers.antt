@@ -2,8 +2,8 @@ use Rattle.std.proofs.Common.{Some, refl, ap, ◌∙◌}
 use Rattle.cs_board.specs.Resting.{known_in, areas_in}
 use Rattle.cs_board.proofs.Beginning.{all_laid}
 use Rattle.cs_board.proofs.Sole.{sole_knows, sole_carries}
-use Rattle.cs_rule.specs.Views.{plan_laid, opening_view}
-use Rattle.cs_rule.proofs.Rests.{begins_cycle}
+use Rattle.cs_board.specs.Views.{plan_laid, opening_view}
+use Rattle.cs_board.proofs.Rests.{begins_cycle}
 use Rattle.cs_board.proofs.begin.begin_cycle.Goals as goal
 
 pub compare_exchange_with-requires : goal.compare_exchange_with-requires

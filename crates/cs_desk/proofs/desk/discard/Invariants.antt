@@ -1,5 +1,5 @@
 use Rattle.std.proofs.Common.{◌≡◌, length, replicate}
-use Rattle.cs_rule.specs.declared.view.Berth.TheVariants.{Vacant}
+use Rattle.cs_board.specs.declared.view.Berth.TheVariants.{Vacant}
 use Rattle.cs_desk.proofs.desk.discard.Given as goal
 
 abbrev pub invariant-loop-slot : goal.invariant-loop-slot

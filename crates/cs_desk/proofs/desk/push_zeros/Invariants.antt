@@ -1,5 +1,5 @@
 use Rattle.std.proofs.Common.{◌≡◌, ◌≤◌, ◌++◌}
-use Rattle.cs_rule.specs.inner.Opening.{each_below}
+use Rattle.cs_board.specs.Opening.{each_below}
 use Rattle.cs_desk.proofs.desk.push_zeros.Given as goal
 
 abbrev pub invariant-loop : goal.invariant-loop

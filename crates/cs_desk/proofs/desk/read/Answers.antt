@@ -1,6 +1,6 @@
 use Rattle.cs_board.specs.Resting.{known_in}
 use Rattle.cs_desk.proofs.Sole.{sole_knows}
-use Rattle.cs_rule.proofs.Rests.{reads_word}
+use Rattle.cs_board.proofs.Rests.{reads_word}
 use Rattle.cs_desk.proofs.desk.read.Goals as goal
 
 pub load-requires : goal.load-requires

@@ -1,6 +1,6 @@
 use Rattle.std.proofs.Common.{◌≡◌, ◌≤◌, replicate}
 use Rattle.std.specs.Vec.{vec_capacity}
-use Rattle.cs_rule.specs.declared.view.Berth.TheVariants.{Vacant}
+use Rattle.cs_board.specs.declared.view.Berth.TheVariants.{Vacant}
 use Rattle.cs_desk.proofs.desk.vacant_slots.Given as goal
 
 abbrev pub invariant-loop : goal.invariant-loop

@@ -1,16 +1,16 @@
 use Rattle.std.proofs.Common.{ℕ, ◌+◌, ◌<◌, ◌≡◌, [], ◌∷◌, ◌++◌, length, drop, Some, refl, sym, ap, ◌∙◌, subst, arith, length-append}
 use Rattle.std.proofs.lemmas.List.{append-nil}
 use Rattle.std.proofs.lemmas.Option.{slice_get_within}
-use Rattle.cs_rule.specs.inner.Opening.{first_status}
+use Rattle.cs_board.specs.Opening.{first_status}
 use Rattle.std.proofs.Math.Seq.{drop-length}
 use Rattle.cs_board.specs.Resting.{IsLaying, areas_in, known_in}
 use Rattle.cs_desk.specs.inner.Resting.{plan_over}
 use Rattle.cs_desk.proofs.Laying.{laying_watch, laying_note}
 use Rattle.cs_desk.proofs.Opening.{popped}
-use Rattle.cs_rule.specs.Views.{with_word, with_home}
-use Rattle.cs_rule.specs.Words.{status_at}
-use Rattle.cs_rule.specs.declared.view.Berth.TheVariants.{Full}
-use Rattle.cs_rule.specs.declared.view.Plan.{Plan}
+use Rattle.cs_board.specs.Views.{with_word, with_home}
+use Rattle.cs_board.specs.Words.{status_at}
+use Rattle.cs_board.specs.declared.view.Berth.TheVariants.{Full}
+use Rattle.cs_board.specs.declared.view.Plan.{Plan}
 use Rattle.cs_desk.proofs.open.lay_cycle.Goals as goal
 
 pub loop-edge-init : goal.loop-edge-init

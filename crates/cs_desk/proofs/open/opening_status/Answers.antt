@@ -1,5 +1,5 @@
 use Rattle.std.proofs.Common.{arith}
-use Rattle.cs_rule.proofs.Opening.{status_waits, status_free}
+use Rattle.cs_board.proofs.Opening.{status_waits, status_free}
 use Rattle.cs_desk.proofs.open.opening_status.Goals as goal
 
 pub returns-then-into : goal.returns-then-into

@@ -1,5 +1,5 @@
 use Rattle.std.proofs.Common.{arith}
-use Rattle.cs_rule.proofs.Opening.{watch_first, watch_later}
+use Rattle.cs_board.proofs.Opening.{watch_first, watch_later}
 use Rattle.cs_desk.proofs.open.opening_watch.Goals as goal
 
 pub returns-then-into-edge : goal.returns-then-into-edge

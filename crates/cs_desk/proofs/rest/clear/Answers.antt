@@ -7,9 +7,9 @@ use Rattle.cs_desk.specs.inner.Resting.{ClearsTurns}
 use Rattle.cs_desk.proofs.Ending.{there, took, left_long, left_writes}
 use Rattle.cs_desk.proofs.Laying.{full_next, clears_note}
 use Rattle.cs_cells.specs.Serial.{serial_jobs}
-use Rattle.cs_rule.specs.Plans.{places_written}
-use Rattle.cs_rule.specs.declared.view.Berth.{Berth}
-use Rattle.cs_rule.specs.declared.view.Berth.TheVariants.{Vacant, Full}
+use Rattle.cs_board.specs.Plans.{places_written}
+use Rattle.cs_board.specs.declared.view.Berth.{Berth}
+use Rattle.cs_board.specs.declared.view.Berth.TheVariants.{Vacant, Full}
 use Rattle.cs_desk.proofs.rest.clear.Goals as goal
 
 pub loop-note-init : goal.loop-note-init

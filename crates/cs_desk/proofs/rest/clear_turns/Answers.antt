@@ -4,8 +4,8 @@ use Rattle.cs_board.specs.Resting.{IsSole, known_in}
 use Rattle.cs_desk.specs.inner.Resting.{ClearsTurns}
 use Rattle.cs_desk.proofs.Ending.{next_written}
 use Rattle.cs_desk.proofs.Laying.{clears_none, clears_more}
-use Rattle.cs_rule.specs.Plans.{places_written}
-use Rattle.cs_rule.specs.Views.{with_word}
+use Rattle.cs_board.specs.Plans.{places_written}
+use Rattle.cs_board.specs.Views.{with_word}
 use Rattle.cs_desk.proofs.rest.clear_turns.Goals as goal
 
 pub loop-area-init : goal.loop-area-init

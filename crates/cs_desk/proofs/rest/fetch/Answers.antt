@@ -2,9 +2,9 @@ use Rattle.std.proofs.Common.{◌∷◌, Some, None, sym, ap, ◌∙◌, arith}
 use Rattle.atomic_table.specs.Table.{rest}
 use Rattle.cs_board.specs.Resting.{known_in}
 use Rattle.cs_desk.proofs.Sole.{sole_knows, sole_areas, sole_known, sole_after, told_reached, swapped, held_live, held_knows, held_carries, told_left}
-use Rattle.cs_rule.specs.Views.{with_home}
-use Rattle.cs_rule.specs.declared.view.Berth.TheVariants.{Vacant, Full}
-use Rattle.cs_rule.proofs.Rests.{reaches_slot, leaves_slot}
+use Rattle.cs_board.specs.Views.{with_home}
+use Rattle.cs_board.specs.declared.view.Berth.TheVariants.{Vacant, Full}
+use Rattle.cs_board.proofs.Rests.{reaches_slot, leaves_slot}
 use Rattle.cs_desk.proofs.rest.fetch.Goals as goal
 
 pub load-requires : goal.load-requires

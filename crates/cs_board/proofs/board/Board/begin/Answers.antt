@@ -3,8 +3,8 @@ use Rattle.cs_board.specs.Built.{IsBuilt}
 use Rattle.cs_board.specs.Resting.{areas_in, known_in}
 use Rattle.cs_board.specs.Seen.{plan_in, plan_seen}
 use Rattle.cs_board.proofs.Beginning.{first_seat}
-use Rattle.cs_rule.specs.Plans.{IsPlan}
-use Rattle.cs_rule.specs.Views.{plan_laid, opening_view}
+use Rattle.cs_board.specs.Plans.{IsPlan}
+use Rattle.cs_board.specs.Views.{plan_laid, opening_view}
 use Rattle.cs_board.proofs.board.Board.begin.Goals as goal
 
 -- the board's plan is the one that was laid out

@@ -2,8 +2,8 @@ use Rattle.std.proofs.Common.{arith}
 use Rattle.cs_board.specs.Board.{plan}
 use Rattle.cs_board.proofs.Stepping.{place_after, view_shut, told_shut}
 use Rattle.std.proofs.lemmas.Option.{slice_get_within}
-use Rattle.cs_rule.specs.Views.{shut}
-use Rattle.cs_rule.proofs.Kept.{closes_edge}
+use Rattle.cs_board.specs.Views.{shut}
+use Rattle.cs_board.proofs.Kept.{closes_edge}
 use Rattle.cs_board.proofs.board.Board.close_edge.Goals as goal
 
 pub swap-requires : goal.swap-requires

@@ -1,5 +1,5 @@
 use Rattle.std.proofs.Common.{arith}
-use Rattle.cs_rule.proofs.Rests.{ends_cycle}
+use Rattle.cs_board.proofs.Rests.{ends_cycle}
 use Rattle.cs_board.proofs.board.Board.end_cycle.Goals as goal
 
 pub load-requires : goal.load-requires

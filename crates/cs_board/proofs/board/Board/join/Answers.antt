@@ -1,6 +1,6 @@
 use Rattle.std.proofs.Common.{◌≡◌, sym, ap, ◌∙◌, arith}
 use Rattle.cs_board.specs.Board.{plan, view, first_of}
-use Rattle.cs_rule.proofs.Kept.{joins}
+use Rattle.cs_board.proofs.Kept.{joins}
 use Rattle.cs_board.proofs.board.Board.join.Goals as goal
 
 pub join_seat-requires : goal.join_seat-requires

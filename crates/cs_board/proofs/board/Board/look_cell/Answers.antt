@@ -4,9 +4,9 @@ use mir.Val.{SFits}
 use Rattle.std.proofs.lemmas.Int.{to_z-of_z}
 use Rattle.cs_board.specs.Board.{plan}
 use Rattle.cs_board.specs.inner.Sittings.{deed}
-use Rattle.cs_rule.specs.Plans.{uses_at}
-use Rattle.cs_rule.proofs.Kept.{looks}
-use Rattle.cs_rule.proofs.Conflicts.{used_within}
+use Rattle.cs_board.specs.Plans.{uses_at}
+use Rattle.cs_board.proofs.Kept.{looks}
+use Rattle.cs_board.proofs.Conflicts.{used_within}
 use Rattle.cs_board.proofs.board.Board.look_cell.Goals as goal
 
 pub load-found-requires : goal.load-found-requires

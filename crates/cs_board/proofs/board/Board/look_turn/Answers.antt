@@ -1,6 +1,6 @@
 use Rattle.std.proofs.Common.{arith}
 use Rattle.cs_board.specs.Board.{plan}
-use Rattle.cs_rule.proofs.Kept.{looks_at_turn}
+use Rattle.cs_board.proofs.Kept.{looks_at_turn}
 use Rattle.cs_board.proofs.board.Board.look_turn.Goals as goal
 
 pub load-requires : goal.load-requires

@@ -3,8 +3,8 @@ use Rattle.std.proofs.lemmas.List.Sums.{sum_by_more}
 use Rattle.cs_board.specs.Board.{plan}
 use Rattle.cs_board.specs.inner.Sittings.{deed, deed_in}
 use Rattle.cs_board.proofs.Turning.{few_used, used_there, few_writers, look_before}
-use Rattle.cs_rule.specs.Counts.{listed}
-use Rattle.cs_rule.specs.Plans.{places_used, writers_before}
+use Rattle.cs_board.specs.Counts.{listed}
+use Rattle.cs_board.specs.Plans.{places_used, writers_before}
 use Rattle.cs_board.proofs.board.Board.look_turns.Goals as goal
 
 pub look_turn-turns-requires-clause-area : goal.look_turn-turns-requires-clause-area

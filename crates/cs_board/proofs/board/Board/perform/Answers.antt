@@ -2,8 +2,8 @@ use Rattle.std.proofs.Common.{◌+◌, true, ap, ◌∙◌}
 use Rattle.cs_board.specs.Board.{plan}
 use Rattle.cs_board.specs.inner.Sittings.{deed_in}
 use Rattle.cs_board.proofs.Performing.{reimage, leaves_is}
-use Rattle.cs_rule.specs.Plans.{before_at}
-use Rattle.cs_rule.specs.Views.{fresh}
+use Rattle.cs_board.specs.Plans.{before_at}
+use Rattle.cs_board.specs.Views.{fresh}
 use Rattle.cs_board.proofs.board.Board.perform.Goals as goal
 
 pub returns-clause-me : goal.returns-clause-me

@@ -2,9 +2,9 @@ use Rattle.std.proofs.Common.{◌≡◌, ◌∷◌, Some, refl, sym, subst, arit
 use Rattle.cs_board.specs.Board.{plan}
 use Rattle.cs_board.specs.inner.Sittings.{job_out}
 use Rattle.cs_board.proofs.Stepping.{place_after, view_does, job_there}
-use Rattle.cs_rule.specs.Views.{does, fresh}
-use Rattle.cs_rule.specs.declared.view.Berth.TheVariants.{Full}
-use Rattle.cs_rule.proofs.Kept.{takes_job}
+use Rattle.cs_board.specs.Views.{does, fresh}
+use Rattle.cs_board.specs.declared.view.Berth.TheVariants.{Full}
+use Rattle.cs_board.proofs.Kept.{takes_job}
 use Rattle.cs_board.proofs.board.Board.reach_job.Goals as goal
 
 pub load-requires : goal.load-requires

@@ -4,8 +4,8 @@ use Rattle.cs_board.proofs.Performing.{used_of, written_of, works_at}
 use Rattle.cs_board.specs.inner.Banks.{bare}
 use Rattle.cs_board.specs.inner.Sittings.{deed_in}
 use Rattle.cs_cells.proofs.SerialRun.{length-before}
-use Rattle.cs_rule.specs.Plans.{uses_at, writes_at}
-use Rattle.cs_rule.proofs.Conflicts.{used_within}
+use Rattle.cs_board.specs.Plans.{uses_at, writes_at}
+use Rattle.cs_board.proofs.Conflicts.{used_within}
 use Rattle.cs_board.proofs.board.Board.run_job.Goals as goal
 
 pub run-requires-clause-get : goal.run-requires-clause-get

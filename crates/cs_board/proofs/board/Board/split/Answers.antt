@@ -1,6 +1,6 @@
 use Rattle.std.proofs.Common.{ap, ◌∙◌, arith}
 use Rattle.cs_board.specs.Board.{plan}
-use Rattle.cs_rule.proofs.Kept.{splits}
+use Rattle.cs_board.proofs.Kept.{splits}
 use Rattle.cs_board.proofs.board.Board.split.Goals as goal
 
 pub split_seat-other-requires : goal.split_seat-other-requires

@@ -1,5 +1,5 @@
 use Rattle.std.proofs.Common.{◌∷◌, sym, ap, ◌∙◌}
-use Rattle.cs_rule.specs.declared.view.Berth.TheVariants.{Full}
+use Rattle.cs_board.specs.declared.view.Berth.TheVariants.{Full}
 use Rattle.atomic_table.specs.Table.{rest}
 use Rattle.cs_board.proofs.board.Board.take_job.Goals as goal
 

@@ -2,8 +2,8 @@ use Rattle.std.proofs.Common.{◌≡◌, ◌+◌, sym, ap, ◌∙◌, subst, ari
 use Rattle.cs_board.specs.Board.{IsIdle}
 use Rattle.cs_board.specs.inner.Sittings.{Tries, AllTried, tried}
 use Rattle.cs_board.proofs.Trying.{tries_none, tries_more, all_more, idle_missed}
-use Rattle.cs_rule.specs.Plays.{Sat}
-use Rattle.cs_rule.specs.Views.{missed}
+use Rattle.cs_board.specs.Plays.{Sat}
+use Rattle.cs_board.specs.Views.{missed}
 use Rattle.cs_board.proofs.board.Board.try_first.Goals as goal
 
 pub returns-clause-lost : goal.returns-clause-lost

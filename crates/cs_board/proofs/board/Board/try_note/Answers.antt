@@ -2,7 +2,7 @@ use Rattle.std.proofs.Common.{arith}
 use Rattle.cs_board.specs.Board.{plan}
 use Rattle.cs_board.specs.inner.Sittings.{tried}
 use Rattle.cs_board.proofs.Stepping.{place_after, view_tried, told_tried}
-use Rattle.cs_rule.proofs.Kept.{claims}
+use Rattle.cs_board.proofs.Kept.{claims}
 use Rattle.cs_board.proofs.board.Board.try_note.Goals as goal
 
 pub compare_exchange-requires : goal.compare_exchange-requires

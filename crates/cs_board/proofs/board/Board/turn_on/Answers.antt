@@ -2,7 +2,7 @@ use Rattle.std.proofs.Common.{◌+◌, ◌-◌, refl, sym, ap, ◌∙◌, arith}
 use Rattle.cs_board.specs.Board.{plan}
 use Rattle.cs_board.specs.inner.Sittings.{deed}
 use Rattle.cs_board.proofs.Turning.{written_there, look_next, few_writers}
-use Rattle.cs_rule.specs.Plans.{writers_before}
+use Rattle.cs_board.specs.Plans.{writers_before}
 use Rattle.cs_board.proofs.board.Board.turn_on.Goals as goal
 
 pub look_turn-found-requires-clause-area : goal.look_turn-found-requires-clause-area

@@ -1,7 +1,7 @@
 use Rattle.std.proofs.Common.{refl, arith}
 use Rattle.cs_board.specs.Board.{plan}
 use Rattle.cs_board.specs.inner.Sittings.{ran_out}
-use Rattle.cs_rule.proofs.Kept.{turns_own}
+use Rattle.cs_board.proofs.Kept.{turns_own}
 use Rattle.cs_board.proofs.board.Board.turn_own.Goals as goal
 
 pub store-requires : goal.store-requires

@@ -3,7 +3,7 @@ use Rattle.cs_board.specs.Board.{plan}
 use Rattle.cs_board.specs.inner.Sittings.{stopped}
 use Rattle.cs_board.proofs.Stepping.{place_after, view_stopped, told_stopped}
 use Rattle.std.proofs.lemmas.Option.{slice_get_within}
-use Rattle.cs_rule.proofs.Kept.{watches_edge}
+use Rattle.cs_board.proofs.Kept.{watches_edge}
 use Rattle.cs_board.proofs.board.Board.watch_edge.Goals as goal
 
 pub compare_exchange-requires : goal.compare_exchange-requires

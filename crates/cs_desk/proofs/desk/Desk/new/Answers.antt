@@ -1,9 +1,9 @@
 use Rattle.std.proofs.Common.{[], Some, ◌+◌, length, replicate, sym, ap, ◌∙◌}
 use Rattle.std.proofs.lemmas.List.{length-replicate}
 use Rattle.cs_desk.proofs.Making.{desk_starts, desk_rests, row_long}
-use Rattle.cs_rule.specs.Views.{resting_view}
-use Rattle.cs_rule.specs.inner.Opening.{each_below}
-use Rattle.cs_rule.specs.declared.view.Berth.TheVariants.{Vacant}
+use Rattle.cs_board.specs.Views.{resting_view}
+use Rattle.cs_board.specs.Opening.{each_below}
+use Rattle.cs_board.specs.declared.view.Berth.TheVariants.{Vacant}
 use Rattle.cs_desk.proofs.desk.Desk.new.Goals as goal
 
 pub new-requires : goal.new-requires

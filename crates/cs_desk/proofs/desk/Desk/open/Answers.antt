@@ -6,7 +6,7 @@ use Rattle.cs_desk.proofs.Opening.{is_plan}
 use Rattle.cs_cells.specs.Cells.{signed}
 use Rattle.cs_cells.specs.Serial.{AllValid}
 use Rattle.cs_graph.specs.Graph.{LeadsForward, StandTogether, IsFit}
-use Rattle.cs_rule.specs.Views.{cells_laid}
+use Rattle.cs_board.specs.Views.{cells_laid}
 use Rattle.cs_desk.proofs.desk.Desk.open.Goals as goal
 
 pub begin-requires-clause-whole : goal.begin-requires-clause-whole

@@ -7,7 +7,7 @@ use Rattle.cs_base.proofs.Arithmetic.{clamp_same}
 use Rattle.cs_board.specs.Resting.{areas_in, known_in}
 use Rattle.cs_desk.proofs.Sole.{resting_set, sets_cell}
 use Rattle.cs_cells.specs.Cells.{values, signed}
-use Rattle.cs_rule.specs.Views.{cells_laid}
+use Rattle.cs_board.specs.Views.{cells_laid}
 use Rattle.cs_desk.proofs.desk.DeskBank.set.Goals as goal
 
 pub invariant_of-self : goal.invariant_of-self

@@ -1,0 +1,29 @@
+-- A note that a seat does, and the notes that seats finished.
+use Rattle.std.proofs.Common.{◌≡◌, ⊎_elim, sym, ap, ◌∙◌, arith}
+use Rattle.std.proofs.lemmas.Bool.{cases_eq}
+use Rattle.std.proofs.lemmas.List.{length-map}
+use Rattle.atomic_table.specs.Table.{State}
+use Rattle.cs_cells.specs.Meaning.{Meaning}
+use Rattle.cs_board.specs.Counts.{same}
+use Rattle.cs_board.specs.Laws.{DoneOnce, EarlierDone}
+use Rattle.cs_board.specs.Rule.{Holds}
+use Rattle.cs_board.specs.Words.{at}
+use Rattle.cs_board.specs.declared.view.Berth.{Berth}
+use Rattle.cs_board.specs.declared.view.Plan.{Plan}
+use Rattle.cs_board.specs.declared.view.View.{View}
+use Rattle.cs_board.proofs.Allowed.{status_is}
+use Rattle.cs_board.proofs.Conflicts.{past}
+use Rattle.cs_board.proofs.Does.{busy, apart}
+
+module _ {J : Type 0} (M : Meaning J) (k : Plan J) (s : State (Berth J) (View J)) (h : Holds M k s) where
+  pub done_once : DoneOnce k s
+  done_once = record {
+    doing = λ i j v w d e a b p q same_. ⊎_elim (λ y. y) (λ n. absurd (apart k h.parts.status s.views h.facts.doers i j v w d e n a b p q same_)) (cases_eq i j);
+    mine = λ t low. h.facts.tallied.having t ∙ ap (λ x. same x 3) (sym (status_is M k s h t low));
+  }
+
+  pub earlier_done : EarlierDone k s M
+  earlier_done id v d p e is c =
+      let running : at h.parts.status d.note ≡ 2 = busy k h.parts.status s.views h.facts.doers id v d e is in
+      status_is M k s h p (omega (arith, c.earlier, c.within, length-map k.jobs M.foot, h.plan.jobs))
+      ∙ past M k h.plan h.parts.status h.parts.watch h.facts.gates p d.note c (λ z. omega arith)

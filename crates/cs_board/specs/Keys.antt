@@ -1,0 +1,10 @@
+-- The view of the first seat, from what the table was made of.
+use Rattle.std.specs.Prelude.{Some, replicate}
+use Rattle.cs_board.specs.Views.{resting_view}
+use Rattle.cs_board.specs.declared.plays.Key.{Key}
+use Rattle.cs_board.specs.declared.view.Berth.TheVariants.{Vacant}
+use Rattle.cs_board.specs.declared.view.View.{View}
+
+-- it rests, with so many vacant slots
+abbrev pub first_view : {J : Type 0} → Key → View J
+first_view key = resting_view key.layout.value (record { words = key.words.value.items; homes = replicate key.slots.value (Some Vacant) })

@@ -1,0 +1,99 @@
+-- What each kind of step tells the worker that makes it: the view before and after, and what was found.
+-- st is the step, m the seat before it, r the number found in the word, n the seat after it; d is what the seat does, t its note,
+-- e an edge from note p to note t, j a job, a an address, x the place of a resource. M is what jobs mean.
+use Rattle.std.specs.Prelude.{◌≡◌, ◌≢◌, ℕ, ◌+◌, ◌<◌, [], ◌∷◌, length, Some, None, true, false, slice_get}
+use mathlib.Core.Option.{some}
+use Rattle.atomic_table.specs.Table.{Me, Step, rest}
+use Rattle.cs_cells.specs.Cells.{cell, signed}
+use Rattle.cs_cells.specs.Meaning.{Meaning}
+use Rattle.cs_graph.specs.Graph.{Edge, Dependencies}
+use Rattle.cs_board.specs.Facts.{turned_in}
+use Rattle.cs_board.specs.Plans.{uses_at, places_used, writers_before, area_count}
+use Rattle.cs_board.specs.Views.{does, set_image, next_phase, began, missed, ended, shut, settled, passed, opened, laid, with_word, with_home, graph_told, plan_laid, opening_view, resting_view}
+use Rattle.cs_board.specs.Counts.{listed}
+use Rattle.cs_board.specs.Words.{at, status_at, watch_at, turn_at, cell_at}
+use Rattle.cs_board.specs.declared.view.Doing.{Doing}
+use Rattle.cs_board.specs.Ending.{IsOver}
+use Rattle.cs_board.specs.declared.view.Berth.{Berth}
+use Rattle.cs_board.specs.declared.view.Berth.TheVariants.{Full}
+use Rattle.cs_board.specs.declared.view.Still.{Still}
+use Rattle.cs_board.specs.declared.view.View.{View}
+use Rattle.cs_board.specs.declared.words.TheConstants.{AVAILABLE, IDLE}
+
+-- a seat's view and the slots that it has taken, and what a step tells of it before, of the number found and of it after
+abbrev pub Sat : Type 0 → Type 0
+Sat J = Me (Berth J) (View J)
+
+abbrev pub Tells : Type 0 → Type 1
+Tells J = Step (Berth J) → Sat J → ℕ → Sat J → Type 0
+
+module _ {J : Type 0} where
+  -- the job is out of its slot
+  abbrev pub took : Tells J
+  took st m r n = (d : Doing) (j : J) → m.0.doing ≡ Some d → slice_get m.0.plan.jobs d.note ≡ Some j → d.phase ≡ 0
+      → n ≡ (does m.0 (record d { held = true }), (d.note, Full j) ∷ m.1)
+
+  abbrev pub gave : Tells J
+  gave st m r n = (d : Doing) → m.0.doing ≡ Some d → n ≡ (does m.0 (record d { held = false }), rest m.1)
+
+  abbrev pub set_cell : Tells J
+  set_cell st m r n = (a : ℕ) (d : Doing) → st.word ≡ cell_at a → m.0.doing ≡ Some d
+      → n ≡ (does m.0 (set_image d a (signed st.first)), m.1)
+
+  abbrev pub turned : Tells J
+  turned st m r n = (d : Doing) → m.0.doing ≡ Some d → n ≡ (does m.0 (next_phase d), m.1)
+
+  abbrev pub finished : Tells J
+  finished st m r n = (t : ℕ) → st.word ≡ status_at m.0.plan t → n ≡ (ended m.0 t, m.1)
+
+  abbrev pub closed : Tells J
+  closed st m r n = (e p t : ℕ) → st.word ≡ watch_at m.0.plan e → Edge m.0.plan.edges e p t → n ≡ (shut m.0 e p t r, m.1)
+
+  abbrev pub watched : Tells J
+  watched st m r n = (e p t : ℕ) → st.word ≡ watch_at m.0.plan e → Edge m.0.plan.edges e p t
+      → (r ≡ IDLE → n ≡ (settled m.0, m.1)) × (r ≢ IDLE → n ≡ (passed m.0 t e, m.1))
+
+  abbrev pub opens : Tells J
+  opens st m r n = (t : ℕ) → st.word ≡ status_at m.0.plan t → n ≡ (opened m.0 t, m.1)
+
+  -- while the board rests: a word is set, or read
+  abbrev pub lays : Tells J
+  lays st m r n = (w : Still J) → m.0.rest ≡ Some w → n ≡ (laid m.0 (with_word w st.word st.first), m.1)
+
+  abbrev pub reads : Tells J
+  reads st m r n = (n ≡ m) × ((w : Still J) → m.0.rest ≡ Some w → r ≡ at w.words st.word)
+
+  -- what lies in a slot is taken, or left there
+  abbrev pub reaches : Tells J
+  reaches st m r n = (w : Still J) (b : Berth J) → m.0.rest ≡ Some w → slice_get w.homes st.word ≡ Some (Some b)
+      → n ≡ (laid m.0 (with_home w st.word None), (st.word, b) ∷ m.1)
+
+  abbrev pub leaves : Tells J
+  leaves st m r n = (w : Still J) (t : ℕ) (b : Berth J) → m.0.rest ≡ Some w → m.1 ≡ (t, b) ∷ []
+      → n ≡ (laid m.0 (with_home w t (Some b)), [])
+
+  -- the cycle of these jobs, over these cells, begins
+  abbrev pub begins : Tells J
+  begins st m r n = (w : Still J) (b : Berth J) (graph : Dependencies) → m.0.rest ≡ Some w → st.said ≡ some b → graph_told b ≡ Some graph
+      → n ≡ (opening_view (plan_laid m.0.plan.areas w graph), m.1)
+
+module _ {J : Type 0} (M : Meaning J) where
+  -- note t was Available and is this seat's now, or it was found otherwise
+  abbrev pub claimed : Tells J
+  claimed st m r n = (t : ℕ) → st.word ≡ status_at m.0.plan t
+      → (r ≡ AVAILABLE → n ≡ (began M m.0 t, m.1)) × (r ≢ AVAILABLE → n ≡ (missed m.0 t, m.1))
+
+  -- the cell found is the image's
+  abbrev pub looked : Tells J
+  looked st m r n = (n ≡ m) × ((a : ℕ) (d : Doing) → st.word ≡ cell_at a → a < length m.0.plan.cells
+      → m.0.doing ≡ Some d → uses_at M m.0.plan d.note a ≡ true → signed r ≡ cell d.image a)
+
+  -- the turn word found counts the earlier notes that write the resource, and this note once it has made its turn there
+  abbrev pub looked_turn : Tells J
+  looked_turn st m r n = (n ≡ m) × ((x : ℕ) (d : Doing) → st.word ≡ turn_at m.0.plan x → x < area_count m.0.plan
+      → m.0.doing ≡ Some d → listed (places_used M m.0.plan d.note) x ≡ true
+      → r ≡ writers_before M m.0.plan d.note x + turned_in M m.0.plan x m.0.doing)
+
+  -- the board rests, with what the serial run leaves
+  abbrev pub ends : Tells J
+  ends st m r n = (w : Still J) × IsOver m.0.plan M w × (length w.homes ≡ st.slots) × (n ≡ (resting_view m.0.plan.areas w, m.1))

@@ -1,0 +1,200 @@
+// The board's rule as a rule of a table, and what each kind of step tells.
+use crate::view::{Berth, View};
+use atomic_table::{Join, Play, Split as Cut, TableRule};
+use cs_cells::{Job, Layout};
+use std::snapshot::Snapshot;
+
+/// What the table is told when it is made: the layout, the words, and the number of slots. It has
+/// no bytes.
+#[derive(Drop)]
+pub struct Key {
+    pub layout: Snapshot<Layout>,
+    pub words: Snapshot<Vec<u64>>,
+    pub slots: Snapshot<u32>,
+}
+
+pub struct Rule;
+
+impl<J: Job> TableRule<Berth<J>, View<J>, Key> for Rule {
+    ghost use Rattle.cs_board.specs.Keys.{first_view};
+    ghost use Rattle.cs_board.specs.Rule.{Always};
+
+    ghost holds = { λ key. Always J.means };
+
+    ghost first = { λ key. first_view key };
+}
+
+/// An Available note becomes InProgress, and is the seat's.
+pub struct Claim;
+
+impl<J: Job> Play<Berth<J>, View<J>> for Claim {
+    ghost use Rattle.cs_board.specs.Plays.{claimed};
+
+    ghost then = { claimed J.means };
+}
+
+/// The job leaves its slot, at a load of word 0.
+pub struct Take;
+
+impl<J> Play<Berth<J>, View<J>> for Take {
+    ghost use Rattle.cs_board.specs.Plays.{took};
+
+    ghost then = { took };
+}
+
+/// A cell is read.
+pub struct Look;
+
+impl<J: Job> Play<Berth<J>, View<J>> for Look {
+    ghost use Rattle.cs_board.specs.Plays.{looked};
+
+    ghost then = { looked J.means };
+}
+
+/// A cell is set.
+pub struct Set;
+
+impl<J> Play<Berth<J>, View<J>> for Set {
+    ghost use Rattle.cs_board.specs.Plays.{set_cell};
+
+    ghost then = { set_cell };
+}
+
+/// A turn word is read.
+pub struct LookTurn;
+
+impl<J: Job> Play<Berth<J>, View<J>> for LookTurn {
+    ghost use Rattle.cs_board.specs.Plays.{looked_turn};
+
+    ghost then = { looked_turn J.means };
+}
+
+/// The note's own turn is made, and then its turn on a resource that it writes.
+pub struct Turn;
+
+impl<J> Play<Berth<J>, View<J>> for Turn {
+    ghost use Rattle.cs_board.specs.Plays.{turned};
+
+    ghost then = { turned };
+}
+
+/// The job goes back into its slot, at a load of word 0.
+pub struct Give;
+
+impl<J> Play<Berth<J>, View<J>> for Give {
+    ghost use Rattle.cs_board.specs.Plays.{gave};
+
+    ghost then = { gave };
+}
+
+/// The note is Done.
+pub struct Finish;
+
+impl<J> Play<Berth<J>, View<J>> for Finish {
+    ghost use Rattle.cs_board.specs.Plays.{finished};
+
+    ghost then = { finished };
+}
+
+/// An edge from the note is closed.
+pub struct Close;
+
+impl<J> Play<Berth<J>, View<J>> for Close {
+    ghost use Rattle.cs_board.specs.Plays.{closed};
+
+    ghost then = { closed };
+}
+
+/// A waiting note watches its next edge, unless that is closed.
+pub struct Watch;
+
+impl<J> Play<Berth<J>, View<J>> for Watch {
+    ghost use Rattle.cs_board.specs.Plays.{watched};
+
+    ghost then = { watched };
+}
+
+/// A waiting note that has no edge left to watch is Available.
+pub struct Open;
+
+impl<J> Play<Berth<J>, View<J>> for Open {
+    ghost use Rattle.cs_board.specs.Plays.{opens};
+
+    ghost then = { opens };
+}
+
+/// A word is set while the board rests.
+pub struct Lay;
+
+impl<J> Play<Berth<J>, View<J>> for Lay {
+    ghost use Rattle.cs_board.specs.Plays.{lays};
+
+    ghost then = { lays };
+}
+
+/// A word is read while the board rests.
+pub struct Read;
+
+impl<J> Play<Berth<J>, View<J>> for Read {
+    ghost use Rattle.cs_board.specs.Plays.{reads};
+
+    ghost then = { reads };
+}
+
+/// A slot is taken while the board rests, at a load of the word with its number.
+pub struct Reach;
+
+impl<J> Play<Berth<J>, View<J>> for Reach {
+    ghost use Rattle.cs_board.specs.Plays.{reaches};
+
+    ghost then = { reaches };
+}
+
+/// The slot that was taken is given back while the board rests.
+pub struct Leave;
+
+impl<J> Play<Berth<J>, View<J>> for Leave {
+    ghost use Rattle.cs_board.specs.Plays.{leaves};
+
+    ghost then = { leaves };
+}
+
+/// A cycle begins, whose graph the step is told.
+pub struct Begin;
+
+impl<J> Play<Berth<J>, View<J>> for Begin {
+    ghost use Rattle.cs_board.specs.Plays.{begins};
+
+    ghost then = { begins };
+}
+
+/// A cycle has ended: the board rests.
+pub struct End;
+
+impl<J: Job> Play<Berth<J>, View<J>> for End {
+    ghost use Rattle.cs_board.specs.Plays.{ends};
+
+    ghost then = { ends J.means };
+}
+
+/// A seat is split off the first one.
+pub struct Split;
+
+impl<J> Cut<View<J>> for Split {
+    ghost use Rattle.cs_board.specs.Views.{kept_view, given_view};
+
+    ghost left = { kept_view };
+
+    ghost right = { given_view };
+}
+
+/// The first seat takes in another.
+pub struct Gather;
+
+impl<J> Join<View<J>> for Gather {
+    ghost use Rattle.cs_board.specs.Views.{joined, spent_view};
+
+    ghost both = { joined };
+
+    ghost spent = { spent_view };
+}
