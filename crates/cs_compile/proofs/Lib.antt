@@ -4,3 +4,4 @@ pub mod Once
 pub mod Parts
 pub mod Sizes
 pub mod Some
+pub mod Told

@@ -22,7 +22,7 @@ use Rattle.cs_tempo.specs.declared.plot.Plot.{Plot}
 use Rattle.cs_typed.specs.TypedTree as typed
 use Rattle.cs_typing.specs.Typing.{judged, type_fault, typed_of}
 use Rattle.cs_compile.specs.Then.{Is}
-use Rattle.cs_course.specs.Moments.{Composition}
+use Rattle.cs_piece_meaning.specs.Moments.{Composition}
 use Rattle.cs_compile.specs.Meaning.{HasHead, IsPlayedAs, no_longer_than, orchestra_means, orchestra_plays, passed_if, piece_of, plotted, refused_as, score_means, short_texts_mean, typed_form, unless_passed}
 use Rattle.cs_compile.specs.declared.refusal.Refusal.{Refusal}
 use Rattle.cs_compile.specs.declared.refusal.Refusal.TheVariants as why

@@ -9,8 +9,8 @@ use Rattle.cs_score.specs.Sizes.{HaveOneSize, IsOneSize}
 use Rattle.cs_score.specs.declared.statement.ScoreStmt.{ScoreStmt}
 use Rattle.cs_score.specs.declared.statement.ScoreWhat.{ScoreWhat}
 use Rattle.cs_score.specs.declared.statement.ScoreWhat.TheVariants.{Note, Hold, Stop, Table, Extend, Tempo, Section}
-use Rattle.cs_setup.specs.Compositions.{Given, given_by, given_in}
-use Rattle.cs_setup.specs.Setups.{AreOfOneSize}
+use Rattle.cs_piece.specs.Compositions.{Given, given_by, given_in}
+use Rattle.cs_piece.specs.Setups.{AreOfOneSize}
 use Rattle.cs_tempo.specs.declared.plot.Event.{Event}
 use Rattle.cs_tempo.specs.Order.{has_turn, in_order, order_of, put}
 use Rattle.cs_tempo.specs.Pairing.{stop_of}

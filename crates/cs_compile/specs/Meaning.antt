@@ -11,14 +11,14 @@ use Rattle.cs_cells.specs.Areas.{limit_passed}
 use Rattle.cs_compile.specs.Then.{Is, Then}
 use Rattle.cs_compile.specs.declared.refusal.Refusal.{Refusal}
 use Rattle.cs_compile.specs.declared.refusal.Refusal.TheVariants as why
-use Rattle.cs_course.specs.Moments.{Composition}
+use Rattle.cs_piece_meaning.specs.Moments.{Composition}
 use Rattle.cs_grammar.specs.Orchestra.{ParseFault, Tree}
 use Rattle.cs_grammar.specs.Tree as tree
 use Rattle.cs_lex.specs.Lexed.{LexFault, Lexed}
 use Rattle.cs_lex.specs.declared.token.Token.{Token}
 use Rattle.cs_score.specs.Statements.{score_of}
 use Rattle.cs_score.specs.declared.statement.ScoreStmt.{ScoreStmt}
-use Rattle.cs_setup.specs.Compositions.{areas_in, composition}
+use Rattle.cs_piece.specs.Compositions.{areas_in, composition}
 use Rattle.cs_tempo.specs.Limits.{limit_of}
 use Rattle.cs_tempo.specs.Plot.{plot_of}
 use Rattle.cs_tempo.specs.declared.plot.Plot.{Plot}

@@ -2,7 +2,7 @@
 ghost use Rattle.std.specs.Prelude.{◌≡◌, ℕ, Bool, List, Result};
 ghost use Rattle.cs_compile.specs.Meaning.{means};
 ghost use Rattle.cs_compile.specs.declared.refusal.Refusal.{Refusal};
-ghost use Rattle.cs_course.specs.Moments.{Composition};
+ghost use Rattle.cs_piece_meaning.specs.Moments.{Composition};
 
 use cs_grammar::one_reading as one_tree;
 use cs_lex::one_reading as one_list_of_tokens;

@@ -10,20 +10,20 @@ ghost use Rattle.cs_compile.specs.declared.refusal.Refusal.{Refusal};
 ghost use Rattle.cs_compile.specs.declared.refusal.Refusal.TheVariants as why;
 ghost use Rattle.cs_grammar.specs.Tree as tree;
 ghost use Rattle.cs_grammar.specs.WellFormed.{IsWellFormed};
-ghost use Rattle.cs_named.specs.Names.{NamesWhatThereIs};
+ghost use Rattle.cs_name_laws.specs.Names.{NamesWhatThereIs};
 ghost use Rattle.cs_typed.specs.TypedTree as typed;
 ghost use Rattle.cs_typed.specs.WellRated.{IsWellRated};
 ghost use Rattle.cs_typing.specs.Typing.{typed_of};
 
-use crate::refusal::Refusal;
+use crate::refusal::{Refusal, of_expansion, of_orchestra};
 use cs_base::{Or, OrcFault};
-use cs_frames::expansions_can_be_lowered;
 use cs_grammar::{Orc, parse, trees_are_well_formed};
 use cs_lex::lex;
-use cs_named::typed_trees_name_what_there_is;
+use cs_name_laws::typed_trees_name_what_there_is;
 use cs_typed::TypedOrc;
 use cs_typing::{type_orc, typing_is_well_rated};
-use cs_udo::{ExpandFault, expand};
+use cs_udo::expand;
+use cs_udo_meaning::expansions_can_be_lowered;
 use std::alloc::Global;
 
 /// The typed orchestra that a text of at most 1,048,576 bytes means, or its first refusal by itself.
@@ -46,11 +46,7 @@ fn read_tree(alloc: Global, text: &[u8]) -> Result<Orc, Or<Refusal>>
     ensures well_formed { IfOk result (λ orc. IsWellFormed (tree.orchestra orc)) }
     ensures refused { (r : Refusal) → result ≡ Err (or.Fault r) → IsReadAs text.now (Err r) }
 {
-    match tree_of(alloc, text) {
-        Ok(tree) => Ok(tree),
-        Err(Or::Fault(fault)) => Err(Or::Fault(Refusal::Orc(fault))),
-        Err(Or::OutOfMemory) => Err(Or::OutOfMemory),
-    }
+    of_orchestra(tree_of(alloc, text))
 }
 
 // The tree of a text, or its first fault.
@@ -88,12 +84,7 @@ fn expanded(alloc: Global, orc: Orc) -> Result<Orc, Or<Refusal>>
     ensures refused { (r : Refusal) → result ≡ Err (or.Fault r) → expanded (tree.orchestra orc) ≡ Err r }
 {
     expansions_can_be_lowered();
-    match expand(alloc, orc) {
-        Ok(expanded) => Ok(expanded),
-        Err(Or::Fault(ExpandFault::Orc(fault))) => Err(Or::Fault(Refusal::Orc(fault))),
-        Err(Or::Fault(ExpandFault::Limit(hit))) => Err(Or::Fault(Refusal::Limit(hit))),
-        Err(Or::OutOfMemory) => Err(Or::OutOfMemory),
-    }
+    of_expansion(expand(alloc, orc))
 }
 
 // The typed form of an expanded tree, or the refusal of its first broken rule of rates and names.
@@ -107,9 +98,5 @@ fn typed_form(alloc: Global, orc: &Orc) -> Result<TypedOrc, Or<Refusal>>
 {
     typing_is_well_rated();
     typed_trees_name_what_there_is();
-    match type_orc(alloc, orc) {
-        Ok(typed) => Ok(typed),
-        Err(Or::Fault(fault)) => Err(Or::Fault(Refusal::Orc(fault))),
-        Err(Or::OutOfMemory) => Err(Or::OutOfMemory),
-    }
+    of_orchestra(type_orc(alloc, orc))
 }

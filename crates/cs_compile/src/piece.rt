@@ -7,18 +7,18 @@ ghost use Rattle.cs_code.specs.Lowered.{all_numbers};
 ghost use Rattle.cs_compile.specs.Meaning.{is_too_long, means, piece_of, short_texts_mean};
 ghost use Rattle.cs_compile.specs.declared.refusal.Refusal.{Refusal};
 ghost use Rattle.cs_compile.specs.declared.refusal.Refusal.TheVariants as why;
-ghost use Rattle.cs_named.specs.Names.{NamesWhatThereIs};
-ghost use Rattle.cs_setup.specs.Setups.{AreOfOneSize, composition_of};
+ghost use Rattle.cs_name_laws.specs.Names.{NamesWhatThereIs};
+ghost use Rattle.cs_piece.specs.Setups.{AreOfOneSize, composition_of};
 ghost use Rattle.cs_tempo.specs.Performable.{IsPerformable};
 ghost use Rattle.cs_typed.specs.TypedTree as typed;
 ghost use Rattle.cs_typed.specs.WellRated.{IsWellRated};
 ghost use Rattle.cs_wav.specs.Wav.{bytes_of, size_of};
 
 use crate::orchestra::read_orchestra;
-use crate::refusal::Refusal;
-use crate::score::read_plot;
-use cs_base::{Head, Limit, LimitHit, MOST_ORCHESTRA_BYTES, MOST_SCORE_BYTES, MOST_WAV_BYTES, Or};
-use cs_setup::Setup;
+use crate::refusal::{Refusal, of_limit, passed, unless_long};
+use crate::score::read_plot_beside;
+use cs_base::{Head, Limit, MOST_ORCHESTRA_BYTES, MOST_SCORE_BYTES, MOST_WAV_BYTES, Or};
+use cs_piece::Setup;
 use cs_tempo::Plot;
 use cs_typed::TypedOrc;
 use std::alloc::Global;
@@ -45,13 +45,6 @@ pub fn compile(
     compile_short(alloc, orchestra, score, wide)
 }
 
-// The refusal of a limit that no line passes.
-fn passed(limit: Limit) -> Refusal
-    ensures { result ≡ why.Limit (record { limit = limit; line = 0 }) }
-{
-    Refusal::Limit(LimitHit { limit, line: 0 })
-}
-
 // The same of texts that are not too long.
 fn compile_short(
     alloc: Global,
@@ -66,8 +59,9 @@ fn compile_short(
     ensures refused { (r : Refusal) → result ≡ Err (or.Fault r) → short_texts_mean wide orchestra.now score.now (Err r) }
 {
     let typed = read_orchestra(alloc, orchestra)?;
-    let plot = read_plot(alloc, score, &typed.head)?;
-    prepared(alloc, typed, plot, wide)
+    let head = typed.head;
+    let read = read_plot_beside(alloc, score, &head, typed)?;
+    prepared(alloc, read.0, read.1, wide)
 }
 
 // What an orchestra and a plot need to be performed, or the refusal of the first limit that they pass together.
@@ -87,16 +81,7 @@ fn prepared(
     ensures refused { (r : Refusal) → result ≡ Err (or.Fault r) → piece_of wide (typed.orchestra orchestra) orchestra.head plot ≡ Err r }
 {
     let too_long = is_too_long(wide, &orchestra.head, plot.cycles);
-    match Setup::new(alloc, orchestra, plot) {
-        Ok(setup) => {
-            if too_long {
-                return Err(Or::Fault(passed(Limit::WavBytes)));
-            }
-            Ok(setup)
-        }
-        Err(Or::Fault(hit)) => Err(Or::Fault(Refusal::Limit(hit))),
-        Err(Or::OutOfMemory) => Err(Or::OutOfMemory),
-    }
+    unless_long(too_long, of_limit(Setup::new(alloc, orchestra, plot)))
 }
 
 // Whether the samples of a piece have more bytes than a sound file may have.

@@ -6,10 +6,10 @@ ghost use Rattle.cs_compile.specs.Meaning.{plotted, score_means};
 ghost use Rattle.cs_compile.specs.declared.refusal.Refusal.{Refusal};
 ghost use Rattle.cs_score.specs.Limits.{limit_of_score};
 ghost use Rattle.cs_score.specs.Ranges.{IsInRange};
-ghost use Rattle.cs_setup.specs.Setups.{AreOfOneSize};
+ghost use Rattle.cs_piece.specs.Setups.{AreOfOneSize};
 ghost use Rattle.cs_tempo.specs.Performable.{IsPerformable};
 
-use crate::refusal::Refusal;
+use crate::refusal::{Refusal, of_limit};
 use cs_base::{Head, Or};
 use cs_score::{ScoreRefusal, ScoreStmts, read_score, tables_keep_one_size};
 use cs_tempo::{Plot, schedule};
@@ -40,9 +40,23 @@ fn plotted(alloc: Global, score: &ScoreStmts, head: &Head) -> Result<Plot, Or<Re
     ensures performable { IfOk result (IsPerformable head.now) }
     ensures refused { (r : Refusal) → result ≡ Err (or.Fault r) → plotted head.now score.now ≡ Err r }
 {
-    match schedule(alloc, score, head) {
-        Ok(plot) => Ok(plot),
-        Err(Or::Fault(hit)) => Err(Or::Fault(Refusal::Limit(hit))),
-        Err(Or::OutOfMemory) => Err(Or::OutOfMemory),
-    }
+    of_limit(schedule(alloc, score, head))
+}
+
+/// The same, with a value that is handed on.
+pub fn read_plot_beside<T: Drop>(
+    alloc: Global,
+    text: &[u8],
+    head: &Head,
+    value: T,
+) -> Result<(T, Plot), Or<Refusal>>
+    requires { length text.now ≤ most_score_bytes }
+    ensures value { IfOk result (λ r. r.0 ≡ value) }
+    ensures plot { IfOk result (λ r. score_means head.now text.now (Ok r.1)) }
+    ensures performable { IfOk result (λ r. IsPerformable head.now r.1) }
+    ensures sizes { IfOk result (λ r. AreOfOneSize r.1.events) }
+    ensures refused { (r : Refusal) → result ≡ Err (or.Fault r) → score_means head.now text.now (Err r) }
+{
+    let plot = read_plot(alloc, text, head)?;
+    Ok((value, plot))
 }

@@ -6,8 +6,8 @@ use Rattle.cs_base.specs.Limits.{most_notes}
 use Rattle.cs_cells.specs.Cells.{Cells, cell}
 use Rattle.cs_cells.specs.declared.footprint.Area.{Area}
 use Rattle.cs_cells.specs.declared.footprint.Footprint.{Footprint}
-use Rattle.cs_course.specs.Moments.{Composition, Active, Moment, clock_of}
-use Rattle.cs_course.specs.Starts.{Start, all_asked, begun, has_room, in_vain, initialised, start_in, started, time_of}
+use Rattle.cs_piece_meaning.specs.Moments.{Composition, Active, Moment, clock_of}
+use Rattle.cs_piece_meaning.specs.Starts.{Start, all_asked, begun, has_room, in_vain, initialised, start_in, started, time_of}
 use Rattle.cs_ir.specs.Asks.{ask_of}
 use Rattle.cs_ir.specs.Instruments.{Numbered}
 use Rattle.cs_ir.specs.declared.ask.Ask.{Ask}
@@ -24,10 +24,10 @@ use Rattle.cs_meaning.specs.Notes.{Note}
 use Rattle.cs_meaning.specs.Plain.{Plain}
 use Rattle.cs_sched.specs.Times as times
 use Rattle.cs_sched.specs.Waiting.{Queue}
-use Rattle.cs_setup.specs.Ready.{IsInstrumentOf, IsStageOf}
-use Rattle.cs_sounding.specs.Voices as sounding
-use Rattle.cs_start.specs.Starts.{IsStarted, sheet_at}
-use Rattle.cs_start.specs.declared.note.Started.{Started}
+use Rattle.cs_piece.specs.Ready.{IsInstrumentOf, IsStageOf}
+use Rattle.cs_voice_meaning.specs.Voices as sounding
+use Rattle.cs_voice.specs.Starts.{IsStarted, sheet_at}
+use Rattle.cs_voice.specs.declared.note.Started.{Started}
 use Rattle.cs_voice.specs.VoiceData.{VoiceData}
 use Rattle.cs_voice.specs.declared.stage.Stage.{Stage}
 

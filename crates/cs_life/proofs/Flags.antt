@@ -11,10 +11,10 @@ use Rattle.cs_ir.specs.Instruments.{Numbered}
 use Rattle.cs_ir.specs.declared.op.Act.{Act}
 use Rattle.cs_ir.specs.declared.op.Act.TheVariants as act
 use Rattle.cs_ir.specs.declared.op.Op.{Op}
-use Rattle.cs_course.specs.Moments.{Composition, Active}
+use Rattle.cs_piece_meaning.specs.Moments.{Composition, Active}
 use Rattle.cs_meaning.specs.Plain.{Table, find_table}
-use Rattle.cs_start.specs.Starts.{sheet_at}
-use Rattle.cs_start.specs.Tables.{table_at, tables_of}
+use Rattle.cs_voice.specs.Starts.{sheet_at}
+use Rattle.cs_voice.specs.Tables.{table_at, tables_of}
 use Rattle.cs_voice.specs.Memory.{frozen_in, table_of}
 use Rattle.cs_voice.specs.VoiceData.{VoiceData, IsSheetFor, OpsStoreInto, StoresInto, made}
 use Rattle.cs_voice.specs.declared.stage.Stage.{Stage}

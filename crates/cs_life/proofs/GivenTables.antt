@@ -14,9 +14,9 @@ use Rattle.cs_tempo.specs.declared.plot.EventAct.{EventAct}
 use Rattle.cs_tempo.specs.declared.plot.EventAct.TheVariants as act
 use Rattle.cs_tempo.specs.declared.plot.Plot.{Plot}
 use Rattle.cs_typed.specs.TypedTree as typed
-use Rattle.cs_setup.specs.Compositions.{composition}
-use Rattle.cs_setup.specs.Setups.{AreOfOneSize}
-use Rattle.cs_setup.specs.Tables.{Given, firsts, given_by, given_in, table_in, tables_in}
+use Rattle.cs_piece.specs.Compositions.{composition}
+use Rattle.cs_piece.specs.Setups.{AreOfOneSize}
+use Rattle.cs_piece.specs.Tables.{Given, firsts, given_by, given_in, table_in, tables_in}
 use Rattle.cs_life.specs.inner.Doing.{CanBeDone}
 
 -- ---- what stands among what

@@ -6,11 +6,11 @@ use Rattle.std.proofs.lemmas.Bool.Decides.{nat_tests}
 use Rattle.std.proofs.lemmas.List.{take_all, take_more}
 use Rattle.cs_cells.specs.Areas.{word_count}
 use Rattle.cs_cells.specs.Cells.{Cells}
-use Rattle.cs_course.specs.Course.{begins, events_in, still}
-use Rattle.cs_course.specs.Moments.{Active, Composition, Moment}
-use Rattle.cs_course.specs.Starts.{act_done, all_done, all_waited, made_table, start_in}
+use Rattle.cs_piece_meaning.specs.Course.{begins, events_in, still}
+use Rattle.cs_piece_meaning.specs.Moments.{Active, Composition, Moment}
+use Rattle.cs_piece_meaning.specs.Starts.{act_done, all_done, all_waited, made_table, start_in}
 use Rattle.cs_gen.specs.Points.{points_of}
-use Rattle.cs_setup.specs.Setups.{composition_of}
+use Rattle.cs_piece.specs.Setups.{composition_of}
 use Rattle.cs_tempo.specs.declared.plot.Event.{Event}
 use Rattle.cs_tempo.specs.declared.plot.EventAct.{EventAct}
 use Rattle.cs_tempo.specs.declared.plot.EventAct.TheVariants as act

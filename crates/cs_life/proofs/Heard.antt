@@ -5,12 +5,12 @@ use Rattle.std.proofs.lemmas.List.Elements.{All-cons, All-nil}
 use Rattle.std.proofs.lemmas.Slice.Zip.{AllZip-long}
 use Rattle.cs_base.specs.Numbers.{total}
 use Rattle.cs_cells.specs.Cells.{Cells}
-use Rattle.cs_course.specs.Course.{begins, moment_at, performed}
-use Rattle.cs_course.specs.Heard.{mix_in, sum_at as sum_of_notes}
-use Rattle.cs_course.specs.Moments.{Composition, Active, Moment}
-use Rattle.cs_mix.specs.Mixing.{mixed, sum_at as sum_of_voices}
-use Rattle.cs_registers.specs.Outputs.{outs}
-use Rattle.cs_setup.specs.Ready.{IsStageOf}
+use Rattle.cs_piece_meaning.specs.Course.{begins, moment_at, performed}
+use Rattle.cs_piece_meaning.specs.Heard.{mix_in, sum_at as sum_of_notes}
+use Rattle.cs_piece_meaning.specs.Moments.{Composition, Active, Moment}
+use Rattle.cs_voice.specs.Mixing.{mixed, sum_at as sum_of_voices}
+use Rattle.cs_machine.specs.Outputs.{outs}
+use Rattle.cs_piece.specs.Ready.{IsStageOf}
 use Rattle.cs_typed.specs.Places.{Header}
 use Rattle.cs_voice.specs.VoiceData.{VoiceData}
 use Rattle.cs_voice.specs.declared.stage.Stage.{Stage}

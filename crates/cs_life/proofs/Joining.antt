@@ -4,7 +4,7 @@ use Rattle.std.specs.List.{AllWithin, AllZip, insert}
 use Rattle.std.specs.List.Sorted.{IsNonDecreasingBy, IsPartitionPoint}
 use Rattle.std.proofs.lemmas.Bool.Decides.{nat_tests}
 use Rattle.std.proofs.lemmas.List.Sorted.{IsNonDecreasingBy-insert}
-use Rattle.cs_course.specs.Moments.{Composition, Active, at_most, placed}
+use Rattle.cs_piece_meaning.specs.Moments.{Composition, Active, at_most, placed}
 use Rattle.cs_life.proofs.Places.{back, front, zip_at, zip_long}
 use Rattle.cs_life.specs.Standing.{Plays}
 use Rattle.cs_life.specs.inner.Starting.{Joined}

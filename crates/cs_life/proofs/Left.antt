@@ -6,7 +6,7 @@ use Rattle.std.specs.List.Sorted.{IsNonDecreasingBy}
 use Rattle.std.proofs.lemmas.List.Kept.{IsNonDecreasingBy-filter}
 use Rattle.std.proofs.lemmas.Slice.Zip.{AllZip-long}
 use Rattle.cs_cells.specs.Cells.{Cells}
-use Rattle.cs_course.specs.Moments.{Composition, Active, Moment}
+use Rattle.cs_piece_meaning.specs.Moments.{Composition, Active, Moment}
 use Rattle.cs_voice.specs.VoiceData.{VoiceData}
 use Rattle.cs_voice.specs.declared.stage.Stage.{Stage}
 use Rattle.cs_life.specs.Leaving.{without}

@@ -12,15 +12,15 @@ use Rattle.cs_cells.specs.declared.footprint.Footprint.{Footprint}
 use Rattle.cs_meaning.specs.Initialising.{init_block}
 use Rattle.cs_meaning.specs.Notes.{new_note, start}
 use Rattle.cs_meaning.specs.Plain.{Table, fresh, plain}
-use Rattle.cs_sounding.specs.Placing.{area_of, wave_in, wave_of}
-use Rattle.cs_sounding.specs.Voices.{initialised}
-use Rattle.cs_note.specs.VoicesOfNotes.{Hold}
-use Rattle.cs_start.specs.Starts.{piece_at, sheet_at}
-use Rattle.cs_course.specs.Course.{opening, outside_done}
-use Rattle.cs_course.specs.Moments.{Composition, piece_with}
+use Rattle.cs_voice_meaning.specs.Placing.{area_of, wave_in, wave_of}
+use Rattle.cs_voice_meaning.specs.Voices.{initialised}
+use Rattle.cs_piece.specs.VoicesOfNotes.{Hold}
+use Rattle.cs_voice.specs.Starts.{piece_at, sheet_at}
+use Rattle.cs_piece_meaning.specs.Course.{opening, outside_done}
+use Rattle.cs_piece_meaning.specs.Moments.{Composition, piece_with}
 use Rattle.cs_sched.specs.Waiting.{nothing_waits, waiting}
 use Rattle.cs_voice.specs.declared.stage.Stage.{Stage}
-use Rattle.cs_setup.specs.Ready.{IsInstrumentOf, IsStageOf}
+use Rattle.cs_piece.specs.Ready.{IsInstrumentOf, IsStageOf}
 use Rattle.cs_life.specs.Standing.{Stands, flags_of}
 use Rattle.cs_life.specs.declared.life.Life.{Life}
 use Rattle.cs_life.proofs.Flags.{flags_fit}

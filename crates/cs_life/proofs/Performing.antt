@@ -6,22 +6,21 @@ use Rattle.std.specs.List.{All, AllZip, list_any}
 use Rattle.cs_base.specs.Limits.{most_notes}
 use Rattle.cs_base.specs.declared.resource.Res.{Res}
 use Rattle.cs_cells.proofs.SerialRun.{length-serial_jobs}
-use Rattle.cs_cells.specs.Areas.{word_count}
+use Rattle.cs_cells.specs.Areas.{word_count, IsFootprint}
 use Rattle.cs_cells.specs.Cells.{Cells, cell}
 use Rattle.cs_cells.specs.Serial.{serial_cells, serial_jobs}
-use Rattle.cs_course.specs.Course.{next, performed, serial}
-use Rattle.cs_course.specs.Moments.{Composition, Active, Moment, as_made, field_of, piece_with}
+use Rattle.cs_piece_meaning.specs.Course.{next, performed, serial}
+use Rattle.cs_piece_meaning.specs.Moments.{Composition, Active, Moment, as_made, field_of, piece_with}
 use Rattle.cs_ir.specs.Waves.{Wave}
 use Rattle.cs_meaning.specs.Plain.{Piece, Table}
-use Rattle.cs_note.specs.VoicesOfNotes.{GoesOn, Hold, IsVoiceOf, next_note}
-use Rattle.cs_rule.specs.Plans.{IsFootprint}
-use Rattle.cs_setup.specs.Ready.{IsStageOf}
-use Rattle.cs_sounding.specs.VoiceWorld.{pace_of, the_generators}
-use Rattle.cs_sounding.specs.Voices.{Sheet, Sounding, left_by}
-use Rattle.cs_sounding.specs.Voices as sounding
-use Rattle.cs_start.specs.Starts.{piece_at, sheet_at}
-use Rattle.cs_start.specs.Tables.{table_at, tables_of}
-use Rattle.cs_state.specs.States.{header_of}
+use Rattle.cs_piece.specs.VoicesOfNotes.{GoesOn, Hold, IsVoiceOf, next_note}
+use Rattle.cs_piece.specs.Ready.{IsStageOf}
+use Rattle.cs_voice_meaning.specs.VoiceWorld.{pace_of, the_generators}
+use Rattle.cs_voice_meaning.specs.Voices.{Sheet, Sounding, left_by}
+use Rattle.cs_voice_meaning.specs.Voices as sounding
+use Rattle.cs_voice.specs.Starts.{piece_at, sheet_at}
+use Rattle.cs_voice.specs.Tables.{table_at, tables_of}
+use Rattle.cs_machine.specs.States.{header_of}
 use Rattle.cs_voice.specs.Memory.{table_of}
 use Rattle.cs_voice.specs.VoiceData.{VoiceData, IsOn, made, sounding_on}
 use Rattle.cs_voice.specs.VoiceMeaning.{IsVoice, Performs, after, leaves, voice_job}

@@ -10,8 +10,8 @@ use Rattle.std.proofs.lemmas.List.Edits.{length-insert}
 use Rattle.cs_base.specs.Limits.{most_notes}
 use Rattle.cs_base.specs.declared.resource.Res.{Res}
 use Rattle.cs_cells.specs.Cells.{Cells, cell}
-use Rattle.cs_course.specs.Moments.{Composition, Active, Moment, placed}
-use Rattle.cs_course.specs.Starts.{Start, entered, has_room, in_vain, joined}
+use Rattle.cs_piece_meaning.specs.Moments.{Composition, Active, Moment, placed}
+use Rattle.cs_piece_meaning.specs.Starts.{Start, entered, has_room, in_vain, joined}
 use Rattle.cs_ir.specs.Waves.{Wave}
 use Rattle.cs_life.proofs.Joining.{placed_is, stay_in_order}
 use Rattle.cs_life.proofs.Places.{map_insert, zip_insert, zip_long}
@@ -22,10 +22,10 @@ use Rattle.cs_life.specs.inner.Starting.{IsBegun, IsRefused, Joined, Wait, activ
 use Rattle.cs_meaning.specs.Core.{Block}
 use Rattle.cs_meaning.specs.Notes.{Note}
 use Rattle.cs_meaning.specs.Plain.{Cause, Plain}
-use Rattle.cs_note.specs.VoicesOfNotes.{Hold}
+use Rattle.cs_piece.specs.VoicesOfNotes.{Hold}
 use Rattle.cs_sched.specs.Waiting.{Queue}
-use Rattle.cs_start.specs.declared.note.Started.{Started}
-use Rattle.cs_start.specs.declared.note.Started.TheVariants as started
+use Rattle.cs_voice.specs.declared.note.Started.{Started}
+use Rattle.cs_voice.specs.declared.note.Started.TheVariants as started
 use Rattle.cs_voice.specs.VoiceData.{VoiceData}
 use Rattle.cs_voice.specs.VoiceMeaning.{IsVoice}
 use Rattle.cs_voice.specs.declared.stage.Stage.{Stage}

@@ -17,13 +17,13 @@ use Rattle.cs_cells.proofs.Laid.{area_within}
 use Rattle.cs_cells.specs.declared.footprint.Area.{Area}
 use Rattle.cs_meaning.specs.Plain.{Piece, Table, find_table, shared_with}
 use Rattle.cs_rwset.specs.Footprints.{stock_of}
-use Rattle.cs_access.specs.Access.{CanTouch, row_wave}
-use Rattle.cs_sounding.specs.Placing.{IsPlaced, HasArea, area_of, wave_of, with_wave}
-use Rattle.cs_sounding.proofs.Placed.{Roomy, area_at, wave_kept, wave_written}
-use Rattle.cs_note.specs.VoicesOfNotes.{Hold}
-use Rattle.cs_start.specs.Starts.{piece_at}
-use Rattle.cs_course.specs.Moments.{Composition, Moment}
-use Rattle.cs_course.specs.Starts.{made_table, with_points}
+use Rattle.cs_machine.specs.Access.{CanTouch, row_wave}
+use Rattle.cs_voice_meaning.specs.Placing.{IsPlaced, HasArea, area_of, wave_of, with_wave}
+use Rattle.cs_voice_meaning.proofs.Placed.{Roomy, area_at, wave_kept, wave_written}
+use Rattle.cs_piece.specs.VoicesOfNotes.{Hold}
+use Rattle.cs_voice.specs.Starts.{piece_at}
+use Rattle.cs_piece_meaning.specs.Moments.{Composition, Moment}
+use Rattle.cs_piece_meaning.specs.Starts.{made_table, with_points}
 use Rattle.cs_voice.specs.VoiceData.{VoiceData}
 use Rattle.cs_voice.specs.declared.stage.Stage.{Stage}
 use Rattle.cs_life.specs.Standing.{Stands, VoicesStand}

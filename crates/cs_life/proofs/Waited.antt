@@ -3,8 +3,8 @@ use Rattle.std.proofs.Common.{◌≡◌, ◌≢◌, ℕ, ℤ, zero, suc, ◌+◌
 use Rattle.std.proofs.lemmas.Bool.Decides.{nat_tests}
 use Rattle.cs_base.proofs.Tests.{by_test}
 use Rattle.cs_cells.specs.Cells.{Cells}
-use Rattle.cs_course.specs.Moments.{Composition, Moment}
-use Rattle.cs_course.specs.Starts.{first_started, start_in, start_of, taken, unless_none, waited}
+use Rattle.cs_piece_meaning.specs.Moments.{Composition, Moment}
+use Rattle.cs_piece_meaning.specs.Starts.{first_started, start_in, start_of, taken, unless_none, waited}
 use Rattle.cs_sched.specs.Waiting.{IsTaken, Queue, waiting}
 use Rattle.cs_sched.specs.declared.due.Due.{Due}
 use Rattle.cs_voice.specs.VoiceData.{VoiceData}

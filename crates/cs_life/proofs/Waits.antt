@@ -1,8 +1,8 @@
 -- What waits after a note was asked for, and after all that a note asks for.
 use Rattle.std.proofs.Common.{◌≡◌, ◌∙◌, ℕ, ℤ, ◌+◌, ◌-◌, ◌^◌, ◌==◌, List, [], ◌∷◌, ◌++◌, sym, ap, refl, subst, arith}
 use Rattle.std.specs.Prelude.{map, min, if◌then◌else◌}
-use Rattle.cs_course.specs.Moments.{Composition, Moment, clock_of}
-use Rattle.cs_course.specs.Starts.{all_asked, asked, counted}
+use Rattle.cs_piece_meaning.specs.Moments.{Composition, Moment, clock_of}
+use Rattle.cs_piece_meaning.specs.Starts.{all_asked, asked, counted}
 use Rattle.cs_ir.specs.Asks.{ask_of}
 use Rattle.cs_ir.specs.declared.ask.Ask.{Ask}
 use Rattle.cs_life.specs.Standing.{kept_count}

@@ -1,6 +1,6 @@
 -- Which notes leave.
-use Rattle.cs_course.specs.Course.{still, turned_off}
-use Rattle.cs_course.specs.Moments.{Moment}
+use Rattle.cs_piece_meaning.specs.Course.{still, turned_off}
+use Rattle.cs_piece_meaning.specs.Moments.{Moment}
 use Rattle.cs_life.specs.declared.leaving.Leaving.{Leaving}
 use Rattle.cs_life.specs.declared.leaving.Leaving.TheVariants as leaving
 

@@ -6,14 +6,14 @@ use Rattle.cs_base.specs.Limits.{most_notes}
 use Rattle.cs_cells.specs.Areas.{word_count}
 use Rattle.cs_cells.specs.Cells.{Cells, cell}
 use Rattle.cs_cells.specs.declared.footprint.Footprint.{Footprint}
-use Rattle.cs_course.specs.Moments.{Composition, Active, Moment, field_of}
+use Rattle.cs_piece_meaning.specs.Moments.{Composition, Active, Moment, field_of}
 use Rattle.cs_ir.specs.Instruments.{Numbered}
 use Rattle.cs_meaning.specs.Plain.{Table}
-use Rattle.cs_note.specs.VoicesOfNotes.{Hold, IsVoiceOf}
+use Rattle.cs_piece.specs.VoicesOfNotes.{Hold, IsVoiceOf}
 use Rattle.cs_sched.specs.Waiting.{waiting}
-use Rattle.cs_setup.specs.Ready.{IsInstrumentOf, IsStageOf}
+use Rattle.cs_piece.specs.Ready.{IsInstrumentOf, IsStageOf}
 use Rattle.cs_signal.specs.Operands.{argument}
-use Rattle.cs_start.specs.Starts.{sheet_at}
+use Rattle.cs_voice.specs.Starts.{sheet_at}
 use Rattle.cs_voice.specs.VoiceData.{VoiceData, IsOn, sounding_on}
 use Rattle.cs_voice.specs.VoiceMeaning.{IsVoice}
 use Rattle.cs_voice.specs.declared.stage.Stage.{Stage}

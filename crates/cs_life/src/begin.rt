@@ -3,12 +3,12 @@ ghost use Rattle.std.specs.Prelude.{◌≡◌, ◌<◌, ◌==◌, ℕ, filter, l
 ghost use Rattle.std.specs.List.{All};
 ghost use Rattle.std.specs.List.Sorted.{IsNonDecreasingBy};
 ghost use Rattle.cs_cells.specs.Areas.{word_count};
-ghost use Rattle.cs_course.specs.Course.{begins, events_in};
-ghost use Rattle.cs_course.specs.Moments.{Moment};
-ghost use Rattle.cs_course.specs.Starts.{act_done, all_done, all_waited};
+ghost use Rattle.cs_piece_meaning.specs.Course.{begins, events_in};
+ghost use Rattle.cs_piece_meaning.specs.Moments.{Moment};
+ghost use Rattle.cs_piece_meaning.specs.Starts.{act_done, all_done, all_waited};
 ghost use Rattle.cs_life.specs.Standing.{Stands};
 ghost use Rattle.cs_life.specs.inner.Doing.{CanBeDone, CanGoOn, HasGoneOn};
-ghost use Rattle.cs_setup.specs.Setups.{composition_of};
+ghost use Rattle.cs_piece.specs.Setups.{composition_of};
 ghost use Rattle.cs_tempo.specs.declared.plot.Event.{Event};
 
 use crate::leaving::Leaving;

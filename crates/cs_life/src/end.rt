@@ -1,8 +1,8 @@
 // Notes leave: those that have ended as a cycle begins, and those that were turned off as it ends.
 ghost use Rattle.std.specs.Prelude.{◌≡◌, length};
 ghost use Rattle.cs_cells.specs.Cells.{Cells};
-ghost use Rattle.cs_course.specs.Course.{turned_off};
-ghost use Rattle.cs_course.specs.Moments.{Composition, Moment};
+ghost use Rattle.cs_piece_meaning.specs.Course.{turned_off};
+ghost use Rattle.cs_piece_meaning.specs.Moments.{Composition, Moment};
 ghost use Rattle.cs_life.specs.Leaving.{without};
 ghost use Rattle.cs_life.specs.Standing.{Stands};
 ghost use Rattle.cs_life.specs.inner.Places.{ends_kept, stays, voices_kept};

@@ -4,13 +4,13 @@ ghost use Rattle.std.specs.List.{All};
 ghost use Rattle.cs_base.specs.Limits.{most_notes};
 ghost use Rattle.cs_cells.specs.Cells.{Cells};
 ghost use Rattle.cs_cells.specs.Serial.{serial_cells, serial_jobs};
-ghost use Rattle.cs_course.specs.Course.{begins, moment_at, performed};
-ghost use Rattle.cs_course.specs.Heard.{mix_in};
-ghost use Rattle.cs_course.specs.Moments.{Composition, Moment};
+ghost use Rattle.cs_piece_meaning.specs.Course.{begins, moment_at, performed};
+ghost use Rattle.cs_piece_meaning.specs.Heard.{mix_in};
+ghost use Rattle.cs_piece_meaning.specs.Moments.{Composition, Moment};
 ghost use Rattle.cs_life.specs.Standing.{Stands};
 ghost use Rattle.cs_life.specs.declared.life.Life.{Life};
-ghost use Rattle.cs_mix.specs.Mixing.{mixed};
-ghost use Rattle.cs_rule.specs.Plans.{IsFootprint};
+ghost use Rattle.cs_voice.specs.Mixing.{mixed};
+ghost use Rattle.cs_cells.specs.Areas.{IsFootprint};
 ghost use Rattle.cs_voice.specs.VoiceData.{VoiceData};
 ghost use Rattle.cs_voice.specs.VoiceMeaning.{voice_job};
 

@@ -2,20 +2,19 @@
 ghost use Rattle.std.specs.Prelude.{◌≡◌, ◌<◌, ℕ, [], false, length, map, pos, replicate, IfOk, OnOk};
 ghost use Rattle.cs_cells.specs.Areas.{word_count};
 ghost use Rattle.cs_cells.specs.Cells.{cell};
-ghost use Rattle.cs_course.specs.Course.{opening, outside_done};
+ghost use Rattle.cs_piece_meaning.specs.Course.{opening, outside_done};
 ghost use Rattle.cs_life.specs.Standing.{Stands, flags_of};
-ghost use Rattle.cs_note.specs.VoicesOfNotes.{Hold};
-ghost use Rattle.cs_setup.specs.Ready.{IsStageOf};
-ghost use Rattle.cs_setup.specs.Setups.{composition_of};
+ghost use Rattle.cs_piece.specs.VoicesOfNotes.{Hold};
+ghost use Rattle.cs_piece.specs.Ready.{IsStageOf};
+ghost use Rattle.cs_piece.specs.Setups.{composition_of};
 ghost use Rattle.cs_voice.specs.Memory.{table_of};
 ghost use Rattle.cs_voice.specs.VoiceData.{made};
 
 use cs_base::OutOfMemory;
 use cs_cells::Bank;
+use cs_piece::Setup;
 use cs_sched::Pending;
-use cs_setup::Setup;
-use cs_start::start;
-use cs_voice::{Stage, TableAt};
+use cs_voice::{Stage, TableAt, start};
 use std::alloc::Global;
 
 /// What is kept of a performance. `Stands` (specs/Standing) says at which moments it stands.

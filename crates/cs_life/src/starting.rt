@@ -4,16 +4,16 @@ ghost use Rattle.std.specs.List.Sorted.{IsNonDecreasingBy};
 ghost use Rattle.cs_base.specs.Limits.{most_notes};
 ghost use Rattle.cs_cells.specs.Areas.{word_count};
 ghost use Rattle.cs_cells.specs.Cells.{Cells};
-ghost use Rattle.cs_course.specs.Moments.{Composition, Moment, clock_of};
-ghost use Rattle.cs_course.specs.Starts.{Start, asked, begun, entered, has_room, in_vain, initialised, start_in};
+ghost use Rattle.cs_piece_meaning.specs.Moments.{Composition, Moment, clock_of};
+ghost use Rattle.cs_piece_meaning.specs.Starts.{Start, asked, begun, entered, has_room, in_vain, initialised, start_in};
 ghost use Rattle.cs_life.specs.Standing.{Stands};
 ghost use Rattle.cs_life.specs.inner.Starting.{IsBegun, Joined, Wait, all_wanted, count_after};
 ghost use Rattle.cs_meaning.specs.Core.{Block};
 ghost use Rattle.cs_meaning.specs.Notes.{Note};
 ghost use Rattle.cs_meaning.specs.Plain.{Plain};
 ghost use Rattle.cs_sched.specs.Times as times;
-ghost use Rattle.cs_setup.specs.Ready.{IsInstrumentOf};
-ghost use Rattle.cs_setup.specs.Setups.{composition_of};
+ghost use Rattle.cs_piece.specs.Ready.{IsInstrumentOf};
+ghost use Rattle.cs_piece.specs.Setups.{composition_of};
 ghost use Rattle.cs_voice.specs.VoiceData.{VoiceData};
 
 use crate::life::Life;
@@ -21,8 +21,7 @@ use cs_base::{Head, MOST_NOTES, Num, OutOfMemory};
 use cs_cells::{Bank, Footprint, Job};
 use cs_ir::{Ask, Instrument};
 use cs_sched::{Added, Pending};
-use cs_start::{Started, start};
-use cs_voice::Voice;
+use cs_voice::{Started, Voice, start};
 use std::alloc::Global;
 
 impl<'t> Life<'t> {

@@ -1,26 +1,26 @@
 // A table of the score is made while notes play.
 ghost use Rattle.std.specs.Prelude.{◌≡◌, ◌<◌, ℕ, List, length, pos, true, IfOk, OnOk, None, Some};
-ghost use Rattle.cs_access.specs.Access.{CanTouch, row_wave};
+ghost use Rattle.cs_machine.specs.Access.{CanTouch, row_wave};
 ghost use Rattle.cs_base.specs.declared.resource.Res.TheVariants as res;
 ghost use Rattle.cs_cells.specs.Areas.{word_count};
 ghost use Rattle.cs_cells.specs.Cells.{cell};
 ghost use Rattle.cs_cells.specs.declared.footprint.Area.{Area};
-ghost use Rattle.cs_course.specs.Moments.{Moment};
-ghost use Rattle.cs_course.specs.Starts.{made_table};
+ghost use Rattle.cs_piece_meaning.specs.Moments.{Moment};
+ghost use Rattle.cs_piece_meaning.specs.Starts.{made_table};
 ghost use Rattle.cs_gen.specs.Faults.{table_fault};
 ghost use Rattle.cs_gen.specs.Points.{points_of};
 ghost use Rattle.cs_life.specs.Standing.{Stands};
 ghost use Rattle.cs_life.specs.inner.Doing.{CanBeMade};
 ghost use Rattle.cs_life.specs.inner.Marks.{PointsWritten, has_cells, marked};
-ghost use Rattle.cs_setup.specs.Setups.{composition_of};
-ghost use Rattle.cs_sounding.specs.Placing.{area_of, with_wave};
+ghost use Rattle.cs_piece.specs.Setups.{composition_of};
+ghost use Rattle.cs_voice_meaning.specs.Placing.{area_of, with_wave};
 ghost use Rattle.cs_voice.specs.VoiceData.{VoiceData};
 
 use crate::life::Life;
-use cs_access::{area_of, write_row};
 use cs_base::{Num, Or, OutOfMemory, Res};
 use cs_cells::{Bank, Layout};
 use cs_gen::{Points, make_table};
+use cs_machine::{area_of, write_row};
 use cs_voice::TableAt;
 use std::alloc::Global;
 

@@ -6,9 +6,9 @@ use Rattle.std.proofs.lemmas.List.Sums.{count_by-le-length}
 use Rattle.cs_base.specs.Limits.{most_notes, most_wav_bytes}
 use Rattle.cs_base.specs.declared.resource.Res.{Res}
 use Rattle.cs_cells.specs.Cells.{Cells}
-use Rattle.cs_course.specs.Course.{begins, moment_at, next, performed, played_in, serial, turned_off}
-use Rattle.cs_course.specs.Heard.{frames_before, mix_in}
-use Rattle.cs_course.specs.Moments.{Active, Composition, Moment}
+use Rattle.cs_piece_meaning.specs.Course.{begins, moment_at, next, performed, played_in, serial, turned_off}
+use Rattle.cs_piece_meaning.specs.Heard.{frames_before, mix_in}
+use Rattle.cs_piece_meaning.specs.Moments.{Active, Composition, Moment}
 use Rattle.cs_desk.specs.declared.receipt.Tally.{Tally}
 use Rattle.cs_ir.specs.Waves.{Wave}
 use Rattle.cs_life.specs.Standing.{Stands}

@@ -6,9 +6,9 @@ use Rattle.std.proofs.lemmas.List.Concat.{flat_map-append}
 use Rattle.std.proofs.lemmas.List.FromFn.{length-map-range_with_len}
 use Rattle.std.proofs.lemmas.List.Sums.{sum_by-append}
 use Rattle.cs_base.specs.Limits.{most_notes}
-use Rattle.cs_course.specs.Course.{played_in}
-use Rattle.cs_course.specs.Heard.{frames_before, frames_of, mix_in, notes_before, sum_at}
-use Rattle.cs_course.specs.Moments.{Composition}
+use Rattle.cs_piece_meaning.specs.Course.{played_in}
+use Rattle.cs_piece_meaning.specs.Heard.{frames_before, frames_of, mix_in, notes_before, sum_at}
+use Rattle.cs_piece_meaning.specs.Moments.{Composition}
 
 -- one number more
 range_more : (a n : ℕ) → range_with_len a (suc n) ≡ range_with_len a n ++ (a + n) ∷ []

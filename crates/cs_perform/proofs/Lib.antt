@@ -1,5 +1,4 @@
 pub mod Cycles
-pub mod Feet
 pub mod Files
 pub mod Frames
 pub mod Loans

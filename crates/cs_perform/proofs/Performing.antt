@@ -1,9 +1,9 @@
 -- A performance grows cycle by cycle.
 use Rattle.std.proofs.Common.{◌≡◌, ◌≤◌, ◌<◌, ℕ, ◌+◌, ◌*◌, ◌-◌, ◌^◌, ℤ, Bool, List, [], ◌++◌, length, refl, ap, sym, ◌∙◌, subst, arith}
 use Rattle.cs_base.specs.Limits.{most_notes}
-use Rattle.cs_course.specs.Course.{played_in}
-use Rattle.cs_course.specs.Heard.{frames_before, mix_in, notes_before}
-use Rattle.cs_course.specs.Moments.{Composition}
+use Rattle.cs_piece_meaning.specs.Course.{played_in}
+use Rattle.cs_piece_meaning.specs.Heard.{frames_before, mix_in, notes_before}
+use Rattle.cs_piece_meaning.specs.Moments.{Composition}
 use Rattle.cs_desk.specs.declared.receipt.Tally.{Tally}
 use Rattle.cs_edge.specs.Told.{IsFront}
 use Rattle.cs_edge.specs.Moves.{SinkTold, WroteMore}

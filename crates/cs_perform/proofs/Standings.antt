@@ -3,22 +3,21 @@ use Rattle.std.proofs.Common.{◌≡◌, ◌≤◌, ◌<◌, ℕ, zero, suc, ℤ
 use Rattle.std.specs.List.{All}
 use Rattle.std.proofs.lemmas.List.{length-map}
 use Rattle.std.proofs.lemmas.Slice.Zip.{AllZip-long}
-use Rattle.cs_cells.specs.Areas.{word_count}
+use Rattle.cs_cells.specs.Areas.{word_count, IsFootprint}
 use Rattle.cs_cells.specs.Cells.{Cells, values}
 use Rattle.cs_cells.specs.Serial.{serial_cells, serial_jobs}
 use Rattle.cs_cells.specs.declared.footprint.Area.{Area}
 use Rattle.cs_cells.specs.declared.footprint.Footprint.{Footprint}
-use Rattle.cs_course.specs.Course.{begins}
-use Rattle.cs_course.specs.Moments.{Composition, Active, Moment}
+use Rattle.cs_piece_meaning.specs.Course.{begins}
+use Rattle.cs_piece_meaning.specs.Moments.{Composition, Active, Moment}
 use Rattle.cs_graph.specs.Graph.{Dependencies, IsFit, IsLevelled}
 use Rattle.cs_life.specs.Standing.{Plays, Stands}
 use Rattle.cs_life.specs.declared.life.Life.{Life}
-use Rattle.cs_rule.specs.Plans.{IsFootprint}
-use Rattle.cs_setup.specs.Setups.{SetupData, composition_of}
+use Rattle.cs_piece.specs.Setups.{SetupData, composition_of}
 use Rattle.cs_voice.specs.VoiceData.{VoiceData}
 use Rattle.cs_voice.specs.VoiceMeaning.{voice_job}
-use Rattle.cs_perform.specs.declared.course.Course.{Course}
-use Rattle.cs_perform.specs.inner.Courses.{IsCourseOf}
+use Rattle.cs_desk.specs.declared.course.Course.{Course}
+use Rattle.cs_desk.specs.Courses.{IsCourseOf}
 
 -- as many notes play as there are voices, and ends of notes
 pub count_active : (c : Composition) (life : Life) (voices : List VoiceData) (cells : Cells) (m : Moment)

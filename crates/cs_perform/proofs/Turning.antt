@@ -3,7 +3,7 @@ use Rattle.std.proofs.Common.{◌≡◌, ℕ, ◌+◌, Bool, true, false, List, 
 use Rattle.std.specs.List.{AllZip, flat_map, range_with_len}
 use Rattle.cs_cells.specs.declared.footprint.Area.{Area}
 use Rattle.cs_cells.specs.declared.footprint.Footprint.{Footprint}
-use Rattle.cs_course.specs.Moments.{Active, Composition}
+use Rattle.cs_piece_meaning.specs.Moments.{Active, Composition}
 use Rattle.cs_life.specs.Standing.{Plays}
 use Rattle.cs_turns.specs.Turns.{IsFootOf, line_of, notes_in, turn_lines_before, turns_in}
 use Rattle.cs_voice.specs.VoiceData.{VoiceData}

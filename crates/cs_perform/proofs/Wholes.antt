@@ -1,18 +1,24 @@
 -- The whole file, and its fronts.
-use Rattle.std.proofs.Common.{◌≡◌, ◌≤◌, ◌<◌, ℕ, zero, suc, ◌+◌, ◌*◌, ◌-◌, ◌%◌, ◌==◌, ◌&&◌, Bool, true, false, ℤ, List, [], ◌∷◌, ◌++◌, length, replicate, refl, ap, sym, ◌∙◌, subst, arith, append_assoc, append-nil, if◌then◌else◌}
+use Rattle.std.proofs.Common.{◌≡◌, ◌≤◌, ◌<◌, ℕ, zero, suc, ◌+◌, ◌*◌, ◌-◌, ◌%◌, ◌==◌, ◌&&◌, Bool, true, false, ℤ, Result, Err, List, [], ◌∷◌, ◌++◌, length, replicate, refl, ap, sym, ◌∙◌, subst, arith, append_assoc, append-nil, if◌then◌else◌}
 use Rattle.std.proofs.Math.Nat.{mul_assoc}
 use Rattle.std.proofs.lemmas.Bool.{eqb-true, eq-eqb}
+use Rattle.std.specs.Result.{IsErrOf}
 use Rattle.cs_base.specs.declared.head.Head.{Head}
-use Rattle.cs_course.specs.Heard.{frames_before, frames_of, mix_in}
-use Rattle.cs_course.specs.Moments.{Composition}
+use Rattle.cs_piece_meaning.specs.Heard.{frames_before, frames_of, mix_in}
+use Rattle.cs_piece_meaning.specs.Moments.{Composition}
 use Rattle.cs_desk.specs.declared.receipt.Tally.{Tally}
 use Rattle.cs_edge.specs.Told.{IsFront}
 use Rattle.cs_edge.specs.Moves.{SinkTold, WroteMore, Wrote, Stopped, Finished}
+use Rattle.cs_piece.specs.Setups.{SetupData, composition_of}
 use Rattle.cs_wav.specs.Wav.{bytes_of, header_bytes, samples_of, size_of, wav_of}
 use Rattle.cs_wav.proofs.Files.{samples_of-append}
 use Rattle.cs_perform.specs.Hearing.{IfWritten}
 use Rattle.cs_perform.specs.Performances.{IsPart, IsPaused, IsWhole, Performed, file_after, front_after}
 use Rattle.cs_perform.specs.declared.order.Order.{Order}
+use Rattle.cs_perform.specs.declared.order.Outcome.{Outcome}
+use Rattle.cs_perform.specs.declared.order.PlayFault.{PlayFault}
+use Rattle.cs_perform.specs.declared.order.PlayFault.TheVariants as fault
+use Rattle.cs_perform.specs.inner.Crews.{Performs}
 use Rattle.cs_perform.specs.inner.Ends.{Finishes, Stops, padding}
 use Rattle.cs_perform.specs.inner.Plays.{PausedOn, PlayedInPart, PlayedOn}
 use Rattle.cs_perform.proofs.Files.{file_finished, file_not_finished, file_paused, file_stopped, file_unbegun, file_untouched, file_written, front_all, front_behind, front_of_front}
@@ -255,4 +261,19 @@ module _ {T W : Type 0} (S : T → List ℤ → Type 0) (tells : W → SinkTold)
     within = omega arith;
     performed = p;
     written = file_paused tells order.write w0 w2 name (front_after c head order.wide c.cycles) _ wrote;
+  }
+
+  -- memory was refused before anything was done
+  not_the_sink : IsErrOf {T = Outcome} (Err fault.OutOfMemory) fault.Sink → ⊥
+  not_the_sink e = cc
+
+  pub performs_nothing : (s : SetupData) (order : Order) (name : List ℕ) (t : List T) (y : Tally) (w : W)
+      → Performs S tells s order name t t y y w w (let r : Result Outcome PlayFault = Err fault.OutOfMemory in r)
+  performs_nothing s order name t y w = record {
+    whole = tt;
+    outcome = tt;
+    turns = tt;
+    part = part_untouched (composition_of s) s.orchestra.head order name t y w;
+    memory = λ e. paused_untouched (composition_of s) s.orchestra.head order name t y w;
+    sink = λ e. absurd (not_the_sink e);
   }

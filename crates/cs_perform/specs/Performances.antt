@@ -2,9 +2,9 @@
 use Rattle.std.specs.Prelude.{ℕ, ◌≡◌, ◌≤◌, ◌+◌, ◌*◌, ◌==◌, ◌⊎◌, ℤ, Bool, true, false, List, [], ◌++◌, length, if◌then◌else◌}
 use Rattle.std.specs.List.{count_by}
 use Rattle.cs_base.specs.declared.head.Head.{Head}
-use Rattle.cs_course.specs.Course.{closing}
-use Rattle.cs_course.specs.Heard.{frames_before, frames_of, notes_before}
-use Rattle.cs_course.specs.Moments.{Composition}
+use Rattle.cs_piece_meaning.specs.Course.{closing}
+use Rattle.cs_piece_meaning.specs.Heard.{frames_before, frames_of, notes_before}
+use Rattle.cs_piece_meaning.specs.Moments.{Composition}
 use Rattle.cs_desk.specs.declared.receipt.Tally.{Tally}
 use Rattle.cs_edge.specs.Moves.{SinkTold, Finished, Stopped, Wrote}
 use Rattle.cs_life.specs.Standing.{kept_count}

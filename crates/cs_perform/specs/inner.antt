@@ -1,5 +1,4 @@
 -- what only private clauses cite
-pub mod Courses
 pub mod Crews
 pub mod Ends
 pub mod Plays

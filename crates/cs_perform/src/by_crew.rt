@@ -2,75 +2,69 @@
 ghost use Rattle.std.specs.Prelude.{◌≡◌, ◌≤◌};
 ghost use Rattle.cs_perform.specs.inner.Crews.{MayPlay, Performs};
 
-use crate::crew::Crew;
 use crate::order::{Order, Outcome, PlayFault};
-use crate::performance::play;
-use crate::runner::Runner;
-use crate::start::Start;
+use crate::performance::open;
 use cs_desk::Tally;
 use cs_edge::{Gate, Sink, Tap};
-use cs_pool::Pool;
-use cs_setup::Setup;
-use cs_voice::Voice;
+use cs_piece::Setup;
+use cs_pool::{Crew, Pool, Runner};
+use cs_voice::{TableAt, Voice};
 use std::alloc::Global;
 use std::sync::Wait;
 use std::thread;
 use std::thread::{Scope, Threads};
 
-/// The performance from its opening on, by a crew.
-pub(crate) fn play_by_crew<'e, K: Sink, R: Threads + Wait + Sync, G: Gate + Sync>(
+/// The performance over these tables, by a crew.
+pub(crate) fn play_by_crew<'e, 't, K: Sink, R: Threads + Wait + Sync, G: Gate + Sync>(
     alloc: Global,
-    setup: &Setup,
+    setup: &'t Setup,
+    tables: &'t [TableAt<'t>],
     order: Order,
     crew: &'e Crew<'e, R, G>,
     name: &str,
     wav: &mut K,
     taps: &mut Vec<Box<dyn Tap>>,
     tally: &mut Tally,
-    start: Start<'_>,
 ) -> Result<Outcome, PlayFault>
-    requires { MayPlay setup.now order tally.old start }
+    requires { MayPlay setup.now order tally.old tables.now }
     ensures { Performs (λ t h. stands_for t h) K.tells setup.now order name.now taps.old.items taps.new.items
         tally.old tally.new wav.old wav.new result }
 {
     if crew.standing {
-        play_in_loan(alloc, setup, order, crew, name, wav, taps, tally, start)
+        play_in_loan(alloc, setup, tables, order, crew, name, wav, taps, tally)
     } else {
         let runner = Runner::Each(crew);
-        play_with(alloc, setup, order, runner, name, wav, taps, tally, start)
+        play_with(alloc, setup, tables, order, runner, name, wav, taps, tally)
     }
 }
 
 /// By whoever runs the notes of each cycle, who has ended when it returns.
 fn play_with<'t, K: Sink, R: Threads + Wait + Sync, G: Gate + Sync>(
     alloc: Global,
-    setup: &Setup,
+    setup: &'t Setup,
+    tables: &'t [TableAt<'t>],
     order: Order,
     runner: Runner<'_, Voice<'t>, R, G>,
     name: &str,
     wav: &mut K,
     taps: &mut Vec<Box<dyn Tap>>,
     tally: &mut Tally,
-    start: Start<'t>,
 ) -> Result<Outcome, PlayFault>
-    requires { MayPlay setup.now order tally.old start }
+    requires { MayPlay setup.now order tally.old tables.now }
     ensures { Performs (λ t h. stands_for t h) K.tells setup.now order name.now taps.old.items taps.new.items
         tally.old tally.new wav.old wav.new result }
 {
-    let Start { stand, mut blocks } = start;
     let mut runner = runner;
-    let played = play(
+    let played = open(
         alloc,
         setup,
+        tables,
         order,
         &mut runner,
         name,
         wav,
         taps,
         tally,
-        stand,
-        &mut blocks.mix,
-        &mut blocks.out,
     );
     runner.close();
     played
@@ -88,22 +82,22 @@ struct Loan<'a, K> {
 /// By a standing crew, to which sink, taps and tally are lent.
 fn play_in_loan<'a, 'e, 't, K: Sink, R: Threads + Wait + Sync, G: Gate + Sync>(
     alloc: Global,
-    setup: &Setup,
+    setup: &'t Setup,
+    tables: &'t [TableAt<'t>],
     order: Order,
     crew: &Crew<'e, R, G>,
     name: &str,
     wav: &'a mut K,
     taps: &'a mut Vec<Box<dyn Tap>>,
     tally: &'a mut Tally,
-    start: Start<'t>,
 ) -> Result<Outcome, PlayFault>
-    requires { MayPlay setup.now order tally.old start }
+    requires { MayPlay setup.now order tally.old tables.now }
     ensures { Performs (λ t h. stands_for t h) K.tells setup.now order name.now taps.old.items taps.new.items
         tally.old tally.new wav.old wav.new result }
 {
     let (rt, workers, gate) = (crew.rt, crew.workers, crew.gate);
     let loan = Loan { wav, taps, tally };
-    let (played, loan) = play_in_scope(alloc, setup, order, rt, workers, gate, name, start, loan);
+    let (played, loan) = play_in_scope(alloc, setup, tables, order, rt, workers, gate, name, loan);
     let Loan { wav, taps, tally } = loan;
     take_back(wav, taps, tally);
     played
@@ -117,17 +111,17 @@ fn take_back<A, B, C>(a: &mut A, b: &mut B, c: &mut C)
 /// By a standing crew of so many workers, in a scope of its own.
 fn play_in_scope<'a, 'e, 't, K: Sink, R: Threads + Wait + Sync, G: Gate + Sync>(
     alloc: Global,
-    setup: &Setup,
+    setup: &'t Setup,
+    tables: &'t [TableAt<'t>],
     order: Order,
     rt: &'e R,
     workers: u32,
     gate: &'e G,
     name: &str,
-    start: Start<'t>,
     loan: Loan<'a, K>,
 ) -> (Result<Outcome, PlayFault>, Loan<'a, K>)
     requires workers { (1 ≤ workers) × (workers ≤ 32) }
-    requires begun { MayPlay setup.now order loan.tally.now start }
+    requires begun { MayPlay setup.now order loan.tally.now tables.now }
     ensures same { (result.1.wav.ghost_name ≡ loan.entry.wav.ghost_name) × (result.1.taps.ghost_name ≡ loan.entry.taps.ghost_name)
         × (result.1.tally.ghost_name ≡ loan.entry.tally.ghost_name) }
     ensures performed { Performs (λ t h. stands_for t h) K.tells setup.now order name.now loan.entry.taps.now.items
@@ -138,14 +132,14 @@ fn play_in_scope<'a, 'e, 't, K: Sink, R: Threads + Wait + Sync, G: Gate + Sync>(
         rt,
         move |scope|
             requires workers { (1 ≤ workers) × (workers ≤ 32) }
-            requires begun { MayPlay setup.now order loan.tally.now start }
+            requires begun { MayPlay setup.now order loan.tally.now tables.now }
             ensures same { (result.1.wav.ghost_name ≡ loan.entry.wav.ghost_name) × (result.1.taps.ghost_name ≡ loan.entry.taps.ghost_name)
                 × (result.1.tally.ghost_name ≡ loan.entry.tally.ghost_name) }
             ensures performed { Performs (λ t h. stands_for t h) K.tells setup.entry.now order name.entry.now loan.entry.taps.now.items
                 result.1.taps.now.items loan.entry.tally.now result.1.tally.now loan.entry.wav.now result.1.wav.now result.0 }
         {
             play_loan(
-                alloc, scope, setup, order, rt, workers, gate, name, start, loan,
+                alloc, scope, setup, tables, order, rt, workers, gate, name, loan,
             )
         },
     )
@@ -155,17 +149,17 @@ fn play_in_scope<'a, 'e, 't, K: Sink, R: Threads + Wait + Sync, G: Gate + Sync>(
 fn play_loan<'a, 's, 'e, 't: 's, K: Sink, R: Threads + Wait + Sync, G: Gate + Sync>(
     alloc: Global,
     scope: &'s Scope<'s, &'e ()>,
-    setup: &Setup,
+    setup: &'t Setup,
+    tables: &'t [TableAt<'t>],
     order: Order,
     rt: &'e R,
     workers: u32,
     gate: &'e G,
     name: &str,
-    start: Start<'t>,
     loan: Loan<'a, K>,
 ) -> (Result<Outcome, PlayFault>, Loan<'a, K>)
     requires workers { (1 ≤ workers) × (workers ≤ 32) }
-    requires begun { MayPlay setup.now order loan.tally.now start }
+    requires begun { MayPlay setup.now order loan.tally.now tables.now }
     ensures same { (result.1.wav.ghost_name ≡ loan.entry.wav.ghost_name) × (result.1.taps.ghost_name ≡ loan.entry.taps.ghost_name)
         × (result.1.tally.ghost_name ≡ loan.entry.tally.ghost_name) }
     ensures performed { Performs (λ t h. stands_for t h) K.tells setup.now order name.now loan.entry.taps.now.items
@@ -173,6 +167,6 @@ fn play_loan<'a, 's, 'e, 't: 's, K: Sink, R: Threads + Wait + Sync, G: Gate + Sy
 {
     let Loan { wav, taps, tally } = loan;
     let runner = Runner::Standing(Pool::new(rt, scope, alloc, workers, gate));
-    let played = play_with(alloc, setup, order, runner, name, wav, taps, tally, start);
+    let played = play_with(alloc, setup, tables, order, runner, name, wav, taps, tally);
     (played, Loan { wav, taps, tally })
 }

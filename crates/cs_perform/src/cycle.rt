@@ -1,20 +1,19 @@
 // One control cycle.
 ghost use Rattle.std.specs.Prelude.{◌≡◌, ◌+◌, ◌*◌, ◌≤◌, ◌^◌, ℕ, ℤ, List, ◌++◌, length, true, IfOk, OnOk, OnErr};
 ghost use Rattle.std.specs.List.{count_by};
-ghost use Rattle.cs_course.specs.Course.{begins, moment_at};
-ghost use Rattle.cs_course.specs.Heard.{mix_in};
-ghost use Rattle.cs_course.specs.Moments.{Moment};
+ghost use Rattle.cs_piece_meaning.specs.Course.{begins, moment_at};
+ghost use Rattle.cs_piece_meaning.specs.Heard.{mix_in};
+ghost use Rattle.cs_piece_meaning.specs.Moments.{Moment};
 ghost use Rattle.cs_edge.specs.Told.{HasCause, IsFront};
 ghost use Rattle.cs_edge.specs.Moves.{WroteMore};
 ghost use Rattle.cs_perform.specs.Hearing.{IfWritten, Told};
 ghost use Rattle.cs_perform.specs.Performances.{if_told};
 ghost use Rattle.cs_perform.specs.inner.Stands.{CountsCycle, IsAt, IsReady};
-ghost use Rattle.cs_setup.specs.Setups.{SetupData, composition_of};
+ghost use Rattle.cs_piece.specs.Setups.{SetupData, composition_of};
 ghost use Rattle.cs_turns.specs.Turns.{line_of, notes_in, turns_in};
 ghost use Rattle.cs_wav.specs.Wav.{bytes_of, is_out_of_range, samples_of};
 
 use crate::order::Order;
-use crate::runner::Runner;
 use crate::stand::Stand;
 use crate::taps::tell;
 use crate::turns::tell_turns;
@@ -22,7 +21,8 @@ use crate::writing::{put, samples};
 use cs_base::{Head, OutOfMemory};
 use cs_desk::Tally;
 use cs_edge::{Failed, Gate, Sink, Tap};
-use cs_setup::Setup;
+use cs_piece::Setup;
+use cs_pool::Runner;
 use cs_voice::Voice;
 use std::alloc::Global;
 use std::sync::Wait;
@@ -52,6 +52,7 @@ pub(crate) fn play_cycle<'t, R: Threads + Wait + Sync, G: Gate + Sync>(
     ensures memory { OnErr result (tally.new ≡ tally.old) }
 {
     let Ok(()) = prepare(alloc, setup, told, cycle, &mut stand, turns) else {
+        drop(stand);
         return Err(OutOfMemory);
     };
     let mut stand = stand.run(alloc, runner, cycle, tally);

@@ -1,8 +1,8 @@
 // What holds of performances: calls that do nothing, whose contracts are the laws.
 ghost use Rattle.std.specs.Prelude.{◌≤◌, ℕ, Bool};
 ghost use Rattle.cs_base.specs.declared.head.Head.{Head};
-ghost use Rattle.cs_course.specs.Heard.{frames_of};
-ghost use Rattle.cs_course.specs.Moments.{Composition};
+ghost use Rattle.cs_piece_meaning.specs.Heard.{frames_of};
+ghost use Rattle.cs_piece_meaning.specs.Moments.{Composition};
 ghost use Rattle.cs_edge.specs.Told.{IsFront};
 ghost use Rattle.cs_perform.specs.Performances.{file_after};
 ghost use Rattle.cs_wav.specs.Wav.{wav_of};

@@ -8,23 +8,17 @@
 //! How large a desk is and when it is replaced, when the graph of a cycle is built anew, and in which blocks the mix is made may
 //! be changed without anyone above noticing.
 //!
-//! Modules in reading order: `order` (what is asked for, and what comes of it), `crew`, `performance`, `start` (what a performance
-//! begins with), `by_crew` (in a scope of threads, where the crew stands), `cycle`, `stand` (what is kept from cycle to cycle),
-//! `course` (the graph that is kept), `room`, `running`, `runner` (either crew), `blocks`, `taps`, `turns`, `sizes`, `writing`;
-//! `laws`.
+//! Modules in reading order: `order` (what is asked for, and what comes of it), `performance`, `start` (what a performance begins
+//! with), `by_crew` (in a scope of threads, where the crew stands), `cycle`, `stand` (what is kept from cycle to cycle), `blocks`,
+//! `taps`, `turns`, `sizes`, `writing`; `laws`.
 #![tactic(auto)]
 
 mod blocks;
 mod by_crew;
-mod course;
-mod crew;
 mod cycle;
 mod laws;
 mod order;
 mod performance;
-mod room;
-mod runner;
-mod running;
 mod sizes;
 mod stand;
 mod start;
@@ -32,7 +26,7 @@ mod taps;
 mod turns;
 mod writing;
 
-pub use crew::Crew;
+pub use cs_pool::Crew;
 pub use laws::early_stops_are_fronts;
 pub use order::{Order, Outcome, PlayFault};
 pub use performance::perform;

@@ -2,7 +2,7 @@
 use cs_base::Bytes;
 
 /// What is asked for.
-#[derive(Clone, Copy, Debug, PartialEq, Eq)]
+#[derive(Clone, Copy)]
 pub struct Order {
     /// Whether the sound file is written. Else the sink has no call.
     pub write: bool,
@@ -13,7 +13,7 @@ pub struct Order {
 }
 
 /// What comes out beside the sound.
-#[derive(Debug, Drop)]
+#[derive(Drop)]
 pub struct Outcome {
     /// How many frames there are, each of which has a value a channel.
     pub frames: u32,
@@ -30,7 +30,7 @@ pub struct Outcome {
 }
 
 /// Why a piece wasn't performed whole.
-#[derive(Clone, Copy, Debug, PartialEq, Eq)]
+#[derive(Clone, Copy)]
 pub enum PlayFault {
     /// The sink failed.
     Sink,

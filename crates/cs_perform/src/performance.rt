@@ -2,23 +2,22 @@
 ghost use Rattle.std.specs.Prelude.{◌≡◌, ◌+◌, ◌*◌, ◌≤◌, ◌<◌, ◌^◌, ◌++◌, ◌%◌, ℕ, true, length, IfOk, OnOk, OnErr, IsErrOf};
 ghost use Rattle.std.specs.List.{count_by};
 ghost use Rattle.cs_base.specs.Limits.{most_wav_bytes};
-ghost use Rattle.cs_course.specs.Course.{begins, moment_at, opening};
-ghost use Rattle.cs_course.specs.Heard.{frames_of};
-ghost use Rattle.cs_course.specs.Moments.{Moment};
+ghost use Rattle.cs_piece_meaning.specs.Course.{begins, moment_at, opening};
+ghost use Rattle.cs_piece_meaning.specs.Heard.{frames_of};
+ghost use Rattle.cs_piece_meaning.specs.Moments.{Moment};
 ghost use Rattle.cs_edge.specs.Told.{HasCause, Rose};
 ghost use Rattle.cs_life.specs.Standing.{kept_count};
 ghost use Rattle.cs_perform.specs.Performances.{IsOutcomeOf, IsPart, IsPaused, IsWhole, if_told};
+ghost use Rattle.cs_perform.specs.inner.Crews.{MayPlay, Performs};
 ghost use Rattle.cs_perform.specs.inner.Plays.{PausedOn, PlayedInPart, PlayedOn};
 ghost use Rattle.cs_perform.specs.inner.Stands.{IsAt};
-ghost use Rattle.cs_setup.specs.Setups.{SetupData, composition_of};
+ghost use Rattle.cs_piece.specs.Setups.{SetupData, composition_of};
 ghost use Rattle.cs_turns.specs.Turns.{turn_lines_of};
 ghost use Rattle.cs_wav.specs.Wav.{bytes_of, is_out_of_range, samples_of};
 
 use crate::by_crew::play_by_crew;
-use crate::crew::Crew;
 use crate::cycle::{play_cycle, pour};
 use crate::order::{Order, Outcome, PlayFault};
-use crate::runner::Runner;
 use crate::sizes::{ends_odd, first_bytes, frames_in};
 use crate::stand::Stand;
 use crate::start::Start;
@@ -26,8 +25,9 @@ use crate::writing::{begin, finish};
 use cs_base::{Bytes, OutOfMemory};
 use cs_desk::Tally;
 use cs_edge::{Gate, Sink, Tap};
-use cs_setup::Setup;
-use cs_voice::Voice;
+use cs_piece::Setup;
+use cs_pool::{Crew, Runner};
+use cs_voice::{TableAt, Voice};
 use std::alloc::Global;
 use std::sync::Wait;
 use std::thread::Threads;
@@ -65,14 +65,46 @@ pub fn perform<K: Sink, R: Threads + Wait + Sync, G: Gate + Sync>(
     let Ok(tables) = setup.tables_at(alloc) else {
         return Err(PlayFault::OutOfMemory);
     };
-    let Ok(start) = Start::new(alloc, setup, &tables, order.wide) else {
+    play_by_crew(alloc, setup, &tables, order, crew, name, wav, taps, tally)
+}
+
+/// The performance over these tables: blocks and opening are made, and it goes on from there.
+pub(crate) fn open<'t, K: Sink, R: Threads + Wait + Sync, G: Gate + Sync>(
+    alloc: Global,
+    setup: &'t Setup,
+    tables: &'t [TableAt<'t>],
+    order: Order,
+    runner: &mut Runner<'_, Voice<'t>, R, G>,
+    name: &str,
+    wav: &mut K,
+    taps: &mut Vec<Box<dyn Tap>>,
+    tally: &mut Tally,
+) -> Result<Outcome, PlayFault>
+    requires { MayPlay setup.now order tally.old tables.now }
+    ensures { Performs (λ t h. stands_for t h) K.tells setup.now order name.now taps.old.items taps.new.items
+        tally.old tally.new wav.old wav.new result }
+{
+    let Ok(start) = Start::new(alloc, setup, tables, order.wide) else {
         return Err(PlayFault::OutOfMemory);
     };
-    play_by_crew(alloc, setup, order, crew, name, wav, taps, tally, start)
+    let Start { stand, mut blocks } = start;
+    play(
+        alloc,
+        setup,
+        order,
+        runner,
+        name,
+        wav,
+        taps,
+        tally,
+        stand,
+        &mut blocks.mix,
+        &mut blocks.out,
+    )
 }
 
 /// The performance from its opening on.
-pub(crate) fn play<'t, K: Sink, R: Threads + Wait + Sync, G: Gate + Sync>(
+fn play<'t, K: Sink, R: Threads + Wait + Sync, G: Gate + Sync>(
     alloc: Global,
     setup: &Setup,
     order: Order,
@@ -104,6 +136,7 @@ pub(crate) fn play<'t, K: Sink, R: Threads + Wait + Sync, G: Gate + Sync>(
     let frames = frames_in(setup, order.wide);
     let first = first_bytes(setup, order.wide, frames);
     let Ok(()) = begin(order.write, wav, name, &first) else {
+        drop(stand);
         return Err(PlayFault::Sink);
     };
     let mut turns = Vec::new(alloc);
@@ -178,6 +211,7 @@ fn play_all<'t, K: Sink, R: Threads + Wait + Sync, G: Gate + Sync>(
         };
         stand = next;
         let Ok(more) = pour(order, &setup.orchestra().head, mix, out, wav, taps) else {
+            drop(stand);
             return Err(PlayFault::Sink);
         };
         outside += u64::from(more);
@@ -191,6 +225,11 @@ fn close(alloc: Global, cycle: u32, mut stand: Stand<'_>) -> Result<(u64, u64), 
     ensures started { IfOk result (λ n. (s : SetupData) (m : Moment) → IsAt s stand.entry m
         → (n.0 ≡ kept_count (begins (composition_of s) cycle m).started) × (n.1 ≡ kept_count (begins (composition_of s) cycle m).not_started)) }
 {
-    stand.begin(alloc, cycle)?;
-    Ok((stand.life.started(), stand.life.not_started()))
+    let begun = stand.begin(alloc, cycle);
+    let counts = (stand.life.started(), stand.life.not_started());
+    drop(stand);
+    match begun {
+        Ok(()) => Ok(counts),
+        Err(refused) => Err(refused),
+    }
 }

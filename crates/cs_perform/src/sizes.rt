@@ -1,21 +1,20 @@
 // How large the sound file of a piece is.
 ghost use Rattle.std.specs.Prelude.{◌≡◌, ◌*◌, ◌≤◌, ◌++◌, length};
 ghost use Rattle.cs_base.specs.Limits.{most_wav_bytes};
-ghost use Rattle.cs_course.specs.Heard.{frames_of};
+ghost use Rattle.cs_piece_meaning.specs.Heard.{frames_of};
 ghost use Rattle.cs_perform.specs.Performances.{front_after};
 ghost use Rattle.cs_perform.specs.inner.Ends.{padding};
-ghost use Rattle.cs_setup.specs.Setups.{composition_of};
+ghost use Rattle.cs_piece.specs.Setups.{composition_of};
 ghost use Rattle.cs_wav.specs.Wav.{bytes_of, header_bytes, wav_of};
 
 use crate::writing::{header_of, is_odd};
-use cs_setup::Setup;
+use cs_piece::Setup;
 
 /// The number of frames.
-pub(crate) fn frames_in(setup: &Setup, wide: bool) -> u32
-    requires { setup.now.plot.cycles * setup.now.orchestra.head.ksmps * setup.now.orchestra.head.nchnls * bytes_of wide ≤ most_wav_bytes }
+pub(crate) fn frames_in(setup: &Setup, _wide: bool) -> u32
+    requires { setup.now.plot.cycles * setup.now.orchestra.head.ksmps * setup.now.orchestra.head.nchnls * bytes_of _wide ≤ most_wav_bytes }
     ensures { result ≡ setup.now.plot.cycles * setup.now.orchestra.head.ksmps }
 {
-    let _ = wide;
     setup.plot().cycles * setup.orchestra().head.ksmps
 }
 

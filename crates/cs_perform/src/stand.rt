@@ -2,27 +2,23 @@
 ghost use Rattle.std.specs.Prelude.{◌≡◌, ◌+◌, ◌*◌, ◌≤◌, ◌^◌, ℕ, [], length, map, pos, replicate, IfOk, OnOk};
 ghost use Rattle.cs_base.specs.Limits.{most_notes};
 ghost use Rattle.cs_cells.specs.Areas.{word_count};
-ghost use Rattle.cs_course.specs.Course.{begins, moment_at, opening, performed, turned_off};
-ghost use Rattle.cs_course.specs.Heard.{mix_in};
-ghost use Rattle.cs_course.specs.Moments.{Moment};
+ghost use Rattle.cs_piece_meaning.specs.Course.{begins, moment_at, opening, performed, turned_off};
+ghost use Rattle.cs_piece_meaning.specs.Heard.{mix_in};
+ghost use Rattle.cs_piece_meaning.specs.Moments.{Moment};
 ghost use Rattle.cs_desk.specs.Desk.{areas, cells};
 ghost use Rattle.cs_perform.specs.inner.Stands.{IsAt, IsReady};
-ghost use Rattle.cs_setup.specs.Setups.{SetupData, composition_of};
+ghost use Rattle.cs_piece.specs.Setups.{SetupData, composition_of};
 ghost use Rattle.cs_voice.specs.Memory.{table_of};
 ghost use Rattle.cs_voice.specs.VoiceData.{made};
 
-use crate::course::Course;
-use crate::room::make_room;
-use crate::runner::Runner;
-use crate::running::run_counted;
 use cs_base::{Head, OutOfMemory};
 use cs_cells::Layout;
-use cs_desk::{Desk, Tally};
+use cs_desk::{Course, Desk, Tally, make_room};
 use cs_edge::Gate;
 use cs_life::{Life, serial_runs_perform, voices_are_heard};
-use cs_mix::mix;
-use cs_setup::Setup;
-use cs_voice::{TableAt, Voice};
+use cs_piece::Setup;
+use cs_pool::{Runner, run_counted};
+use cs_voice::{TableAt, Voice, mix};
 use std::alloc::Global;
 use std::sync::Wait;
 use std::thread::Threads;
@@ -50,16 +46,20 @@ impl<'t> Stand<'t> {
         requires { map table_of tables.now ≡ map made (composition_of setup.now).tables }
         ensures { IfOk result (λ stand. IsAt setup.now stand (opening (composition_of setup.now))) }
     {
-        let mut desk = first_desk(alloc, setup.layout())?;
-        let life = Life::new(alloc, setup, tables, &mut desk)?;
-        let voices = Vec::new(alloc);
         let course = Course::of_jobs::<Voice<'t>>(alloc, &[])?;
-        Ok(Stand {
-            life,
-            voices,
-            desk,
-            course,
-        })
+        let mut desk = first_desk(alloc, setup.layout())?;
+        match Life::new(alloc, setup, tables, &mut desk) {
+            Ok(life) => Ok(Stand {
+                life,
+                voices: Vec::new(alloc),
+                desk,
+                course,
+            }),
+            Err(refused) => {
+                drop((desk, course));
+                Err(refused)
+            }
+        }
     }
 
     /// The notes of a cycle begin.

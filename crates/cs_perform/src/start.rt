@@ -1,14 +1,14 @@
 // What a performance begins with.
 ghost use Rattle.std.specs.Prelude.{◌≡◌, map, IfOk};
 ghost use Rattle.cs_perform.specs.inner.Stands.{IsStart};
-ghost use Rattle.cs_setup.specs.Setups.{composition_of};
+ghost use Rattle.cs_piece.specs.Setups.{composition_of};
 ghost use Rattle.cs_voice.specs.Memory.{table_of};
 ghost use Rattle.cs_voice.specs.VoiceData.{made};
 
 use crate::blocks::Blocks;
 use crate::stand::Stand;
 use cs_base::OutOfMemory;
-use cs_setup::Setup;
+use cs_piece::Setup;
 use cs_voice::TableAt;
 use std::alloc::Global;
 

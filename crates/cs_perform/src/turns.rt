@@ -1,14 +1,14 @@
 // The lines that tell in which turn each note comes.
 ghost use Rattle.std.specs.Prelude.{◌≡◌, ◌++◌, OnOk};
-ghost use Rattle.cs_course.specs.Moments.{Moment};
+ghost use Rattle.cs_piece_meaning.specs.Moments.{Moment};
 ghost use Rattle.cs_perform.specs.Performances.{if_told};
 ghost use Rattle.cs_perform.specs.inner.Stands.{IsAt, IsReady};
-ghost use Rattle.cs_setup.specs.Setups.{composition_of};
+ghost use Rattle.cs_piece.specs.Setups.{composition_of};
 ghost use Rattle.cs_turns.specs.Turns.{line_of, turns_in};
 
 use crate::stand::Stand;
 use cs_base::OutOfMemory;
-use cs_setup::Setup;
+use cs_piece::Setup;
 use cs_turns::{add_turns, layouts_have_the_stock, turns_are_levels};
 use std::alloc::Global;
 

@@ -11,8 +11,8 @@ use Rattle.cs_cells.specs.declared.footprint.Footprint.{Footprint}
 use Rattle.cs_graph.specs.Conflict.{Clash, UsesResource}
 use Rattle.cs_rwset.specs.Footprints.{is_among, places_holding}
 use Rattle.cs_rwset.proofs.Placed.{among_contains, contains_among, contains_cases, contains_first, contains_none, contains_rest, exact_places, places_exact}
-use Rattle.cs_sounding.specs.Follows.{AreNamed}
-use Rattle.cs_sounding.specs.Placing.{HasArea, area_of}
+use Rattle.cs_voice_meaning.specs.Follows.{AreNamed}
+use Rattle.cs_voice_meaning.specs.Placing.{HasArea, area_of}
 use Rattle.cs_turns.specs.Turns.{Touched, conflict, share}
 use Rattle.cs_turns.proofs.Contained.{Within}
 

@@ -6,7 +6,7 @@ use Rattle.std.proofs.lemmas.Bool.{cases_lt}
 use Rattle.std.proofs.lemmas.List.{get_or_append_left, length-append, length-map}
 use Rattle.cs_cells.specs.declared.footprint.Area.{Area}
 use Rattle.cs_cells.specs.declared.footprint.Footprint.{Footprint}
-use Rattle.cs_course.specs.Moments.{Active, Composition}
+use Rattle.cs_piece_meaning.specs.Moments.{Active, Composition}
 use Rattle.cs_graph.specs.Conflict.{foot}
 use Rattle.cs_graph.specs.Graph.{IsLevelled}
 use Rattle.cs_ir.specs.Resources.{Stock}

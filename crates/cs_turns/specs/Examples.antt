@@ -3,8 +3,8 @@ use Rattle.std.specs.Prelude.{ℕ, ℤ, pos, List, [], ◌∷◌, map, Option, S
 use Rattle.std.specs.Ordering.{int_eq}
 use Rattle.cs_base.specs.declared.resource.Rate.TheVariants as rate
 use Rattle.cs_base.specs.declared.resource.Res.TheVariants as res
-use Rattle.cs_course.specs.Examples.{note}
-use Rattle.cs_course.specs.Moments.{Composition}
+use Rattle.cs_piece_meaning.specs.Examples.{note}
+use Rattle.cs_piece_meaning.specs.Moments.{Composition}
 use Rattle.cs_ir.specs.Resources.{Spaces, Stock}
 use Rattle.cs_meaning.specs.Core.{Block, core}
 use Rattle.cs_meaning.specs.Examples.{no_code, reading_any, reading_first, whole, writing_first}

@@ -5,16 +5,16 @@ use Rattle.std.specs.Option.{is_some}
 use Rattle.cs_base.specs.declared.resource.Res.{Res}
 use Rattle.cs_cells.specs.declared.footprint.Area.{Area}
 use Rattle.cs_cells.specs.declared.footprint.Footprint.{Footprint}
-use Rattle.cs_course.specs.Course.{begins, moment_at}
-use Rattle.cs_course.specs.Moments.{Active, Composition}
+use Rattle.cs_piece_meaning.specs.Course.{begins, moment_at}
+use Rattle.cs_piece_meaning.specs.Moments.{Active, Composition}
 use Rattle.cs_ir.specs.Resources.{Stock}
 use Rattle.cs_layout.specs.declared.areas.LiveTable.{LiveTable}
 use Rattle.cs_meaning.specs.Core.{Block}
 use Rattle.cs_meaning.specs.Plain.{Table}
 use Rattle.cs_meaning.specs.Uses.{block_uses, block_writes}
 use Rattle.cs_rwset.specs.Footprints.{is_among, places_holding, stock_of}
-use Rattle.cs_sounding.specs.Follows.{AreNamed}
-use Rattle.cs_sounding.specs.Placing.{HasArea}
+use Rattle.cs_voice_meaning.specs.Follows.{AreNamed}
+use Rattle.cs_voice_meaning.specs.Placing.{HasArea}
 
 -- the tables that may change: those that aren't frozen
 abbrev pub live : List Table → List Table

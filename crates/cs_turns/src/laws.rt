@@ -3,7 +3,7 @@ ghost use Rattle.std.specs.Prelude.{◌≡◌, ◌∷◌, [], ℕ, List, length}
 ghost use Rattle.std.specs.List.{AllZip};
 ghost use Rattle.cs_cells.specs.declared.footprint.Area.{Area};
 ghost use Rattle.cs_cells.specs.declared.footprint.Footprint.{Footprint};
-ghost use Rattle.cs_course.specs.Moments.{Active, Composition};
+ghost use Rattle.cs_piece_meaning.specs.Moments.{Active, Composition};
 ghost use Rattle.cs_graph.specs.Graph.{IsLevelled};
 ghost use Rattle.cs_layout.specs.Layouts.{areas_of};
 ghost use Rattle.cs_rwset.specs.Footprints.{stock_of};

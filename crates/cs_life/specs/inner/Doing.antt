@@ -2,10 +2,10 @@
 use Rattle.std.specs.Prelude.{ℕ, ℤ, pos, ◌≡◌, ◌<◌, List, Some, None}
 use Rattle.cs_cells.specs.Areas.{word_count}
 use Rattle.cs_cells.specs.Cells.{Cells}
-use Rattle.cs_course.specs.Moments.{Composition, Moment}
+use Rattle.cs_piece_meaning.specs.Moments.{Composition, Moment}
 use Rattle.cs_gen.specs.Faults.{table_fault}
 use Rattle.cs_meaning.specs.Plain.{Table, find_table}
-use Rattle.cs_setup.specs.Setups.{composition_of}
+use Rattle.cs_piece.specs.Setups.{composition_of}
 use Rattle.cs_tempo.specs.declared.plot.EventAct.{EventAct}
 use Rattle.cs_tempo.specs.declared.plot.EventAct.TheVariants as act
 use Rattle.cs_voice.specs.VoiceData.{VoiceData}

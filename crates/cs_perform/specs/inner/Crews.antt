@@ -1,10 +1,10 @@
 -- What a performance by a crew may begin from, and what it owes, each as one fact.
-use Rattle.std.specs.Prelude.{ℕ, ◌≡◌, ◌≤◌, ◌*◌, ◌^◌, ℤ, true, List, Result, IfOk, OnOk, OnErr, IsErrOf}
+use Rattle.std.specs.Prelude.{ℕ, ◌≡◌, ◌≤◌, ◌*◌, ◌^◌, ℤ, true, List, map, Result, IfOk, OnOk, OnErr, IsErrOf}
 use Rattle.cs_base.specs.Limits.{most_wav_bytes}
 use Rattle.cs_desk.specs.declared.receipt.Tally.{Tally}
 use Rattle.cs_edge.specs.Moves.{SinkTold}
 use Rattle.cs_edge.specs.Told.{Rose}
-use Rattle.cs_setup.specs.Setups.{SetupData, composition_of}
+use Rattle.cs_piece.specs.Setups.{SetupData, composition_of}
 use Rattle.cs_turns.specs.Turns.{turn_lines_of}
 use Rattle.cs_wav.specs.Wav.{bytes_of}
 use Rattle.cs_perform.specs.Performances.{IsOutcomeOf, IsPart, IsPaused, IsWhole, if_told}
@@ -12,15 +12,16 @@ use Rattle.cs_perform.specs.declared.order.Order.{Order}
 use Rattle.cs_perform.specs.declared.order.Outcome.{Outcome}
 use Rattle.cs_perform.specs.declared.order.PlayFault.{PlayFault}
 use Rattle.cs_perform.specs.declared.order.PlayFault.TheVariants as fault
-use Rattle.cs_perform.specs.declared.start.Start.{Start}
-use Rattle.cs_perform.specs.inner.Stands.{IsStart}
+use Rattle.cs_voice.specs.Memory.{table_of}
+use Rattle.cs_voice.specs.VoiceData.{made}
+use Rattle.cs_voice.specs.declared.stage.TableAt.{TableAt}
 
--- the tally has room, the file isn't too long, and all is made for the opening
-pub record MayPlay (s : SetupData) (order : Order) (before : Tally) (start : Start) : Type 0 where
+-- the tally has room, the file isn't too long, and the tables are those of the piece
+pub record MayPlay (s : SetupData) (order : Order) (before : Tally) (found : List TableAt) : Type 0 where
   pub cycles : before.cycles ≤ 2 ^ 62
   pub notes : before.notes ≤ 2 ^ 62
   pub bytes : s.plot.cycles * s.orchestra.head.ksmps * s.orchestra.head.nchnls * bytes_of order.wide ≤ most_wav_bytes
-  pub begun : IsStart s order.wide start
+  pub tables : map table_of found ≡ map made (composition_of s).tables
 
 -- what `perform` says of what it answers, of what it was told and of what it leaves
 pub record Performs {T W : Type 0} (stands_for : T → List ℤ → Type 0) (tells : W → SinkTold) (s : SetupData) (order : Order)

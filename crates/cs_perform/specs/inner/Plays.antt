@@ -1,8 +1,8 @@
 -- What a run of cycles does to taps, tally and sink, and what the end of the file does.
 use Rattle.std.specs.Prelude.{ℕ, ◌≡◌, ◌+◌, ◌*◌, ◌≤◌, ◌<◌, ℤ, Bool, List, ◌++◌}
 use Rattle.cs_base.specs.Limits.{most_notes}
-use Rattle.cs_course.specs.Heard.{frames_before, notes_before}
-use Rattle.cs_course.specs.Moments.{Composition}
+use Rattle.cs_piece_meaning.specs.Heard.{frames_before, notes_before}
+use Rattle.cs_piece_meaning.specs.Moments.{Composition}
 use Rattle.cs_desk.specs.declared.receipt.Tally.{Tally}
 use Rattle.cs_edge.specs.Told.{IsFront}
 use Rattle.cs_edge.specs.Moves.{SinkTold, WroteMore, Wrote, Finished, Stopped}

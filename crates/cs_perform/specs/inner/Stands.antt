@@ -2,18 +2,18 @@
 use Rattle.std.specs.Prelude.{ℕ, Bool, ◌≡◌, ◌+◌, ◌*◌, ◌≤◌, List, length, map}
 use Rattle.cs_base.specs.Limits.{most_notes}
 use Rattle.cs_base.specs.declared.head.Head.{Head}
-use Rattle.cs_course.specs.Course.{opening, played_in}
-use Rattle.cs_course.specs.Moments.{Composition, Moment}
+use Rattle.cs_piece_meaning.specs.Course.{opening, played_in}
+use Rattle.cs_piece_meaning.specs.Moments.{Composition, Moment}
 use Rattle.cs_desk.specs.Desk.{areas, cells, HasRoom}
 use Rattle.cs_desk.specs.declared.receipt.Tally.{Tally}
 use Rattle.cs_life.specs.Standing.{Stands}
-use Rattle.cs_setup.specs.Setups.{SetupData, composition_of}
+use Rattle.cs_piece.specs.Setups.{SetupData, composition_of}
 use Rattle.cs_voice.specs.VoiceData.{VoiceData}
 use Rattle.cs_wav.specs.Wav.{bytes_of}
 use Rattle.cs_perform.specs.declared.blocks.Blocks.{Blocks}
 use Rattle.cs_perform.specs.declared.stand.Stand.{Stand}
 use Rattle.cs_perform.specs.declared.start.Start.{Start}
-use Rattle.cs_perform.specs.inner.Courses.{IsCourseOf}
+use Rattle.cs_desk.specs.Courses.{IsCourseOf}
 
 -- what is kept stands at a moment of a setup's performance, and the course is one
 pub record IsAt (s : SetupData) (stand : Stand) (m : Moment) : Type 0 where

@@ -1,5 +1,5 @@
 use Rattle.std.proofs.Common.{◌≡◌, Ok, subst}
-use Rattle.cs_setup.specs.Setups.{AreOfOneSize}
+use Rattle.cs_piece.specs.Setups.{AreOfOneSize}
 use Rattle.cs_tempo.specs.Limits.{limit_of}
 use Rattle.cs_tempo.specs.Plot.{plot_of}
 use Rattle.cs_tempo.specs.declared.plot.Plot.{Plot}

@@ -1,6 +1,6 @@
 use Rattle.std.proofs.Common.{◌≡◌, ◌++◌, length}
 use Rattle.std.specs.Vec.Iter.{into_iter_items, into_iter_len}
-use Rattle.cs_course.specs.Moments.{Composition, Moment, clock_of}
+use Rattle.cs_piece_meaning.specs.Moments.{Composition, Moment, clock_of}
 use Rattle.cs_life.specs.inner.Starting.{Wait, all_wanted}
 use Rattle.cs_sched.specs.Times as times
 use Rattle.cs_life.proofs.starting.ask_all.Given as goal

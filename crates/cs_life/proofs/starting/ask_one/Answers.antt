@@ -1,5 +1,5 @@
 use Rattle.std.proofs.Common.{◌∙◌, ap, subst, sym}
-use Rattle.cs_course.specs.Starts.{asked}
+use Rattle.cs_piece_meaning.specs.Starts.{asked}
 use Rattle.cs_life.proofs.Waits.{asked_waits}
 use Rattle.cs_life.specs.inner.Starting.{Wait}
 use Rattle.cs_sched.specs.Times.{Clock, due_of}

@@ -1,7 +1,7 @@
 use Rattle.std.proofs.Common.{ap, subst, sym}
-use Rattle.cs_course.specs.Course.{begins, moment_at, performed}
-use Rattle.cs_course.specs.Moments.{Composition, Moment}
-use Rattle.cs_setup.specs.Setups.{composition_of}
+use Rattle.cs_piece_meaning.specs.Course.{begins, moment_at, performed}
+use Rattle.cs_piece_meaning.specs.Moments.{Composition, Moment}
+use Rattle.cs_piece.specs.Setups.{composition_of}
 use Rattle.cs_typed.specs.declared.tree.TypedOrc.{TypedOrc}
 use Rattle.cs_perform.specs.inner.Stands.{IsAt}
 use Rattle.cs_perform.proofs.Cycles.{counts_cycle, moment_after}

@@ -1,7 +1,7 @@
 use Rattle.std.proofs.Common.{sym}
 use Rattle.std.proofs.lemmas.Result.{on_ok_weaker}
-use Rattle.cs_course.specs.Course.{begins}
-use Rattle.cs_setup.specs.Setups.{composition_of}
+use Rattle.cs_piece_meaning.specs.Course.{begins}
+use Rattle.cs_piece.specs.Setups.{composition_of}
 use Rattle.cs_perform.proofs.cycle.prepare.Goals as goal
 
 pub begin-requires : goal.begin-requires

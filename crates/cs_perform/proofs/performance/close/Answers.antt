@@ -1,9 +1,9 @@
 use Rattle.std.proofs.Common.{◌∙◌}
 use Rattle.cs_perform.proofs.performance.close.Goals as goal
 
-pub returns : goal.returns
-returns c = record {
+pub returns-in-Ok : goal.returns-in-Ok
+returns-in-Ok c = record {
   started = λ s m at.
-      let after = c.in_ok-begin.ensures.begun s m at in
+      let after = c.in-Ok.ensures.begun s m at in
       (c.started.ensures ∙ after.stands.started, c.not_started.ensures ∙ after.stands.not_started);
 }

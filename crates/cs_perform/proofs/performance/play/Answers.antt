@@ -1,9 +1,9 @@
 use Rattle.std.proofs.Common.{◌≡◌, ◌≤◌, ℕ, List, ◌++◌, refl, ap, sym, subst, ◌∙◌, arith}
-use Rattle.cs_course.specs.Course.{begins, closing, moment_at}
-use Rattle.cs_course.specs.Moments.{Composition}
+use Rattle.cs_piece_meaning.specs.Course.{begins, closing, moment_at}
+use Rattle.cs_piece_meaning.specs.Moments.{Composition}
 use Rattle.cs_life.specs.Standing.{kept_count}
 use Rattle.cs_perform.specs.Performances.{if_told}
-use Rattle.cs_setup.specs.Setups.{composition_of}
+use Rattle.cs_piece.specs.Setups.{composition_of}
 use Rattle.cs_turns.specs.Turns.{turn_lines_of}
 use Rattle.cs_tempo.specs.declared.plot.Plot.{Plot}
 use Rattle.cs_perform.specs.declared.order.PlayFault.TheVariants.{OutOfMemory}

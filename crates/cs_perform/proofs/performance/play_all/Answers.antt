@@ -2,12 +2,12 @@ use Rattle.std.proofs.Common.{◌≡◌, ◌≤◌, ◌<◌, ◌*◌, ◌+◌, �
 use Rattle.std.specs.List.{count_by}
 use Rattle.std.proofs.lemmas.List.Sums.{count_by-le-length}
 use Rattle.cs_base.specs.declared.head.Head.{Head}
-use Rattle.cs_course.specs.Course.{moment_at}
-use Rattle.cs_course.specs.Heard.{frames_before, mix_in}
-use Rattle.cs_course.specs.Moments.{Composition}
+use Rattle.cs_piece_meaning.specs.Course.{moment_at}
+use Rattle.cs_piece_meaning.specs.Heard.{frames_before, mix_in}
+use Rattle.cs_piece_meaning.specs.Moments.{Composition}
 use Rattle.cs_edge.specs.Moves.{WroteMore}
 use Rattle.cs_edge.specs.Told.{IsFront}
-use Rattle.cs_setup.specs.Setups.{composition_of}
+use Rattle.cs_piece.specs.Setups.{composition_of}
 use Rattle.cs_tempo.specs.declared.plot.Plot.{Plot}
 use Rattle.cs_typed.specs.declared.tree.TypedOrc.{TypedOrc}
 use Rattle.cs_turns.specs.Turns.{turn_lines_before}

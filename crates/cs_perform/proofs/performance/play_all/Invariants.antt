@@ -1,11 +1,11 @@
 use Rattle.std.proofs.Common.{◌≡◌, ◌++◌}
 use Rattle.std.specs.List.{count_by}
-use Rattle.cs_course.specs.Course.{moment_at}
-use Rattle.cs_course.specs.Heard.{frames_before}
+use Rattle.cs_piece_meaning.specs.Course.{moment_at}
+use Rattle.cs_piece_meaning.specs.Heard.{frames_before}
 use Rattle.cs_perform.specs.Performances.{if_told}
 use Rattle.cs_perform.specs.inner.Plays.{PlayedOn}
 use Rattle.cs_perform.specs.inner.Stands.{IsAt}
-use Rattle.cs_setup.specs.Setups.{composition_of}
+use Rattle.cs_piece.specs.Setups.{composition_of}
 use Rattle.cs_turns.specs.Turns.{turn_lines_before}
 use Rattle.cs_wav.specs.Wav.{bytes_of, is_out_of_range, samples_of}
 use Rattle.cs_perform.proofs.performance.play_all.Given as goal

@@ -1,7 +1,7 @@
 use Rattle.std.proofs.Common.{◌≡◌, ◌≤◌, ◌*◌, ℕ, refl, ap, sym, subst, ◌∙◌}
 use Rattle.cs_base.specs.Limits.{most_wav_bytes}
 use Rattle.cs_base.specs.declared.head.Head.{Head}
-use Rattle.cs_setup.specs.Setups.{composition_of}
+use Rattle.cs_piece.specs.Setups.{composition_of}
 use Rattle.cs_typed.specs.declared.tree.TypedOrc.{TypedOrc}
 use Rattle.cs_wav.specs.Wav.{bytes_of, header_bytes, size_of}
 use Rattle.cs_perform.proofs.Wholes.{header_is}

@@ -12,5 +12,5 @@ overflow_mul-result c =
     ap (λ (p : Plot). p.cycles * c.orchestra.result.now.head.ksmps) c.plot.ensures
     ∙ ap (λ (o : TypedOrc). c.args.setup.now.plot.cycles * o.head.ksmps) c.orchestra.ensures in
     let fits : c.args.setup.now.plot.cycles * c.args.setup.now.orchestra.head.ksmps ≤ most_wav_bytes =
-    frames_fit _ _ _ _ c.requires (some_width c.args.wide) c.args.setup.now.orchestra.head.nchnls_in_range.0 in
+    frames_fit _ _ _ _ c.requires (some_width c.args._wide) c.args.setup.now.orchestra.head.nchnls_in_range.0 in
     omega (arith, is, fits)

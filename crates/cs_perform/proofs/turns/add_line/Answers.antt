@@ -2,10 +2,10 @@ use Rattle.std.proofs.Common.{◌≡◌, ◌++◌, ℕ, List, length, map, ap, s
 use Rattle.std.proofs.lemmas.Result.{on_ok_weaker}
 use Rattle.std.specs.List.{AllZip}
 use Rattle.cs_cells.specs.declared.footprint.Footprint.{Footprint}
-use Rattle.cs_course.specs.Moments.{Active, Composition}
+use Rattle.cs_piece_meaning.specs.Moments.{Active, Composition}
 use Rattle.cs_graph.specs.Graph.{Dependencies}
 use Rattle.cs_rwset.specs.Footprints.{stock_of}
-use Rattle.cs_setup.specs.Setups.{SetupData, composition_of}
+use Rattle.cs_piece.specs.Setups.{SetupData, composition_of}
 use Rattle.cs_turns.specs.Turns.{IsFootOf, line_of, stock_in, turns_in}
 use Rattle.cs_typed.specs.TypedTree as typed
 use Rattle.cs_voice.specs.VoiceData.{VoiceData}

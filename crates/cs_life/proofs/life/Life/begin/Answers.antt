@@ -1,17 +1,17 @@
 use Rattle.std.proofs.Common.{ℤ, pos, slice_index_or, ◌∙◌, ◌++◌, List, length, ap, map, refl}
 use Rattle.std.proofs.lemmas.Result.{on_ok_weaker}
 use Rattle.cs_cells.specs.Cells.{cell}
-use Rattle.cs_course.specs.Moments.{Composition, Moment}
-use Rattle.cs_course.specs.Starts.{Start, all_asked, begun, time_of}
+use Rattle.cs_piece_meaning.specs.Moments.{Composition, Moment}
+use Rattle.cs_piece_meaning.specs.Starts.{Start, all_asked, begun, time_of}
 use Rattle.cs_ir.specs.Asks.{ask_of}
 use Rattle.cs_ir.specs.declared.ask.Ask.{Ask}
 use Rattle.cs_life.proofs.Beginning.{clock_is, ends_long, is_ready}
 use Rattle.cs_life.proofs.Performing.{flags_long}
 use Rattle.cs_meaning.specs.Notes.{Note}
 use Rattle.cs_meaning.specs.Plain.{Plain}
-use Rattle.cs_setup.specs.Setups.{composition_of}
-use Rattle.cs_sounding.specs.Voices.{initialised}
-use Rattle.cs_start.specs.Starts.{sheet_at}
+use Rattle.cs_piece.specs.Setups.{composition_of}
+use Rattle.cs_voice_meaning.specs.Voices.{initialised}
+use Rattle.cs_voice.specs.Starts.{sheet_at}
 use Rattle.cs_tempo.specs.declared.plot.Plot.{Plot}
 use Rattle.cs_life.proofs.life.Life.begin.Goals as goal
 

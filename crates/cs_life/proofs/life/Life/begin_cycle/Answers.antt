@@ -1,8 +1,8 @@
 use Rattle.std.proofs.Common.{refl}
 use Rattle.std.proofs.lemmas.Result.{on_ok_weaker}
-use Rattle.cs_course.specs.Course.{events_in, still}
-use Rattle.cs_course.specs.Starts.{all_done}
-use Rattle.cs_setup.specs.Setups.{composition_of}
+use Rattle.cs_piece_meaning.specs.Course.{events_in, still}
+use Rattle.cs_piece_meaning.specs.Starts.{all_done}
+use Rattle.cs_piece.specs.Setups.{composition_of}
 use Rattle.cs_life.proofs.Going.{begun, goes_on, in_step}
 use Rattle.cs_life.proofs.life.Life.begin_cycle.Goals as goal
 

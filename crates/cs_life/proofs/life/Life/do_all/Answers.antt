@@ -1,6 +1,6 @@
 use Rattle.std.proofs.Common.{arith, refl, ◌∙◌}
-use Rattle.cs_course.specs.Starts.{act_done}
-use Rattle.cs_setup.specs.Setups.{composition_of}
+use Rattle.cs_piece_meaning.specs.Starts.{act_done}
+use Rattle.cs_piece.specs.Setups.{composition_of}
 use Rattle.cs_life.proofs.Going.{all_of_them, event_can, event_done, goes_on}
 use Rattle.cs_life.proofs.life.Life.do_all.Goals as goal
 

@@ -1,6 +1,6 @@
 use Rattle.std.proofs.Common.{◌≡◌, length, take}
-use Rattle.cs_course.specs.Starts.{all_done}
-use Rattle.cs_setup.specs.Setups.{composition_of}
+use Rattle.cs_piece_meaning.specs.Starts.{all_done}
+use Rattle.cs_piece.specs.Setups.{composition_of}
 use Rattle.cs_life.specs.inner.Doing.{CanGoOn, HasGoneOn}
 use Rattle.cs_life.proofs.life.Life.do_all.Given as goal
 

@@ -1,5 +1,5 @@
 use Rattle.std.proofs.Common.{◌∙◌, ◌+◌, ◌<◌, subst, sym}
-use Rattle.cs_course.specs.Starts.{entered}
+use Rattle.cs_piece_meaning.specs.Starts.{entered}
 use Rattle.cs_life.proofs.Standings.{live_so, refused_if, vain_so}
 use Rattle.cs_life.specs.Standing.{Stands}
 use Rattle.cs_life.specs.inner.Starting.{IsBegun, Joined}

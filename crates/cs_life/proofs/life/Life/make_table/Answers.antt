@@ -1,7 +1,7 @@
 use Rattle.std.proofs.Common.{ap, length, pos, sym, w64, ◌∙◌}
 use Rattle.std.proofs.Math.Facts.{to_z-of_z}
 use Rattle.cs_gen.specs.Points.{points_of}
-use Rattle.cs_setup.specs.Setups.{composition_of}
+use Rattle.cs_piece.specs.Setups.{composition_of}
 use Rattle.cs_life.proofs.Tabled.{area_ready, made_elsewhere, made_in_cells}
 use Rattle.cs_life.proofs.life.Life.make_table.Goals as goal
 

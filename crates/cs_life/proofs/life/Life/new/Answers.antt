@@ -2,9 +2,9 @@ use Rattle.std.proofs.Common.{ap, length, pos, refl, subst, sym, ◌∙◌}
 use Rattle.std.proofs.lemmas.List.{length-replicate}
 use Rattle.cs_cells.specs.Areas.{word_count}
 use Rattle.cs_cells.specs.Cells.{cell}
-use Rattle.cs_course.specs.Course.{outside_done}
-use Rattle.cs_note.specs.VoicesOfNotes.{Hold}
-use Rattle.cs_setup.specs.Setups.{composition_of}
+use Rattle.cs_piece_meaning.specs.Course.{outside_done}
+use Rattle.cs_piece.specs.VoicesOfNotes.{Hold}
+use Rattle.cs_piece.specs.Setups.{composition_of}
 use Rattle.cs_life.proofs.Flags.{as_many}
 use Rattle.cs_life.proofs.Opened.{none_made, opened}
 use Rattle.cs_life.proofs.life.Life.new.Goals as goal

@@ -2,9 +2,9 @@ use Rattle.std.proofs.Common.{◌≡◌, ◌==◌, true, false, length, rules}
 use Rattle.std.specs.Prelude.{◌||◌, nat_lt, None}
 use Rattle.std.proofs.lemmas.Result.{on_ok_weaker}
 use Rattle.cs_base.specs.Limits.{most_notes}
-use Rattle.cs_course.specs.Starts.{Start}
+use Rattle.cs_piece_meaning.specs.Starts.{Start}
 use Rattle.cs_life.proofs.Beginning.{IsThere, none_there, there_is_room, too_many}
-use Rattle.cs_setup.specs.Setups.{composition_of}
+use Rattle.cs_piece.specs.Setups.{composition_of}
 use Rattle.cs_life.proofs.life.Life.start_note.Goals as goal
 
 pub returns-in-None-clause-started : goal.returns-in-None-clause-started

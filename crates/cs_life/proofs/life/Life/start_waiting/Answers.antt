@@ -1,9 +1,9 @@
 use Rattle.std.proofs.Common.{◌≡◌, refl, rules, to_z, of_z, w64, subst, ◌∙◌}
 use Rattle.cs_base.specs.Limits.{most_asks}
-use Rattle.cs_course.specs.Moments.{Moment}
-use Rattle.cs_course.specs.Starts.{start_in, start_of, taken}
+use Rattle.cs_piece_meaning.specs.Moments.{Moment}
+use Rattle.cs_piece_meaning.specs.Starts.{start_in, start_of, taken}
 use Rattle.cs_sched.specs.Waiting.{waiting}
-use Rattle.cs_setup.specs.Setups.{SetupData, composition_of}
+use Rattle.cs_piece.specs.Setups.{SetupData, composition_of}
 use Rattle.cs_life.specs.Standing.{Stands}
 use Rattle.cs_life.proofs.Going.{goes_on}
 use Rattle.cs_life.proofs.Waited.{all_started, most_started, none_started, one_started, start_as, taken_out}

@@ -2,12 +2,12 @@ use Rattle.std.proofs.Common.{◌<◌, ℕ, List, ap, sym, subst, ◌∙◌}
 use Rattle.std.proofs.lemmas.Result.{on_ok_weaker}
 use Rattle.cs_cells.specs.Areas.{word_count}
 use Rattle.cs_cells.specs.declared.footprint.Area.{Area}
-use Rattle.cs_course.specs.Moments.{Moment}
+use Rattle.cs_piece_meaning.specs.Moments.{Moment}
 use Rattle.cs_desk.specs.Desk.{Standing, areas, cells}
 use Rattle.cs_life.specs.Standing.{Stands}
 use Rattle.cs_perform.specs.inner.Stands.{IsAt}
 use Rattle.cs_perform.proofs.Standings.{begun_at, of_setup}
-use Rattle.cs_setup.specs.Setups.{SetupData, composition_of}
+use Rattle.cs_piece.specs.Setups.{SetupData, composition_of}
 use Rattle.cs_perform.proofs.stand.Stand.begin.Goals as goal
 
 pub begin_cycle-requires-clause-get : goal.begin_cycle-requires-clause-get

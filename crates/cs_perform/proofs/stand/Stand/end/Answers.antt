@@ -1,6 +1,6 @@
 use Rattle.std.proofs.Common.{◌∙◌}
 use Rattle.cs_perform.proofs.Standings.{count_ends}
-use Rattle.cs_setup.specs.Setups.{composition_of}
+use Rattle.cs_piece.specs.Setups.{composition_of}
 use Rattle.cs_perform.proofs.stand.Stand.end.Goals as goal
 
 pub end_cycle-requires : goal.end_cycle-requires

@@ -1,8 +1,8 @@
 use Rattle.std.proofs.Common.{◌≡◌, List, ap, subst, sym, ◌∙◌}
 use Rattle.std.specs.List.{All}
 use Rattle.cs_base.specs.declared.head.Head.{Head}
-use Rattle.cs_mix.specs.Mixing.{mixed}
-use Rattle.cs_setup.specs.Setups.{composition_of}
+use Rattle.cs_voice.specs.Mixing.{mixed}
+use Rattle.cs_piece.specs.Setups.{composition_of}
 use Rattle.cs_voice.specs.VoiceData.{VoiceData}
 use Rattle.cs_perform.proofs.stand.Stand.mix_into.Goals as goal
 

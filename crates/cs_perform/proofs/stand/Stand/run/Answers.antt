@@ -4,7 +4,7 @@ use Rattle.cs_cells.specs.declared.footprint.Footprint.{Footprint}
 use Rattle.cs_desk.specs.Desk.{areas, cells}
 use Rattle.cs_graph.specs.Graph.{IsFit}
 use Rattle.cs_perform.proofs.Standings.{areas_same, feet_in_areas, kept_course, ran_at}
-use Rattle.cs_setup.specs.Setups.{composition_of}
+use Rattle.cs_piece.specs.Setups.{composition_of}
 use Rattle.cs_voice.specs.VoiceData.{VoiceData}
 use Rattle.cs_perform.proofs.stand.Stand.run.Goals as goal
 

@@ -1,8 +1,0 @@
-use Rattle.cs_note.proofs.Played.{plays_from, performed_from}
-use Rattle.cs_note.proofs.laws.instruments_are_performed.Goals as goal
-
-pub returns-clause-playable : goal.returns-clause-playable
-returns-clause-playable c = plays_from
-
-pub returns-clause-performed : goal.returns-clause-performed
-returns-clause-performed c = performed_from

@@ -1,0 +1,9 @@
+mod Apart
+mod Bodies
+mod Giving
+mod Marks
+mod Readied
+mod Rights
+mod Staged
+pub mod Joined
+pub mod Played

@@ -1,0 +1,41 @@
+-- What a typed orchestra and a plot ask for.
+use Rattle.std.specs.Prelude.{ℕ, ℤ, pos, not, List, [], ◌∷◌, filter, map, Option, Some, None, if◌then◌else◌}
+use Rattle.std.specs.Option.{is_some, option_map}
+use Rattle.std.specs.Ordering.{int_eq}
+use Rattle.cs_cells.specs.declared.footprint.Area.{Area}
+use Rattle.cs_code.specs.Lowered.{bodies, spaces_in}
+use Rattle.cs_piece_meaning.specs.Moments.{Composition}
+use Rattle.cs_layout.specs.Layouts.{areas_of}
+use Rattle.cs_layout.specs.declared.areas.LiveTable.{LiveTable}
+use Rattle.cs_meaning.specs.Core.{core}
+use Rattle.cs_meaning.specs.Plain.{Table}
+use Rattle.cs_tempo.specs.declared.plot.Event.{Event}
+use Rattle.cs_tempo.specs.declared.plot.Plot.{Plot}
+use Rattle.cs_typed.specs.TypedTree as typed
+use Rattle.cs_piece.specs.Tables.{tables_in}
+pub use Rattle.cs_piece.specs.Tables.{Given, given_by, given_in, firsts, is_frozen, may_be_written, only, stores_into, table_in}
+
+-- those whose points are cells
+abbrev pub live_in : List Table → List LiveTable
+live_in tables = map (λ (t : Table). record { number = t.number; size = t.size }) (filter (λ (t : Table). not (is_some t.frozen)) tables)
+
+-- where the cells of a piece are
+abbrev pub areas_in : typed.Orchestra → List Event → List Area
+areas_in o events = areas_of o.head.ksmps o.globals (spaces_in o) (live_in (tables_in o events))
+
+-- the body of a number
+abbrev pub body_of : List (ℕ × typed.Block) → ℤ → Option typed.Block
+body_of [] z = None
+body_of (p ∷ rest) z = if int_eq z (pos p.0) then Some p.1 else body_of rest z
+
+-- What is performed.
+abbrev pub composition : typed.Orchestra → Plot → Composition
+composition o plot = record {
+  head = o.head;
+  spaces = spaces_in o;
+  outside = core (spaces_in o) o.zero;
+  instrument = λ z. option_map (core (spaces_in o)) (body_of (bodies o.instrs) z);
+  tables = tables_in o plot.events;
+  events = plot.events;
+  cycles = plot.cycles;
+}

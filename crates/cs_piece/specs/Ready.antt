@@ -1,0 +1,51 @@
+-- What whoever performs a piece rests on: its stage, and its instruments.
+use Rattle.std.specs.Prelude.{ℕ, ℤ, ◌≡◌, Bool, List, length, map, None}
+use Rattle.cs_machine.specs.Access.{AreSpaces, spaces_of}
+use Rattle.cs_cells.specs.Areas.{IsLaid, limit_passed, IsFootprint}
+use Rattle.cs_cells.specs.declared.footprint.Footprint.{Footprint}
+use Rattle.cs_code.specs.Means.{Plan}
+use Rattle.cs_piece_meaning.specs.Moments.{Composition}
+use Rattle.cs_ir.specs.Instruments.{Numbered}
+use Rattle.cs_meaning.specs.Core.{Block}
+use Rattle.cs_meaning.specs.Uses.{block_uses, block_writes}
+use Rattle.cs_piece.specs.VoicesOfNotes.{Perform}
+use Rattle.cs_rwset.specs.Footprints.{places_holding, stock_of}
+use Rattle.cs_voice_meaning.specs.Follows.{AreNamed, Kinds}
+use Rattle.cs_voice_meaning.specs.Placing.{HasArea, IsPlaced}
+use Rattle.cs_voice_meaning.specs.Voices.{IsPlayable}
+use Rattle.cs_voice.specs.Starts.{piece_at, sheet_at}
+use Rattle.cs_voice.specs.Tables.{CanAllBePlayed, tables_of}
+use Rattle.cs_machine.specs.States.{header_of}
+use Rattle.cs_voice.specs.Memory.{table_of}
+use Rattle.cs_voice.specs.VoiceData.{made}
+use Rattle.cs_voice.specs.declared.stage.Stage.{Stage}
+
+-- A stage is that of a composition: its header, zak spaces and tables, and a layout in which all that notes share is placed,
+-- whichever of the tables have been made.
+pub record IsStageOf (c : Composition) (stage : Stage) : Type 0 where
+  pub head : header_of stage.head.now ≡ c.head
+  pub spaces : record { control = stage.zak_k; audio = stage.zak_a } ≡ c.spaces
+  pub tables : map table_of stage.tables.now ≡ map made c.tables
+  pub laid : IsLaid stage.layout.now
+  pub within : limit_passed stage.layout.now ≡ None
+  pub places : AreSpaces stage.layout.now
+  pub zak : spaces_of stage.layout.now ≡ record { control = stage.zak_k; audio = stage.zak_a }
+  pub placed : (flags : List Bool) (fields : List ℤ) → length flags ≡ length stage.tables.now
+      → IsPlaced stage.layout.now (stock_of stage.layout.now) (piece_at stage flags fields)
+  pub can_be_played : (flags : List Bool) → length flags ≡ length stage.tables.now
+      → CanAllBePlayed stage.layout.now (tables_of stage.tables.now flags)
+
+-- An instrument of the stage, with its footprint, has these statements: its notes can begin, whichever tables have been made, and
+-- do what the statements say, as they begin and in every cycle. The footprint is what the statements may use and write in a cycle,
+-- and all of that has its area.
+pub record IsInstrumentOf (stage : Stage) (i : Numbered) (foot : Footprint) (body : Block) : Type 0 where
+  pub plan : Plan
+  pub kinds : Kinds
+  pub playable : (age : ℕ) (flags : List Bool) (fields : List ℤ) → length flags ≡ length stage.tables.now
+      → IsPlayable (sheet_at i age foot stage flags fields)
+  pub performs : (age : ℕ) (flags : List Bool) (fields : List ℤ) → length flags ≡ length stage.tables.now
+      → Perform plan kinds (sheet_at i age foot stage flags fields) body
+  pub footprint : IsFootprint (length stage.layout.now) foot
+  pub uses : foot.uses ≡ places_holding stage.layout.now (block_uses (stock_of stage.layout.now) body)
+  pub writes : foot.writes ≡ places_holding stage.layout.now (block_writes (stock_of stage.layout.now) body)
+  pub there : AreNamed (HasArea stage.layout.now) (block_uses (stock_of stage.layout.now) body)

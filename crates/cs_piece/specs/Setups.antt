@@ -1,0 +1,61 @@
+-- What a setup is.
+use Rattle.std.specs.Prelude.{◌≡◌, List, map, None}
+use Rattle.std.specs.List.{AllZip, Contains}
+use Rattle.cs_cells.specs.Areas.{limit_passed}
+use Rattle.cs_cells.specs.declared.footprint.Area.{Area}
+use Rattle.cs_cells.specs.declared.footprint.Footprint.{Footprint}
+use Rattle.cs_code.specs.Lowered.{AreInstrumentsOf, IsCodeOf, spaces_in}
+use Rattle.cs_code.specs.declared.orchestra.Lowered.{Lowered}
+use Rattle.cs_piece_meaning.specs.Moments.{Composition}
+use Rattle.cs_ir.specs.Instruments.{Numbered}
+use Rattle.cs_ir.specs.Resources.{ops_use, ops_write}
+use Rattle.cs_ir.specs.declared.op.Code.{Code}
+use Rattle.cs_name_laws.specs.Names.{NamesWhatThereIs}
+use Rattle.cs_rwset.specs.Footprints.{places_holding, stock_of}
+use Rattle.cs_tempo.specs.Performable.{IsPerformable}
+use Rattle.cs_tempo.specs.declared.plot.Event.{Event}
+use Rattle.cs_tempo.specs.declared.plot.Plot.{Plot}
+use Rattle.cs_typed.specs.TypedTree as typed
+use Rattle.cs_typed.specs.declared.tree.TypedOrc.{TypedOrc}
+use Rattle.cs_piece.specs.Compositions.{areas_in, composition}
+use Rattle.cs_piece.specs.Tables.{Given, given_in, table_of, tables_in}
+use Rattle.cs_piece.specs.declared.tables.PieceTable.{PieceTable}
+
+-- tables that events give under one number have one size
+abbrev pub AreOfOneSize : List Event → Type 0
+AreOfOneSize events = (g h : Given) → Contains (given_in events) g → Contains (given_in events) h → g.number ≡ h.number → g.size ≡ h.size
+
+-- the footprint of a performance code in some areas
+pub record IsFootOf (areas : List Area) (perf : Code) (foot : Footprint) : Type 0 where
+  pub uses : foot.uses ≡ places_holding areas (ops_use (stock_of areas) perf.ops.items)
+  pub writes : foot.writes ≡ places_holding areas (ops_write (stock_of areas) perf.ops.items)
+
+-- What contracts see of a setup: the typed orchestra, the plot, its tables, where the cells of what notes share are, the codes, and
+-- the footprints of what stands outside of instruments and of these, in their order.
+pub record SetupData : Type 0 where
+  pub orchestra : TypedOrc
+  pub plot : Plot
+  pub tables : List PieceTable
+  pub layout : List Area
+  pub lowered : Lowered
+  pub zero_foot : Footprint
+  pub feet : List Footprint
+
+-- A setup: the tables are those of the plot, the areas those of the piece and within the limits, the codes are those of the
+-- orchestra, and the footprints those of the codes.
+pub record IsSetup (s : SetupData) : Type 0 where
+  pub performable : IsPerformable s.orchestra.head s.plot
+  pub sizes : AreOfOneSize s.plot.events
+  pub named : NamesWhatThereIs (typed.orchestra s.orchestra)
+  pub tables_are : map table_of s.tables ≡ tables_in (typed.orchestra s.orchestra) s.plot.events
+  pub areas_are : s.layout ≡ areas_in (typed.orchestra s.orchestra) s.plot.events
+  pub within : limit_passed s.layout ≡ None
+  pub zero_code : IsCodeOf (spaces_in (typed.orchestra s.orchestra)) s.orchestra.head.nchnls (typed.orchestra s.orchestra).zero
+      s.lowered.zero.init s.lowered.zero.perf
+  pub instruments : AreInstrumentsOf (typed.orchestra s.orchestra) s.lowered.instruments
+  pub zero_touches : IsFootOf s.layout s.lowered.zero.perf s.zero_foot
+  pub touch : AllZip (λ (i : Numbered) (foot : Footprint). IsFootOf s.layout i.perf foot) s.lowered.instruments s.feet
+
+-- what a setup performs
+abbrev pub composition_of : SetupData → Composition
+composition_of s = composition (typed.orchestra s.orchestra) s.plot

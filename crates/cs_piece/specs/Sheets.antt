@@ -1,0 +1,37 @@
+-- Which sheets a note of an instrument is played from.
+use Rattle.std.specs.Prelude.{◌≡◌, List, slice_get, Option, Some, None}
+use Rattle.cs_base.specs.declared.resource.Rate.{Rate}
+use Rattle.cs_base.specs.declared.resource.Rate.TheVariants as rate
+use Rattle.cs_words.specs.declared.catalogue.Opcode.{Opcode}
+use Rattle.cs_words.specs.declared.catalogue.Opcode.TheVariants as op
+use Rattle.cs_typed.specs.TypedTree as typed
+use Rattle.cs_ir.specs.Resources.{ops_use, ops_write}
+use Rattle.cs_ir.specs.declared.op.Code.{Code}
+use Rattle.cs_code.specs.Lowered.{IsCodeOf}
+use Rattle.cs_code.specs.Names.{UnitKind}
+use Rattle.cs_rwset.specs.Footprints.{stock_of, places_holding}
+use Rattle.cs_voice_meaning.specs.Placing.{HasArea, IsPlaced}
+use Rattle.cs_voice_meaning.specs.VoiceWorld.{the_generators, pace_of}
+use Rattle.cs_voice_meaning.specs.Follows.{Kinds, AreNamed}
+use Rattle.cs_voice_meaning.specs.Voices.{Sheet}
+
+-- the opcode and rate of the unit at each place of the text; past the last any
+abbrev pub kind_of : Option UnitKind → Opcode × Rate
+kind_of (Some unit) = (unit.opcode, unit.rate)
+kind_of None = (op.Oscili, rate.Init)
+
+abbrev pub kinds_of : List UnitKind → Kinds
+kinds_of units u = kind_of (slice_get units u)
+
+-- A sheet of an instrument's body: its codes are two of the body in the piece, each resource that they may use has its area, and
+-- the footprint is that of the second code.
+pub record IsSheetOf (s : Sheet) (body : typed.Block) (init perf : Code) : Type 0 where
+  pub code : IsCodeOf s.piece.spaces s.piece.head.nchnls body init perf
+  pub init_ops : s.init ≡ init.ops.items
+  pub perf_ops : s.perf ≡ perf.ops.items
+  pub generators : s.piece.generators ≡ the_generators (pace_of s.piece.head)
+  pub placed : IsPlaced s.areas (stock_of s.areas) s.piece
+  pub init_areas : AreNamed (HasArea s.areas) (ops_use (stock_of s.areas) s.init)
+  pub perf_areas : AreNamed (HasArea s.areas) (ops_use (stock_of s.areas) s.perf)
+  pub uses : s.foot.uses ≡ places_holding s.areas (ops_use (stock_of s.areas) s.perf)
+  pub writes : s.foot.writes ≡ places_holding s.areas (ops_write (stock_of s.areas) s.perf)

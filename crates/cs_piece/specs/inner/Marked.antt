@@ -1,0 +1,87 @@
+-- What is found of tables on the way: how often each number is given, which are given first, and which may be written.
+use Rattle.std.specs.Prelude.{ℕ, zero, suc, ◌≡◌, ◌<◌, ◌||◌, ◌&&◌, Bool, true, false, not, List, map, slice_index_or, None}
+use Rattle.std.specs.List.{list_any}
+use Rattle.cs_base.specs.Rates.{same_res}
+use Rattle.cs_base.specs.declared.resource.Res.TheVariants as res
+use Rattle.cs_gen.specs.Faults.{table_fault}
+use Rattle.cs_ir.specs.Instruments.{Numbered}
+use Rattle.cs_ir.specs.Resources.{act_writes}
+use Rattle.cs_ir.specs.declared.op.Act.{Act}
+use Rattle.cs_ir.specs.declared.op.Op.{Op}
+use Rattle.cs_score.specs.Ranges.{IsTableNumber}
+use Rattle.cs_meaning.specs.Plain.{Table}
+use Rattle.cs_words.specs.declared.catalogue.Shape.{Shape}
+use Rattle.cs_words.specs.declared.catalogue.Shape.TheVariants as shape
+use Rattle.cs_piece.specs.Tables.{Given, firsts, only, table_given, times_given}
+use Rattle.cs_piece.specs.declared.tables.First.{First}
+use Rattle.cs_piece.specs.declared.tables.Firsts.{Firsts}
+use Rattle.cs_piece.specs.declared.tables.Times.{Times}
+use Rattle.cs_piece.specs.declared.tables.Times.TheVariants as times
+
+-- table numbers are below
+abbrev pub numbers_end : ℕ
+numbers_end = 65536
+
+-- a count, as far as it is told
+abbrev pub as_times : ℕ → Times
+as_times zero = times.Never
+as_times (suc zero) = times.Once
+as_times (suc (suc n)) = times.Again
+
+abbrev pub next_times : Times → Times
+next_times times.Never = times.Once
+next_times times.Once = times.Again
+next_times times.Again = times.Again
+
+abbrev pub is_once : Times → Bool
+is_once times.Never = false
+is_once times.Once = true
+is_once times.Again = false
+
+abbrev pub given_of : First → Given
+given_of f = record { number = f.number; size = f.size; gen = f.gen_; args = f.args.now }
+
+abbrev pub times_at : List Times → ℕ → Times
+times_at ts n = slice_index_or ts n times.Never
+
+-- a number that tables have, and a table without a fault
+pub record IsRight (g : Given) : Type 0 where
+  pub number : IsTableNumber g.number
+  pub fault : table_fault g.size g.gen g.args ≡ None
+
+-- These stand for what was given: each number where it is given first, and how often each is given.
+pub record StandFor (gs : List Given) (f : Firsts) : Type 0 where
+  pub firsts_are : map given_of f.items.items ≡ firsts gs
+  pub times_are : (n : ℕ) → n < numbers_end → times_at f.times.items n ≡ as_times (times_given n gs)
+
+-- whether a shape stores into a table
+abbrev pub is_table_store : Shape → Bool
+is_table_store shape.Store = true
+is_table_store _ = false
+
+-- whether an op, or any of some ops, may write a table
+abbrev pub act_stores : ℕ → Act → Bool
+act_stores n a = list_any (same_res (res.Table n)) (act_writes (only n) a)
+
+abbrev pub ops_store : ℕ → List Op → Bool
+ops_store n ops = list_any (λ o. act_stores n o.act) ops
+
+-- whether the codes of an instrument may
+abbrev pub codes_store : ℕ → Numbered → Bool
+codes_store n i = ops_store n i.init.ops.items || ops_store n i.perf.ops.items
+
+-- tables that are marked: all of them, or by their numbers
+pub record Marks : Type 0 where
+  pub any : Bool
+  pub numbers : List Bool
+
+-- whether a table is
+abbrev pub is_marked : Marks → ℕ → Bool
+is_marked w n = w.any || slice_index_or w.numbers n false
+
+-- a table is frozen by what was found
+abbrev pub frozen_by : List Times → Marks → ℕ → Bool
+frozen_by ts w n = is_once (times_at ts n) && not (is_marked w n)
+
+abbrev pub table_by : List Times → Marks → Given → Table
+table_by ts w g = table_given (frozen_by ts w g.number) g

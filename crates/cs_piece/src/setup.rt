@@ -1,0 +1,278 @@
+// A piece, ready to be performed.
+ghost use Rattle.std.specs.Prelude.{◌≡◌, eqb, map, IfNone, IfOk, List, OnOk, Err, None, Some};
+ghost use Rattle.std.specs.List.{AllZip, IsDistinct};
+ghost use Rattle.cs_base.specs.declared.fault.Or.TheVariants as or;
+ghost use Rattle.cs_base.specs.declared.limit.LimitHit.{LimitHit};
+ghost use Rattle.cs_cells.specs.Areas.{limit_passed};
+ghost use Rattle.cs_cells.specs.declared.footprint.Footprint.{Footprint};
+ghost use Rattle.cs_code.specs.Lowered.{AreInstrumentsOf, IsCodeOf, all_numbers, spaces_in};
+ghost use Rattle.cs_ir.specs.Instruments.{Numbered};
+ghost use Rattle.cs_layout.specs.Layouts.{AreApart, areas_of};
+ghost use Rattle.cs_name_laws.specs.Names.{NamesWhatThereIs};
+ghost use Rattle.cs_piece.specs.Compositions.{areas_in, live_in};
+ghost use Rattle.cs_piece.specs.Setups.{AreOfOneSize, IsFootOf};
+ghost use Rattle.cs_piece.specs.Tables.{table_of, tables_in};
+ghost use Rattle.cs_tempo.specs.Performable.{IsPerformable};
+ghost use Rattle.cs_typed.specs.TypedTree as typed;
+ghost use Rattle.cs_typed.specs.WellRated.{IsWellRated};
+
+use crate::tables::{PieceTable, tables_of};
+use cs_base::{LimitHit, Or, OutOfMemory};
+use cs_cells::{Footprint, Layout};
+use cs_code::{Lowered, lower};
+use cs_ir::Instrument;
+use cs_layout::{LiveTable, layout};
+use cs_rwset::footprint;
+use cs_tempo::Plot;
+use cs_typed::TypedOrc;
+use std::alloc::Global;
+use std::marker::Model;
+
+/// All that a piece needs to be performed. Contracts see its parts as plain data.
+#[derive(Drop)]
+pub struct Setup {
+    pub(crate) orchestra: TypedOrc,
+    pub(crate) plot: Plot,
+    /// Each table of the plot once.
+    pub(crate) tables: Vec<PieceTable>,
+    /// Where the cells of what notes share are.
+    pub(crate) layout: Layout,
+    pub(crate) lowered: Lowered,
+    /// The footprint of what stands outside of instruments.
+    pub(crate) zero_foot: Footprint,
+    /// The footprints of the instruments, in their order.
+    pub(crate) feet: Vec<Footprint>,
+}
+
+impl Model for Setup {
+    ghost use Rattle.std.specs.Coded.{codes};
+    ghost use Rattle.cs_piece.specs.Setups.{IsSetup, SetupData};
+    ghost use Rattle.cs_typed.specs.contracts.tree.TypedWhat as e;
+
+    ghost Value = { SetupData };
+
+    ghost coded = { Prim.hlevel (codes, e.the_row.coded) };
+
+    ghost view = { λ s. record { orchestra = s.orchestra; plot = s.plot; tables = s.tables.items; layout = s.layout; lowered = s.lowered; zero_foot = s.zero_foot; feet = s.feet.items } };
+
+    ghost invariant = { λ s. IsSetup (record { orchestra = s.orchestra; plot = s.plot; tables = s.tables.items; layout = s.layout; lowered = s.lowered; zero_foot = s.zero_foot; feet = s.feet.items }) };
+}
+
+/// The tables of a piece, and where its cells are.
+#[derive(Drop)]
+struct Ground {
+    tables: Vec<PieceTable>,
+    layout: Layout,
+}
+
+/// The footprint of what stands outside of instruments, and those of the instruments.
+#[derive(Drop)]
+struct Feet {
+    zero: Footprint,
+    instruments: Vec<Footprint>,
+}
+
+/// All that is made of an orchestra and a plot.
+#[derive(Drop)]
+struct Made {
+    lowered: Lowered,
+    ground: Ground,
+    feet: Feet,
+}
+
+impl Setup {
+    /// The setup of an orchestra that breaks no rule, and of a plot that passes no limit. More resources than 4,096 pass the limit
+    /// on them, and then more cells than 65,536 that on words, at line 0.
+    pub fn new(alloc: Global, orchestra: TypedOrc, plot: Plot) -> Result<Setup, Or<LimitHit>>
+        requires rated { IsWellRated (typed.orchestra orchestra) }
+        requires distinct { IsDistinct eqb (all_numbers (typed.orchestra orchestra).instrs) }
+        requires named { NamesWhatThereIs (typed.orchestra orchestra) }
+        requires performable { IsPerformable orchestra.head plot }
+        requires sizes { AreOfOneSize plot.events }
+        ensures orchestra { IfOk result (λ s. s.orchestra ≡ orchestra) }
+        ensures plot { IfOk result (λ s. s.plot ≡ plot) }
+        ensures within { OnOk result (limit_passed (areas_in (typed.orchestra orchestra) plot.events) ≡ None) }
+        ensures limit { (hit : LimitHit) → result ≡ Err (or.Fault hit)
+            → limit_passed (areas_in (typed.orchestra orchestra) plot.events) ≡ Some hit }
+    {
+        let made = made_of(alloc, &orchestra, &plot)?;
+        Ok(Setup {
+            orchestra,
+            plot,
+            tables: made.ground.tables,
+            layout: made.ground.layout,
+            lowered: made.lowered,
+            zero_foot: made.feet.zero,
+            feet: made.feet.instruments,
+        })
+    }
+
+    /// The typed orchestra.
+    pub fn orchestra(&self) -> &TypedOrc
+        ensures { result.now ≡ self.now.orchestra }
+    {
+        &self.orchestra
+    }
+
+    /// The plot.
+    pub fn plot(&self) -> &Plot
+        ensures { result.now ≡ self.now.plot }
+    {
+        &self.plot
+    }
+
+    /// Where the cells of what notes share are.
+    pub fn layout(&self) -> &Layout
+        ensures { result.now ≡ self.now.layout }
+    {
+        &self.layout
+    }
+}
+
+/// What is made of an orchestra that breaks no rule, and of a plot that passes no limit.
+fn made_of(alloc: Global, orchestra: &TypedOrc, plot: &Plot) -> Result<Made, Or<LimitHit>>
+    requires rated { IsWellRated (typed.orchestra orchestra.now) }
+    requires distinct { IsDistinct eqb (all_numbers (typed.orchestra orchestra.now).instrs) }
+    requires performable { IsPerformable orchestra.now.head plot.now }
+    ensures outside { IfOk result (λ m. IsCodeOf (spaces_in (typed.orchestra orchestra.now)) orchestra.now.head.nchnls
+        (typed.block orchestra.now.zero.items) m.lowered.zero.init m.lowered.zero.perf) }
+    ensures instruments { IfOk result (λ m. AreInstrumentsOf (typed.orchestra orchestra.now) m.lowered.instruments) }
+    ensures tables { IfOk result (λ m. map table_of m.ground.tables.items ≡ tables_in (typed.orchestra orchestra.now) plot.now.events) }
+    ensures layout { IfOk result (λ m. m.ground.layout ≡ areas_in (typed.orchestra orchestra.now) plot.now.events) }
+    ensures within { OnOk result (limit_passed (areas_in (typed.orchestra orchestra.now) plot.now.events) ≡ None) }
+    ensures limit { (hit : LimitHit) → result ≡ Err (or.Fault hit)
+        → limit_passed (areas_in (typed.orchestra orchestra.now) plot.now.events) ≡ Some hit }
+    ensures zero_foot { IfOk result (λ m. IsFootOf m.ground.layout m.lowered.zero.perf m.feet.zero) }
+    ensures feet { IfOk result (λ m. AllZip (λ (i : Numbered) (foot : Footprint). IsFootOf m.ground.layout i.perf foot)
+        m.lowered.instruments m.feet.instruments.items) }
+{
+    let lowered = lower(alloc, orchestra)?;
+    let (ground, feet) = laid_out(alloc, orchestra, plot, &lowered)?;
+    Ok(Made {
+        lowered,
+        ground,
+        feet,
+    })
+}
+
+/// Tables and layout of a piece with these codes, and the footprints of the codes in it.
+fn laid_out(
+    alloc: Global,
+    orchestra: &TypedOrc,
+    plot: &Plot,
+    lowered: &Lowered,
+) -> Result<(Ground, Feet), Or<LimitHit>>
+    requires performable { IsPerformable orchestra.now.head plot.now }
+    requires instruments { AreInstrumentsOf (typed.orchestra orchestra.now) lowered.now.instruments }
+    ensures tables { IfOk result (λ p. map table_of p.0.tables.items ≡ tables_in (typed.orchestra orchestra.now) plot.now.events) }
+    ensures layout { IfOk result (λ p. p.0.layout ≡ areas_in (typed.orchestra orchestra.now) plot.now.events) }
+    ensures within { OnOk result (limit_passed (areas_in (typed.orchestra orchestra.now) plot.now.events) ≡ None) }
+    ensures limit { (hit : LimitHit) → result ≡ Err (or.Fault hit)
+        → limit_passed (areas_in (typed.orchestra orchestra.now) plot.now.events) ≡ Some hit }
+    ensures zero { IfOk result (λ p. IsFootOf p.0.layout lowered.now.zero.perf p.1.zero) }
+    ensures feet { IfOk result (λ p. AllZip (λ (i : Numbered) (foot : Footprint). IsFootOf p.0.layout i.perf foot)
+        lowered.now.instruments p.1.instruments.items) }
+{
+    let ground = ground_of(alloc, orchestra, plot, lowered)?;
+    let feet = feet_of(alloc, lowered, &ground.layout)?;
+    Ok((ground, feet))
+}
+
+/// The tables of a plot, and the layout of a piece with those of them that notes may change.
+fn ground_of(
+    alloc: Global,
+    orchestra: &TypedOrc,
+    plot: &Plot,
+    lowered: &Lowered,
+) -> Result<Ground, Or<LimitHit>>
+    requires performable { IsPerformable orchestra.now.head plot.now }
+    requires instruments { AreInstrumentsOf (typed.orchestra orchestra.now) lowered.now.instruments }
+    ensures tables { IfOk result (λ g. map table_of g.tables.items ≡ tables_in (typed.orchestra orchestra.now) plot.now.events) }
+    ensures layout { IfOk result (λ g. g.layout ≡ areas_in (typed.orchestra orchestra.now) plot.now.events) }
+    ensures within { OnOk result (limit_passed (areas_in (typed.orchestra orchestra.now) plot.now.events) ≡ None) }
+    ensures limit { (hit : LimitHit) → result ≡ Err (or.Fault hit)
+        → limit_passed (areas_in (typed.orchestra orchestra.now) plot.now.events) ≡ Some hit }
+{
+    let tables = tables_of(alloc, lowered, plot.events.as_slice())?;
+    let layout = layout_of(alloc, orchestra, &tables)?;
+    Ok(Ground { tables, layout })
+}
+
+/// The layout of a piece with these tables.
+fn layout_of(
+    alloc: Global,
+    orchestra: &TypedOrc,
+    tables: &[PieceTable],
+) -> Result<Layout, Or<LimitHit>>
+    requires { AreApart (live_in (map table_of tables.now)) }
+    ensures layout { let areas = areas_of orchestra.now.head.ksmps (typed.shared_names orchestra.now.globals) (spaces_in (typed.orchestra orchestra.now)) (live_in (map table_of tables.now)) in
+        IfOk result (λ l. l ≡ areas) }
+    ensures within { let areas = areas_of orchestra.now.head.ksmps (typed.shared_names orchestra.now.globals) (spaces_in (typed.orchestra orchestra.now)) (live_in (map table_of tables.now)) in
+        OnOk result (limit_passed areas ≡ None) }
+    ensures limit { let areas = areas_of orchestra.now.head.ksmps (typed.shared_names orchestra.now.globals) (spaces_in (typed.orchestra orchestra.now)) (live_in (map table_of tables.now)) in
+        (hit : LimitHit) → result ≡ Err (or.Fault hit) → limit_passed areas ≡ Some hit }
+{
+    let live = live_of(alloc, tables)?;
+    let head = &orchestra.head;
+    layout(
+        alloc,
+        head.ksmps,
+        &orchestra.globals,
+        orchestra.zak_k,
+        orchestra.zak_a,
+        &live,
+    )
+}
+
+/// Those of the tables whose points are cells.
+fn live_of(alloc: Global, tables: &[PieceTable]) -> Result<Vec<LiveTable>, OutOfMemory>
+    ensures { IfOk result (λ v. v.items ≡ live_in (map table_of tables.now)) }
+{
+    let mut live = Vec::new(alloc);
+    for table in tables {
+        if table.points.is_none() {
+            live.push(LiveTable {
+                number: table.number,
+                size: table.size,
+            })?;
+        }
+    }
+    Ok(live)
+}
+
+/// The footprints of what is performed.
+fn feet_of(alloc: Global, lowered: &Lowered, layout: &Layout) -> Result<Feet, OutOfMemory>
+    ensures zero { IfOk result (λ f. IsFootOf layout.now lowered.now.zero.perf f.zero) }
+    ensures instruments { IfOk result (λ f. AllZip (λ (i : Numbered) (foot : Footprint). IsFootOf layout.now i.perf foot)
+        lowered.now.instruments f.instruments.items) }
+{
+    Ok(Feet {
+        zero: foot_of(alloc, &lowered.zero, layout)?,
+        instruments: feet_of_all(alloc, lowered.instruments.as_slice(), layout)?,
+    })
+}
+
+fn feet_of_all(
+    alloc: Global,
+    instruments: &[Instrument],
+    layout: &Layout,
+) -> Result<Vec<Footprint>, OutOfMemory>
+    ensures { IfOk result (λ v. AllZip (λ (i : Numbered) (foot : Footprint). IsFootOf layout.now i.perf foot) instruments.now v.items) }
+{
+    let mut feet = Vec::new(alloc);
+    for instrument in instruments {
+        feet.push(foot_of(alloc, instrument, layout)?)?;
+    }
+    Ok(feet)
+}
+
+/// What the code that performs an instrument's notes may touch.
+fn foot_of(
+    alloc: Global,
+    instrument: &Instrument,
+    layout: &Layout,
+) -> Result<Footprint, OutOfMemory>
+    ensures { IfOk result (λ foot. IsFootOf layout.now instrument.now.perf foot) }
+{
+    footprint(alloc, instrument.perf(), layout)
+}

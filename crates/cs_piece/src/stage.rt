@@ -1,0 +1,127 @@
+// What a setup hands out to whoever performs it.
+ghost use Rattle.std.specs.Prelude.{◌≡◌, ◌<◌, ℕ, map, length, pos, slice_get, true, false, IfOk, IfSome, IfNone, MatchOption, Some, None};
+ghost use Rattle.cs_cells.specs.Areas.{IsLaid, limit_passed};
+ghost use Rattle.cs_ir.specs.Instruments.{Numbered};
+ghost use Rattle.cs_meaning.specs.Core.{Block};
+ghost use Rattle.cs_piece.specs.Compositions.{areas_in};
+ghost use Rattle.cs_piece.specs.Ready.{IsInstrumentOf, IsStageOf};
+ghost use Rattle.cs_piece.specs.Setups.{AreOfOneSize, composition_of};
+ghost use Rattle.cs_piece.specs.Tables as pieces;
+ghost use Rattle.cs_tempo.specs.Performable.{IsPerformable};
+ghost use Rattle.cs_typed.specs.TypedTree as typed;
+ghost use Rattle.cs_voice.specs.Memory.{frozen_in, table_of};
+ghost use Rattle.cs_voice.specs.VoiceData.{made};
+ghost use Rattle.cs_voice.specs.declared.stage.Stage.{Stage};
+
+use crate::setup::Setup;
+use crate::tables::PieceTable;
+use cs_base::{Num, OutOfMemory};
+use cs_cells::Footprint;
+use cs_gen::Points;
+use cs_ir::Instrument;
+use cs_name_laws::notes_touch_what_there_is;
+use cs_voice::{Stage, TableAt};
+use std::alloc::Global;
+
+impl Setup {
+    /// What is so of each setup. It does nothing.
+    pub fn facts(&self)
+        ensures performable { IsPerformable self.now.orchestra.head self.now.plot }
+        ensures sizes { AreOfOneSize self.now.plot.events }
+        ensures areas { self.now.layout ≡ areas_in (typed.orchestra self.now.orchestra) self.now.plot.events }
+        ensures laid { IsLaid self.now.layout }
+        ensures within { limit_passed self.now.layout ≡ None }
+    {
+        let _ = &self.plot;
+    }
+
+    /// The tables of the piece, as notes find them.
+    pub fn tables_at(&self, alloc: Global) -> Result<Vec<TableAt<'_>>, OutOfMemory>
+        ensures { IfOk result (λ v. map table_of v.items ≡ map made (composition_of self.now).tables) }
+    {
+        all_at(alloc, &self.tables)
+    }
+
+    /// The stage that the notes of the piece play in, with its tables.
+    pub fn stage<'s>(&'s self, tables: &'s [TableAt<'s>]) -> Stage<'s>
+        requires { map table_of tables.now ≡ map made (composition_of self.now).tables }
+        ensures stage { IsStageOf (composition_of self.now) result }
+        ensures layout { result.layout.now ≡ self.now.layout }
+        ensures tables { result.tables.now ≡ tables.now }
+    {
+        Stage {
+            head: &self.orchestra.head,
+            layout: &self.layout,
+            zak_k: self.orchestra.zak_k,
+            zak_a: self.orchestra.zak_a,
+            tables,
+        }
+    }
+
+    /// The instrument of a number, with its footprint. It takes as long as there are instruments, at most 200.
+    pub fn instrument(&self, number: i64) -> Option<(&Instrument, &Footprint)>
+        ensures { MatchOption result ((composition_of self.now).instrument number ≡ None)
+            (λ p. (body : Block) × ((composition_of self.now).instrument number ≡ Some body) × (pos p.0.now.number ≡ number)
+            × ((stage : Stage) → IsStageOf (composition_of self.now) stage → stage.layout.now ≡ self.now.layout
+            → IsInstrumentOf stage p.0.now p.1.now body)) }
+    {
+        notes_touch_what_there_is();
+        let instruments = self.lowered.instruments.as_slice();
+        match place_of(instruments, number) {
+            Some(place) => Some((&instruments[place], &self.feet[place])),
+            None => None,
+        }
+    }
+
+    /// What stands outside of instruments, with its footprint.
+    pub fn outside(&self) -> (&Instrument, &Footprint)
+        ensures { (stage : Stage) → IsStageOf (composition_of self.now) stage → stage.layout.now ≡ self.now.layout
+            → IsInstrumentOf stage result.0.now result.1.now (composition_of self.now).outside }
+    {
+        notes_touch_what_there_is();
+        (&self.lowered.zero, &self.zero_foot)
+    }
+}
+
+/// The place of the instrument of a number.
+fn place_of(instruments: &[Instrument], number: i64) -> Option<usize>
+    ensures some { IfSome result (λ place. (place < length instruments.now) × (i : Numbered) × (slice_get instruments.now place ≡ Some i) × (pos i.number ≡ number)) }
+    ensures none { IfNone result ((k : ℕ) (i : Numbered) → slice_get instruments.now k ≡ Some i → pos i.number ≡ number → ⊥) }
+{
+    for place in 0..instruments.len() {
+        if has_number(&instruments[place], number) {
+            return Some(place);
+        }
+    }
+    None
+}
+
+fn has_number(instrument: &Instrument, number: i64) -> bool
+    ensures same { result ≡ true → pos instrument.now.number ≡ number }
+    ensures other { result ≡ false → pos instrument.now.number ≡ number → ⊥ }
+{
+    i64::from(instrument.number()) == number
+}
+
+fn all_at(alloc: Global, tables: &[PieceTable]) -> Result<Vec<TableAt<'_>>, OutOfMemory>
+    ensures { IfOk result (λ v. map table_of v.items ≡ map made (map pieces.table_of tables.now)) }
+{
+    let mut list = Vec::new(alloc);
+    for table in tables {
+        list.push(TableAt {
+            number: table.number,
+            size: table.size,
+            points: points_of(&table.points),
+        })?;
+    }
+    Ok(list)
+}
+
+fn points_of(points: &Option<Points>) -> Option<&[Num]>
+    ensures { frozen_in result ≡ points.now }
+{
+    match points {
+        Some(points) => Some(points.as_slice()),
+        None => None,
+    }
+}

@@ -1,0 +1,208 @@
+// The tables of a piece: each number once, as the score first gives it, and frozen where nothing changes it.
+ghost use Rattle.std.specs.Prelude.{◌≡◌, ◌<◌, ◌++◌, ◌∷◌, [], ℕ, List, length, map, IfOk, OnOk, Some, None, true, false, if◌then◌else◌};
+ghost use Rattle.std.specs.List.{All};
+ghost use Rattle.cs_code.specs.Lowered.{AreInstrumentsOf};
+ghost use Rattle.cs_gen.specs.Faults.{table_fault};
+ghost use Rattle.cs_gen.specs.Points.{points_of};
+ghost use Rattle.cs_piece.specs.Tables.{Given, firsts, given_by, given_in, table_given, table_of, tables_in};
+ghost use Rattle.cs_piece.specs.declared.tables.Times.TheVariants as often;
+ghost use Rattle.cs_piece.specs.inner.Marked.{IsRight, StandFor, frozen_by, given_of, is_marked, next_times, is_once, numbers_end, table_by, times_at};
+ghost use Rattle.cs_tempo.specs.Performable.{IsActInRange};
+ghost use Rattle.cs_typed.specs.TypedTree as typed;
+
+use crate::written::{Written, written_by};
+use cs_base::{Num, Or, OutOfMemory};
+use cs_code::Lowered;
+use cs_gen::{Points, accepted_tables_are_made, make_table};
+use cs_tempo::{Event, EventAct};
+use std::alloc::Global;
+
+/// Table numbers are below.
+pub(crate) const NUMBERS_END: usize = 65_536;
+
+/// A table of a piece, as the score first gives it.
+#[derive(Drop)]
+pub struct PieceTable {
+    /// From 1 to 65,535.
+    pub number: usize,
+    /// How many points it has: from 2 to 65,537.
+    pub size: u32,
+    /// Its points, where it is frozen; None where its points are cells.
+    pub points: Option<Points>,
+}
+
+/// How often a number is given.
+#[derive(Clone, Copy)]
+enum Times {
+    Never,
+    Once,
+    Again,
+}
+
+/// A table where its number is given first.
+#[derive(Clone, Copy)]
+struct First<'p> {
+    number: u32,
+    size: i64,
+    gen_: i64,
+    args: &'p [Num],
+}
+
+/// What events give.
+#[derive(Drop)]
+struct Firsts<'p> {
+    items: Vec<First<'p>>,
+    /// Of each number below 65,536.
+    times: Vec<Times>,
+}
+
+/// The tables that events give, each number once, as it is given first; one has its points where it is given once alone and no
+/// code of an instrument may write it. It takes as long as there are events, ops of instruments and points.
+pub(crate) fn tables_of(
+    alloc: Global,
+    lowered: &Lowered,
+    events: &[Event],
+) -> Result<Vec<PieceTable>, OutOfMemory>
+    requires { All (λ e. IsActInRange e.act) events.now }
+    ensures { IfOk result (λ v. (o : typed.Orchestra) → AreInstrumentsOf o lowered.now.instruments → map table_of v.items ≡ tables_in o events.now) }
+{
+    let given = firsts_of(alloc, events)?;
+    let written = written_by(alloc, lowered.instruments.as_slice())?;
+    made_tables(alloc, &given.items, &given.times, &written)
+}
+
+/// What events give.
+fn firsts_of<'p>(alloc: Global, events: &'p [Event]) -> Result<Firsts<'p>, OutOfMemory>
+    requires { All (λ e. IsActInRange e.act) events.now }
+    ensures stand { IfOk result (StandFor (given_in events.now)) }
+    ensures long { IfOk result (λ f. length f.times.items ≡ numbers_end) }
+    ensures right { IfOk result (λ f. All (λ x. IsRight (given_of x)) f.items.items) }
+{
+    let mut given = Firsts {
+        items: Vec::new(alloc),
+        times: never(alloc, NUMBERS_END)?,
+    };
+    for event in events {
+        if let EventAct::Table {
+            number,
+            size,
+            gen_,
+            args,
+        } = &event.act
+        {
+            let first = First {
+                number: *number,
+                size: *size,
+                gen_: *gen_,
+                args: args.as_slice(),
+            };
+            given.add(first)?;
+        }
+    }
+    Ok(given)
+}
+
+/// So many numbers that aren't given.
+fn never(alloc: Global, count: usize) -> Result<Vec<Times>, OutOfMemory>
+    ensures long { IfOk result (λ v. length v.items ≡ count) }
+    ensures none { IfOk result (λ v. (n : ℕ) → times_at v.items n ≡ often.Never) }
+{
+    Ok(vec![in alloc; Times::Never; count]?)
+}
+
+impl<'p> Firsts<'p> {
+    /// Adds a table that is given.
+    fn add(&mut self, table: First<'p>) -> Result<(), OutOfMemory>
+        requires right { IsRight (given_of table) }
+        requires long { length self.old.times.items ≡ numbers_end }
+        requires all { All (λ x. IsRight (given_of x)) self.old.items.items }
+        ensures stand { OnOk result ((gs : List Given) → StandFor gs self.old → StandFor (gs ++ given_of table.entry ∷ []) self.new) }
+        ensures long { OnOk result (length self.new.times.items ≡ numbers_end) }
+        ensures all { OnOk result (All (λ x. IsRight (given_of x)) self.new.items.items) }
+    {
+        let number = table.number as usize;
+        let times = self.times[number];
+        if is_never(times) {
+            self.items.push(table)?;
+        }
+        self.times[number] = next_times(times);
+        Ok(())
+    }
+}
+
+fn is_never(times: Times) -> bool
+    ensures yes { result ≡ true → times ≡ often.Never }
+    ensures no { result ≡ false → times ≡ often.Never → ⊥ }
+{
+    matches!(times, Times::Never)
+}
+
+fn next_times(times: Times) -> Times
+    ensures { result ≡ next_times times }
+{
+    match times {
+        Times::Never => Times::Once,
+        Times::Once | Times::Again => Times::Again,
+    }
+}
+
+fn made_tables(
+    alloc: Global,
+    given: &[First<'_>],
+    times: &[Times],
+    written: &Written,
+) -> Result<Vec<PieceTable>, OutOfMemory>
+    requires right { All (λ x. IsRight (given_of x)) given.now }
+    requires long { length times.now ≡ numbers_end }
+    ensures { IfOk result (λ v. map table_of v.items ≡ map (λ x. table_by times.now written.now (given_of x)) given.now) }
+{
+    let mut tables = Vec::new(alloc);
+    for first in given {
+        let frozen = is_frozen(first.number as usize, times, written);
+        tables.push(table_for(alloc, first, frozen)?)?;
+    }
+    Ok(tables)
+}
+
+fn is_frozen(number: usize, times: &[Times], written: &Written) -> bool
+    requires number { number < numbers_end }
+    requires long { length times.now ≡ numbers_end }
+    ensures { result ≡ frozen_by times.now written.now number }
+{
+    is_once(times[number]) && !written.is_marked(number)
+}
+
+fn is_once(times: Times) -> bool
+    ensures { result ≡ is_once times }
+{
+    matches!(times, Times::Once)
+}
+
+/// A table as it is given, with its points where it is frozen.
+fn table_for(alloc: Global, first: &First<'_>, frozen: bool) -> Result<PieceTable, OutOfMemory>
+    requires { IsRight (given_of first.now) }
+    ensures { IfOk result (λ t. table_of t ≡ table_given frozen (given_of first.now)) }
+{
+    accepted_tables_are_made();
+    let points = points_for(alloc, first, frozen)?;
+    Ok(PieceTable {
+        number: first.number as usize,
+        size: first.size as u32,
+        points,
+    })
+}
+
+fn points_for(alloc: Global, first: &First<'_>, frozen: bool) -> Result<Option<Points>, OutOfMemory>
+    requires { table_fault first.now.size first.now.gen_ first.now.args.now ≡ None }
+    ensures { IfOk result (λ p. p ≡ (if frozen then Some (points_of first.now.size first.now.gen_ first.now.args.now) else None)) }
+{
+    if !frozen {
+        return Ok(None);
+    }
+    match make_table(alloc, first.size, first.gen_, first.args) {
+        Ok(points) => Ok(Some(points)),
+        Err(Or::OutOfMemory) => Err(OutOfMemory),
+        // Each table of a plot is one without a fault.
+        Err(Or::Fault(_)) => unreachable!(),
+    }
+}

@@ -1,7 +1,0 @@
-use Rattle.std.proofs.Common.{◌≡◌, map, take}
-use Rattle.cs_setup.specs.Tables.{table_of}
-use Rattle.cs_setup.specs.inner.Marked.{given_of, table_by}
-use Rattle.cs_setup.proofs.tables.made_tables.Given as goal
-
-abbrev pub invariant-loop-first : goal.invariant-loop-first
-invariant-loop-first l = map table_of l.tables.items ≡ map (λ x. table_by l.times l.written (given_of x)) (take l.first-index l.given)

@@ -1,5 +1,0 @@
-pub mod Compositions
-pub mod Ready
-pub mod Setups
-pub mod Tables
-pub mod inner
