@@ -5,10 +5,10 @@ use Rattle.std.specs.Str.Parse.{ParsesUnsigned}
 use Rattle.std.proofs.lemmas.Slice.Eq.{bytes_eq-Decides}
 use Rattle.clap.specs.Matches.{ReadsOne, found_of, one_text}
 use Rattle.clap.specs.declared.parser.matches.ArgMatches.{ArgMatches}
-use Rattle.cs_reading.specs.Reading.{Piece, Text, Use, asked_by, asked_of, has_use, number_of, piece_of, value_of, width_of}
-use Rattle.cs_reading.specs.Workers.{most_workers, most_notes}
-use Rattle.cs_reading.specs.declared.order.SampleWidth.{SampleWidth}
-use Rattle.cs_reading.proofs.Values.{IsCounted, IsFlag, flag_is, number_for, number_in, number_is}
+use Rattle.cs_arguments.specs.Reading.{Piece, Text, Use, asked_by, asked_of, has_use, number_of, piece_of, value_of, width_of}
+use Rattle.cs_arguments.specs.Workers.{most_workers, most_notes}
+use Rattle.cs_arguments.specs.declared.order.SampleWidth.{SampleWidth}
+use Rattle.cs_arguments.proofs.Values.{IsCounted, IsFlag, flag_is, number_for, number_in, number_is}
 use Rattle.cs_command.specs.inner.Matched.{Holds}
 
 -- ---- numbers

@@ -11,11 +11,11 @@ use Rattle.clap.specs.declared.error.Error.{Error}
 use Rattle.clap.specs.declared.error.kind.ErrorKind.{ErrorKind}
 use Rattle.clap.specs.declared.error.kind.ErrorKind.TheVariants as kind
 use Rattle.clap.specs.declared.parser.matches.ArgMatches.{ArgMatches}
-use Rattle.cs_reading.specs.Reading.{Said, Text, asked, asked_by, reading, said, start}
-use Rattle.cs_reading.specs.inner.Command.{the_app}
-use Rattle.cs_reading.specs.inner.Taken.{accepted, good, is_taken, uses_in, uses_or}
-use Rattle.cs_reading.proofs.Walking.{clear}
-use Rattle.cs_reading.proofs.Ends.{finds, is_free, is_plain, refuses}
+use Rattle.cs_arguments.specs.Reading.{Said, Text, asked, asked_by, reading, said, start}
+use Rattle.cs_arguments.specs.Command.{the_app}
+use Rattle.cs_arguments.specs.Taken.{accepted, good, is_taken, uses_in, uses_or}
+use Rattle.cs_arguments.proofs.Walking.{clear}
+use Rattle.cs_arguments.proofs.Ends.{finds, is_free, is_plain, refuses}
 use Rattle.cs_command.specs.Words.{texts}
 use Rattle.cs_command.specs.inner.Matched.{IsMatched}
 

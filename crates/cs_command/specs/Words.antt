@@ -1,9 +1,9 @@
 -- The words as texts, and what an answer says of them.
 use Rattle.std.specs.Prelude.{◌≡◌, List, map, Some, None, Result, Ok, Err, String, string_bytes}
 use Rattle.std.specs.Global.{Global}
-use Rattle.cs_reading.specs.Orders.{asked_in}
-use Rattle.cs_reading.specs.Reading.{Text, reading}
-use Rattle.cs_reading.specs.declared.order.Order.{Order}
+use Rattle.cs_arguments.specs.Orders.{asked_in}
+use Rattle.cs_arguments.specs.Reading.{Text, reading}
+use Rattle.cs_arguments.specs.declared.order.Order.{Order}
 use Rattle.cs_command.specs.declared.reading.Unread.{Unread}
 use Rattle.cs_command.specs.declared.reading.Unread.TheVariants.{Usage}
 

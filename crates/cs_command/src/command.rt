@@ -1,7 +1,7 @@
 // All that may stand, as one command.
 ghost use Rattle.std.specs.Prelude.{◌≡◌, false, fold, IfOk};
 ghost use Rattle.clap.specs.Words.{app_of, rule_of, with_rule};
-ghost use Rattle.cs_reading.specs.inner.Command.{bare_app, lettered_app, the_app};
+ghost use Rattle.cs_arguments.specs.Command.{bare_app, lettered_app, the_app};
 
 use crate::options::{
     demo_option, first_name, letter_flag, long_flag, second_name, sound_file_option, workers_option,

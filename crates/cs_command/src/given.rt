@@ -1,11 +1,11 @@
 // The values of what stood, out of clap's matches.
 ghost use Rattle.std.specs.Prelude.{◌≡◌, ◌∷◌, [], ℕ, List, codes, option_map, unwrap_or};
-ghost use Rattle.cs_reading.specs.Orders.{asked_in, piece_in};
-ghost use Rattle.cs_reading.specs.Reading.{Use, asked_by, has_use, number_of, piece_of, value_of, width_of};
+ghost use Rattle.cs_arguments.specs.Orders.{asked_in, piece_in};
+ghost use Rattle.cs_arguments.specs.Reading.{Use, asked_by, has_use, number_of, piece_of, value_of, width_of};
 ghost use Rattle.cs_command.specs.inner.Matched.{Holds};
 
 use clap::ArgMatches;
-use cs_reading::{DemoNotes, Order, SampleWidth, Source, Workers};
+use cs_arguments::{DemoNotes, Order, SampleWidth, Source, Workers};
 
 /// The order that the matches hold; None where names and `--demo` don't fit each other.
 pub fn order_of<'w>(matches: &ArgMatches<'w>) -> Option<Order<'w>>

@@ -2,7 +2,7 @@
 ghost use Rattle.std.specs.Prelude.{◌≡◌, ◌≤◌, pos, false, codes, Some, None};
 ghost use Rattle.clap.specs.Words.{rule_of};
 ghost use Rattle.clap.specs.declared.builder.value_parser.ValueParser.TheVariants.{Signed};
-ghost use Rattle.cs_reading.specs.inner.Command.{made_flag, made_option};
+ghost use Rattle.cs_arguments.specs.Command.{made_flag, made_option};
 
 use clap::builder::ValueParser;
 use clap::{Arg, ArgAction};

@@ -7,7 +7,7 @@ use crate::command::command;
 use crate::given::order_of;
 use clap::ArgMatches;
 use clap::error::ErrorKind;
-use cs_reading::Order;
+use cs_arguments::Order;
 use std::alloc::{AllocError, Global};
 
 /// Why there is no order.

@@ -4,15 +4,18 @@
 //! tags with its line; each file has exactly one reading (`one_reading`). It takes no memory. How it goes along the lines
 //! (`scan`, specs/inner) may be changed without anyone above noticing.
 //!
-//! To be read in this order: `part` (what comes out), `line` (what a line says), `scan` (line after line), `split`, `laws`.
+//! To be read in this order: `part` (what comes out), `line` (what a line says), `scan` (line after line), `split`,
+//! `laws`; `refused` (why the texts of a piece are refused, with the line in the file).
 #![tactic(auto)]
 
 mod laws;
 mod line;
 mod part;
+mod refused;
 mod scan;
 mod split;
 
 pub use laws::one_reading;
 pub use part::{CsdFault, CsdKind, Part, Parts};
+pub use refused::Refused;
 pub use split::split_csd;

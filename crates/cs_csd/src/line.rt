@@ -7,7 +7,7 @@ ghost use Rattle.cs_csd.specs.Lines.{after_blanks, closes, closing, is_idle, is_
 use cs_base::is_blank;
 
 /// A section of a file.
-#[derive(Clone, Copy, PartialEq, Eq)]
+#[derive(Clone, Copy)]
 pub enum Section {
     Options,
     Instruments,
@@ -15,7 +15,7 @@ pub enum Section {
 }
 
 /// What a line between sections says.
-#[derive(Clone, Copy, PartialEq, Eq)]
+#[derive(Clone, Copy)]
 pub enum Mark {
     /// Nothing: it has blanks alone, or is a comment.
     Idle,

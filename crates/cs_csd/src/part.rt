@@ -3,7 +3,7 @@ ghost use Rattle.std.specs.Prelude.{◌≡◌};
 ghost use Rattle.cs_csd.specs.Kinds.{kind_name, kind_number};
 
 /// A text within a file: the places of its first byte and after its last, and the number of its first line.
-#[derive(Clone, Copy, Debug, PartialEq, Eq)]
+#[derive(Clone, Copy)]
 pub struct Part {
     pub from: u32,
     pub to: u32,
@@ -11,14 +11,14 @@ pub struct Part {
 }
 
 /// The orchestra and the score of a file. A score that isn't there is the empty text at the file's front.
-#[derive(Clone, Copy, Debug, PartialEq, Eq)]
+#[derive(Clone, Copy)]
 pub struct Parts {
     pub orc: Part,
     pub sco: Part,
 }
 
 /// What is wrong with the tags of a file.
-#[derive(Clone, Copy, Debug, PartialEq, Eq)]
+#[derive(Clone, Copy)]
 pub enum CsdKind {
     /// The file ends before a tag that is still needed, or has no `<CsInstruments>`.
     MissingTag,
@@ -29,7 +29,7 @@ pub enum CsdKind {
 }
 
 /// The first fault of a file's tags, with its line.
-#[derive(Clone, Copy, Debug, PartialEq, Eq)]
+#[derive(Clone, Copy)]
 pub struct CsdFault {
     pub line: u32,
     pub kind: CsdKind,

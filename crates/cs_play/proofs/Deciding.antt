@@ -1,8 +1,8 @@
 -- What decides how a run ends, and what two runs have in common.
 use Rattle.std.proofs.Common.{◌≡◌, ◌⊎◌, ℕ, ℤ, List, Bool, true, false, not, Option, Result, Some, None, Ok, Err, refl, ap, sym, subst, ◌∙◌, inl, inr}
 use Rattle.cs_base.specs.declared.head.Head.{Head}
-use Rattle.cs_course.specs.Heard.{frames_of}
-use Rattle.cs_course.specs.Moments.{Composition}
+use Rattle.cs_piece_meaning.specs.Heard.{frames_of}
+use Rattle.cs_piece_meaning.specs.Moments.{Composition}
 use Rattle.cs_edge.specs.Moves.{Finished, Held, SinkTold}
 use Rattle.cs_edge.specs.Told.{Follows, Rose}
 use Rattle.cs_perform.specs.Hearing.{IfWritten}
@@ -10,15 +10,15 @@ use Rattle.cs_play.specs.Alike.{AreTexts, AskAlike, HoldAlike, SoundAlike, TellA
 use Rattle.cs_play.specs.Endings.{EndsBy, IsLoaded, IsOk, Reads, WasPerformed, is_wide}
 use Rattle.cs_play.specs.Runs.{IsRun}
 use Rattle.cs_play.specs.Scene.{Scene, Sight}
-use Rattle.cs_play.specs.Status.{refusal}
-use Rattle.cs_play.specs.declared.status.Status.{Status}
-use Rattle.cs_play.specs.declared.status.Status.TheVariants as status
-use Rattle.cs_reading.specs.Reading.{Asked, Piece, Text, reading}
+use Rattle.cs_report.specs.Status.{refusal}
+use Rattle.cs_report.specs.declared.status.Status.{Status}
+use Rattle.cs_report.specs.declared.status.Status.TheVariants as status
+use Rattle.cs_arguments.specs.Reading.{Asked, Piece, Text, reading}
 use Rattle.cs_source.specs.Loaded.{SourceMeans}
 use Rattle.cs_source.specs.Meaning.{Mean}
 use Rattle.cs_source.specs.Texts.{LackWhereTold, Texts}
-use Rattle.cs_source.specs.declared.refused.Refused.{Refused}
-use Rattle.cs_source.specs.declared.refused.Refused.TheVariants as refused
+use Rattle.cs_csd.specs.declared.refused.Refused.{Refused}
+use Rattle.cs_csd.specs.declared.refused.Refused.TheVariants as refused
 use Rattle.cs_typed.specs.Places.{Header}
 use Rattle.cs_typed.specs.TypedTree.{header_of_head}
 use Rattle.cs_wav.specs.Wav.{header_bytes, wav_of}

@@ -1,4 +1,3 @@
 pub mod Deciding
 pub mod Meanings
 pub mod Runs
-pub mod Saying

@@ -1,15 +1,15 @@
 -- What the texts of a run mean, where they are known.
 use Rattle.std.proofs.Common.{◌≡◌, ℕ, Bool, List, Option, Some, None, Result, Ok, Err, ap, sym, subst, ◌∙◌, ⊎_elim}
-use Rattle.cs_course.specs.Moments.{Composition}
+use Rattle.cs_piece_meaning.specs.Moments.{Composition}
 use Rattle.cs_edge.specs.Files.{ShelfTold}
 use Rattle.cs_edge.specs.Told.{Rose}
 use Rattle.cs_edge.specs.declared.files.NamedBytes.{NamedBytes}
 use Rattle.cs_play.specs.Alike.{AreTexts, TellAlike}
-use Rattle.cs_reading.specs.Reading.{Piece, two_files, one_file, demo}
+use Rattle.cs_arguments.specs.Reading.{Piece, two_files, one_file, demo}
 use Rattle.cs_source.specs.Loaded.{CannotRead, SourceMeans}
 use Rattle.cs_source.specs.Meaning.{Mean}
 use Rattle.cs_source.specs.Texts.{Texts, both, csd, demo_notes, Fit, Have, HaveWhereTold, Lack, LackWhereTold}
-use Rattle.cs_source.specs.declared.refused.Refused.{Refused}
+use Rattle.cs_csd.specs.declared.refused.Refused.{Refused}
 
 -- texts have one meaning; files have one pair of texts; and what files lack they don't have
 abbrev pub OneMeaning : Type 0

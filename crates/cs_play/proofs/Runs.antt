@@ -1,29 +1,40 @@
 -- How a run ends: one lemma for each way out.
 use Rattle.std.proofs.Common.{◌≡◌, ◌++◌, ◌*◌, ℕ, List, [], Bool, true, false, not, Result, Some, None, Ok, Err, refl, ap, sym, subst, ◌∙◌, inl, inr}
 use Rattle.std.specs.List.{count_by, flat_map}
+use Rattle.std.specs.Result.{IfErr, IfOk, IsErr, OnOk}
 use Rattle.cs_base.specs.declared.head.Head.{Head}
-use Rattle.cs_course.specs.Course.{closing}
-use Rattle.cs_course.specs.Heard.{frames_of}
-use Rattle.cs_course.specs.Moments.{Composition}
+use Rattle.cs_piece.specs.Setups.{SetupData, composition_of}
+use Rattle.cs_piece_meaning.specs.Course.{closing}
+use Rattle.cs_piece_meaning.specs.Heard.{frames_of}
+use Rattle.cs_piece_meaning.specs.Moments.{Composition}
 use Rattle.cs_desk.specs.declared.receipt.Tally.{Tally}
-use Rattle.cs_edge.specs.Moves.{WroteMore}
+use Rattle.cs_edge.specs.Files.{ShelfTold}
+use Rattle.cs_edge.specs.Moves.{SinkTold, WroteMore}
 use Rattle.cs_edge.specs.Told.{Rose}
 use Rattle.cs_life.specs.Standing.{kept_count}
 use Rattle.cs_perform.specs.Performances.{IsOutcomeOf, IsPart, IsPaused, IsWhole, if_told}
+use Rattle.cs_command.specs.declared.reading.Unread.{Unread}
+use Rattle.cs_command.specs.declared.reading.Unread.TheVariants as unasked
 use Rattle.cs_perform.specs.declared.order.Outcome.{Outcome}
+use Rattle.cs_perform.specs.declared.order.PlayFault.{PlayFault}
+use Rattle.cs_perform.specs.declared.order.PlayFault.TheVariants as fault
 use Rattle.cs_play.specs.Endings.{EndsBy, IsLoaded, IsRefusal, IsUntouched, is_wide, order_of}
-use Rattle.cs_play.specs.Report.{count_lines, counts_of, line_room, report_of}
+use Rattle.cs_play.specs.Report.{counts_of, report_of}
 use Rattle.cs_play.specs.Runs.{IsRun}
-use Rattle.cs_play.specs.Scene.{Scene, Sight, scene}
-use Rattle.cs_play.specs.Status.{refusal}
-use Rattle.cs_play.specs.Talk.{Says, SaysPart, message_of}
-use Rattle.cs_play.specs.declared.status.Status.{Status}
-use Rattle.cs_play.specs.declared.status.Status.TheVariants as status
-use Rattle.cs_play.specs.inner.Counts.{counts_in}
-use Rattle.cs_reading.specs.Reading.{Asked, Text, reading}
+use Rattle.cs_play.specs.Scene.{Scene, Sight, scene, sight}
+use Rattle.cs_play.specs.inner.Sounding.{HasReported, HasSounded, counts_told}
+use Rattle.cs_play.specs.inner.Stopping.{HasStopped, fault_status, name_in, stop_status, unread_status}
+use Rattle.cs_report.specs.Report.{count_lines, counts_in, line_room}
+use Rattle.cs_report.specs.Status.{refusal}
+use Rattle.cs_report.specs.Talk.{Says, SaysPart, message_of}
+use Rattle.cs_report.specs.declared.status.Status.{Status}
+use Rattle.cs_report.specs.declared.status.Status.TheVariants as status
+use Rattle.cs_arguments.specs.Reading.{Asked, Text, reading}
 use Rattle.cs_source.specs.Loaded.{CannotRead, LeavesUnread, SourceMeans, WasRead}
-use Rattle.cs_source.specs.declared.refused.Refused.{Refused}
-use Rattle.cs_source.specs.declared.refused.Refused.TheVariants as refused
+use Rattle.cs_source.specs.declared.loading.Stop.{Stop}
+use Rattle.cs_source.specs.declared.loading.Stop.TheVariants as stop
+use Rattle.cs_csd.specs.declared.refused.Refused.{Refused}
+use Rattle.cs_csd.specs.declared.refused.Refused.TheVariants as refused
 use Rattle.cs_turns.specs.Turns.{turn_lines_of}
 use Rattle.cs_typed.specs.TypedTree.{header_of_head}
 use Rattle.cs_wav.specs.Wav.{bytes_of, is_out_of_range}
@@ -32,9 +43,9 @@ same_lines : (a b c d e a' b' c' d' e' : ℕ) → a ≡ a' → b ≡ b' → c �
 same_lines a b c d e a' b' c' d' e' p q r s t = cc
 
 -- the counts that the performer answered are those of the composition
-counts_told : (c : Composition) (wide : Bool) (o : Outcome) → IsOutcomeOf c wide o → counts_in o ≡ counts_of c wide
+same_counts : (c : Composition) (wide : Bool) (o : Outcome) → IsOutcomeOf c wide o → counts_in (counts_told o) ≡ counts_of c wide
 unfolding counts_of
-counts_told c wide o is =
+same_counts c wide o is =
     same_lines o.frames o.cycles o.started o.not_started o.out_of_range (c.cycles * c.head.ksmps) c.cycles (kept_count (closing c).started)
     (kept_count (closing c).not_started) (count_by (is_out_of_range (bytes_of wide) c.head.dbfs) (frames_of c))
     is.frames is.cycles is.started is.not_started is.out_of_range
@@ -42,6 +53,9 @@ counts_told c wide o is =
 not_silent : (silent : Bool) → not silent ≡ true → silent ≡ false
 not_silent true e = sym e
 not_silent false e = refl
+
+said_as : (a b : SinkTold) (s t : Status) (name : List ℕ) → t ≡ s → Says a b (message_of t name) → Says a b (message_of s name)
+said_as a b s t name e says = let P : Status → Type 0 = λ x. Says a b (message_of x name) in subst P e says
 
 module _ {F K T B : Type 0} (see : Sight F K T B) where
   -- a status is what was said to be one
@@ -52,7 +66,7 @@ module _ {F K T B : Type 0} (see : Sight F K T B) where
       → IsUntouched see (scene shelf wav talk taps tally) (scene shelf' wav talk' taps tally)
   untouched shelf shelf' wav talk talk' taps tally = record { wav = refl; taps = refl; tally = refl }
 
-  pub usage_run : (words : List Text) (shelf : F) (wav : K) (talk talk' : T) (taps : List B) (tally : Tally) → reading words ≡ None
+  usage_run : (words : List Text) (shelf : F) (wav : K) (talk talk' : T) (taps : List B) (tally : Tally) → reading words ≡ None
       → Says (see.talk talk) (see.talk talk') (message_of status.Usage [])
       → IsRun see words status.Usage (scene shelf wav talk taps tally) (scene shelf wav talk' taps tally)
   usage_run words shelf wav talk talk' taps tally e says = record {
@@ -61,7 +75,7 @@ module _ {F K T B : Type 0} (see : Sight F K T B) where
   }
 
   -- want of memory as the words were read
-  pub starved_run : (words : List Text) (shelf : F) (wav : K) (talk talk' : T) (taps : List B) (tally : Tally)
+  starved_run : (words : List Text) (shelf : F) (wav : K) (talk talk' : T) (taps : List B) (tally : Tally)
       → Says (see.talk talk) (see.talk talk') (message_of status.OutOfMemory [])
       → IsRun see words status.OutOfMemory (scene shelf wav talk taps tally) (scene shelf wav talk' taps tally)
   starved_run words shelf wav talk talk' taps tally says = record {
@@ -69,8 +83,19 @@ module _ {F K T B : Type 0} (see : Sight F K T B) where
     shelf = inl refl;
   }
 
+  -- words that aren't read
+  pub unasked_run : (words : List Text) (u : Unread) (r t : Status) (shelf : F) (wav : K) (talk talk' : T) (taps : List B) (tally : Tally)
+      → r ≡ t → t ≡ unread_status u → (u ≡ unasked.Usage → reading words ≡ None) → Says (see.talk talk) (see.talk talk') (message_of t [])
+      → IsRun see words r (scene shelf wav talk taps tally) (scene shelf wav talk' taps tally)
+  unasked_run words unasked.Usage r t shelf wav talk talk' taps tally e h none says =
+      is_status words r status.Usage (scene shelf wav talk taps tally) (scene shelf wav talk' taps tally) (e ∙ h)
+      (usage_run words shelf wav talk talk' taps tally (none refl) (said_as (see.talk talk) (see.talk talk') status.Usage t [] h says))
+  unasked_run words unasked.OutOfMemory r t shelf wav talk talk' taps tally e h none says =
+      is_status words r status.OutOfMemory (scene shelf wav talk taps tally) (scene shelf wav talk' taps tally) (e ∙ h)
+      (starved_run words shelf wav talk talk' taps tally (said_as (see.talk talk) (see.talk talk') status.OutOfMemory t [] h says))
+
   -- want of memory as the source was read
-  pub unloaded_run : (words : List Text) (asked : Asked) (shelf shelf' : F) (wav : K) (talk talk' : T) (taps : List B) (tally : Tally)
+  unloaded_run : (words : List Text) (asked : Asked) (shelf shelf' : F) (wav : K) (talk talk' : T) (taps : List B) (tally : Tally)
       → reading words ≡ Some asked → WasRead (see.shelf shelf) (see.shelf shelf') asked.piece
       → Says (see.talk talk) (see.talk talk') (message_of status.OutOfMemory [])
       → IsRun see words status.OutOfMemory (scene shelf wav talk taps tally) (scene shelf' wav talk' taps tally)
@@ -79,7 +104,7 @@ module _ {F K T B : Type 0} (see : Sight F K T B) where
     shelf = inr (asked, e, was);
   }
 
-  pub unread_run : (words : List Text) (asked : Asked) (name : List ℕ) (shelf shelf' : F) (wav : K) (talk talk' : T) (taps : List B) (tally : Tally)
+  unread_run : (words : List Text) (asked : Asked) (name : List ℕ) (shelf shelf' : F) (wav : K) (talk talk' : T) (taps : List B) (tally : Tally)
       → reading words ≡ Some asked → WasRead (see.shelf shelf) (see.shelf shelf') asked.piece
       → CannotRead (see.shelf shelf) (see.shelf shelf') asked.piece name
       → Says (see.talk talk) (see.talk talk') (message_of status.ShelfFault name)
@@ -104,7 +129,7 @@ module _ {F K T B : Type 0} (see : Sight F K T B) where
   ends_refused words asked (refused.Score f) before now e is = (asked, e, is)
   ends_refused words asked (refused.Limit h) before now e is = (asked, e, is)
 
-  pub refused_run : (words : List Text) (asked : Asked) (wide : Bool) (r : Refused) (shelf shelf' : F) (wav : K) (talk talk' : T) (taps : List B) (tally : Tally)
+  refused_run : (words : List Text) (asked : Asked) (wide : Bool) (r : Refused) (shelf shelf' : F) (wav : K) (talk talk' : T) (taps : List B) (tally : Tally)
       → wide ≡ is_wide asked.width → reading words ≡ Some asked → WasRead (see.shelf shelf) (see.shelf shelf') asked.piece
       → SourceMeans (see.shelf shelf) wide asked.piece (Err r) → LeavesUnread (see.shelf shelf) (see.shelf shelf') asked.piece
       → Says (see.talk talk) (see.talk talk') (message_of (refusal r) [])
@@ -115,98 +140,135 @@ module _ {F K T B : Type 0} (see : Sight F K T B) where
     shelf = inr (asked, e, was);
   }
 
-  -- A COMPOSITION, which was performed whole
+  -- a source of which there is no piece
+  stopped : (words : List Text) (asked : Asked) (wide : Bool) (s : Stop) (shelf shelf' : F) (wav : K) (talk talk' : T) (taps : List B) (tally : Tally)
+      → wide ≡ is_wide asked.width → reading words ≡ Some asked → WasRead (see.shelf shelf) (see.shelf shelf') asked.piece
+      → ((r : Refused) → s ≡ stop.Refused r → SourceMeans (see.shelf shelf) wide asked.piece (Err r))
+      → ((r : Refused) → s ≡ stop.Refused r → LeavesUnread (see.shelf shelf) (see.shelf shelf') asked.piece)
+      → ((name : _) → s ≡ stop.Unread name → CannotRead (see.shelf shelf) (see.shelf shelf') asked.piece name.now)
+      → Says (see.talk talk) (see.talk talk') (message_of (stop_status s) (name_in s))
+      → IsRun see words (stop_status s) (scene shelf wav talk taps tally) (scene shelf' wav talk' taps tally)
+  stopped words asked wide (stop.Unread name) shelf shelf' wav talk talk' taps tally w e was means rest unread says =
+      unread_run words asked name.now shelf shelf' wav talk talk' taps tally e was (unread name refl) says
+  stopped words asked wide (stop.Refused r) shelf shelf' wav talk talk' taps tally w e was means rest unread says =
+      refused_run words asked wide r shelf shelf' wav talk talk' taps tally w e was (means r refl) (rest r refl) says
+  stopped words asked wide stop.OutOfMemory shelf shelf' wav talk talk' taps tally w e was means rest unread says =
+      unloaded_run words asked shelf shelf' wav talk talk' taps tally e was says
+
+  -- A COMPOSITION, which was performed
 
   -- the report as it was written
   report_is : (c : Composition) (wide turns : Bool) (o : Outcome) (taps : List B) → IsOutcomeOf c wide o → o.turns ≡ if_told turns (turn_lines_of c)
-      → counts_in o ++ flat_map (λ tap. see.line tap line_room) taps ++ o.turns ≡ report_of see.line c wide turns taps
+      → counts_in (counts_told o) ++ flat_map (λ tap. see.line tap line_room) taps ++ o.turns ≡ report_of see.line c wide turns taps
   report_is c wide turns o taps is lines =
-      ap (λ (l : List ℕ). l ++ flat_map (λ tap. see.line tap line_room) taps ++ o.turns) (counts_told c wide o is)
+      ap (λ (l : List ℕ). l ++ flat_map (λ tap. see.line tap line_room) taps ++ o.turns) (same_counts c wide o is)
       ∙ ap (λ (l : List ℕ). counts_of c wide ++ flat_map (λ tap. see.line tap line_room) taps ++ l) lines
 
-  pub ok_run : (words : List Text) (asked : Asked) (wide : Bool) (c : Composition) (head : Head) (o : Outcome) (shelf shelf' : F) (wav wav' : K) (talk talk' : T)
+  -- whole, and then reported
+  pub whole_sounded : (asked : Asked) (c : Composition) (head : Head) (o : Outcome) (s : Status) (shelf : F) (wav wav' : K) (talk talk' : T)
       (taps taps' : List B) (tally tally' : Tally)
-      → wide ≡ is_wide asked.width → reading words ≡ Some asked → WasRead (see.shelf shelf) (see.shelf shelf') asked.piece
-      → SourceMeans (see.shelf shelf) wide asked.piece (Ok c) → LeavesUnread (see.shelf shelf) (see.shelf shelf') asked.piece
       → header_of_head head ≡ c.head
       → IsWhole see.stands see.wav c head (order_of asked) asked.sound_file taps taps' tally tally' wav wav'
       → IsOutcomeOf c (is_wide asked.width) o → o.turns ≡ if_told asked.turns (turn_lines_of c)
-      → WroteMore (see.talk talk) (see.talk talk') (counts_in o ++ flat_map (λ tap. see.line tap line_room) taps' ++ o.turns)
-      → IsRun see words status.Ok (scene shelf wav talk taps tally) (scene shelf' wav' talk' taps' tally')
-  ok_run words asked wide c head o shelf shelf' wav wav' talk talk' taps taps' tally tally' w e was means rest same whole is lines wrote =
-      let P : List ℕ → Type 0 = λ l. WroteMore (see.talk talk) (see.talk talk') l in record {
-        ended = (
-          asked,
-          e,
-          record {
-            c = c;
-            loaded = loaded asked wide (Ok c) (scene shelf wav talk taps tally) (scene shelf' wav' talk' taps' tally') w means rest;
-            performed = record { head = head; head_is = same; whole = whole };
-            report = subst P (report_is c (is_wide asked.width) asked.turns o taps' is lines) wrote;
-          },
-        );
-        shelf = inr (asked, e, was);
-      }
+      → HasReported (see.talk talk) (see.talk talk') (counts_in (counts_told o) ++ flat_map (λ tap. see.line tap line_room) taps' ++ o.turns) s
+      → HasSounded see asked c s (scene shelf wav talk taps tally) (scene shelf wav' talk' taps' tally')
+  whole_sounded asked c head o status.Ok shelf wav wav' talk talk' taps taps' tally tally' same whole is lines wrote =
+      let P : List ℕ → Type 0 = λ l. WroteMore (see.talk talk) (see.talk talk') l in
+      (record { head = head; head_is = same; whole = whole }, subst P (report_is c (is_wide asked.width) asked.turns o taps' is lines) wrote)
+  whole_sounded asked c head o status.TalkFault shelf wav wav' talk talk' taps taps' tally tally' same whole is lines part =
+      let P : List ℕ → Type 0 = λ l. SaysPart (see.talk talk) (see.talk talk') l in
+      (record { head = head; head_is = same; whole = whole }, subst P (report_is c (is_wide asked.width) asked.turns o taps' is lines) part)
+  whole_sounded asked c head o status.Usage shelf wav wav' talk talk' taps taps' tally tally' same whole is lines never = absurd never
+  whole_sounded asked c head o status.ShelfFault shelf wav wav' talk talk' taps taps' tally tally' same whole is lines never = absurd never
+  whole_sounded asked c head o status.SinkFault shelf wav wav' talk talk' taps taps' tally tally' same whole is lines never = absurd never
+  whole_sounded asked c head o status.OutOfMemory shelf wav wav' talk talk' taps taps' tally tally' same whole is lines never = absurd never
+  whole_sounded asked c head o (status.OrcRefused f) shelf wav wav' talk talk' taps taps' tally tally' same whole is lines never = absurd never
+  whole_sounded asked c head o (status.ScoreRefused f) shelf wav wav' talk talk' taps taps' tally tally' same whole is lines never = absurd never
+  whole_sounded asked c head o (status.Limit h) shelf wav wav' talk talk' taps taps' tally tally' same whole is lines never = absurd never
+  whole_sounded asked c head o (status.CsdRefused f) shelf wav wav' talk talk' taps taps' tally tally' same whole is lines never = absurd never
 
-  pub talk_fault_run : (words : List Text) (asked : Asked) (wide : Bool) (c : Composition) (head : Head) (o : Outcome) (shelf shelf' : F) (wav wav' : K) (talk talk' : T)
+  -- in part
+  in_part : (asked : Asked) (c : Composition) (head : Head) (f : PlayFault) (t : Status) (shelf : F) (wav wav' : K) (talk talk' : T)
       (taps taps' : List B) (tally tally' : Tally)
-      → wide ≡ is_wide asked.width → reading words ≡ Some asked → WasRead (see.shelf shelf) (see.shelf shelf') asked.piece
-      → SourceMeans (see.shelf shelf) wide asked.piece (Ok c) → LeavesUnread (see.shelf shelf) (see.shelf shelf') asked.piece
-      → header_of_head head ≡ c.head
-      → IsWhole see.stands see.wav c head (order_of asked) asked.sound_file taps taps' tally tally' wav wav'
-      → IsOutcomeOf c (is_wide asked.width) o → o.turns ≡ if_told asked.turns (turn_lines_of c)
-      → SaysPart (see.talk talk) (see.talk talk') (counts_in o ++ flat_map (λ tap. see.line tap line_room) taps' ++ o.turns)
-      → IsRun see words status.TalkFault (scene shelf wav talk taps tally) (scene shelf' wav' talk' taps' tally')
-  talk_fault_run words asked wide c head o shelf shelf' wav wav' talk talk' taps taps' tally tally' w e was means rest same whole is lines part =
-      let P : List ℕ → Type 0 = λ l. SaysPart (see.talk talk) (see.talk talk') l in record {
-        ended = (
-          asked,
-          e,
-          record {
-            c = c;
-            loaded = loaded asked wide (Ok c) (scene shelf wav talk taps tally) (scene shelf' wav' talk' taps' tally') w means rest;
-            performed = record { head = head; head_is = same; whole = whole };
-            report = subst P (report_is c (is_wide asked.width) asked.turns o taps' is lines) part;
-          },
-        );
-        shelf = inr (asked, e, was);
-      }
-
-  -- and one of which some cycles were
-  pub sink_run : (words : List Text) (asked : Asked) (wide : Bool) (c : Composition) (head : Head) (shelf shelf' : F) (wav wav' : K) (talk talk' : T)
-      (taps taps' : List B) (tally tally' : Tally)
-      → wide ≡ is_wide asked.width → reading words ≡ Some asked → WasRead (see.shelf shelf) (see.shelf shelf') asked.piece
-      → SourceMeans (see.shelf shelf) wide asked.piece (Ok c) → LeavesUnread (see.shelf shelf) (see.shelf shelf') asked.piece
-      → header_of_head head ≡ c.head
+      → t ≡ fault_status f → header_of_head head ≡ c.head
       → IsPart see.stands see.wav c head (order_of asked) asked.sound_file taps taps' tally tally' wav wav'
-      → (not asked.silent ≡ true) × Rose (see.wav wav).faults (see.wav wav').faults
-      → Says (see.talk talk) (see.talk talk') (message_of status.SinkFault [])
-      → IsRun see words status.SinkFault (scene shelf wav talk taps tally) (scene shelf' wav' talk' taps' tally')
-  sink_run words asked wide c head shelf shelf' wav wav' talk talk' taps taps' tally tally' w e was means rest same part cause says = record {
+      → (f ≡ fault.OutOfMemory → IsPaused see.stands see.wav c head (order_of asked) asked.sound_file taps taps' tally tally' wav wav')
+      → (f ≡ fault.Sink → (not asked.silent ≡ true) × Rose (see.wav wav).faults (see.wav wav').faults)
+      → Says (see.talk talk) (see.talk talk') (message_of t [])
+      → HasSounded see asked c (fault_status f) (scene shelf wav talk taps tally) (scene shelf wav' talk' taps' tally')
+  in_part asked c head fault.Sink t shelf wav wav' talk talk' taps taps' tally tally' e same part paused cause says = (
+    record { head = head; head_is = same; part = part },
+    not_silent asked.silent (cause refl).0,
+    (cause refl).1,
+    said_as (see.talk talk) (see.talk talk') status.SinkFault t [] e says,
+  )
+  in_part asked c head fault.OutOfMemory t shelf wav wav' talk talk' taps taps' tally tally' e same part paused cause says = (
+    record { head = head; head_is = same; paused = paused refl },
+    said_as (see.talk talk) (see.talk talk') status.OutOfMemory t [] e says,
+  )
+
+  pub part_sounded : (asked : Asked) (c : Composition) (head : Head) (f : PlayFault) (r t : Status) (shelf : F) (wav wav' : K) (talk talk' : T)
+      (taps taps' : List B) (tally tally' : Tally)
+      → r ≡ t → t ≡ fault_status f → header_of_head head ≡ c.head
+      → IsPart see.stands see.wav c head (order_of asked) asked.sound_file taps taps' tally tally' wav wav'
+      → (f ≡ fault.OutOfMemory → IsPaused see.stands see.wav c head (order_of asked) asked.sound_file taps taps' tally tally' wav wav')
+      → (f ≡ fault.Sink → (not asked.silent ≡ true) × Rose (see.wav wav).faults (see.wav wav').faults)
+      → Says (see.talk talk) (see.talk talk') (message_of t [])
+      → HasSounded see asked c r (scene shelf wav talk taps tally) (scene shelf wav' talk' taps' tally')
+  part_sounded asked c head f r t shelf wav wav' talk talk' taps taps' tally tally' is e same part paused cause says =
+      let P : Status → Type 0 = λ x. HasSounded see asked c x (scene shelf wav talk taps tally) (scene shelf wav' talk' taps' tally') in
+      subst P (sym (is ∙ e)) (in_part asked c head f t shelf wav wav' talk talk' taps taps' tally tally' e same part paused cause says)
+
+  -- The piece of a source that was performed. The shelf has no part in its performance.
+  pub sounded_run : (words : List Text) (asked : Asked) (wide : Bool) (c : Composition) (s : Status) (shelf shelf' : F) (wav wav' : K) (talk talk' : T)
+      (taps taps' : List B) (tally tally' : Tally)
+      → wide ≡ is_wide asked.width → reading words ≡ Some asked → WasRead (see.shelf shelf) (see.shelf shelf') asked.piece
+      → SourceMeans (see.shelf shelf) wide asked.piece (Ok c) → LeavesUnread (see.shelf shelf) (see.shelf shelf') asked.piece
+      → HasSounded (sight (λ (_ : Unit {0}). see.shelf shelf) see.wav see.talk see.stands see.line) asked c s
+      (scene tt wav talk taps tally) (scene tt wav' talk' taps' tally')
+      → IsRun see words s (scene shelf wav talk taps tally) (scene shelf' wav' talk' taps' tally')
+  sounded_run words asked wide c status.Ok shelf shelf' wav wav' talk talk' taps taps' tally tally' w e was means rest h = record {
     ended = (
       asked,
       e,
       record {
         c = c;
         loaded = loaded asked wide (Ok c) (scene shelf wav talk taps tally) (scene shelf' wav' talk' taps' tally') w means rest;
-        performed = record { head = head; head_is = same; part = part };
-        written = not_silent asked.silent cause.0;
-        rose = cause.1;
-        line = says;
+        performed = record { head = h.0.head; head_is = h.0.head_is; whole = h.0.whole };
+        report = h.1;
       },
     );
     shelf = inr (asked, e, was);
   }
-
-  pub cut_short_run : (words : List Text) (asked : Asked) (wide : Bool) (c : Composition) (head : Head) (shelf shelf' : F) (wav wav' : K) (talk talk' : T)
-      (taps taps' : List B) (tally tally' : Tally)
-      → wide ≡ is_wide asked.width → reading words ≡ Some asked → WasRead (see.shelf shelf) (see.shelf shelf') asked.piece
-      → SourceMeans (see.shelf shelf) wide asked.piece (Ok c) → LeavesUnread (see.shelf shelf) (see.shelf shelf') asked.piece
-      → header_of_head head ≡ c.head
-      → IsPaused see.stands see.wav c head (order_of asked) asked.sound_file taps taps' tally tally' wav wav'
-      → Says (see.talk talk) (see.talk talk') (message_of status.OutOfMemory [])
-      → IsRun see words status.OutOfMemory (scene shelf wav talk taps tally) (scene shelf' wav' talk' taps' tally')
-  cut_short_run words asked wide c head shelf shelf' wav wav' talk talk' taps taps' tally tally' w e was means rest same paused says = record {
+  sounded_run words asked wide c status.TalkFault shelf shelf' wav wav' talk talk' taps taps' tally tally' w e was means rest h = record {
+    ended = (
+      asked,
+      e,
+      record {
+        c = c;
+        loaded = loaded asked wide (Ok c) (scene shelf wav talk taps tally) (scene shelf' wav' talk' taps' tally') w means rest;
+        performed = record { head = h.0.head; head_is = h.0.head_is; whole = h.0.whole };
+        report = h.1;
+      },
+    );
+    shelf = inr (asked, e, was);
+  }
+  sounded_run words asked wide c status.SinkFault shelf shelf' wav wav' talk talk' taps taps' tally tally' w e was means rest h = record {
+    ended = (
+      asked,
+      e,
+      record {
+        c = c;
+        loaded = loaded asked wide (Ok c) (scene shelf wav talk taps tally) (scene shelf' wav' talk' taps' tally') w means rest;
+        performed = record { head = h.0.head; head_is = h.0.head_is; part = h.0.part };
+        written = h.1;
+        rose = h.2;
+        line = h.3;
+      },
+    );
+    shelf = inr (asked, e, was);
+  }
+  sounded_run words asked wide c status.OutOfMemory shelf shelf' wav wav' talk talk' taps taps' tally tally' w e was means rest h = record {
     ended = record {
       performed = inr (
         asked,
@@ -214,10 +276,39 @@ module _ {F K T B : Type 0} (see : Sight F K T B) where
         record {
           c = c;
           loaded = loaded asked wide (Ok c) (scene shelf wav talk taps tally) (scene shelf' wav' talk' taps' tally') w means rest;
-          performed = record { head = head; head_is = same; paused = paused };
+          performed = record { head = h.0.head; head_is = h.0.head_is; paused = h.0.paused };
         },
       );
-      line = says;
+      line = h.1;
     };
     shelf = inr (asked, e, was);
   }
+  sounded_run words asked wide c status.Usage shelf shelf' wav wav' talk talk' taps taps' tally tally' w e was means rest h = absurd h
+  sounded_run words asked wide c status.ShelfFault shelf shelf' wav wav' talk talk' taps taps' tally tally' w e was means rest h = absurd h
+  sounded_run words asked wide c (status.OrcRefused f) shelf shelf' wav wav' talk talk' taps taps' tally tally' w e was means rest h = absurd h
+  sounded_run words asked wide c (status.ScoreRefused f) shelf shelf' wav wav' talk talk' taps taps' tally tally' w e was means rest h = absurd h
+  sounded_run words asked wide c (status.Limit l) shelf shelf' wav wav' talk talk' taps taps' tally tally' w e was means rest h = absurd h
+  sounded_run words asked wide c (status.CsdRefused f) shelf shelf' wav wav' talk talk' taps taps' tally tally' w e was means rest h = absurd h
+
+  -- What was loaded, a piece or what keeps it from its sound.
+  pub loaded_run : (words : List Text) (asked : Asked) (wide : Bool) (l : Result SetupData Stop) (r : Status) (shelf shelf' : F) (wav wav' : K)
+      (talk talk' : T) (taps taps' : List B) (tally tally' : Tally)
+      → wide ≡ is_wide asked.width → reading words ≡ Some asked → WasRead (see.shelf shelf) (see.shelf shelf') asked.piece
+      → IfOk l (λ s. SourceMeans (see.shelf shelf) wide asked.piece (Ok (composition_of s)))
+      → OnOk l (LeavesUnread (see.shelf shelf) (see.shelf shelf') asked.piece)
+      → ((q : Refused) → l ≡ Err (stop.Refused q) → SourceMeans (see.shelf shelf) wide asked.piece (Err q))
+      → ((q : Refused) → l ≡ Err (stop.Refused q) → LeavesUnread (see.shelf shelf) (see.shelf shelf') asked.piece)
+      → ((name : _) → l ≡ Err (stop.Unread name) → CannotRead (see.shelf shelf) (see.shelf shelf') asked.piece name.now)
+      → IfOk l (λ s. (told : ShelfTold) → HasSounded (sight (λ (_ : Unit {0}). told) see.wav see.talk see.stands see.line) asked (composition_of s) r
+      (scene tt wav talk taps tally) (scene tt wav' talk' taps' tally'))
+      → IfErr l (λ s. HasStopped s r (see.talk talk) (see.talk talk'))
+      → (IsErr l → (wav' ≡ wav) × (taps' ≡ taps) × (tally' ≡ tally))
+      → IsRun see words r (scene shelf wav talk taps tally) (scene shelf' wav' talk' taps' tally')
+  loaded_run words asked wide (Ok s) r shelf shelf' wav wav' talk talk' taps taps' tally tally' w e was means rest refused left unread sounds ends still =
+      sounded_run words asked wide (composition_of s) r shelf shelf' wav wav' talk talk' taps taps' tally tally' w e was means rest (sounds (see.shelf shelf))
+  loaded_run words asked wide (Err s) r shelf shelf' wav wav' talk talk' taps taps' tally tally' w e was means rest refused left unread sounds ends still =
+      let same = still refl in
+      rw (same.0, same.1, same.2)
+      (is_status words r (stop_status s) (scene shelf wav talk taps tally) (scene shelf' wav talk' taps tally) ends.status_is
+      (stopped words asked wide s shelf shelf' wav talk talk' taps tally w e was (λ q h. refused q (ap (λ (x : Stop). Err x) h))
+      (λ q h. left q (ap (λ (x : Stop). Err x) h)) (λ name h. unread name (ap (λ (x : Stop). Err x) h)) ends.line))

@@ -1,11 +1,11 @@
 -- What two runs have in common, and what the texts of a run are.
 use Rattle.std.specs.Prelude.{◌≡◌, false, List, Option, Some, None, ⊤}
-use Rattle.cs_course.specs.Moments.{Composition}
+use Rattle.cs_piece_meaning.specs.Moments.{Composition}
 use Rattle.cs_edge.specs.Moves.{Held}
 use Rattle.cs_edge.specs.declared.files.NamedBytes.{NamedBytes}
 use Rattle.cs_play.specs.Endings.{WasPerformed}
 use Rattle.cs_play.specs.Scene.{Scene, Sight}
-use Rattle.cs_reading.specs.Reading.{Asked, Piece, demo}
+use Rattle.cs_arguments.specs.Reading.{Asked, Piece, demo}
 use Rattle.cs_source.specs.Texts.{Texts, Have, demo_notes}
 
 -- The texts of a piece: those of the demo, or those that files have which are told.

@@ -1,23 +1,23 @@
 -- How a run of the program ends: for each status what has come about, and no more.
 use Rattle.std.specs.Prelude.{ℕ, ◌≡◌, ◌⊎◌, Bool, true, false, not, List, [], Some, None, Result, Ok, Err}
 use Rattle.cs_base.specs.declared.head.Head.{Head}
-use Rattle.cs_course.specs.Moments.{Composition}
+use Rattle.cs_piece_meaning.specs.Moments.{Composition}
 use Rattle.cs_edge.specs.Moves.{WroteMore}
 use Rattle.cs_edge.specs.Told.{Rose}
 use Rattle.cs_perform.specs.Performances.{IsPart, IsPaused, IsWhole}
 use Rattle.cs_perform.specs.declared.order.Order.{Order}
 use Rattle.cs_play.specs.Report.{report_of}
 use Rattle.cs_play.specs.Scene.{Scene, Sight}
-use Rattle.cs_play.specs.Status.{refusal}
-use Rattle.cs_play.specs.Talk.{Says, SaysPart, message_of}
-use Rattle.cs_play.specs.declared.status.Status.{Status}
-use Rattle.cs_play.specs.declared.status.Status.TheVariants as status
-use Rattle.cs_reading.specs.Reading.{Asked, Text, reading}
-use Rattle.cs_reading.specs.declared.order.SampleWidth.{SampleWidth}
-use Rattle.cs_reading.specs.declared.order.SampleWidth.TheVariants as width
+use Rattle.cs_report.specs.Status.{refusal}
+use Rattle.cs_report.specs.Talk.{Says, SaysPart, message_of}
+use Rattle.cs_report.specs.declared.status.Status.{Status}
+use Rattle.cs_report.specs.declared.status.Status.TheVariants as status
+use Rattle.cs_arguments.specs.Reading.{Asked, Text, reading}
+use Rattle.cs_arguments.specs.declared.order.SampleWidth.{SampleWidth}
+use Rattle.cs_arguments.specs.declared.order.SampleWidth.TheVariants as width
 use Rattle.cs_source.specs.Loaded.{CannotRead, LeavesUnread, SourceMeans}
-use Rattle.cs_source.specs.declared.refused.Refused.{Refused}
-use Rattle.cs_source.specs.declared.refused.Refused.TheVariants as refused
+use Rattle.cs_csd.specs.declared.refused.Refused.{Refused}
+use Rattle.cs_csd.specs.declared.refused.Refused.TheVariants as refused
 use Rattle.cs_typed.specs.TypedTree.{header_of_head}
 
 -- the words ask for something of which P holds

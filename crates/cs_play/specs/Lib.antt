@@ -3,6 +3,4 @@ pub mod Endings
 pub mod Report
 pub mod Runs
 pub mod Scene
-pub mod Status
-pub mod Talk
 pub mod inner

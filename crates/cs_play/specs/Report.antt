@@ -1,30 +1,15 @@
--- The report of a performance: five counts, the line of each meter, and the turns of its notes where they are asked for.
-use Rattle.std.specs.Prelude.{ℕ, Bool, List, ◌++◌, ◌*◌, codes, count_by, decimal, flat_map}
-use Rattle.cs_course.specs.Course.{closing}
-use Rattle.cs_course.specs.Heard.{frames_of}
-use Rattle.cs_course.specs.Moments.{Composition}
+-- The report of a composition: its counts, the line of each meter, and the turns of its notes where they are asked for.
+use Rattle.std.specs.Prelude.{ℕ, Bool, List, ◌++◌, ◌*◌, count_by, flat_map}
+use Rattle.cs_piece_meaning.specs.Course.{closing}
+use Rattle.cs_piece_meaning.specs.Heard.{frames_of}
+use Rattle.cs_piece_meaning.specs.Moments.{Composition}
 use Rattle.cs_life.specs.Standing.{kept_count}
 use Rattle.cs_perform.specs.Performances.{if_told}
+use Rattle.cs_report.specs.Report.{count_lines, line_room}
 use Rattle.cs_turns.specs.Turns.{turn_lines_of}
 use Rattle.cs_wav.specs.Wav.{bytes_of, is_out_of_range}
 
--- the room that a meter has for its line, in bytes
-abbrev pub line_room : ℕ
-line_room = 64
-
-abbrev pub count_line : List ℕ → ℕ → List ℕ
-count_line name n = name ++ codes " " ++ decimal n ++ codes "\n"
-
--- frames, control cycles, starts that started a note and that started none, and samples out of the range of their width
-unfoldable pub count_lines : ℕ → ℕ → ℕ → ℕ → ℕ → List ℕ
-count_lines frames cycles started not_started out_of_range =
-    count_line (codes "frames") frames
-    ++ count_line (codes "cycles") cycles
-    ++ count_line (codes "notes") started
-    ++ count_line (codes "not started") not_started
-    ++ count_line (codes "out of range") out_of_range
-
--- those of a composition; the counts of starts, those at the very end among them, stay at 2^64 - 1
+-- the counts of a composition; those of starts, the ones at the very end among them, stay at 2^64 - 1
 unfoldable pub counts_of : Composition → Bool → List ℕ
 counts_of c wide =
     count_lines (c.cycles * c.head.ksmps) c.cycles (kept_count (closing c).started) (kept_count (closing c).not_started)

@@ -2,8 +2,8 @@
 use Rattle.std.specs.Prelude.{◌≡◌, ◌⊎◌, List}
 use Rattle.cs_play.specs.Endings.{EndsBy, Reads}
 use Rattle.cs_play.specs.Scene.{Scene, Sight}
-use Rattle.cs_play.specs.declared.status.Status.{Status}
-use Rattle.cs_reading.specs.Reading.{Text}
+use Rattle.cs_report.specs.declared.status.Status.{Status}
+use Rattle.cs_arguments.specs.Reading.{Text}
 use Rattle.cs_source.specs.Loaded.{WasRead}
 
 -- A run of the program over these words ended with this status.

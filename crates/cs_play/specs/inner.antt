@@ -1,2 +1,3 @@
 -- what private clauses cite alone
-pub mod Counts
+pub mod Sounding
+pub mod Stopping

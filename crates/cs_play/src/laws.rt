@@ -1,19 +1,19 @@
 // What holds of every two runs, and of every run whose texts are known: calls that do nothing, whose contracts are the laws.
 // The meters that they take stand for those of the runs.
 ghost use Rattle.std.specs.Prelude.{◌≡◌, ◌⊎◌, ℕ, List, Some, None, Ok, Err};
-ghost use Rattle.cs_course.specs.Moments.{Composition};
+ghost use Rattle.cs_piece_meaning.specs.Moments.{Composition};
 ghost use Rattle.cs_edge.specs.Told.{Rose};
 ghost use Rattle.cs_play.specs.Alike.{AreTexts, AskAlike, SoundAlike, TellAlike};
 ghost use Rattle.cs_play.specs.Endings.{Reads, is_wide};
 ghost use Rattle.cs_play.specs.Runs.{IsRun};
 ghost use Rattle.cs_play.specs.Scene.{Scene, sight};
-ghost use Rattle.cs_play.specs.Status.{refusal};
-ghost use Rattle.cs_play.specs.declared.status.Status.{Status};
-ghost use Rattle.cs_play.specs.declared.status.Status.TheVariants as status;
-ghost use Rattle.cs_reading.specs.Reading.{Asked, Text, reading};
+ghost use Rattle.cs_report.specs.Status.{refusal};
+ghost use Rattle.cs_report.specs.declared.status.Status.{Status};
+ghost use Rattle.cs_report.specs.declared.status.Status.TheVariants as status;
+ghost use Rattle.cs_arguments.specs.Reading.{Asked, Text, reading};
 ghost use Rattle.cs_source.specs.Meaning.{Mean};
 ghost use Rattle.cs_source.specs.Texts.{LackWhereTold, Texts};
-ghost use Rattle.cs_source.specs.declared.refused.Refused.{Refused};
+ghost use Rattle.cs_csd.specs.declared.refused.Refused.{Refused};
 
 use cs_edge::{Shelf, Sink, Tap};
 use cs_source::{

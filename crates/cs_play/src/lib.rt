@@ -5,17 +5,15 @@
 //! not at all. What follows for every two runs and for every run are calls of `laws`: the same bytes for every number of workers,
 //! and that words, a lacking name, a refusal and a sound decide the status, want of memory aside.
 //!
-//! How a report and a line are made, and in how many writes, may be changed without anyone noticing; so may the number of workers.
+//! How many workers there are may be changed without anyone noticing; so may whatever `perform` leaves open.
 //!
-//! Modules in reading order: `status`, `talk` (the line of a status), `report`, `top` (the whole run), `laws`.
+//! Modules in reading order: `top` (the whole run), `sounding` (a piece is performed and reported on), `laws`.
 #![tactic(auto)]
 
 mod laws;
-mod report;
-mod status;
-mod talk;
+mod sounding;
 mod top;
 
+pub use cs_report::Status;
 pub use laws::{lacking_decides, refusals_decide, same_bytes, sounds_decide, words_decide};
-pub use status::Status;
 pub use top::csplay;

@@ -9,7 +9,7 @@ use Rattle.cs_edge.specs.Moves.{Grown, IsRun}
 use Rattle.cs_edge.specs.Told.{Follows, Rose}
 use Rattle.cs_edge.specs.declared.files.NamedBytes.{NamedBytes}
 use Rattle.cs_edge.specs.declared.moves.Move.TheVariants.{Read}
-use Rattle.cs_reading.specs.Reading.{Piece, one_file, two_files, demo}
+use Rattle.cs_arguments.specs.Reading.{Piece, one_file, two_files, demo}
 use Rattle.cs_source.specs.Loaded.{CannotRead, IsLeftWhereTold, LeavesUnread, WasRead, is_there_too_long, is_told_too_long}
 use Rattle.cs_source.specs.Texts.{both, csd, demo_notes, HaveWhereTold, IsScoreBehind, LackWhereTold, is_too_long}
 use Rattle.cs_source.specs.declared.source.SourceText.{SourceText}

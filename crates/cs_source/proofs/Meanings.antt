@@ -8,17 +8,17 @@ use Rattle.cs_base.specs.declared.limit.Limit.TheVariants as limit
 use Rattle.cs_compile.specs.Meaning.{means, no_longer_than, passed_if, short_texts_mean, unless_passed}
 use Rattle.cs_compile.specs.Then.{Is, Then}
 use Rattle.cs_compile.specs.declared.refusal.Refusal.{Refusal}
-use Rattle.cs_course.specs.Moments.{Composition}
+use Rattle.cs_piece_meaning.specs.Moments.{Composition}
 use Rattle.cs_csd.specs.Sections.{Reading}
 use Rattle.cs_csd.specs.declared.part.CsdFault.{CsdFault}
 use Rattle.cs_csd.specs.declared.part.Parts.{Parts}
-use Rattle.cs_demo.specs.Texts as demo_texts
+use Rattle.cs_source.specs.DemoTexts as demo_texts
 use Rattle.cs_edge.specs.Files.{ShelfTold}
-use Rattle.cs_reading.specs.Reading.{Piece}
+use Rattle.cs_arguments.specs.Reading.{Piece}
 use Rattle.cs_source.specs.Loaded.{SourceMeans}
 use Rattle.cs_source.specs.Meaning.{FileMeans, Mean, MeanAt, PartsMean, told, told_in}
 use Rattle.cs_source.specs.Texts.{Texts, both, csd, demo_notes}
-use Rattle.cs_source.specs.declared.refused.Refused.{Refused}
+use Rattle.cs_csd.specs.declared.refused.Refused.{Refused}
 use Rattle.cs_source.specs.declared.source.SourceText.{SourceText}
 use Rattle.cs_source.specs.declared.source.SourceText.TheVariants as read
 use Rattle.cs_source.specs.inner.Read.{AreRead, IsReadOf, MeansAsRead}

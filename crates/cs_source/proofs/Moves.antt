@@ -7,7 +7,7 @@ use Rattle.cs_edge.specs.Told.{Follows}
 use Rattle.cs_edge.specs.declared.files.NamedBytes.{NamedBytes}
 use Rattle.cs_edge.specs.declared.moves.Move.{Move}
 use Rattle.cs_edge.specs.declared.moves.Move.TheVariants.{Begin, Read}
-use Rattle.cs_reading.specs.Reading.{one_file, two_files, demo}
+use Rattle.cs_arguments.specs.Reading.{one_file, two_files, demo}
 use Rattle.cs_source.specs.Loaded.{AreReadings, IsLastBegun, IsScoreRun, WasRead, is_told_too_long}
 
 abbrev AreBoth : Bool → List ℕ → List ℕ → List Move → Type 0

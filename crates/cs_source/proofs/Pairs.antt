@@ -4,7 +4,7 @@ use Rattle.std.proofs.lemmas.Bool.Decides.{nat_tests}
 use Rattle.cs_base.specs.Limits.{most_orchestra_bytes}
 use Rattle.cs_edge.specs.Files.{file_named}
 use Rattle.cs_edge.specs.declared.files.NamedBytes.{NamedBytes}
-use Rattle.cs_reading.specs.Reading.{Piece, two_files, one_file, demo}
+use Rattle.cs_arguments.specs.Reading.{Piece, two_files, one_file, demo}
 use Rattle.cs_source.specs.Texts.{Texts, both, csd, demo_notes, Have, IsScoreBehind, Lack, is_too_long}
 
 one_text : (o : Option (List ℕ)) (x y : List ℕ) → o ≡ Some x → o ≡ Some y → x ≡ y

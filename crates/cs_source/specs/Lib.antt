@@ -1,4 +1,5 @@
 pub mod Loaded
 pub mod Meaning
 pub mod Texts
+pub mod DemoTexts
 pub mod inner

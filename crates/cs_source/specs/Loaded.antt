@@ -1,17 +1,17 @@
 -- What a shelf tells of a source that was read.
 use Rattle.std.specs.Prelude.{ℕ, ◌≡◌, ◌≤◌, ◌+◌, ◌⊎◌, Bool, true, false, List, [], ◌++◌, drop, if◌then◌else◌, Option, Some, None, Result, ⊤}
 use Rattle.cs_base.specs.Limits.{most_csd_bytes, most_orchestra_bytes, most_score_bytes}
-use Rattle.cs_course.specs.Moments.{Composition}
+use Rattle.cs_piece_meaning.specs.Moments.{Composition}
 use Rattle.cs_edge.specs.Files.{ShelfTold, file_named}
 use Rattle.cs_edge.specs.Moves.{Grown, IsFrontOf, IsRun}
 use Rattle.cs_edge.specs.Told.{Follows, Rose}
 use Rattle.cs_edge.specs.declared.files.NamedBytes.{NamedBytes}
 use Rattle.cs_edge.specs.declared.moves.Move.{Move}
 use Rattle.cs_edge.specs.declared.moves.Move.TheVariants.{Read}
-use Rattle.cs_reading.specs.Reading.{Piece, two_files, one_file, demo}
+use Rattle.cs_arguments.specs.Reading.{Piece, two_files, one_file, demo}
 use Rattle.cs_source.specs.Meaning.{Mean}
 use Rattle.cs_source.specs.Texts.{Texts, both, csd, demo_notes, Fit, Have, HaveWhereTold, IsNameOf, LackWhereTold, is_too_long}
-use Rattle.cs_source.specs.declared.refused.Refused.{Refused}
+use Rattle.cs_csd.specs.declared.refused.Refused.{Refused}
 
 -- Texts of a source mean this, and where the shelf tells its files it has them.
 pub record SourceMeans (before : ShelfTold) (wide : Bool) (piece : Piece) (r : Result Composition Refused) : Type 0 where

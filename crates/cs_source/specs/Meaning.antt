@@ -7,14 +7,14 @@ use Rattle.cs_base.specs.declared.limit.LimitHit.{LimitHit}
 use Rattle.cs_compile.specs.Meaning.{means}
 use Rattle.cs_compile.specs.declared.refusal.Refusal.{Refusal}
 use Rattle.cs_compile.specs.declared.refusal.Refusal.TheVariants as refusal
-use Rattle.cs_course.specs.Moments.{Composition}
+use Rattle.cs_piece_meaning.specs.Moments.{Composition}
 use Rattle.cs_csd.specs.Sections.{Reading}
 use Rattle.cs_csd.specs.declared.part.CsdFault.{CsdFault}
 use Rattle.cs_csd.specs.declared.part.Part.{Part}
 use Rattle.cs_csd.specs.declared.part.Parts.{Parts}
-use Rattle.cs_demo.specs.Texts as demo
-use Rattle.cs_source.specs.declared.refused.Refused.{Refused}
-use Rattle.cs_source.specs.declared.refused.Refused.TheVariants as refused
+use Rattle.cs_source.specs.DemoTexts as demo
+use Rattle.cs_csd.specs.declared.refused.Refused.{Refused}
+use Rattle.cs_csd.specs.declared.refused.Refused.TheVariants as refused
 use Rattle.cs_source.specs.Texts.{Texts, both, csd, demo_notes}
 
 -- the text of a part

@@ -3,7 +3,7 @@ use Rattle.std.specs.Prelude.{ℕ, ◌≡◌, ◌≤◌, ◌⊎◌, Bool, true, 
 use Rattle.cs_base.specs.Limits.{most_orchestra_bytes}
 use Rattle.cs_edge.specs.Files.{file_named}
 use Rattle.cs_edge.specs.declared.files.NamedBytes.{NamedBytes}
-use Rattle.cs_reading.specs.Reading.{Piece, two_files, one_file, demo}
+use Rattle.cs_arguments.specs.Reading.{Piece, two_files, one_file, demo}
 
 -- an orchestra and a score; one file with both; or so many notes of the demo
 pub data Texts : Type 0 where

@@ -2,10 +2,9 @@
 ghost use Rattle.std.specs.Prelude.{◌≡◌};
 ghost use Rattle.cs_source.specs.Meaning.{is_of_orchestra, limit_in, line_in, part_of, told_in};
 
-use crate::refused::Refused;
 use cs_base::{Limit, LimitHit, OrcFault, ScoreFault};
 use cs_compile::Refusal;
-use cs_csd::Part;
+use cs_csd::{Part, Refused};
 
 /// The lines of a file in which its orchestra and its score begin. A text that is a file of its own begins in line 1.
 #[derive(Clone, Copy)]

@@ -1,11 +1,11 @@
 // What holds of the texts of every source: calls that do nothing, whose contracts are the laws.
 ghost use Rattle.std.specs.Prelude.{◌≡◌, ◌⊎◌, ℕ, Bool, List, Result};
-ghost use Rattle.cs_course.specs.Moments.{Composition};
+ghost use Rattle.cs_piece_meaning.specs.Moments.{Composition};
 ghost use Rattle.cs_edge.specs.declared.files.NamedBytes.{NamedBytes};
-ghost use Rattle.cs_reading.specs.Reading.{Piece};
+ghost use Rattle.cs_arguments.specs.Reading.{Piece};
 ghost use Rattle.cs_source.specs.Meaning.{Mean};
 ghost use Rattle.cs_source.specs.Texts.{Have, Lack, Texts};
-ghost use Rattle.cs_source.specs.declared.refused.Refused.{Refused};
+ghost use Rattle.cs_csd.specs.declared.refused.Refused.{Refused};
 
 use cs_compile::texts_have_one_meaning;
 use cs_csd::one_reading;

@@ -1,20 +1,22 @@
 // The piece of a source, read and compiled.
 ghost use Rattle.std.specs.Prelude.{◌≡◌, ◌≤◌, ◌*◌, Err, IfOk, Ok, OnOk};
 ghost use Rattle.cs_base.specs.Limits.{most_wav_bytes};
-ghost use Rattle.cs_reading.specs.Orders.{piece_in};
-ghost use Rattle.cs_setup.specs.Setups.{composition_of};
+ghost use Rattle.cs_base.specs.declared.fault.Or.TheVariants as or;
+ghost use Rattle.cs_arguments.specs.Orders.{piece_in};
+ghost use Rattle.cs_piece.specs.Setups.{composition_of};
 ghost use Rattle.cs_source.specs.Loaded.{CannotRead, LeavesUnread, SourceMeans, WasRead};
 ghost use Rattle.cs_source.specs.declared.loading.Stop.TheVariants as stop;
-ghost use Rattle.cs_source.specs.declared.refused.Refused.{Refused};
+ghost use Rattle.cs_csd.specs.declared.refused.Refused.{Refused};
+ghost use Rattle.cs_source.specs.inner.Read.{MeansAsRead};
 ghost use Rattle.cs_wav.specs.Wav.{bytes_of, size_of};
 
 use crate::meaning::compile_source;
-use crate::refused::Refused;
-use crate::source::read_source;
+use crate::source::{SourceText, read_source};
+use cs_arguments::Source;
 use cs_base::Or;
+use cs_csd::Refused;
 use cs_edge::Shelf;
-use cs_reading::Source;
-use cs_setup::Setup;
+use cs_piece::Setup;
 use std::alloc::Global;
 
 /// Why there is no piece.
@@ -47,13 +49,31 @@ pub fn load<'a, F: Shelf>(
     ensures shelf { WasRead (F.tells shelf.old) (F.tells shelf.new) (piece_in source.now) }
     ensures files { (F.tells shelf.new).files ≡ (F.tells shelf.old).files }
 {
-    let texts = match read_source(alloc, shelf, source) {
-        Ok(texts) => texts,
-        Err(Or::Fault(name)) => return Err(Stop::Unread(name)),
-        Err(Or::OutOfMemory) => return Err(Stop::OutOfMemory),
-    };
-    match compile_source(alloc, &texts, wide) {
-        Ok(setup) => Ok(setup),
+    match read_source(alloc, shelf, source) {
+        Ok(texts) => meant(alloc, &texts, wide),
+        Err(Or::Fault(name)) => Err(Stop::Unread(name)),
+        Err(Or::OutOfMemory) => Err(Stop::OutOfMemory),
+    }
+}
+
+/// What the piece of texts that were read needs to be performed, or their first refusal.
+fn meant<'a>(alloc: Global, texts: &SourceText, wide: bool) -> Result<Setup, Stop<'a>>
+    ensures piece { IfOk result (λ s. MeansAsRead wide texts.now (Ok (composition_of s))) }
+    ensures within { IfOk result (λ s. size_of (bytes_of wide) (s.plot.cycles * s.orchestra.head.ksmps) s.orchestra.head ≤ most_wav_bytes) }
+    ensures refused { (r : Refused) → result ≡ Err (stop.Refused r) → MeansAsRead wide texts.now (Err r) }
+    ensures read { (name : _) → result ≡ Err (stop.Unread name) → ⊥ }
+{
+    stopped(compile_source(alloc, texts, wide))
+}
+
+/// What was compiled, or why there is no piece.
+fn stopped<'a, T: Drop>(compiled: Result<T, Or<Refused>>) -> Result<T, Stop<'a>>
+    ensures same { IfOk result (λ t. compiled ≡ Ok t) }
+    ensures refused { (r : Refused) → result ≡ Err (stop.Refused r) → compiled ≡ Err (or.Fault r) }
+    ensures read { (name : _) → result ≡ Err (stop.Unread name) → ⊥ }
+{
+    match compiled {
+        Ok(piece) => Ok(piece),
         Err(Or::Fault(refused)) => Err(Stop::Refused(refused)),
         Err(Or::OutOfMemory) => Err(Stop::OutOfMemory),
     }

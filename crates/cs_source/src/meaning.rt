@@ -2,19 +2,18 @@
 ghost use Rattle.std.specs.Prelude.{◌≡◌, ◌≤◌, ◌*◌, Err, IfOk, Ok, length, nat_lt};
 ghost use Rattle.cs_base.specs.Limits.{most_csd_bytes, most_wav_bytes};
 ghost use Rattle.cs_base.specs.declared.fault.Or.TheVariants as or;
-ghost use Rattle.cs_setup.specs.Setups.{composition_of};
+ghost use Rattle.cs_piece.specs.Setups.{composition_of};
 ghost use Rattle.cs_source.specs.Meaning.{FileMeans, MeanAt, PartsMean};
-ghost use Rattle.cs_source.specs.declared.refused.Refused.{Refused};
+ghost use Rattle.cs_csd.specs.declared.refused.Refused.{Refused};
 ghost use Rattle.cs_source.specs.inner.Read.{MeansAsRead};
 ghost use Rattle.cs_wav.specs.Wav.{bytes_of, size_of};
 
 use crate::csd::{FirstLines, part_of, told_in};
-use crate::refused::Refused;
 use crate::source::SourceText;
 use cs_base::{Limit, LimitHit, MOST_CSD_BYTES, Or};
 use cs_compile::compile;
-use cs_csd::{Parts, split_csd};
-use cs_setup::Setup;
+use cs_csd::{Parts, Refused, split_csd};
+use cs_piece::Setup;
 use std::alloc::Global;
 
 /// What the piece of the texts needs to be performed, in samples of two bytes or, where `wide`, of three; or their first refusal.

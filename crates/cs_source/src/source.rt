@@ -1,16 +1,16 @@
 // The texts of a source, as far as they are read.
 ghost use Rattle.std.specs.Prelude.{◌≡◌, IfErr, IfOk, OnOk};
-ghost use Rattle.cs_reading.specs.Orders.{piece_in};
-ghost use Rattle.cs_reading.specs.Reading.{one_file, two_files};
+ghost use Rattle.cs_arguments.specs.Orders.{piece_in};
+ghost use Rattle.cs_arguments.specs.Reading.{one_file, two_files};
 ghost use Rattle.cs_source.specs.Loaded.{CannotRead, LeavesUnread, WasRead};
 ghost use Rattle.cs_source.specs.Texts.{demo_notes};
 ghost use Rattle.cs_source.specs.inner.Read.{AreRead, IfFault, IsReadOf};
 
 use crate::read::{ReadFault, read_text};
+use crate::{demo_orchestra, demo_score};
+use cs_arguments::Source;
 use cs_base::{MOST_CSD_BYTES, MOST_ORCHESTRA_BYTES, MOST_SCORE_BYTES, Or};
-use cs_demo::{demo_orchestra, demo_score};
 use cs_edge::Shelf;
-use cs_reading::Source;
 use std::alloc::{AllocError, Global};
 
 /// The texts of a source, of each one byte more than it may have at most.

@@ -16,27 +16,52 @@ fn main(rt: HostRuntime) -> ExitCode {
     ExitCode::from(run(&rt).number())
 }
 
-/// Calls `csplay` over the system's files and standard output, with a meter of the peak.
+/// The words behind the program's name are read, and followed.
 fn run<R: Env + Files + Print + AllocGlobal + Threads + Wait + Sync>(rt: &R) -> Status {
-    let Ok(words) = words_of(rt) else {
-        return starved(rt);
-    };
-    // The meter is made where it is used: a function that makes one and hands it out isn't proved.
+    match words_of(rt) {
+        Ok(words) => follow(rt, &words),
+        Err(_) => starved(rt),
+    }
+}
+
+/// Follows the words with a meter of the peak.
+fn follow<R: Files + Print + AllocGlobal + Threads + Wait + Sync>(
+    rt: &R,
+    words: &[String],
+) -> Status {
+    match Box::new(rt.alloc(), PeakTap::new()) {
+        Ok(peak) => metered(rt, words, peak),
+        Err(_) => starved(rt),
+    }
+}
+
+/// Follows the words with this meter. It becomes one of a list here, since a function that hands such a list out isn't proved.
+fn metered<R: Files + Print + AllocGlobal + Threads + Wait + Sync>(
+    rt: &R,
+    words: &[String],
+    peak: Box<PeakTap>,
+) -> Status {
     let mut taps: Vec<Box<dyn Tap>> = Vec::new(rt.alloc());
-    let Ok(peak) = Box::new(rt.alloc(), PeakTap::new()) else {
-        return starved(rt);
-    };
-    let Ok(()) = taps.push(peak) else {
-        return starved(rt);
-    };
+    match taps.push(peak) {
+        Ok(()) => play(rt, words, &mut taps),
+        Err(_) => starved(rt),
+    }
+}
+
+/// Calls `csplay` over the system's files and standard output.
+fn play<R: Files + Print + AllocGlobal + Threads + Wait + Sync>(
+    rt: &R,
+    words: &[String],
+    taps: &mut Vec<Box<dyn Tap>>,
+) -> Status {
     csplay(
         rt,
         rt.alloc(),
-        &words,
+        words,
         &mut FileShelf::new(rt),
         &mut FileSink::new(rt),
         &mut TalkOut::new(rt),
-        &mut taps,
+        taps,
         &OpenGate::new(),
         &mut Tally::new(),
     )

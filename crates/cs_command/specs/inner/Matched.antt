@@ -3,8 +3,8 @@ use Rattle.std.specs.Prelude.{◌≡◌, List, Option, Some, None, true, false}
 use Rattle.clap.specs.Matches.{found_of}
 use Rattle.clap.specs.Walk.{rows_of}
 use Rattle.clap.specs.declared.parser.matches.ArgMatches.{ArgMatches}
-use Rattle.cs_reading.specs.Reading.{Text, Use}
-use Rattle.cs_reading.specs.inner.Taken.{ends, good, is_taken, uses_in}
+use Rattle.cs_arguments.specs.Reading.{Text, Use}
+use Rattle.cs_arguments.specs.Taken.{ends, good, is_taken, uses_in}
 
 -- the matches hold these uses, which stand together
 abbrev pub Holds : List Use → ArgMatches → Type 0

@@ -3,13 +3,13 @@ use Rattle.std.specs.Prelude.{◌≡◌, ◌+◌, Bool, List, length, nat_lt, ta
 use Rattle.cs_base.specs.Limits.{most_csd_bytes, most_orchestra_bytes, most_score_bytes}
 use Rattle.cs_base.specs.declared.fault.Or.{Or}
 use Rattle.cs_base.specs.declared.fault.Or.TheVariants as or
-use Rattle.cs_course.specs.Moments.{Composition}
-use Rattle.cs_demo.specs.Texts as demo_texts
+use Rattle.cs_piece_meaning.specs.Moments.{Composition}
+use Rattle.cs_source.specs.DemoTexts as demo_texts
 use Rattle.cs_edge.specs.declared.files.NamedBytes.{NamedBytes}
-use Rattle.cs_reading.specs.Reading.{Piece}
+use Rattle.cs_arguments.specs.Reading.{Piece}
 use Rattle.cs_source.specs.Meaning.{FileMeans, MeanAt}
 use Rattle.cs_source.specs.Texts.{Texts, both, csd, demo_notes, Fit, HaveWhereTold}
-use Rattle.cs_source.specs.declared.refused.Refused.{Refused}
+use Rattle.cs_csd.specs.declared.refused.Refused.{Refused}
 use Rattle.cs_source.specs.declared.source.SourceText.{SourceText}
 use Rattle.cs_source.specs.declared.source.SourceText.TheVariants as read
 

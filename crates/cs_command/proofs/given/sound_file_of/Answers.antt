@@ -1,7 +1,7 @@
 use Rattle.std.proofs.Common.{◌∙◌, sym, ap, refl, codes, option_map}
 use Rattle.std.specs.Option.{unwrap_or}
 use Rattle.clap.specs.Words.{found_of}
-use Rattle.cs_reading.proofs.Values.{text_is}
+use Rattle.cs_arguments.proofs.Values.{text_is}
 use Rattle.cs_command.proofs.given.sound_file_of.Goals as goal
 
 pub returns-in-Some : goal.returns-in-Some

@@ -1,12 +1,19 @@
 use Rattle.std.proofs.Common.{Err}
+use Rattle.std.proofs.lemmas.Result.{IfOk-weaker}
 use Rattle.cs_source.proofs.Meanings.{source_means}
 use Rattle.cs_source.proofs.loading.load.Goals as goal
 
-pub returns-in-Ok-compile_source-clause-piece : goal.returns-in-Ok-compile_source-clause-piece
-returns-in-Ok-compile_source-clause-piece g c =
-    source_means (g.F.Shelf.tells c.args.shelf.now) c.args.wide _ c.in-Ok.texts _ c.in-Ok.ensures.read c.in-Ok-compile_source.ensures.piece
+pub returns-in-Ok-clause-piece : goal.returns-in-Ok-clause-piece
+returns-in-Ok-clause-piece g c =
+    IfOk-weaker c.meant.result _ _
+    (λ s m. source_means (g.F.Shelf.tells c.args.shelf.now) c.args.wide _ c.in-Ok.texts _ c.in-Ok.ensures.read m) c.meant.ensures.piece
 
-pub returns-in-Err-Fault-compile_source-clause-refused : goal.returns-in-Err-Fault-compile_source-clause-refused
-returns-in-Err-Fault-compile_source-clause-refused g c =
-    λ r h. source_means (g.F.Shelf.tells c.args.shelf.now) c.args.wide _ c.in-Ok.texts (Err r) c.in-Ok.ensures.read
-    (c.in-Err-Fault-compile_source.ensures.refused r (cc))
+pub returns-in-Ok-clause-refused : goal.returns-in-Ok-clause-refused
+returns-in-Ok-clause-refused g c =
+    λ r h. source_means (g.F.Shelf.tells c.args.shelf.now) c.args.wide _ c.in-Ok.texts (Err r) c.in-Ok.ensures.read (c.meant.ensures.refused r h)
+
+pub returns-in-Ok-clause-unread : goal.returns-in-Ok-clause-unread
+returns-in-Ok-clause-unread g c = λ name h. absurd (c.meant.ensures.read name h)
+
+pub returns-in-Ok-clause-rest : goal.returns-in-Ok-clause-rest
+returns-in-Ok-clause-rest g c = IfOk-weaker c.meant.result _ _ (λ s m. c.in-Ok.ensures.rest) c.meant.ensures.piece

@@ -1,0 +1,36 @@
+-- What keeps a run from its sound, as the status that it ends with and the name that can't be read.
+use Rattle.std.specs.Prelude.{ℕ, ◌≡◌, List, []}
+use Rattle.cs_command.specs.declared.reading.Unread.{Unread}
+use Rattle.cs_command.specs.declared.reading.Unread.TheVariants as unasked
+use Rattle.cs_perform.specs.declared.order.PlayFault.{PlayFault}
+use Rattle.cs_perform.specs.declared.order.PlayFault.TheVariants as fault
+use Rattle.cs_edge.specs.Moves.{SinkTold}
+use Rattle.cs_report.specs.Status.{refusal}
+use Rattle.cs_report.specs.Talk.{Says, message_of}
+use Rattle.cs_report.specs.declared.status.Status.{Status}
+use Rattle.cs_report.specs.declared.status.Status.TheVariants as status
+use Rattle.cs_source.specs.declared.loading.Stop.{Stop}
+use Rattle.cs_source.specs.declared.loading.Stop.TheVariants as stop
+
+abbrev pub unread_status : Unread → Status
+unread_status unasked.Usage = status.Usage
+unread_status unasked.OutOfMemory = status.OutOfMemory
+
+abbrev pub stop_status : Stop → Status
+stop_status (stop.Unread name) = status.ShelfFault
+stop_status (stop.Refused r) = refusal r
+stop_status stop.OutOfMemory = status.OutOfMemory
+
+abbrev pub name_in : Stop → List ℕ
+name_in (stop.Unread name) = name.now
+name_in (stop.Refused r) = []
+name_in stop.OutOfMemory = []
+
+abbrev pub fault_status : PlayFault → Status
+fault_status fault.Sink = status.SinkFault
+fault_status fault.OutOfMemory = status.OutOfMemory
+
+-- that there is no piece was said, and this is the status of it
+pub record HasStopped (s : Stop) (result : Status) (before now : SinkTold) : Type 0 where
+  pub status_is : result ≡ stop_status s
+  pub line : Says before now (message_of (stop_status s) (name_in s))

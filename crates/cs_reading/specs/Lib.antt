@@ -1,5 +1,0 @@
-pub mod Orders
-pub mod Reading
-pub mod Usage
-pub mod Workers
-pub mod inner

@@ -1,0 +1,25 @@
+-- The numbers of the endings, and which of them are refusals of a piece's texts.
+use Rattle.std.specs.Prelude.{ℕ}
+use Rattle.cs_report.specs.declared.status.Status.{Status}
+use Rattle.cs_report.specs.declared.status.Status.TheVariants.{Ok, Usage, ShelfFault, OrcRefused, ScoreRefused, Limit, SinkFault, OutOfMemory, TalkFault, CsdRefused}
+use Rattle.cs_csd.specs.declared.refused.Refused.{Refused}
+use Rattle.cs_csd.specs.declared.refused.Refused.TheVariants as refused
+
+abbrev pub status_number : Status → ℕ
+status_number Ok = 0
+status_number Usage = 2
+status_number ShelfFault = 3
+status_number (OrcRefused fault) = 4
+status_number (ScoreRefused fault) = 5
+status_number (Limit hit) = 6
+status_number SinkFault = 7
+status_number OutOfMemory = 8
+status_number TalkFault = 9
+status_number (CsdRefused fault) = 11
+
+-- the status of a refusal
+abbrev pub refusal : Refused → Status
+refusal (refused.Csd f) = CsdRefused f
+refusal (refused.Orc f) = OrcRefused f
+refusal (refused.Score f) = ScoreRefused f
+refusal (refused.Limit h) = Limit h

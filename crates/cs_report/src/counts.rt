@@ -1,0 +1,98 @@
+// The report of a performance.
+ghost use Rattle.std.specs.Prelude.{ℕ, List, ◌++◌, flat_map, OnErr, OnOk};
+ghost use Rattle.cs_edge.specs.Moves.{WroteMore};
+ghost use Rattle.cs_edge.specs.Told.{HasCause, IsFront};
+ghost use Rattle.cs_report.specs.Report.{counts_in, line_room};
+ghost use Rattle.cs_report.specs.Talk.{SaysPart};
+
+use crate::talk::say;
+use cs_edge::{Failed, Sink, Tap, write_all};
+use itoa::Buffer;
+
+/// The counts of a performance.
+#[derive(Clone, Copy)]
+pub struct Counts {
+    /// How many frames there are, each of which has a value a channel.
+    pub frames: u32,
+    /// How many control cycles.
+    pub cycles: u32,
+    /// How many starts there were that started a note.
+    pub started: u64,
+    /// How many starts there were that started nothing.
+    pub not_started: u64,
+    /// How many samples had to be brought into range.
+    pub out_of_range: u64,
+}
+
+/// Writes the counts of a performance, the line of each meter, and the lines of turns, until talk fails.
+pub fn report<T: Sink>(
+    talk: &mut T,
+    counts: &Counts,
+    taps: &[Box<dyn Tap>],
+    turns: &[u8],
+) -> Result<(), Failed>
+    ensures whole { OnOk result (WroteMore (T.tells talk.old) (T.tells talk.new)
+        (counts_in counts.now ++ flat_map (λ t. text t line_room) taps.now ++ turns.now)) }
+    ensures part { OnErr result (SaysPart (T.tells talk.old) (T.tells talk.new)
+        (counts_in counts.now ++ flat_map (λ t. text t line_room) taps.now ++ turns.now)) }
+{
+    if let Err(failed) = report_counts(talk, counts) {
+        return Err(failed);
+    }
+    if let Err(failed) = report_meters(talk, taps) {
+        return Err(failed);
+    }
+    report_turns(talk, turns)
+}
+
+fn report_counts<T: Sink>(talk: &mut T, counts: &Counts) -> Result<(), Failed>
+    ensures whole { OnOk result (WroteMore (T.tells talk.old) (T.tells talk.new) (counts_in counts.now)) }
+    ensures part { OnErr result (SaysPart (T.tells talk.old) (T.tells talk.new) (counts_in counts.now)) }
+{
+    say(
+        talk,
+        &[
+            "frames ",
+            Buffer::new().format(counts.frames),
+            "\ncycles ",
+            Buffer::new().format(counts.cycles),
+            "\nnotes ",
+            Buffer::new().format(counts.started),
+            "\nnot started ",
+            Buffer::new().format(counts.not_started),
+            "\nout of range ",
+            Buffer::new().format(counts.out_of_range),
+            "\n",
+        ],
+    )
+}
+
+fn report_turns<T: Sink>(talk: &mut T, turns: &[u8]) -> Result<(), Failed>
+    ensures whole { OnOk result (WroteMore (T.tells talk.old) (T.tells talk.new) turns.now) }
+    ensures part { OnErr result (SaysPart (T.tells talk.old) (T.tells talk.new) turns.now) }
+{
+    write_all(talk, turns)
+}
+
+fn report_meters<T: Sink>(talk: &mut T, taps: &[Box<dyn Tap>]) -> Result<(), Failed>
+    ensures whole { OnOk result (WroteMore (T.tells talk.old) (T.tells talk.new) (flat_map (λ t. text t line_room) taps.now)) }
+    ensures part { OnErr result (SaysPart (T.tells talk.old) (T.tells talk.new) (flat_map (λ t. text t line_room) taps.now)) }
+{
+    for tap in taps {
+        if let Err(failed) = report_meter(talk, tap) {
+            return Err(failed);
+        }
+    }
+    Ok(())
+}
+
+fn report_meter<T: Sink>(talk: &mut T, tap: &Box<dyn Tap>) -> Result<(), Failed>
+    ensures written { OnOk result (WroteMore (T.tells talk.old) (T.tells talk.new) (text tap.now line_room)) }
+    ensures stopped { OnErr result ((front : List ℕ) × IsFront front (text tap.now line_room)
+        × WroteMore (T.tells talk.old) (T.tells talk.new) front) }
+    ensures cause { HasCause (T.tells talk.old).faults (T.tells talk.new).faults result }
+{
+    let mut line = [0u8; 64];
+    let used = tap.line(&mut line);
+    write_all(talk, &line[..used])
+}

@@ -1,0 +1,63 @@
+// How a run ended.
+ghost use Rattle.std.specs.Prelude.{◌≡◌};
+ghost use Rattle.cs_report.specs.Status.{refusal, status_number};
+
+use cs_base::{LimitHit, OrcFault, ScoreFault};
+use cs_csd::{CsdFault, Refused};
+
+/// How a run ended.
+#[derive(Clone, Copy)]
+pub enum Status {
+    /// The piece was performed whole, its sound file is whole, and so is the report.
+    Ok,
+    /// The words have no reading.
+    Usage,
+    /// A file of the piece couldn't be read.
+    ShelfFault,
+    /// The orchestra breaks a rule of the language.
+    OrcRefused(OrcFault),
+    /// The score breaks a rule of the language.
+    ScoreRefused(ScoreFault),
+    /// A stated limit was passed.
+    Limit(LimitHit),
+    /// The sound file couldn't be written.
+    SinkFault,
+    /// Memory was refused.
+    OutOfMemory,
+    /// The report couldn't be written. The sound file is whole.
+    TalkFault,
+    /// The tags of a file with both texts break a rule.
+    CsdRefused(CsdFault),
+}
+
+impl Status {
+    /// The number with which the program ends.
+    pub fn number(&self) -> u8
+        ensures { result ≡ status_number self.now }
+    {
+        match self {
+            Status::Ok => 0,
+            Status::Usage => 2,
+            Status::ShelfFault => 3,
+            Status::OrcRefused(_) => 4,
+            Status::ScoreRefused(_) => 5,
+            Status::Limit(_) => 6,
+            Status::SinkFault => 7,
+            Status::OutOfMemory => 8,
+            Status::TalkFault => 9,
+            Status::CsdRefused(_) => 11,
+        }
+    }
+
+    /// The status of a refusal.
+    pub fn of_refusal(refused: Refused) -> Status
+        ensures { result ≡ refusal refused }
+    {
+        match refused {
+            Refused::Csd(fault) => Status::CsdRefused(fault),
+            Refused::Orc(fault) => Status::OrcRefused(fault),
+            Refused::Score(fault) => Status::ScoreRefused(fault),
+            Refused::Limit(hit) => Status::Limit(hit),
+        }
+    }
+}
