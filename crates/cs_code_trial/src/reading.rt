@@ -10,6 +10,7 @@ ghost use Rattle.cs_code.specs.Lowered.{all_numbers};
 use cs_base::MOST_ORCHESTRA_BYTES;
 use cs_code::{Lowered, lower};
 use cs_grammar::{Orc, parse, trees_are_well_formed};
+use cs_ir::{Instrument, Instruments};
 use cs_lex::lex;
 use cs_typing::{TypedOrc, numbers_stand_once, type_orc, typing_is_well_rated};
 use std::alloc::Global;
@@ -50,4 +51,14 @@ pub fn lower_text(alloc: Global, source: &[u8]) -> Option<Lowered> {
     let orc = tree_of(alloc, source)?;
     let typed = typed_of(alloc, &orc)?;
     lower(alloc, &typed).ok()
+}
+
+/// The instrument of a number.
+pub fn instrument_of(instruments: &Instruments, number: u32) -> Option<&Instrument> {
+    for instrument in instruments.as_slice() {
+        if instrument.number() == number {
+            return Some(instrument);
+        }
+    }
+    None
 }

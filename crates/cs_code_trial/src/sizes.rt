@@ -1,19 +1,19 @@
 // How many ops instruments have: of each rate-i part that is kept, each argument that is settled and each unit that is started
 // one as the note begins, and of each operator, unit, output and assignment one a cycle.
-use crate::reading::lower_text;
+use crate::reading::{instrument_of, lower_text};
 use std::alloc::Global;
 
-/// How many ops an instrument's note runs as it begins, and how many in a cycle.
-pub fn sizes(alloc: Global, source: &[u8], number: u32) -> Option<(usize, usize)> {
+/// How many ops an instrument's note runs as it begins, and how many in a cycle; of number 0 those outside of instruments.
+fn sizes(alloc: Global, source: &[u8], number: u32) -> Option<(usize, usize)> {
     let made = lower_text(alloc, source)?;
-    let instrument = made.instruments.find(number)?;
-    Some((instrument.init().ops.len(), instrument.perf().ops.len()))
+    if number == 0 {
+        return Some(sizes_of(&made.zero));
+    }
+    Some(sizes_of(instrument_of(&made.instruments, number)?))
 }
 
-/// How many ops what stands outside of instruments has.
-fn outside(alloc: Global, source: &[u8]) -> Option<(usize, usize)> {
-    let made = lower_text(alloc, source)?;
-    Some((made.zero.init().ops.len(), made.zero.perf().ops.len()))
+fn sizes_of(instrument: &Instrument) -> (usize, usize) {
+    (instrument.init().ops.len(), instrument.perf().ops.len())
 }
 
 const DEMO: &str = "sr = 8000
@@ -148,40 +148,36 @@ outs a1 + a2 * .5 + a3, a1 + a3 * .5 + a2
 endin
 ";
 
-/// The instruments of docs/SPEED.md.
+/// A text, the number of an instrument, and its ops as a note begins and in a cycle; none where the text is refused.
+type Row = (&'static str, u32, Option<(usize, usize)>);
+
+/// The instruments of docs/SPEED.md, and what stands outside of instruments, which is done once.
+static ROWS: [Row; 19] = [
+    (DEMO, 1, Some((4, 2))),
+    (DEMO, 2, Some((4, 4))),
+    (DEMO, 90, Some((3, 4))),
+    (STEREO, 1, Some((12, 8))),
+    (STEREO, 99, Some((5, 7))),
+    (MODULATED, 1, Some((13, 7))),
+    (SAW, 1, Some((10, 9))),
+    (VIBRATO, 1, Some((9, 6))),
+    (COUNTER, 1, Some((13, 13))),
+    (PLACES, 1, Some((7, 5))),
+    (PLACES, 2, Some((5, 5))),
+    (CHANNELS, 1, Some((5, 10))),
+    (READER, 1, Some((7, 7))),
+    (FILTER, 1, Some((12, 4))),
+    (ADDITIVE, 1, Some((26, 15))),
+    ("", 0, Some((0, 0))),
+    ("ga1 init 0", 0, Some((2, 0))),
+    ("gk1 init 2\ngi1 = 5 * 3", 0, Some((6, 0))),
+    ("gk1 = 2\ngk1 = p4", 0, None),
+];
+
 #[test]
 fn instruments(rt: HostRuntime) {
-    for (source, number, init, perf) in [
-        (DEMO, 1, 4, 2),
-        (DEMO, 2, 4, 4),
-        (DEMO, 90, 3, 4),
-        (STEREO, 1, 12, 8),
-        (STEREO, 99, 5, 7),
-        (MODULATED, 1, 13, 7),
-        (SAW, 1, 10, 9),
-        (VIBRATO, 1, 9, 6),
-        (COUNTER, 1, 13, 13),
-        (PLACES, 1, 7, 5),
-        (PLACES, 2, 5, 5),
-        (CHANNELS, 1, 5, 10),
-        (READER, 1, 7, 7),
-        (FILTER, 1, 12, 4),
-        (ADDITIVE, 1, 26, 15),
-    ] {
-        let found = sizes(rt.alloc(), source.as_bytes(), number);
-        assert!(rt; found == Some((init, perf)), "{number} of {source}");
-    }
-}
-
-/// What stands outside of instruments is done once.
-#[test]
-fn outside_of_instruments(rt: HostRuntime) {
-    for (source, want) in [
-        ("", Some((0, 0))),
-        ("ga1 init 0", Some((2, 0))),
-        ("gk1 init 2\ngi1 = 5 * 3", Some((6, 0))),
-        ("gk1 = 2\ngk1 = p4", None),
-    ] {
-        assert!(rt; outside(rt.alloc(), source.as_bytes()) == want, "{source}");
+    for (source, number, want) in &ROWS {
+        let found = sizes(rt.alloc(), source.as_bytes(), *number);
+        assert!(rt; found == *want, "{number} of {source}");
     }
 }

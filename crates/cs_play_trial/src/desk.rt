@@ -1,7 +1,11 @@
 // The case that is being made.
+use crate::gate::Task;
 use crate::line::{Object, Piece, Shown};
 use crate::text::add_piece;
 use std::alloc::{AllocError, Global};
+
+/// The words of a case that has none of its own: the names of its two texts.
+const NAMES: &[u8] = b"a.orc\na.sco\n";
 
 /// What a line of text is added to.
 #[derive(Clone, Copy)]
@@ -24,9 +28,11 @@ pub struct Once {
     pub calls: bool,
     pub report: bool,
     pub twice: bool,
-    pub meet: bool,
+    pub task: Task,
     /// The room of a mirror; 0 is none.
     pub mirror: u32,
+    /// Samples have three bytes.
+    pub wide: bool,
 }
 
 impl Once {
@@ -42,8 +48,9 @@ impl Once {
             calls: false,
             report: false,
             twice: false,
-            meet: false,
+            task: Task::Nothing,
             mirror: 0,
+            wide: false,
         }
     }
 
@@ -111,6 +118,20 @@ impl Desk {
         self.filling = Filling::Words;
     }
 
+    /// The words of the case, one a line.
+    pub fn own_words(&self) -> &[u8] {
+        if self.once.has_words {
+            &self.words
+        } else {
+            NAMES
+        }
+    }
+
+    /// Whether any number of workers may play the case: it names none itself, and shows nothing of them.
+    pub fn is_for_any_crew(&self) -> bool {
+        matches!(self.once.task, Task::Nothing) && !names_a_crew(self.own_words())
+    }
+
     /// What held for the last case alone is forgotten.
     pub fn forget(&mut self) {
         self.once = Once::new();
@@ -124,4 +145,17 @@ impl Desk {
             Filling::Words => add_piece(&mut self.words, piece),
         }
     }
+}
+
+// Whether one of these words says by how many workers, or by which.
+fn names_a_crew(words: &[u8]) -> bool {
+    for word in words.split(|byte| *byte == b'\n') {
+        match word {
+            b"--pool" => return true,
+            [b'-', b'-', ..] => {}
+            [b'-', flags @ ..] if flags.contains(&b'j') => return true,
+            _ => {}
+        }
+    }
+    false
 }

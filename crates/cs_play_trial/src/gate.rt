@@ -1,43 +1,101 @@
-// A gate at which two notes meet.
+// The gate of a case: it lets notes through at once, or shows what workers do.
 use cs_edge::Gate;
 use std::sync::atomic::{AtomicU64, Ordering};
 
-/// How many turns the first note waits for the second.
-const TURNS: u64 = 1_000_000_000;
+/// How many turns a note is held: long, or, where many cycles are tried, less long.
+const LONG: u64 = 1_000_000_000;
 
-/// In cycle 0 it holds whichever note comes first until another has come, or for so many turns; so two notes that run one
-/// after the other never meet.
-#[derive(Drop)]
-pub struct Meeting {
-    arrived: AtomicU64,
-    met: AtomicU64,
+const SHORT: u64 = 20_000_000;
+
+/// What the gate does.
+#[derive(Clone, Copy)]
+pub enum Task {
+    Nothing,
+    /// Of the notes from this one on, it holds the first of a cycle until another has come, or for so many turns; so notes that
+    /// run one after another never meet. Once two have met, none is held.
+    Meeting(u32),
+    /// It counts its calls, and marks one that isn't the next: each cycle has so many notes, which must come one by one.
+    Counting(u32),
 }
 
-impl Meeting {
-    pub fn new() -> Meeting {
-        Meeting {
-            arrived: AtomicU64::new(0),
+/// Cycles are kept as one more than their number; 0 is none.
+#[derive(Drop)]
+pub struct Watch {
+    task: Task,
+    holding: AtomicU64,
+    joined: AtomicU64,
+    met: AtomicU64,
+    calls: AtomicU64,
+    astray: AtomicU64,
+}
+
+impl Watch {
+    pub fn new(task: Task) -> Watch {
+        Watch {
+            task,
+            holding: AtomicU64::new(0),
+            joined: AtomicU64::new(0),
             met: AtomicU64::new(0),
+            calls: AtomicU64::new(0),
+            astray: AtomicU64::new(0),
         }
     }
 
-    /// Whether the first saw the second come.
-    pub fn took_place(&self) -> bool {
+    /// Whether a note that was held saw another come.
+    pub fn has_met(&self) -> bool {
         self.met.load(Ordering::SeqCst) == 1
     }
-}
 
-impl Gate for Meeting {
-    fn before(&self, cycle: u32, _note: u32) {
-        if cycle != 0 || self.arrived.fetch_add(1, Ordering::SeqCst) != 0 {
+    /// How many calls were counted, all of them in order; none where one was not the next.
+    pub fn counted(&self) -> Option<u64> {
+        if self.astray.load(Ordering::SeqCst) == 1 {
+            return None;
+        }
+        Some(self.calls.load(Ordering::SeqCst))
+    }
+
+    fn hold(&self, cycle: u64, turns: u64) {
+        if self.has_met() {
             return;
         }
-        for _ in 0..TURNS {
-            if self.arrived.load(Ordering::SeqCst) >= 2 {
+        if self.holding.swap(cycle, Ordering::SeqCst) == cycle {
+            self.joined.store(cycle, Ordering::SeqCst);
+            return;
+        }
+        for _ in 0..turns {
+            if self.joined.load(Ordering::SeqCst) == cycle {
                 self.met.store(1, Ordering::SeqCst);
                 return;
             }
             std::hint::spin_loop();
+        }
+    }
+
+    fn count(&self, place: u64) {
+        if self.calls.fetch_add(1, Ordering::SeqCst) != place {
+            self.astray.store(1, Ordering::SeqCst);
+        }
+    }
+}
+
+impl Gate for Watch {
+    fn before(&self, cycle: u32, note: u32) {
+        let cycle = u64::from(cycle);
+        match self.task {
+            Task::Nothing => {}
+            Task::Meeting(from) => {
+                if note >= from {
+                    self.hold(
+                        cycle.saturating_add(1),
+                        if from == 0 { LONG } else { SHORT },
+                    );
+                }
+            }
+            Task::Counting(notes) => self.count(
+                cycle
+                    .saturating_mul(u64::from(notes))
+                    .saturating_add(u64::from(note)),
+            ),
         }
     }
 }

@@ -45,10 +45,14 @@ pub enum Line<'a> {
     Show(Shown),
     /// The case runs twice on one shelf.
     Twice,
-    /// Two notes of the first cycle meet, or the line says that they didn't.
-    Meet,
+    /// Two notes of a cycle meet, of those from this one on, or the line says that they didn't.
+    Meet(u32),
+    /// The gate counts its calls, of so many notes a cycle.
+    Count(u32),
     /// A mirror with room for so many values is told the mix too.
     Mirror(u32),
+    /// Samples of three bytes.
+    Wide,
     /// The case of this name runs.
     Play(&'a [u8]),
     /// None of these.
@@ -78,8 +82,10 @@ fn line_of_word(line: &[u8]) -> Line<'_> {
         b"calls" => Line::Show(Shown::Calls),
         b"report" => Line::Show(Shown::Report),
         b"twice" => Line::Twice,
-        b"meet" => Line::Meet,
+        b"meet" => Line::Meet(number_of(rest)),
+        b"count" => Line::Count(number_of(rest)),
         b"mirror" => Line::Mirror(number_of(rest)),
+        b"wide" => Line::Wide,
         b"play" => Line::Play(rest),
         _ => comment_or_wrong(word),
     }

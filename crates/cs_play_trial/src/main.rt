@@ -4,9 +4,8 @@
 //!
 //! Nothing is proved of the answers here, only that the trials are safe.
 //!
-//! In reading order: `line` (what a line of a case file says), `text` (its escapes), `desk` (the case that is being
-//! made), `gate` (where two
-//! notes meet), `play` (the runs of a case), `show` (its line) and `wave` (the samples in it).
+//! In reading order: `line` (what a line of a case file says), `text` (its escapes), `gate` (what shows how workers run), `desk`
+//! (the case that is being made), `play` (the runs of a case), `show` (its line) and `wave` (the samples in it).
 #![tactic(auto)]
 
 mod desk;
@@ -18,6 +17,7 @@ mod text;
 mod wave;
 
 use crate::desk::Desk;
+use crate::gate::Task;
 use crate::line::{Line, line_of};
 use crate::play::play;
 use crate::show::add_shown;
@@ -78,8 +78,10 @@ fn follow<R: Files + Print + AllocGlobal + Threads + Wait + Sync>(
         Line::Room(object, most) => desk.once.limit(object, most),
         Line::Show(what) => desk.once.show(what),
         Line::Twice => desk.once.twice = true,
-        Line::Meet => desk.once.meet = true,
+        Line::Meet(from) => desk.once.task = Task::Meeting(from),
+        Line::Count(notes) => desk.once.task = Task::Counting(notes),
         Line::Mirror(room) => desk.once.mirror = room,
+        Line::Wide => desk.once.wide = true,
         Line::Play(name) => {
             say(rt, name, desk)?;
             desk.forget();
@@ -102,14 +104,41 @@ fn add_file<R: Files + AllocGlobal>(rt: &R, path: &[u8], to: &mut Vec<u8>) -> io
     Ok(())
 }
 
-// Runs a case and prints its line.
+/// The crews that play each piece besides the one that its words ask for.
+const CREWS: [&[&str]; 3] = [&["-j", "4"], &["--pool", "-j", "4"], &["-j", "32"]];
+
+// Runs a case and prints its line. A piece that is played is played by other crews too.
 fn say<R: Print + AllocGlobal + Threads + Wait + Sync>(
     rt: &R,
     name: &[u8],
     desk: &Desk,
 ) -> io::Result<()> {
     let mut out = String::new(rt.alloc());
-    play(rt, name, desk, &mut out)?;
+    let status = play(rt, name, desk, &[], &mut out)?;
+    io::writer(rt).write_all(out.as_bytes())?;
+    if status != 0 || !desk.is_for_any_crew() {
+        return Ok(());
+    }
+    for crew in CREWS {
+        say_by(rt, name, desk, crew, &out)?;
+    }
+    Ok(())
+}
+
+// Runs the case by a crew, and prints its line where it is another one.
+fn say_by<R: Print + AllocGlobal + Threads + Wait + Sync>(
+    rt: &R,
+    name: &[u8],
+    desk: &Desk,
+    crew: &[&str],
+    line: &str,
+) -> io::Result<()> {
+    let mut out = String::new(rt.alloc());
+    play(rt, name, desk, crew, &mut out)?;
+    if out.as_str() == line {
+        return Ok(());
+    }
+    println!(rt; "another line, by {crew:?}:")?;
     io::writer(rt).write_all(out.as_bytes())
 }
 

@@ -1,42 +1,31 @@
 // The runs of a case.
 use crate::desk::{Desk, Once};
-use crate::gate::Meeting;
+use crate::gate::Watch;
 use crate::show::{Outcome, add_line};
 use cs_base::{Bytes, Text};
 use cs_desk::Tally;
-use cs_edge::{
-    Calls, Files, Gate, MemShelf, MemSink, MirrorTap, NamedBytes, OpenGate, PeakTap, Tap,
-};
+use cs_edge::{Calls, Files, MemShelf, MemSink, MirrorTap, NamedBytes, PeakTap, Tap};
 use cs_play::csplay;
 use std::alloc::{AllocError, Global};
 use std::sync::Wait;
 use std::thread::Threads;
 
-/// The words of a case that has none of its own: the names of its two texts.
-const NAMES: &[u8] = b"a.orc\na.sco\n";
-
-/// Runs a case, and writes its line.
+/// Runs a case, with these words before its own, and writes its line; its status comes back.
 pub fn play<R: AllocGlobal + Threads + Wait + Sync>(
     rt: &R,
     name: &[u8],
     desk: &Desk,
+    crew: &[&str],
     out: &mut String,
-) -> Result<(), AllocError> {
-    let words = words_of(
-        rt.alloc(),
-        if desk.once.has_words {
-            &desk.words
-        } else {
-            NAMES
-        },
-    )?;
+) -> Result<u8, AllocError> {
+    let words = words_of(rt.alloc(), crew, desk)?;
     let mut shelf = shelf_of(rt.alloc(), desk)?;
-    run_on(rt, name, &words, &mut shelf, desk.once, out)?;
-    if desk.once.twice {
-        out.clear();
-        run_on(rt, name, &words, &mut shelf, desk.once, out)?;
+    let status = run_on(rt, name, &words, &mut shelf, desk.once, out)?;
+    if !desk.once.twice {
+        return Ok(status);
     }
-    Ok(())
+    out.clear();
+    run_on(rt, name, &words, &mut shelf, desk.once, out)
 }
 
 // One run, with new sinks.
@@ -47,40 +36,40 @@ fn run_on<R: AllocGlobal + Threads + Wait + Sync>(
     shelf: &mut MemShelf,
     once: Once,
     out: &mut String,
-) -> Result<(), AllocError> {
+) -> Result<u8, AllocError> {
     let mut wav = sink_of(rt.alloc(), once.wav_fails, once.wav_room)?;
     let mut talk = sink_of(rt.alloc(), once.talk_fails, once.talk_room)?;
-    let meeting = Meeting::new();
+    let gate = Watch::new(once.task);
     let mut told = Vec::new(rt.alloc());
-    let room = once.mirror;
-    let status = if once.meet {
-        run(
-            rt, words, shelf, &mut wav, &mut talk, &meeting, room, &mut told,
-        )?
-    } else {
-        let gate = OpenGate::new();
-        run(
-            rt, words, shelf, &mut wav, &mut talk, &gate, room, &mut told,
-        )?
-    };
+    let status = run(
+        rt,
+        words,
+        shelf,
+        &mut wav,
+        &mut talk,
+        &gate,
+        once.mirror,
+        &mut told,
+    )?;
     let outcome = Outcome {
         status,
         shelf: &*shelf,
         wav: &wav,
         talk: &talk,
-        met: meeting.took_place(),
+        gate: &gate,
         told: &told,
     };
-    add_line(out, name, once, outcome)
+    add_line(out, name, once, outcome)?;
+    Ok(status)
 }
 
-fn run<R: AllocGlobal + Threads + Wait + Sync, G: Gate + Sync>(
+fn run<R: AllocGlobal + Threads + Wait + Sync>(
     rt: &R,
     words: &[String],
     shelf: &mut MemShelf,
     wav: &mut MemSink,
     talk: &mut MemSink,
-    gate: &G,
+    gate: &Watch,
     room: u32,
     told: &mut Vec<u8>,
 ) -> Result<u8, AllocError> {
@@ -120,15 +109,27 @@ fn add_told(taps: &[Box<dyn Tap>], told: &mut Vec<u8>) -> Result<(), AllocError>
     Ok(())
 }
 
-// The words, one a line; what isn't UTF-8 is left out.
-fn words_of(alloc: Global, text: &[u8]) -> Result<Vec<String>, AllocError> {
+// The words of a case, behind others.
+fn words_of(alloc: Global, front: &[&str], desk: &Desk) -> Result<Vec<String>, AllocError> {
     let mut words = Vec::new(alloc);
+    for word in front {
+        add_word(alloc, word.as_bytes(), &mut words)?;
+    }
+    if desk.once.wide {
+        add_word(alloc, b"-3", &mut words)?;
+    }
+    add_words(alloc, desk.own_words(), &mut words)?;
+    Ok(words)
+}
+
+// Words, one a line; what isn't UTF-8 is left out.
+fn add_words(alloc: Global, text: &[u8], words: &mut Vec<String>) -> Result<(), AllocError> {
     if let Some(text) = text.strip_suffix(b"\n") {
         for word in text.split(|byte| *byte == b'\n') {
-            add_word(alloc, word, &mut words)?;
+            add_word(alloc, word, words)?;
         }
     }
-    Ok(words)
+    Ok(())
 }
 
 fn add_word(alloc: Global, word: &[u8], words: &mut Vec<String>) -> Result<(), AllocError> {

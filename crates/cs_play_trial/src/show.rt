@@ -1,5 +1,6 @@
 // The line of a case.
 use crate::desk::Once;
+use crate::gate::{Task, Watch};
 use crate::wave::{add_hex, add_wave};
 use cs_edge::{MemShelf, MemSink, Move};
 use itoa::Buffer;
@@ -12,8 +13,7 @@ pub struct Outcome<'a> {
     pub shelf: &'a MemShelf,
     pub wav: &'a MemSink,
     pub talk: &'a MemSink,
-    /// Whether two notes met at the gate.
-    pub met: bool,
+    pub gate: &'a Watch,
     /// The line of a mirror.
     pub told: &'a [u8],
 }
@@ -35,9 +35,7 @@ pub fn add_line(
     if !outcome.wav.moves().is_empty() {
         add_sound(out, outcome.wav.taken(), once.hex)?;
     }
-    if once.meet {
-        out.push_str(if outcome.met { "; met" } else { "; not met" })?;
-    }
+    add_gate(out, once.task, outcome.gate)?;
     if once.mirror > 0 {
         out.push_str("; ")?;
         add_shown(
@@ -51,6 +49,21 @@ pub fn add_line(
         add_calls(out, "; talk", outcome.talk.moves())?;
     }
     out.push('\n')
+}
+
+// What the gate of a case shows.
+fn add_gate(out: &mut String, task: Task, gate: &Watch) -> Result<(), AllocError> {
+    match task {
+        Task::Nothing => Ok(()),
+        Task::Meeting(_) => out.push_str(if gate.has_met() { "; met" } else { "; not met" }),
+        Task::Counting(_) => match gate.counted() {
+            Some(calls) => {
+                out.push_str("; calls of the gate, in order: ")?;
+                add_number(out, calls)
+            }
+            None => out.push_str("; calls of the gate out of order"),
+        },
+    }
 }
 
 // What talk has: a last line feed isn't shown, and a line without one is cut.

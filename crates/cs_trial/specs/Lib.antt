@@ -1,4 +1,3 @@
-pub mod Adder
 pub mod Mini
 pub mod MiniFrame
 pub mod Playing

@@ -4,11 +4,10 @@ ghost use Rattle.std.specs.List.{Contains};
 ghost use Rattle.std.specs.List.Sorted.{IsStrictlyIncreasing};
 ghost use Rattle.cs_board.specs.Board.{plan, name, view, IsSeatOf};
 ghost use Rattle.cs_desk.specs.Desk.{areas, cells, HasRoom};
-ghost use Rattle.cs_cells.specs.Areas.{word_count};
+ghost use Rattle.cs_cells.specs.Areas.{word_count, IsFootprint};
 ghost use Rattle.cs_cells.specs.Cells.{values};
 ghost use Rattle.cs_graph.specs.Graph.{IsFit};
-ghost use Rattle.cs_rule.specs.Plans.{IsFootprint};
-ghost use Rattle.cs_rule.specs.Views.{opening_view};
+ghost use Rattle.cs_board.specs.Views.{opening_view};
 
 use crate::loaded::Loaded;
 use cs_base::MOST_NOTES;
@@ -42,7 +41,7 @@ pub fn opened<J: Job + Drop>(
 
 /// A desk with these words, and the graph of the jobs' footprints. None where there is no memory
 /// for it, where there are more jobs than notes may be active, or where a footprint isn't in order.
-pub fn desk_for<J: Job + Drop>(
+fn desk_for<J: Job + Drop>(
     alloc: Global,
     layout: &Layout,
     words: &[u64],
@@ -90,7 +89,7 @@ fn read_words<B: Bank>(alloc: Global, bank: &mut B, count: u32) -> Result<Vec<u6
 
 /// The graph of the jobs' footprints. None where there is no memory for it, where there are more
 /// jobs than notes may be active, or where a footprint isn't in order.
-pub fn graph_of<J: Job>(alloc: Global, layout: &Layout, jobs: &[J]) -> Option<Graph>
+fn graph_of<J: Job>(alloc: Global, layout: &Layout, jobs: &[J]) -> Option<Graph>
     ensures notes { IfSome result (λ g. length g.levels ≡ length jobs.now) }
     ensures fit { IfSome result (λ g. IsFit (map J.means.foot jobs.now) g.edges) }
     ensures orderly { IsSome result

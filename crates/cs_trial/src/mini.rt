@@ -8,7 +8,7 @@ use cs_cells::{Area, Bank, Footprint, Job};
 use std::marker::Model;
 
 /// One op: a cell into a register, a number onto a register, or a register into a cell.
-#[derive(Clone, Copy, Debug, PartialEq, Eq)]
+#[derive(Clone, Copy)]
 pub enum Op {
     Read(u32, u32),
     Add(u32, i64),
@@ -58,13 +58,6 @@ impl<'t> Mini<'t> {
             ops,
             regs,
         })
-    }
-
-    /// The registers, by number.
-    pub fn regs(&self) -> &[i64]
-        ensures { result.now ≡ self.now.regs }
-    {
-        self.regs.as_slice()
     }
 }
 

@@ -2,7 +2,7 @@
 ghost use Rattle.std.specs.Prelude.{◌≡◌, [], ◌∷◌, true, false};
 ghost use Rattle.cs_board.specs.Board.{plan, name, view, IsSeatOf, IsIdle, SameSeat};
 ghost use Rattle.cs_desk.specs.Desk.{areas};
-ghost use Rattle.cs_rule.specs.Views.{opening_view};
+ghost use Rattle.cs_board.specs.Views.{opening_view};
 ghost use Rattle.cs_trial.specs.Playing.{Stands, ArePlaying};
 ghost use Rattle.cs_trial.specs.declared.players.Phase.TheVariants as phase_is;
 
@@ -14,7 +14,7 @@ use std::sync::Wait;
 
 /// How far a seat is: it may claim, it has claimed this note, its note has run, or its last claim
 /// answered None.
-#[derive(Clone, Copy, Debug, PartialEq, Eq)]
+#[derive(Clone, Copy, PartialEq, Eq)]
 pub enum Phase {
     Free,
     Claimed(u32),
@@ -45,7 +45,7 @@ fn claimed<J: Job>(board: &Board<J>, seat: &mut BoardSeat<J>) -> Phase
 }
 
 /// The seat's next call.
-pub fn step<J: Job>(board: &Board<J>, seat: &mut BoardSeat<J>, phase: Phase) -> Phase
+fn step<J: Job>(board: &Board<J>, seat: &mut BoardSeat<J>, phase: Phase) -> Phase
     requires seat { IsSeatOf J.means (plan board.now) (name board.now) seat.old }
     requires stands { Stands J.means phase (view seat.old) }
     ensures seat { IsSeatOf J.means (plan board.now) (name board.now) seat.new }
@@ -181,13 +181,11 @@ pub fn play_out<J: Job, R: Wait>(
     unreachable!()
 }
 
-/// One seat plays to the end. `log` gets each note with what its run answered, as far as there is
-/// memory; the number of tries comes back with receipt and desk.
+/// One seat plays to the end; the number of tries comes back with receipt and desk.
 pub fn play_alone<J: Job, R: Wait>(
     rt: &R,
     board: Board<J>,
     mut seat: BoardSeat<J>,
-    log: &mut Vec<(u32, u64)>,
 ) -> (Receipt<J>, Desk<J>, u64)
     requires seat { IsSeatOf J.means (plan board) (name board) seat }
     requires opens { view seat ≡ opening_view (plan board) }
@@ -198,13 +196,12 @@ pub fn play_alone<J: Job, R: Wait>(
         let mut steps = Steps::new();
         let claim = board.claim(&mut seat, &mut steps);
         tries = tries.saturating_add(steps.count);
-        let Some(note) = claim else {
+        if claim.is_none() {
             let (receipt, desk) = rested(board, seat);
             return (receipt, desk, tries);
-        };
-        let turns = board.run(&mut seat);
+        }
+        board.run(&mut seat);
         board.finish(&mut seat);
-        let _told = log.push((note, turns));
     }
     unreachable!()
 }

@@ -1,5 +1,5 @@
 use Rattle.std.proofs.Common.{subst, arith}
-use Rattle.cs_rule.specs.Plans.{IsFootprint}
+use Rattle.cs_cells.specs.Areas.{IsFootprint}
 use Rattle.cs_trial.proofs.Firsts.{one_more}
 use Rattle.cs_trial.proofs.boards.are_orderly.Goals as goal
 

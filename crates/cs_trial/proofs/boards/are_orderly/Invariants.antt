@@ -1,5 +1,5 @@
 use Rattle.std.proofs.Common.{◌<◌, ◌≤◌, ℕ, get_or}
-use Rattle.cs_rule.specs.Plans.{IsFootprint}
+use Rattle.cs_cells.specs.Areas.{IsFootprint}
 use Rattle.cs_trial.proofs.boards.are_orderly.Given as goal
 
 abbrev pub invariant-loop-job : goal.invariant-loop-job

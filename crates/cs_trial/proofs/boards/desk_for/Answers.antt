@@ -1,6 +1,6 @@
 use Rattle.std.proofs.Common.{length, refl, subst, sym}
 use Rattle.std.specs.List.{All}
-use Rattle.cs_rule.specs.Plans.{IsFootprint}
+use Rattle.cs_cells.specs.Areas.{IsFootprint}
 use Rattle.cs_trial.proofs.boards.desk_for.Goals as goal
 
 pub returns-in-Ok-new-clause-orderly : goal.returns-in-Ok-new-clause-orderly

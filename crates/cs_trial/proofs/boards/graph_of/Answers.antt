@@ -1,6 +1,6 @@
 use Rattle.std.proofs.Common.{subst}
 use Rattle.std.specs.List.{All}
-use Rattle.cs_rule.specs.Plans.{IsFootprint}
+use Rattle.cs_cells.specs.Areas.{IsFootprint}
 use Rattle.cs_trial.proofs.boards.graph_of.Goals as goal
 
 pub returns-clause-orderly : goal.returns-clause-orderly

@@ -1,7 +1,7 @@
 use Rattle.std.proofs.Common.{length, subst}
 use Rattle.std.specs.List.{All}
 use Rattle.cs_desk.specs.Desk.{areas}
-use Rattle.cs_rule.specs.Plans.{IsFootprint}
+use Rattle.cs_cells.specs.Areas.{IsFootprint}
 use Rattle.cs_trial.proofs.boards.opened.Goals as goal
 
 pub open-requires-clause-footprints : goal.open-requires-clause-footprints

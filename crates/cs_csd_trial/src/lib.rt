@@ -1,5 +1,0 @@
-//! Files with both texts, worked by hand.
-#![tactic(auto)]
-
-#[cfg(test)]
-mod files;

@@ -1,0 +1,3 @@
+sr = 8
+ksmps = 4
+0dbfs = 128
