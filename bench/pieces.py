@@ -1,0 +1,136 @@
+"""The pieces that are timed and soaked, each a pair of texts: python3 bench/pieces.py FOLDER writes them all as
+files.
+
+LONG is timed beside Csound (bench/run), SHORT is played many times (bench/soak), FAILING is played with a
+failing call at each place (bench/failing). Every piece is one that csplay plays and, but for its opcodes of its
+own, Csound too."""
+import os
+import sys
+
+
+def demo(count):
+    """The texts of `csplay --demo COUNT`, as docs/LANGUAGE.md has them."""
+    orc = "sr = 8000\nksmps = 16\nnchnls = 1\nga1 init 0\ninstr 1\na1 oscili p4, p5, 1\nout a1\nendin\n"
+    orc += "instr 2\na1 oscili p4, p5, 1\nga1 += a1\nendin\ninstr 90\na1 delay ga1, .05\nout a1\nga1 = 0\nendin\n"
+    notes = (f"i{2 if n % 8 == 0 else 1} {n // 64} 1 {100 + n % 7} {100 + n % 500}\n" for n in range(count))
+    return orc, f"f1 0 1024 10 1\n{''.join(notes)}i90 0 {(count + 63) // 64}\ne\n"
+
+
+def stereo():
+    """Five tones one after another and their echo: what each note adds to the echo's bus makes a chain of them."""
+    orc = "sr = 44100\nksmps = 32\nnchnls = 2\n0dbfs = 1\ngasend init 0\ninstr 1\niamp = p4\nicps = cpspch(p5)\n"
+    orc += "aenv linen iamp, .05, p3, .1\nasig oscili aenv, icps, 1\nouts asig, asig\ngasend += asig * .3\nendin\n"
+    orc += "instr 99\nadel delay gasend, .25\nouts adel * .5, adel * .5\ngasend = 0\nendin\n"
+    sco = "f1 0 4096 10 1 .5 .25\nt 0 120\ni1 0 1 .3 8.00\ni1 + . . 8.04\ni1 + . . 8.07\ni1 + . . 9.00\ni99 0 4\ns\n"
+    return orc, sco + "i1 0 1 .2 8.09\ni99 0 1\ne\n"
+
+
+def heavy(seconds=10, notes=64):
+    """Notes of sixteen oscillators each, which share nothing."""
+    orc = "sr = 44100\nksmps = 256\nnchnls = 1\ninstr 1\n"
+    orc += "".join(f"a{n} oscili p4, p5 * {n}, 1\n" for n in range(1, 17))
+    orc += "out " + " + ".join(f"a{n}" for n in range(1, 17)) + "\nendin\n"
+    return orc, "f1 0 4096 10 1\n" + "".join(f"i1 0 {seconds} 20 {55 + 7 * n}\n" for n in range(notes)) + "e\n"
+
+
+def many(notes=2000, cycles=500):
+    """A note begins in each cycle of 2 ms, and each plays for 500: so many sound at once, and one changes a cycle."""
+    orc = "sr = 32000\nksmps = 64\nnchnls = 1\ninstr 1\na1 oscili p4, p5, 1\nout a1\nendin\n"
+    sco = "".join(f"i1 {n * 0.002:.3f} {cycles * 0.002:.3f} 40 {200 + n % 300}\n" for n in range(notes))
+    return orc, f"f1 0 4096 10 1\n{sco}e\n"
+
+
+def chain():
+    """Twenty notes on one global variable: each waits for the one before it."""
+    orc = "sr = 8000\nksmps = 32\nnchnls = 1\ngk1 init 0\ninstr 1\ngk1 = gk1 + p4\na1 oscili gk1, p5, 1\nout a1\n"
+    orc += "endin\ninstr 9\ngk1 = 0\nendin\n"
+    return orc, "f1 0 256 10 1\n" + "".join(f"i1 0 .1 {20 + n} {200 + n}\n" for n in range(20)) + "i9 0 .1\ne\n"
+
+
+def readers():
+    """One note writes, thirty read it, one takes it away: the thirty are free of one another."""
+    orc = "sr = 8000\nksmps = 32\nnchnls = 1\nga1 init 0\ninstr 1\nga1 oscili p4, p5, 1\nendin\n"
+    orc += "instr 2\na1 delay ga1, p4\nout a1 * .02\nendin\ninstr 9\nga1 = 0\nendin\n"
+    notes = "".join(f"i2 0 .1 {0.001 * (n + 1):.3f}\n" for n in range(30))
+    return orc, f"f1 0 256 10 1\ni1 0 .1 9000 440\n{notes}i9 0 .1\ne\n"
+
+
+def busses():
+    """Eight notes each on two busses and the zak places 1 and 2, and a mixer: several chains side by side."""
+    orc = "sr = 8000\nksmps = 32\nnchnls = 2\nzakinit 2, 2\ngk1 init 0\ngk2 init 0\n"
+    for bus in (1, 2):
+        orc += f"instr {bus}\ngk{bus} = gk{bus} + 1\na1 oscili p4 + gk{bus}, p5, 1\nzawm a1, {bus}\nendin\n"
+    orc += "instr 9\na1 zar 1\na2 zar 2\nouts a1, a2\nzacl 1, 2\ngk1 = 0\ngk2 = 0\nendin\n"
+    notes = "".join(f"i{1 + n % 2} 0 .1 {100 + n} {200 + n}\n" for n in range(16))
+    return orc, f"f1 0 256 10 1\n{notes}i9 0 .1\ne\n"
+
+
+def in_turn():
+    """Heavy cycles and light ones in turn: forty notes of eight oscillators come and go over two that stay."""
+    orc = "sr = 8000\nksmps = 64\nnchnls = 1\ninstr 1\na1 oscili p4, p5, 1\nout a1\nendin\ninstr 2\n"
+    orc += "".join(f"a{n} oscili p4, p5 * {n}, 1\n" for n in range(1, 9))
+    orc += "out " + " + ".join(f"a{n}" for n in range(1, 9)) + "\nendin\n"
+    chords = "".join(f"i2 {beat * 0.08:.2f} .04 9 {100 + 3 * n}\n" for beat in range(4) for n in range(40))
+    return orc, f"f1 0 1024 10 1\ni1 0 .4 500 220\ni1 0 .4 500 330\n{chords}e\n"
+
+
+def shared():
+    """Twelve notes of four oscillators that share nothing, for a tenth of a second: several workers have work."""
+    return heavy_in_small(12, 4)
+
+
+def heavy_in_small(notes, oscillators):
+    orc = "sr = 8000\nksmps = 64\nnchnls = 1\ninstr 1\n"
+    orc += "".join(f"a{n} oscili p4, p5 * {n}, 1\n" for n in range(1, oscillators + 1))
+    orc += "out " + " + ".join(f"a{n}" for n in range(1, oscillators + 1)) + "\nendin\n"
+    return orc, "f1 0 256 10 1\n" + "".join(f"i1 0 .1 90 {100 + 7 * n}\n" for n in range(notes)) + "e\n"
+
+
+def own_opcodes():
+    """Opcodes of one's own, one calling another, each with a state for each call."""
+    orc = "sr = 8000\nksmps = 32\nnchnls = 1\nopcode Beating, a, kk\nkamp, kcps xin\na1 oscili kamp, kcps, 1\n"
+    orc += "a2 oscili kamp, kcps * 1.01, 1\nxout a1 + a2\nendop\nopcode Chord, a, kk\nkamp, kcps xin\n"
+    orc += "a1 Beating kamp, kcps\na2 Beating kamp, kcps * 1.5\nxout a1 + a2\nendop\n"
+    orc += "instr 1\na1 Chord p4, p5\nif p4 > 50 then\nk1 = 2\nelse\nk1 = 1\nendif\nout a1 * k1\nendin\n"
+    return orc, "f1 0 256 10 1\ni1 0 .05 100 200\ni1 .02 .05 40 300\ne\n"
+
+
+def small_stereo():
+    """The stereo piece at a rate of 4,410: the same notes in a tenth of the cycles."""
+    orc, sco = stereo()
+    return orc.replace("44100", "4410"), sco
+
+
+LONG = {
+    "demo, 64 notes": demo(64),
+    "demo, 1,000 notes": demo(1000),
+    "demo, 10,000 notes": demo(10000),
+    "the stereo piece, 7 notes": stereo(),
+    "64 notes of 16 oscillators, 10 s": heavy(),
+    "500 notes at once, one changes in each cycle, 5 s": many(),
+}
+SHORT = {
+    "stereo": small_stereo(),
+    "chain": chain(),
+    "readers": readers(),
+    "busses": busses(),
+    "in turn": in_turn(),
+    "shared": shared(),
+}
+FAILING = {"stereo": small_stereo(), "shared": shared(), "own opcodes": own_opcodes()}
+
+
+def write(folder, name, texts):
+    """Writes the texts as files, and answers their two names, relative to the folder."""
+    short = "".join(c if c.isalnum() else "-" for c in name)
+    for ending, text in zip(("orc", "sco"), texts):
+        with open(f"{folder}/{short}.{ending}", "w", encoding="ascii") as it:
+            it.write(text)
+    return f"{short}.orc", f"{short}.sco"
+
+
+if __name__ == "__main__":
+    os.makedirs(sys.argv[1], exist_ok=True)
+    for pieces in (LONG, SHORT, FAILING):
+        for title, both in pieces.items():
+            print(*write(sys.argv[1], title, both))

@@ -1,0 +1,133 @@
+/* Preloaded under the built program by bench/failing and bench/soak: makes a call fail, or tells another number of
+   processors.
+
+   FAIL=NAME:N     the Nth call of NAME fails: alloc (malloc, realloc), open, read, write, close, thread
+   FAIL=NAME:N+    the Nth and all that follow fail
+   PROCESSORS=N    the program sees N processors
+   COUNTS=FILE     at the end, how often each was called, and how many allocations weren't freed, go to FILE */
+#define _GNU_SOURCE
+#include <dlfcn.h>
+#include <errno.h>
+#include <fcntl.h>
+#include <pthread.h>
+#include <sched.h>
+#include <stdarg.h>
+#include <stdio.h>
+#include <stdlib.h>
+#include <string.h>
+#include <unistd.h>
+
+enum { ALLOC, OPEN, READ, WRITE, CLOSE, THREAD, KINDS };
+static const char *const names[KINDS] = {"alloc", "open", "read", "write", "close", "thread"};
+static long calls[KINDS], held, fail_at;
+static int fail_kind = -1, fail_on, ready;
+
+extern void *__libc_malloc(size_t);
+extern void *__libc_realloc(void *, size_t);
+extern void __libc_free(void *);
+
+__attribute__((constructor)) static void begin(void) {
+    const char *fail = getenv("FAIL");
+    for (int kind = 0; fail && kind < KINDS; kind++) {
+        size_t length = strlen(names[kind]);
+        if (!strncmp(fail, names[kind], length) && fail[length] == ':') {
+            char *rest;
+            fail_kind = kind;
+            fail_at = strtol(fail + length + 1, &rest, 10);
+            fail_on = *rest == '+';
+        }
+    }
+    ready = 1;
+}
+
+static void tell(void) {
+    ready = 0;
+    const char *file = getenv("COUNTS");
+    int to = file ? (int)syscall(257, AT_FDCWD, file, O_WRONLY | O_CREAT | O_TRUNC, 0644) : -1;
+    if (to < 0) return;
+    char text[256];
+    int length = 0;
+    for (int kind = 0; kind < KINDS; kind++)
+        length += snprintf(text + length, sizeof text - length, "%s %ld\n", names[kind], calls[kind]);
+    length += snprintf(text + length, sizeof text - length, "held %ld\n", held);
+    syscall(1, to, text, (size_t)length);
+}
+
+/* The program ends by this call, so no destructor would run. */
+void _exit(int status) {
+    tell();
+    for (;;) syscall(231, status);
+}
+
+static int fails(int kind) {
+    if (!ready) return 0;
+    long number = __sync_add_and_fetch(&calls[kind], 1);
+    return kind == fail_kind && (number == fail_at || (fail_on && number > fail_at));
+}
+
+void *malloc(size_t size) {
+    if (fails(ALLOC)) return errno = ENOMEM, NULL;
+    void *made = __libc_malloc(size);
+    if (ready && made) __sync_add_and_fetch(&held, 1);
+    return made;
+}
+
+void *realloc(void *old, size_t size) {
+    if (fails(ALLOC)) return errno = ENOMEM, NULL;
+    void *made = __libc_realloc(old, size);
+    if (ready && made && !old) __sync_add_and_fetch(&held, 1);
+    return made;
+}
+
+void free(void *old) {
+    if (ready && old) __sync_sub_and_fetch(&held, 1);
+    __libc_free(old);
+}
+
+int open(const char *path, int flags, ...) {
+    va_list rest;
+    va_start(rest, flags);
+    int mode = flags & (O_CREAT | O_TMPFILE) ? va_arg(rest, int) : 0;
+    va_end(rest);
+    if (fails(OPEN)) return errno = EACCES, -1;
+    return (int)syscall(257, AT_FDCWD, path, flags, mode);
+}
+
+ssize_t read(int from, void *to, size_t size) {
+    if (fails(READ)) return errno = EIO, -1;
+    return syscall(0, from, to, size);
+}
+
+ssize_t write(int to, const void *from, size_t size) {
+    if (fails(WRITE)) return errno = ENOSPC, -1;
+    return syscall(1, to, from, size);
+}
+
+int close(int which) {
+    int failing = fails(CLOSE);
+    int status = (int)syscall(3, which);
+    return failing ? (errno = EIO, -1) : status;
+}
+
+int pthread_create(pthread_t *made, const pthread_attr_t *how, void *(*work)(void *), void *given) {
+    static int (*real)(pthread_t *, const pthread_attr_t *, void *(*)(void *), void *);
+    if (!real) real = dlsym(RTLD_NEXT, "pthread_create");
+    return fails(THREAD) ? EAGAIN : real(made, how, work, given);
+}
+
+long sysconf(int name) {
+    static long (*real)(int);
+    const char *told = getenv("PROCESSORS");
+    if (told && name == _SC_NPROCESSORS_ONLN) return atol(told);
+    if (!real) real = dlsym(RTLD_NEXT, "sysconf");
+    return real(name);
+}
+
+int sched_getaffinity(pid_t of, size_t size, cpu_set_t *set) {
+    const char *told = getenv("PROCESSORS");
+    long found = syscall(204, of, size, set);
+    if (found < 0) return -1;
+    memset((char *)set + found, 0, size - (size_t)found);
+    for (int at = 0; told && at < atoi(told); at++) CPU_SET_S(at, size, set);
+    return 0;
+}
