@@ -4,3 +4,4 @@ pub mod Tests
 pub mod Texts
 pub mod Closings
 pub mod Rates
+pub mod LineCuts

@@ -1,4 +1,10 @@
-use Rattle.std.specs.Prelude.{ℕ, List, codes}
+-- The kinds of faults by number and name, and faults told as refusals.
+use Rattle.std.specs.Prelude.{ℕ, List, Result, Ok, Err, codes}
+use Rattle.cs_base.specs.declared.fault.Or.{Or}
+use Rattle.cs_base.specs.declared.fault.Or.TheVariants as or
+use Rattle.cs_base.specs.declared.limit.Limit.{Limit}
+use Rattle.cs_base.specs.declared.refusal.Refusal.{Refusal}
+use Rattle.cs_base.specs.declared.refusal.Refusal.TheVariants as refusal
 use Rattle.cs_base.specs.declared.fault.OrcKind.{OrcKind}
 use Rattle.cs_base.specs.declared.fault.OrcKind.TheVariants as orc
 use Rattle.cs_base.specs.declared.fault.ScoreKind.{ScoreKind}
@@ -81,3 +87,17 @@ score_kind_name score.BadTableSize = codes "BadTableSize"
 score_kind_name score.TableResized = codes "TableResized"
 score_kind_name score.NegativeTime = codes "NegativeTime"
 score_kind_name score.NotInProfile = codes "NotInProfile"
+
+-- a limit that no line of a text passes
+abbrev pub passed : Limit → Refusal
+passed limit = refusal.Limit (record { limit = limit; line = 0 })
+
+-- a fault told as another; out of memory stays what it is
+abbrev pub or_by : {F G : Type 0} → (F → G) → Or F → Or G
+or_by told (or.Fault f) = or.Fault (told f)
+or_by told or.OutOfMemory = or.OutOfMemory
+
+-- a result whose faults are told as others
+abbrev pub told_by : {A F G : Type 0} → (F → G) → Result A (Or F) → Result A (Or G)
+told_by told (Ok a) = Ok a
+told_by told (Err e) = Err (or_by told e)

@@ -1,4 +1,5 @@
--- The stated limits of the profile, by name: what each lets be at most, and its number.
+-- The stated limits of the profile, by name: the greatest count that each allows, and its number. And the bounds of the
+-- language, which a text that passes them breaks as a rule.
 use Rattle.std.specs.Prelude.{ℕ}
 use Rattle.cs_base.specs.declared.limit.Limit.{Limit}
 use Rattle.cs_base.specs.declared.limit.Limit.TheVariants as limit
@@ -55,6 +56,42 @@ most_asks = 100000
 abbrev pub most_csd_bytes : ℕ
 most_csd_bytes = 5242880
 
+-- `if`s around a statement
+abbrev pub most_nested_ifs : ℕ
+most_nested_ifs = 100
+
+-- tokens of a line of an orchestra
+abbrev pub most_line_tokens : ℕ
+most_line_tokens = 1000
+
+-- the number of an instrument
+abbrev pub greatest_instrument : ℕ
+greatest_instrument = 32767
+
+-- the number of a p-field in an orchestra, and the fields of a statement of a score
+abbrev pub greatest_field : ℕ
+greatest_field = 100
+
+-- a size that `zakinit` takes
+abbrev pub greatest_zak_size : ℕ
+greatest_zak_size = 1000
+
+-- frames a second
+abbrev pub greatest_sr : ℕ
+greatest_sr = 192000
+
+-- frames a control cycle
+abbrev pub greatest_ksmps : ℕ
+greatest_ksmps = 4096
+
+-- channels
+abbrev pub most_channels : ℕ
+most_channels = 16
+
+-- the number of a table
+abbrev pub greatest_table : ℕ
+greatest_table = 65535
+
 -- the number of a limit, as a refusal prints it
 abbrev pub limit_number : Limit → ℕ
 limit_number limit.OrchestraBytes = 1
@@ -71,7 +108,7 @@ limit_number limit.Resources = 11
 limit_number limit.Asks = 12
 limit_number limit.CsdBytes = 13
 
--- what a limit lets be at most
+-- the greatest count that a limit allows
 abbrev pub most_of : Limit → ℕ
 most_of limit.OrchestraBytes = most_orchestra_bytes
 most_of limit.ScoreBytes = most_score_bytes

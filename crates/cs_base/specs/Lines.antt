@@ -1,6 +1,6 @@
--- The bytes of both languages that no token and no field has: blanks and line feeds. And how a text begins.
-use Rattle.std.specs.Prelude.{ℕ, Bool, false, List, [], ◌∷◌, ◌+◌, ◌||◌, ◌==◌, not, nat_eq, count_by}
-use Rattle.std.specs.List.{starts_with}
+-- The bytes of all texts that no token and no field has: blanks and line feeds; how a text begins, and its lines.
+use Rattle.std.specs.Prelude.{ℕ, Bool, false, List, [], ◌∷◌, ◌+◌, ◌||◌, ◌==◌, not, nat_eq, count_by, length, min, if◌then◌else◌}
+use Rattle.std.specs.List.{prefix_len, starts_with}
 
 abbrev pub space : ℕ
 space = 32
@@ -37,3 +37,32 @@ begins_with front text = starts_with nat_eq text front
 -- the line of what stands after a text: one more than its line feeds
 abbrev pub line_after : List ℕ → ℕ
 line_after before = count_by is_feed before + 1
+
+-- a line: its number, the place of its first byte, and its bytes without the line feed
+pub record Line : Type 0 where
+  pub number : ℕ
+  pub at : ℕ
+  pub bytes : List ℕ
+
+abbrev pub line : ℕ → ℕ → List ℕ → Line
+line number at bytes = record { number = number; at = at; bytes = bytes }
+
+-- lines with one more byte at the front of the first
+abbrev pub with_byte : ℕ → ℕ → ℕ → List Line → List Line
+with_byte number at b [] = line number at (b ∷ []) ∷ []
+with_byte number at b (l ∷ ls) = line number at (b ∷ l.bytes) ∷ ls
+
+-- the lines of a text whose first line has this number and whose first byte has this place: line feeds end them
+abbrev pub lines_from : ℕ → ℕ → List ℕ → List Line
+lines_from number at [] = []
+lines_from number at (b ∷ rest) =
+    if is_feed b then line number at [] ∷ lines_from (number + 1) (at + 1) rest
+    else with_byte number at b (lines_from number (at + 1) rest)
+
+-- the lines of a text
+abbrev pub lines_of : List ℕ → List Line
+lines_of text = lines_from 1 0 text
+
+-- how many bytes a text's first line has, with its line feed
+abbrev pub next_len : List ℕ → ℕ
+next_len text = min (prefix_len is_line_byte text + 1) (length text)

@@ -56,9 +56,13 @@ quotient_of x y = if int_eq y (pos 0) then quotient_by_zero x else clamp (floor_
 abbrev pub remainder_of : ℤ → ℤ → ℤ
 remainder_of x y = if int_eq y (pos 0) then pos 0 else x -ℤ (y *ℤ floor_div x y)
 
--- the greatest whole number that is at most x
+-- the whole number at or below x
+abbrev pub whole_below : ℤ → ℤ
+whole_below x = floor_div x one
+
+-- that number, as a number of the profile
 abbrev pub floor_of : ℤ → ℤ
-floor_of x = floor_div x one *ℤ one
+floor_of x = whole_below x *ℤ one
 
 -- x without its fraction: rounded down where x is 0 or more, and up where it is less
 abbrev pub int_of : ℤ → ℤ

@@ -2,6 +2,7 @@
 use Rattle.std.specs.Prelude.{ℕ, Bool, true, false, List, [], ◌∷◌, ◌&&◌, ◌==◌, nat_le, if◌then◌else◌}
 use Rattle.cs_base.specs.declared.resource.Rate.{Rate}
 use Rattle.cs_base.specs.declared.resource.Rate.TheVariants as rate
+use Rattle.cs_base.specs.declared.per_rate.PerRate.{PerRate}
 use Rattle.cs_base.specs.declared.resource.Res.{Res}
 use Rattle.cs_base.specs.declared.resource.Res.TheVariants as res
 
@@ -38,6 +39,12 @@ faster r s = if within r s then s else r
 abbrev pub fastest : List Rate → Rate
 fastest [] = rate.Init
 fastest (r ∷ rs) = faster r (fastest rs)
+
+-- the value of three that is kept for a rate
+abbrev pub at_rate : {T : Type 0} → PerRate T → Rate → T
+at_rate values rate.Init = values.init
+at_rate values rate.Control = values.control
+at_rate values rate.Audio = values.audio
 
 -- the kinds of resources
 abbrev pub res_kind : Res → ℕ

@@ -6,7 +6,7 @@ ghost use Rattle.std.specs.Str.Parse.{digits_value};
 ghost use Rattle.cs_base.specs.Numbers.{clamp};
 ghost use Rattle.cs_base.specs.Decimals.{is_point, before_point, after_point, decimal_of, raw_of_decimal, millionths_of};
 
-use crate::Num;
+use crate::{Num, ONE};
 
 /// The greatest whole part of a decimal.
 const GREATEST_WHOLE: u32 = 2_147_483_647;
@@ -25,7 +25,7 @@ impl Decimal {
     {
         let whole = self.whole as i64;
         let billionths = self.billionths as i64;
-        Num::of_raw(whole * 65_536 + billionths * 65_536 / 1_000_000_000)
+        Num::of_raw(whole * ONE + billionths * ONE / 1_000_000_000)
     }
 
     /// The value in millionths, rounded down.

@@ -6,7 +6,7 @@ ghost use Rattle.cs_base.specs.Faults.{orc_kind_number, orc_kind_name, score_kin
 use std::alloc::{AllocError, AllocFailed};
 use thiserror::Error;
 
-/// Memory was refused. It is an answer of its own, and no clause says when it comes.
+/// Out of memory. No clause says when a call returns it.
 #[derive(Clone, Copy)]
 pub struct OutOfMemory;
 
@@ -22,7 +22,7 @@ impl<T: Drop> From<AllocFailed<T>> for OutOfMemory {
     }
 }
 
-/// A fault of a text, or want of memory.
+/// A fault of a text, or out of memory.
 #[derive(Clone, Copy)]
 pub enum Or<F> {
     Fault(F),

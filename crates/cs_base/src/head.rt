@@ -1,4 +1,6 @@
+// What the header of an orchestra settles for a whole piece.
 ghost use Rattle.std.specs.Prelude.{◌≤◌, pos, ◌<ℤ◌};
+ghost use Rattle.cs_base.specs.Limits.{greatest_ksmps, greatest_sr, most_channels};
 
 use crate::Num;
 
@@ -13,8 +15,8 @@ pub struct Head {
     pub nchnls: u32,
     /// The value that stands for full scale, above 0.
     pub dbfs: Num,
-    ghost sr_in_range: { (1 ≤ sr) × (sr ≤ 192000) },
-    ghost ksmps_in_range: { (1 ≤ ksmps) × (ksmps ≤ 4096) },
-    ghost nchnls_in_range: { (1 ≤ nchnls) × (nchnls ≤ 16) },
+    ghost sr_in_range: { (1 ≤ sr) × (sr ≤ greatest_sr) },
+    ghost ksmps_in_range: { (1 ≤ ksmps) × (ksmps ≤ greatest_ksmps) },
+    ghost nchnls_in_range: { (1 ≤ nchnls) × (nchnls ≤ most_channels) },
     ghost dbfs_above_zero: { pos 0 <ℤ dbfs },
 }

@@ -1,5 +1,5 @@
 // Lists without a capacity, so that a contract can compare them.
-ghost use Rattle.std.specs.Prelude.{◌≡◌, [], ◌∷◌, ◌++◌, length, ◌<◌, ◌↔◌, IsTrue, OnOk, OnErr, slice_get, Some};
+ghost use Rattle.std.specs.Prelude.{◌≡◌, [], ◌∷◌, ◌++◌, length, ◌<◌, ◌↔◌, IfOk, IsTrue, OnOk, OnErr, slice_get, Some};
 
 use crate::{Num, Rate};
 use std::alloc::{AllocError, Global};
@@ -34,6 +34,26 @@ impl<T> Items<T> {
         ensures { result ≡ items.items }
     {
         Items { items }
+    }
+
+    /// A copy of a slice's items.
+    pub fn of_slice(alloc: Global, items: &[T]) -> Result<Items<T>, AllocError>
+    where
+        T: Copy,
+        ensures { IfOk result (λ copy. copy ≡ items.now) }
+    {
+        Ok(Items {
+            items: Vec::from_slice(alloc, items)?,
+        })
+    }
+
+    /// A copy of the list.
+    pub fn to_items(&self, alloc: Global) -> Result<Items<T>, AllocError>
+    where
+        T: Copy,
+        ensures { IfOk result (λ copy. copy ≡ self.now) }
+    {
+        Items::of_slice(alloc, &self.items)
     }
 
     /// A vector of the items, without a copy.

@@ -1,14 +1,14 @@
 //! The bottom layer: what every other crate shares, each thing said once for code and definitions.
 //!
-//! Its one contract: all arithmetic of the profile is `Num`'s, and each call is its row over whole numbers without
+//! Its one contract: all arithmetic of the profile is `Num`'s, and each call is its formula over whole numbers without
 //! bounds, then `clamp`; a limit, a blank, a comment and the order of rates are what specs/ says they are. How `Num`
 //! computes, and how a decimal or a comment is read, may be changed without anyone above noticing; the definitions in
 //! specs/ may not.
 //!
 //! To be read in this order: `number` (arithmetic), `laws` (what holds of the definitions, and worked examples),
 //! `decimal` (numbers as a text writes them), `lines` and `comments` (what both languages have between their words),
-//! `fault` and `limit` (what a text is refused for), `head`, `resource` (rates, and what notes share), `items` (the
-//! one list type), `text`, `steps`.
+//! `fault`, `limit` and `refusal` (what a text is refused for), `head`, `resource` (rates, and what notes share),
+//! `per_rate`, `spaces`, `width` (the width of a sample), `items` (the one list type), `text`, `steps`.
 #![tactic(auto)]
 
 mod comments;
@@ -20,9 +20,13 @@ mod laws;
 mod limit;
 mod lines;
 mod number;
+mod per_rate;
+mod refusal;
 mod resource;
+mod spaces;
 mod steps;
 mod text;
+mod width;
 
 pub use comments::{begins_comment, comment_len, is_open_comment};
 pub use decimal::{Decimal, read_decimal};
@@ -34,12 +38,18 @@ pub use laws::{
     sameness_is_equality, worked_examples,
 };
 pub use limit::{
-    Limit, LimitHit, MOST_ASKS, MOST_CSD_BYTES, MOST_DELAY_SAMPLES, MOST_EVENTS, MOST_INSTRUMENTS,
+    GREATEST_FIELD, GREATEST_INSTRUMENT, GREATEST_KSMPS, GREATEST_SR, GREATEST_TABLE,
+    GREATEST_ZAK_SIZE, Limit, LimitHit, MOST_ASKS, MOST_CHANNELS, MOST_CSD_BYTES,
+    MOST_DELAY_SAMPLES, MOST_EVENTS, MOST_INSTRUMENTS, MOST_LINE_TOKENS, MOST_NESTED_IFS,
     MOST_NOTES, MOST_ORCHESTRA_BYTES, MOST_RESOURCES, MOST_SCORE_BYTES, MOST_STATEMENTS,
     MOST_TABLES, MOST_WAV_BYTES, MOST_WORDS,
 };
-pub use lines::{feeds, is_blank, line_len};
-pub use number::Num;
+pub use lines::{blanks_len, feeds, is_blank, line_len, next_len};
+pub use number::{Num, ONE};
+pub use per_rate::PerRate;
+pub use refusal::Refusal;
 pub use resource::{Rate, Res};
+pub use spaces::Spaces;
 pub use steps::Steps;
 pub use text::Text;
+pub use width::SampleWidth;

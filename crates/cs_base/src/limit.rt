@@ -1,4 +1,5 @@
-// The stated limits of the profile: their numbers, and what each lets be.
+// The stated limits of the profile: their numbers, and the greatest count that each allows. And the bounds of the
+// language, which a text that passes them breaks as a rule.
 ghost use Rattle.std.specs.Prelude.{◌≡◌};
 ghost use Rattle.cs_base.specs.Limits.{limit_number, most_of};
 
@@ -32,6 +33,25 @@ pub const MOST_ASKS: usize = 100_000;
 /// Bytes of one file with orchestra and score: those of both texts at most.
 pub const MOST_CSD_BYTES: usize = 5_242_880;
 
+/// `if`s around a statement.
+pub const MOST_NESTED_IFS: usize = 100;
+/// Tokens of a line of an orchestra.
+pub const MOST_LINE_TOKENS: usize = 1_000;
+/// The greatest number of an instrument.
+pub const GREATEST_INSTRUMENT: u32 = 32_767;
+/// The greatest number of a p-field in an orchestra, and the most fields of a statement of a score.
+pub const GREATEST_FIELD: usize = 100;
+/// The greatest size that `zakinit` takes.
+pub const GREATEST_ZAK_SIZE: u32 = 1_000;
+/// The greatest number of frames a second.
+pub const GREATEST_SR: u32 = 192_000;
+/// The greatest number of frames a control cycle.
+pub const GREATEST_KSMPS: u32 = 4_096;
+/// The most channels.
+pub const MOST_CHANNELS: u32 = 16;
+/// The greatest number of a table.
+pub const GREATEST_TABLE: u32 = 65_535;
+
 /// A stated limit, in the order of their numbers. It is passed where what it counts is more than its greatest number.
 #[derive(Clone, Copy, Debug, PartialEq, Eq)]
 pub enum Limit {
@@ -58,7 +78,7 @@ impl Limit {
         self as u8
     }
 
-    /// The greatest number that it lets be.
+    /// The greatest count that it allows.
     pub fn most(self) -> u64
         ensures { result ≡ most_of self }
     {

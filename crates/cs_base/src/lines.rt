@@ -1,7 +1,7 @@
-// Blanks and line feeds, as both languages have them.
+// Blanks, line feeds and lines, as all texts have them.
 ghost use Rattle.std.specs.Prelude.{◌≡◌, ◌≤◌, ◌<◌, ◌^◌, length, count_by};
 ghost use Rattle.std.specs.List.{prefix_len};
-ghost use Rattle.cs_base.specs.Lines.{is_blank, is_feed, is_line_byte};
+ghost use Rattle.cs_base.specs.Lines.{is_blank, is_feed, is_line_byte, next_len};
 
 /// Whether a byte is a blank: a space, a tab or a carriage return.
 pub fn is_blank(byte: u8) -> bool
@@ -16,6 +16,21 @@ pub fn line_len(text: &[u8]) -> usize
     ensures within { result ≤ length text.now }
 {
     text.iter().take_while(|byte| **byte != b'\n').count()
+}
+
+/// How many bytes a text's first line has, with its line feed.
+pub fn next_len(text: &[u8]) -> usize
+    ensures { result ≡ next_len text.now }
+{
+    (line_len(text) + 1).min(text.len())
+}
+
+/// How many blanks a text begins with.
+pub fn blanks_len(text: &[u8]) -> usize
+    ensures value { result ≡ prefix_len is_blank text.now }
+    ensures within { result ≤ length text.now }
+{
+    text.iter().take_while(|byte| is_blank(**byte)).count()
 }
 
 /// How many line feeds a text has.

@@ -2,7 +2,7 @@
 ghost use Rattle.std.specs.Prelude.{◌≡◌, ◌≢◌, ◌<◌, ◌^◌, pos, ◌+ℤ◌, ◌-ℤ◌, ◌*ℤ◌, ◌≤ℤ◌, ◌<ℤ◌, neg_ℤ, unsigned_abs, IsTrue, ◌↔◌};
 ghost use Rattle.std.specs.Int.{int_div_euclid};
 ghost use Rattle.std.specs.Ordering.{int_cmp};
-ghost use Rattle.cs_base.specs.Numbers.{IsRaw, clamp, one, floor_div, sum_of, difference_of, product_of, quotient_by_zero, quotient_of, remainder_of, floor_of, int_of, frac_of, abs_of};
+ghost use Rattle.cs_base.specs.Numbers.{IsRaw, clamp, one, floor_div, sum_of, difference_of, product_of, quotient_by_zero, quotient_of, remainder_of, floor_of, int_of, frac_of, abs_of, whole_below};
 
 use std::cmp::Ordering;
 use std::marker::Model;
@@ -11,7 +11,8 @@ const LEAST: i64 = -140_737_488_355_328;
 
 const GREATEST: i64 = 140_737_488_355_327;
 
-const ONE: i64 = 65_536;
+/// One as a raw value: a number is a count of 65,536ths.
+pub const ONE: i64 = 65_536;
 
 /// A number of the profile: `raw` whole 65,536ths, from -2^47 to 2^47 - 1. Contracts see `raw`.
 #[derive(Clone, Copy, Debug, PartialEq, Eq)]
@@ -33,7 +34,7 @@ impl Model for Num {
 }
 
 impl Num {
-    /// The number of so many 65,536ths, brought into range.
+    /// The number of `raw` 65,536ths, brought into range.
     pub fn of_raw(raw: i64) -> Num
         ensures { result ≡ clamp raw }
     {
@@ -42,7 +43,7 @@ impl Num {
         }
     }
 
-    /// The number of so many 65,536ths, which lie in range.
+    /// The number of `raw` 65,536ths, which lie in range.
     pub fn exact(raw: i64) -> Num
         requires { IsRaw raw }
         ensures { result ≡ raw }
@@ -50,7 +51,7 @@ impl Num {
         Num { raw }
     }
 
-    /// The number of so many 65,536ths in 128 bits, brought into range.
+    /// The number of `raw` 65,536ths in 128 bits, brought into range.
     pub fn of_wide(raw: i128) -> Num
         ensures { result ≡ clamp raw }
     {
@@ -67,7 +68,7 @@ impl Num {
     pub fn of_whole(n: i64) -> Num
         ensures { result ≡ clamp (n *ℤ pos 65536) }
     {
-        Num::of_raw(n.saturating_mul(65536))
+        Num::of_raw(n.saturating_mul(ONE))
     }
 
     /// The number in whole 65,536ths.
@@ -131,12 +132,21 @@ impl Num {
         }
     }
 
+    /// The whole number at or below `self`, from -2^31 to 2^31 - 1.
+    pub fn whole_below(self) -> i64
+        ensures value { result ≡ whole_below self }
+        ensures low { neg_ℤ (pos (2 ^ 31)) ≤ℤ result }
+        ensures high { result <ℤ pos (2 ^ 31) }
+    {
+        self.raw.div_euclid(ONE)
+    }
+
     /// The greatest whole number that is at most `self`.
     pub fn floor(self) -> Num
         ensures { result ≡ floor_of self }
     {
         Num {
-            raw: whole_below(self.raw),
+            raw: floored_raw(self.raw),
         }
     }
 
@@ -145,7 +155,7 @@ impl Num {
         ensures { result ≡ int_of self }
     {
         if self.raw < 0 {
-            Num::of_raw(-whole_below(-self.raw))
+            Num::of_raw(-floored_raw(-self.raw))
         } else {
             self.floor()
         }
@@ -246,7 +256,7 @@ fn negated(x: i64) -> i64
 }
 
 // The greatest multiple of 65,536 that is at most x.
-fn whole_below(x: i64) -> i64
+fn floored_raw(x: i64) -> i64
     requires low { neg_ℤ (pos (2 ^ 47)) ≤ℤ x }
     requires high { x ≤ℤ pos (2 ^ 47) }
     ensures { result ≡ floor_of x }

@@ -1,3 +1,4 @@
+// Rates, and the resources that notes share.
 ghost use Rattle.std.specs.Prelude.{◌≡◌};
 ghost use Rattle.cs_base.specs.Rates.{how_often, is_init, is_control, is_audio, same_rate, within, faster, fastest, res_kind, res_number, res_rate, same_res};
 
@@ -31,7 +32,7 @@ impl Rate {
         matches!(self, Rate::Audio)
     }
 
-    /// Whether the two are the same rate.
+    /// Whether `self` and `other` are the same rate.
     pub fn same(self, other: Rate) -> bool
         ensures { result ≡ same_rate self other }
     {
@@ -45,7 +46,7 @@ impl Rate {
         self.how_often() <= other.how_often()
     }
 
-    /// The rate of the two that changes more often.
+    /// Whichever of `self` and `other` changes more often.
     pub fn faster(self, other: Rate) -> Rate
         ensures { result ≡ faster self other }
     {
@@ -89,7 +90,7 @@ pub enum Res {
 }
 
 impl Res {
-    /// Whether the two are the same resource.
+    /// Whether `self` and `other` are the same resource.
     pub fn same(self, other: Res) -> bool
         ensures { result ≡ same_res self other }
     {

@@ -1,3 +1,4 @@
+// A count of steps, by which a contract bounds work.
 ghost use Rattle.std.specs.Prelude.{◌≡◌, ◌+◌, ◌-◌, ◌<◌, ◌^◌};
 
 /// A counter that only contracts read.

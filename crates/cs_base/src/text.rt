@@ -1,3 +1,4 @@
+// A string without a capacity, so that a contract can compare it.
 ghost use Rattle.std.specs.Prelude.{◌≡◌, string_bytes};
 
 use std::marker::Model;

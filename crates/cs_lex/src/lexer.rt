@@ -38,7 +38,7 @@ pub fn lex(alloc: Global, source: &[u8]) -> Result<Tokens, Or<OrcFault>>
     Ok(tokens)
 }
 
-// Adds the token of a piece, but no NewLine where a line feed, or nothing, stands before. Answers whether one does afterwards.
+// Adds the token of a piece, but no NewLine where a line feed, or nothing, stands before. Returns whether one does afterwards.
 fn keep(
     tokens: &mut Tokens,
     fed: bool,

@@ -1,3 +1,2 @@
 pub mod Wav
 pub mod Worked
-pub mod inner

@@ -1,37 +1,27 @@
-use Rattle.std.specs.Prelude.{◌≤ℤ◌, ℕ, suc, ◌+◌, ◌-◌, ◌*◌, ◌%◌, ◌^◌, ℤ, pos, negsuc, neg_ℤ, int_lt, ◌+ℤ◌, ◌-ℤ◌, ◌*ℤ◌, Bool, ◌||◌, if◌then◌else◌, List, [], ◌∷◌, ◌++◌, length, codes, replicate}
+-- What the sound file of a mix is. A definition that says `width` is of samples of that width.
+use Rattle.std.specs.Prelude.{◌≤ℤ◌, ℕ, suc, ◌+◌, ◌-◌, ◌*◌, ◌%◌, ◌^◌, ℤ, pos, negsuc, neg_ℤ, int_lt, ◌+ℤ◌, ◌*ℤ◌, Bool, ◌||◌, List, [], ◌∷◌, ◌++◌, length, codes, replicate}
 use Rattle.std.specs.Int.{int_max, int_min, int_div_euclid, bytes_low_first}
 use Rattle.std.specs.List.{flat_map}
+use Rattle.cs_base.specs.Widths.{bytes_of, greatest_of, least_of}
 use Rattle.cs_base.specs.declared.head.Head.{Head}
+use Rattle.cs_base.specs.declared.width.SampleWidth.{SampleWidth}
 
--- how many bytes a sample has: two, or three where samples are wide
-abbrev pub bytes_of : Bool → ℕ
-bytes_of wide = if wide then 3 else 2
-
--- full scale in samples of 16 bits, and in samples of 24 bits
-abbrev pub full_scale_16 : ℕ
-full_scale_16 = 32768
-
-abbrev pub full_scale_24 : ℕ
-full_scale_24 = 8388608
-
--- full scale in samples of so many bytes: half of what they can tell apart
-abbrev pub full_scale : ℕ → ℤ
-full_scale bytes = pos (2 ^ (8 * bytes - 1))
+-- full scale: half of what the bytes of a sample can tell apart
+abbrev pub full_scale : SampleWidth → ℤ
+full_scale width = pos (2 ^ (8 * bytes_of width - 1))
 
 -- the mix in steps of a sample, rounded down, before it is brought into range
-abbrev pub level : ℕ → ℤ → ℤ → ℤ
-level bytes dbfs mix = int_div_euclid (mix *ℤ full_scale bytes) dbfs
+abbrev pub level : SampleWidth → ℤ → ℤ → ℤ
+level width dbfs mix = int_div_euclid (mix *ℤ full_scale width) dbfs
 
--- the sample: the level brought into the range of so many bytes
-abbrev pub sample : ℕ → ℤ → ℤ → ℤ
-sample bytes dbfs mix =
-    int_max (neg_ℤ (full_scale bytes)) (int_min (level bytes dbfs mix) (full_scale bytes -ℤ pos 1))
+-- the sample: the level brought into the range of samples
+abbrev pub sample : SampleWidth → ℤ → ℤ → ℤ
+sample width dbfs mix = int_max (least_of width) (int_min (level width dbfs mix) (greatest_of width))
 
--- the level is outside the range of a sample
-abbrev pub is_out_of_range : ℕ → ℤ → ℤ → Bool
-is_out_of_range bytes dbfs mix =
-    int_lt (level bytes dbfs mix) (neg_ℤ (full_scale bytes))
-    || int_lt (full_scale bytes -ℤ pos 1) (level bytes dbfs mix)
+-- the level is outside the range of samples
+abbrev pub is_out_of_range : SampleWidth → ℤ → ℤ → Bool
+is_out_of_range width dbfs mix =
+    int_lt (level width dbfs mix) (least_of width) || int_lt (greatest_of width) (level width dbfs mix)
 
 -- a number's lowest bytes, so many, the lowest first
 abbrev pub little_bytes : ℕ → ℕ → List ℕ
@@ -43,16 +33,16 @@ complement bytes (pos n) = n
 complement bytes (negsuc n) = 2 ^ (8 * bytes) - suc n
 
 -- a sample as it stands in the file
-abbrev pub sample_bytes : ℕ → ℤ → ℤ → List ℕ
-sample_bytes bytes dbfs mix = little_bytes bytes (complement bytes (sample bytes dbfs mix))
+abbrev pub sample_bytes : SampleWidth → ℤ → ℤ → List ℕ
+sample_bytes width dbfs mix = little_bytes (bytes_of width) (complement (bytes_of width) (sample width dbfs mix))
 
 -- the samples of these mix values, one behind the other
-unfoldable pub samples_of : ℕ → ℤ → List ℤ → List ℕ
-samples_of bytes dbfs mix = flat_map (sample_bytes bytes dbfs) mix
+unfoldable pub samples_of : SampleWidth → ℤ → List ℤ → List ℕ
+samples_of width dbfs mix = flat_map (sample_bytes width dbfs) mix
 
--- the size of the samples of so many frames
-abbrev pub size_of : ℕ → ℕ → Head → ℕ
-size_of bytes frames head = frames * head.nchnls * bytes
+-- the size of the samples of some frames, in bytes
+abbrev pub size_of : SampleWidth → ℕ → Head → ℕ
+size_of width frames head = frames * head.nchnls * bytes_of width
 
 -- the bytes of a header
 abbrev pub header_len : ℕ
@@ -63,27 +53,26 @@ abbrev pub riff_part : ℕ → List ℕ
 riff_part size = codes "RIFF" ++ little_bytes 4 (header_len - 8 + size + size % 2) ++ codes "WAVE"
 
 -- the format, in 16 bytes: plain samples (1), channels, frames a second, bytes a second, bytes a frame, bits a sample
-abbrev pub format_part : ℕ → Head → List ℕ
-format_part bytes head =
+abbrev pub format_part : SampleWidth → Head → List ℕ
+format_part width head =
     codes "fmt " ++ little_bytes 4 16 ++ little_bytes 2 1 ++ little_bytes 2 head.nchnls
-    ++ little_bytes 4 head.sr ++ little_bytes 4 (head.sr * head.nchnls * bytes)
-    ++ little_bytes 2 (head.nchnls * bytes) ++ little_bytes 2 (8 * bytes)
+    ++ little_bytes 4 head.sr ++ little_bytes 4 (head.sr * head.nchnls * bytes_of width)
+    ++ little_bytes 2 (head.nchnls * bytes_of width) ++ little_bytes 2 (8 * bytes_of width)
 
 -- the head of the samples: their size
 abbrev pub data_part : ℕ → List ℕ
 data_part size = codes "data" ++ little_bytes 4 size
 
--- the header before samples of this size, each of so many bytes
-unfoldable pub header_bytes : ℕ → ℕ → Head → List ℕ
-header_bytes bytes size head = riff_part size ++ format_part bytes head ++ data_part size
+-- the header before samples of this size
+unfoldable pub header_bytes : SampleWidth → ℕ → Head → List ℕ
+header_bytes width size head = riff_part size ++ format_part width head ++ data_part size
 
 -- the file of these mix values, frame by frame, the channels of a frame in order; samples of odd
 -- size are followed by one byte 0
-unfoldable pub wav_of : List ℤ → Head → Bool → List ℕ
-wav_of mix head wide =
-    let size = length mix * bytes_of wide in
-    header_bytes (bytes_of wide) size head ++ samples_of (bytes_of wide) head.dbfs mix
-    ++ replicate (size % 2) 0
+unfoldable pub wav_of : List ℤ → Head → SampleWidth → List ℕ
+wav_of mix head width =
+    let size = length mix * bytes_of width in
+    header_bytes width size head ++ samples_of width head.dbfs mix ++ replicate (size % 2) 0
 
 -- the greatest sum of notes: 2^56
 abbrev pub greatest_mix : ℤ

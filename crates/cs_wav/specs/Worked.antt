@@ -1,13 +1,12 @@
 -- Files and samples worked out by hand.
 use Rattle.std.specs.Prelude.{ℕ, ◌≡◌, ◌*◌, ℤ, pos, List, [], ◌∷◌, ◌++◌, codes}
 use Rattle.cs_base.specs.declared.head.Head.{Head}
-use Rattle.cs_wav.specs.Wav.{full_scale_16}
 
 -- the level 0dbfs of 32,768, in 65,536ths
 abbrev pub at_32768 : ℤ
-at_32768 = pos (65536 * full_scale_16)
+at_32768 = pos (65536 * 32768)
 
--- one channel, at so many frames a second, where 0dbfs is 32,768
+-- one channel, at `sr` frames a second, where 0dbfs is 32,768
 abbrev pub IsOneChannel : ℕ → Head → Type 0
 IsOneChannel sr head = (head.sr ≡ sr) × (head.nchnls ≡ 1) × (head.dbfs ≡ at_32768)
 

@@ -14,8 +14,7 @@ mod riff;
 mod sample;
 mod worked;
 
-pub use block::{pcm_block, pcm_block24};
+pub use block::pcm_block;
 pub use mix::add_block;
-pub use riff::{header, header24};
-pub use sample::{FULL_SCALE_16, FULL_SCALE_24};
+pub use riff::header;
 pub use worked::{full_scales, worked_file, worked_samples};

@@ -2,34 +2,18 @@
 ghost use Rattle.std.specs.Prelude.{◌≡◌, ◌≤◌};
 ghost use Rattle.cs_base.specs.Limits.{most_wav_bytes};
 ghost use Rattle.cs_wav.specs.Wav.{header_bytes, little_bytes, size_of};
-ghost use Rattle.cs_wav.specs.inner.Widths.{IsWidth};
 
 use byteorder::{ByteOrder, LittleEndian};
-use cs_base::Head;
+use cs_base::{Head, SampleWidth};
 
-/// The header before so many frames in samples of 16 bits, of at most 2^31 bytes in all.
-pub fn header(frames: u32, head: &Head) -> [u8; 44]
-    requires { size_of 2 frames head.now ≤ most_wav_bytes }
-    ensures { result ≡ header_bytes 2 (size_of 2 frames head.now) head.now }
+/// The header before the samples of `frames` frames, of at most 2^31 bytes in all.
+pub fn header(width: SampleWidth, frames: u32, head: &Head) -> [u8; 44]
+    requires { size_of width frames head.now ≤ most_wav_bytes }
+    ensures { result ≡ header_bytes width (size_of width frames head.now) head.now }
 {
-    header_of(2, frames, head)
-}
-
-/// The header before so many frames in samples of 24 bits, of at most 2^31 bytes in all.
-pub fn header24(frames: u32, head: &Head) -> [u8; 44]
-    requires { size_of 3 frames head.now ≤ most_wav_bytes }
-    ensures { result ≡ header_bytes 3 (size_of 3 frames head.now) head.now }
-{
-    header_of(3, frames, head)
-}
-
-// Behind samples of odd size stands one byte 0, which the first size counts and the last doesn't.
-fn header_of(bytes: u32, frames: u32, head: &Head) -> [u8; 44]
-    requires width { IsWidth bytes }
-    requires size { size_of bytes frames head.now ≤ most_wav_bytes }
-    ensures { result ≡ header_bytes bytes (size_of bytes frames head.now) head.now }
-{
+    let bytes = width.bytes();
     let size = frames * head.nchnls * bytes;
+    // Behind samples of odd size stands one byte 0, which the first size counts and the last doesn't.
     let [r0, r1, r2, r3] = four_bytes(36 + size + size % 2);
     let [c0, c1] = two_bytes(head.nchnls as u16);
     let [s0, s1, s2, s3] = four_bytes(head.sr);

@@ -1,46 +1,31 @@
-// One mix value becomes one sample. The width is a number of bytes, 2 or 3, and full scale follows
-// from it.
-ghost use Rattle.std.specs.Prelude.{◌≡◌, ◌≤◌, ◌<◌, ◌+◌, ◌≤ℤ◌, ◌<ℤ◌, ◌↔◌, ℤ, pos, neg_ℤ, int_lt, ◌*ℤ◌, ◌-ℤ◌, ◌++◌, ◌||◌, IsTrue, length, take, drop};
+// One mix value becomes one sample.
+ghost use Rattle.std.specs.Prelude.{◌≡◌, ◌≤◌, ◌+◌, ◌≤ℤ◌, ◌<ℤ◌, pos, int_lt, ◌*ℤ◌, ◌++◌, ◌||◌, length, take, drop};
 ghost use Rattle.std.specs.Int.{int_max, int_min, int_div_euclid};
-ghost use Rattle.cs_wav.specs.Wav.{full_scale, full_scale_24, is_out_of_range, little_bytes, complement, sample_bytes};
-ghost use Rattle.cs_wav.specs.inner.Widths.{IsWidth};
+ghost use Rattle.cs_base.specs.Widths.{bytes_of, greatest_of, least_of};
+ghost use Rattle.cs_wav.specs.Wav.{full_scale, is_out_of_range, little_bytes, complement, sample_bytes};
 
 use byteorder::{ByteOrder, LittleEndian};
-use cs_base::Num;
+use cs_base::{Num, SampleWidth};
 
-/// Full scale in samples of 16 bits.
-pub const FULL_SCALE_16: i64 = 32_768;
-/// Full scale in samples of 24 bits.
-pub const FULL_SCALE_24: i64 = 8_388_608;
-
-/// Writes a mix value as a sample into `out` from place `at` on, and answers whether it had to be
-/// brought in.
-pub fn put_value(out: &mut [u8], at: usize, bytes: usize, dbfs: Num, value: i64) -> bool
-    requires width { IsWidth bytes }
+/// Writes a mix value as a sample into `out` from place `at` on, and returns whether it had to be
+/// brought into range.
+pub fn put_value(out: &mut [u8], at: usize, width: SampleWidth, dbfs: Num, value: i64) -> bool
     requires above_zero { pos 0 <ℤ dbfs }
-    requires room { at + bytes ≤ length out.old }
+    requires room { at + bytes_of width ≤ length out.old }
     ensures written { out.new ≡ take at out.old
-        ++ (sample_bytes bytes dbfs value ++ drop (at + bytes) out.old) }
-    ensures out_of_range { result ≡ is_out_of_range bytes dbfs value }
+        ++ (sample_bytes width dbfs value ++ drop (at + bytes_of width) out.old) }
+    ensures out_of_range { result ≡ is_out_of_range width dbfs value }
 {
-    let full = full_scale_of(bytes);
-    let level = level_of(full, dbfs, value);
-    put_sample(out, at, bytes, brought_in(full, level));
-    is_outside(full, level)
+    let level = level_of(full_scale(width), dbfs, value);
+    put_sample(out, at, width, brought_in(width, level));
+    is_outside(width, level)
 }
 
-// Full scale: half of what so many bytes can tell apart.
-fn full_scale_of(bytes: usize) -> i64
-    requires { IsWidth bytes }
-    ensures value { result ≡ full_scale bytes }
-    ensures some { pos 0 <ℤ result }
-    ensures few { result ≤ℤ pos full_scale_24 }
+// Full scale: one more than the greatest sample.
+fn full_scale(width: SampleWidth) -> i64
+    ensures { result ≡ full_scale width }
 {
-    if bytes == 2 {
-        FULL_SCALE_16
-    } else {
-        FULL_SCALE_24
-    }
+    width.greatest() + 1
 }
 
 // The value in steps of a sample, rounded down. The product may be greater than an i64.
@@ -52,31 +37,28 @@ fn level_of(full: i64, dbfs: Num, value: i64) -> i128
 }
 
 // The level, or the end of the range that it lies beyond.
-fn brought_in(full: i64, level: i128) -> i64
-    requires some { pos 0 <ℤ full }
-    requires few { full ≤ℤ pos full_scale_24 }
-    ensures value { result ≡ int_max (neg_ℤ full) (int_min level (full -ℤ pos 1)) }
-    ensures least { neg_ℤ full ≤ℤ result }
-    ensures greatest { result <ℤ full }
+fn brought_in(width: SampleWidth, level: i128) -> i64
+    ensures value { result ≡ int_max (least_of width) (int_min level (greatest_of width)) }
+    ensures least { least_of width ≤ℤ result }
+    ensures greatest { result ≤ℤ greatest_of width }
 {
-    level.min(i128::from(full - 1)).max(i128::from(-full)) as i64
+    level
+        .min(i128::from(width.greatest()))
+        .max(i128::from(width.least())) as i64
 }
 
-fn is_outside(full: i64, level: i128) -> bool
-    requires some { pos 0 <ℤ full }
-    requires few { full ≤ℤ pos full_scale_24 }
-    ensures { result ≡ (int_lt level (neg_ℤ full) || int_lt (full -ℤ pos 1) level) }
+fn is_outside(width: SampleWidth, level: i128) -> bool
+    ensures { result ≡ (int_lt level (least_of width) || int_lt (greatest_of width) level) }
 {
-    level < i128::from(-full) || i128::from(full - 1) < level
+    level < i128::from(width.least()) || i128::from(width.greatest()) < level
 }
 
-fn put_sample(out: &mut [u8], at: usize, bytes: usize, sample: i64)
-    requires width { IsWidth bytes }
-    requires least { neg_ℤ (full_scale bytes) ≤ℤ sample }
-    requires greatest { sample <ℤ full_scale bytes }
-    requires room { at + bytes ≤ length out.old }
+fn put_sample(out: &mut [u8], at: usize, width: SampleWidth, sample: i64)
+    requires least { least_of width ≤ℤ sample }
+    requires greatest { sample ≤ℤ greatest_of width }
+    requires room { at + bytes_of width ≤ length out.old }
     ensures { out.new ≡ take at out.old
-        ++ (little_bytes bytes (complement bytes sample) ++ drop (at + bytes) out.old) }
+        ++ (little_bytes (bytes_of width) (complement (bytes_of width) sample) ++ drop (at + bytes_of width) out.old) }
 {
-    LittleEndian::write_int(&mut out[at..], sample, bytes);
+    LittleEndian::write_int(&mut out[at..], sample, width.bytes() as usize);
 }

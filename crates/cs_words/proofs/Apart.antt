@@ -1,97 +1,43 @@
 -- Each row of each table is found as itself, by computation.
 use Rattle.std.proofs.Common.{◌≡◌, ℕ, List, [], ◌∷◌, Bool, true, false, Option, Some, None, refl, sym, ap, subst, if◌then◌else◌}
 use Rattle.std.specs.Str.{bytes_eq}
-use Rattle.std.specs.List.{All}
+use Rattle.std.specs.List.{All, list_all}
 use Rattle.std.proofs.lemmas.Slice.Eq.{bytes_eq-Decides}
 use Rattle.std.proofs.lemmas.List.Elements.{All-from_recursion}
 use Rattle.cs_words.specs.Catalogue.{row_of, opcodes, named, catalogued}
 use Rattle.cs_words.specs.Signs.{operators, plain_signs, operator_of, plain_sign, sign_of}
 use Rattle.cs_words.specs.Words.{keywords, headers, functions, foreign_words, keyword_of, header_of, func_of, is_foreign, word_of}
 use Rattle.cs_words.specs.declared.catalogue.Opcode.{Opcode}
-use Rattle.cs_words.specs.declared.catalogue.Opcode.TheVariants as op
 use Rattle.cs_words.specs.declared.sign.Sign.TheVariants as sign
+use Rattle.cs_words.specs.declared.word.Word.{Word}
 use Rattle.cs_words.specs.declared.word.Word.TheVariants as word
+use Rattle.cs_words.proofs.EachOpcode.{opcode_found, of_all}
 
-pub opcode_found : (o : Opcode) → catalogued (row_of o).name ≡ Some o
-unfolding catalogued
-opcode_found op.Init = refl
-opcode_found op.Oscil = refl
-opcode_found op.Oscili = refl
-opcode_found op.Phasor = refl
-opcode_found op.Line = refl
-opcode_found op.Linseg = refl
-opcode_found op.Linen = refl
-opcode_found op.Delay = refl
-opcode_found op.Biquad = refl
-opcode_found op.Table = refl
-opcode_found op.Tablei = refl
-opcode_found op.Tablew = refl
-opcode_found op.Integ = refl
-opcode_found op.Diff = refl
-opcode_found op.Samphold = refl
-opcode_found op.Limit = refl
-opcode_found op.Interp = refl
-opcode_found op.Downsamp = refl
-opcode_found op.Out = refl
-opcode_found op.Outs = refl
-opcode_found op.Outch = refl
-opcode_found op.Turnoff = refl
-opcode_found op.Zakinit = refl
-opcode_found op.Zkr = refl
-opcode_found op.Zar = refl
-opcode_found op.Zkw = refl
-opcode_found op.Zaw = refl
-opcode_found op.Zawm = refl
-opcode_found op.Zkcl = refl
-opcode_found op.Zacl = refl
-opcode_found op.Chnget = refl
-opcode_found op.Chnset = refl
-opcode_found op.Chnmix = refl
-opcode_found op.Chnclear = refl
-opcode_found op.Schedule = refl
-opcode_found op.EventI = refl
+-- a word is this opcode, by its name
+is_opcode : Opcode → Word → Bool
+is_opcode o (word.Opcode p) = bytes_eq (row_of p).name (row_of o).name
+is_opcode o _ = false
 
-pub opcode_read : (o : Opcode) → word_of (row_of o).name ≡ word.Opcode o
-unfolding word_of keyword_of header_of func_of catalogued
-opcode_read op.Init = refl
-opcode_read op.Oscil = refl
-opcode_read op.Oscili = refl
-opcode_read op.Phasor = refl
-opcode_read op.Line = refl
-opcode_read op.Linseg = refl
-opcode_read op.Linen = refl
-opcode_read op.Delay = refl
-opcode_read op.Biquad = refl
-opcode_read op.Table = refl
-opcode_read op.Tablei = refl
-opcode_read op.Tablew = refl
-opcode_read op.Integ = refl
-opcode_read op.Diff = refl
-opcode_read op.Samphold = refl
-opcode_read op.Limit = refl
-opcode_read op.Interp = refl
-opcode_read op.Downsamp = refl
-opcode_read op.Out = refl
-opcode_read op.Outs = refl
-opcode_read op.Outch = refl
-opcode_read op.Turnoff = refl
-opcode_read op.Zakinit = refl
-opcode_read op.Zkr = refl
-opcode_read op.Zar = refl
-opcode_read op.Zkw = refl
-opcode_read op.Zaw = refl
-opcode_read op.Zawm = refl
-opcode_read op.Zkcl = refl
-opcode_read op.Zacl = refl
-opcode_read op.Chnget = refl
-opcode_read op.Chnset = refl
-opcode_read op.Chnmix = refl
-opcode_read op.Chnclear = refl
-opcode_read op.Schedule = refl
-opcode_read op.EventI = refl
+opcodes_read : list_all (λ o. is_opcode o (word_of (row_of o).name)) opcodes ≡ true
+unfolding is_opcode word_of keyword_of header_of func_of catalogued
+opcodes_read = refl
 
 pub one_name : (o p : Opcode) → (row_of o).name ≡ (row_of p).name → o ≡ p
 one_name o p same = cc (opcode_found o, opcode_found p, ap catalogued same)
+
+pub opcode_read : (o : Opcode) → word_of (row_of o).name ≡ word.Opcode o
+unfolding is_opcode
+opcode_read o = by (word_of (row_of o).name) (of_all (λ o. is_opcode o (word_of (row_of o).name)) opcodes_read o)
+  where
+    by : (w : Word) → is_opcode o w ≡ true → w ≡ word.Opcode o
+    by (word.Opcode p) h = ap word.Opcode (one_name p o ((bytes_eq-Decides (row_of p).name (row_of o).name).0 h))
+    by (word.Keyword k) h = absurd (cc)
+    by (word.Header k) h = absurd (cc)
+    by (word.Func f) h = absurd (cc)
+    by (word.Field k) h = absurd (cc)
+    by word.Name h = absurd (cc)
+    by word.Foreign h = absurd (cc)
+    by word.Other h = absurd (cc)
 
 -- what is found has the name
 abbrev IfFound : List ℕ → Option Opcode → Type 0

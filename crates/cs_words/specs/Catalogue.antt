@@ -1,4 +1,6 @@
+-- The catalogue: what each opcode is called, what it takes and gives, and how it is performed.
 use Rattle.std.specs.Prelude.{ℕ, Bool, true, false, not, List, [], ◌∷◌, ◌-◌, ◌%◌, ◌&&◌, ◌||◌, ◌==◌, codes, length, filter, nat_le, slice_get, Option, Some, None, if◌then◌else◌}
+use Rattle.std.specs.List.{list_any}
 use Rattle.std.specs.Str.{bytes_eq}
 use Rattle.std.specs.Option.{unwrap_or}
 use Rattle.cs_base.specs.Rates.{within, is_init, is_audio}
@@ -168,14 +170,14 @@ further (more.Pairs l m) n = if n % 2 == 0 then l else m
 abbrev pub letter_at : Row → ℕ → Letter
 letter_at r n = unwrap_or (slice_get r.fixed n) (further r.more (n - length r.fixed))
 
--- whether so many arguments may follow those that must be given
+-- whether n arguments may follow those that must be given
 abbrev pub may_follow : More → ℕ → Bool
 may_follow more.Nothing n = n == 0
 may_follow (more.Perhaps l) n = nat_le n 1
 may_follow (more.Each l) n = true
 may_follow (more.Pairs l m) n = n % 2 == 0
 
--- whether an opcode takes so many arguments
+-- whether an opcode takes n arguments
 abbrev pub takes_count : Row → ℕ → Bool
 takes_count r n = nat_le (length r.fixed) n && may_follow r.more (n - length r.fixed)
 
@@ -208,6 +210,15 @@ is_settled _ = false
 abbrev pub is_moving : Letter → Bool
 is_moving l = not (is_settled l || is_text l)
 
+-- it takes a table's number
+abbrev pub is_table : Letter → Bool
+is_table letter.Table = true
+is_table _ = false
+
+-- whether a table's number is among the arguments that an opcode must be given
+abbrev pub takes_table : Opcode → Bool
+takes_table opcode = list_any is_table (row_of opcode).fixed
+
 -- of the arguments that must be given, those that are settled, and those that may change while the note sounds
 abbrev pub settled_letters : Row → List Letter
 settled_letters r = filter is_settled r.fixed
@@ -222,11 +233,11 @@ follows_settled (more.Perhaps l) = is_settled l
 follows_settled (more.Each l) = is_settled l
 follows_settled (more.Pairs l m) = is_settled l && is_settled m
 
--- whether so many settled arguments may follow those that must be given; in no row does a pair mix settled and moving ones
+-- whether n settled arguments may follow those that must be given; in no row does a pair mix settled and moving ones
 abbrev pub may_follow_settled : More → ℕ → Bool
 may_follow_settled m n = if follows_settled m then may_follow m n else n == 0
 
--- whether an opcode takes so many settled arguments
+-- whether an opcode takes n settled arguments
 abbrev pub unit_takes : Row → ℕ → Bool
 unit_takes r n =
     nat_le (length (settled_letters r)) n && may_follow_settled r.more (n - length (settled_letters r))

@@ -1,8 +1,9 @@
 // The catalogue: one row an opcode, which says all that the layers above ask of it.
 ghost use Rattle.std.specs.Prelude.{◌≡◌, length, filter};
+ghost use Rattle.std.specs.List.{list_any};
 ghost use Rattle.cs_words.specs.declared.catalogue.Family.TheVariants as family;
 ghost use Rattle.cs_words.specs.inner.Families.{family_of};
-ghost use Rattle.cs_words.specs.Catalogue.{row, row_of, named, catalogued, letter_at, takes_count, further, may_follow, result_count, takes, is_text, is_settled, is_moving, settled_letters, follows_settled, may_follow_settled, unit_takes};
+ghost use Rattle.cs_words.specs.Catalogue.{row, row_of, named, catalogued, letter_at, takes_count, further, may_follow, result_count, takes, is_table, is_text, is_settled, is_moving, settled_letters, follows_settled, may_follow_settled, unit_takes};
 
 use cs_base::Rate;
 use std::marker::Model;
@@ -89,6 +90,13 @@ impl Letter {
         ensures { result ≡ is_text self }
     {
         matches!(self, Letter::Text)
+    }
+
+    /// Whether it takes a table's number.
+    fn is_table(self) -> bool
+        ensures { result ≡ is_table self }
+    {
+        matches!(self, Letter::Table)
     }
 
     /// Whether what it takes is known when the note begins.
@@ -493,7 +501,14 @@ impl Signature {
         if self.results.is_empty() { 0 } else { 1 }
     }
 
-    /// Whether it takes so many arguments.
+    /// Whether a table's number is among the arguments that must be given.
+    pub fn takes_table(&self) -> bool
+        ensures { result ≡ list_any is_table self.now.fixed }
+    {
+        self.fixed.iter().any(|letter| letter.is_table())
+    }
+
+    /// Whether it takes `count` arguments.
     pub fn takes_count(&self, count: usize) -> bool
         ensures { result ≡ takes_count self.now count }
     {
@@ -507,7 +522,7 @@ impl Signature {
         settled_among(self.fixed)
     }
 
-    /// Whether it takes so many settled arguments.
+    /// Whether it takes `count` settled arguments.
     pub fn takes_settled(&self, count: usize) -> bool
         ensures { result ≡ unit_takes self.now count }
     {
@@ -540,7 +555,7 @@ fn settled_among(letters: &[Letter]) -> usize
 }
 
 impl More {
-    /// Whether so many arguments may follow those that must be given.
+    /// Whether `count` arguments may follow those that must be given.
     fn may_follow(self, count: usize) -> bool
         ensures { result ≡ may_follow self count }
     {
@@ -563,7 +578,7 @@ impl More {
         }
     }
 
-    /// Whether so many settled arguments may follow those that must be given.
+    /// Whether `count` settled arguments may follow those that must be given.
     fn may_follow_settled(self, count: usize) -> bool
         ensures { result ≡ may_follow_settled self count }
     {

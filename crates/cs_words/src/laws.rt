@@ -1,7 +1,8 @@
 // What holds of the tables: calls that do nothing, whose contracts are the laws.
-ghost use Rattle.std.specs.Prelude.{◌≡◌, ◌≤◌, ℕ, List, [], ◌∷◌, length, true, false, slice_get, Some};
+ghost use Rattle.std.specs.Prelude.{◌≡◌, ◌≤◌, ℕ, List, [], ◌∷◌, filter, length, true, false, slice_get, Some};
 ghost use Rattle.std.specs.List.{All};
-ghost use Rattle.cs_words.specs.Catalogue.{row_of, catalogued, settled_letters, moving_letters, unit_takes};
+ghost use Rattle.cs_base.specs.Limits.{greatest_field};
+ghost use Rattle.cs_words.specs.Catalogue.{row_of, catalogued, opcodes, settled_letters, moving_letters, takes_table, unit_takes};
 ghost use Rattle.cs_words.specs.NameSets.{has, place_of, seen};
 ghost use Rattle.cs_words.specs.Names.{is_name};
 ghost use Rattle.cs_words.specs.Signs.{operators, plain_signs, sign_of};
@@ -29,7 +30,7 @@ pub fn words_are_apart()
 /// What is read as a name begins like a variable, and a field's number is from 1 to 100.
 pub fn names_are_letters_of_rates()
     ensures name { (w : List ℕ) → word_of w ≡ word.Name → is_name w ≡ true }
-    ensures field { (w : List ℕ) (k : ℕ) → word_of w ≡ word.Field k → (1 ≤ k) × (k ≤ 100) }
+    ensures field { (w : List ℕ) (k : ℕ) → word_of w ≡ word.Field k → (1 ≤ k) × (k ≤ greatest_field) }
 {}
 
 /// A name's place finds it again, no two names have one place, and a name that is seen later moves no other.
@@ -58,4 +59,10 @@ pub fn settled_arguments()
     ensures linen { settled_letters (row_of op.Linen) ≡ letter.Init ∷ letter.Init ∷ letter.Init ∷ [] }
     ensures amplitude { moving_letters (row_of op.Linen) ≡ letter.Held ∷ [] }
     ensures out { (unit_takes (row_of op.Out) 0 ≡ true) × (unit_takes (row_of op.Out) 1 ≡ false) }
+{}
+
+/// The opcodes that take a table, computed by the definitions: `oscil`, `oscili`, `table`, `tablei` and `tablew`.
+pub fn opcodes_with_tables()
+    ensures { filter takes_table opcodes
+        ≡ op.Oscil ∷ op.Oscili ∷ op.Table ∷ op.Tablei ∷ op.Tablew ∷ [] }
 {}

@@ -1,8 +1,8 @@
 // Different names, in the order in which they were first seen.
-ghost use Rattle.std.specs.Prelude.{◌≡◌, [], OnOk, OnErr, IfOk};
+ghost use Rattle.std.specs.Prelude.{◌≡◌, [], length, OnOk, OnErr, IfOk};
 ghost use Rattle.cs_words.specs.NameSets.{has, place_of, seen};
 
-use cs_base::{Items, Name, Names, OutOfMemory};
+use cs_base::{Items, Names, OutOfMemory};
 use indexmap::IndexSet;
 use std::alloc::Global;
 use std::marker::Model;
@@ -45,6 +45,13 @@ impl<'s> NameSet<'s> {
         self.names.get_index_of(name).unwrap_or(self.names.len())
     }
 
+    /// How many names there are.
+    pub fn len(&self) -> usize
+        ensures { result ≡ length self.now }
+    {
+        self.names.len()
+    }
+
     /// Adds a name at the end, unless it is among these; where memory is refused, nothing is added.
     pub fn add(&mut self, name: &'s [u8]) -> Result<(), OutOfMemory>
         ensures ok { OnOk result (self.new ≡ seen self.old name.now) }
@@ -60,14 +67,8 @@ impl<'s> NameSet<'s> {
     {
         let mut made = Names::new(alloc);
         for name in self.names.as_slice() {
-            made.push(copy_of(alloc, name)?)?;
+            made.push(Items::of_slice(alloc, name)?)?;
         }
         Ok(made)
     }
-}
-
-fn copy_of(alloc: Global, name: &[u8]) -> Result<Name, OutOfMemory>
-    ensures { IfOk result (λ made. made ≡ name.now) }
-{
-    Ok(Items::from_vec(name.to_vec(alloc)?))
 }

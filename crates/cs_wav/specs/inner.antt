@@ -1,2 +1,0 @@
--- what only private clauses cite
-pub mod Widths
