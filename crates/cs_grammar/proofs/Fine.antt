@@ -11,6 +11,7 @@ use Rattle.cs_words.specs.declared.catalogue.Opcode.{Opcode}
 use Rattle.cs_words.specs.declared.catalogue.Opcode.TheVariants as opcode
 use Rattle.cs_words.specs.declared.word.Word.{Word}
 use Rattle.cs_words.specs.declared.word.Word.TheVariants as word
+use Rattle.cs_words.specs.Catalogue.{row_of}
 use Rattle.cs_words.specs.Words.{word_of}
 use Rattle.cs_words.proofs.Fields.{name_begins, field_numbers}
 use Rattle.cs_words.proofs.Apart.{opcode_read}
@@ -21,6 +22,8 @@ use Rattle.cs_grammar.specs.declared.symbol.Expected.TheVariants as expected
 use Rattle.cs_grammar.specs.declared.scope.Place.{Place}
 use Rattle.cs_grammar.specs.declared.scope.Place.TheVariants as place
 use Rattle.cs_grammar.specs.declared.expr.Level.{Level}
+use Rattle.cs_grammar.specs.declared.tree.Callee.{Callee}
+use Rattle.cs_grammar.specs.declared.tree.Callee.TheVariants as callee
 use Rattle.cs_grammar.specs.declared.lists.Role.{Role}
 use Rattle.cs_grammar.specs.declared.lists.Role.TheVariants as role
 use Rattle.cs_words.specs.NameSets.{has}
@@ -30,7 +33,7 @@ use Rattle.cs_grammar.specs.Tree.{Expression, var, neg, pair, pick, apply, Argum
 use Rattle.cs_grammar.specs.Reading.{next, after, Left, Reading, left, mapped, both, three, skip, next_is, Scope, fault, misfit, through, ended, line_end}
 use Rattle.cs_grammar.specs.Parts.{is_variable, single, single_or, no_part, one_symbol, atom}
 use Rattle.cs_grammar.specs.Lines.{no_target, target, ReadsTargets, no_target_there, last_target, more_targets, is_own, is_outside, is_other_text}
-use Rattle.cs_grammar.specs.Lines.{operation_of, operation}
+use Rattle.cs_grammar.specs.Lines.{by_opcode, called, operation_of, operation}
 use Rattle.cs_grammar.specs.Grammar.{ReadsExpr, binary, expr_stop, fact_neg, fact_call, fact_group, fact_pick, fact_alone, ReadsTail, no_more, one_more}
 use Rattle.cs_grammar.specs.Grammar.{one_alone, ReadsArg, arg_text, text_result, arg_value, ReadsList, list_stop, list_last, list_more, ReadsArgs, args_stop}
 use Rattle.cs_grammar.specs.Grammar.{args_none, args_some}
@@ -76,41 +79,49 @@ may_be_stopless t h e = by t.kind refl e
     by (kind.Word w) i e = (h w i).1
     by _ i e = cc
 
-pub may_be_word : (t : Symbol) → IsWord t → may_be_opcode t.kind ≡ true → may_be_opcode (kind.Word (word_of t.text)) ≡ true
-may_be_word t h e = by t.kind refl e
-  where
-    by : (k : Kind) → t.kind ≡ k → may_be_opcode k ≡ true → may_be_opcode (kind.Word (word_of t.text)) ≡ true
-    by (kind.Word w) i e = ap (λ x. may_be_opcode (kind.Word x)) (h w i).0 ∙ e
-    by _ i e = cc
+abbrev is_an_opcode : Word → Bool
+is_an_opcode (word.Opcode o) = true
+is_an_opcode _ = false
 
-abbrev is_zakinit : Word → Bool
-is_zakinit (word.Opcode opcode.Zakinit) = true
+no_opcode_name : (text : List ℕ) (w : Word) → word_of text ≡ w → is_an_opcode w ≡ false → (o : Opcode) → text ≢ (row_of o).name
+no_opcode_name text w h z o q =
+    let k : true ≡ false = ap is_an_opcode (sym (opcode_read o) ∙ ap word_of (sym q) ∙ h) ∙ z in cc
+
+abbrev is_zakinit : Opcode → Bool
+is_zakinit opcode.Zakinit = true
 is_zakinit _ = false
 
-no_zakinit : (text : List ℕ) (w : Word) → word_of text ≡ w → is_zakinit w ≡ false → text ≢ codes "zakinit"
-no_zakinit text w h z q =
-    let k : true ≡ false = ap is_zakinit (sym (opcode_read opcode.Zakinit) ∙ ap word_of (sym q) ∙ h) ∙ z in cc
+abbrev opcode_in : Callee → Opcode
+opcode_in (callee.Opcode o) = o
+opcode_in (callee.Name n) = opcode.Zakinit
 
--- the name of the definition around is no opcode
-abbrev pub IsNewOwn : Scope → Type 0
-IsNewOwn s = s.place ≡ place.Definition → may_be_opcode (kind.Word (word_of s.own)) ≡ true
+abbrev name_in : Callee → List ℕ
+name_in (callee.Opcode o) = []
+name_in (callee.Name n) = n
 
-may_call : (p : Place) (own op : List ℕ) → op ≢ codes "zakinit" → (p ≡ place.Definition → op ≢ own) → MayCall p own op
-may_call place.Outside own op z d = tt
-may_call place.Instrument own op z d = z
-may_call place.Definition own op z d = (z, d refl)
+opcode_may : (p : Place) (own : List ℕ) (o : Opcode) → is_zakinit o ≡ false → MayCall p own (callee.Opcode o)
+opcode_may p own o z = by p
+  where
+    other : callee.Opcode o ≢ callee.Opcode opcode.Zakinit
+    other e = let k : true ≡ false = ap (λ c. is_zakinit (opcode_in c)) (sym e) ∙ z in cc
 
-outside_calls : (p : Place) (own op : List ℕ) → is_outside p ≡ true → MayCall p own op
-outside_calls place.Outside own op e = tt
-outside_calls _ own op e = cc
+    by : (p : Place) → MayCall p own (callee.Opcode o)
+    by place.Outside = tt
+    by place.Instrument = other
+    by place.Definition = (other, (λ e. cc))
+
+name_may : (p : Place) (own n : List ℕ) → (p ≡ place.Definition → n ≢ own) → MayCall p own (callee.Name n)
+name_may place.Outside own n d = tt
+name_may place.Instrument own n d = λ e. cc
+name_may place.Definition own n d = ((λ e. cc), (λ e. d refl (ap name_in e)))
+
+outside_calls : (p : Place) (own : List ℕ) (c : Callee) → is_outside p ≡ true → MayCall p own c
+outside_calls place.Outside own c e = tt
+outside_calls _ own c e = cc
 
 not_own : (s : Scope) (name : List ℕ) → is_own s name s.place ≡ false → s.place ≡ place.Definition → name ≢ s.own
 not_own s name e p q =
     let k : true ≡ false = sym ((bytes_eq-Decides s.own name).1 (sym q)) ∙ sym (ap (is_own s name) p) ∙ e in cc
-
-event_not_own : (s : Scope) (t : Symbol) → IsWord t → t.kind ≡ kind.Word (word.Opcode opcode.EventI) → IsNewOwn s → s.place ≡ place.Definition → t.text ≢ s.own
-event_not_own s t h i own p q =
-    let k : false ≡ true = ap (λ w. may_be_opcode (kind.Word w)) (sym (h (word.Opcode opcode.EventI) i).0 ∙ ap word_of q) ∙ own p in cc
 
 -- ---- readings, of symbols of which Q holds
 
@@ -263,60 +274,56 @@ module _ (Q : List Symbol → Type 0) (closed : (ts : List Symbol) → Q ts → 
       let h = at_target s ts us n e q in
       fine_mapped (All IsVariable) (All IsVariable) (λ ns. n ∷ ns) (λ ns x. All-cons IsVariable n ns h.0 x) out (fine_targets k (closed us h.1))
 
-  -- ---- the opcode of a call
+  -- ---- what is called
 
-  fine_called : (s : Scope) (ts : List Symbol) (w : Word) → Q ts → (next ts).kind ≡ kind.Word w → is_zakinit w ≡ false
-      → Fine Q (IsCall s.place s.own) (if is_own s (next ts).text s.place then Err (fault ts orc.Recursion) else Ok ((next ts).text, after ts))
+  fine_called : (s : Scope) (ts : List Symbol) (w : Word) → Q ts → (next ts).kind ≡ kind.Word w → is_an_opcode w ≡ false
+      → Fine Q (IsCall s.place s.own) (called s ts)
   fine_called s ts w q i z = by (is_own s (next ts).text s.place) refl
     where
       by : (b : Bool) → is_own s (next ts).text s.place ≡ b → Fine Q (IsCall s.place s.own)
-          (if b then Err (fault ts orc.Recursion) else Ok ((next ts).text, after ts))
+          (if b then Err (fault ts orc.Recursion) else Ok (callee.Name (next ts).text, after ts))
       by true e = tt
       by false e = (
-        ((good ts q w i).1, may_call s.place s.own (next ts).text (no_zakinit (next ts).text w (good ts q w i).0 z) (not_own s (next ts).text e)),
-        closed
-            ts q,
-      )
-
-  fine_space : (s : Scope) (ts : List Symbol) (b : Bool) → Q ts → HasNoStop (next ts).text → is_outside s.place ≡ b
-      → Fine Q (IsCall s.place s.own) (if b then Ok ((next ts).text, after ts) else Err (fault ts orc.Unexpected))
-  fine_space s ts true q n e = ((n, outside_calls s.place s.own (next ts).text e), closed ts q)
-  fine_space s ts false q n e = tt
-
-  fine_event : (s : Scope) (ts : List Symbol) (b : Bool) → Q ts → IsNewOwn s → (next ts).kind ≡ kind.Word (word.Opcode opcode.EventI)
-      → Fine Q (IsCall s.place s.own) (if b then Err (fault (after ts) orc.NotInProfile) else Ok ((next ts).text, after ts))
-  fine_event s ts true q own i = tt
-  fine_event s ts false q own i =
-      let w = good ts q (word.Opcode opcode.EventI) i in (
         (
-          w.1,
-          may_call s.place s.own (next ts).text (no_zakinit (next ts).text (word.Opcode opcode.EventI) w.0 refl)
-              (event_not_own s (next ts) (good ts q) i own),
+          ((good ts q w i).1, no_opcode_name (next ts).text w (good ts q w i).0 z),
+          name_may s.place s.own (next ts).text (not_own s (next ts).text e),
         ),
         closed ts q,
       )
 
-  fine_opcode : (s : Scope) (ts : List Symbol) → Q ts → IsNewOwn s → (o : Opcode) → (next ts).kind ≡ kind.Word (word.Opcode o)
-      → Fine Q (IsCall s.place s.own) (operation_of s ts (kind.Word (word.Opcode o)))
-  fine_opcode s ts q own opcode.Zakinit i = fine_space s ts (is_outside s.place) q (good ts q (word.Opcode opcode.Zakinit) i).1 refl
-  fine_opcode s ts q own opcode.EventI i = fine_event s ts (is_other_text (next (after ts))) q own i
-  fine_opcode s ts q own _ i = fine_called s ts _ q i refl
+  fine_space : (s : Scope) (ts : List Symbol) (b : Bool) → Q ts → is_outside s.place ≡ b
+      → Fine Q (IsCall s.place s.own) (if b then Ok (callee.Opcode opcode.Zakinit, after ts) else Err (fault ts orc.Unexpected))
+  fine_space s ts true q e = ((tt, outside_calls s.place s.own (callee.Opcode opcode.Zakinit) e), closed ts q)
+  fine_space s ts false q e = tt
 
-  fine_word : (s : Scope) (ts : List Symbol) → Q ts → IsNewOwn s → (w : Word) → (next ts).kind ≡ kind.Word w
+  fine_event : (s : Scope) (ts : List Symbol) (b : Bool) → Q ts
+      → Fine Q (IsCall s.place s.own) (if b then Err (fault (after ts) orc.NotInProfile) else Ok (callee.Opcode opcode.EventI, after ts))
+  fine_event s ts true q = tt
+  fine_event s ts false q = ((tt, opcode_may s.place s.own opcode.EventI refl), closed ts q)
+
+  fine_taken : (s : Scope) (ts : List Symbol) (o : Opcode) → Q ts → is_zakinit o ≡ false → Fine Q (IsCall s.place s.own) (Ok (callee.Opcode o, after ts))
+  fine_taken s ts o q z = ((tt, opcode_may s.place s.own o z), closed ts q)
+
+  fine_opcode : (s : Scope) (ts : List Symbol) → Q ts → (o : Opcode) → Fine Q (IsCall s.place s.own) (by_opcode s ts o)
+  fine_opcode s ts q opcode.Zakinit = fine_space s ts (is_outside s.place) q refl
+  fine_opcode s ts q opcode.EventI = fine_event s ts (is_other_text (next (after ts))) q
+  fine_opcode s ts q _ = fine_taken s ts _ q refl
+
+  fine_word : (s : Scope) (ts : List Symbol) → Q ts → (w : Word) → (next ts).kind ≡ kind.Word w
       → Fine Q (IsCall s.place s.own) (operation_of s ts (kind.Word w))
-  fine_word s ts q own (word.Opcode o) i = fine_opcode s ts q own o i
-  fine_word s ts q own (word.Keyword k) i = tt
-  fine_word s ts q own word.Foreign i = tt
-  fine_word s ts q own (word.Header h) i = fine_called s ts (word.Header h) q i refl
-  fine_word s ts q own (word.Func f) i = fine_called s ts (word.Func f) q i refl
-  fine_word s ts q own (word.Field k) i = fine_called s ts (word.Field k) q i refl
-  fine_word s ts q own word.Name i = fine_called s ts word.Name q i refl
-  fine_word s ts q own word.Other i = fine_called s ts word.Other q i refl
+  fine_word s ts q (word.Opcode o) i = fine_opcode s ts q o
+  fine_word s ts q (word.Keyword k) i = tt
+  fine_word s ts q word.Foreign i = tt
+  fine_word s ts q (word.Header h) i = fine_called s ts (word.Header h) q i refl
+  fine_word s ts q (word.Func f) i = fine_called s ts (word.Func f) q i refl
+  fine_word s ts q (word.Field k) i = fine_called s ts (word.Field k) q i refl
+  fine_word s ts q word.Name i = fine_called s ts word.Name q i refl
+  fine_word s ts q word.Other i = fine_called s ts word.Other q i refl
 
-  pub fine_operation : (s : Scope) (st : Left) → Kept Q st → IsNewOwn s → Fine Q (IsCall s.place s.own) (operation s st)
-  fine_operation s (Err f) q own = tt
-  fine_operation s (Ok ts) q own = by (next ts).kind refl
+  pub fine_operation : (s : Scope) (st : Left) → Kept Q st → Fine Q (IsCall s.place s.own) (operation s st)
+  fine_operation s (Err f) q = tt
+  fine_operation s (Ok ts) q = by (next ts).kind refl
     where
       by : (k : Kind) → (next ts).kind ≡ k → Fine Q (IsCall s.place s.own) (operation_of s ts k)
-      by (kind.Word w) i = fine_word s ts q own w i
+      by (kind.Word w) i = fine_word s ts q w i
       by _ i = tt

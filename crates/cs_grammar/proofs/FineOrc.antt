@@ -41,7 +41,7 @@ use Rattle.cs_grammar.specs.WellFormed.{HasNoStop, IsVariable, line_of, WellForm
 use Rattle.cs_grammar.specs.WellFormed.{WellFormedDefinition}
 use Rattle.cs_grammar.specs.WellFormed.{all_numbers}
 use Rattle.cs_grammar.proofs.OneXin.{has_snoc, differs}
-use Rattle.cs_grammar.proofs.Fine.{IsWord, Fine, Kept, kept, may_be_word, may_be_stopless, variable_named, fine_both}
+use Rattle.cs_grammar.proofs.Fine.{IsWord, Fine, Kept, kept, may_be_stopless, variable_named, fine_both}
 use Rattle.cs_grammar.proofs.Fine.{fine_three}
 use Rattle.cs_grammar.proofs.Fine.{fine_through, fine_ended, fine_line, weakened, fine_list}
 use Rattle.cs_grammar.proofs.FineStmt.{fine_stmt, fine_block, NumbersFrom, fine_numbers, has_append}
@@ -126,7 +126,7 @@ apart_all xs ns h k d lt i e within = not_there xs (slice_index_or ns i e) (h i 
 
 -- a name for an opcode that is new
 abbrev pub IsNew : List (List ℕ) → List ℕ → Type 0
-IsNew d n = (may_be_opcode (kind.Word (word_of n)) ≡ true) × (has d n ≡ false) × HasNoStop n
+IsNew d n = (has d n ≡ false) × HasNoStop n
 
 abbrev pub AnyRates : List Rate → Type 0
 AnyRates rs = Unit {0}
@@ -182,7 +182,7 @@ module _ (Q : List Symbol → Type 0) (closed : (ts : List Symbol) → Q ts → 
           → Fine Q (IsNew s.defined) (if not b then Err (fault ts (no_name_kind s (next ts).kind)) else
           (if c then Err (fault ts orc.OpcodeTwice) else Ok ((next ts).text, after ts)))
       by true true e f = tt
-      by true false e f = ((may_be_word (next ts) (good ts q) e, f, may_be_stopless (next ts) (good ts q) e), closed ts q)
+      by true false e f = ((f, may_be_stopless (next ts) (good ts q) e), closed ts q)
       by false c e f = tt
 
   fine_types : (s : Scope) (st : Left) → Kept Q st → Fine Q AnyRates (types s st)
@@ -256,8 +256,8 @@ module _ (Q : List Symbol → Type 0) (closed : (ts : List Symbol) → Q ts → 
   defined_so : (line : ℕ) (d : List (List ℕ)) (h : Heading) (a : List (List ℕ)) (b : Block) (c : List Argument) → NewHeading line d h → NamesFit h.ins a
       → WellFormedBlock place.Definition h.name 0 b → ValuesFit h.outs c → NewDefinition line d (definition_of h a b c)
   defined_so line d h a b c n x y z = record {
-    sound = record { name = n.0.2; local = x.local; rates = x.rates; different = x.different; body = y; values = z.number; each_value = z.each };
-    fresh = n.0.1;
+    sound = record { name = n.0.1; local = x.local; rates = x.rates; different = x.different; body = y; values = z.number; each_value = z.each };
+    fresh = n.0.0;
     place_of = n.1;
   }
 
@@ -269,7 +269,7 @@ module _ (Q : List Symbol → Type 0) (closed : (ts : List Symbol) → Q ts → 
       (fine_heading (in_definition [] d) (next ts).line (after ts) (closed ts q)) in
       let s = own_scope d h in
       let fn = fine_inputs n (weaker us top.1) in
-      let fb = fine_block Q closed good R feed stop weaker k (kept Q (NamesFit h.ins) names fn) (λ p. top.0.0.0) in
+      let fb = fine_block Q closed good R feed stop weaker k (kept Q (NamesFit h.ins) names fn) in
       let fr = fine_result r (kept Q (WellFormedBlock place.Definition h.name 0) body fb) in
       let made = three (definition_of h) names body result in
       fine_line Q closed good R feed stop (NewDefinition (next ts).line d) (outside d) (through s expected.Endop made)
@@ -284,7 +284,7 @@ module _ (Q : List Symbol → Type 0) (closed : (ts : List Symbol) → Q ts → 
       let s = in_instrument d in
       let fn = fine_numbers Q closed n (closed ts q) in
       let fe = fine_ended Q closed good (NumbersFrom g) s ns fn in
-      let fb = fine_block Q closed good R feed stop weaker h (kept Q (NumbersFrom g) (ended s ns) fe) (λ p. cc) in
+      let fb = fine_block Q closed good R feed stop weaker h (kept Q (NumbersFrom g) (ended s ns) fe) in
       let made = both (instrument_of (next ts).line) ns body in
       fine_line Q closed good R feed stop (NewInstrument (next ts).line g) (outside d) (through s expected.Endin made)
       (fine_through Q closed good (NewInstrument (next ts).line g) s expected.Endin made
@@ -395,7 +395,7 @@ module _ (Q : List Symbol → Type 0) (closed : (ts : List Symbol) → Q ts → 
       let f = fine_definition h q in
       add_udo (next ts).line d g o out f (fine_orc k (line_kept o (NewDefinition (next ts).line d) f))
   fine_orc {d} {g} (orc_stmt {ts = ts} {o = o} {out = out} e h k) q =
-      let f = fine_stmt Q closed good R feed stop weaker h q (λ p. cc) in
+      let f = fine_stmt Q closed good R feed stop weaker h q in
       add_stmt d g o out (weakened R R (λ x. WellFormedStmt place.Outside [] 0 x × (line_of x ≡ (next ts).line)) (WellFormedStmt place.Outside [] 0)
       (λ us r. r) (λ x l. l.0) o f)
       (fine_orc k (line_kept o (λ x. WellFormedStmt place.Outside [] 0 x × (line_of x ≡ (next ts).line)) f))

@@ -27,7 +27,7 @@ use Rattle.cs_grammar.specs.Grammar.{assign, ReadsStmt, stmt_assign, stmt_result
 use Rattle.cs_grammar.specs.Grammar.{block_end, block_more, ReadsArms, arm_more, ReadsMore, more_stop, more_elseif, more_else, more_endif}
 use Rattle.cs_grammar.specs.Inputs.{AreDifferent}
 use Rattle.cs_grammar.specs.WellFormed.{line_of, IsVariable, WellFormedExpr, WellFormedArg, IsCall, WellFormedStmt, WellFormedBlock, WellFormedArms}
-use Rattle.cs_grammar.proofs.Fine.{IsWord, Fine, Kept, kept, IsNewOwn, kept_skip, fine_mapped, fine_both, fine_three, fine_through, fine_ended, fine_line}
+use Rattle.cs_grammar.proofs.Fine.{IsWord, Fine, Kept, kept, kept_skip, fine_mapped, fine_both, fine_three, fine_through, fine_ended, fine_line}
 use Rattle.cs_grammar.proofs.Fine.{weakened, fine_expr, fine_args, fine_target, fine_targets, fine_operation}
 
 -- ---- an `if` stands inside at most 99 others
@@ -59,7 +59,7 @@ shallow s ts e =
 
 assigned : (p : Place) (own : List ℕ) (depth line : ℕ) (k : Kind) (n : List ℕ) (e : Expression) → IsVariable n → WellFormedExpr e
     → WellFormedStmt p own depth (assign line k n e)
-assigned p own depth line (kind.Sign sign.PlusEquals) n e h g = (h, g)
+assigned p own depth line (kind.Sign sign.PlusEquals) n e h g = (h, (h, g))
 assigned p own depth line _ n e h g = (h, g)
 
 assigned_at : (line : ℕ) (k : Kind) (n : List ℕ) (e : Expression) → line_of (assign line k n e) ≡ line
@@ -83,8 +83,8 @@ module _ (Q : List Symbol → Type 0) (closed : (ts : List Symbol) → Q ts → 
   Chain s a = WellFormedArms s.place s.own s.depth a
 
   mutual
-    pub fine_stmt : {s : Scope} {ts : List Symbol} {o : Reading Statement} → ReadsStmt s ts o → Q ts → IsNewOwn s → Fine R (LineAt s (next ts).line) o
-    fine_stmt {s} {ts} (stmt_assign {e = e} f h) q own =
+    pub fine_stmt : {s : Scope} {ts : List Symbol} {o : Reading Statement} → ReadsStmt s ts o → Q ts → Fine R (LineAt s (next ts).line) o
+    fine_stmt {s} {ts} (stmt_assign {e = e} f h) q =
         let t = fine_target Q closed good s ts q in
         let v = fine_expr Q closed good h (kept_skip Q closed good (left (target s ts)) (kept Q IsVariable (target s ts) t)) in
         let made = assign (next ts).line (next (after ts)).kind in
@@ -92,53 +92,53 @@ module _ (Q : List Symbol → Type 0) (closed : (ts : List Symbol) → Q ts → 
         (fine_both Q closed good IsVariable WellFormedExpr (LineAt s (next ts).line) made (λ n x y z.
         (assigned s.place s.own s.depth (next ts).line (next (after ts)).kind n x y z, assigned_at (next ts).line (next (after ts)).kind n x))
         (target s ts) e t v)
-    fine_stmt {s} {ts} (stmt_results {names = names} {args = args} f n h) q own =
+    fine_stmt {s} {ts} (stmt_results {names = names} {args = args} f n h) q =
         let t = fine_targets Q closed good n q in
         let p = operation s (left names) in
-        let o = fine_operation Q closed good s (left names) (kept Q (All IsVariable) names t) own in
+        let o = fine_operation Q closed good s (left names) (kept Q (All IsVariable) names t) in
         let a = fine_args Q closed good h (kept Q (IsCall s.place s.own) p o) in
         fine_line Q closed good R feed stop (LineAt s (next ts).line) s (three (call (next ts).line) names p args)
         (fine_three Q closed good (All IsVariable) (IsCall s.place s.own) (All WellFormedArg) (LineAt s (next ts).line) (call (next ts).line)
         (λ x y z u v w. ((u, v, w), refl)) names p args t o a)
-    fine_stmt {s} {ts} (stmt_bare {args = args} f h) q own =
+    fine_stmt {s} {ts} (stmt_bare {args = args} f h) q =
         let p = operation s (Ok ts) in
-        let o = fine_operation Q closed good s (Ok ts) q own in
+        let o = fine_operation Q closed good s (Ok ts) q in
         let a = fine_args Q closed good h (kept Q (IsCall s.place s.own) p o) in
         fine_line Q closed good R feed stop (LineAt s (next ts).line) s (both (call (next ts).line []) p args)
         (fine_both Q closed good (IsCall s.place s.own) (All WellFormedArg) (LineAt s (next ts).line) (call (next ts).line [])
         (λ x y u v. ((All-nil IsVariable, u, v), refl)) p args o a)
-    fine_stmt {s} {ts} (stmt_if {chain = chain} f h) q own =
+    fine_stmt {s} {ts} (stmt_if {chain = chain} f h) q =
         fine_line Q closed good R feed stop (LineAt s (next ts).line) s (mapped (choose (next ts).line) chain)
         (fine_mapped Q closed good (Chain (deeper s)) (LineAt s (next ts).line) (choose (next ts).line) (λ a x. ((shallow s ts f, x), refl)) chain
-        (fine_arms h (closed ts q) own))
-    fine_stmt (stmt_beyond f) q own = tt
-    fine_stmt (stmt_misplaced f) q own = tt
+        (fine_arms h (closed ts q)))
+    fine_stmt (stmt_beyond f) q = tt
+    fine_stmt (stmt_misplaced f) q = tt
 
-    pub fine_block : {s : Scope} {st : Left} {o : Reading Block} → ReadsBlock s st o → Kept Q st → IsNewOwn s → Fine Q (Lines s) o
-    fine_block block_stop q own = tt
-    fine_block (block_end e) q own = (tt, q)
-    fine_block {s} (block_more {ts = ts} {o = o} {out = out} e h k) q own =
-        let f = weakened R Q (LineAt s (next ts).line) (Line s) weaker (λ x l. l.0) o (fine_stmt h q own) in
-        fine_both Q closed good (Line s) (Lines s) (Lines s) andthen (λ x b y z. (y, z)) o out f (fine_block k (kept Q (Line s) o f) own)
+    pub fine_block : {s : Scope} {st : Left} {o : Reading Block} → ReadsBlock s st o → Kept Q st → Fine Q (Lines s) o
+    fine_block block_stop q = tt
+    fine_block (block_end e) q = (tt, q)
+    fine_block {s} (block_more {ts = ts} {o = o} {out = out} e h k) q =
+        let f = weakened R Q (LineAt s (next ts).line) (Line s) weaker (λ x l. l.0) o (fine_stmt h q) in
+        fine_both Q closed good (Line s) (Lines s) (Lines s) andthen (λ x b y z. (y, z)) o out f (fine_block k (kept Q (Line s) o f))
 
-    fine_arms : {s : Scope} {st : Left} {o : Reading Arms} → ReadsArms s st o → Kept Q st → IsNewOwn s → Fine Q (Chain s) o
-    fine_arms {s} (arm_more {c = c} {body = body} {rest = rest} h k g) q own =
+    fine_arms : {s : Scope} {st : Left} {o : Reading Arms} → ReadsArms s st o → Kept Q st → Fine Q (Chain s) o
+    fine_arms {s} (arm_more {c = c} {body = body} {rest = rest} h k g) q =
         let fc = fine_expr Q closed good h q in
         let ft = fine_through Q closed good WellFormedExpr s expected.Then c fc in
         let fe = fine_ended Q closed good WellFormedExpr s (through s expected.Then c) ft in
-        let fb = fine_block k (kept Q WellFormedExpr (ended s (through s expected.Then c)) fe) own in
-        let fr = fine_more g (kept Q (Lines s) body fb) own in
+        let fb = fine_block k (kept Q WellFormedExpr (ended s (through s expected.Then c)) fe) in
+        let fr = fine_more g (kept Q (Lines s) body fb) in
         fine_three Q closed good WellFormedExpr (Lines s) (Chain s) (Chain s) arm (λ x y z u v w. (u, v, w)) c body rest fc fb fr
 
-    fine_more : {s : Scope} {st : Left} {o : Reading Arms} → ReadsMore s st o → Kept Q st → IsNewOwn s → Fine Q (Chain s) o
-    fine_more more_stop q own = tt
-    fine_more (more_elseif {ts = ts} e h) q own = fine_arms h (closed ts q) own
-    fine_more {s} (more_else {ts = ts} {body = body} e f h) q own =
+    fine_more : {s : Scope} {st : Left} {o : Reading Arms} → ReadsMore s st o → Kept Q st → Fine Q (Chain s) o
+    fine_more more_stop q = tt
+    fine_more (more_elseif {ts = ts} e h) q = fine_arms h (closed ts q)
+    fine_more {s} (more_else {ts = ts} {body = body} e f h) q =
         let fe = fine_ended Q closed good (Lines s) s (Ok (no_stmt, after ts)) (tt, closed ts q) in
-        let fb = fine_block h (kept Q (Lines s) (ended s (Ok (no_stmt, after ts))) fe) own in
+        let fb = fine_block h (kept Q (Lines s) (ended s (Ok (no_stmt, after ts))) fe) in
         fine_through Q closed good (Chain s) s expected.Endif (mapped otherwise body)
         (fine_mapped Q closed good (Lines s) (Chain s) otherwise (λ b x. x) body fb)
-    fine_more {s} (more_endif {ts = ts} e f) q own = fine_through Q closed good (Chain s) s expected.Endif (Ok (otherwise no_stmt, ts)) (tt, q)
+    fine_more {s} (more_endif {ts = ts} e f) q = fine_through Q closed good (Chain s) s expected.Endif (Ok (otherwise no_stmt, ts)) (tt, q)
 
 -- ---- the numbers of an instrument
 

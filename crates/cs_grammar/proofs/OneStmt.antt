@@ -6,6 +6,8 @@ use Rattle.cs_words.specs.declared.catalogue.Opcode.{Opcode}
 use Rattle.cs_words.specs.declared.catalogue.Opcode.TheVariants as opcode
 use Rattle.cs_grammar.specs.declared.symbol.Kind.{Kind}
 use Rattle.cs_grammar.specs.declared.symbol.Kind.TheVariants as kind
+use Rattle.cs_grammar.specs.declared.tree.Callee.{Callee}
+use Rattle.cs_grammar.specs.declared.tree.Callee.TheVariants as callee
 use Rattle.cs_grammar.specs.declared.expr.Level.TheVariants as level
 use Rattle.cs_grammar.specs.declared.stmt.LineForm.{LineForm}
 use Rattle.cs_grammar.specs.declared.stmt.LineForm.TheVariants as form
@@ -18,7 +20,7 @@ use Rattle.cs_words.specs.declared.word.Word.{Word}
 use Rattle.cs_words.specs.declared.word.Word.TheVariants as word
 use Rattle.cs_grammar.specs.Grammar.{ReadsArms, ReadsBlock, ReadsMore, ReadsStmt, arm_more, assign, block_end, block_more, block_stop, ends_block, more_else}
 use Rattle.cs_grammar.specs.Grammar.{more_elseif, more_endif, more_stop, stmt_assign, stmt_bare, stmt_beyond, stmt_if, stmt_misplaced, stmt_results}
-use Rattle.cs_grammar.specs.Lines.{is_other_text, is_outside, is_own, line_form, operation, operation_of, target}
+use Rattle.cs_grammar.specs.Lines.{by_opcode, is_other_text, is_outside, is_own, line_form, operation, operation_of, target}
 use Rattle.cs_grammar.specs.Reading.{Left, Reading, Scope, after, both, deeper, ended, fault, left, mapped, misfit, next, next_is, skip, three, through}
 use Rattle.cs_grammar.specs.Symbols.{Symbol}
 use Rattle.cs_grammar.specs.Tree.{Arms, Block, Expression, Statement, andthen, arm, call, choose, no_stmt, otherwise}
@@ -26,20 +28,19 @@ use Rattle.cs_grammar.specs.inner.Rows.{targets}
 
 -- ---- sizes of the parts of a line
 
-abbrev plain : Scope → Symbol → List Symbol → Bool → Reading (List ℕ)
-plain s t ts own = if own then Err (fault (t ∷ ts) orc.Recursion) else Ok (t.text, ts)
+abbrev plain : Scope → Symbol → List Symbol → Bool → Reading Callee
+plain s t ts own = if own then Err (fault (t ∷ ts) orc.Recursion) else Ok (callee.Name t.text, ts)
 
 plain_less : (s : Scope) (t : Symbol) (ts : List Symbol) (own : Bool) → size (left (plain s t ts own)) ≤ suc (length ts)
 plain_less s t ts true = omega arith
 plain_less s t ts false = omega arith
 
-operation_opcode : (s : Scope) (t : Symbol) (ts : List Symbol) (o : Opcode) → size (left (operation_of s (t ∷ ts) (kind.Word (word.Opcode o)))) ≤ suc
-    (length ts)
-operation_opcode s t ts opcode.Zakinit = choice_size (is_outside s.place) (Ok (t.text, ts)) (Err (fault (t ∷ ts) orc.Unexpected)) (suc (length ts))
+operation_opcode : (s : Scope) (t : Symbol) (ts : List Symbol) (o : Opcode) → size (left (by_opcode s (t ∷ ts) o)) ≤ suc (length ts)
+operation_opcode s t ts opcode.Zakinit = choice_size (is_outside s.place) (Ok (callee.Opcode opcode.Zakinit, ts)) (Err (fault (t ∷ ts) orc.Unexpected)) (suc (length ts))
     (omega arith) (omega arith)
-operation_opcode s t ts opcode.EventI = choice_size (is_other_text (next ts)) (Err (fault ts orc.NotInProfile)) (Ok (t.text, ts)) (suc (length ts))
+operation_opcode s t ts opcode.EventI = choice_size (is_other_text (next ts)) (Err (fault ts orc.NotInProfile)) (Ok (callee.Opcode opcode.EventI, ts)) (suc (length ts))
     (omega arith) (omega arith)
-operation_opcode s t ts _ = plain_less s t ts (is_own s t.text s.place)
+operation_opcode s t ts _ = omega arith
 
 operation_word : (s : Scope) (t : Symbol) (ts : List Symbol) (w : Word) → size (left (operation_of s (t ∷ ts) (kind.Word w))) ≤ suc (length ts)
 operation_word s t ts (word.Opcode o) = operation_opcode s t ts o

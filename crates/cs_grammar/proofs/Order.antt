@@ -34,7 +34,7 @@ use Rattle.cs_grammar.specs.Orchestra.{item_form_of, with_header, with_instr, wi
 use Rattle.cs_grammar.specs.Orchestra.{orc_end, orc_header, orc_instr, orc_udo, orc_stmt}
 use Rattle.cs_grammar.specs.WellFormed.{IsVariable, WellFormedExpr, WellFormedArg, IsCall, stmt_lines, block_lines, arms_lines, Item, header_item}
 use Rattle.cs_grammar.specs.WellFormed.{opcode_item, stmt_item, instr_item, item_lines, lines_of, orchestra_of, InOrder}
-use Rattle.cs_grammar.proofs.Fine.{IsWord, Fine, Kept, kept, IsNewOwn, kept_skip, fine_both, fine_three, fine_through, fine_line, fine_expr, fine_args}
+use Rattle.cs_grammar.proofs.Fine.{IsWord, Fine, Kept, kept, kept_skip, fine_both, fine_three, fine_through, fine_line, fine_expr, fine_args}
 use Rattle.cs_grammar.proofs.Fine.{fine_target, fine_targets, fine_operation}
 use Rattle.cs_grammar.proofs.FineStmt.{NumbersFrom, fine_numbers}
 use Rattle.cs_grammar.proofs.FineOrc.{Words, words_after, words_next, NewHeading, NamesFit, ValuesFit, HeaderAt, fine_heading, fine_inputs, fine_result}
@@ -234,8 +234,8 @@ arm_placed n (Err f) body rest h p = tt
 arm_placed n (Ok (c, ts)) body rest h p = placed_both block_lines arms_lines arms_lines n (arm c) (λ b r. refl) body rest h p
 
 mutual
-  stmt_placed : {s : Scope} {ts : List Symbol} {o : Reading Statement} → ReadsStmt s ts o → IsNewOwn s → (n : ℕ) → P n ts → Placed stmt_lines n o
-  stmt_placed {s} {ts} (stmt_assign {e = e} f h) new n q =
+  stmt_placed : {s : Scope} {ts : List Symbol} {o : Reading Statement} → ReadsStmt s ts o → (n : ℕ) → P n ts → Placed stmt_lines n o
+  stmt_placed {s} {ts} (stmt_assign {e = e} f h) n q =
       let m = (next ts).line in
       let t = fine_target (P m) (closed m) (good m) s ts (own n ts q) in
       let v = fine_expr (P m) (closed m) (good m) h (kept_skip (P m) (closed m) (good m) (left (target s ts)) (kept (P m) IsVariable (target s ts) t)) in
@@ -244,55 +244,55 @@ mutual
       (fine_line (P m) (closed m) (good m) (P (suc m)) (feed m) (stop m) (λ x. stmt_lines x ≡ m ∷ []) s (both made (target s ts) e)
       (fine_both (P m) (closed m) (good m) IsVariable WellFormedExpr (λ x. stmt_lines x ≡ m ∷ []) made (λ x y z w. one_line m (next (after ts)).kind x y)
       (target s ts) e t v))
-  stmt_placed {s} {ts} (stmt_results {names = names} {args = args} f k h) new n q =
+  stmt_placed {s} {ts} (stmt_results {names = names} {args = args} f k h) n q =
       let m = (next ts).line in
       let t = fine_targets (P m) (closed m) (good m) k (own n ts q) in
       let p = operation s (left names) in
-      let o = fine_operation (P m) (closed m) (good m) s (left names) (kept (P m) (All IsVariable) names t) new in
+      let o = fine_operation (P m) (closed m) (good m) s (left names) (kept (P m) (All IsVariable) names t) in
       let a = fine_args (P m) (closed m) (good m) h (kept (P m) (IsCall s.place s.own) p o) in
       lined stmt_lines n m (below n ts q (begins s ts form.Results f refl)) (ended s (three (call m) names p args))
       (fine_line (P m) (closed m) (good m) (P (suc m)) (feed m) (stop m) (λ x. stmt_lines x ≡ m ∷ []) s (three (call m) names p args)
       (fine_three (P m) (closed m) (good m) (All IsVariable) (IsCall s.place s.own) (All WellFormedArg) (λ x. stmt_lines x ≡ m ∷ []) (call m)
       (λ x y z u v w. refl) names p args t o a))
-  stmt_placed {s} {ts} (stmt_bare {args = args} f h) new n q =
+  stmt_placed {s} {ts} (stmt_bare {args = args} f h) n q =
       let m = (next ts).line in
       let p = operation s (Ok ts) in
-      let o = fine_operation (P m) (closed m) (good m) s (Ok ts) (own n ts q) new in
+      let o = fine_operation (P m) (closed m) (good m) s (Ok ts) (own n ts q) in
       let a = fine_args (P m) (closed m) (good m) h (kept (P m) (IsCall s.place s.own) p o) in
       lined stmt_lines n m (below n ts q (begins s ts form.Bare f refl)) (ended s (both (call m []) p args))
       (fine_line (P m) (closed m) (good m) (P (suc m)) (feed m) (stop m) (λ x. stmt_lines x ≡ m ∷ []) s (both (call m []) p args)
       (fine_both (P m) (closed m) (good m) (IsCall s.place s.own) (All WellFormedArg) (λ x. stmt_lines x ≡ m ∷ []) (call m []) (λ x y u v. refl) p args o a))
-  stmt_placed {s} {ts} (stmt_if {chain = chain} f h) new n q =
+  stmt_placed {s} {ts} (stmt_if {chain = chain} f h) n q =
       let m = (next ts).line in
       let w = below n ts q (begins s ts form.Conditional f refl) in
       placed_ended stmt_lines n s (mapped (choose m) chain)
-      (placed_mapped arms_lines stmt_lines (suc m) n (choose m) (λ a e r. (w, r)) chain (arms_placed h new m (closed m ts (own n ts q))))
-  stmt_placed (stmt_beyond f) new n q = tt
-  stmt_placed (stmt_misplaced f) new n q = tt
+      (placed_mapped arms_lines stmt_lines (suc m) n (choose m) (λ a e r. (w, r)) chain (arms_placed h m (closed m ts (own n ts q))))
+  stmt_placed (stmt_beyond f) n q = tt
+  stmt_placed (stmt_misplaced f) n q = tt
 
-  block_placed : {s : Scope} {st : Left} {o : Reading Block} → ReadsBlock s st o → IsNewOwn s → (n : ℕ) → Kept (P n) st → Placed block_lines n o
-  block_placed block_stop new n q = tt
-  block_placed (block_end e) new n q = record { end = n; rises = omega arith; rest = q }
-  block_placed (block_more {o = o} {out = out} e h k) new n q =
-      placed_both stmt_lines block_lines block_lines n andthen (λ x b. refl) o out (stmt_placed h new n q) (λ m r. block_placed k new m r)
+  block_placed : {s : Scope} {st : Left} {o : Reading Block} → ReadsBlock s st o → (n : ℕ) → Kept (P n) st → Placed block_lines n o
+  block_placed block_stop n q = tt
+  block_placed (block_end e) n q = record { end = n; rises = omega arith; rest = q }
+  block_placed (block_more {o = o} {out = out} e h k) n q =
+      placed_both stmt_lines block_lines block_lines n andthen (λ x b. refl) o out (stmt_placed h n q) (λ m r. block_placed k m r)
 
-  arms_placed : {s : Scope} {st : Left} {o : Reading Arms} → ReadsArms s st o → IsNewOwn s → (n : ℕ) → Kept (P n) st → Placed arms_lines (suc n) o
-  arms_placed {s} (arm_more {c = c} {body = body} {rest = rest} h k g) new n q =
+  arms_placed : {s : Scope} {st : Left} {o : Reading Arms} → ReadsArms s st o → (n : ℕ) → Kept (P n) st → Placed arms_lines (suc n) o
+  arms_placed {s} (arm_more {c = c} {body = body} {rest = rest} h k g) n q =
       let fc = fine_expr (P n) (closed n) (good n) h q in
       let ft = fine_through (P n) (closed n) (good n) WellFormedExpr s expected.Then c fc in
       let fe = fine_line (P n) (closed n) (good n) (P (suc n)) (feed n) (stop n) WellFormedExpr s (through s expected.Then c) ft in
-      arm_placed (suc n) c body rest (block_placed k new (suc n) (kept (P (suc n)) WellFormedExpr (ended s (through s expected.Then c)) fe))
-      (λ m r. more_placed g new m r)
+      arm_placed (suc n) c body rest (block_placed k (suc n) (kept (P (suc n)) WellFormedExpr (ended s (through s expected.Then c)) fe))
+      (λ m r. more_placed g m r)
 
-  more_placed : {s : Scope} {st : Left} {o : Reading Arms} → ReadsMore s st o → IsNewOwn s → (n : ℕ) → Kept (P n) st → Placed arms_lines n o
-  more_placed more_stop new n q = tt
-  more_placed (more_elseif {ts = ts} {out = out} e h) new n q = placed_from arms_lines n (suc n) (omega arith) out (arms_placed h new n (closed n ts q))
-  more_placed {s} (more_else {ts = ts} {body = body} e f h) new n q =
+  more_placed : {s : Scope} {st : Left} {o : Reading Arms} → ReadsMore s st o → (n : ℕ) → Kept (P n) st → Placed arms_lines n o
+  more_placed more_stop n q = tt
+  more_placed (more_elseif {ts = ts} {out = out} e h) n q = placed_from arms_lines n (suc n) (omega arith) out (arms_placed h n (closed n ts q))
+  more_placed {s} (more_else {ts = ts} {body = body} e f h) n q =
       let fe = fine_line (P n) (closed n) (good n) (P (suc n)) (feed n) (stop n) any s (Ok (no_stmt, after ts)) (tt, closed n ts q) in
-      let b = block_placed h new (suc n) (kept (P (suc n)) any (ended s (Ok (no_stmt, after ts))) fe) in
+      let b = block_placed h (suc n) (kept (P (suc n)) any (ended s (Ok (no_stmt, after ts))) fe) in
       placed_through arms_lines n s expected.Endif (mapped otherwise body)
       (placed_mapped block_lines arms_lines (suc n) n otherwise (λ x e r. rises_from n (suc n) e (block_lines x) (omega arith) r) body b)
-  more_placed {s} (more_endif {ts = ts} e f) new n q =
+  more_placed {s} (more_endif {ts = ts} e f) n q =
       placed_through arms_lines n s expected.Endif (Ok (otherwise no_stmt, ts)) (record { end = n; rises = omega arith; rest = q })
 
 -- ---- instruments, definitions, header lines
@@ -317,7 +317,7 @@ instr_placed {d} {g} {ts} (instr {ns = ns} {body = body} k h) n q e =
     let s = in_instrument d in
     let fn = fine_numbers (P m) (closed m) k (closed m ts (own n ts q)) in
     let fe = fine_line (P m) (closed m) (good m) (P (suc m)) (feed m) (stop m) (NumbersFrom g) s ns fn in
-    let b = block_placed h (λ p. cc) (suc m) (kept (P (suc m)) (NumbersFrom g) (ended s ns) fe) in
+    let b = block_placed h (suc m) (kept (P (suc m)) (NumbersFrom g) (ended s ns) fe) in
     let made = both (instrument_of m) ns body in
     placed_ended instr_lines n (outside d) (through s expected.Endin made)
     (placed_through instr_lines n s expected.Endin made (instr_both n m (below n ts q e) ns body b))
@@ -352,7 +352,7 @@ udo_placed {d} {ts} (udo {us = us} {h = h} {names = names} {body = body} {result
     let top : NewHeading m d h × P (suc m) us = subst (Fine (P (suc m)) (NewHeading m d)) x
     (fine_heading (P m) (closed m) (good m) (P (suc m)) (feed m) (stop m) (weaker m) (in_definition [] d) m (after ts) (closed m ts (own n ts q))) in
     let fn = inputs_fine (suc m) i top.1 in
-    let b = block_placed k (λ p. top.0.0.0) (suc m) (kept (P (suc m)) (NamesFit h.ins) names fn) in
+    let b = block_placed k (suc m) (kept (P (suc m)) (NamesFit h.ins) names fn) in
     let made = three (definition_of h) names body result in
     placed_ended udo_lines n (outside d) (through s expected.Endop made)
     (placed_through udo_lines n s expected.Endop made
@@ -422,7 +422,7 @@ ordered {d} {g} (orc_udo {ts = ts} {o = o} {out = out} e h k) n q =
     (udo_placed h n q (item_begins ts item.Opcode e refl)) (λ m r. ordered k m r)
 ordered {d} {g} (orc_stmt {ts = ts} {o = o} {out = out} e h k) n q =
     added stmt_lines stmt_item with_stmt (λ a o items i. ap (with_stmt a) i) (λ a. refl) n o out
-    (stmt_placed h (λ p. cc) n q) (λ m r. ordered k m r)
+    (stmt_placed h n q) (λ m r. ordered k m r)
 
 pub in_order : {d : List (List ℕ)} {g : List ℕ} {ts rest : List Symbol} {o : Orchestra} → ReadsOrc d g (Ok ts) (Ok (o, rest)) → P 0 ts → InOrder o
 in_order h q =

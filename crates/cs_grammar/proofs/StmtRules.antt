@@ -9,6 +9,7 @@ use Rattle.cs_grammar.specs.declared.tree.OrcStmt.{OrcStmt}
 use Rattle.std.specs.Global.{Vec}
 use Rattle.cs_grammar.specs.declared.tree.Arg.{Arg}
 use Rattle.cs_grammar.specs.declared.tree.Arm.{Arm, out-Arm}
+use Rattle.cs_grammar.specs.declared.tree.Callee.{Callee}
 use Rattle.cs_grammar.proofs.Gives.{closing_keeps, through_is, ended_is, valued, left_valued}
 use Rattle.cs_grammar.proofs.OneRow.{reads_targets}
 use Rattle.cs_grammar.proofs.OneStmt.{stmt_less, stmt_is, same_block}
@@ -50,20 +51,20 @@ module _ (s : Scope) (ts : List Symbol) where
       subst (λ o. ReadsStmt s ts (ended s (both (assign (next ts).line (next (after ts)).kind) o e))) t
       (stmt_assign f (subst (λ o. ReadsExpr s at.Expr (skip (left o)) e) (sym t) h))
 
-  abbrev ResultsRead : Reading (List Argument) → Reading (List (List ℕ)) → Reading (List ℕ) → Type 0
+  abbrev ResultsRead : Reading (List Argument) → Reading (List (List ℕ)) → Reading Callee → Type 0
   ResultsRead args n p = ReadsArgs s (left p) args → ReadsStmt s ts (ended s (three (call (next ts).line) n p args))
 
-  pub results_is : (n : Reading (List (List ℕ))) (p : Reading (List ℕ)) (args : Reading (List Argument)) → line_form s ts ≡ form.Results → targets s ts ≡ n
+  pub results_is : (n : Reading (List (List ℕ))) (p : Reading Callee) (args : Reading (List Argument)) → line_form s ts ≡ form.Results → targets s ts ≡ n
       → operation s (left n) ≡ p → ReadsArgs s (left p) args → ReadsStmt s ts (ended s (three (call (next ts).line) n p args))
   results_is n p args f t o h =
       let start : ResultsRead args (targets s ts) (operation s (left (targets s ts))) = stmt_results f (reads_targets s ts) in
       let middle : ResultsRead args n (operation s (left n)) = subst (λ x. ResultsRead args x (operation s (left x))) t start in
       subst (λ x. ResultsRead args n x) o middle h
 
-  abbrev BareRead : Reading (List Argument) → Reading (List ℕ) → Type 0
+  abbrev BareRead : Reading (List Argument) → Reading Callee → Type 0
   BareRead args p = ReadsArgs s (left p) args → ReadsStmt s ts (ended s (both (call (next ts).line []) p args))
 
-  pub bare_is : (p : Reading (List ℕ)) (args : Reading (List Argument)) → line_form s ts ≡ form.Bare → operation s (Ok ts) ≡ p → ReadsArgs s (left p) args
+  pub bare_is : (p : Reading Callee) (args : Reading (List Argument)) → line_form s ts ≡ form.Bare → operation s (Ok ts) ≡ p → ReadsArgs s (left p) args
       → ReadsStmt s ts (ended s (both (call (next ts).line []) p args))
   bare_is p args f o h =
       let start : BareRead args (operation s (Ok ts)) = stmt_bare f in

@@ -2,6 +2,7 @@ use Rattle.std.specs.Prelude.{ℕ, Bool, true, false, List, [], ◌∷◌, ◌�
 use Rattle.cs_base.specs.declared.fault.OrcFault.{OrcFault}
 use Rattle.cs_base.specs.declared.fault.OrcKind.TheVariants as orc
 use Rattle.cs_words.specs.declared.sign.BinOp.{BinOp}
+use Rattle.cs_words.specs.declared.sign.BinOp.TheVariants as op
 use Rattle.cs_words.specs.declared.sign.Sign.TheVariants as sign
 use Rattle.cs_words.specs.declared.word.Func.{Func}
 use Rattle.cs_grammar.specs.declared.symbol.Kind.{Kind}
@@ -16,7 +17,7 @@ use Rattle.cs_grammar.specs.declared.expr.Level.TheVariants as level
 use Rattle.cs_grammar.specs.declared.expr.PartForm.TheVariants as part
 use Rattle.cs_grammar.specs.declared.stmt.LineForm.TheVariants as form
 use Rattle.cs_grammar.specs.Symbols.{Symbol}
-use Rattle.cs_grammar.specs.Tree.{Expression, neg, pair, pick, apply, Argument, value, text, Statement, set, add_to, call, choose, Block, no_stmt, andthen}
+use Rattle.cs_grammar.specs.Tree.{Expression, var, neg, pair, pick, apply, Argument, value, text, Statement, set, call, choose, Block, no_stmt, andthen}
 use Rattle.cs_grammar.specs.Tree.{Arms, otherwise, arm}
 use Rattle.cs_grammar.specs.Reading.{next, after, Left, Reading, left, mapped, both, three, skip, next_is, meets, Scope, deeper, fault, misfit, through, ended}
 use Rattle.cs_grammar.specs.Kinds.{is, ends_line}
@@ -91,9 +92,9 @@ abbrev pub ends_block : Scope → Kind → Bool
 ends_block s k =
     if nat_lt 0 s.depth then is expected.Elseif k || is expected.Else k || is expected.Endif k else ends_part s.place k
 
--- `name = expr`, or `name += expr`, by its sign
+-- `name = expr`; `name += expr` is `name = name + expr`
 abbrev pub assign : ℕ → Kind → List ℕ → Expression → Statement
-assign line (kind.Sign sign.PlusEquals) name e = add_to line name e
+assign line (kind.Sign sign.PlusEquals) name e = set line name (pair op.Add (var name) e)
 assign line _ name e = set line name e
 
 -- stmt, and the statements and arms in it

@@ -1,14 +1,18 @@
 use Rattle.std.specs.Prelude.{ℕ, ℤ, pos, Bool, true, false, List, [], ◌∷◌, ◌++◌, ◌≡◌, ◌/◌, ◌%◌, ◌&&◌, ◌==◌, not, codes, Option, Some, None, Ok, Err}
 use Rattle.std.specs.Prelude.{if◌then◌else◌, nat_le, nat_lt}
 use Rattle.std.specs.Str.{bytes_eq}
+use Rattle.cs_base.specs.Limits.{greatest_instrument, most_nested_ifs}
 use Rattle.cs_base.specs.declared.fault.OrcFault.{OrcFault}
 use Rattle.cs_base.specs.declared.fault.OrcKind.{OrcKind}
 use Rattle.cs_base.specs.declared.fault.OrcKind.TheVariants as orc
+use Rattle.cs_words.specs.declared.catalogue.Opcode.{Opcode}
 use Rattle.cs_words.specs.declared.catalogue.Opcode.TheVariants as opcode
 use Rattle.cs_words.specs.declared.word.HeadName.{HeadName}
 use Rattle.cs_words.specs.declared.word.Keyword.TheVariants as key
 use Rattle.cs_words.specs.declared.word.Word.TheVariants as word
 use Rattle.cs_words.specs.declared.sign.Sign.TheVariants as sign
+use Rattle.cs_grammar.specs.declared.tree.Callee.{Callee}
+use Rattle.cs_grammar.specs.declared.tree.Callee.TheVariants as callee
 use Rattle.cs_grammar.specs.declared.tree.HeadLine.{HeadLine}
 use Rattle.cs_grammar.specs.declared.symbol.Kind.{Kind}
 use Rattle.cs_grammar.specs.declared.symbol.Kind.TheVariants as kind
@@ -32,7 +36,7 @@ word_form _ true = form.Bare
 word_form k false = if is_word k then form.Results else form.Bare
 
 abbrev pub line_form_of : Scope → Kind → LineForm → LineForm
-line_form_of s (kind.Word (word.Keyword key.If)) by_word = if nat_lt s.depth 100 then form.Conditional else form.Beyond
+line_form_of s (kind.Word (word.Keyword key.If)) by_word = if nat_lt s.depth most_nested_ifs then form.Conditional else form.Beyond
 line_form_of s (kind.Word (word.Keyword _)) by_word = form.Misplaced
 line_form_of s k by_word = if is_word k then by_word else form.Misplaced
 
@@ -73,24 +77,29 @@ is_outside _ = false
 abbrev pub is_other_text : Symbol → Bool
 is_other_text t = is expected.Text t.kind && not (bytes_eq t.text (codes "i"))
 
--- an opcode's name, which isn't that of the definition around
-abbrev pub called : Scope → List Symbol → Reading (List ℕ)
-called s ts =
-    if is_own s (next ts).text s.place then Err (fault ts orc.Recursion) else Ok ((next ts).text, after ts)
+-- an opcode of the catalogue: `zakinit` stands outside alone
+abbrev pub by_opcode : Scope → List Symbol → Opcode → Reading Callee
+by_opcode s ts opcode.Zakinit =
+    if is_outside s.place then Ok (callee.Opcode opcode.Zakinit, after ts) else Err (fault ts orc.Unexpected)
+by_opcode s ts opcode.EventI =
+    if is_other_text (next (after ts)) then Err (fault (after ts) orc.NotInProfile)
+    else Ok (callee.Opcode opcode.EventI, after ts)
+by_opcode s ts o = Ok (callee.Opcode o, after ts)
 
--- the opcode of a call, by what its symbol is
-abbrev pub operation_of : Scope → List Symbol → Kind → Reading (List ℕ)
-operation_of s ts (kind.Word (word.Opcode opcode.Zakinit)) =
-    if is_outside s.place then Ok ((next ts).text, after ts) else Err (fault ts orc.Unexpected)
-operation_of s ts (kind.Word (word.Opcode opcode.EventI)) =
-    if is_other_text (next (after ts)) then Err (fault (after ts) orc.NotInProfile) else Ok ((next ts).text, after ts)
+-- any other name, which isn't that of the definition around
+abbrev pub called : Scope → List Symbol → Reading Callee
+called s ts =
+    if is_own s (next ts).text s.place then Err (fault ts orc.Recursion) else Ok (callee.Name (next ts).text, after ts)
+
+-- what is called, by what its symbol is
+abbrev pub operation_of : Scope → List Symbol → Kind → Reading Callee
+operation_of s ts (kind.Word (word.Opcode o)) = by_opcode s ts o
 operation_of s ts (kind.Word (word.Keyword k)) = Err (misfit s orc.Unexpected ts)
 operation_of s ts (kind.Word word.Foreign) = Err (misfit s orc.Unexpected ts)
-operation_of s ts k =
-    if is_word k then called s ts else Err (misfit s orc.Unexpected ts)
+operation_of s ts k = if is_word k then called s ts else Err (misfit s orc.Unexpected ts)
 
--- The opcode of a call: `zakinit` stands outside alone, a definition doesn't call itself.
-abbrev pub operation : Scope → Left → Reading (List ℕ)
+-- what a statement calls: an opcode of the catalogue, or any other name
+abbrev pub operation : Scope → Left → Reading Callee
 operation s (Ok ts) = operation_of s ts (next ts).kind
 operation s (Err f) = Err f
 
@@ -107,7 +116,7 @@ header_line s h ts = header_of s h (next ts).line (after (after ts)) (next (afte
 -- the whole number from 1 to 32,767 that a value is
 abbrev pub instrument_number : ℤ → Option ℕ
 instrument_number (pos raw) =
-    if raw % 65536 == 0 && nat_le 1 (raw / 65536) && nat_le (raw / 65536) 32767 then Some (raw / 65536) else None
+    if raw % 65536 == 0 && nat_le 1 (raw / 65536) && nat_le (raw / 65536) greatest_instrument then Some (raw / 65536) else None
 instrument_number _ = None
 
 -- a number that no instrument has yet

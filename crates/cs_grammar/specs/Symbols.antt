@@ -1,4 +1,5 @@
 use Rattle.std.specs.Prelude.{ℕ, List, [], ◌∷◌, ◌+◌, ◌-◌, if◌then◌else◌, nat_le, slice_range, length}
+use Rattle.cs_base.specs.Limits.{most_line_tokens}
 use Rattle.cs_lex.specs.declared.token.Mark.{Mark}
 use Rattle.cs_lex.specs.declared.token.Mark.TheVariants as mark
 use Rattle.cs_lex.specs.declared.token.Token.{Token}
@@ -26,7 +27,7 @@ kind_of_mark mark.End bytes = kind.End
 abbrev pub kind_after : ℕ → Mark → List ℕ → Kind
 kind_after place mark.NewLine bytes = kind.NewLine
 kind_after place mark.End bytes = kind.End
-kind_after place m bytes = if nat_le 1000 place then kind.Beyond else kind_of_mark m bytes
+kind_after place m bytes = if nat_le most_line_tokens place then kind.Beyond else kind_of_mark m bytes
 
 abbrev pub bytes_of : List ℕ → Token → List ℕ
 bytes_of source t = slice_range source t.from t.to
@@ -36,7 +37,7 @@ abbrev pub unquoted : Mark → List ℕ → List ℕ
 unquoted mark.Text bytes = slice_range bytes 1 (length bytes - 1)
 unquoted _ bytes = bytes
 
--- a token that stands after so many others of its line
+-- a token that stands after `place` others of its line
 abbrev pub symbol : List ℕ → ℕ → Token → Symbol
 symbol source place t = record {
   kind = kind_after place t.mark (bytes_of source t);

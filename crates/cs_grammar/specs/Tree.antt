@@ -7,8 +7,9 @@ use Rattle.cs_grammar.specs.declared.tree.Expr.{Expr}
 use Rattle.cs_grammar.specs.declared.tree.Expr.TheVariants.{Number, Var, Field, Head, Neg', Pair', Pick', Call'}
 use Rattle.cs_grammar.specs.declared.tree.Arg.{Arg}
 use Rattle.cs_grammar.specs.declared.tree.Arg.TheVariants.{Value, Text}
+use Rattle.cs_grammar.specs.declared.tree.Callee.{Callee}
 use Rattle.cs_grammar.specs.declared.tree.StmtWhat.{StmtWhat, Row_of-Arm, end_of-Arm, more_of-Arm, Row_of-OrcStmt, end_of-OrcStmt, more_of-OrcStmt}
-use Rattle.cs_grammar.specs.declared.tree.StmtWhat.TheVariants.{Set, AddTo, Call, Choose'}
+use Rattle.cs_grammar.specs.declared.tree.StmtWhat.TheVariants.{Set, Call, Choose'}
 use Rattle.cs_grammar.specs.declared.tree.OrcStmt.{OrcStmt}
 use Rattle.cs_grammar.specs.declared.tree.Arm.{Arm, Arm', out-Arm}
 use Rattle.cs_grammar.specs.declared.tree.HeadLine.{HeadLine}
@@ -36,8 +37,7 @@ pub data Argument : Type 0 where
 mutual
   pub data Statement : Type 0 where
     set : ℕ → List ℕ → Expression → Statement
-    add_to : ℕ → List ℕ → Expression → Statement
-    call : ℕ → List (List ℕ) → List ℕ → List Argument → Statement
+    call : ℕ → List (List ℕ) → Callee → List Argument → Statement
     choose : ℕ → Arms → Statement
 
   pub data Block : Type 0 where
@@ -89,8 +89,7 @@ argument (Text bytes) = text bytes
 abbrev mutual
   pub of_what : ℕ → StmtWhat → Statement
   of_what line (Set name e) = set line name (expression e)
-  of_what line (AddTo name e) = add_to line name (expression e)
-  of_what line (Call results opcode args) = call line results opcode (map argument args.items)
+  of_what line (Call results callee args) = call line results callee (map argument args.items)
   of_what line (Choose' s a t b) = choose line (of_arms (of_block b) a)
 
   pub of_block : {m : _} → Row_of-OrcStmt m → Block

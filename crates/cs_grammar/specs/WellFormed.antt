@@ -1,10 +1,16 @@
 use Rattle.std.specs.Prelude.{ℕ, true, false, List, [], ◌∷◌, ◌++◌, ◌≡◌, ◌≢◌, ◌≤◌, ◌<◌, ◌+◌, codes, length, map}
 use Rattle.std.specs.Str.{byte}
 use Rattle.std.specs.List.{All, AllPairs}
+use Rattle.cs_words.specs.declared.catalogue.Opcode.{Opcode}
+use Rattle.cs_words.specs.declared.catalogue.Opcode.TheVariants as opcode
+use Rattle.cs_base.specs.Limits.{greatest_field, greatest_instrument, most_nested_ifs}
+use Rattle.cs_words.specs.Catalogue.{row_of}
 use Rattle.cs_words.specs.Names.{is_name, is_global, name_rate}
 use Rattle.cs_grammar.specs.declared.scope.Place.{Place}
 use Rattle.cs_grammar.specs.declared.scope.Place.TheVariants as place
-use Rattle.cs_grammar.specs.Tree.{Expression, number, var, field, head, neg, pair, pick, apply, Argument, value, text, Statement, set, add_to, call, choose}
+use Rattle.cs_grammar.specs.declared.tree.Callee.{Callee}
+use Rattle.cs_grammar.specs.declared.tree.Callee.TheVariants as callee
+use Rattle.cs_grammar.specs.Tree.{Expression, number, var, field, head, neg, pair, pick, apply, Argument, value, text, Statement, set, call, choose}
 use Rattle.cs_grammar.specs.Tree.{Block, no_stmt, andthen, Arms, otherwise, arm, Instrument, Definition, Orchestra}
 use Rattle.cs_grammar.specs.declared.tree.HeadLine.{HeadLine}
 use Rattle.cs_grammar.specs.Orchestra.{nothing, with_header, with_instr, with_definition, with_stmt}
@@ -22,7 +28,7 @@ IsVariable n = (is_name n ≡ true) × HasNoStop n
 abbrev pub WellFormedExpr : Expression → Type 0
 WellFormedExpr (number v) = Unit {0}
 WellFormedExpr (var n) = IsVariable n
-WellFormedExpr (field k) = (1 ≤ k) × (k ≤ 100)
+WellFormedExpr (field k) = (1 ≤ k) × (k ≤ greatest_field)
 WellFormedExpr (head h) = Unit {0}
 WellFormedExpr (neg a) = WellFormedExpr a
 WellFormedExpr (pair op a b) = WellFormedExpr a × WellFormedExpr b
@@ -39,22 +45,26 @@ WellFormedValue (value e) = WellFormedExpr e
 WellFormedValue (text t) = ⊥
 
 -- what may be called: in an instrument or a definition no `zakinit`, in a definition not itself
-abbrev pub MayCall : Place → List ℕ → List ℕ → Type 0
-MayCall place.Outside own op = Unit {0}
-MayCall place.Instrument own op = op ≢ codes "zakinit"
-MayCall place.Definition own op = (op ≢ codes "zakinit") × (op ≢ own)
+abbrev pub MayCall : Place → List ℕ → Callee → Type 0
+MayCall place.Outside own c = Unit {0}
+MayCall place.Instrument own c = c ≢ callee.Opcode opcode.Zakinit
+MayCall place.Definition own c = (c ≢ callee.Opcode opcode.Zakinit) × (c ≢ callee.Name own)
 
--- the opcode of a call
-abbrev pub IsCall : Place → List ℕ → List ℕ → Type 0
-IsCall p own op = HasNoStop op × MayCall p own op
+-- a name that is called is that of no opcode of the catalogue
+abbrev pub IsCallee : Callee → Type 0
+IsCallee (callee.Opcode o) = Unit {0}
+IsCallee (callee.Name n) = HasNoStop n × ((o : Opcode) → n ≢ (row_of o).name)
 
--- Statements at a place, in the definition of a name, inside so many `if`s: an `if` stands inside at most 99 others.
+-- what is called at a place
+abbrev pub IsCall : Place → List ℕ → Callee → Type 0
+IsCall p own c = IsCallee c × MayCall p own c
+
+-- Statements at a place, in the definition of a name, inside `depth` `if`s: an `if` stands inside at most 99 others.
 abbrev mutual
   pub WellFormedStmt : Place → List ℕ → ℕ → Statement → Type 0
   WellFormedStmt p own depth (set line n e) = IsVariable n × WellFormedExpr e
-  WellFormedStmt p own depth (add_to line n e) = IsVariable n × WellFormedExpr e
-  WellFormedStmt p own depth (call line ns op args) = All IsVariable ns × IsCall p own op × All WellFormedArg args
-  WellFormedStmt p own depth (choose line arms) = (depth < 100) × WellFormedArms p own (depth + 1) arms
+  WellFormedStmt p own depth (call line ns c args) = All IsVariable ns × IsCall p own c × All WellFormedArg args
+  WellFormedStmt p own depth (choose line arms) = (depth < most_nested_ifs) × WellFormedArms p own (depth + 1) arms
 
   pub WellFormedBlock : Place → List ℕ → ℕ → Block → Type 0
   WellFormedBlock p own depth no_stmt = Unit {0}
@@ -65,7 +75,7 @@ abbrev mutual
   WellFormedArms p own depth (arm c body rest) = WellFormedExpr c × WellFormedBlock p own depth body × WellFormedArms p own depth rest
 
 pub record WellFormedInstrument (i : Instrument) : Type 0 where
-  pub numbers : All (λ n. (1 ≤ n) × (n ≤ 32767)) i.numbers
+  pub numbers : All (λ n. (1 ≤ n) × (n ≤ greatest_instrument)) i.numbers
   pub body : WellFormedBlock place.Instrument [] 0 i.body
 
 -- the names of the inputs are different local variables, one for each letter, of its rate; one value for each result
@@ -81,8 +91,7 @@ pub record WellFormedDefinition (d : Definition) : Type 0 where
 -- the line of a statement's first symbol
 abbrev pub line_of : Statement → ℕ
 line_of (set line n e) = line
-line_of (add_to line n e) = line
-line_of (call line ns op args) = line
+line_of (call line ns c args) = line
 line_of (choose line arms) = line
 
 -- the numbers of all instruments
@@ -109,8 +118,7 @@ pub data Item : Type 0 where
 abbrev mutual
   pub stmt_lines : Statement → List ℕ
   stmt_lines (set line n e) = line ∷ []
-  stmt_lines (add_to line n e) = line ∷ []
-  stmt_lines (call line ns op args) = line ∷ []
+  stmt_lines (call line ns c args) = line ∷ []
   stmt_lines (choose line arms) = line ∷ arms_lines arms
 
   pub block_lines : Block → List ℕ

@@ -204,7 +204,8 @@ impl<'s> Parser<'s> {
         Ok(left)
     }
 
-    fn pair(&self, op: BinOp, left: Expr, right: Expr) -> Result<Expr, Or<OrcFault>>
+    /// The operator of two operands.
+    pub fn pair(&self, op: BinOp, left: Expr, right: Expr) -> Result<Expr, Or<OrcFault>>
         ensures value { IfOk result (λ e. expression e
             ≡ pair op (expression left) (expression right)) }
         ensures memory { IfErr result (λ e. e ≡ or.OutOfMemory) }

@@ -26,4 +26,6 @@ mod xout;
 
 pub use laws::{one_reading, trees_are_well_formed};
 pub use orc::parse;
-pub use tree::{Arg, Args, Arm, Arms, Expr, HeadLine, Instr, Orc, OrcStmt, StmtWhat, Stmts, Udo};
+pub use tree::{
+    Arg, Args, Arm, Arms, Callee, Expr, HeadLine, Instr, Orc, OrcStmt, StmtWhat, Stmts, Udo,
+};

@@ -1,26 +1,23 @@
-// Lists in a line: the variables that take results, the opcode, the arguments.
+// Lists in a line: the variables that take results, what is called, the arguments.
 ghost use Rattle.std.specs.Prelude.{◌≡◌, ◌≤◌, Ok, length, map};
 ghost use Rattle.cs_grammar.specs.Tree.{argument};
 ghost use Rattle.cs_grammar.specs.Reading.{next, after};
-ghost use Rattle.cs_grammar.specs.Lines.{no_target, target, operation, called, is_other_text};
+ghost use Rattle.cs_grammar.specs.Lines.{no_target, target, operation, by_opcode, called, is_other_text};
 ghost use Rattle.cs_grammar.specs.Parts.{is_variable, is_opcode};
 ghost use Rattle.cs_grammar.specs.inner.Answers.{Gives};
 ghost use Rattle.cs_grammar.specs.inner.Rows.{targets, quoted};
 ghost use Rattle.cs_grammar.specs.Grammar.{ReadsArg, ReadsList, ReadsArgs};
-ghost use Rattle.cs_grammar.specs.declared.symbol.Kind.TheVariants as kind;
 ghost use Rattle.cs_grammar.specs.declared.lists.Role.TheVariants as role;
-ghost use Rattle.cs_words.specs.declared.catalogue.Opcode.TheVariants as opcode;
-ghost use Rattle.cs_words.specs.declared.word.Word.TheVariants as word;
 
 use crate::expr::Level;
 use crate::parser::Parser;
 use crate::scope::{Place, Scope};
 use crate::symbol::{Expected, Kind};
-use crate::tree::{Arg, Args};
+use crate::tree::{Arg, Args, Callee};
 use cs_base::{Name, Names, Or, OrcFault, OrcKind};
 use cs_words::{Opcode, Word};
 
-/// As what a value stands in a list: as an argument of a call, or as a result of a definition.
+/// The role of a value in a list: an argument of a call, or a result of a definition.
 #[derive(Clone, Copy)]
 pub enum Role {
     Argument,
@@ -102,15 +99,14 @@ impl<'s> Parser<'s> {
         self.next_is(Expected::Text) && self.text() != b"i".as_slice()
     }
 
-    /// Reads the opcode of a call.
-    pub fn operation(&mut self, scope: &Scope) -> Result<Name, Or<OrcFault>>
-        ensures reads { Gives (λ n. n) result self.new
+    /// Reads what is called.
+    pub fn operation(&mut self, scope: &Scope) -> Result<Callee, Or<OrcFault>>
+        ensures reads { Gives (λ c. c) result self.new
             (λ o. o ≡ operation scope.now (Ok self.old)) }
         ensures goes { length self.new ≤ length self.old }
     {
         match self.kind() {
-            Kind::Word(Word::Opcode(Opcode::Zakinit)) => self.space(scope),
-            Kind::Word(Word::Opcode(Opcode::EventI)) => self.event(scope),
+            Kind::Word(Word::Opcode(opcode)) => self.opcode(scope, opcode),
             Kind::Word(Word::Keyword(_) | Word::Foreign) => {
                 Err(self.misfit(scope, OrcKind::Unexpected))
             }
@@ -119,42 +115,31 @@ impl<'s> Parser<'s> {
         }
     }
 
-    // `zakinit` stands outside instruments and definitions alone.
-    fn space(&mut self, scope: &Scope) -> Result<Name, Or<OrcFault>>
-        requires { (next self.old).kind ≡ kind.Word (word.Opcode opcode.Zakinit) }
-        ensures reads { Gives (λ n. n) result self.new
-            (λ o. o ≡ operation scope.now (Ok self.old)) }
+    // Reads an opcode of the catalogue; `zakinit` stands outside instruments and definitions alone.
+    fn opcode(&mut self, scope: &Scope, opcode: Opcode) -> Result<Callee, Or<OrcFault>>
+        ensures reads { Gives (λ c. c) result self.new
+            (λ o. o ≡ by_opcode scope.now self.old opcode) }
         ensures goes { length self.new ≤ length self.old }
     {
-        if matches!(scope.place(), Place::Outside) {
-            self.take_name()
-        } else {
-            Err(self.fault(OrcKind::Unexpected))
+        if matches!(opcode, Opcode::Zakinit) && !matches!(scope.place(), Place::Outside) {
+            return Err(self.fault(OrcKind::Unexpected));
         }
-    }
-
-    fn event(&mut self, scope: &Scope) -> Result<Name, Or<OrcFault>>
-        requires { (next self.old).kind ≡ kind.Word (word.Opcode opcode.EventI) }
-        ensures reads { Gives (λ n. n) result self.new
-            (λ o. o ≡ operation scope.now (Ok self.old)) }
-        ensures goes { length self.new ≤ length self.old }
-    {
-        let name = self.take_name()?;
-        if self.at_other_text() {
+        self.skip();
+        if matches!(opcode, Opcode::EventI) && self.at_other_text() {
             return Err(self.fault(OrcKind::NotInProfile));
         }
-        Ok(name)
+        Ok(Callee::Opcode(opcode))
     }
 
-    fn called(&mut self, scope: &Scope) -> Result<Name, Or<OrcFault>>
-        ensures reads { Gives (λ n. n) result self.new (λ o. o ≡ called scope.now self.old) }
+    // Reads any other name.
+    fn called(&mut self, scope: &Scope) -> Result<Callee, Or<OrcFault>>
+        ensures reads { Gives (λ c. c) result self.new (λ o. o ≡ called scope.now self.old) }
         ensures goes { length self.new ≤ length self.old }
     {
         if scope.is_own(self.text()) {
-            Err(self.fault(OrcKind::Recursion))
-        } else {
-            self.take_name()
+            return Err(self.fault(OrcKind::Recursion));
         }
+        Ok(Callee::Name(self.take_name()?))
     }
 
     fn argument(&mut self, scope: &Scope, role: Role) -> Result<Arg, Or<OrcFault>>

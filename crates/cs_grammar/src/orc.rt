@@ -16,7 +16,7 @@ use crate::parser::Parser;
 use crate::scope::{Given, Scope};
 use crate::symbol::{Expected, Kind};
 use crate::tree::{HeadLine, Instr, Orc, Stmts};
-use cs_base::{Num, Numbers, Or, OrcFault, OrcKind};
+use cs_base::{GREATEST_INSTRUMENT, Num, Numbers, ONE, Or, OrcFault, OrcKind};
 use cs_lex::{Tokens, tokens_stand_in_the_text};
 use cs_words::{HeadName, Keyword, NameSet, Word};
 use std::alloc::Global;
@@ -45,13 +45,13 @@ impl ItemForm {
     }
 }
 
-/// The whole number from 1 to 32,767 that a value is.
+/// The whole number from 1 to `GREATEST_INSTRUMENT` that a value is.
 fn instrument_number(value: Num) -> Option<u32>
     ensures { result ≡ instrument_number value }
 {
     let raw = value.raw();
-    if raw % 65_536 == 0 && 65_536 <= raw && raw <= 32_767 * 65_536 {
-        Some((raw / 65_536) as u32)
+    if raw % ONE == 0 && ONE <= raw && raw <= GREATEST_INSTRUMENT as i64 * ONE {
+        Some((raw / ONE) as u32)
     } else {
         None
     }

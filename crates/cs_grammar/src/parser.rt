@@ -112,7 +112,7 @@ impl<'s> Parser<'s> {
     pub fn name(&self) -> Result<Name, AllocError>
         ensures { IfOk result (λ n. n ≡ (next self.now).text) }
     {
-        Ok(Items::from_vec(self.text().to_vec(self.alloc)?))
+        Items::of_slice(self.alloc, self.text())
     }
 
     /// A fault at the next symbol.
@@ -151,7 +151,7 @@ impl<'s> Parser<'s> {
         }
     }
 
-    /// Takes the end of a line: a NewLine, or End in its place, which stays.
+    /// Takes the end of a line: consumes a NewLine, and accepts End without consuming it.
     pub fn end_line(&mut self, scope: &Scope) -> Result<(), Or<OrcFault>>
         ensures passes { Passes result self.new (line_past scope.now (next self.old).kind self.old) }
         ensures goes { length self.new ≤ length self.old }

@@ -1,5 +1,6 @@
 // Where a line stands, and which opcodes are defined before it.
 ghost use Rattle.std.specs.Prelude.{◌≡◌, ◌++◌, ◌∷◌, [], false, OnOk, ◌<◌};
+ghost use Rattle.cs_base.specs.Limits.{most_nested_ifs};
 ghost use Rattle.cs_words.specs.NameSets.{has};
 ghost use Rattle.cs_grammar.specs.Reading.{outside, in_instrument, in_definition, deeper, has_number, misfit_kind, keyword_kind, early, open_kind, instr_kind, x_kind};
 ghost use Rattle.cs_grammar.specs.Parts.{is_opcode};
@@ -113,7 +114,7 @@ impl<'a, 's> Scope<'a, 's> {
 
     /// Inside one more `if`.
     pub fn deeper(&self) -> Scope<'a, 's>
-        requires { self.now.depth < 100 }
+        requires { self.now.depth < most_nested_ifs }
         ensures { result ≡ deeper self.now }
     {
         Scope {
@@ -188,7 +189,7 @@ impl<'a, 's> Scope<'a, 's> {
         }
     }
 
-    // Inside an `if`, what ends the text or the part around lacks its `endif`.
+    // Inside an `if`, the end of the text or of the part around it means a missing `endif`.
     fn early(&self, usual: OrcKind) -> OrcKind
         ensures { result ≡ early self.now usual }
     {

@@ -1,8 +1,11 @@
 // Statements, and the ones in an `if`.
-ghost use Rattle.std.specs.Prelude.{◌≡◌, ◌≢◌, ◌≤◌, ◌<◌, ℕ, Ok, length, false, nat_lt, if◌then◌else◌};
+ghost use Rattle.std.specs.Prelude.{◌≡◌, ◌≢◌, ◌≤◌, ◌<◌, ℕ, Ok, IfOk, IfErr, length, false, nat_lt, if◌then◌else◌};
+ghost use Rattle.cs_base.specs.Limits.{most_nested_ifs};
+ghost use Rattle.cs_base.specs.declared.fault.Or.TheVariants as or;
+ghost use Rattle.cs_words.specs.declared.sign.BinOp.TheVariants as op;
 ghost use Rattle.cs_grammar.specs.declared.stmt.LineForm.TheVariants as form;
 ghost use Rattle.cs_grammar.specs.declared.tree.Arm.{out-Arm};
-ghost use Rattle.cs_grammar.specs.Tree.{expression, of_what, statement, block, arms, otherwise};
+ghost use Rattle.cs_grammar.specs.Tree.{var, pair, expression, of_what, statement, block, arms, otherwise};
 ghost use Rattle.cs_grammar.specs.declared.symbol.Expected.TheVariants as expected;
 ghost use Rattle.cs_grammar.specs.Reading.{next, next_is};
 ghost use Rattle.cs_grammar.specs.Lines.{word_form, line_form};
@@ -14,8 +17,8 @@ use crate::parser::Parser;
 use crate::scope::{Place, Scope};
 use crate::symbol::{Expected, Kind};
 use crate::tree::{Arm, Arms, Expr, OrcStmt, StmtWhat, Stmts};
-use cs_base::{Name, Names, Or, OrcFault, OrcKind};
-use cs_words::{Keyword, Sign, Word};
+use cs_base::{Items, MOST_NESTED_IFS, Name, Names, Or, OrcFault, OrcKind};
+use cs_words::{BinOp, Keyword, Sign, Word};
 
 /// How a line is read: by its first word and the symbol after it.
 #[derive(Clone, Copy)]
@@ -28,7 +31,7 @@ pub enum LineForm {
     Bare,
     /// `if`
     Conditional,
-    /// A label, or an `if` inside 100 others.
+    /// A label, or an `if` inside `MOST_NESTED_IFS` others.
     Beyond,
     /// What begins no statement.
     Misplaced,
@@ -37,10 +40,10 @@ pub enum LineForm {
 impl LineForm {
     // The form of a line that begins with `if`.
     fn of_if(scope: &Scope) -> LineForm
-        ensures form { result ≡ (if nat_lt scope.now.depth 100 then form.Conditional else form.Beyond) }
-        ensures shallow { result ≡ form.Conditional → scope.now.depth < 100 }
+        ensures form { result ≡ (if nat_lt scope.now.depth most_nested_ifs then form.Conditional else form.Beyond) }
+        ensures shallow { result ≡ form.Conditional → scope.now.depth < most_nested_ifs }
     {
-        if scope.depth() < 100 {
+        if (scope.depth() as usize) < MOST_NESTED_IFS {
             LineForm::Conditional
         } else {
             LineForm::Beyond
@@ -63,20 +66,10 @@ impl LineForm {
     }
 }
 
-// What `name = ..` or `name += ..` does, by its sign.
-fn assigned(sign: Kind, name: Name, value: Expr) -> StmtWhat
-    ensures { (line : ℕ) → of_what line result ≡ assign line sign name (expression value) }
-{
-    match sign {
-        Kind::Sign(Sign::PlusEquals) => StmtWhat::AddTo(name, value),
-        _ => StmtWhat::Set(name, value),
-    }
-}
-
 impl<'s> Parser<'s> {
     fn line_form(&self, scope: &Scope) -> LineForm
         ensures form { result ≡ line_form scope.now self.now }
-        ensures shallow { result ≡ form.Conditional → scope.now.depth < 100 }
+        ensures shallow { result ≡ form.Conditional → scope.now.depth < most_nested_ifs }
     {
         match self.kind() {
             Kind::Word(Word::Keyword(Keyword::If)) => LineForm::of_if(scope),
@@ -141,7 +134,31 @@ impl<'s> Parser<'s> {
         let name = self.target(scope)?;
         self.skip();
         let value = self.expr(scope, Level::Expr)?;
-        Ok(assigned(sign, name, value))
+        self.assigned(sign, name, value)
+    }
+
+    // What `name = ..` or `name += ..` does, by its sign.
+    fn assigned(&self, sign: Kind, name: Name, value: Expr) -> Result<StmtWhat, Or<OrcFault>>
+        ensures value { (line : ℕ)
+            → IfOk result (λ w. of_what line w ≡ assign line sign name (expression value)) }
+        ensures memory { IfErr result (λ e. e ≡ or.OutOfMemory) }
+    {
+        match sign {
+            Kind::Sign(Sign::PlusEquals) => {
+                let sum = self.sum(name.as_slice(), value)?;
+                Ok(StmtWhat::Set(name, sum))
+            }
+            _ => Ok(StmtWhat::Set(name, value)),
+        }
+    }
+
+    // The sum of a variable and a value.
+    fn sum(&self, name: &[u8], value: Expr) -> Result<Expr, Or<OrcFault>>
+        ensures value { IfOk result (λ e. expression e ≡ pair op.Add (var name.now) (expression value)) }
+        ensures memory { IfErr result (λ e. e ≡ or.OutOfMemory) }
+    {
+        let variable = Expr::Var(Items::of_slice(self.alloc(), name)?);
+        self.pair(BinOp::Add, variable, value)
     }
 
     fn call_with_results(&mut self, scope: &Scope) -> Result<StmtWhat, Or<OrcFault>>
@@ -150,9 +167,9 @@ impl<'s> Parser<'s> {
         ensures goes { length self.new ≤ length self.old }
     {
         let results = self.targets(scope)?;
-        let opcode = self.operation(scope)?;
+        let callee = self.operation(scope)?;
         let args = self.arguments(scope)?;
-        Ok(StmtWhat::Call(results, opcode, args))
+        Ok(StmtWhat::Call(results, callee, args))
     }
 
     fn bare_call(&mut self, scope: &Scope) -> Result<StmtWhat, Or<OrcFault>>
@@ -160,15 +177,15 @@ impl<'s> Parser<'s> {
         ensures reads { GivesLine scope.now self.old result self.new }
         ensures goes { length self.new ≤ length self.old }
     {
-        let opcode = self.operation(scope)?;
+        let callee = self.operation(scope)?;
         let args = self.arguments(scope)?;
-        Ok(StmtWhat::Call(Names::new(self.alloc()), opcode, args))
+        Ok(StmtWhat::Call(Names::new(self.alloc()), callee, args))
     }
 
     #[cycle(stmt)]
     fn conditional(&mut self, scope: &Scope) -> Result<StmtWhat, Or<OrcFault>>
         requires form { line_form scope.now self.old ≡ form.Conditional }
-        requires shallow { scope.now.depth < 100 }
+        requires shallow { scope.now.depth < most_nested_ifs }
         ensures reads { GivesLine scope.now self.old result self.new }
         ensures goes { length self.new ≤ length self.old }
     {

@@ -6,7 +6,7 @@ ghost use Rattle.cs_grammar.specs.Symbols.{symbols, kind_after, unquoted, counte
 ghost use Rattle.cs_grammar.specs.declared.symbol.Kind.TheVariants as kind;
 ghost use Rattle.cs_words.specs.declared.word.Word.TheVariants as word;
 
-use cs_base::{Num, OutOfMemory};
+use cs_base::{MOST_LINE_TOKENS, Num, OutOfMemory};
 use cs_lex::{Mark, Token};
 use cs_words::{Keyword, Sign, Word, sign_of, word_of};
 use std::alloc::Global;
@@ -19,7 +19,7 @@ pub enum Kind {
     Number(Num),
     Text,
     Sign(Sign),
-    /// A token past the 1,000th of its line, whatever it is.
+    /// A token past the `MOST_LINE_TOKENS`th of its line, whatever it is.
     Beyond,
     NewLine,
     End,
@@ -152,14 +152,14 @@ impl<'s> Symbol<'s> {
     }
 }
 
-// What a token of a line is, after so many others of its line.
+// What a token is that stands after `place` others of its line.
 fn kind_after(place: usize, mark: Mark, bytes: &[u8]) -> Kind
     ensures { result ≡ kind_after place mark bytes.now }
 {
     match mark {
         Mark::NewLine => Kind::NewLine,
         Mark::End => Kind::End,
-        _ if place >= 1_000 => Kind::Beyond,
+        _ if place >= MOST_LINE_TOKENS => Kind::Beyond,
         Mark::Word => Kind::Word(word_of(bytes)),
         Mark::Number(value) => Kind::Number(value),
         Mark::Text => Kind::Text,

@@ -1,6 +1,6 @@
 // The tree of an orchestra: what the layers above read in place of tokens.
 use cs_base::{Name, Names, Num, Numbers, Rates};
-use cs_words::{BinOp, Func, HeadName};
+use cs_words::{BinOp, Func, HeadName, Opcode};
 
 /// An expression. Brackets leave no trace: `(1)` is the number 1.
 #[derive(Drop)]
@@ -28,6 +28,15 @@ pub enum Arg {
 
 pub type Args = Vec<Arg>;
 
+/// What a statement calls.
+#[derive(Drop)]
+pub enum Callee {
+    /// An opcode of the catalogue.
+    Opcode(Opcode),
+    /// Any other name: that of a defined opcode, or of none.
+    Name(Name),
+}
+
 /// A statement, with the line of its first token.
 #[derive(Drop)]
 #[cycle(stmt)]
@@ -42,12 +51,10 @@ pub type Stmts = Vec<OrcStmt>;
 #[derive(Drop)]
 #[cycle(stmt)]
 pub enum StmtWhat {
-    /// `name = expression`
+    /// `name = expression`; `name += expression` is read as `name = name + expression`.
     Set(Name, Expr),
-    /// `name += expression`
-    AddTo(Name, Expr),
-    /// Results, opcode, arguments.
-    Call(Names, Name, Args),
+    /// Results, what is called, arguments.
+    Call(Names, Callee, Args),
     /// The arms of `if` and `elseif`, and the statements after `else`.
     Choose(Arms, Stmts),
 }

@@ -91,7 +91,7 @@ impl<'s> Parser<'s> {
         self.at_local(scope) && rate.same(name_rate(self.text())) && !is_among(before, self.text())
     }
 
-    // Takes the names of so many inputs, and stops at `xin`. Answers whether they are the inputs' names.
+    // Takes `count` names, and stops at `xin`. Returns whether they fit the inputs `ins`, after `names`.
     fn take_inputs(
         &mut self,
         scope: &Scope,

@@ -1,3 +1,4 @@
 pub mod Places
 pub mod TypedTree
+pub mod Variables
 pub mod WellRated

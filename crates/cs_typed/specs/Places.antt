@@ -11,7 +11,7 @@ pub record Header : Type 0 where
   pub nchnls : ℕ
   pub dbfs : ℤ
 
--- outside instruments, and inside one, of a piece with so many channels
+-- outside instruments, and inside one, of a piece with this number of channels
 abbrev pub outside : ℕ → Setting
 outside channels = record { inside = false; channels = channels }
 

@@ -1,6 +1,9 @@
+-- The typed tree of an orchestra as the definitions see it, and what the code's tree is among it.
 use Rattle.std.specs.Prelude.{ℕ, ℤ, List, [], ◌∷◌, map}
 use Rattle.cs_base.specs.declared.head.Head.{Head}
+use Rattle.cs_base.specs.declared.per_rate.PerRate.{PerRate}
 use Rattle.cs_base.specs.declared.resource.Rate.{Rate}
+use Rattle.cs_base.specs.declared.spaces.Spaces.{Spaces}
 use Rattle.cs_words.specs.declared.catalogue.Opcode.{Opcode}
 use Rattle.cs_words.specs.declared.sign.BinOp.{BinOp}
 use Rattle.cs_words.specs.declared.word.Func.{Func}
@@ -17,7 +20,7 @@ use Rattle.cs_typed.specs.declared.tree.TypedPart.{TypedPart}
 use Rattle.cs_typed.specs.declared.tree.TypedPart.TheVariants.{Number, Var, Field, Head as HeadName', Neg', Pair', Pick', Call'}
 use Rattle.cs_typed.specs.declared.tree.TypedStmt.{TypedStmt}
 use Rattle.cs_typed.specs.declared.tree.TypedWhat.{TypedWhat, Row_of-TypedArm, end_of-TypedArm, more_of-TypedArm, Row_of-TypedStmt, end_of-TypedStmt, more_of-TypedStmt}
-use Rattle.cs_typed.specs.declared.tree.TypedWhat.TheVariants.{Set, AddTo, Call, Choose'}
+use Rattle.cs_typed.specs.declared.tree.TypedWhat.TheVariants.{Set, Call, Choose'}
 use Rattle.cs_typed.specs.declared.tree.Var.{Var as Variable}
 
 -- The typed tree as the definitions see it, without boxes' addresses and vectors' capacities. An expression has its rate first.
@@ -40,7 +43,6 @@ pub data Argument : Type 0 where
 mutual
   pub data Statement : Type 0 where
     set : ℕ → Rate → Variable → Expression → Statement
-    add_to : ℕ → Rate → Variable → Expression → Statement
     call : ℕ → Rate → List Variable → Opcode → List Argument → Statement
     choose : ℕ → Rate → Arms → Statement
 
@@ -52,10 +54,11 @@ mutual
     otherwise : Block → Arms
     arm : Expression → Block → Arms → Arms
 
--- an instrument, with the line of its `instr`
+-- an instrument, with the line of its `instr` and the numbers of its local variables by their rates
 pub record Instrument : Type 0 where
   pub line : ℕ
   pub numbers : List ℕ
+  pub locals : PerRate ℕ
   pub body : Block
 
 -- the names of what notes share, each list in the order in which they were first seen
@@ -66,11 +69,11 @@ pub record SharedNames : Type 0 where
   pub control : List (List ℕ)
   pub sound : List (List ℕ)
 
--- a typed orchestra, with the numbers of places of the two zak spaces
+-- a typed orchestra, with the numbers of places of the two zak spaces; the statements outside instruments have local variables too
 pub record Orchestra : Type 0 where
   pub head : Header
-  pub zak_a : ℕ
-  pub zak_k : ℕ
+  pub spaces : Spaces
+  pub zero_locals : PerRate ℕ
   pub zero : Block
   pub instrs : List Instrument
   pub globals : SharedNames
@@ -96,7 +99,6 @@ argument (Text v) = text v
 abbrev mutual
   pub of_what : ℕ → Rate → TypedWhat → Statement
   of_what line r (Set v e) = set line r v (expression e)
-  of_what line r (AddTo v e) = add_to line r v (expression e)
   of_what line r (Call results opcode args) = call line r results opcode (map argument args.items)
   of_what line r (Choose' s a t b) = choose line r (of_arms (of_block b) a)
 
@@ -122,7 +124,7 @@ arms els [] = otherwise els
 arms els (a ∷ rest) = arm (expression (out-TypedArm a).cond) (block (out-TypedArm a).body.items) (arms els rest)
 
 abbrev pub instrument : TypedInstr → Instrument
-instrument i = record { line = i.line; numbers = i.numbers; body = block i.body.items }
+instrument i = record { line = i.line; numbers = i.numbers; locals = i.locals; body = block i.body.items }
 
 abbrev pub shared_names : Globals → SharedNames
 shared_names g = record { gi = g.gi; gk = g.gk; ga = g.ga; control = g.control; sound = g.sound }
@@ -134,8 +136,8 @@ header_of_head h = record { sr = h.sr; ksmps = h.ksmps; nchnls = h.nchnls; dbfs 
 abbrev pub orchestra : TypedOrc → Orchestra
 orchestra o = record {
   head = header_of_head o.head;
-  zak_a = o.zak_a;
-  zak_k = o.zak_k;
+  spaces = o.spaces;
+  zero_locals = o.zero_locals;
   zero = block o.zero.items;
   instrs = map instrument o.instrs.items;
   globals = shared_names o.globals;

@@ -1,3 +1,4 @@
+-- The rules of rates that a typed tree keeps.
 use Rattle.std.specs.Prelude.{ℕ, Bool, true, false, not, List, [], ◌∷◌, ◌≡◌, ◌≢◌, ◌+◌, ◌&&◌, ◌||◌, length, nat_lt, if◌then◌else◌}
 use Rattle.std.specs.List.{All, list_any, list_all}
 use Rattle.cs_base.specs.Rates.{is_init, is_control, is_audio, same_rate, within, faster, res_rate}
@@ -17,6 +18,7 @@ use Rattle.cs_typed.specs.declared.tree.Var.{Var}
 use Rattle.cs_typed.specs.declared.tree.Var.TheVariants as var
 use Rattle.cs_typed.specs.Places.{outside, inside, stands_outside, is_starting, is_writing}
 use Rattle.cs_typed.specs.TypedTree as typed
+use Rattle.cs_typed.specs.Variables.{IsCounted, EachInBlock}
 
 abbrev pub var_rate : Var → Rate
 var_rate (var.Local r k) = r
@@ -160,7 +162,6 @@ all_still (typed.arm c b rest) = is_init (node_rate c) && all_still rest
 abbrev mutual
   pub IsRatedStatement : Setting → typed.Statement → Type 0
   IsRatedStatement s (typed.set line r v e) = IsRatedSet s r v e
-  IsRatedStatement s (typed.add_to line r v e) = IsRatedSet s r v e
   IsRatedStatement s (typed.call line r vs opcode args) = IsRatedCall s r vs opcode args
   IsRatedStatement s (typed.choose line r list) =
       (r ≡ (if all_still list then rate.Init else rate.Control)) × IsRatedArms s list
@@ -174,16 +175,18 @@ abbrev mutual
   IsRatedArms s (typed.arm c b rest) =
       IsRated c × (is_audio (node_rate c) ≡ false) × ((s.inside || is_init (node_rate c)) ≡ true) × IsRatedBlock s b × IsRatedArms s rest
 
--- An orchestra agrees with the rules of rates: its statements outside instruments, and each instrument's.
-abbrev pub IsWellRated : typed.Orchestra → Type 0
-IsWellRated o =
-    IsRatedBlock (outside o.head.nchnls) o.zero × All (λ i. IsRatedBlock (inside o.head.nchnls) i.body) o.instrs
+-- An orchestra agrees with the rules of rates, outside instruments and in each instrument; and each local variable is one of those
+-- that are counted there.
+pub record IsWellRated (o : typed.Orchestra) : Type 0 where
+  pub zero : IsRatedBlock (outside o.head.nchnls) o.zero
+  pub zero_locals : EachInBlock (IsCounted o.zero_locals) o.zero
+  pub instrs : All (λ (i : typed.Instrument). IsRatedBlock (inside o.head.nchnls) i.body) o.instrs
+  pub locals : All (λ (i : typed.Instrument). EachInBlock (IsCounted i.locals) i.body) o.instrs
 
 -- no `zakinit` among statements
 abbrev mutual
   pub HasNoZakinit : typed.Statement → Type 0
   HasNoZakinit (typed.set line r v e) = Unit {0}
-  HasNoZakinit (typed.add_to line r v e) = Unit {0}
   HasNoZakinit (typed.call line r vs opcode args) = opcode ≢ op.Zakinit
   HasNoZakinit (typed.choose line r list) = ArmsHaveNoZakinit list
 

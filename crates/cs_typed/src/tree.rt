@@ -1,5 +1,5 @@
 // The typed tree of an orchestra: what the layers above read in place of names and opcodes' names.
-use cs_base::{Head, Items, Names, Num, Numbers, Rate, Res};
+use cs_base::{Head, Items, Names, Num, Numbers, PerRate, Rate, Res, Spaces};
 use cs_words::{BinOp, Func, HeadName, Opcode};
 
 /// A variable: one of the note's own, by its rate and its number among the names of that rate; or what notes share.
@@ -60,7 +60,6 @@ pub type TypedStmts = Vec<TypedStmt>;
 #[cycle(stmt)]
 pub enum TypedWhat {
     Set(Var, TypedExpr),
-    AddTo(Var, TypedExpr),
     /// Results, opcode, arguments.
     Call(Vars, Opcode, TypedArgs),
     /// The arms of `if` and `elseif`, and the statements after `else`.
@@ -82,6 +81,8 @@ pub type TypedArms = Vec<TypedArm>;
 pub struct TypedInstr {
     pub line: u32,
     pub numbers: Numbers,
+    /// The number of its local variables of each rate: those of a rate are numbered from 0 to below it.
+    pub locals: PerRate<usize>,
     pub body: TypedStmts,
 }
 
@@ -100,10 +101,11 @@ pub struct Globals {
 #[derive(Drop)]
 pub struct TypedOrc {
     pub head: Head,
-    /// The number of places of the zak space of sounds: 0 without `zakinit`.
-    pub zak_a: u32,
-    /// The number of places of the zak space of control values: 0 without `zakinit`.
-    pub zak_k: u32,
+    /// The numbers of places of the two zak spaces.
+    pub spaces: Spaces,
+    /// The number of local variables of each rate of the statements outside instruments.
+    pub zero_locals: PerRate<usize>,
+    /// The statements outside instruments.
     pub zero: TypedStmts,
     pub instrs: Vec<TypedInstr>,
     pub globals: Globals,

@@ -7,7 +7,7 @@ use Rattle.cs_base.specs.declared.fault.OrcFault.{OrcFault}
 use Rattle.cs_grammar.specs.declared.tree.Instr.{Instr}
 use Rattle.cs_grammar.specs.declared.tree.OrcStmt.{OrcStmt}
 use Rattle.cs_grammar.specs.declared.tree.StmtWhat.{StmtWhat}
-use Rattle.cs_grammar.specs.declared.tree.StmtWhat.TheVariants.{Set, AddTo, Call, Choose'}
+use Rattle.cs_grammar.specs.declared.tree.StmtWhat.TheVariants.{Set, Call, Choose'}
 use Rattle.cs_grammar.specs.Tree as tree
 use Rattle.cs_typed.specs.declared.tree.TypedStmt.{TypedStmt}
 use Rattle.cs_typing.specs.Known.{Table, Shared, Known, known_with}
@@ -18,7 +18,6 @@ use Rattle.cs_typing.specs.inner.Walk.{Made, nothing, after_item, after_items}
 
 line_of_what : (line : ℕ) (w : StmtWhat) → line_of (tree.of_what line w) ≡ line
 line_of_what line (Set name e) = refl
-line_of_what line (AddTo name e) = refl
 line_of_what line (Call results opcode args) = refl
 line_of_what line (Choose' s a t b) = refl
 

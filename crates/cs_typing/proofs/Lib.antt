@@ -1,6 +1,8 @@
 pub mod Answers
+pub mod Counted
 pub mod Cut
 pub mod Joined
+pub mod Naming
 pub mod NoZakinit
 pub mod NumbersOnce
 pub mod Ranges
@@ -8,6 +10,5 @@ pub mod Rated
 pub mod RatedCalls
 pub mod RatedExpressions
 pub mod Renaming
-pub mod Rows
-pub mod SettingRows
+pub mod WellRated
 pub mod Zaks

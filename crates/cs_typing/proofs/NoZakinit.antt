@@ -1,13 +1,12 @@
 -- The typed instruments of an orchestra that was read have no `zakinit`.
-use Rattle.std.proofs.Common.{◌≢◌, ℕ, ◌+◌, List, [], ◌∷◌, codes, Option, Some, None, sym, ap}
+use Rattle.std.proofs.Common.{◌≢◌, ℕ, ◌+◌, List, [], ◌∷◌, ap}
 use Rattle.std.specs.List.{All}
 use Rattle.std.proofs.lemmas.List.Elements.{All-cons, All-nil, All-head, All-tail}
-use Rattle.cs_words.proofs.Apart.{found_so}
-use Rattle.cs_words.specs.Catalogue.{catalogued}
-use Rattle.cs_words.specs.declared.catalogue.Opcode.{Opcode}
 use Rattle.cs_words.specs.declared.catalogue.Opcode.TheVariants as op
 use Rattle.cs_grammar.specs.declared.scope.Place.TheVariants as place
-use Rattle.cs_grammar.specs.Tree.{Argument, Statement, set, add_to, call, choose, Block, no_stmt, andthen, Arms, otherwise, arm, Instrument, Orchestra}
+use Rattle.cs_grammar.specs.declared.tree.Callee.{Callee}
+use Rattle.cs_grammar.specs.declared.tree.Callee.TheVariants as callee
+use Rattle.cs_grammar.specs.Tree.{Argument, Statement, set, call, choose, Block, no_stmt, andthen, Arms, otherwise, arm, Instrument, Orchestra}
 use Rattle.cs_grammar.specs.WellFormed.{WellFormedStmt, WellFormedBlock, WellFormedArms, WellFormedInstrument, IsWellFormed}
 use Rattle.cs_typing.specs.Calls.{typed_call}
 use Rattle.cs_typing.specs.Known.{Known}
@@ -15,19 +14,14 @@ use Rattle.cs_typing.specs.Statements.{known, known_block, typed_statement, type
 use Rattle.cs_typing.specs.Typing.{alone, body, items, before, from, entered, known_item, first_known, typed_instrument, typed_instruments, typed_of}
 use Rattle.cs_typed.specs.WellRated.{HasNoZakinit, BlockHasNoZakinit, ArmsHaveNoZakinit}
 
-call_lacks : (line : ℕ) (n : Known) (o : Option Opcode) (results : List (List ℕ)) (args : List Argument) → o ≢ Some op.Zakinit → HasNoZakinit (typed_call line n o results args)
-call_lacks line n None results args h = tt
-call_lacks line n (Some o) results args h = λ e. h (ap Some e)
-
--- another word is another opcode
-not_read : (name : List ℕ) → name ≢ codes "zakinit" → catalogued name ≢ Some op.Zakinit
-not_read name h = λ e. h (sym (found_so name op.Zakinit e))
+call_lacks : (line : ℕ) (n : Known) (c : Callee) (results : List (List ℕ)) (args : List Argument) → c ≢ callee.Opcode op.Zakinit → HasNoZakinit (typed_call line n c results args)
+call_lacks line n (callee.Opcode o) results args h = λ e. h (ap callee.Opcode e)
+call_lacks line n (callee.Name name) results args h = tt
 
 mutual
   stmt_lacks : (n : Known) (depth : ℕ) (x : Statement) → WellFormedStmt place.Instrument [] depth x → HasNoZakinit (typed_statement n x)
   stmt_lacks n depth (set line name e) h = tt
-  stmt_lacks n depth (add_to line name e) h = tt
-  stmt_lacks n depth (call line results name args) h = call_lacks line n (catalogued name) results args (not_read name h.1.1)
+  stmt_lacks n depth (call line results c args) h = call_lacks line n c results args h.1.1
   stmt_lacks n depth (choose line list) h = arms_lack n (depth + 1) list h.1
 
   block_lacks : (n : Known) (depth : ℕ) (b : Block) → WellFormedBlock place.Instrument [] depth b → BlockHasNoZakinit (typed_block n b)

@@ -4,33 +4,31 @@ use Rattle.std.specs.List.{All}
 use Rattle.std.specs.Option.{option_or}
 use Rattle.std.proofs.lemmas.Bool.{and_parts}
 use Rattle.std.proofs.lemmas.List.Elements.{All-cons, All-nil}
-use Rattle.cs_base.proofs.Rates.{within_faster, within_chain}
-use Rattle.cs_base.specs.Rates.{within, faster, is_init, is_audio}
+use Rattle.cs_base.specs.Rates.{within, is_init, is_audio}
 use Rattle.cs_base.specs.declared.fault.OrcFault.{OrcFault}
 use Rattle.cs_base.specs.declared.fault.OrcKind.{OrcKind}
 use Rattle.cs_base.specs.declared.fault.OrcKind.TheVariants as orc
 use Rattle.cs_base.specs.declared.resource.Rate.TheVariants as rate
-use Rattle.cs_words.specs.Catalogue.{catalogued}
 use Rattle.cs_words.specs.Names.{name_rate}
-use Rattle.cs_grammar.specs.Tree.{Expression, Statement, set, add_to, call, choose, Block, no_stmt, andthen, Arms, otherwise, arm, Orchestra}
+use Rattle.cs_grammar.specs.Tree.{Expression, Statement, set, call, choose, Block, no_stmt, andthen, Arms, otherwise, arm}
 use Rattle.cs_typed.specs.Places.{outside, inside}
 use Rattle.cs_typed.specs.declared.setting.Setting.{Setting}
 use Rattle.cs_typing.specs.Calls.{call_fault}
 use Rattle.cs_typing.specs.Expressions.{is_value, is_condition, rate_of, reads_known, typed_expression}
 use Rattle.cs_typing.specs.Known.{Known, variable}
-use Rattle.cs_typing.specs.Settings.{at, header, settings_fault}
-use Rattle.cs_typing.specs.Statements.{set_fault, condition_fault, sum_with, fault, block_fault, arms_fault, known, known_block, all_init, typed_statement, typed_block, typed_arms}
-use Rattle.cs_typing.specs.Typing.{Item, alone, body, items, entered, known_item, item_fault, items_fault, first_known, type_fault, typed_outside, typed_instrument, typed_instruments, typed_of}
+use Rattle.cs_typing.specs.Settings.{at}
+use Rattle.cs_typing.specs.Statements.{set_fault, condition_fault, fault, block_fault, arms_fault, known, known_block, all_init, typed_statement, typed_block, typed_arms}
+use Rattle.cs_typing.specs.Typing.{Item, alone, body, entered, known_item, item_fault, items_fault, typed_outside, typed_instrument, typed_instruments}
 use Rattle.cs_typed.specs.TypedTree as typed
-use Rattle.cs_typed.specs.WellRated.{node_rate, IsRatedSet, all_still, IsRatedStatement, IsRatedBlock, IsRatedArms, IsWellRated}
+use Rattle.cs_typed.specs.WellRated.{node_rate, IsRatedSet, all_still, IsRatedStatement, IsRatedBlock, IsRatedArms}
 use Rattle.cs_typing.proofs.RatedExpressions.{node_is, variable_rate, no_sound, value_rated, condition_rated}
 use Rattle.cs_typing.proofs.RatedCalls.{call_rated}
 
-at_none : (line : ℕ) (k : Option OrcKind) → at line k ≡ None → k ≡ None
+pub at_none : (line : ℕ) (k : Option OrcKind) → at line k ≡ None → k ≡ None
 at_none line None h = refl
 at_none line (Some k) h = absurd (cc h)
 
-both_none : (f g : Option OrcFault) → option_or f g ≡ None → (f ≡ None) × (g ≡ None)
+pub both_none : (f g : Option OrcFault) → option_or f g ≡ None → (f ≡ None) × (g ≡ None)
 both_none None g h = (refl, h)
 both_none (Some f) g h = absurd (cc h)
 
@@ -63,17 +61,8 @@ mutual
       let parts = and_parts (is_value e && within (rate_of e) (name_rate name)) (s.inside || is_init (name_rate name)) may in
       let first = and_parts (is_value e) (within (rate_of e) (name_rate name)) parts.0 in
       set_rated s n name e first.0 first.1 parts.1
-  stmt_rated s n (add_to line name e) h =
-      let sum = sum_with name e in
-      let may = no_rule_broken (reads_known n sum) (is_value sum && within (rate_of sum) (name_rate name) && (s.inside || is_init (name_rate name)))
-      (at_none line (set_fault s n name sum) h) in
-      let parts = and_parts (is_value sum && within (rate_of sum) (name_rate name)) (s.inside || is_init (name_rate name)) may in
-      let first = and_parts (is_value sum) (within (rate_of sum) (name_rate name)) parts.0 in
-      set_rated s n name e first.0
-      (within_chain (rate_of e) (faster (name_rate name) (rate_of e)) (name_rate name) (within_faster (name_rate name) (rate_of e)).1 first.1)
-      parts.1
-  stmt_rated s n (call line results opcode args) h =
-      call_rated s n line (catalogued opcode) results args (at_none line (call_fault s n (catalogued opcode) results args) h)
+  stmt_rated s n (call line results callee args) h =
+      call_rated s n line callee results args (at_none line (call_fault s n callee results args) h)
   stmt_rated s n (choose line list) h =
       (ap (λ b. if b then rate.Init else rate.Control) (still_arms n list), arms_rated s n line list h)
 
@@ -101,7 +90,7 @@ then_rated : (s : Setting) (a b : typed.Block) → IsRatedBlock s a → IsRatedB
 then_rated s typed.no_stmt b p q = q
 then_rated s (typed.andthen x rest) b p q = (p.0, then_rated s rest b p.1 q)
 
-items_rated : (channels : ℕ) (n : Known) (list : List Item) → items_fault channels n list ≡ None
+pub items_rated : (channels : ℕ) (n : Known) (list : List Item) → items_fault channels n list ≡ None
     → IsRatedBlock (outside channels) (typed_outside n list) × All (λ i. IsRatedBlock (inside channels) i.body) (typed_instruments n list)
 items_rated channels n [] h = (tt, All-nil (λ i. IsRatedBlock (inside channels) i.body))
 items_rated channels n (alone b ∷ rest) h =
@@ -118,8 +107,3 @@ items_rated channels n (body i ∷ rest) h =
       All-cons (λ x. IsRatedBlock (inside channels) x.body) (typed_instrument n i) (typed_instruments (known_item n (body i)) rest)
           (block_rated (inside channels) (entered n) i.body parts.0) after.1,
     )
-
-pub orchestra_rated : (o : Orchestra) → type_fault o ≡ None → IsWellRated (typed_of o)
-orchestra_rated o h =
-    items_rated (header o.head).nchnls (first_known o) (items o.zero o.instrs)
-    (both_none (settings_fault o.head o.zero) (items_fault (header o.head).nchnls (first_known o) (items o.zero o.instrs)) h).1

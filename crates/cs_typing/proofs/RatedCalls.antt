@@ -21,6 +21,8 @@ use Rattle.cs_words.specs.declared.catalogue.Opcode.TheVariants as op
 use Rattle.cs_words.specs.declared.catalogue.Shape.{Shape}
 use Rattle.cs_words.specs.declared.catalogue.Shape.TheVariants as shape
 use Rattle.cs_grammar.specs.Tree.{Argument, value, text}
+use Rattle.cs_grammar.specs.declared.tree.Callee.{Callee}
+use Rattle.cs_grammar.specs.declared.tree.Callee.TheVariants as callee
 use Rattle.cs_typed.specs.Places.{stands_outside, is_starting, is_writing}
 use Rattle.cs_typed.specs.declared.setting.Setting.{Setting}
 use Rattle.cs_typing.specs.declared.known.Channel.{Channel}
@@ -338,7 +340,7 @@ row_rated s n o results args h =
       place = outer.1;
     }
 
-pub call_rated : (s : Setting) (n : Known) (line : ℕ) (o : Option Opcode) (results : List (List ℕ)) (args : List Argument)
-    → call_fault s n o results args ≡ None → IsRatedStatement s (typed_call line n o results args)
-call_rated s n line None results args h = absurd (cc h)
-call_rated s n line (Some o) results args h = row_rated s n o results args h
+pub call_rated : (s : Setting) (n : Known) (line : ℕ) (c : Callee) (results : List (List ℕ)) (args : List Argument)
+    → call_fault s n c results args ≡ None → IsRatedStatement s (typed_call line n c results args)
+call_rated s n line (callee.Opcode o) results args h = row_rated s n o results args h
+call_rated s n line (callee.Name name) results args h = absurd (cc h)

@@ -10,7 +10,7 @@ use Rattle.cs_base.specs.declared.fault.OrcKind.TheVariants as orc
 use Rattle.cs_base.specs.declared.resource.Rate.{Rate}
 use Rattle.cs_base.specs.declared.resource.Rate.TheVariants as rate
 use Rattle.cs_words.specs.Signs.{is_arithmetic, is_logic}
-use Rattle.cs_words.specs.Catalogue.{Row, row_of, catalogued, letter_at, takes_count, result_count, takes}
+use Rattle.cs_words.specs.Catalogue.{Row, row_of, letter_at, takes_count, result_count, takes}
 use Rattle.cs_words.specs.NameSets.{has, place_of, seen}
 use Rattle.cs_words.specs.Names.{name_rate, is_global}
 use Rattle.cs_words.specs.declared.catalogue.Letter.{Letter}
@@ -18,7 +18,9 @@ use Rattle.cs_words.specs.declared.catalogue.Opcode.{Opcode}
 use Rattle.cs_words.specs.declared.catalogue.Shape.{Shape}
 use Rattle.cs_words.specs.declared.catalogue.Shape.TheVariants as shape
 use Rattle.cs_words.specs.declared.word.Func.TheVariants as func
-use Rattle.cs_grammar.specs.Tree.{Expression, number, var, field, head, neg, pair, pick, apply, Argument, value, text, Statement, set, add_to, call, choose, Block, no_stmt, andthen, Arms, otherwise, arm}
+use Rattle.cs_grammar.specs.declared.tree.Callee.{Callee}
+use Rattle.cs_grammar.specs.declared.tree.Callee.TheVariants as callee
+use Rattle.cs_grammar.specs.Tree.{Expression, number, var, field, head, neg, pair, pick, apply, Argument, value, text, Statement, set, call, choose, Block, no_stmt, andthen, Arms, otherwise, arm}
 use Rattle.cs_typed.specs.Places.{stands_outside, is_starting, is_writing}
 use Rattle.cs_typed.specs.declared.setting.Setting.{Setting}
 use Rattle.cs_typing.specs.declared.known.Channel.{Channel}
@@ -29,7 +31,7 @@ use Rattle.cs_typing.specs.Expressions.{applied_rate, is_control_name, is_value,
 use Rattle.cs_typing.specs.Known.{Table, of_rate, with_name, in_table, place_in, added, Known, known_with, knows, after_giving, given, given_all, use_channel, clashes, global, variable}
 use Rattle.cs_typing.specs.Renaming.{IsRenaming, renamed_name, renamed_expression, renamed_argument, renamed, renamed_block, renamed_arms, renamed_table, renamed_known}
 use Rattle.cs_typing.specs.Settings.{at}
-use Rattle.cs_typing.specs.Statements.{set_fault, condition_fault, sum_with, known, known_block, known_arms, fault, block_fault, arms_fault, all_init, typed_statement, typed_block, typed_arms}
+use Rattle.cs_typing.specs.Statements.{set_fault, condition_fault, known, known_block, known_arms, fault, block_fault, arms_fault, all_init, typed_statement, typed_block, typed_arms}
 use Rattle.cs_typed.specs.TypedTree as typed
 
 same_truth : (b c : Bool) → (b ≡ true → c ≡ true) → (c ≡ true → b ≡ true) → b ≡ c
@@ -343,20 +345,20 @@ row_fault_kept f r s n row results args = λ i.
     else (if clashes n.shared (use_kept f r row.shape results args i) (text_kept f args i) then Some orc.ChannelRate
     else (if wide_kept f s row.shape args i then Some orc.OutCount else None))))
 
-call_fault_kept : (f : List ℕ → List ℕ) → IsRenaming f → (s : Setting) (n : Known) (o : Option Opcode) (results : List (List ℕ)) (args : List Argument)
-    → call_fault s (renamed_known f n) o (map (renamed_name f) results) (map (renamed_argument f) args) ≡ call_fault s n o results args
-call_fault_kept f r s n None results args = refl
-call_fault_kept f r s n (Some o) results args = row_fault_kept f r s n (row_of o) results args
+call_fault_kept : (f : List ℕ → List ℕ) → IsRenaming f → (s : Setting) (n : Known) (c : Callee) (results : List (List ℕ)) (args : List Argument)
+    → call_fault s (renamed_known f n) c (map (renamed_name f) results) (map (renamed_argument f) args) ≡ call_fault s n c results args
+call_fault_kept f r s n (callee.Name name) results args = refl
+call_fault_kept f r s n (callee.Opcode o) results args = row_fault_kept f r s n (row_of o) results args
 
 row_known_renamed : (f : List ℕ → List ℕ) → IsRenaming f → (n : Known) (row : Row) (results : List (List ℕ)) (args : List Argument)
     → row_known (renamed_known f n) row (map (renamed_name f) results) (map (renamed_argument f) args) ≡ renamed_known f (row_known n row results args)
 row_known_renamed f r n row results args =
     λ i. known_with (use_channel n.shared (use_kept f r row.shape results args i) (text_kept f args i)) (given_all_renamed f r n results i).locals
 
-call_known_renamed : (f : List ℕ → List ℕ) → IsRenaming f → (n : Known) (o : Option Opcode) (results : List (List ℕ)) (args : List Argument)
-    → call_known (renamed_known f n) o (map (renamed_name f) results) (map (renamed_argument f) args) ≡ renamed_known f (call_known n o results args)
-call_known_renamed f r n None results args = given_all_renamed f r n results
-call_known_renamed f r n (Some o) results args = row_known_renamed f r n (row_of o) results args
+call_known_renamed : (f : List ℕ → List ℕ) → IsRenaming f → (n : Known) (c : Callee) (results : List (List ℕ)) (args : List Argument)
+    → call_known (renamed_known f n) c (map (renamed_name f) results) (map (renamed_argument f) args) ≡ renamed_known f (call_known n c results args)
+call_known_renamed f r n (callee.Name name) results args = given_all_renamed f r n results
+call_known_renamed f r n (callee.Opcode o) results args = row_known_renamed f r n (row_of o) results args
 
 plain_rate_kept : (f : List ℕ → List ℕ) → IsRenaming f → (sh : Shape) (args : List Argument) → plain_rate sh (map (renamed_argument f) args) ≡ plain_rate sh args
 plain_rate_kept f r sh args =
@@ -387,16 +389,15 @@ row_kept f r line n o row results args =
     ∙ λ i. typed.call line (call_rate_kept f r row.shape results args i) (variables_kept f r n results i) o
     (arguments_kept f r n (channel_use row.shape results args) args i)
 
-call_kept : (f : List ℕ → List ℕ) → IsRenaming f → (line : ℕ) (n : Known) (o : Option Opcode) (results : List (List ℕ)) (args : List Argument)
-    → typed_call line (renamed_known f n) o (map (renamed_name f) results) (map (renamed_argument f) args) ≡ typed_call line n o results args
-call_kept f r line n None results args = refl
-call_kept f r line n (Some o) results args = row_kept f r line n o (row_of o) results args
+call_kept : (f : List ℕ → List ℕ) → IsRenaming f → (line : ℕ) (n : Known) (c : Callee) (results : List (List ℕ)) (args : List Argument)
+    → typed_call line (renamed_known f n) c (map (renamed_name f) results) (map (renamed_argument f) args) ≡ typed_call line n c results args
+call_kept f r line n (callee.Name name) results args = refl
+call_kept f r line n (callee.Opcode o) results args = row_kept f r line n o (row_of o) results args
 
 mutual
   pub known_renamed : (f : List ℕ → List ℕ) → IsRenaming f → (n : Known) (x : Statement) → known (renamed_known f n) (renamed f x) ≡ renamed_known f (known n x)
   known_renamed f r n (set line name e) = given_renamed f r n name
-  known_renamed f r n (add_to line name e) = given_renamed f r n name
-  known_renamed f r n (call line results opcode args) = call_known_renamed f r n (catalogued opcode) results args
+  known_renamed f r n (call line results c args) = call_known_renamed f r n c results args
   known_renamed f r n (choose line list) = known_arms_renamed f r n list
 
   pub known_block_renamed : (f : List ℕ → List ℕ) → IsRenaming f → (n : Known) (b : Block) → known_block (renamed_known f n) (renamed_block f b) ≡ renamed_known f (known_block n b)
@@ -416,8 +417,7 @@ all_init_kept f r (arm c b rest) = λ i. is_init (rate_of_kept f r c i) && all_i
 mutual
   pub statement_kept : (f : List ℕ → List ℕ) → IsRenaming f → (n : Known) (x : Statement) → typed_statement (renamed_known f n) (renamed f x) ≡ typed_statement n x
   statement_kept f r n (set line name e) = λ i. typed.set line (rate_kept f r name i) (variable_kept f r n name i) (expression_kept f r n e i)
-  statement_kept f r n (add_to line name e) = λ i. typed.add_to line (rate_kept f r name i) (variable_kept f r n name i) (expression_kept f r n e i)
-  statement_kept f r n (call line results opcode args) = call_kept f r line n (catalogued opcode) results args
+  statement_kept f r n (call line results c args) = call_kept f r line n c results args
   statement_kept f r n (choose line list) =
       λ i. typed.choose line (if all_init_kept f r list i then rate.Init else rate.Control) (arms_kept f r n list i)
 
@@ -450,8 +450,7 @@ condition_fault_kept f r s n e = λ i.
 mutual
   pub fault_kept : (f : List ℕ → List ℕ) → IsRenaming f → (s : Setting) (n : Known) (x : Statement) → fault s (renamed_known f n) (renamed f x) ≡ fault s n x
   fault_kept f r s n (set line name e) = ap (at line) (set_fault_kept f r s n name e)
-  fault_kept f r s n (add_to line name e) = ap (at line) (set_fault_kept f r s n name (sum_with name e))
-  fault_kept f r s n (call line results opcode args) = ap (at line) (call_fault_kept f r s n (catalogued opcode) results args)
+  fault_kept f r s n (call line results c args) = ap (at line) (call_fault_kept f r s n c results args)
   fault_kept f r s n (choose line list) = arms_fault_kept f r s n line list
 
   pub block_fault_kept : (f : List ℕ → List ℕ) → IsRenaming f → (s : Setting) (n : Known) (b : Block) → block_fault s (renamed_known f n) (renamed_block f b) ≡ block_fault s n b

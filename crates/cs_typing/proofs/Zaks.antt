@@ -4,7 +4,7 @@ use Rattle.std.specs.Option.{option_or}
 use Rattle.std.proofs.lemmas.List.{drop_more}
 use Rattle.cs_base.specs.declared.fault.OrcFault.{OrcFault}
 use Rattle.cs_typing.specs.declared.zak.Zaks.{Zaks}
-use Rattle.cs_typing.specs.Settings.{at, Zak, zak_fault, zaks_fault, sizes, zak_places}
+use Rattle.cs_typing.specs.Settings.{at, Zak, zak_fault, zaks_fault, sizes, no_spaces, zak_spaces}
 use Rattle.cs_typing.specs.inner.Settled.{after_zak, after_zaks}
 
 -- what is left of a list, and what is left after its first
@@ -28,14 +28,14 @@ pub fault_after : (s : Zaks) (zs : List Zak) → (after_zaks s zs).fault ≡ opt
 fault_after s [] = or_none s.fault
 fault_after s (z ∷ zs) = fault_after (after_zak s z) zs ∙ or_or s.fault (at z.line (zak_fault s.seen z)) (zaks_fault true zs)
 
-places_after : (s : Zaks) (zs : List Zak) → s.seen ≡ true → (after_zaks s zs).places ≡ s.places
-places_after s [] seen = refl
-places_after s (z ∷ zs) seen = places_after (after_zak s z) zs refl ∙ ap (λ b. if b then s.places else sizes z.args) seen
+spaces_after : (s : Zaks) (zs : List Zak) → s.seen ≡ true → (after_zaks s zs).spaces ≡ s.spaces
+spaces_after s [] seen = refl
+spaces_after s (z ∷ zs) seen = spaces_after (after_zak s z) zs refl ∙ ap (λ b. if b then s.spaces else sizes z.args) seen
 
 -- before any
 abbrev pub none_seen : Zaks
-none_seen = record { seen = false; fault = None; places = (0, 0) }
+none_seen = record { seen = false; fault = None; spaces = no_spaces }
 
-pub first_places : (zs : List Zak) → (after_zaks none_seen zs).places ≡ zak_places zs
-first_places [] = refl
-first_places (z ∷ zs) = places_after (after_zak none_seen z) zs refl
+pub first_spaces : (zs : List Zak) → (after_zaks none_seen zs).spaces ≡ zak_spaces zs
+first_spaces [] = refl
+first_spaces (z ∷ zs) = spaces_after (after_zak none_seen z) zs refl

@@ -1,3 +1,4 @@
+-- Calls of opcodes: what may be called with what, and the typed form of a call.
 use Rattle.std.specs.Prelude.{ℕ, Bool, true, false, not, List, [], ◌∷◌, ◌++◌, ◌&&◌, ◌||◌, ◌+◌, ◌==◌, length, map, nat_lt, Option, Some, None, if◌then◌else◌}
 use Rattle.std.specs.List.{list_any, list_all}
 use Rattle.cs_base.specs.Rates.{is_init, is_audio, same_rate}
@@ -12,6 +13,8 @@ use Rattle.cs_words.specs.declared.catalogue.Opcode.{Opcode}
 use Rattle.cs_words.specs.declared.catalogue.Shape.{Shape}
 use Rattle.cs_words.specs.declared.catalogue.Shape.TheVariants as shape
 use Rattle.cs_grammar.specs.Tree.{Argument, value, text}
+use Rattle.cs_grammar.specs.declared.tree.Callee.{Callee}
+use Rattle.cs_grammar.specs.declared.tree.Callee.TheVariants as callee
 use Rattle.cs_typed.specs.Places.{is_writing, is_starting, stands_outside}
 use Rattle.cs_typed.specs.declared.setting.Setting.{Setting}
 use Rattle.cs_typing.specs.Expressions.{is_value, rate_of, reads_known, typed_expression}
@@ -106,19 +109,19 @@ row_fault s n row results args =
     else (if clashes n.shared (channel_use row.shape results args) (text_of args) then Some orc.ChannelRate
     else (if is_too_wide s row.shape args then Some orc.OutCount else None))))
 
--- the first rule that a call breaks
-abbrev pub call_fault : Setting → Known → Option Opcode → List (List ℕ) → List Argument → Option OrcKind
-call_fault s n None results args = Some orc.UnknownOpcode
-call_fault s n (Some opcode) results args = row_fault s n (row_of opcode) results args
+-- the first rule that a call breaks: a name that is called is no opcode
+abbrev pub call_fault : Setting → Known → Callee → List (List ℕ) → List Argument → Option OrcKind
+call_fault s n (callee.Opcode o) results args = row_fault s n (row_of o) results args
+call_fault s n (callee.Name name) results args = Some orc.UnknownOpcode
 
 -- what is known after a call
 abbrev pub row_known : Known → Row → List (List ℕ) → List Argument → Known
 row_known n row results args =
     known_with (use_channel n.shared (channel_use row.shape results args) (text_of args)) (given_all n results).locals
 
-abbrev pub call_known : Known → Option Opcode → List (List ℕ) → List Argument → Known
-call_known n None results args = given_all n results
-call_known n (Some opcode) results args = row_known n (row_of opcode) results args
+abbrev pub call_known : Known → Callee → List (List ℕ) → List Argument → Known
+call_known n (callee.Opcode o) results args = row_known n (row_of o) results args
+call_known n (callee.Name name) results args = given_all n results
 
 -- a text, or a value that is known when the note begins
 abbrev pub is_still : Argument → Bool
@@ -152,7 +155,7 @@ typed_row line n opcode row results args =
     typed.call line (call_rate row.shape results args) (map (variable n) results) opcode
     (typed_arguments n (channel_use row.shape results args) args)
 
--- The typed form of a call. An unknown opcode has a fault, and so its form has no meaning.
-abbrev pub typed_call : ℕ → Known → Option Opcode → List (List ℕ) → List Argument → typed.Statement
-typed_call line n None results args = typed.choose line rate.Init (typed.otherwise typed.no_stmt)
-typed_call line n (Some opcode) results args = typed_row line n opcode (row_of opcode) results args
+-- The typed form of a call. A call of a name has a fault, and so its form has no meaning.
+abbrev pub typed_call : ℕ → Known → Callee → List (List ℕ) → List Argument → typed.Statement
+typed_call line n (callee.Opcode o) results args = typed_row line n o (row_of o) results args
+typed_call line n (callee.Name name) results args = typed.choose line rate.Init (typed.otherwise typed.no_stmt)

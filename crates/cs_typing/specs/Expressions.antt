@@ -1,3 +1,4 @@
+-- Expressions: their rates, which are values and conditions, and their typed form.
 use Rattle.std.specs.Prelude.{Bool, true, false, not, ◌&&◌, if◌then◌else◌}
 use Rattle.cs_base.specs.Rates.{is_control, is_audio, faster}
 use Rattle.cs_base.specs.declared.resource.Rate.{Rate}

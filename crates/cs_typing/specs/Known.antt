@@ -1,4 +1,6 @@
-use Rattle.std.specs.Prelude.{ℕ, Bool, false, List, [], ◌∷◌, Option, Some, None, if◌then◌else◌}
+-- What is known at a place of the text: names of variables and of channels, each with its number.
+use Rattle.std.specs.Prelude.{ℕ, Bool, false, List, [], ◌∷◌, length, Option, Some, None, if◌then◌else◌}
+use Rattle.cs_base.specs.declared.per_rate.PerRate.{PerRate}
 use Rattle.cs_base.specs.declared.resource.Rate.{Rate}
 use Rattle.cs_base.specs.declared.resource.Rate.TheVariants as rate
 use Rattle.cs_base.specs.declared.resource.Res.{Res}
@@ -18,6 +20,10 @@ pub record Table : Type 0 where
 
 abbrev pub no_names : Table
 no_names = record { init = []; control = []; audio = [] }
+
+-- the number of names of each rate
+abbrev pub counts_of : Table → PerRate ℕ
+counts_of t = record { init = length t.init; control = length t.control; audio = length t.audio }
 
 -- the names of a rate
 abbrev pub of_rate : Rate → Table → List (List ℕ)

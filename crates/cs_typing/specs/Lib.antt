@@ -1,5 +1,6 @@
 pub mod inner
 pub mod Calls
+pub mod Examples
 pub mod Expressions
 pub mod Known
 pub mod Renaming

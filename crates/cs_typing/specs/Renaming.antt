@@ -1,6 +1,7 @@
+-- Other names for local variables.
 use Rattle.std.specs.Prelude.{ℕ, false, List, map, ◌≡◌, if◌then◌else◌}
 use Rattle.cs_words.specs.Names.{name_rate, is_global}
-use Rattle.cs_grammar.specs.Tree.{Expression, number, var, field, head, neg, pair, pick, apply, Argument, value, text, Statement, set, add_to, call, choose, Block, no_stmt, andthen, Arms, otherwise, arm}
+use Rattle.cs_grammar.specs.Tree.{Expression, number, var, field, head, neg, pair, pick, apply, Argument, value, text, Statement, set, call, choose, Block, no_stmt, andthen, Arms, otherwise, arm}
 use Rattle.cs_typing.specs.Known.{Table, Known, known_with}
 
 -- Other names for local variables: of the same rates, local too, and never one for two.
@@ -33,9 +34,8 @@ renamed_argument f (text name) = text name
 abbrev mutual
   pub renamed : (List ℕ → List ℕ) → Statement → Statement
   renamed f (set line name e) = set line (renamed_name f name) (renamed_expression f e)
-  renamed f (add_to line name e) = add_to line (renamed_name f name) (renamed_expression f e)
-  renamed f (call line results opcode args) =
-      call line (map (renamed_name f) results) opcode (map (renamed_argument f) args)
+  renamed f (call line results callee args) =
+      call line (map (renamed_name f) results) callee (map (renamed_argument f) args)
   renamed f (choose line list) = choose line (renamed_arms f list)
 
   pub renamed_block : (List ℕ → List ℕ) → Block → Block

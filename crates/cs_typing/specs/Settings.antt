@@ -1,16 +1,19 @@
+-- What holds for a whole piece: header lines and `zakinit`s, the first rule that they break, and what they say.
 use Rattle.std.specs.Prelude.{ℕ, ℤ, pos, negsuc, Bool, true, false, not, List, [], ◌∷◌, ◌++◌, ◌&&◌, ◌==◌, ◌+◌, ◌*◌, ◌/◌, ◌%◌, nat_le, nat_lt, Option, Some, None, if◌then◌else◌}
 use Rattle.std.specs.List.{list_any, list_all}
 use Rattle.std.specs.Option.{option_or}
+use Rattle.cs_base.specs.Limits.{greatest_sr, greatest_ksmps, most_channels, greatest_zak_size}
 use Rattle.cs_base.specs.declared.fault.OrcFault.{OrcFault}
 use Rattle.cs_base.specs.declared.fault.OrcKind.{OrcKind}
 use Rattle.cs_base.specs.declared.fault.OrcKind.TheVariants as orc
-use Rattle.cs_words.specs.Catalogue.{catalogued}
-use Rattle.cs_words.specs.declared.catalogue.Opcode.{Opcode}
+use Rattle.cs_base.specs.declared.spaces.Spaces.{Spaces}
 use Rattle.cs_words.specs.declared.catalogue.Opcode.TheVariants as op
 use Rattle.cs_words.specs.declared.word.HeadName.{HeadName}
 use Rattle.cs_words.specs.declared.word.HeadName.TheVariants as head
+use Rattle.cs_grammar.specs.declared.tree.Callee.{Callee}
+use Rattle.cs_grammar.specs.declared.tree.Callee.TheVariants as callee
 use Rattle.cs_grammar.specs.declared.tree.HeadLine.{HeadLine}
-use Rattle.cs_grammar.specs.Tree.{number, Argument, value, text, Statement, set, add_to, call, choose, Block, no_stmt, andthen, Arms, otherwise, arm}
+use Rattle.cs_grammar.specs.Tree.{number, Argument, value, text, Statement, set, call, choose, Block, no_stmt, andthen, Arms, otherwise, arm}
 use Rattle.cs_typed.specs.Places.{Header}
 
 -- a kind of fault at a line
@@ -34,10 +37,10 @@ is_above_zero (negsuc m) = false
 
 -- a value that a header line may give; `kr` is judged with the others
 abbrev pub in_range : HeadName → ℤ → Bool
-in_range head.Sr v = is_whole_to 192000 v
+in_range head.Sr v = is_whole_to greatest_sr v
 in_range head.Kr v = true
-in_range head.Ksmps v = is_whole_to 4096 v
-in_range head.Nchnls v = is_whole_to 16 v
+in_range head.Ksmps v = is_whole_to greatest_ksmps v
+in_range head.Nchnls v = is_whole_to most_channels v
 in_range head.Dbfs v = is_above_zero v
 
 abbrev pub same_head : HeadName → HeadName → Bool
@@ -100,7 +103,7 @@ abbrev pub is_product : ℕ → ℕ → ℤ → Bool
 is_product sr ksmps kr = raw_of kr * ksmps == sr * 65536
 
 abbrev pub kr_agrees : ℕ → ℕ → ℤ → Bool
-kr_agrees sr ksmps kr = nat_le 1 ksmps && nat_le ksmps 4096 && is_product sr ksmps kr
+kr_agrees sr ksmps kr = nat_le 1 ksmps && nat_le ksmps greatest_ksmps && is_product sr ksmps kr
 
 -- `kr` must fit the other header values
 abbrev pub kr_fault : Header → Option HeadLine → Option OrcFault
@@ -113,19 +116,18 @@ pub record Zak : Type 0 where
   pub args : List Argument
 
 -- a call is a `zakinit`
-abbrev pub is_zakinit : Option Opcode → Bool
-is_zakinit (Some op.Zakinit) = true
+abbrev pub is_zakinit : Callee → Bool
+is_zakinit (callee.Opcode op.Zakinit) = true
 is_zakinit _ = false
 
-abbrev pub zak_of : ℕ → Option Opcode → List Argument → List Zak
-zak_of line opcode args = if is_zakinit opcode then record { line = line; args = args } ∷ [] else []
+abbrev pub zak_of : ℕ → Callee → List Argument → List Zak
+zak_of line callee args = if is_zakinit callee then record { line = line; args = args } ∷ [] else []
 
 -- every `zakinit` of statements, in the order of the text, whichever arm of an `if` it stands in
 abbrev mutual
   pub zaks : Statement → List Zak
   zaks (set line name e) = []
-  zaks (add_to line name e) = []
-  zaks (call line results opcode args) = zak_of line (catalogued opcode) args
+  zaks (call line results callee args) = zak_of line callee args
   zaks (choose line list) = zaks_of_arms list
 
   pub zaks_of_block : Block → List Zak
@@ -138,7 +140,7 @@ abbrev mutual
 
 -- a literal, whole from 1 to 1,000; a text is judged with its statement
 abbrev pub is_size : Argument → Bool
-is_size (value (number v)) = is_whole_to 1000 v
+is_size (value (number v)) = is_whole_to greatest_zak_size v
 is_size (value _) = false
 is_size (text name) = true
 
@@ -169,12 +171,16 @@ abbrev pub places : Argument → ℕ
 places (value (number v)) = whole v + 1
 places _ = 0
 
--- those that two sizes give
-abbrev pub sizes : List Argument → ℕ × ℕ
-sizes (a ∷ b ∷ rest) = (places a, places b)
-sizes _ = (0, 0)
+-- no places
+abbrev pub no_spaces : Spaces
+no_spaces = record { control = 0; audio = 0 }
 
--- the numbers of places of the zak space of sounds and of that of control values
-abbrev pub zak_places : List Zak → ℕ × ℕ
-zak_places [] = (0, 0)
-zak_places (z ∷ rest) = sizes z.args
+-- the zak spaces that two sizes give, that of the space of sounds first
+abbrev pub sizes : List Argument → Spaces
+sizes (a ∷ b ∷ rest) = record { control = places b; audio = places a }
+sizes _ = no_spaces
+
+-- those that the first `zakinit` gives
+abbrev pub zak_spaces : List Zak → Spaces
+zak_spaces [] = no_spaces
+zak_spaces (z ∷ rest) = sizes z.args

@@ -1,3 +1,4 @@
+-- Statements: the first rule that they break, what is known after them, and their typed form.
 use Rattle.std.specs.Prelude.{ℕ, Bool, true, not, List, ◌&&◌, ◌||◌, Option, Some, None, if◌then◌else◌}
 use Rattle.std.specs.Option.{option_or}
 use Rattle.cs_base.specs.Rates.{is_init, within}
@@ -6,10 +7,8 @@ use Rattle.cs_base.specs.declared.fault.OrcKind.{OrcKind}
 use Rattle.cs_base.specs.declared.fault.OrcKind.TheVariants as orc
 use Rattle.cs_base.specs.declared.resource.Rate.{Rate}
 use Rattle.cs_base.specs.declared.resource.Rate.TheVariants as rate
-use Rattle.cs_words.specs.Catalogue.{catalogued}
 use Rattle.cs_words.specs.Names.{name_rate}
-use Rattle.cs_words.specs.declared.sign.BinOp.TheVariants as op
-use Rattle.cs_grammar.specs.Tree.{Expression, var, pair, Statement, set, add_to, call, choose, Block, no_stmt, andthen, Arms, otherwise, arm}
+use Rattle.cs_grammar.specs.Tree.{Expression, Statement, set, call, choose, Block, no_stmt, andthen, Arms, otherwise, arm}
 use Rattle.cs_typed.specs.declared.setting.Setting.{Setting}
 use Rattle.cs_typing.specs.Calls.{call_fault, call_known, typed_call}
 use Rattle.cs_typing.specs.Expressions.{is_value, is_condition, rate_of, reads_known, typed_expression}
@@ -33,16 +32,11 @@ condition_fault s n e =
     if not (reads_known n e) then Some orc.Undefined
     else (if not (is_condition e && (s.inside || is_init (rate_of e))) then Some orc.RateMismatch else None)
 
--- `x += e` is `x = x + e`
-abbrev pub sum_with : List ℕ → Expression → Expression
-sum_with name e = pair op.Add (var name) e
-
 -- what is known after statements; an `if` gives what any of its arms gives
 abbrev mutual
   pub known : Known → Statement → Known
   known n (set line name e) = given n name
-  known n (add_to line name e) = given n name
-  known n (call line results opcode args) = call_known n (catalogued opcode) results args
+  known n (call line results callee args) = call_known n callee results args
   known n (choose line list) = known_arms n list
 
   pub known_block : Known → Block → Known
@@ -58,8 +52,7 @@ abbrev mutual
 abbrev mutual
   pub fault : Setting → Known → Statement → Option OrcFault
   fault s n (set line name e) = at line (set_fault s n name e)
-  fault s n (add_to line name e) = at line (set_fault s n name (sum_with name e))
-  fault s n (call line results opcode args) = at line (call_fault s n (catalogued opcode) results args)
+  fault s n (call line results callee args) = at line (call_fault s n callee results args)
   fault s n (choose line list) = arms_fault s n line list
 
   pub block_fault : Setting → Known → Block → Option OrcFault
@@ -85,8 +78,7 @@ choice_rate list = if all_init list then rate.Init else rate.Control
 abbrev mutual
   pub typed_statement : Known → Statement → typed.Statement
   typed_statement n (set line name e) = typed.set line (name_rate name) (variable n name) (typed_expression n e)
-  typed_statement n (add_to line name e) = typed.add_to line (name_rate name) (variable n name) (typed_expression n e)
-  typed_statement n (call line results opcode args) = typed_call line n (catalogued opcode) results args
+  typed_statement n (call line results callee args) = typed_call line n callee results args
   typed_statement n (choose line list) = typed.choose line (choice_rate list) (typed_arms n list)
 
   pub typed_block : Known → Block → typed.Block

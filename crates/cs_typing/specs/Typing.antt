@@ -1,11 +1,12 @@
+-- An orchestra: its first broken rule, and its typed form.
 use Rattle.std.specs.Prelude.{ℕ, List, [], ◌∷◌, nat_lt, Option, Some, None, Result, Ok, Err, if◌then◌else◌}
 use Rattle.std.specs.Option.{option_or}
 use Rattle.cs_base.specs.declared.fault.OrcFault.{OrcFault}
 use Rattle.cs_words.specs.Names.{is_global}
-use Rattle.cs_grammar.specs.Tree.{Statement, set, add_to, call, choose, Block, no_stmt, andthen, Arms, otherwise, arm, Instrument, Orchestra}
+use Rattle.cs_grammar.specs.Tree.{Statement, set, call, choose, Block, no_stmt, andthen, Arms, otherwise, arm, Instrument, Orchestra}
 use Rattle.cs_typed.specs.Places.{outside, inside}
-use Rattle.cs_typing.specs.Known.{Table, no_names, added, Shared, Known, known_with}
-use Rattle.cs_typing.specs.Settings.{header, settings_fault, zaks_of_block, zak_places}
+use Rattle.cs_typing.specs.Known.{Table, no_names, counts_of, added, Shared, Known, known_with}
+use Rattle.cs_typing.specs.Settings.{header, settings_fault, zaks_of_block, zak_spaces}
 use Rattle.cs_typing.specs.Statements.{block_fault, known_block, typed_block}
 use Rattle.cs_typed.specs.TypedTree as typed
 
@@ -20,8 +21,7 @@ given_globals t (name ∷ names) = given_globals (given_global t name) names
 abbrev mutual
   pub globals : Table → Statement → Table
   globals t (set line name e) = given_global t name
-  globals t (add_to line name e) = given_global t name
-  globals t (call line results opcode args) = given_globals t results
+  globals t (call line results callee args) = given_globals t results
   globals t (choose line list) = globals_of_arms t list
 
   pub globals_of_block : Table → Block → Table
@@ -42,8 +42,7 @@ all_globals o = globals_of_instruments (globals_of_block no_names o.zero) o.inst
 
 abbrev pub line_of : Statement → ℕ
 line_of (set line name e) = line
-line_of (add_to line name e) = line
-line_of (call line results opcode args) = line
+line_of (call line results callee args) = line
 line_of (choose line list) = line
 
 -- the statements in front of a line, and those from it on
@@ -104,7 +103,12 @@ typed_outside n (alone b ∷ rest) = typed.then_block (typed_block n b) (typed_o
 typed_outside n (body i ∷ rest) = typed_outside (known_item n (body i)) rest
 
 abbrev pub typed_instrument : Known → Instrument → typed.Instrument
-typed_instrument n i = record { line = i.line; numbers = i.numbers; body = typed_block (entered n) i.body }
+typed_instrument n i = record {
+  line = i.line;
+  numbers = i.numbers;
+  locals = counts_of (known_block (entered n) i.body).locals;
+  body = typed_block (entered n) i.body;
+}
 
 -- the typed instruments
 abbrev pub typed_instruments : Known → List Item → List typed.Instrument
@@ -121,8 +125,8 @@ shared_names s =
 abbrev pub typed_of : Orchestra → typed.Orchestra
 typed_of o = record {
   head = header o.head;
-  zak_a = (zak_places (zaks_of_block o.zero)).0;
-  zak_k = (zak_places (zaks_of_block o.zero)).1;
+  spaces = zak_spaces (zaks_of_block o.zero);
+  zero_locals = counts_of (known_items (first_known o) (items o.zero o.instrs)).locals;
   zero = typed_outside (first_known o) (items o.zero o.instrs);
   instrs = typed_instruments (first_known o) (items o.zero o.instrs);
   globals = shared_names (known_items (first_known o) (items o.zero o.instrs)).shared;

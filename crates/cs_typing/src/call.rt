@@ -2,7 +2,6 @@
 ghost use Rattle.std.specs.Prelude.{◌≡◌, ◌++◌, IfOk, OnOk, map};
 ghost use Rattle.std.specs.List.{list_all};
 ghost use Rattle.cs_base.specs.declared.fault.Or.TheVariants as or;
-ghost use Rattle.cs_words.specs.Catalogue.{catalogued};
 ghost use Rattle.cs_grammar.specs.Tree.{argument};
 ghost use Rattle.cs_typed.specs.Places.{stands_outside, is_starting, is_writing};
 ghost use Rattle.cs_typing.specs.Calls.{fits, all_fit, bound_of, may_result, is_sound, any_sound, is_even, kind_of, channel_use, text_of, is_too_wide, argument_known, all_known, rates_agree, counts_agree, row_fault, is_still, plain_rate, call_rate, typed_argument, typed_arguments, typed_row, call_fault, call_known, typed_call};
@@ -15,9 +14,9 @@ use crate::expr::{is_value, rate_of, reads_known, typed_expression};
 use crate::known::{Channel, Shared, Table, give};
 use crate::making::add;
 use cs_base::{Name, Or, OrcFault, OrcKind, OutOfMemory, Rate};
-use cs_grammar::Arg;
+use cs_grammar::{Arg, Callee};
 use cs_typed::{Setting, TypedArg, TypedArgs, TypedStmt, TypedWhat, Vars};
-use cs_words::{Letter, Opcode, Shape, Signature, find_opcode, name_rate, signature_of};
+use cs_words::{Letter, Opcode, Shape, Signature, name_rate, signature_of};
 use std::alloc::Global;
 
 // Whether a letter takes an argument.
@@ -384,23 +383,23 @@ pub fn call<'t>(
     locals: &mut Table<'t>,
     line: u32,
     results: &'t [Name],
-    name: &[u8],
+    callee: &Callee,
     args: &'t [Arg],
 ) -> Result<TypedStmt, Or<OrcFault>>
     ensures gives { Gives typed.statement result
-        (at line (call_fault setting (known_with shared.old locals.old) (catalogued name.now) results.now (map argument args.now)))
-        (typed_call line (known_with shared.old locals.old) (catalogued name.now) results.now (map argument args.now)) }
+        (at line (call_fault setting (known_with shared.old locals.old) callee.now results.now (map argument args.now)))
+        (typed_call line (known_with shared.old locals.old) callee.now results.now (map argument args.now)) }
     ensures known { OnOk result (known_with shared.new locals.new
-        ≡ call_known (known_with shared.old locals.old) (catalogued name.now) results.now (map argument args.now)) }
+        ≡ call_known (known_with shared.old locals.old) callee.now results.now (map argument args.now)) }
 {
-    let Some(opcode) = find_opcode(name) else {
+    let Callee::Opcode(opcode) = callee else {
         return Err(broken(line, OrcKind::UnknownOpcode));
     };
-    let row = signature_of(opcode);
+    let row = signature_of(*opcode);
     if let Some(kind) = row_fault(setting, shared, locals, &row, results, args) {
         return Err(broken(line, kind));
     }
-    let made = typed_row(alloc, line, shared, locals, opcode, &row, results, args)?;
+    let made = typed_row(alloc, line, shared, locals, *opcode, &row, results, args)?;
     Ok(noted(
         shared,
         locals,

@@ -31,7 +31,7 @@ fn globals_of_stmt<'t>(t: &mut Table<'t>, s: &'t OrcStmt) -> Result<(), OutOfMem
     ensures { OnOk result (t.new ≡ globals t.old (tree.statement s.now)) }
 {
     match &s.what {
-        StmtWhat::Set(name, _) | StmtWhat::AddTo(name, _) => give_global(t, name.as_slice()),
+        StmtWhat::Set(name, _) => give_global(t, name.as_slice()),
         StmtWhat::Call(results, _, _) => give_globals(t, results.as_slice()),
         StmtWhat::Choose(list, els) => {
             globals_of_arms(t, list)?;

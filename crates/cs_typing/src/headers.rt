@@ -5,11 +5,11 @@ ghost use Rattle.cs_typing.specs.Settings.{at, raw_of, whole, is_whole_to, is_ab
 ghost use Rattle.cs_typed.specs.TypedTree.{header_of_head};
 ghost use Rattle.cs_typing.specs.inner.Settled.{is_given};
 
-use cs_base::{Head, Num, OrcFault, OrcKind};
+use cs_base::{GREATEST_KSMPS, GREATEST_SR, Head, MOST_CHANNELS, Num, OrcFault, OrcKind};
 use cs_grammar::HeadLine;
 use cs_words::HeadName;
 
-// A number as so many 65,536ths, or 0 where it lies below 0.
+// The 65,536ths of a number, or 0 where it is negative.
 fn raw_of(value: Num) -> u64
     ensures value { result ≡ raw_of value }
     ensures bounded { result < 2 ^ 47 }
@@ -48,10 +48,10 @@ fn in_range(name: HeadName, value: Num) -> bool
     ensures { result ≡ in_range name value }
 {
     match name {
-        HeadName::Sr => is_whole_to(192_000, value),
+        HeadName::Sr => is_whole_to(GREATEST_SR, value),
         HeadName::Kr => true,
-        HeadName::Ksmps => is_whole_to(4096, value),
-        HeadName::Nchnls => is_whole_to(16, value),
+        HeadName::Ksmps => is_whole_to(GREATEST_KSMPS, value),
+        HeadName::Nchnls => is_whole_to(MOST_CHANNELS, value),
         HeadName::Dbfs => is_above_zero(value),
     }
 }

@@ -1,10 +1,10 @@
 // What is known at a place of the text: names of variables and of channels, each with its number.
 ghost use Rattle.std.specs.Prelude.{◌≡◌, OnOk, IfOk, []};
-ghost use Rattle.cs_typing.specs.Known.{no_names, of_rate, in_table, place_in, added, known_with, knows, variable, after_giving, clashes, channel_of, use_channel, global};
+ghost use Rattle.cs_typing.specs.Known.{no_names, counts_of, of_rate, in_table, place_in, added, known_with, knows, variable, after_giving, clashes, channel_of, use_channel, global};
 ghost use Rattle.cs_typing.specs.Typing.{shared_names};
 ghost use Rattle.cs_typed.specs.TypedTree as typed;
 
-use cs_base::{Names, OutOfMemory, Rate, Res};
+use cs_base::{Names, OutOfMemory, PerRate, Rate, Res};
 use cs_typed::{Globals, Var};
 use cs_words::{NameSet, is_global, name_rate};
 use std::alloc::Global;
@@ -80,17 +80,16 @@ impl<'t> Table<'t> {
             Rate::Audio => self.audio.add(name),
         }
     }
-}
 
-impl<'t> Table<'t> {
-    /// The names of each rate, copied: of the initialisation, of the control rate, of the audio rate.
-    fn to_names(&self, alloc: Global) -> Result<(Names, Names, Names), OutOfMemory>
-        ensures { IfOk result (λ made. (made.0 ≡ self.now.init)
-            × (made.1 ≡ self.now.control) × (made.2 ≡ self.now.audio)) }
+    /// The number of names of each rate.
+    pub fn counts(&self) -> PerRate<usize>
+        ensures { result ≡ counts_of self.now }
     {
-        let init = self.init.to_names(alloc)?;
-        let control = self.control.to_names(alloc)?;
-        Ok((init, control, self.audio.to_names(alloc)?))
+        PerRate {
+            init: self.init.len(),
+            control: self.control.len(),
+            audio: self.audio.len(),
+        }
     }
 }
 
@@ -176,23 +175,16 @@ impl<'t> Shared<'t> {
             Some(Channel::Sound) => self.sound.add(name),
         }
     }
-}
-
-impl<'t> Shared<'t> {
-    /// The names of channels, copied: control channels, and sound channels.
-    fn channels(&self, alloc: Global) -> Result<(Names, Names), OutOfMemory>
-        ensures { IfOk result (λ made. (made.0 ≡ self.now.control) × (made.1 ≡ self.now.sound)) }
-    {
-        let control = self.control.to_names(alloc)?;
-        Ok((control, self.sound.to_names(alloc)?))
-    }
 
     /// All names, copied.
     pub fn names(&self, alloc: Global) -> Result<Globals, OutOfMemory>
         ensures { IfOk result (λ made. typed.shared_names made ≡ shared_names self.now) }
     {
-        let (control, sound) = self.channels(alloc)?;
-        let (gi, gk, ga) = self.globals.to_names(alloc)?;
+        let gi = self.globals.init.to_names(alloc)?;
+        let gk = self.globals.control.to_names(alloc)?;
+        let ga = self.globals.audio.to_names(alloc)?;
+        let control = self.control.to_names(alloc)?;
+        let sound = self.sound.to_names(alloc)?;
         Ok(Globals {
             gi,
             gk,

@@ -1,27 +1,27 @@
 // An orchestra: its parts in the order of the text, each instrument with its own variables.
-ghost use Rattle.std.specs.Prelude.{◌≡◌, ◌≤◌, OnOk, IfOk, IfErr, length, map, Some, None, Err};
+ghost use Rattle.std.specs.Prelude.{◌≡◌, ◌≤◌, OnOk, IfOk, length, map, Some, None, Err};
 ghost use Rattle.std.specs.List.{prefix_len};
 ghost use Rattle.std.specs.Prelude.{nat_lt};
 ghost use Rattle.cs_base.specs.declared.fault.Or.TheVariants as or;
 ghost use Rattle.cs_base.specs.declared.fault.OrcFault.{OrcFault};
 ghost use Rattle.cs_grammar.specs.Tree as tree;
 ghost use Rattle.cs_typed.specs.Places.{inside};
-ghost use Rattle.cs_typing.specs.Known.{known_with, no_names};
+ghost use Rattle.cs_typing.specs.Known.{known_with, no_names, counts_of};
 ghost use Rattle.cs_typing.specs.Statements.{block_fault, known_block, typed_block};
 ghost use Rattle.cs_typed.specs.TypedTree as typed;
-ghost use Rattle.cs_typed.specs.TypedTree.{header_of_head};
 ghost use Rattle.cs_typing.specs.Typing.{items, items_fault, item_fault, known_item, known_items, alone, body, typed_outside, typed_instruments, first_known, shared_names, type_fault, typed_of};
 ghost use Rattle.cs_typing.specs.inner.Answers.{Gives};
-ghost use Rattle.cs_typing.specs.inner.Walk.{Judged, GivesOrc, parts_fault, typed_by, made_of, nothing, after_item, after_items};
+ghost use Rattle.cs_typing.specs.inner.Walk.{Judged, GivesOrc, parts_fault, typed_by, made_from, made_of, nothing, after_item, after_items};
+ghost use Rattle.cs_typing.specs.inner.Settled.{setup as setup_of};
 
 use crate::globals::all_globals;
 use crate::known::{Shared, Table};
 use crate::making::add;
 use crate::settle::{Setup, settings};
 use crate::stmt::block;
-use cs_base::{Items, Numbers, Or, OrcFault, OutOfMemory};
+use cs_base::{Or, OrcFault, OutOfMemory, PerRate};
 use cs_grammar::{Instr, Orc, OrcStmt};
-use cs_typed::{Globals, Setting, TypedInstr, TypedOrc, TypedStmts};
+use cs_typed::{Setting, TypedInstr, TypedOrc, TypedStmts};
 use std::alloc::Global;
 
 /// What is made of the parts so far: typed statements of the code outside instruments, and typed instruments.
@@ -86,28 +86,7 @@ impl Done {
     }
 }
 
-// The statements of an instrument, which has its own variables.
-fn instrument_body<'t>(
-    alloc: Global,
-    channels: u32,
-    shared: &mut Shared<'t>,
-    i: &'t Instr,
-) -> Result<TypedStmts, Or<OrcFault>>
-    ensures gives { Gives (λ v. typed.block v.items) result
-        (block_fault (inside channels) (known_with shared.old no_names) (tree.block i.now.body.items))
-        (typed_block (known_with shared.old no_names) (tree.block i.now.body.items)) }
-    ensures known { OnOk result (shared.new
-        ≡ (known_block (known_with shared.old no_names) (tree.block i.now.body.items)).shared) }
-{
-    let setting = Setting {
-        inside: true,
-        channels,
-    };
-    let mut locals = Table::new(alloc);
-    block(alloc, setting, shared, &mut locals, &i.body)
-}
-
-// An instrument.
+// An instrument, which has its own variables.
 fn instrument<'t>(
     alloc: Global,
     channels: u32,
@@ -119,24 +98,24 @@ fn instrument<'t>(
         (record {
           line = i.now.line;
           numbers = i.now.numbers;
+          locals = counts_of (known_block (known_with shared.old no_names) (tree.block i.now.body.items)).locals;
           body = typed_block (known_with shared.old no_names) (tree.block i.now.body.items);
         }) }
     ensures known { OnOk result (shared.new
         ≡ (known_block (known_with shared.old no_names) (tree.block i.now.body.items)).shared) }
 {
-    let numbers = copied(alloc, &i.numbers)?;
-    let body = instrument_body(alloc, channels, shared, i)?;
+    let setting = Setting {
+        inside: true,
+        channels,
+    };
+    let mut locals = Table::new(alloc);
+    let body = block(alloc, setting, shared, &mut locals, &i.body)?;
     Ok(TypedInstr {
         line: i.line,
-        numbers,
+        numbers: i.numbers.to_items(alloc)?,
+        locals: locals.counts(),
         body,
     })
-}
-
-fn copied(alloc: Global, numbers: &Numbers) -> Result<Numbers, OutOfMemory>
-    ensures { IfOk result (λ made. made ≡ numbers.now) }
-{
-    Ok(Items::from_vec(numbers.as_slice().to_vec(alloc)?))
 }
 
 // How many statements stand in front of a line.
@@ -188,8 +167,10 @@ fn all_parts<'t>(
     alloc: Global,
     channels: u32,
     shared: &mut Shared<'t>,
+    locals: &mut Table<'t>,
     orc: &'t Orc,
 ) -> Result<Done, Or<OrcFault>>
+    requires { locals.old ≡ no_names }
     ensures fault { Judged result (items_fault channels (known_with shared.old no_names)
         (items (tree.orchestra orc.now).zero (tree.orchestra orc.now).instrs)) }
     ensures zero { IfOk result (λ m. typed.block m.zero.items ≡ typed_outside (known_with shared.old no_names)
@@ -197,52 +178,34 @@ fn all_parts<'t>(
     ensures instrs { IfOk result (λ m. map typed.instrument m.instrs.items
         ≡ typed_instruments (known_with shared.old no_names)
         (items (tree.orchestra orc.now).zero (tree.orchestra orc.now).instrs)) }
-    ensures known { OnOk result (shared.new ≡ (known_items (known_with shared.old no_names)
-        (items (tree.orchestra orc.now).zero (tree.orchestra orc.now).instrs)).shared) }
+    ensures known { IfOk result (λ m. known_with shared.new locals.new
+        ≡ known_items (known_with shared.old no_names)
+        (items (tree.orchestra orc.now).zero (tree.orchestra orc.now).instrs)) }
 {
-    let mut locals = Table::new(alloc);
-    parts(alloc, channels, shared, &mut locals, &orc.zero, &orc.instrs)
+    parts(alloc, channels, shared, locals, &orc.zero, &orc.instrs)
 }
 
-fn typed_orc(setup: Setup, globals: Globals, made: Done) -> TypedOrc
-    ensures { typed.orchestra result ≡ record {
-      head = header_of_head setup.head;
-      zak_a = setup.places.0;
-      zak_k = setup.places.1;
-      zero = typed.block made.zero.items;
-      instrs = map typed.instrument made.instrs.items;
-      globals = typed.shared_names globals;
-    } }
-{
-    let Done { zero, instrs } = made;
-    TypedOrc {
-        head: setup.head,
-        zak_a: setup.places.0,
-        zak_k: setup.places.1,
-        zero,
-        instrs,
-        globals,
-    }
-}
-
+// What is made of an orchestra, with the names that its notes share.
 fn with_names<'t>(
     alloc: Global,
     shared: &Shared<'t>,
     setup: Setup,
+    zero_locals: PerRate<usize>,
     made: Done,
-) -> Result<TypedOrc, Or<OrcFault>>
-    ensures made { IfOk result (λ t. typed.orchestra t ≡ record {
-      head = header_of_head setup.head;
-      zak_a = setup.places.0;
-      zak_k = setup.places.1;
-      zero = typed.block made.zero.items;
-      instrs = map typed.instrument made.instrs.items;
-      globals = shared_names shared.now;
-    }) }
-    ensures memory { IfErr result (λ e. e ≡ or.OutOfMemory) }
+) -> Result<TypedOrc, OutOfMemory>
+    ensures { IfOk result (λ t. typed.orchestra t ≡ made_from (setup_of setup) zero_locals
+        (typed.block made.zero.items) (map typed.instrument made.instrs.items) (shared_names shared.now)) }
 {
     let globals = shared.names(alloc)?;
-    Ok(typed_orc(setup, globals, made))
+    let Done { zero, instrs } = made;
+    Ok(TypedOrc {
+        head: setup.head,
+        spaces: setup.spaces,
+        zero_locals,
+        zero,
+        instrs,
+        globals,
+    })
 }
 
 // An orchestra whose settings have no fault, over the names that it gives.
@@ -254,16 +217,17 @@ fn typed_with<'t>(
 ) -> Result<TypedOrc, Or<OrcFault>>
     requires { shared.old ≡ (first_known (tree.orchestra orc.now)).shared }
     ensures { GivesOrc result (parts_fault setup.head.nchnls (tree.orchestra orc.now))
-        (typed_by (header_of_head setup.head) setup.places (tree.orchestra orc.now)) }
+        (typed_by (setup_of setup) (tree.orchestra orc.now)) }
 {
-    let made = all_parts(alloc, setup.head.nchnls, shared, orc)?;
-    with_names(alloc, shared, setup, made)
+    let mut locals = Table::new(alloc);
+    let made = all_parts(alloc, setup.head.nchnls, shared, &mut locals, orc)?;
+    Ok(with_names(alloc, shared, setup, locals.counts(), made)?)
 }
 
 // An orchestra whose settings have no fault.
 fn settled<'t>(alloc: Global, setup: Setup, orc: &'t Orc) -> Result<TypedOrc, Or<OrcFault>>
     ensures { GivesOrc result (parts_fault setup.head.nchnls (tree.orchestra orc.now))
-        (typed_by (header_of_head setup.head) setup.places (tree.orchestra orc.now)) }
+        (typed_by (setup_of setup) (tree.orchestra orc.now)) }
 {
     let mut shared = Shared::new(alloc, all_globals(alloc, orc)?);
     typed_with(alloc, &mut shared, setup, orc)

@@ -2,21 +2,20 @@
 ghost use Rattle.std.specs.Prelude.{◌≡◌, None, []};
 ghost use Rattle.cs_words.specs.declared.word.HeadName.TheVariants as head;
 ghost use Rattle.cs_grammar.specs.Tree.{block};
-ghost use Rattle.cs_typing.specs.Settings.{earlier, settings_fault, headers_fault, header_of, header, kr_fault, zaks_of_block, zak_places};
+ghost use Rattle.cs_typing.specs.Settings.{earlier, settings_fault, headers_fault, header_of, header, kr_fault, zaks_of_block, zak_spaces};
 ghost use Rattle.cs_typing.specs.inner.Answers.{Gives};
 ghost use Rattle.cs_typing.specs.inner.Settled.{setup, told};
 
 use crate::headers::{head_of, headers_fault, kr_fault};
 use crate::zak::zaks_of;
-use cs_base::{Head, Or, OrcFault};
+use cs_base::{Head, Or, OrcFault, Spaces};
 use cs_grammar::{HeadLine, OrcStmt};
 
-/// What holds for a whole piece, and the sizes of its zak spaces.
+/// What holds for a whole piece: its header and its zak spaces.
 #[derive(Clone, Copy)]
 pub struct Setup {
     pub head: Head,
-    /// The numbers of places of the zak space of sounds and of that of control values.
-    pub places: (u32, u32),
+    pub spaces: Spaces,
 }
 
 // Whichever of two faults comes first in the text.
@@ -32,16 +31,16 @@ fn earlier(f: Option<OrcFault>, g: Option<OrcFault>) -> Option<OrcFault>
 }
 
 // Judges `kr` after the other settings.
-fn with_kr(lines: &[HeadLine], places: (u32, u32)) -> Result<Setup, Or<OrcFault>>
+fn with_kr(lines: &[HeadLine], spaces: Spaces) -> Result<Setup, Or<OrcFault>>
     requires { headers_fault [] lines.now ≡ None }
     ensures { Gives setup result (kr_fault (header lines.now) (header_of head.Kr lines.now))
-        (told (header lines.now) places) }
+        (told (header lines.now) spaces) }
 {
     match kr_fault(lines) {
         Some(fault) => Err(Or::Fault(fault)),
         None => Ok(Setup {
             head: head_of(lines),
-            places,
+            spaces,
         }),
     }
 }
@@ -49,11 +48,11 @@ fn with_kr(lines: &[HeadLine], places: (u32, u32)) -> Result<Setup, Or<OrcFault>
 /// Judges header lines, the `zakinit`s of statements outside instruments, and `kr`; and gives what they say.
 pub fn settings(lines: &[HeadLine], outside: &[OrcStmt]) -> Result<Setup, Or<OrcFault>>
     ensures { Gives setup result (settings_fault lines.now (block outside.now))
-        (told (header lines.now) (zak_places (zaks_of_block (block outside.now)))) }
+        (told (header lines.now) (zak_spaces (zaks_of_block (block outside.now)))) }
 {
     let zaks = zaks_of(outside);
     match earlier(headers_fault(lines), zaks.fault) {
         Some(fault) => Err(Or::Fault(fault)),
-        None => with_kr(lines, zaks.places),
+        None => with_kr(lines, zaks.spaces),
     }
 }

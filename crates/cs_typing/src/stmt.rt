@@ -6,9 +6,8 @@ ghost use Rattle.cs_grammar.specs.declared.tree.Arm.{out-Arm};
 ghost use Rattle.cs_typing.specs.Expressions.{typed_expression};
 ghost use Rattle.cs_typing.specs.Known.{known_with, variable, after_giving};
 ghost use Rattle.cs_typing.specs.Settings.{at};
-ghost use Rattle.cs_typing.specs.Statements.{may_set, set_fault, sum_with, condition_fault, fault, block_fault, arms_fault, known, known_block, known_arms, typed_statement, typed_block, typed_arms, choice_rate, all_init};
+ghost use Rattle.cs_typing.specs.Statements.{may_set, set_fault, condition_fault, fault, block_fault, arms_fault, known, known_block, known_arms, typed_statement, typed_block, typed_arms, choice_rate, all_init};
 ghost use Rattle.cs_typed.specs.TypedTree as typed;
-ghost use Rattle.cs_typed.specs.declared.tree.Var.{Var};
 ghost use Rattle.cs_typing.specs.inner.Answers.{Gives, GivesArm, GivesArms};
 
 use crate::call::{broken, call};
@@ -17,7 +16,7 @@ use crate::known::{Shared, Table, given};
 use crate::making::add;
 use cs_base::{Or, OrcFault, OrcKind, Rate};
 use cs_grammar::{Arm, Expr, OrcStmt, StmtWhat};
-use cs_typed::{Setting, TypedArm, TypedArms, TypedExpr, TypedStmt, TypedStmts, TypedWhat, Var};
+use cs_typed::{Setting, TypedArm, TypedArms, TypedExpr, TypedStmt, TypedStmts, TypedWhat};
 use cs_words::name_rate;
 use std::alloc::Global;
 
@@ -49,35 +48,6 @@ fn set_fault<'t>(
     }
 }
 
-// Whether a variable may take its sum with a value.
-fn may_add(setting: Setting, name: &[u8], e: &Expr) -> bool
-    ensures { result ≡ may_set setting name.now (sum_with name.now (tree.expression e.now)) }
-{
-    is_value(e)
-        && name_rate(name).faster(rate_of(e)).within(name_rate(name))
-        && (setting.inside || name_rate(name).is_init())
-}
-
-// The first rule that `name += e` breaks: it is `name = name + e`.
-fn sum_fault<'t>(
-    setting: Setting,
-    shared: &Shared<'t>,
-    locals: &Table<'t>,
-    name: &[u8],
-    e: &Expr,
-) -> Option<OrcKind>
-    ensures { result
-        ≡ set_fault setting (known_with shared.now locals.now) name.now (sum_with name.now (tree.expression e.now)) }
-{
-    if !(shared.knows(locals, name) && reads_known(shared, locals, e)) {
-        Some(OrcKind::Undefined)
-    } else if !may_add(setting, name, e) {
-        Some(OrcKind::RateMismatch)
-    } else {
-        None
-    }
-}
-
 // The first rule that the condition of an `if` breaks.
 fn condition_fault<'t>(
     setting: Setting,
@@ -94,32 +64,6 @@ fn condition_fault<'t>(
     } else {
         None
     }
-}
-
-// The variable and the typed value of an assignment that has no fault; the variable is known from
-// then on.
-fn assigned<'t>(
-    alloc: Global,
-    shared: &Shared<'t>,
-    locals: &mut Table<'t>,
-    line: u32,
-    fault: Option<OrcKind>,
-    name: &'t [u8],
-    e: &Expr,
-) -> Result<(Var, TypedExpr), Or<OrcFault>>
-    ensures gives { Gives {A = Var × typed.Expression} (λ m. (m.0, typed.expression m.1))
-        result (at line fault) (
-          variable (known_with shared.now locals.old) name.now,
-          typed_expression (known_with shared.now locals.old) (tree.expression e.now),
-        ) }
-    ensures known { OnOk result (locals.new ≡ after_giving locals.old name.now) }
-{
-    if let Some(kind) = fault {
-        return Err(broken(line, kind));
-    }
-    let var = shared.variable(locals, name);
-    let value = typed_expression(alloc, shared, locals, e)?;
-    Ok((var, given(locals, name, value)?))
 }
 
 // `name = e`
@@ -139,40 +83,17 @@ fn set<'t>(
         (typed_expression (known_with shared.now locals.old) (tree.expression e.now))) }
     ensures known { OnOk result (locals.new ≡ after_giving locals.old name.now) }
 {
-    let fault = set_fault(setting, shared, locals, name, e);
-    let (var, value) = assigned(alloc, shared, locals, line, fault, name, e)?;
-    Ok(TypedStmt {
+    if let Some(kind) = set_fault(setting, shared, locals, name, e) {
+        return Err(broken(line, kind));
+    }
+    let var = shared.variable(locals, name);
+    let value = typed_expression(alloc, shared, locals, e)?;
+    let made = TypedStmt {
         line,
         rate: name_rate(name),
         what: TypedWhat::Set(var, value),
-    })
-}
-
-// `name += e`
-fn add_to<'t>(
-    alloc: Global,
-    setting: Setting,
-    shared: &Shared<'t>,
-    locals: &mut Table<'t>,
-    line: u32,
-    name: &'t [u8],
-    e: &Expr,
-) -> Result<TypedStmt, Or<OrcFault>>
-    ensures gives { Gives typed.statement result
-        (at line (set_fault setting (known_with shared.now locals.old) name.now
-        (sum_with name.now (tree.expression e.now))))
-        (typed.add_to line (name_rate name.now)
-        (variable (known_with shared.now locals.old) name.now)
-        (typed_expression (known_with shared.now locals.old) (tree.expression e.now))) }
-    ensures known { OnOk result (locals.new ≡ after_giving locals.old name.now) }
-{
-    let fault = sum_fault(setting, shared, locals, name, e);
-    let (var, value) = assigned(alloc, shared, locals, line, fault, name, e)?;
-    Ok(TypedStmt {
-        line,
-        rate: name_rate(name),
-        what: TypedWhat::AddTo(var, value),
-    })
+    };
+    Ok(given(locals, name, made)?)
 }
 
 // Whether all conditions are known when the note begins.
@@ -234,17 +155,14 @@ pub fn stmt<'t>(
 {
     match &s.what {
         StmtWhat::Set(name, e) => set(alloc, setting, shared, locals, s.line, name.as_slice(), e),
-        StmtWhat::AddTo(name, e) => {
-            add_to(alloc, setting, shared, locals, s.line, name.as_slice(), e)
-        }
-        StmtWhat::Call(results, name, args) => call(
+        StmtWhat::Call(results, callee, args) => call(
             alloc,
             setting,
             shared,
             locals,
             s.line,
             results.as_slice(),
-            name.as_slice(),
+            callee,
             args,
         ),
         StmtWhat::Choose(list, els) => {

@@ -1,16 +1,15 @@
-// `zakinit`s outside instruments, in the order of the text: their first fault, and the sizes of the two zak spaces.
+// `zakinit`s outside instruments, in the order of the text: their first fault, and the two zak spaces.
 ghost use Rattle.std.specs.Prelude.{◌≡◌, ◌≤◌, map, true, false, None};
 ghost use Rattle.std.specs.List.{list_all};
-ghost use Rattle.cs_words.specs.Catalogue.{catalogued};
 ghost use Rattle.cs_grammar.specs.Tree as tree;
 ghost use Rattle.cs_grammar.specs.declared.tree.Arm.{out-Arm};
-ghost use Rattle.cs_typing.specs.Settings.{at, is_zakinit, is_size, zak_fault, zaks, zaks_of_block, zaks_of_arms, zaks_fault, places, sizes, zak_places};
+ghost use Rattle.cs_typing.specs.Settings.{at, is_zakinit, is_size, zak_fault, zaks, zaks_of_block, zaks_of_arms, zaks_fault, places, sizes, zak_spaces};
 ghost use Rattle.cs_typing.specs.inner.Settled.{zak_at, after_zak, after_zaks};
 
 use crate::headers::{is_whole_to, whole};
-use cs_base::{OrcFault, OrcKind};
-use cs_grammar::{Arg, Arm, Expr, OrcStmt, StmtWhat};
-use cs_words::{Opcode, find_opcode};
+use cs_base::{GREATEST_ZAK_SIZE, OrcFault, OrcKind, Spaces};
+use cs_grammar::{Arg, Arm, Callee, Expr, OrcStmt, StmtWhat};
+use cs_words::Opcode;
 
 /// What is known of the `zakinit`s before a place of the text.
 #[derive(Clone, Copy)]
@@ -19,8 +18,8 @@ pub struct Zaks {
     pub seen: bool,
     /// The first rule that they break.
     pub fault: Option<OrcFault>,
-    /// The numbers of places of the zak space of sounds and of that of control values.
-    pub places: (u32, u32),
+    /// The zak spaces that the first of them gives.
+    pub spaces: Spaces,
 }
 
 // Whether an argument may be a size: a literal, whole from 1 to 1,000. A text is judged with its statement.
@@ -28,7 +27,7 @@ fn is_size(arg: &Arg) -> bool
     ensures { result ≡ is_size (tree.argument arg.now) }
 {
     match arg {
-        Arg::Value(Expr::Number(value)) => is_whole_to(1000, *value),
+        Arg::Value(Expr::Number(value)) => is_whole_to(GREATEST_ZAK_SIZE, *value),
         Arg::Value(_) => false,
         Arg::Text(_) => true,
     }
@@ -74,13 +73,22 @@ fn places(arg: &Arg) -> u32
     }
 }
 
-// Those that two sizes give.
-fn sizes(args: &[Arg]) -> (u32, u32)
+/// No places.
+const NO_SPACES: Spaces = Spaces {
+    control: 0,
+    audio: 0,
+};
+
+// The zak spaces that two sizes give, that of the space of sounds first.
+fn sizes(args: &[Arg]) -> Spaces
     ensures { result ≡ sizes (map tree.argument args.now) }
 {
     match args {
-        [a, b, ..] => (places(a), places(b)),
-        _ => (0, 0),
+        [a, b, ..] => Spaces {
+            control: places(b),
+            audio: places(a),
+        },
+        _ => NO_SPACES,
     }
 }
 
@@ -91,18 +99,18 @@ fn after_zak(before: Zaks, line: u32, args: &[Arg]) -> Zaks
     Zaks {
         seen: true,
         fault: before.fault.or(zak_fault(before.seen, line, args)),
-        places: if before.seen {
-            before.places
+        spaces: if before.seen {
+            before.spaces
         } else {
             sizes(args)
         },
     }
 }
 
-fn is_zakinit(name: &[u8]) -> bool
-    ensures { result ≡ is_zakinit (catalogued name.now) }
+fn is_zakinit(callee: &Callee) -> bool
+    ensures { result ≡ is_zakinit callee.now }
 {
-    matches!(find_opcode(name), Some(Opcode::Zakinit))
+    matches!(callee, Callee::Opcode(Opcode::Zakinit))
 }
 
 #[cycle(zaks)]
@@ -110,9 +118,9 @@ fn after_stmt(before: Zaks, s: &OrcStmt) -> Zaks
     ensures { result ≡ after_zaks before (zaks (tree.statement s.now)) }
 {
     match &s.what {
-        StmtWhat::Set(_, _) | StmtWhat::AddTo(_, _) => before,
-        StmtWhat::Call(_, name, args) => {
-            if is_zakinit(name.as_slice()) {
+        StmtWhat::Set(_, _) => before,
+        StmtWhat::Call(_, callee, args) => {
+            if is_zakinit(callee) {
                 after_zak(before, s.line, args)
             } else {
                 before
@@ -152,15 +160,15 @@ fn after_arm(before: Zaks, a: &Arm) -> Zaks
     after_block(before, &a.body)
 }
 
-/// The `zakinit`s among statements, in `if`s too: their first fault, and the places of the two spaces.
+/// The `zakinit`s among statements, in `if`s too: their first fault, and the two spaces.
 pub fn zaks_of(outside: &[OrcStmt]) -> Zaks
     ensures fault { result.fault ≡ zaks_fault false (zaks_of_block (tree.block outside.now)) }
-    ensures places { result.places ≡ zak_places (zaks_of_block (tree.block outside.now)) }
+    ensures spaces { result.spaces ≡ zak_spaces (zaks_of_block (tree.block outside.now)) }
 {
     let none = Zaks {
         seen: false,
         fault: None,
-        places: (0, 0),
+        spaces: NO_SPACES,
     };
     after_block(none, outside)
 }

@@ -6,6 +6,7 @@ use Rattle.cs_grammar.specs.declared.tree.Arg.TheVariants.{Value, Text}
 use Rattle.cs_grammar.specs.declared.tree.Expr.{Expr}
 use Rattle.cs_grammar.specs.declared.tree.Arm.{Arm, out-Arm}
 use Rattle.cs_grammar.specs.declared.tree.OrcStmt.{OrcStmt}
+use Rattle.cs_grammar.specs.declared.tree.Callee.{Callee}
 use Rattle.cs_grammar.specs.Tree.{Expression, expression, var, argument, Argument, value, text, Statement, set, choose, Block, no_stmt, andthen, joins, block, statement, Arms, otherwise, arm, arms, Definition}
 use Rattle.cs_udo.specs.Names.{in_frame, as_it_is, slots, renamed, renamed_argument}
 use Rattle.cs_udo.specs.Expanded.{Opcodes, alone, assignments, value_in, after, after_block, after_arms, expanded, expanded_block, expanded_arms, calls, calls_in, calls_in_arms, whole_body, template}
@@ -103,8 +104,8 @@ abbrev pub takes : Definition → ℕ → (List ℕ → List ℕ) → ℕ → Li
 takes d f own line args = assignments line (map (in_frame f) d.names) (map (renamed_argument own) args)
 
 -- A call: the inputs, the statements of the definition, what it gives at its end, and the results.
-pub built_call : (inner : Opcodes) (own : List ℕ → List ℕ) (line : ℕ) (xs : List (List ℕ)) (name : List ℕ) (args : List Argument) (d : Definition) (b : Building) → with (with (building_block inner (in_frame b.next) (longer b (takes d b.next own line args) (b.next + 1)) d.body) (ends d b.next)) (gives d b.next own line xs) ≡ building_call own b line xs name args (Some (template inner d))
-built_call inner own line xs name args d b =
+pub built_call : (inner : Opcodes) (own : List ℕ → List ℕ) (line : ℕ) (xs : List (List ℕ)) (c : Callee) (args : List Argument) (d : Definition) (b : Building) → with (with (building_block inner (in_frame b.next) (longer b (takes d b.next own line args) (b.next + 1)) d.body) (ends d b.next)) (gives d b.next own line xs) ≡ building_call own b line xs c args (Some (template inner d))
+built_call inner own line xs c args d b =
     let f : ℕ = b.next in
     let start : Block = takes d f own line args in
     let body : Block = expanded_block inner (in_frame f) (f + 1) d.body in
@@ -166,9 +167,9 @@ after_arms_within opcodes fair n list =
     omega (arith, after_e, count_e)
 
 -- the body of what is called counts less than the call
-pub body_within : (inner : Opcodes) → AllFair inner → (d : Definition) (line : ℕ) (xs : List (List ℕ)) (name : List ℕ) (args : List Argument) → total (counts_in inner d.body) + 1 ≤ call_count line xs name args (Some (template inner d))
-body_within inner fair d line xs name args =
-    let whole : call_count line xs name args (Some (template inner d)) ≡ (size_of (assignments line d.names args) + min (length xs) (length (slots 0 d.outs))) + (weight (template inner d) + 1) = call_weight line xs name args (template inner d) (fair_template inner fair d) in
+pub body_within : (inner : Opcodes) → AllFair inner → (d : Definition) (line : ℕ) (xs : List (List ℕ)) (c : Callee) (args : List Argument) → total (counts_in inner d.body) + 1 ≤ call_count line xs c args (Some (template inner d))
+body_within inner fair d line xs c args =
+    let whole : call_count line xs c args (Some (template inner d)) ≡ (size_of (assignments line d.names args) + min (length xs) (length (slots 0 d.outs))) + (weight (template inner d) + 1) = call_weight line xs c args (template inner d) (fair_template inner fair d) in
     let body : weight (template inner d) ≡ total (counts_in inner d.body) + size_of (assignments d.line (slots 0 d.outs) d.result) = body_weight inner fair d in
     omega (arith, whole, body)
 

@@ -2,6 +2,7 @@ pub mod Binary
 pub mod Built
 pub mod Faulted
 pub mod Places
+pub mod Plain
 pub mod Priced
 pub mod Tallied
 pub mod Weighed

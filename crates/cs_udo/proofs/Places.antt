@@ -11,7 +11,7 @@ use Rattle.cs_words.specs.NameSets.{has, place_of, seen}
 use Rattle.cs_grammar.specs.Inputs.{AreDifferent}
 use Rattle.cs_grammar.specs.WellFormed.{line_of}
 use Rattle.cs_grammar.specs.declared.tree.StmtWhat.{StmtWhat}
-use Rattle.cs_grammar.specs.declared.tree.StmtWhat.TheVariants.{Set, AddTo, Call, Choose'}
+use Rattle.cs_grammar.specs.declared.tree.StmtWhat.TheVariants.{Set, Call, Choose'}
 use Rattle.cs_grammar.specs.Tree.{Definition, definition, of_what}
 use Rattle.cs_grammar.specs.declared.tree.Udo.{Udo}
 use Rattle.cs_udo.specs.Expanded.{Template, Opcodes, no_opcodes, template, defining, defining_all, before, opcodes_before}
@@ -146,6 +146,5 @@ opcodes_more ds i d lt e =
 -- the line of a statement
 pub line_is : (line : ℕ) (w : StmtWhat) → line_of (of_what line w) ≡ line
 line_is line (Set name e) = refl
-line_is line (AddTo name e) = refl
 line_is line (Call results opcode args) = refl
 line_is line (Choose' s a t b) = refl

@@ -6,9 +6,10 @@ use Rattle.std.proofs.lemmas.List.{length_push, get_or_append_left, get_or_push}
 use Rattle.std.proofs.lemmas.Option.{none-some, same_Some}
 use Rattle.cs_base.specs.declared.limit.Limit.TheVariants as limit
 use Rattle.cs_base.specs.declared.limit.LimitHit.{LimitHit}
+use Rattle.cs_grammar.specs.declared.tree.Callee.{Callee}
 use Rattle.cs_grammar.specs.Tree.{Argument, Block, Definition}
 use Rattle.cs_udo.specs.Names.{slots}
-use Rattle.cs_udo.specs.Expanded.{Opcodes, assignments, template}
+use Rattle.cs_udo.specs.Expanded.{Opcodes, defined, assignments, template}
 use Rattle.cs_udo.specs.Counted.{size_of, call_count, counts_in, hit, statements_hit}
 use Rattle.cs_udo.specs.declared.tally.Tally.{Tally}
 use Rattle.cs_udo.specs.inner.Library.{opcodes_of}
@@ -20,8 +21,8 @@ abbrev pub none_counted : Tally
 none_counted = record { sum = 0; passed = None }
 
 -- a call of a defined opcode
-pub price_is : (env inner : Opcodes) → AllFair inner → (d : Definition) (line : ℕ) (xs : List (List ℕ)) (name : List ℕ) (args : List Argument) (given taken cost result : ℕ) → env name ≡ Some (template inner d) → given ≡ capped (size_of (assignments line d.names args)) → taken ≡ capped (min (length xs) (length d.outs)) → cost ≡ capped (weight (template inner d)) → result ≡ capped (capped (given + taken) + capped (cost + 1)) → result ≡ capped (call_count line xs name args (env name))
-price_is env inner fair d line xs name args given taken cost result found g k c r =
+pub price_is : (env inner : Opcodes) → AllFair inner → (d : Definition) (line : ℕ) (xs : List (List ℕ)) (callee : Callee) (args : List Argument) (given taken cost result : ℕ) → defined env callee ≡ Some (template inner d) → given ≡ capped (size_of (assignments line d.names args)) → taken ≡ capped (min (length xs) (length d.outs)) → cost ≡ capped (weight (template inner d)) → result ≡ capped (capped (given + taken) + capped (cost + 1)) → result ≡ capped (call_count line xs callee args (defined env callee))
+price_is env inner fair d line xs callee args given taken cost result found g k c r =
     let a : ℕ = size_of (assignments line d.names args) in
     let b : ℕ = min (length xs) (length d.outs) in
     let w : ℕ = weight (template inner d) in
@@ -32,8 +33,8 @@ price_is env inner fair d line xs name args given taken cost result found g k c 
     ∙ ap (λ n. capped (capped (a + b) + n)) back
     ∙ capped_both (a + b) (w + 1)
     ∙ sym (ap (λ n. capped ((a + min (length xs) n) + (w + 1))) (length_slots 0 d.outs))
-    ∙ sym (ap capped (call_weight line xs name args (template inner d) (fair_template inner fair d)))
-    ∙ sym (ap (λ o. capped (call_count line xs name args o)) found)
+    ∙ sym (ap capped (call_weight line xs callee args (template inner d) (fair_template inner fair d)))
+    ∙ sym (ap (λ o. capped (call_count line xs callee args o)) found)
 
 -- a definition
 pub cost_is : (env : Opcodes) → AllFair env → (d : Definition) (t : Tally) (given result : ℕ) → t ≡ after_counts none_counted (counts_in env d.body) → given ≡ capped (size_of (assignments d.line (slots 0 d.outs) d.result)) → result ≡ capped (t.sum + given) → result ≡ capped (weight (template env d))

@@ -4,9 +4,11 @@ use Rattle.std.specs.Option.{option_or}
 use Rattle.std.specs.Str.{bytes_eq}
 use Rattle.std.specs.List.{prefix_len}
 use Rattle.cs_base.specs.declared.resource.Rate.{Rate}
-use Rattle.cs_grammar.specs.Tree.{Argument, value, text, Statement, set, add_to, call, choose, Block, no_stmt, andthen, joins, Arms, otherwise, arm, Definition}
+use Rattle.cs_grammar.specs.declared.tree.Callee.{Callee}
+use Rattle.cs_grammar.specs.declared.tree.Callee.TheVariants as callee
+use Rattle.cs_grammar.specs.Tree.{Argument, value, text, Statement, set, call, choose, Block, no_stmt, andthen, joins, Arms, otherwise, arm, Definition}
 use Rattle.cs_udo.specs.Names.{in_frame, as_it_is, slots, renamed_argument}
-use Rattle.cs_udo.specs.Expanded.{Template, Opcodes, no_opcodes, assignments, value_in, called, calls_of, after_called, after, after_block, after_arms, expanded, expanded_block, expanded_arms, calls, calls_in, calls_in_arms, whole_body, template, defining, defining_all}
+use Rattle.cs_udo.specs.Expanded.{Template, Opcodes, no_opcodes, defined, assignments, value_in, called, calls_of, after_called, after, after_block, after_arms, expanded, expanded_block, expanded_arms, calls, calls_in, calls_in_arms, whole_body, template, defining, defining_all}
 use Rattle.cs_udo.specs.Counted.{size_of, size_of_arms, call_count, counts, counts_in, counts_in_arms}
 use Rattle.cs_udo.specs.inner.Library.{opcodes_of}
 use Rattle.cs_udo.specs.inner.Tallies.{total, is_value, weight}
@@ -23,6 +25,10 @@ FairIf (Some t) = Fair t
 
 pub record AllFair (opcodes : Opcodes) : Type 0 where
   pub each : (name : List ℕ) → FairIf (opcodes name)
+
+pub fair_called : (opcodes : Opcodes) → AllFair opcodes → (c : Callee) → FairIf (defined opcodes c)
+fair_called opcodes fair (callee.Opcode o) = tt
+fair_called opcodes fair (callee.Name name) = fair.each name
 
 pub size_joins : (a b : Block) → size_of (joins a b) ≡ size_of a + size_of b
 size_joins no_stmt b = omega arith
@@ -62,8 +68,8 @@ three a b c x y z p q r = omega (arith, p, q, r)
 parts_size : (a b c : Block) → size_of (joins a (joins b c)) ≡ size_of a + (size_of b + size_of c)
 parts_size a b c = size_joins a (joins b c) ∙ ap (λ n. size_of a + n) (size_joins b c)
 
-pub call_parts : (own : List ℕ → List ℕ) (f line : ℕ) (xs : List (List ℕ)) (name : List ℕ) (args : List Argument) (t : Template) → Fair t → size_of (called own f line xs name args (Some t)) ≡ size_of (assignments line t.inputs args) + (size_of (t.block 1) + min (length xs) (length t.results))
-call_parts own f line xs name args t fair =
+pub call_parts : (own : List ℕ → List ℕ) (f line : ℕ) (xs : List (List ℕ)) (c : Callee) (args : List Argument) (t : Template) → Fair t → size_of (called own f line xs c args (Some t)) ≡ size_of (assignments line t.inputs args) + (size_of (t.block 1) + min (length xs) (length t.results))
+call_parts own f line xs c args t fair =
     parts_size (assignments line (map (in_frame f) t.inputs) (map (renamed_argument own) args)) (t.block f)
     (assignments line (map own xs) (map (value_in f) t.results))
     ∙ three (size_of (assignments line (map (in_frame f) t.inputs) (map (renamed_argument own) args))) (size_of (t.block f))
@@ -71,15 +77,15 @@ call_parts own f line xs name args t fair =
     (size_of (assignments line t.inputs args)) (size_of (t.block 1)) (min (length xs) (length t.results))
     (renamed_size line (in_frame f) own t.inputs args) (fair.size f 1) (results_size line f own xs t.results)
 
-called_size : (own : List ℕ → List ℕ) (f line : ℕ) (xs : List (List ℕ)) (name : List ℕ) (args : List Argument) (found : Option Template) → FairIf found → size_of (called own f line xs name args found) ≡ size_of (called as_it_is 1 line xs name args found)
-called_size own f line xs name args None fair = refl
-called_size own f line xs name args (Some t) fair =
-    call_parts own f line xs name args t fair ∙ sym (call_parts as_it_is 1 line xs name args t fair)
+called_size : (own : List ℕ → List ℕ) (f line : ℕ) (xs : List (List ℕ)) (c : Callee) (args : List Argument) (found : Option Template) → FairIf found → size_of (called own f line xs c args found) ≡ size_of (called as_it_is 1 line xs c args found)
+called_size own f line xs c args None fair = refl
+called_size own f line xs c args (Some t) fair =
+    call_parts own f line xs c args t fair ∙ sym (call_parts as_it_is 1 line xs c args t fair)
 
 -- what a call of a defined opcode counts
-pub call_weight : (line : ℕ) (xs : List (List ℕ)) (name : List ℕ) (args : List Argument) (t : Template) → Fair t → call_count line xs name args (Some t) ≡ (size_of (assignments line t.inputs args) + min (length xs) (length t.results)) + (weight t + 1)
-call_weight line xs name args t fair =
-    let parts : size_of (called as_it_is 1 line xs name args (Some t)) ≡ size_of (assignments line t.inputs args) + (size_of (t.block 1) + min (length xs) (length t.results)) = call_parts as_it_is 1 line xs name args t fair in
+pub call_weight : (line : ℕ) (xs : List (List ℕ)) (c : Callee) (args : List Argument) (t : Template) → Fair t → call_count line xs c args (Some t) ≡ (size_of (assignments line t.inputs args) + min (length xs) (length t.results)) + (weight t + 1)
+call_weight line xs c args t fair =
+    let parts : size_of (called as_it_is 1 line xs c args (Some t)) ≡ size_of (assignments line t.inputs args) + (size_of (t.block 1) + min (length xs) (length t.results)) = call_parts as_it_is 1 line xs c args t fair in
     omega (arith, parts)
 
 -- ---- all statements
@@ -90,9 +96,8 @@ both_counts a b s t c d p q = omega (arith, p, q)
 mutual
   pub count_is : (opcodes : Opcodes) → AllFair opcodes → (own : List ℕ → List ℕ) (f : ℕ) (x : Statement) → total (counts opcodes x) ≡ size_of (expanded opcodes own f x) + calls opcodes x
   count_is opcodes fair own f (set line x e) = refl
-  count_is opcodes fair own f (add_to line x e) = refl
-  count_is opcodes fair own f (call line xs name args) =
-      let same : size_of (called own f line xs name args (opcodes name)) ≡ size_of (called as_it_is 1 line xs name args (opcodes name)) = called_size own f line xs name args (opcodes name) (fair.each name) in
+  count_is opcodes fair own f (call line xs c args) =
+      let same : size_of (called own f line xs c args (defined opcodes c)) ≡ size_of (called as_it_is 1 line xs c args (defined opcodes c)) = called_size own f line xs c args (defined opcodes c) (fair_called opcodes fair c) in
       omega (arith, same)
   count_is opcodes fair own f (choose line list) =
       let rest : total (counts_in_arms opcodes list) ≡ size_of_arms (expanded_arms opcodes own f list) + calls_in_arms opcodes list = arms_counts opcodes fair own f list in
@@ -128,8 +133,7 @@ further m f a b e = omega (arith, e)
 mutual
   pub after_is : (opcodes : Opcodes) → AllFair opcodes → (f : ℕ) (x : Statement) → after opcodes f x ≡ f + calls opcodes x
   after_is opcodes fair f (set line x e) = omega arith
-  after_is opcodes fair f (add_to line x e) = omega arith
-  after_is opcodes fair f (call line xs name args) = after_call_is f (opcodes name) (fair.each name)
+  after_is opcodes fair f (call line xs c args) = after_call_is f (defined opcodes c) (fair_called opcodes fair c)
   after_is opcodes fair f (choose line list) = after_arms_is opcodes fair f list
 
   pub after_block_is : (opcodes : Opcodes) → AllFair opcodes → (f : ℕ) (b : Block) → after_block opcodes f b ≡ f + calls_in opcodes b

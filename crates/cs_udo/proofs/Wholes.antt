@@ -1,21 +1,20 @@
 -- A whole orchestra.
-use Rattle.std.proofs.Common.{◌≡◌, ◌∙◌, ◌+◌, ◌≤◌, ℕ, List, [], ◌∷◌, length, map, Option, Some, None, Ok, Err, arith, refl, sym, ap}
+use Rattle.std.proofs.Common.{◌≡◌, ◌∙◌, ◌+◌, ◌≤◌, ℕ, List, [], ◌∷◌, length, map, Option, Some, None, Ok, arith, refl, sym, ap}
 use Rattle.std.specs.Option.{option_or}
 use Rattle.std.proofs.lemmas.List.Elements.{All-cons, All-nil}
 use Rattle.std.proofs.lemmas.Option.{none-some}
 use Rattle.cs_base.specs.Limits.{most_statements}
-use Rattle.cs_base.specs.declared.fault.OrcFault.{OrcFault}
 use Rattle.cs_base.specs.declared.limit.Limit.TheVariants as limit
 use Rattle.cs_base.specs.declared.limit.LimitHit.{LimitHit}
 use Rattle.cs_grammar.specs.declared.tree.Instr.{Instr}
-use Rattle.cs_grammar.specs.Tree.{Block, block, Definition, Instrument, instrument, Orchestra}
-use Rattle.cs_udo.specs.declared.fault.ExpandFault.TheVariants as fault
+use Rattle.cs_grammar.specs.Tree.{Block, block, Definition, instrument, Orchestra}
 use Rattle.cs_udo.specs.Expanded.{Opcodes, opcodes_before, expanded_instrument, expanded_orchestra}
 use Rattle.cs_udo.specs.Counted.{counts_in, line_passing, hit, numbers_hit, statements_hit, limits, first_limit}
 use Rattle.cs_udo.specs.Expanding.{within, unless, expanding}
 use Rattle.cs_udo.specs.Refused.{first_fault}
 use Rattle.cs_udo.specs.inner.Tallies.{total}
-use Rattle.cs_udo.specs.inner.Whole.{AreWithin, IsExpanded}
+use Rattle.cs_udo.specs.inner.Whole.{AreWithin}
+use Rattle.cs_udo.proofs.Plain.{same_instruments}
 use Rattle.cs_udo.proofs.Tallied.{within_all}
 
 not_hit : (o : Option ℕ) → hit limit.Statements o ≡ None → o ≡ None
@@ -48,19 +47,15 @@ all_within ds given (i ∷ rest) e =
     All-cons (λ (j : Instr). statements_hit (opcodes_before j.line ds) (block j.body.items) ≡ None) i rest (second a b c e)
     (all_within ds (given + length i.numbers) rest (third a b c e))
 
--- what an orchestra comes to
-pub refused_first : (o : Orchestra) (f : OrcFault) → first_fault o ≡ Some f → expanding o ≡ Err (fault.Orc f)
-refused_first o f e = ap (λ x. unless x (within (first_limit o) (expanded_orchestra o))) e
+-- no items
+pub nothing : {A : Type 0} (xs : List A) → length xs ≡ 0 → xs ≡ []
+nothing [] e = refl
+nothing (x ∷ xs) e = absurd (omega (arith, e))
 
-pub limited_next : (o : Orchestra) (h : LimitHit) → first_fault o ≡ None → first_limit o ≡ Some h → expanding o ≡ Err (fault.Limit h)
-limited_next o h none e =
-    ap (λ x. unless x (within (first_limit o) (expanded_orchestra o))) none ∙ ap (λ x. within x (expanded_orchestra o)) e
-
-same_instruments : (o : Orchestra) (instrs : List Instrument) → instrs ≡ map (expanded_instrument o.opcodes) o.instrs → expanded_orchestra o ≡ record { head = o.head; opcodes = []; zero = o.zero; instrs = instrs }
-same_instruments o instrs e = λ i. record { head = o.head; opcodes = []; zero = o.zero; instrs = sym e i }
-
-pub expanded_last : (o : Orchestra) (instrs : List Instrument) → IsExpanded o instrs → expanding o ≡ Ok (record { head = o.head; opcodes = []; zero = o.zero; instrs = instrs })
-expanded_last o instrs h =
-    ap (λ x. unless x (within (first_limit o) (expanded_orchestra o))) h.fine
-    ∙ ap (λ x. within x (expanded_orchestra o)) h.within
-    ∙ ap Ok (same_instruments o instrs h.instruments_are)
+-- an orchestra that defines no opcode, and is refused nothing, stays as it is
+pub unchanged : (o : Orchestra) → first_fault o ≡ None → first_limit o ≡ None → o.opcodes ≡ [] → expanding o ≡ Ok o
+unchanged o fine few e =
+    let instrs : map (expanded_instrument o.opcodes) o.instrs ≡ o.instrs = ap (λ ds. map (expanded_instrument ds) o.instrs) e ∙ same_instruments o.instrs in
+    ap (λ x. unless x (within (first_limit o) (expanded_orchestra o))) fine
+    ∙ ap (λ x. within x (expanded_orchestra o)) few
+    ∙ λ i. Ok (record { head = o.head; opcodes = sym e i; zero = o.zero; instrs = instrs i })

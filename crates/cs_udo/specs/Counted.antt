@@ -5,17 +5,17 @@ use Rattle.cs_base.specs.Limits.{most_instruments, most_statements}
 use Rattle.cs_base.specs.declared.limit.Limit.{Limit}
 use Rattle.cs_base.specs.declared.limit.Limit.TheVariants as limit
 use Rattle.cs_base.specs.declared.limit.LimitHit.{LimitHit}
-use Rattle.cs_grammar.specs.Tree.{Argument, Statement, set, add_to, call, choose, Block, no_stmt, andthen, Arms, otherwise, arm}
+use Rattle.cs_grammar.specs.declared.tree.Callee.{Callee}
+use Rattle.cs_grammar.specs.Tree.{Argument, Statement, set, call, choose, Block, no_stmt, andthen, Arms, otherwise, arm}
 use Rattle.cs_grammar.specs.Tree.{Definition, Instrument, Orchestra}
 use Rattle.cs_udo.specs.Names.{as_it_is}
-use Rattle.cs_udo.specs.Expanded.{Template, Opcodes, opcodes_before, called, calls_of}
+use Rattle.cs_udo.specs.Expanded.{Template, Opcodes, defined, opcodes_before, called, calls_of}
 
 -- how many statements there are, those in `if`s counted too
 abbrev mutual
   pub size : Statement → ℕ
   size (set line x e) = 1
-  size (add_to line x e) = 1
-  size (call line xs name args) = 1
+  size (call line xs c args) = 1
   size (choose line list) = 1 + size_of_arms list
 
   pub size_of : Block → ℕ
@@ -27,15 +27,14 @@ abbrev mutual
   size_of_arms (arm c b rest) = size_of b + size_of_arms rest
 
 -- What a call counts: the statements that it becomes, and one for each call of a defined opcode, nested ones too.
-abbrev pub call_count : ℕ → List (List ℕ) → List ℕ → List Argument → Option Template → ℕ
-call_count line xs name args found = size_of (called as_it_is 1 line xs name args found) + calls_of found
+abbrev pub call_count : ℕ → List (List ℕ) → Callee → List Argument → Option Template → ℕ
+call_count line xs c args found = size_of (called as_it_is 1 line xs c args found) + calls_of found
 
 -- What the statements of an instrument count, each with its line, in the order of the text: an `if` counts one, before those in it.
 abbrev mutual
   pub counts : Opcodes → Statement → List (ℕ × ℕ)
   counts opcodes (set line x e) = (line, 1) ∷ []
-  counts opcodes (add_to line x e) = (line, 1) ∷ []
-  counts opcodes (call line xs name args) = (line, call_count line xs name args (opcodes name)) ∷ []
+  counts opcodes (call line xs c args) = (line, call_count line xs c args (defined opcodes c)) ∷ []
   counts opcodes (choose line list) = (line, 1) ∷ counts_in_arms opcodes list
 
   pub counts_in : Opcodes → Block → List (ℕ × ℕ)
@@ -56,7 +55,7 @@ abbrev pub hit : Limit → Option ℕ → Option LimitHit
 hit which None = None
 hit which (Some line) = Some (record { limit = which; line = line })
 
--- an instrument's line, where so many numbers before and its own are too many
+-- an instrument's line, where its numbers after `given` earlier ones are too many
 abbrev pub numbers_hit : ℕ → Instrument → Option LimitHit
 numbers_hit given i = hit limit.Instruments (line_passing most_instruments given ((i.line, length i.numbers) ∷ []))
 
@@ -64,7 +63,7 @@ numbers_hit given i = hit limit.Instruments (line_passing most_instruments given
 abbrev pub statements_hit : Opcodes → Block → Option LimitHit
 statements_hit opcodes b = hit limit.Statements (line_passing most_statements 0 (counts_in opcodes b))
 
--- the first limit that instruments pass, after so many numbers
+-- the first limit that instruments pass, after `given` numbers
 abbrev pub limits : List Definition → ℕ → List Instrument → Option LimitHit
 limits ds given [] = None
 limits ds given (i ∷ rest) = option_or (numbers_hit given i)

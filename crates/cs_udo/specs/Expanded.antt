@@ -2,7 +2,9 @@
 use Rattle.std.specs.Prelude.{ℕ, List, [], ◌∷◌, ◌+◌, map, nat_lt, Option, Some, None, if◌then◌else◌}
 use Rattle.std.specs.Option.{option_or}
 use Rattle.std.specs.Str.{bytes_eq}
-use Rattle.cs_grammar.specs.Tree.{Argument, value, var, Statement, set, add_to, call, choose, Block, no_stmt, andthen, joins, Arms, otherwise, arm}
+use Rattle.cs_grammar.specs.declared.tree.Callee.{Callee}
+use Rattle.cs_grammar.specs.declared.tree.Callee.TheVariants as callee
+use Rattle.cs_grammar.specs.Tree.{Argument, value, var, Statement, set, call, choose, Block, no_stmt, andthen, joins, Arms, otherwise, arm}
 use Rattle.cs_grammar.specs.Tree.{Definition, Instrument, Orchestra}
 use Rattle.cs_udo.specs.Names.{renamed, renamed_argument, in_frame, as_it_is, slots}
 
@@ -22,6 +24,11 @@ Opcodes = List ℕ → Option Template
 abbrev pub no_opcodes : Opcodes
 no_opcodes name = None
 
+-- the defined opcode that is called, if it is one: an opcode of the catalogue is none
+abbrev pub defined : Opcodes → Callee → Option Template
+defined opcodes (callee.Opcode o) = None
+defined opcodes (callee.Name name) = opcodes name
+
 abbrev pub alone : Statement → Block
 alone x = andthen x no_stmt
 
@@ -36,9 +43,9 @@ value_in frame x = value (var (in_frame frame x))
 
 -- A call: its arguments are given to the inputs, then comes what the opcode does, then the results are given. All of them are in a
 -- frame of their own. Another opcode's call stays.
-abbrev pub called : (List ℕ → List ℕ) → ℕ → ℕ → List (List ℕ) → List ℕ → List Argument → Option Template → Block
-called own frame line xs name args None = alone (call line (map own xs) name (map (renamed_argument own) args))
-called own frame line xs name args (Some t) =
+abbrev pub called : (List ℕ → List ℕ) → ℕ → ℕ → List (List ℕ) → Callee → List Argument → Option Template → Block
+called own frame line xs c args None = alone (call line (map own xs) c (map (renamed_argument own) args))
+called own frame line xs c args (Some t) =
     joins (assignments line (map (in_frame frame) t.inputs) (map (renamed_argument own) args))
     (joins (t.block frame) (assignments line (map own xs) (map (value_in frame) t.results)))
 
@@ -51,8 +58,7 @@ after_called frame (Some t) = t.after frame
 abbrev mutual
   pub after : Opcodes → ℕ → Statement → ℕ
   after opcodes frame (set line x e) = frame
-  after opcodes frame (add_to line x e) = frame
-  after opcodes frame (call line xs name args) = after_called frame (opcodes name)
+  after opcodes frame (call line xs c args) = after_called frame (defined opcodes c)
   after opcodes frame (choose line list) = after_arms opcodes frame list
 
   pub after_block : Opcodes → ℕ → Block → ℕ
@@ -67,8 +73,7 @@ abbrev mutual
 abbrev mutual
   pub expanded : Opcodes → (List ℕ → List ℕ) → ℕ → Statement → Block
   expanded opcodes own frame (set line x e) = alone (set line (own x) (renamed own e))
-  expanded opcodes own frame (add_to line x e) = alone (add_to line (own x) (renamed own e))
-  expanded opcodes own frame (call line xs name args) = called own frame line xs name args (opcodes name)
+  expanded opcodes own frame (call line xs c args) = called own frame line xs c args (defined opcodes c)
   expanded opcodes own frame (choose line list) = alone (choose line (expanded_arms opcodes own frame list))
 
   pub expanded_block : Opcodes → (List ℕ → List ℕ) → ℕ → Block → Block
@@ -90,8 +95,7 @@ calls_of (Some t) = 1 + t.calls
 abbrev mutual
   pub calls : Opcodes → Statement → ℕ
   calls opcodes (set line x e) = 0
-  calls opcodes (add_to line x e) = 0
-  calls opcodes (call line xs name args) = calls_of (opcodes name)
+  calls opcodes (call line xs c args) = calls_of (defined opcodes c)
   calls opcodes (choose line list) = calls_in_arms opcodes list
 
   pub calls_in : Opcodes → Block → ℕ

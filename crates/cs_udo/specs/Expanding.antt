@@ -2,23 +2,23 @@
 use Rattle.std.specs.Prelude.{Option, Some, None, Result, Ok, Err}
 use Rattle.cs_base.specs.declared.fault.OrcFault.{OrcFault}
 use Rattle.cs_base.specs.declared.limit.LimitHit.{LimitHit}
+use Rattle.cs_base.specs.declared.refusal.Refusal.{Refusal}
+use Rattle.cs_base.specs.declared.refusal.Refusal.TheVariants as refusal
 use Rattle.cs_grammar.specs.Tree.{Orchestra}
-use Rattle.cs_udo.specs.declared.fault.ExpandFault.{ExpandFault}
-use Rattle.cs_udo.specs.declared.fault.ExpandFault.TheVariants as fault
 use Rattle.cs_udo.specs.Expanded.{expanded_orchestra}
 use Rattle.cs_udo.specs.Refused.{first_fault}
 use Rattle.cs_udo.specs.Counted.{first_limit}
 
 -- an orchestra, unless it passes a limit
-abbrev pub within : Option LimitHit → Orchestra → Result Orchestra ExpandFault
+abbrev pub within : Option LimitHit → Orchestra → Result Orchestra Refusal
 within None o = Ok o
-within (Some passed) o = Err (fault.Limit passed)
+within (Some passed) o = Err (refusal.Limit passed)
 
 -- what follows, unless a call is refused
-abbrev pub unless : Option OrcFault → Result Orchestra ExpandFault → Result Orchestra ExpandFault
+abbrev pub unless : Option OrcFault → Result Orchestra Refusal → Result Orchestra Refusal
 unless None next = next
-unless (Some broken) next = Err (fault.Orc broken)
+unless (Some broken) next = Err (refusal.Orc broken)
 
 -- An orchestra with its calls expanded; or its first refused call; or, where none is, the first limit that it passes.
-abbrev pub expanding : Orchestra → Result Orchestra ExpandFault
+abbrev pub expanding : Orchestra → Result Orchestra Refusal
 expanding o = unless (first_fault o) (within (first_limit o) (expanded_orchestra o))

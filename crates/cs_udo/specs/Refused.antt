@@ -3,10 +3,10 @@ use Rattle.std.specs.Prelude.{ℕ, Bool, true, false, not, ◌&&◌, ◌||◌, �
 use Rattle.cs_base.specs.declared.fault.OrcFault.{OrcFault}
 use Rattle.cs_base.specs.declared.fault.OrcKind.{OrcKind}
 use Rattle.cs_base.specs.declared.fault.OrcKind.TheVariants as orc
-use Rattle.cs_grammar.specs.Tree.{Argument, value, text, Statement, set, add_to, call, choose, Block, no_stmt, andthen, Arms, otherwise, arm}
+use Rattle.cs_grammar.specs.Tree.{Argument, value, text, Statement, set, call, choose, Block, no_stmt, andthen, Arms, otherwise, arm}
 use Rattle.cs_grammar.specs.Tree.{Definition, Instrument, Orchestra}
 use Rattle.cs_grammar.specs.WellFormed.{line_of}
-use Rattle.cs_udo.specs.Expanded.{Template, Opcodes, no_opcodes, defining, opcodes_before}
+use Rattle.cs_udo.specs.Expanded.{Template, Opcodes, no_opcodes, defined, defining, opcodes_before}
 
 abbrev pub has_text : List Argument → Bool
 has_text [] = false
@@ -32,8 +32,7 @@ call_faults inside line xs args (Some t) = at line (broken_rule inside xs args t
 abbrev mutual
   pub faults : Opcodes → Bool → Statement → List OrcFault
   faults opcodes inside (set line x e) = []
-  faults opcodes inside (add_to line x e) = []
-  faults opcodes inside (call line xs name args) = call_faults inside line xs args (opcodes name)
+  faults opcodes inside (call line xs c args) = call_faults inside line xs args (defined opcodes c)
   faults opcodes inside (choose line list) = faults_in_arms opcodes inside list
 
   pub faults_in : Opcodes → Bool → Block → List OrcFault

@@ -1,7 +1,9 @@
--- Two orchestras with a defined opcode, and what becomes of them, worked by hand.
+-- Orchestras with defined opcodes, and what becomes of them, worked by hand.
 use Rattle.std.specs.Prelude.{ℕ, ◌*◌, pos, List, [], ◌∷◌, codes}
 use Rattle.cs_base.specs.declared.resource.Rate.TheVariants as rate
 use Rattle.cs_words.specs.declared.sign.BinOp.TheVariants as op
+use Rattle.cs_words.specs.declared.catalogue.Opcode.TheVariants as opcode
+use Rattle.cs_grammar.specs.declared.tree.Callee.TheVariants as callee
 use Rattle.cs_grammar.specs.Tree.{Expression, number, var, field, pair, Argument, value, text, Statement, set, call, Block, no_stmt, andthen, Definition, Orchestra}
 
 abbrev pub literal : ℕ → Expression
@@ -35,11 +37,15 @@ twice = record {
   result = value (pair op.Mul (var (codes "k1")) (literal 2)) ∷ [];
 }
 
+-- k1 Twice p4
+abbrev pub one_call : Statement
+one_call = call 9 (codes "k1" ∷ []) (callee.Name (codes "Twice")) (value (field 4) ∷ [])
+
 -- k1 Twice p4 / k2 Twice k1 / a1 = k2 / out a1
 abbrev pub calls_twice : List Statement
-calls_twice = call 9 (codes "k1" ∷ []) (codes "Twice") (value (field 4) ∷ [])
-    ∷ call 10 (codes "k2" ∷ []) (codes "Twice") (variable (codes "k1") ∷ [])
-    ∷ set 11 (codes "a1") (var (codes "k2")) ∷ call 12 [] (codes "out") (variable (codes "a1") ∷ []) ∷ []
+calls_twice = one_call
+    ∷ call 10 (codes "k2" ∷ []) (callee.Name (codes "Twice")) (variable (codes "k1") ∷ [])
+    ∷ set 11 (codes "a1") (var (codes "k2")) ∷ call 12 [] (callee.Opcode opcode.Out) (variable (codes "a1") ∷ []) ∷ []
 
 -- two places, two frames: `k1` of the instrument, of the first call and of the second are three variables
 abbrev pub twice_expanded : List Statement
@@ -49,7 +55,36 @@ twice_expanded = set 9 (codes "k.1.k1") (field 4)
     ∷ set 10 (codes "k.01.k1") (var (codes "k1"))
     ∷ set 4 (codes "k.01.k.") (pair op.Mul (var (codes "k.01.k1")) (literal 2))
     ∷ set 10 (codes "k2") (var (codes "k.01.k."))
-    ∷ set 11 (codes "a1") (var (codes "k2")) ∷ call 12 [] (codes "out") (variable (codes "a1") ∷ []) ∷ []
+    ∷ set 11 (codes "a1") (var (codes "k2")) ∷ call 12 [] (callee.Opcode opcode.Out) (variable (codes "a1") ∷ []) ∷ []
+
+-- opcode Four, k, k / k1 xin / k2 Twice k1 / k3 Twice k2 / xout k3 / endop
+abbrev pub four : Definition
+four = record {
+  line = 5;
+  name = codes "Four";
+  outs = rate.Control ∷ [];
+  ins = rate.Control ∷ [];
+  names = codes "k1" ∷ [];
+  body = statements (call 6 (codes "k2" ∷ []) (callee.Name (codes "Twice")) (variable (codes "k1") ∷ [])
+      ∷ call 7 (codes "k3" ∷ []) (callee.Name (codes "Twice")) (variable (codes "k2") ∷ []) ∷ []);
+  result = variable (codes "k3") ∷ [];
+}
+
+-- k1 Four p4
+abbrev pub calls_four : List Statement
+calls_four = call 9 (codes "k1" ∷ []) (callee.Name (codes "Four")) (value (field 4) ∷ []) ∷ []
+
+-- the call has frame 1, the two calls in it have the frames 2 and 3, in binary digits 01 and 11
+abbrev pub four_expanded : List Statement
+four_expanded = set 9 (codes "k.1.k1") (field 4)
+    ∷ set 6 (codes "k.01.k1") (var (codes "k.1.k1"))
+    ∷ set 4 (codes "k.01.k.") (pair op.Mul (var (codes "k.01.k1")) (literal 2))
+    ∷ set 6 (codes "k.1.k2") (var (codes "k.01.k."))
+    ∷ set 7 (codes "k.11.k1") (var (codes "k.1.k2"))
+    ∷ set 4 (codes "k.11.k.") (pair op.Mul (var (codes "k.11.k1")) (literal 2))
+    ∷ set 7 (codes "k.1.k3") (var (codes "k.11.k."))
+    ∷ set 5 (codes "k.1.k.") (var (codes "k.1.k3"))
+    ∷ set 9 (codes "k1") (var (codes "k.1.k.")) ∷ []
 
 -- opcode Count, k, 0 / k1 init 0 / k1 = k1 + 1 / xout k1 / endop
 abbrev pub count : Definition
@@ -59,33 +94,33 @@ count = record {
   outs = rate.Control ∷ [];
   ins = [];
   names = [];
-  body = statements (call 4 (codes "k1" ∷ []) (codes "init") (value (literal 0) ∷ [])
+  body = statements (call 4 (codes "k1" ∷ []) (callee.Opcode opcode.Init) (value (literal 0) ∷ [])
       ∷ set 5 (codes "k1") (pair op.Add (var (codes "k1")) (literal 1)) ∷ []);
   result = variable (codes "k1") ∷ [];
 }
 
 -- k1 Count / k2 Count
 abbrev pub calls_count : List Statement
-calls_count = call 9 (codes "k1" ∷ []) (codes "Count") [] ∷ call 10 (codes "k2" ∷ []) (codes "Count") [] ∷ []
+calls_count = call 9 (codes "k1" ∷ []) (callee.Name (codes "Count")) [] ∷ call 10 (codes "k2" ∷ []) (callee.Name (codes "Count")) [] ∷ []
 
 -- each place counts by itself
 abbrev pub count_expanded : List Statement
-count_expanded = call 4 (codes "k.1.k1" ∷ []) (codes "init") (value (literal 0) ∷ [])
+count_expanded = call 4 (codes "k.1.k1" ∷ []) (callee.Opcode opcode.Init) (value (literal 0) ∷ [])
     ∷ set 5 (codes "k.1.k1") (pair op.Add (var (codes "k.1.k1")) (literal 1))
     ∷ set 3 (codes "k.1.k.") (var (codes "k.1.k1"))
     ∷ set 9 (codes "k1") (var (codes "k.1.k."))
-    ∷ call 4 (codes "k.01.k1" ∷ []) (codes "init") (value (literal 0) ∷ [])
+    ∷ call 4 (codes "k.01.k1" ∷ []) (callee.Opcode opcode.Init) (value (literal 0) ∷ [])
     ∷ set 5 (codes "k.01.k1") (pair op.Add (var (codes "k.01.k1")) (literal 1))
     ∷ set 3 (codes "k.01.k.") (var (codes "k.01.k1"))
     ∷ set 10 (codes "k2") (var (codes "k.01.k.")) ∷ []
 
 -- a call with one argument too many, which is a text
 abbrev pub wrong_call : Statement
-wrong_call = call 9 (codes "k1" ∷ []) (codes "Twice") (value (field 4) ∷ text (codes "a") ∷ [])
+wrong_call = call 9 (codes "k1" ∷ []) (callee.Name (codes "Twice")) (value (field 4) ∷ text (codes "a") ∷ [])
 
 -- a call with a text for its number
 abbrev pub text_call : Statement
-text_call = call 9 (codes "k1" ∷ []) (codes "Twice") (text (codes "a") ∷ [])
+text_call = call 9 (codes "k1" ∷ []) (callee.Name (codes "Twice")) (text (codes "a") ∷ [])
 
 -- a definition that nobody calls, with a wrong call in it
 abbrev pub uncalled : Definition
@@ -95,7 +130,7 @@ uncalled = record {
   outs = [];
   ins = [];
   names = [];
-  body = statements (call 7 [] (codes "Twice") (value (field 4) ∷ []) ∷ []);
+  body = statements (call 7 [] (callee.Name (codes "Twice")) (value (field 4) ∷ []) ∷ []);
   result = [];
 }
 
@@ -104,6 +139,6 @@ abbrev pub called_outside : List Definition → Orchestra
 called_outside definitions = record {
   head = [];
   opcodes = definitions;
-  zero = statements (call 7 (codes "i1" ∷ []) (codes "Twice") (value (literal 1) ∷ []) ∷ []);
+  zero = statements (call 7 (codes "i1" ∷ []) (callee.Name (codes "Twice")) (value (literal 1) ∷ []) ∷ []);
   instrs = [];
 }

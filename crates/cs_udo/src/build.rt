@@ -3,7 +3,7 @@ ghost use Rattle.std.specs.Prelude.{◌≡◌, ◌+◌, ◌<◌, ◌^◌, ℕ, L
 ghost use Rattle.cs_grammar.specs.Tree as tree;
 ghost use Rattle.cs_grammar.specs.declared.tree.Arm.{out-Arm};
 ghost use Rattle.cs_udo.specs.Counted.{call_count, counts, counts_in, counts_in_arms};
-ghost use Rattle.cs_udo.specs.Expanded.{alone, assignments, template};
+ghost use Rattle.cs_udo.specs.Expanded.{alone, assignments, defined, template};
 ghost use Rattle.cs_udo.specs.Names.{in_frame, renamed, renamed_argument, slots};
 ghost use Rattle.cs_udo.specs.declared.owner.Owner.TheVariants as owner;
 ghost use Rattle.cs_udo.specs.inner.Building.{shown, with, longer, building, building_block, building_call, MakesArms, MakesArm};
@@ -11,11 +11,11 @@ ghost use Rattle.cs_udo.specs.inner.Library.{definitions_of, opcodes_of};
 ghost use Rattle.cs_udo.specs.inner.Owners.{owned};
 ghost use Rattle.cs_udo.specs.inner.Tallies.{total};
 
-use crate::copy::{owned_args, owned_expr, values_of};
+use crate::copy::{copied, owned_args, owned_expr, values_of};
 use crate::library::Library;
-use crate::owner::{Owner, copied, owned_name, owned_names, slots};
+use crate::owner::{Owner, owned_name, owned_names, slots};
 use cs_base::{Name, OutOfMemory};
-use cs_grammar::{Arg, Arm, Arms, Expr, OrcStmt, StmtWhat, Stmts, Udo};
+use cs_grammar::{Arg, Arm, Arms, Callee, Expr, OrcStmt, StmtWhat, Stmts, Udo};
 use std::alloc::Global;
 
 /// Statements that are made, and the number of the next call.
@@ -37,12 +37,21 @@ pub struct MadeArms {
 pub struct Part<'l, 't> {
     pub alloc: Global,
     pub library: &'l Library<'t>,
-    /// How many definitions stand in front of it.
+    /// The number of definitions in front of it.
     pub visible: usize,
     /// Whose variables it names.
     pub owner: Owner,
-    /// More than it counts.
+    /// The recursion budget: more than the number of statements that the part expands to.
     pub depth: u32,
+}
+
+// Where values pass: the line, whose variables they are made of, and whose variables take them.
+#[derive(Clone, Copy)]
+struct Passing {
+    alloc: Global,
+    line: u32,
+    from: Owner,
+    to: Owner,
 }
 
 // Adds a statement.
@@ -53,111 +62,85 @@ fn push(made: &mut Made, line: u32, what: StmtWhat) -> Result<(), OutOfMemory>
     Ok(())
 }
 
-// Adds an assignment of a value to a variable, each in its frame.
-fn give(
-    alloc: Global,
-    made: &mut Made,
-    line: u32,
-    to: Owner,
-    name: &[u8],
-    from: Owner,
-    e: &Expr,
-) -> Result<(), OutOfMemory>
+// Adds `name = e`, with `name` renamed for `passing.to` and the names in `e` for `passing.from`.
+fn give(passing: Passing, made: &mut Made, name: &[u8], e: &Expr) -> Result<(), OutOfMemory>
     ensures { OnOk result (shown made.new ≡ with (shown made.old)
-        (alone (tree.set line (owned to name.now) (renamed (owned from) (tree.expression e.now))))) }
+        (alone (tree.set passing.line (owned passing.to name.now) (renamed (owned passing.from) (tree.expression e.now))))) }
 {
-    let name = owned_name(alloc, to, name)?;
-    let value = owned_expr(alloc, from, e)?;
-    push(made, line, StmtWhat::Set(name, value))
+    let name = owned_name(passing.alloc, passing.to, name)?;
+    let value = owned_expr(passing.alloc, passing.from, e)?;
+    push(made, passing.line, StmtWhat::Set(name, value))
 }
 
 // Adds assignments of values to names, from left to right.
 fn give_all(
-    alloc: Global,
+    passing: Passing,
     made: &mut Made,
-    line: u32,
-    to: Owner,
     names: &[Name],
-    from: Owner,
     args: &[Arg],
 ) -> Result<(), OutOfMemory>
     ensures { OnOk result (shown made.new ≡ with (shown made.old)
-        (assignments line (map (owned to) names.now) (map (renamed_argument (owned from)) (map tree.argument args.now)))) }
+        (assignments passing.line (map (owned passing.to) names.now) (map (renamed_argument (owned passing.from)) (map tree.argument args.now)))) }
 {
     for i in 0..names.len().min(args.len()) {
         match &args[i] {
             Arg::Text(_) => return Ok(()),
-            Arg::Value(e) => give(alloc, made, line, to, names[i].as_slice(), from, e)?,
+            Arg::Value(e) => give(passing, made, names[i].as_slice(), e)?,
         }
     }
     Ok(())
 }
 
-// Adds what a definition gives at its end in a frame, and then its results.
+// Adds the assignments of `xout` inside the frame of a call, and then those of its results at the caller's line.
 fn give_results(
-    alloc: Global,
+    part: &Part,
     made: &mut Made,
     definition: &Udo,
     frame: Owner,
     line: u32,
-    owner: Owner,
     results: &[Name],
 ) -> Result<(), OutOfMemory>
     ensures { OnOk result (shown made.new ≡ with (with (shown made.old)
         (assignments definition.now.line (map (owned frame) (slots 0 definition.now.outs))
         (map (renamed_argument (owned frame)) (map tree.argument definition.now.result.items))))
-        (assignments line (map (owned owner) results.now)
+        (assignments line (map (owned part.now.owner) results.now)
         (map (renamed_argument (owned frame)) (map (λ x. tree.value (tree.var x)) (slots 0 definition.now.outs))))) }
 {
-    let names = slots(alloc, definition.outs.as_slice())?;
-    give_all(
-        alloc,
-        made,
-        definition.line,
-        frame,
-        names.as_slice(),
-        frame,
-        &definition.result,
-    )?;
-    let values = values_of(alloc, names.as_slice())?;
-    give_all(alloc, made, line, owner, results, frame, &values)
+    let names = slots(part.alloc, definition.outs.as_slice())?;
+    let inside = Passing {
+        alloc: part.alloc,
+        line: definition.line,
+        from: frame,
+        to: frame,
+    };
+    give_all(inside, made, names.as_slice(), &definition.result)?;
+    let values = values_of(part.alloc, names.as_slice())?;
+    let out = Passing {
+        alloc: part.alloc,
+        line,
+        from: frame,
+        to: part.owner,
+    };
+    give_all(out, made, results, &values)
 }
 
-// Adds `name += e`.
-fn add_sum(
-    alloc: Global,
-    made: &mut Made,
-    line: u32,
-    owner: Owner,
-    name: &[u8],
-    e: &Expr,
-) -> Result<(), OutOfMemory>
-    ensures { OnOk result (shown made.new ≡ with (shown made.old)
-        (alone (tree.add_to line (owned owner name.now) (renamed (owned owner) (tree.expression e.now))))) }
-{
-    let name = owned_name(alloc, owner, name)?;
-    let value = owned_expr(alloc, owner, e)?;
-    push(made, line, StmtWhat::AddTo(name, value))
-}
-
-// Adds a call of an opcode that isn't defined.
+// Adds a call of what isn't defined.
 fn add_other(
-    alloc: Global,
+    part: &Part,
     made: &mut Made,
     line: u32,
-    owner: Owner,
     results: &[Name],
-    name: &[u8],
+    callee: &Callee,
     args: &[Arg],
 ) -> Result<(), OutOfMemory>
     ensures { OnOk result (shown made.new ≡ with (shown made.old)
-        (alone (tree.call line (map (owned owner) results.now) name.now
-        (map (renamed_argument (owned owner)) (map tree.argument args.now))))) }
+        (alone (tree.call line (map (owned part.now.owner) results.now) callee.now
+        (map (renamed_argument (owned part.now.owner)) (map tree.argument args.now))))) }
 {
-    let results = owned_names(alloc, owner, results)?;
-    let args = owned_args(alloc, owner, args)?;
-    let name = copied(alloc, name)?;
-    push(made, line, StmtWhat::Call(results, name, args))
+    let results = owned_names(part.alloc, part.owner, results)?;
+    let args = owned_args(part.alloc, part.owner, args)?;
+    let callee = copied(part.alloc, callee)?;
+    push(made, line, StmtWhat::Call(results, callee, args))
 }
 
 fn choice(arms: Arms, els: Stmts) -> StmtWhat
@@ -181,31 +164,18 @@ fn add_stmt(part: &Part, made: &mut Made, s: &OrcStmt) -> Result<(), OutOfMemory
         ≡ building (opcodes_of (definitions_of part.now.library.now) part.now.visible) (owned part.now.owner) (shown made.old) (tree.statement s.now)) }
 {
     match &s.what {
-        StmtWhat::Set(name, e) => give(
-            part.alloc,
-            made,
-            s.line,
-            part.owner,
-            name.as_slice(),
-            part.owner,
-            e,
-        ),
-        StmtWhat::AddTo(name, e) => add_sum(
-            part.alloc,
-            made,
-            s.line,
-            part.owner,
-            name.as_slice(),
-            e,
-        ),
-        StmtWhat::Call(results, name, args) => add_call(
-            part,
-            made,
-            s.line,
-            results.as_slice(),
-            name.as_slice(),
-            args,
-        ),
+        StmtWhat::Set(name, e) => {
+            let own = Passing {
+                alloc: part.alloc,
+                line: s.line,
+                from: part.owner,
+                to: part.owner,
+            };
+            give(own, made, name.as_slice(), e)
+        }
+        StmtWhat::Call(results, callee, args) => {
+            add_call(part, made, s.line, results.as_slice(), callee, args)
+        }
         StmtWhat::Choose(list, els) => add_choice(part, made, s.line, list, els),
     }
 }
@@ -217,17 +187,18 @@ fn add_call(
     made: &mut Made,
     line: u32,
     results: &[Name],
-    name: &[u8],
+    callee: &Callee,
     args: &[Arg],
 ) -> Result<(), OutOfMemory>
-    requires depth { call_count line results.now name.now (map tree.argument args.now) (opcodes_of (definitions_of part.now.library.now) part.now.visible name.now) < part.now.depth }
-    requires room { made.old.next + call_count line results.now name.now (map tree.argument args.now) (opcodes_of (definitions_of part.now.library.now) part.now.visible name.now)
-        < 2 ^ 32 }
-    ensures { OnOk result (shown made.new ≡ building_call (owned part.now.owner) (shown made.old) line results.now name.now
-        (map tree.argument args.now) (opcodes_of (definitions_of part.now.library.now) part.now.visible name.now)) }
+    requires depth { call_count line results.now callee.now (map tree.argument args.now)
+        (defined (opcodes_of (definitions_of part.now.library.now) part.now.visible) callee.now) < part.now.depth }
+    requires room { made.old.next + call_count line results.now callee.now (map tree.argument args.now)
+        (defined (opcodes_of (definitions_of part.now.library.now) part.now.visible) callee.now) < 2 ^ 32 }
+    ensures { OnOk result (shown made.new ≡ building_call (owned part.now.owner) (shown made.old) line results.now callee.now
+        (map tree.argument args.now) (defined (opcodes_of (definitions_of part.now.library.now) part.now.visible) callee.now)) }
 {
-    match part.library.find(part.visible, name) {
-        None => add_other(part.alloc, made, line, part.owner, results, name, args),
+    match part.library.find(part.visible, callee) {
+        None => add_other(part, made, line, results, callee, args),
         Some(found) => {
             let frame = Owner::Frame(made.next);
             let inner = Part {
@@ -237,26 +208,16 @@ fn add_call(
                 owner: frame,
                 depth: part.depth - 1,
             };
-            give_all(
-                part.alloc,
-                made,
+            let into = Passing {
+                alloc: part.alloc,
                 line,
-                frame,
-                found.definition.names.as_slice(),
-                part.owner,
-                args,
-            )?;
+                from: part.owner,
+                to: frame,
+            };
+            give_all(into, made, found.definition.names.as_slice(), args)?;
             made.next += 1;
             add_block(&inner, made, &found.definition.body)?;
-            give_results(
-                part.alloc,
-                made,
-                found.definition,
-                frame,
-                line,
-                part.owner,
-                results,
-            )
+            give_results(part, made, found.definition, frame, line, results)
         }
     }
 }

@@ -1,13 +1,13 @@
-// Expressions and arguments with the names of an owner's variables.
+// Expressions and arguments with the names of an owner's variables, and what is called.
 ghost use Rattle.std.specs.Prelude.{◌≡◌, map, IfOk, Ok};
 ghost use Rattle.std.specs.Box.{box_value};
 ghost use Rattle.cs_grammar.specs.Tree as tree;
 ghost use Rattle.cs_udo.specs.Names.{renamed, renamed_argument};
 ghost use Rattle.cs_udo.specs.inner.Owners.{owned};
 
-use crate::owner::{Owner, copied, owned_name};
+use crate::owner::{Owner, owned_name};
 use cs_base::{Name, OutOfMemory};
-use cs_grammar::{Arg, Args, Expr};
+use cs_grammar::{Arg, Args, Callee, Expr};
 use std::alloc::Global;
 
 /// An expression with the names of an owner's variables.
@@ -48,7 +48,7 @@ pub fn owned_arg(alloc: Global, owner: Owner, arg: &Arg) -> Result<Arg, OutOfMem
 {
     match arg {
         Arg::Value(e) => Ok(Arg::Value(owned_expr(alloc, owner, e)?)),
-        Arg::Text(text) => Ok(Arg::Text(copied(alloc, text.as_slice())?)),
+        Arg::Text(text) => Ok(Arg::Text(text.to_items(alloc)?)),
     }
 }
 
@@ -64,13 +64,23 @@ pub fn owned_args(alloc: Global, owner: Owner, args: &[Arg]) -> Result<Args, Out
     Ok(made)
 }
 
+/// A copy of what is called.
+pub fn copied(alloc: Global, callee: &Callee) -> Result<Callee, OutOfMemory>
+    ensures { IfOk result (λ made. made ≡ callee.now) }
+{
+    match callee {
+        Callee::Opcode(opcode) => Ok(Callee::Opcode(*opcode)),
+        Callee::Name(name) => Ok(Callee::Name(name.to_items(alloc)?)),
+    }
+}
+
 /// The values of variables.
 pub fn values_of(alloc: Global, names: &[Name]) -> Result<Args, OutOfMemory>
     ensures { IfOk result (λ made. map tree.argument made.items ≡ map (λ x. tree.value (tree.var x)) names.now) }
 {
     let mut made = Vec::new(alloc);
     for name in names {
-        made.push(Arg::Value(Expr::Var(copied(alloc, name.as_slice())?)))?;
+        made.push(Arg::Value(Expr::Var(name.to_items(alloc)?)))?;
     }
     Ok(made)
 }

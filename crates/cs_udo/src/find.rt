@@ -3,11 +3,12 @@ ghost use Rattle.std.specs.Prelude.{◌≡◌, ◌≤◌, IfOk, map, nat_lt, len
 ghost use Rattle.std.specs.List.{prefix_len};
 ghost use Rattle.cs_grammar.specs.Inputs.{AreDifferent};
 ghost use Rattle.cs_grammar.specs.Tree as tree;
+ghost use Rattle.cs_grammar.specs.declared.tree.Callee.TheVariants as callee;
 ghost use Rattle.cs_udo.specs.inner.Library.{definitions_of, IsFound};
 
 use crate::library::{Found, Library};
 use cs_base::OutOfMemory;
-use cs_grammar::Udo;
+use cs_grammar::{Callee, Udo};
 use cs_words::NameSet;
 use std::alloc::Global;
 
@@ -24,9 +25,19 @@ impl<'t> Library<'t> {
         Ok(Library { definitions, names })
     }
 
-    /// The definition of a name among so many.
-    pub fn find(&self, visible: usize, name: &[u8]) -> Option<Found<'t>>
-        ensures { IsFound (definitions_of self.now) visible name.now result }
+    /// The definition that is called, among the first `visible`; None where the callee is none of them.
+    pub fn find(&self, visible: usize, callee: &Callee) -> Option<Found<'t>>
+        ensures { IsFound (definitions_of self.now) visible callee.now result }
+    {
+        match callee {
+            Callee::Opcode(_) => None,
+            Callee::Name(name) => self.named(visible, name.as_slice()),
+        }
+    }
+
+    // The definition of a name, among the first `visible`.
+    fn named(&self, visible: usize, name: &[u8]) -> Option<Found<'t>>
+        ensures { IsFound (definitions_of self.now) visible (callee.Name name.now) result }
     {
         let place = self.names.place(name);
         if place < visible.min(self.definitions.len()) {
@@ -39,7 +50,7 @@ impl<'t> Library<'t> {
         }
     }
 
-    /// How many definitions stand in front of a line.
+    /// The number of definitions in front of a line.
     pub fn before(&self, line: u32) -> usize
         ensures count { result ≡ prefix_len (λ d. nat_lt d.line line) (definitions_of self.now) }
         ensures within { result ≤ length (definitions_of self.now) }

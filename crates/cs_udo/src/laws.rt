@@ -1,21 +1,47 @@
 // What holds of expanded orchestras: calls that do nothing, whose contracts are the laws.
-ghost use Rattle.std.specs.Prelude.{◌≡◌, [], ◌∷◌, Ok, Err};
+ghost use Rattle.std.specs.Prelude.{◌≡◌, ◌-◌, [], ◌∷◌, Ok, Err, Some, None, codes};
+ghost use Rattle.cs_base.specs.Limits.{most_instruments};
 ghost use Rattle.cs_base.specs.declared.fault.OrcKind.TheVariants as orc;
-ghost use Rattle.cs_udo.specs.declared.fault.ExpandFault.TheVariants as fault;
+ghost use Rattle.cs_base.specs.declared.refusal.Refusal.TheVariants as refusal;
+ghost use Rattle.cs_base.specs.declared.limit.Limit.TheVariants as limit;
+ghost use Rattle.cs_grammar.specs.Tree.{field, set, choose, no_stmt, otherwise, arm};
+ghost use Rattle.cs_udo.specs.Counted.{counts_in, line_passing, numbers_hit};
+ghost use Rattle.cs_udo.specs.Expanded.{opcodes_before};
 ghost use Rattle.cs_udo.specs.Expanding.{expanding};
-ghost use Rattle.cs_udo.specs.Worked.{instrument_1, twice, calls_twice, twice_expanded, count, calls_count, count_expanded, wrong_call, text_call, uncalled, called_outside};
+ghost use Rattle.cs_udo.specs.Worked.{literal, statements, instrument_1, twice, one_call, calls_twice, twice_expanded, four, calls_four, four_expanded, count, calls_count, count_expanded, wrong_call, text_call, uncalled, called_outside};
 
-/// Expansions worked by hand: an opcode that doubles, called on its own result; one that counts, at two places; and calls that
+/// Expansions worked by hand: an opcode that doubles, called on its own result; one that calls it twice; one that counts, at two
+/// places; an orchestra without definitions, which stays; and calls that
 /// are refused: the number of arguments before their kind, in a definition that nobody calls too, and outside instruments.
 pub fn opcodes_worked_by_hand()
     ensures twice { expanding (instrument_1 (twice ∷ []) calls_twice) ≡ Ok (instrument_1 [] twice_expanded) }
+    ensures nested { expanding (instrument_1 (twice ∷ four ∷ []) calls_four) ≡ Ok (instrument_1 [] four_expanded) }
+    ensures plain { expanding (instrument_1 [] twice_expanded) ≡ Ok (instrument_1 [] twice_expanded) }
     ensures count { expanding (instrument_1 (count ∷ []) calls_count) ≡ Ok (instrument_1 [] count_expanded) }
     ensures number { expanding (instrument_1 (twice ∷ []) (wrong_call ∷ []))
-        ≡ Err (fault.Orc (record { line = 9; kind = orc.ArgCount })) }
+        ≡ Err (refusal.Orc (record { line = 9; kind = orc.ArgCount })) }
     ensures kind { expanding (instrument_1 (twice ∷ []) (text_call ∷ []))
-        ≡ Err (fault.Orc (record { line = 9; kind = orc.RateMismatch })) }
+        ≡ Err (refusal.Orc (record { line = 9; kind = orc.RateMismatch })) }
     ensures uncalled { expanding (instrument_1 (twice ∷ uncalled ∷ []) (wrong_call ∷ []))
-        ≡ Err (fault.Orc (record { line = 7; kind = orc.ArgCount })) }
+        ≡ Err (refusal.Orc (record { line = 7; kind = orc.ArgCount })) }
     ensures outside { expanding (called_outside (twice ∷ []))
-        ≡ Err (fault.Orc (record { line = 7; kind = orc.RateMismatch })) }
+        ≡ Err (refusal.Orc (record { line = 7; kind = orc.RateMismatch })) }
+{}
+
+/// Counts of statements and limits worked by hand.
+pub fn counts_worked_by_hand()
+    // `k1 Twice p4`: an input, two assignments for its result, and one for the call.
+    ensures call { counts_in (opcodes_before 9 (twice ∷ [])) (statements (one_call ∷ [])) ≡ (9, 4) ∷ [] }
+    // `k1 Four p4`: an input, three assignments for each of the two calls in it, two for its result, and three for the calls.
+    ensures nested { counts_in (opcodes_before 9 (twice ∷ four ∷ [])) (statements calls_four) ≡ (9, 12) ∷ [] }
+    // An `if` counts one, and then the statements in it.
+    ensures choice { counts_in (opcodes_before 9 (twice ∷ [])) (statements (choose 9 (arm (field 5) (statements (one_call ∷ []))
+        (otherwise (statements (set 13 (codes "k1") (literal 0) ∷ [])))) ∷ [])) ≡ (9, 1) ∷ (9, 4) ∷ (13, 1) ∷ [] }
+    // 3 and 2 are 5, which is not more than 5; the 1 of line 4 makes it too much.
+    ensures passed { line_passing 5 0 ((1, 3) ∷ (2, 2) ∷ (4, 1) ∷ (5, 9) ∷ []) ≡ Some 4 }
+    ensures within { line_passing 6 0 ((1, 3) ∷ (2, 2) ∷ (4, 1) ∷ []) ≡ None }
+    // An instrument of one number is the last that may follow `most_instruments` - 1 numbers.
+    ensures last { numbers_hit (most_instruments - 1) (record { line = 8; numbers = 1 ∷ []; body = no_stmt }) ≡ None }
+    ensures one_more { numbers_hit most_instruments (record { line = 8; numbers = 1 ∷ []; body = no_stmt })
+        ≡ Some (record { limit = limit.Instruments; line = 8 }) }
 {}

@@ -1,6 +1,6 @@
 //! Opcodes of one's own: an orchestra whose calls of defined opcodes are replaced by what the opcodes do.
 //!
-//! Its one contract: `expand` answers exactly what `expanding` (specs/Expanding) says of the tree: the first call that is
+//! Its one contract: `expand` returns exactly what `expanding` (specs/Expanding) says of the tree: the first call that is
 //! refused, or, where none is, the first limit on instruments or statements that is passed, or the tree without definitions. It is
 //! counted before anything is built. What a call means, and that the expansion means it, is said by cs_udo_meaning over the same
 //! definitions. How definitions are found, counted and copied may be changed without anyone above noticing.
@@ -12,7 +12,6 @@
 
 mod build;
 mod copy;
-mod fault;
 mod find;
 mod laws;
 mod library;
@@ -21,6 +20,5 @@ mod owner;
 mod refuse;
 mod tally;
 
-pub use fault::ExpandFault;
-pub use laws::opcodes_worked_by_hand;
+pub use laws::{counts_worked_by_hand, opcodes_worked_by_hand};
 pub use orchestra::expand;

@@ -1,26 +1,25 @@
 // A whole orchestra, expanded.
 ghost use Rattle.std.specs.Prelude.{◌≡◌, map, IfOk, Ok, Err, None};
-ghost use Rattle.std.specs.List.{All};
+ghost use Rattle.std.specs.Option.{option_map};
 ghost use Rattle.cs_base.specs.declared.fault.Or.TheVariants as or;
 ghost use Rattle.cs_grammar.specs.Inputs.{AreDifferent};
 ghost use Rattle.cs_grammar.specs.Tree as tree;
-ghost use Rattle.cs_udo.specs.declared.fault.ExpandFault.{ExpandFault};
-ghost use Rattle.cs_udo.specs.Counted.{statements_hit};
+ghost use Rattle.cs_base.specs.declared.refusal.Refusal.{Refusal};
+ghost use Rattle.cs_udo.specs.Counted.{statements_hit, first_limit};
 ghost use Rattle.cs_udo.specs.Expanded.{opcodes_before, expanded_block, expanded_instrument};
 ghost use Rattle.cs_udo.specs.Names.{as_it_is};
 ghost use Rattle.cs_udo.specs.Refused.{first_fault};
 ghost use Rattle.cs_udo.specs.inner.Library.{definitions_of};
-ghost use Rattle.cs_udo.specs.inner.Whole.{AreWithin, IsExpanded};
+ghost use Rattle.cs_udo.specs.inner.Whole.{AreWithin, with_instruments};
 ghost use Rattle.cs_udo.specs.Expanding.{expanding};
 
 use crate::build::{Made, Part, add_block};
-use crate::fault::ExpandFault;
 use crate::library::Library;
 use crate::owner::Owner;
 use crate::refuse::first_fault;
 use crate::tally::{costs_of, first_limit};
-use cs_base::{Items, MOST_STATEMENTS, Numbers, Or, OutOfMemory};
-use cs_grammar::{Instr, Orc, Stmts};
+use cs_base::{MOST_STATEMENTS, Or, OutOfMemory, Refusal};
+use cs_grammar::{Instr, Orc, Stmts, Udo};
 use std::alloc::Global;
 
 // The statements of an instrument, expanded.
@@ -44,18 +43,12 @@ fn body_of(alloc: Global, library: &Library, i: &Instr) -> Result<Stmts, OutOfMe
     Ok(made.stmts)
 }
 
-fn copied(alloc: Global, numbers: &Numbers) -> Result<Numbers, OutOfMemory>
-    ensures { IfOk result (λ made. made ≡ numbers.now) }
-{
-    Ok(Items::from_vec(numbers.as_slice().to_vec(alloc)?))
-}
-
 // An instrument, expanded.
 fn instrument_of(alloc: Global, library: &Library, i: &Instr) -> Result<Instr, OutOfMemory>
     requires { statements_hit (opcodes_before i.now.line (definitions_of library.now)) (tree.block i.now.body.items) ≡ None }
     ensures { IfOk result (λ made. tree.instrument made ≡ expanded_instrument (definitions_of library.now) (tree.instrument i.now)) }
 {
-    let numbers = copied(alloc, &i.numbers)?;
+    let numbers = i.numbers.to_items(alloc)?;
     let body = body_of(alloc, library, i)?;
     Ok(Instr {
         line: i.line,
@@ -80,59 +73,55 @@ fn instruments_of(
     Ok(made)
 }
 
-// The expanded instruments of an orchestra, or why it has none.
-fn expanded(alloc: Global, orc: &Orc) -> Result<Vec<Instr>, Or<ExpandFault>>
-    requires { AreDifferent (map (λ d. d.name) (tree.orchestra orc.now).opcodes) }
-    ensures made { IfOk result (λ v. IsExpanded (tree.orchestra orc.now) (map tree.instrument v.items)) }
-    ensures fault { (f : ExpandFault) → result ≡ Err (or.Fault f) → expanding (tree.orchestra orc.now) ≡ Err f }
-{
-    let library = Library::new(alloc, &orc.opcodes)?;
-    expanded_by(alloc, &library, orc)
-}
-
-// The same, by the orchestra's definitions.
-fn expanded_by(alloc: Global, library: &Library, orc: &Orc) -> Result<Vec<Instr>, Or<ExpandFault>>
+// Refuses an orchestra with a call that breaks a rule, or else one that passes a limit.
+fn check(alloc: Global, library: &Library, orc: &Orc) -> Result<(), Or<Refusal>>
     requires { definitions_of library.now ≡ (tree.orchestra orc.now).opcodes }
-    ensures made { IfOk result (λ v. IsExpanded (tree.orchestra orc.now) (map tree.instrument v.items)) }
-    ensures fault { (f : ExpandFault) → result ≡ Err (or.Fault f) → expanding (tree.orchestra orc.now) ≡ Err f }
+    ensures fine { IfOk result (λ _. first_fault (tree.orchestra orc.now) ≡ None) }
+    ensures within { IfOk result (λ _. first_limit (tree.orchestra orc.now) ≡ None) }
+    ensures fault { (f : Refusal) → result ≡ Err (or.Fault f) → expanding (tree.orchestra orc.now) ≡ Err f }
 {
     if let Some(fault) = first_fault(library, orc) {
-        return Err(Or::Fault(ExpandFault::Orc(fault)));
+        return Err(Or::Fault(Refusal::Orc(fault)));
     }
-    expanded_within(alloc, library, orc)
+    let costs = costs_of(alloc, library)?;
+    match first_limit(library, &costs, &orc.instrs) {
+        None => Ok(()),
+        Some(hit) => Err(Or::Fault(Refusal::Limit(hit))),
+    }
 }
 
-// The same, where no call is refused.
-fn expanded_within(
-    alloc: Global,
-    library: &Library,
-    orc: &Orc,
-) -> Result<Vec<Instr>, Or<ExpandFault>>
-    requires definitions { definitions_of library.now ≡ (tree.orchestra orc.now).opcodes }
-    requires fine { first_fault (tree.orchestra orc.now) ≡ None }
-    ensures made { IfOk result (λ v. IsExpanded (tree.orchestra orc.now) (map tree.instrument v.items)) }
-    ensures fault { (f : ExpandFault) → result ≡ Err (or.Fault f) → expanding (tree.orchestra orc.now) ≡ Err f }
+// The expanded instruments of an orchestra; None where it defines no opcode, and stays as it is.
+fn expanded(alloc: Global, orc: &Orc) -> Result<Option<Vec<Instr>>, Or<Refusal>>
+    requires { AreDifferent (map (λ d. d.name) (tree.orchestra orc.now).opcodes) }
+    ensures made { IfOk result (λ found. expanding (tree.orchestra orc.now)
+        ≡ Ok (with_instruments (tree.orchestra orc.now) (option_map (λ v. map tree.instrument v.items) found))) }
+    ensures fault { (f : Refusal) → result ≡ Err (or.Fault f) → expanding (tree.orchestra orc.now) ≡ Err f }
 {
-    let costs = costs_of(alloc, library)?;
-    if let Some(hit) = first_limit(library, &costs, &orc.instrs) {
-        return Err(Or::Fault(ExpandFault::Limit(hit)));
+    let definitions: &[Udo] = &orc.opcodes;
+    let library = Library::new(alloc, definitions)?;
+    check(alloc, &library, orc)?;
+    if definitions.is_empty() {
+        return Ok(None);
     }
-    Ok(instruments_of(alloc, library, &orc.instrs)?)
+    Ok(Some(instruments_of(alloc, &library, &orc.instrs)?))
 }
 
 /// An orchestra without definitions, in which each call of a defined opcode has become what the opcode does: or the first call
 /// that is refused, or, where none is, the first limit on instruments or statements that it passes, each at its line. The names of
-/// the definitions are different, as in each orchestra that is read. An orchestra that is refused takes no memory for its calls.
-pub fn expand(alloc: Global, orc: Orc) -> Result<Orc, Or<ExpandFault>>
+/// the definitions are different, as in each orchestra that is read. An orchestra that is refused takes no memory for its calls,
+/// and one that defines no opcode is returned as it is, without a copy.
+pub fn expand(alloc: Global, orc: Orc) -> Result<Orc, Or<Refusal>>
     requires { AreDifferent (map (λ d. d.name) (tree.orchestra orc).opcodes) }
     ensures made { IfOk result (λ o. expanding (tree.orchestra orc) ≡ Ok (tree.orchestra o)) }
-    ensures fault { (f : ExpandFault) → result ≡ Err (or.Fault f) → expanding (tree.orchestra orc) ≡ Err f }
+    ensures fault { (f : Refusal) → result ≡ Err (or.Fault f) → expanding (tree.orchestra orc) ≡ Err f }
 {
-    let instrs = expanded(alloc, &orc)?;
-    Ok(Orc {
-        head: orc.head,
-        opcodes: Vec::new(alloc),
-        zero: orc.zero,
-        instrs,
-    })
+    match expanded(alloc, &orc)? {
+        None => Ok(orc),
+        Some(instrs) => Ok(Orc {
+            head: orc.head,
+            opcodes: Vec::new(alloc),
+            zero: orc.zero,
+            instrs,
+        }),
+    }
 }

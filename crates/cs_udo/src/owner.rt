@@ -21,14 +21,8 @@ pub fn owned_name(alloc: Global, owner: Owner, name: &[u8]) -> Result<Name, OutO
     ensures { IfOk result (λ made. made ≡ owned owner name.now) }
 {
     match owner {
-        Owner::Instrument => copied(alloc, name),
-        Owner::Frame(frame) => {
-            if is_global(name) {
-                copied(alloc, name)
-            } else {
-                fresh_name(alloc, frame, name)
-            }
-        }
+        Owner::Frame(frame) if !is_global(name) => fresh_name(alloc, frame, name),
+        _ => Ok(Items::of_slice(alloc, name)?),
     }
 }
 
@@ -41,13 +35,6 @@ pub fn owned_names(alloc: Global, owner: Owner, names: &[Name]) -> Result<Names,
         made.push(owned_name(alloc, owner, name.as_slice())?)?;
     }
     Ok(made)
-}
-
-/// A copy of a name.
-pub fn copied(alloc: Global, name: &[u8]) -> Result<Name, OutOfMemory>
-    ensures { IfOk result (λ made. made ≡ name.now) }
-{
-    Ok(Items::from_vec(name.to_vec(alloc)?))
 }
 
 // A local variable of a frame.

@@ -4,15 +4,15 @@ ghost use Rattle.cs_base.specs.declared.fault.OrcKind.TheVariants as orc;
 ghost use Rattle.cs_grammar.specs.Tree as tree;
 ghost use Rattle.cs_grammar.specs.declared.tree.Arm.{out-Arm};
 ghost use Rattle.cs_udo.specs.Refused.{has_text, broken_rule, at, call_faults, uppermost_of, faults, faults_in, faults_in_arms, faults_outside, faults_of_definitions, faults_of_instruments, first_fault};
-ghost use Rattle.cs_udo.specs.Expanded.{Opcodes, no_opcodes, template};
+ghost use Rattle.cs_udo.specs.Expanded.{Opcodes, no_opcodes, defined, template};
 ghost use Rattle.cs_udo.specs.inner.Library.{definitions_of, opcodes_of};
 ghost use Rattle.cs_udo.specs.inner.Walks.{listed, after_faults};
 
 use crate::library::Library;
 use cs_base::{Name, OrcFault, OrcKind};
-use cs_grammar::{Arg, Arm, Instr, Orc, OrcStmt, StmtWhat, Udo};
+use cs_grammar::{Arg, Arm, Callee, Instr, Orc, OrcStmt, StmtWhat, Udo};
 
-/// Where calls stand, and how many definitions in front of them.
+/// Where calls stand, and the number of definitions in front of them.
 #[derive(Clone, Copy)]
 pub struct Site<'l, 't> {
     library: &'l Library<'t>,
@@ -83,13 +83,13 @@ fn call_fault(
     site: &Site,
     line: u32,
     results: &[Name],
-    name: &[u8],
+    callee: &Callee,
     args: &[Arg],
 ) -> Option<OrcFault>
     ensures { listed result ≡ call_faults site.now.inside line results.now (map tree.argument args.now)
-        (opcodes_of (definitions_of site.now.library.now) site.now.visible name.now) }
+        (defined (opcodes_of (definitions_of site.now.library.now) site.now.visible) callee.now) }
 {
-    match site.library.find(site.visible, name) {
+    match site.library.find(site.visible, callee) {
         None => None,
         Some(found) => {
             fault_at(
@@ -117,10 +117,10 @@ fn after_stmt(first: Option<OrcFault>, site: &Site, s: &OrcStmt) -> Option<OrcFa
         (faults (opcodes_of (definitions_of site.now.library.now) site.now.visible) site.now.inside (tree.statement s.now)) }
 {
     match &s.what {
-        StmtWhat::Set(_, _) | StmtWhat::AddTo(_, _) => first,
-        StmtWhat::Call(results, name, args) => uppermost(
+        StmtWhat::Set(_, _) => first,
+        StmtWhat::Call(results, callee, args) => uppermost(
             first,
-            call_fault(site, s.line, results.as_slice(), name.as_slice(), args),
+            call_fault(site, s.line, results.as_slice(), callee, args),
         ),
         StmtWhat::Choose(list, els) => after_block(after_arms(first, site, list), site, els),
     }

@@ -4,25 +4,25 @@ ghost use Rattle.std.specs.List.{prefix_len};
 ghost use Rattle.cs_grammar.specs.Tree as tree;
 ghost use Rattle.cs_grammar.specs.declared.tree.Arm.{out-Arm};
 ghost use Rattle.cs_udo.specs.Counted.{size_of, call_count, counts, counts_in, counts_in_arms, hit, numbers_hit, statements_hit, limits};
-ghost use Rattle.cs_udo.specs.Expanded.{assignments, template, opcodes_before};
+ghost use Rattle.cs_udo.specs.Expanded.{assignments, defined, template, opcodes_before};
 ghost use Rattle.cs_udo.specs.inner.Library.{definitions_of, opcodes_of};
 ghost use Rattle.cs_udo.specs.inner.Tallies.{capped, after_count, after_counts, IsPriced, is_value, weight};
 
 use crate::library::Library;
 use cs_base::{Limit, LimitHit, MOST_INSTRUMENTS, MOST_STATEMENTS, Name, OutOfMemory};
-use cs_grammar::{Arg, Arm, Instr, OrcStmt, StmtWhat, Udo};
+use cs_grammar::{Arg, Arm, Callee, Instr, OrcStmt, StmtWhat, Udo};
 use std::alloc::Global;
 
 /// What is counted so far.
 #[derive(Clone, Copy)]
 pub struct Tally {
-    /// The sum: one more than may be stands for all that are too many.
+    /// The sum, capped at `MOST_STATEMENTS + 1`, which means "too many".
     pub sum: u32,
-    /// The line at which it became too much.
+    /// The line at which the sum passed `MOST_STATEMENTS`.
     pub passed: Option<u32>,
 }
 
-/// Definitions, and what each of the first of them counts where it is called.
+/// The definitions, with the cost of calling each of the first `costs.len()`.
 #[derive(Clone, Copy)]
 pub struct Prices<'l, 't> {
     library: &'l Library<'t>,
@@ -30,7 +30,7 @@ pub struct Prices<'l, 't> {
     ghost priced: { IsPriced (definitions_of library.now) costs.now },
 }
 
-// A number, or one more than may be where it is too much.
+// A number, capped at `MOST_STATEMENTS + 1`.
 fn capped(number: usize) -> u32
     ensures { result ≡ capped number }
 {
@@ -41,7 +41,7 @@ fn capped(number: usize) -> u32
     }
 }
 
-// A sum of numbers, likewise.
+// A sum, capped likewise.
 fn plus(a: u32, b: u32) -> u32
     ensures { result ≡ capped (a + b) }
 {
@@ -64,7 +64,7 @@ fn add(before: Tally, line: u32, count: u32) -> Tally
     }
 }
 
-// How many arguments stand in front of the first text.
+// The number of arguments in front of the first text.
 fn values(args: &[Arg]) -> usize
     ensures count { result ≡ prefix_len is_value (map tree.argument args.now) }
     ensures within { result ≤ length args.now }
@@ -79,7 +79,7 @@ fn values(args: &[Arg]) -> usize
     count
 }
 
-// How many assignments give arguments to so many names.
+// The number of assignments of arguments to `names` names.
 fn assigned(names: usize, args: &[Arg]) -> u32
     ensures { (line : ℕ) (xs : List (List ℕ)) → names ≡ length xs
         → result ≡ capped (size_of (assignments line xs (map tree.argument args.now))) }
@@ -88,11 +88,11 @@ fn assigned(names: usize, args: &[Arg]) -> u32
 }
 
 // What a call counts.
-fn price(prices: &Prices, results: &[Name], name: &[u8], args: &[Arg]) -> u32
-    ensures { (line : ℕ) → result ≡ capped (call_count line results.now name.now (map tree.argument args.now)
-        (opcodes_of (definitions_of prices.now.library.now) (length prices.now.costs.now) name.now)) }
+fn price(prices: &Prices, results: &[Name], callee: &Callee, args: &[Arg]) -> u32
+    ensures { (line : ℕ) → result ≡ capped (call_count line results.now callee.now (map tree.argument args.now)
+        (defined (opcodes_of (definitions_of prices.now.library.now) (length prices.now.costs.now)) callee.now)) }
 {
-    match prices.library.find(prices.costs.len(), name) {
+    match prices.library.find(prices.costs.len(), callee) {
         None => 1,
         Some(found) => {
             let definition = found.definition;
@@ -109,11 +109,11 @@ fn after_stmt(before: Tally, prices: &Prices, s: &OrcStmt) -> Tally
         (counts (opcodes_of (definitions_of prices.now.library.now) (length prices.now.costs.now)) (tree.statement s.now)) }
 {
     match &s.what {
-        StmtWhat::Set(_, _) | StmtWhat::AddTo(_, _) => add(before, s.line, 1),
-        StmtWhat::Call(results, name, args) => add(
+        StmtWhat::Set(_, _) => add(before, s.line, 1),
+        StmtWhat::Call(results, callee, args) => add(
             before,
             s.line,
-            price(prices, results.as_slice(), name.as_slice(), args),
+            price(prices, results.as_slice(), callee, args),
         ),
         StmtWhat::Choose(list, els) => after_block(
             after_arms(add(before, s.line, 1), prices, list),
@@ -221,7 +221,7 @@ fn hit(limit: Limit, line: Option<u32>) -> Option<LimitHit>
     }
 }
 
-// An instrument's line, where so many numbers before and its own are too many.
+// The limit hit at this instrument, if its numbers, after `given` earlier ones, exceed `MOST_INSTRUMENTS`.
 fn numbers_hit(given: usize, i: &Instr) -> Option<LimitHit>
     ensures { result ≡ numbers_hit given (tree.instrument i.now) }
 {

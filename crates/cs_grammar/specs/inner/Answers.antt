@@ -19,7 +19,7 @@ use Rattle.cs_grammar.specs.Orchestra.{ReadsOrc, ReadsResult, behind_xout, defin
 use Rattle.cs_grammar.specs.Symbols.{Symbol}
 use Rattle.cs_grammar.specs.Reading.{next, after, Left, Reading, left, both, three, mapped, next_is, through, ended, Scope, outside, misfit}
 
--- What a call of the parser answers: a reading of the given kind, which leaves what is left then. Want of memory says nothing.
+-- What a call of the parser returns: a reading of the given kind, which leaves what is left then. Out of memory says nothing.
 abbrev pub Gives : {T A : Type 0} → (T → A) → Result T (Or OrcFault) → List Symbol → (Reading A → Type 0) → Type 0
 Gives see (Ok x) rest Is = Is (Ok (see x, rest))
 Gives see (Err (or.Fault f)) rest Is = Is (Err f)

@@ -25,12 +25,12 @@ input_count s (t ∷ c ∷ us) =
     if not (is_free s t) then None
     else (if is expected.Xin c.kind then Some 1 else (if is expected.Comma c.kind then plus_one (input_count s us) else None))
 
--- the names of so many words, which have a symbol between them
+-- the names of n words, which have a symbol between them
 abbrev pub words : ℕ → List Symbol → List (List ℕ)
 words zero ts = []
 words (suc n) ts = (next ts).text ∷ words n (after (after ts))
 
--- what stands behind so many words: `xin`
+-- what stands behind n words: `xin`
 abbrev pub at_xin : ℕ → List Symbol → List Symbol
 at_xin zero ts = ts
 at_xin (suc zero) ts = after ts
@@ -40,7 +40,7 @@ at_xin (suc (suc n)) ts = at_xin (suc n) (after (after ts))
 abbrev pub is_input : Scope → List (List ℕ) → Rate → Symbol → Bool
 is_input s before r t = is_local s t && same_rate r (name_rate t.text) && not (has before t.text)
 
--- so many words are different local names, one for each input, with its rate
+-- n words are different local names, one for each input, with its rate
 abbrev pub are_inputs : Scope → List (List ℕ) → List Rate → ℕ → List Symbol → Bool
 are_inputs s before [] zero ts = true
 are_inputs s before (r ∷ rs) (suc n) ts =
@@ -64,7 +64,7 @@ is_none _ = false
 abbrev pub no_names : Heading → List Symbol → Reading (List (List ℕ))
 no_names h ts = if is_none h.ins then Ok ([], ts) else Err (record { line = h.line; kind = orc.XinXout })
 
--- the inputs where so many words stand before `xin`
+-- the inputs where n words stand before `xin`
 abbrev pub taken_so_many : Scope → Heading → List Symbol → ℕ → Reading (List (List ℕ))
 taken_so_many s h ts n =
     if are_inputs s [] h.ins n ts then ended s (Ok (words n ts, after (at_xin n ts))) else Err (fault (at_xin n ts) orc.XinXout)

@@ -1,3 +1,4 @@
+-- What calls answer: a typed form or a fault.
 use Rattle.std.specs.Prelude.{ℕ, List, ◌≡◌, Option, Some, None, Result, Ok, Err}
 use Rattle.cs_base.specs.declared.fault.Or.{Or}
 use Rattle.cs_base.specs.declared.fault.Or.TheVariants as or
@@ -13,7 +14,7 @@ use Rattle.cs_typing.specs.Known.{Known}
 use Rattle.cs_typing.specs.Statements.{condition_fault, block_fault, arms_fault, known_block, known_arms, typed_block, typed_arms}
 use Rattle.cs_typed.specs.TypedTree as typed
 
--- An answer: the typed form, where there is no fault, or else the fault. Want of memory says nothing.
+-- An answer: the typed form, where there is no fault, or else the fault. Out of memory says nothing.
 abbrev pub Gives : {T A : Type 0} → (T → A) → Result T (Or OrcFault) → Option OrcFault → A → Type 0
 Gives see (Ok x) fault form = (fault ≡ None) × (see x ≡ form)
 Gives see (Err (or.Fault f)) fault form = fault ≡ Some f

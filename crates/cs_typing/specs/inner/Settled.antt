@@ -1,6 +1,8 @@
+-- What is found of settings before a place of the text.
 use Rattle.std.specs.Prelude.{ℕ, Bool, true, List, [], ◌∷◌, if◌then◌else◌}
 use Rattle.std.specs.List.{list_any}
 use Rattle.std.specs.Option.{option_or}
+use Rattle.cs_base.specs.declared.spaces.Spaces.{Spaces}
 use Rattle.cs_words.specs.declared.word.HeadName.{HeadName}
 use Rattle.cs_grammar.specs.declared.tree.HeadLine.{HeadLine}
 use Rattle.cs_grammar.specs.Tree.{Argument}
@@ -22,16 +24,20 @@ abbrev pub after_zak : Zaks → Zak → Zaks
 after_zak s z = record {
   seen = true;
   fault = option_or s.fault (at z.line (zak_fault s.seen z));
-  places = if s.seen then s.places else sizes z.args;
+  spaces = if s.seen then s.spaces else sizes z.args;
 }
 
 abbrev pub after_zaks : Zaks → List Zak → Zaks
 after_zaks s [] = s
 after_zaks s (z ∷ rest) = after_zaks (after_zak s z) rest
 
--- what holds for a piece, and the numbers of places of its zak spaces: of sounds, and of control values
-abbrev pub told : Header → ℕ × ℕ → Header × (ℕ × ℕ)
-told h places = (h, places)
+-- what holds for a piece, without the proofs of the header's ranges
+pub record Told : Type 0 where
+  pub head : Header
+  pub spaces : Spaces
 
-abbrev pub setup : Setup → Header × (ℕ × ℕ)
-setup s = told (header_of_head s.head) s.places
+abbrev pub told : Header → Spaces → Told
+told h spaces = record { head = h; spaces = spaces }
+
+abbrev pub setup : Setup → Told
+setup s = told (header_of_head s.head) s.spaces

@@ -1,15 +1,17 @@
+-- What is made of the parts of an orchestra, one after another.
 use Rattle.std.specs.Prelude.{ℕ, List, [], ◌∷◌, ◌++◌, ◌≡◌, map, Option, Some, None, Result, Ok, Err}
 use Rattle.cs_base.specs.declared.fault.Or.{Or}
 use Rattle.cs_base.specs.declared.fault.Or.TheVariants as or
 use Rattle.cs_base.specs.declared.fault.OrcFault.{OrcFault}
-use Rattle.cs_typing.specs.Known.{Table, no_names, Known}
+use Rattle.cs_base.specs.declared.per_rate.PerRate.{PerRate}
+use Rattle.cs_typing.specs.Known.{Table, no_names, counts_of, Known}
 use Rattle.cs_typing.specs.Statements.{known_block, typed_block}
 use Rattle.cs_typing.specs.Typing.{Item, alone, body, items, items_fault, known_item, known_items, first_known, shared_names, typed_instrument, typed_outside, typed_instruments}
 use Rattle.cs_grammar.specs.Tree.{Orchestra}
-use Rattle.cs_typed.specs.Places.{Header}
 use Rattle.cs_typed.specs.declared.tree.TypedOrc.{TypedOrc}
 use Rattle.cs_typed.specs.TypedTree as typed
 use Rattle.cs_typing.specs.declared.orc.Done.{Done}
+use Rattle.cs_typing.specs.inner.Settled.{Told}
 
 -- what is made of the parts of an orchestra so far: the variables and the typed statements of the code outside instruments, and
 -- the typed instruments
@@ -38,7 +40,7 @@ abbrev pub after_items : Known → Made → List Item → Made
 after_items n m [] = m
 after_items n m (x ∷ xs) = after_items (known_item n x) (after_item n m x) xs
 
--- An answer: there is no fault, or else it is this. Want of memory says nothing.
+-- An answer: there is no fault, or else it is this. Out of memory says nothing.
 abbrev pub Judged : {T : Type 0} → Result T (Or OrcFault) → Option OrcFault → Type 0
 Judged (Ok x) fault = fault ≡ None
 Judged (Err (or.Fault f)) fault = fault ≡ Some f
@@ -48,18 +50,27 @@ Judged (Err or.OutOfMemory) fault = Unit {0}
 abbrev pub parts_fault : ℕ → Orchestra → Option OrcFault
 parts_fault channels o = items_fault channels (first_known o) (items o.zero o.instrs)
 
--- the typed form of an orchestra whose header and numbers of zak places are these
-abbrev pub typed_by : Header → ℕ × ℕ → Orchestra → typed.Orchestra
-typed_by h places o = record {
-  head = h;
-  zak_a = places.0;
-  zak_k = places.1;
-  zero = typed_outside (first_known o) (items o.zero o.instrs);
-  instrs = typed_instruments (first_known o) (items o.zero o.instrs);
-  globals = shared_names (known_items (first_known o) (items o.zero o.instrs)).shared;
+-- the typed form of an orchestra, from its settings, the numbers of local variables outside instruments, the statements there, the
+-- instruments and the names that they share
+abbrev pub made_from : Told → PerRate ℕ → typed.Block → List typed.Instrument → typed.SharedNames → typed.Orchestra
+made_from t counts zero instrs names = record {
+  head = t.head;
+  spaces = t.spaces;
+  zero_locals = counts;
+  zero = zero;
+  instrs = instrs;
+  globals = names;
 }
 
--- An answer: the typed orchestra, where there is no fault, or else the fault. Want of memory says nothing.
+-- that of an orchestra whose settings are these
+abbrev pub typed_by : Told → Orchestra → typed.Orchestra
+typed_by t o =
+    let parts = items o.zero o.instrs in
+    let last = known_items (first_known o) parts in
+    made_from t (counts_of last.locals) (typed_outside (first_known o) parts) (typed_instruments (first_known o) parts)
+    (shared_names last.shared)
+
+-- An answer: the typed orchestra, where there is no fault, or else the fault. Out of memory says nothing.
 abbrev pub GivesOrc : Result TypedOrc (Or OrcFault) → Option OrcFault → typed.Orchestra → Type 0
 GivesOrc (Ok x) fault form = (fault ≡ None) × (typed.orchestra x ≡ form)
 GivesOrc (Err (or.Fault f)) fault form = fault ≡ Some f

@@ -1,6 +1,7 @@
 -- Expanded statements, added one after the other.
 use Rattle.std.specs.Prelude.{ℕ, List, [], ◌∷◌, ◌≡◌, Option}
 use Rattle.cs_grammar.specs.declared.tree.Arm.{Arm, out-Arm}
+use Rattle.cs_grammar.specs.declared.tree.Callee.{Callee}
 use Rattle.cs_grammar.specs.Tree.{Expression, expression, Argument, Statement, Block, joins, block, Arms, otherwise, arm, arms}
 use Rattle.cs_udo.specs.Names.{renamed}
 use Rattle.cs_udo.specs.Expanded.{Template, Opcodes, called, after_called, after, after_block, after_arms, expanded, expanded_block, expanded_arms}
@@ -31,8 +32,8 @@ abbrev pub building_block : Opcodes → (List ℕ → List ℕ) → Building →
 building_block opcodes own b rest = longer b (expanded_block opcodes own b.next rest) (after_block opcodes b.next rest)
 
 -- with what a call becomes
-abbrev pub building_call : (List ℕ → List ℕ) → Building → ℕ → List (List ℕ) → List ℕ → List Argument → Option Template → Building
-building_call own b line xs name args found = longer b (called own b.next line xs name args found) (after_called b.next found)
+abbrev pub building_call : (List ℕ → List ℕ) → Building → ℕ → List (List ℕ) → Callee → List Argument → Option Template → Building
+building_call own b line xs c args found = longer b (called own b.next line xs c args found) (after_called b.next found)
 
 -- arms of a list, and then others
 abbrev pub fronted : List Arm → Arms → Arms

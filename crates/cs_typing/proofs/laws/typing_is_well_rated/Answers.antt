@@ -1,4 +1,4 @@
-use Rattle.cs_typing.proofs.Rated.{orchestra_rated}
+use Rattle.cs_typing.proofs.WellRated.{orchestra_rated}
 use Rattle.cs_typing.proofs.laws.typing_is_well_rated.Goals as goal
 
 pub returns : goal.returns

@@ -5,7 +5,7 @@ use Rattle.cs_grammar.specs.declared.tree.Arm.{out-Arm}
 use Rattle.cs_grammar.specs.declared.tree.StmtWhat.TheViews.{the_lemmas}
 use Rattle.cs_grammar.proofs.Rows.{block_is, arms_is}
 use Rattle.cs_udo.specs.Counted.{call_count, counts, counts_in, counts_in_arms}
-use Rattle.cs_udo.specs.Expanded.{alone, assignments, template, expanded_block, expanded_arms, after, after_block, after_arms}
+use Rattle.cs_udo.specs.Expanded.{alone, assignments, defined, template, expanded_block, expanded_arms, after, after_block, after_arms}
 use Rattle.cs_udo.specs.Names.{in_frame, renamed_argument}
 use Rattle.cs_udo.specs.inner.Building.{shown, with, longer, building, building_block, building_call, fronted}
 use Rattle.cs_udo.specs.inner.Library.{definitions_of, opcodes_of}
@@ -112,9 +112,9 @@ add_call-add_block-requires t c =
     let d = tree.definition c.in-Some.found.definition.now in
     let inner = opcodes_of ds k in
     let args = map tree.argument c.args.args.now in
-    let count = call_count c.args.line c.args.results.now c.args.name.now args in
-    let less : total (counts_in inner d.body) + 1 ≤ count (Some (template inner d)) = body_within inner (fair_of ds k) d c.args.line c.args.results.now c.args.name.now args in
-    let same : count (opcodes_of ds c.args.part.now.visible c.args.name.now) ≡ count (Some (template inner d)) = ap count c.in-Some.ensures.2 in
+    let count = call_count c.args.line c.args.results.now c.args.callee.now args in
+    let less : total (counts_in inner d.body) + 1 ≤ count (Some (template inner d)) = body_within inner (fair_of ds k) d c.args.line c.args.results.now c.args.callee.now args in
+    let same : count (defined (opcodes_of ds c.args.part.now.visible) c.args.callee.now) ≡ count (Some (template inner d)) = ap count c.in-Some.ensures.2 in
     let body : total (counts_in inner (tree.block c.deref.result.now)) ≡ total (counts_in inner d.body) = ap (λ xs. total (counts_in inner (tree.block xs))) c.deref.ensures.value in
     let next : c.give_all.new.made.next ≡ c.args.made.now.next = ap (λ b. b.next) c.in_ok-give_all-in-Some.ensures in
     (omega (arith, c.decreases, c.requires.depth), (omega (arith, less, same, body, c.requires.depth), omega (arith, less, same, body, next, c.requires.room)))
@@ -129,7 +129,7 @@ add_call-returns-in_ok-add_block-in-Some t c =
     let args = map tree.argument c.args.args.now in
     let line = c.args.line in
     let xs = c.args.results.now in
-    let name = c.args.name.now in
+    let name = c.args.callee.now in
     let b = shown c.args.made.now in
     let f = b.next in
     let taken = c.in_ok-give_all-in-Some.ensures ∙ ap (λ ns. with b (assignments line (map (in_frame f) ns) (map (renamed_argument own) args))) c.as_slice.ensures in

@@ -4,6 +4,12 @@ use Rattle.cs_udo.proofs.laws.opcodes_worked_by_hand.Goals as goal
 pub returns-clause-twice : goal.returns-clause-twice
 returns-clause-twice c = refl
 
+pub returns-clause-nested : goal.returns-clause-nested
+returns-clause-nested c = refl
+
+pub returns-clause-plain : goal.returns-clause-plain
+returns-clause-plain c = refl
+
 pub returns-clause-count : goal.returns-clause-count
 returns-clause-count c = refl
 

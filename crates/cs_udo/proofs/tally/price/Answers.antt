@@ -13,7 +13,7 @@ returns-in-Some c = λ line.
     let k = c.in-Some.found.place in
     let u = c.in-Some.found.definition.now in
     let seen = c.in-Some.ensures in
-    price_is (opcodes_of ds n) (opcodes_of ds k) (fair_of ds k) (tree.definition u) line c.args.results.now c.args.name.now (map tree.argument c.args.args.now)
+    price_is (opcodes_of ds n) (opcodes_of ds k) (fair_of ds k) (tree.definition u) line c.args.results.now c.args.callee.now (map tree.argument c.args.args.now)
     c.assigned-given.result c.capped-taken.result _ c.plus-in-Some-2.result
     seen.2
     (c.assigned-given.ensures line u.names c.len.ensures)

@@ -1,11 +1,10 @@
-use Rattle.std.proofs.Common.{Ok, Err, sym, subst, ℕ, List}
+use Rattle.std.proofs.Common.{Ok, Err, sym, ℕ, List}
 use Rattle.cs_grammar.specs.declared.expr.Level.TheVariants as at
-use Rattle.cs_grammar.proofs.Gives.{failed}
+use Rattle.cs_grammar.proofs.Gives.{failed, made}
 use Rattle.cs_grammar.proofs.Rules.{stops}
 use Rattle.cs_grammar.proofs.StmtRules.{assign_is}
 use Rattle.cs_grammar.proofs.parser.Parser.assignment.Goals as goal
-use Rattle.cs_grammar.specs.Grammar.{ReadsStmt}
-use Rattle.cs_grammar.specs.Reading.{ended, next}
+use Rattle.cs_grammar.specs.Reading.{next}
 use Rattle.cs_grammar.specs.Tree.{expression, of_what}
 
 pub returns-in_err-name-clause-reads : goal.returns-in_err-name-clause-reads
@@ -21,7 +20,6 @@ returns-in_err-value-clause-reads c =
 
 pub returns-clause-reads : goal.returns-clause-reads
 returns-clause-reads c =
-    subst (λ x. ReadsStmt c.args.scope.now c.args.self.now (ended c.args.scope.now (Ok (x, c.expr.new.self))))
-    (sym (rw c.second-sign.ensures at (c.assigned.ensures (next c.args.self.now).line)))
-    (assign_is c.args.scope.now c.args.self.now (Ok (c.in_ok-name.name, c.target.new.self)) (Ok (expression c.in_ok-value.value, c.expr.new.self))
+    made (of_what (next c.args.self.now).line) _ _ _ _ (rw c.second-sign.ensures at (c.assigned.ensures.value (next c.args.self.now).line))
+    c.assigned.ensures.memory (assign_is c.args.scope.now c.args.self.now (Ok (c.in_ok-name.name, c.target.new.self)) (Ok (expression c.in_ok-value.value, c.expr.new.self))
     c.requires (sym c.in_ok-name.ensures.reads) (rw c.skip.ensures at c.in_ok-value.ensures.reads))

@@ -4,7 +4,7 @@ use Rattle.cs_grammar.specs.declared.tree.Udo.{Udo}
 use Rattle.cs_udo.specs.Expanded.{template}
 use Rattle.cs_udo.specs.inner.Library.{definitions_of, opcodes_of}
 use Rattle.cs_udo.proofs.Places.{read_one, found_one, found_none}
-use Rattle.cs_udo.proofs.library.Library.find.Goals as goal
+use Rattle.cs_udo.proofs.library.Library.named.Goals as goal
 
 pub returns-then-place-min : goal.returns-then-place-min
 returns-then-place-min c =

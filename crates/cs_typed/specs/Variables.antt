@@ -1,0 +1,44 @@
+-- The variables and channels that a typed tree reads or gives by name, and which of them are counted.
+use Rattle.std.specs.Prelude.{ℕ, ◌<◌}
+use Rattle.std.specs.List.{All}
+use Rattle.cs_base.specs.Rates.{at_rate}
+use Rattle.cs_base.specs.declared.per_rate.PerRate.{PerRate}
+use Rattle.cs_typed.specs.TypedTree.{Expression, number, var, field, head, neg, pair, pick, apply, Argument, value, text, Statement, set, call, choose, Block, no_stmt, andthen, Arms, otherwise, arm}
+use Rattle.cs_typed.specs.declared.tree.Var.{Var as Variable}
+use Rattle.cs_typed.specs.declared.tree.Var.TheVariants.{Local, Global}
+
+-- a local variable of those that are counted at its rate: they are numbered from 0
+abbrev pub IsCounted : PerRate ℕ → Variable → Type 0
+IsCounted counts (Local r n) = n < at_rate counts r
+IsCounted counts (Global g) = Unit {0}
+
+-- P holds of each variable of an expression
+abbrev pub EachInExpression : (Variable → Type 0) → Expression → Type 0
+EachInExpression P (number r n) = Unit {0}
+EachInExpression P (var r v) = P v
+EachInExpression P (field r k) = Unit {0}
+EachInExpression P (head r h) = Unit {0}
+EachInExpression P (neg r a) = EachInExpression P a
+EachInExpression P (pair r o a b) = EachInExpression P a × EachInExpression P b
+EachInExpression P (pick r c a b) = EachInExpression P c × EachInExpression P a × EachInExpression P b
+EachInExpression P (apply r f a) = EachInExpression P a
+
+-- of an argument: a value, or a channel
+abbrev pub EachInArgument : (Variable → Type 0) → Argument → Type 0
+EachInArgument P (value e) = EachInExpression P e
+EachInArgument P (text v) = P v
+
+-- of statements: those that they read, and those that they give
+abbrev mutual
+  pub EachInStatement : (Variable → Type 0) → Statement → Type 0
+  EachInStatement P (set line r v e) = P v × EachInExpression P e
+  EachInStatement P (call line r vs opcode args) = All P vs × All (EachInArgument P) args
+  EachInStatement P (choose line r list) = EachInArms P list
+
+  pub EachInBlock : (Variable → Type 0) → Block → Type 0
+  EachInBlock P no_stmt = Unit {0}
+  EachInBlock P (andthen x rest) = EachInStatement P x × EachInBlock P rest
+
+  pub EachInArms : (Variable → Type 0) → Arms → Type 0
+  EachInArms P (otherwise b) = EachInBlock P b
+  EachInArms P (arm c b rest) = EachInExpression P c × EachInBlock P b × EachInArms P rest

@@ -1,0 +1,49 @@
+-- Where no opcode is defined, statements stay as they are.
+use Rattle.std.proofs.Common.{◌≡◌, ℕ, List, [], ◌∷◌, map, refl, ap}
+use Rattle.cs_grammar.specs.declared.tree.Callee.{Callee}
+use Rattle.cs_grammar.specs.declared.tree.Callee.TheVariants as callee
+use Rattle.cs_grammar.specs.Tree.{Expression, number, var, field, head, neg, pair, pick, apply, Argument, value, text, Statement, set, call, choose}
+use Rattle.cs_grammar.specs.Tree.{Block, no_stmt, andthen, joins, Arms, otherwise, arm, Instrument}
+use Rattle.cs_udo.specs.Names.{as_it_is, renamed, renamed_argument}
+use Rattle.cs_udo.specs.Expanded.{no_opcodes, defined, alone, called, after, after_block, expanded, expanded_block, expanded_arms, expanded_instrument}
+
+same_value : (e : Expression) → renamed as_it_is e ≡ e
+same_value (number v) = refl
+same_value (var x) = refl
+same_value (field k) = refl
+same_value (head h) = refl
+same_value (neg a) = ap neg (same_value a)
+same_value (pair op a b) = λ i. pair op (same_value a i) (same_value b i)
+same_value (pick c a b) = λ i. pick (same_value c i) (same_value a i) (same_value b i)
+same_value (apply f a) = ap (apply f) (same_value a)
+
+same_arguments : (args : List Argument) → map (renamed_argument as_it_is) args ≡ args
+same_arguments [] = refl
+same_arguments (value e ∷ args) = λ i. value (same_value e i) ∷ same_arguments args i
+same_arguments (text t ∷ args) = ap (λ rest. text t ∷ rest) (same_arguments args)
+
+same_names : (xs : List (List ℕ)) → map as_it_is xs ≡ xs
+same_names [] = refl
+same_names (x ∷ xs) = ap (λ rest. x ∷ rest) (same_names xs)
+
+not_called : (f line : ℕ) (xs : List (List ℕ)) (c : Callee) (args : List Argument) → called as_it_is f line xs c args (defined no_opcodes c) ≡ alone (call line xs c args)
+not_called f line xs (callee.Opcode o) args = λ i. alone (call line (same_names xs i) (callee.Opcode o) (same_arguments args i))
+not_called f line xs (callee.Name n) args = λ i. alone (call line (same_names xs i) (callee.Name n) (same_arguments args i))
+
+mutual
+  same_statement : (f : ℕ) (x : Statement) → expanded no_opcodes as_it_is f x ≡ alone x
+  same_statement f (set line x e) = ap (λ v. alone (set line x v)) (same_value e)
+  same_statement f (call line xs c args) = not_called f line xs c args
+  same_statement f (choose line list) = ap (λ a. alone (choose line a)) (same_arms f list)
+
+  same_block : (f : ℕ) (b : Block) → expanded_block no_opcodes as_it_is f b ≡ b
+  same_block f no_stmt = refl
+  same_block f (andthen x rest) = λ i. joins (same_statement f x i) (same_block (after no_opcodes f x) rest i)
+
+  same_arms : (f : ℕ) (list : Arms) → expanded_arms no_opcodes as_it_is f list ≡ list
+  same_arms f (otherwise b) = ap otherwise (same_block f b)
+  same_arms f (arm c b rest) = λ i. arm (same_value c i) (same_block f b i) (same_arms (after_block no_opcodes f b) rest i)
+
+pub same_instruments : (is : List Instrument) → map (expanded_instrument []) is ≡ is
+same_instruments [] = refl
+same_instruments (i ∷ is) = λ k. record { line = i.line; numbers = i.numbers; body = same_block 1 i.body k } ∷ same_instruments is k
