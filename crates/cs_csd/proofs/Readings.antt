@@ -4,20 +4,21 @@ use Rattle.std.specs.List.{All}
 use Rattle.std.proofs.lemmas.List.{append-nil, append_assoc, drop-drop, drop_all, length-drop, take_rest}
 use Rattle.std.proofs.lemmas.List.Elements.{All-nil, All-cons, All-head, All-tail, All-append}
 use Rattle.cs_base.proofs.Tests.{by_test}
-use Rattle.cs_csd.specs.declared.line.Mark.{Mark}
-use Rattle.cs_csd.specs.declared.line.Mark.TheVariants as mark
+use Rattle.cs_csd.specs.declared.line.LineMark.{LineMark}
+use Rattle.cs_csd.specs.declared.line.LineMark.TheVariants as mark
 use Rattle.cs_csd.specs.declared.line.Section.{Section}
 use Rattle.cs_csd.specs.declared.part.CsdFault.{CsdFault}
 use Rattle.cs_csd.specs.declared.part.CsdKind.TheVariants as kind
 use Rattle.cs_csd.specs.declared.part.Part.{Part}
 use Rattle.cs_csd.specs.declared.part.Parts.{Parts}
-use Rattle.cs_csd.specs.declared.scan.Found.{Found}
-use Rattle.cs_csd.specs.declared.scan.State.{State}
-use Rattle.cs_csd.specs.declared.scan.State.TheVariants as state
-use Rattle.cs_csd.specs.Lines.{Line, line, lines_from, next_len, mark_of, closes, is_start, lines_of, last_line}
+use Rattle.cs_csd.specs.declared.scan.SectionsFound.{SectionsFound}
+use Rattle.cs_csd.specs.declared.scan.ScanState.{ScanState}
+use Rattle.cs_csd.specs.declared.scan.ScanState.TheVariants as state
+use Rattle.cs_base.specs.Lines.{Line, line, lines_from, lines_of, next_len}
+use Rattle.cs_csd.specs.Lines.{mark_of, closes, is_start, last_line}
 use Rattle.cs_csd.specs.Sections.{Between, idle, whole, stop, no_orchestra, twice, stray, unclosed, cut, Reading, begun, never, fault, part_between, no_text, nothing_found, stood, with_section}
 use Rattle.cs_csd.specs.inner.Scan.{finish, onward, scan, step, marked, stopped}
-use Rattle.cs_csd.proofs.Lines.{cut_at, line_len}
+use Rattle.cs_base.proofs.LineCuts.{cut_at, line_len}
 
 -- a section's part where it is opened
 abbrev opens_at : Line → Part
@@ -27,16 +28,16 @@ abbrev missing : ℕ → Result Parts CsdFault
 missing last = Err (fault kind.MissingTag last)
 
 -- one line between sections
-on_mark : (last : ℕ) (f : Found) (l : Line) (ls : List Line) (m : Mark) → mark_of l.bytes ≡ m
+on_mark : (last : ℕ) (f : SectionsFound) (l : Line) (ls : List Line) (m : LineMark) → mark_of l.bytes ≡ m
     → scan last (state.Between f) (l ∷ ls) ≡ onward (marked l f m) (λ t. scan last t ls)
 on_mark last f l ls m e = ap (λ k. onward (marked l f k) (λ t. scan last t ls)) e
 
-on_opened : (last : ℕ) (s : Section) (f : Found) (l : Line) (ls : List Line) → mark_of l.bytes ≡ mark.Opens s → stood s f ≡ false
+on_opened : (last : ℕ) (s : Section) (f : SectionsFound) (l : Line) (ls : List Line) → mark_of l.bytes ≡ mark.Opens s → stood s f ≡ false
     → scan last (state.Between f) (l ∷ ls) ≡ scan last (state.Inside f s (opens_at l)) ls
 on_opened last s f l ls e h = on_mark last f l ls (mark.Opens s) e ∙ rw h refl
 
 -- lines in a section, up to its end and to the end of the file
-to_close : (last : ℕ) (s : Section) (f : Found) (p : Part) (inside : List Line) (closer : Line) (ls : List Line)
+to_close : (last : ℕ) (s : Section) (f : SectionsFound) (p : Part) (inside : List Line) (closer : Line) (ls : List Line)
     → All (λ l. closes s l.bytes ≡ false) inside → closes s closer.bytes ≡ true
     → scan last (state.Inside f s p) (inside ++ closer ∷ ls) ≡ scan last (state.Between (with_section s (record p { to = closer.at }) f)) ls
 to_close last s f p [] closer ls a c = rw c refl
@@ -45,7 +46,7 @@ to_close last s f p (l ∷ inside) closer ls a c =
     let more = to_close last s f p inside closer ls (All-tail (λ l. closes s l.bytes ≡ false) l inside a) c in
     rw here more
 
-to_end : (last : ℕ) (s : Section) (f : Found) (p : Part) (inside : List Line) → All (λ l. closes s l.bytes ≡ false) inside
+to_end : (last : ℕ) (s : Section) (f : SectionsFound) (p : Part) (inside : List Line) → All (λ l. closes s l.bytes ≡ false) inside
     → scan last (state.Inside f s p) inside ≡ missing last
 to_end last s f p [] a = refl
 to_end last s f p (l ∷ inside) a =
@@ -75,7 +76,7 @@ after_stop last parts [] = refl
 after_stop last parts (l ∷ ls) = after_stop last parts ls
 
 -- what lines come to is what the scan answers
-is_scan : {last : ℕ} {f : Found} {ls : List Line} {r : Result Parts CsdFault} → Between last f ls r → r ≡ scan last (state.Between f) ls
+is_scan : {last : ℕ} {f : SectionsFound} {ls : List Line} {r : Result Parts CsdFault} → Between last f ls r → r ≡ scan last (state.Between f) ls
 is_scan {last} (idle f l ls r m b) = is_scan b ∙ sym (on_mark last f l ls mark.Idle m)
 is_scan {last} (whole s f opener inside closer ls r m h a c b) =
     is_scan b ∙ sym (to_close last s f (opens_at opener) inside closer ls a c) ∙ sym (on_opened last s f opener (inside ++ closer ∷ ls) m h)
@@ -101,19 +102,19 @@ all_snoc P inside l a h = All-append P inside (l ∷ []) a (All-cons P l [] h (A
 
 -- the scan's answer is what lines come to
 abbrev Has : ℕ → List Line → Type 0
-Has last ls = (f : Found) → Between last f ls (scan last (state.Between f) ls)
+Has last ls = (f : SectionsFound) → Between last f ls (scan last (state.Between f) ls)
 
 abbrev HasInside : ℕ → List Line → Type 0
-HasInside last ls = (f : Found) (s : Section) (opener : Line) (inside : List Line) → mark_of opener.bytes ≡ mark.Opens s → stood s f ≡ false
+HasInside last ls = (f : SectionsFound) (s : Section) (opener : Line) (inside : List Line) → mark_of opener.bytes ≡ mark.Opens s → stood s f ≡ false
     → All (λ l. closes s l.bytes ≡ false) inside → Between last f (opener ∷ inside ++ ls) (scan last (state.Inside f s (opens_at opener)) ls)
 
-has_stop : (last : ℕ) (f : Found) (l : Line) (ls : List Line) → mark_of l.bytes ≡ mark.Stop → (o : Option Part) → f.orc ≡ o
+has_stop : (last : ℕ) (f : SectionsFound) (l : Line) (ls : List Line) → mark_of l.bytes ≡ mark.Stop → (o : Option Part) → f.orc ≡ o
     → Between last f (l ∷ ls) (onward (stopped l.number f o) (λ t. scan last t ls))
 has_stop last f l ls e None h = no_orchestra f l ls e h
 has_stop last f l ls e (Some orc) h =
     subst (Between last f (l ∷ ls)) (sym (after_stop last (record { orc = orc; sco = unwrap_or f.sco no_text }) ls)) (stop f orc l ls e h)
 
-has_marked : (last : ℕ) (f : Found) (l : Line) (ls : List Line) (m : Mark) → Has last ls → HasInside last ls → mark_of l.bytes ≡ m
+has_marked : (last : ℕ) (f : SectionsFound) (l : Line) (ls : List Line) (m : LineMark) → Has last ls → HasInside last ls → mark_of l.bytes ≡ m
     → Between last f (l ∷ ls) (onward (marked l f m) (λ t. scan last t ls))
 has_marked last f l ls mark.Idle more inner e = idle f l ls _ e (more f)
 has_marked last f l ls (mark.Opens s) more inner e = by_test (stood s f)
@@ -148,7 +149,7 @@ pub scan_reads : (text : List ℕ) → Reading text (scan (last_line text) state
 scan_reads text = begins text [] (lines_of text) refl (All-nil _)
 
 -- a text line by line: after its first lines one stands here, and this line is next
-pub record Read (text : List ℕ) (s : State) (number at : ℕ) : Type 0 where
+pub record Read (text : List ℕ) (s : ScanState) (number at : ℕ) : Type 0 where
   pub within : at ≤ length text
   pub few : number ≤ at + 1
   pub some : 1 ≤ number
@@ -166,7 +167,7 @@ here_and_on text n at l =
     cut_at n at (drop at text) (omega (arith, length-drop at text, l))
     ∙ ap (λ t. line n at (take (line_len (drop at text)) (drop at text)) ∷ lines_from (n + 1) (at + m) t) (drop-drop m at text)
 
-pub line_read : (text : List ℕ) (s t : State) (n at : ℕ) → at < length text
+pub line_read : (text : List ℕ) (s t : ScanState) (n at : ℕ) → at < length text
     → step s (line n at (take (line_len (drop at text)) (drop at text))) ≡ Ok t → Read text s n at → Read text t (n + 1) (at + next_len (drop at text))
 line_read text s t n at l e r =
     let h = here_and_on text n at l in
@@ -181,14 +182,14 @@ line_read text s t n at l e r =
       scan = sym (ap (λ o. onward o (λ t. scan (last_line text) t rest)) e) ∙ sym (ap (scan (last_line text) s) h) ∙ r.scan;
     }
 
-pub fault_read : (text : List ℕ) (s : State) (n at : ℕ) (f : CsdFault) → at < length text
+pub fault_read : (text : List ℕ) (s : ScanState) (n at : ℕ) (f : CsdFault) → at < length text
     → step s (line n at (take (line_len (drop at text)) (drop at text))) ≡ Err f → Read text s n at → Reading text (Err f)
 fault_read text s n at f l e r =
     let h = here_and_on text n at l in
     let rest = lines_from (n + 1) (at + next_len (drop at text)) (drop (at + next_len (drop at text)) text) in
     subst (Reading text) (sym r.scan ∙ ap (scan (last_line text) s) h ∙ ap (λ o. onward o (λ t. scan (last_line text) t rest)) e) (scan_reads text)
 
-pub all_read : (text : List ℕ) (s : State) (n at last : ℕ) → length text ≤ at → last ≡ max 1 (n - 1) → Read text s n at → Reading text (finish last s)
+pub all_read : (text : List ℕ) (s : ScanState) (n at last : ℕ) → length text ≤ at → last ≡ max 1 (n - 1) → Read text s n at → Reading text (finish last s)
 all_read text s n at last l e r =
     let none : drop at text ≡ [] = drop_all at text l in
     let count : n ≡ 1 + length (lines_of text) = omega (arith, r.lines, ap (λ t. length (lines_from n at t)) none) in
@@ -196,7 +197,7 @@ all_read text s n at last l e r =
     subst (Reading text) (sym r.scan ∙ ap (λ t. scan (last_line text) s (lines_from n at t)) none ∙ ap (λ k. finish k s) (sym is_last)) (scan_reads text)
 
 -- a line as a slice of the rest of the text
-pub as_sliced : (text : List ℕ) (s : State) (n at k : ℕ) (r : Result State CsdFault) → k ≡ line_len (take (length text - at) (drop at text))
+pub as_sliced : (text : List ℕ) (s : ScanState) (n at k : ℕ) (r : Result ScanState CsdFault) → k ≡ line_len (take (length text - at) (drop at text))
     → step s (line n at (take k (take (length text - at) (drop at text)))) ≡ r → step s (line n at (take (line_len (drop at text)) (drop at text))) ≡ r
 as_sliced text s n at k r is_k e =
     let rest = take_rest text at in

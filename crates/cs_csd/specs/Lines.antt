@@ -1,39 +1,11 @@
--- The lines of a file, and what each says.
-use Rattle.std.specs.Prelude.{ℕ, Bool, List, [], ◌∷◌, ◌+◌, ◌&&◌, ◌||◌, codes, drop, length, max, min, if◌then◌else◌}
+-- What the lines of a file say.
+use Rattle.std.specs.Prelude.{ℕ, Bool, List, ◌&&◌, ◌||◌, codes, drop, length, max, if◌then◌else◌}
 use Rattle.std.specs.List.{list_all, prefix_len}
-use Rattle.cs_base.specs.Lines.{begins_with, is_blank, is_feed, is_line_byte}
-use Rattle.cs_csd.specs.declared.line.Mark.{Mark}
-use Rattle.cs_csd.specs.declared.line.Mark.TheVariants as mark
+use Rattle.cs_base.specs.Lines.{begins_with, is_blank, lines_of}
+use Rattle.cs_csd.specs.declared.line.LineMark.{LineMark}
+use Rattle.cs_csd.specs.declared.line.LineMark.TheVariants as mark
 use Rattle.cs_csd.specs.declared.line.Section.{Section}
 use Rattle.cs_csd.specs.declared.line.Section.TheVariants as section
-
--- a line: its number, the place of its first byte, and its bytes without the line feed
-pub record Line : Type 0 where
-  pub number : ℕ
-  pub at : ℕ
-  pub bytes : List ℕ
-
-abbrev pub line : ℕ → ℕ → List ℕ → Line
-line number at bytes = record { number = number; at = at; bytes = bytes }
-
--- lines with one more byte at the front of the first
-abbrev pub with_byte : ℕ → ℕ → ℕ → List Line → List Line
-with_byte number at b [] = line number at (b ∷ []) ∷ []
-with_byte number at b (l ∷ ls) = line number at (b ∷ l.bytes) ∷ ls
-
--- the lines of a text whose first line has this number and whose first byte has this place: line feeds end them
-abbrev pub lines_from : ℕ → ℕ → List ℕ → List Line
-lines_from number at [] = []
-lines_from number at (b ∷ rest) =
-    if is_feed b then line number at [] ∷ lines_from (number + 1) (at + 1) rest
-    else with_byte number at b (lines_from number (at + 1) rest)
-
--- the bytes of a text's first line, with its line feed
-abbrev pub next_len : List ℕ → ℕ
-next_len text = min (prefix_len is_line_byte text + 1) (length text)
-
-abbrev pub lines_of : List ℕ → List Line
-lines_of text = lines_from 1 0 text
 
 -- the number of a text's last line; an empty text has one line
 abbrev pub last_line : List ℕ → ℕ
@@ -71,7 +43,7 @@ abbrev pub is_stop : List ℕ → Bool
 is_stop bytes = is_tag (codes "</CsoundSynthesizer>") bytes
 
 -- what a line between sections says
-abbrev pub mark_of : List ℕ → Mark
+abbrev pub mark_of : List ℕ → LineMark
 mark_of bytes =
     if is_idle bytes then mark.Idle
     else if is_tag (opening section.Options) bytes then mark.Opens section.Options

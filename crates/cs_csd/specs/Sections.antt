@@ -2,7 +2,7 @@
 use Rattle.std.specs.Prelude.{◌≡◌, ℕ, Bool, true, false, List, [], ◌∷◌, ◌+◌, ◌++◌, length, Some, None, unwrap_or, Result, Ok, Err}
 use Rattle.std.specs.List.{All}
 use Rattle.std.specs.Option.{is_some}
-use Rattle.cs_csd.specs.declared.line.Mark.TheVariants as mark
+use Rattle.cs_csd.specs.declared.line.LineMark.TheVariants as mark
 use Rattle.cs_csd.specs.declared.line.Section.{Section}
 use Rattle.cs_csd.specs.declared.line.Section.TheVariants as section
 use Rattle.cs_csd.specs.declared.part.CsdFault.{CsdFault}
@@ -10,8 +10,9 @@ use Rattle.cs_csd.specs.declared.part.CsdKind.{CsdKind}
 use Rattle.cs_csd.specs.declared.part.CsdKind.TheVariants as kind
 use Rattle.cs_csd.specs.declared.part.Part.{Part}
 use Rattle.cs_csd.specs.declared.part.Parts.{Parts}
-use Rattle.cs_csd.specs.declared.scan.Found.{Found}
-use Rattle.cs_csd.specs.Lines.{Line, lines_of, last_line, mark_of, closes, is_start}
+use Rattle.cs_csd.specs.declared.scan.SectionsFound.{SectionsFound}
+use Rattle.cs_base.specs.Lines.{Line, lines_of}
+use Rattle.cs_csd.specs.Lines.{last_line, mark_of, closes, is_start}
 
 abbrev pub fault : CsdKind → ℕ → CsdFault
 fault k line = record { line = line; kind = k }
@@ -25,40 +26,40 @@ abbrev pub no_text : Part
 no_text = record { from = 0; to = 0; line = 1 }
 
 -- The sections that stood before: what the options say isn't kept.
-abbrev pub nothing_found : Found
+abbrev pub nothing_found : SectionsFound
 nothing_found = record { options = false; orc = None; sco = None }
 
-abbrev pub stood : Section → Found → Bool
+abbrev pub stood : Section → SectionsFound → Bool
 stood section.Options f = f.options
 stood section.Instruments f = is_some f.orc
 stood section.Score f = is_some f.sco
 
-abbrev pub with_section : Section → Part → Found → Found
+abbrev pub with_section : Section → Part → SectionsFound → SectionsFound
 with_section section.Options p f = record f { options = true }
 with_section section.Instruments p f = record f { orc = Some p }
 with_section section.Score p f = record f { sco = Some p }
 
 -- What lines after the first tag come to, where these sections stood before them and the file's last line has this number.
-pub data Between (last : ℕ) : Found → List Line → Result Parts CsdFault → Type 0 where
-  idle : (f : Found) (l : Line) (ls : List Line) (r : Result Parts CsdFault)
+pub data Between (last : ℕ) : SectionsFound → List Line → Result Parts CsdFault → Type 0 where
+  idle : (f : SectionsFound) (l : Line) (ls : List Line) (r : Result Parts CsdFault)
       → mark_of l.bytes ≡ mark.Idle → Between last f ls r → Between last f (l ∷ ls) r
-  whole : (s : Section) (f : Found) (opener : Line) (inside : List Line) (closer : Line) (ls : List Line) (r : Result Parts CsdFault)
+  whole : (s : Section) (f : SectionsFound) (opener : Line) (inside : List Line) (closer : Line) (ls : List Line) (r : Result Parts CsdFault)
       → mark_of opener.bytes ≡ mark.Opens s → stood s f ≡ false
       → All (λ l. closes s l.bytes ≡ false) inside → closes s closer.bytes ≡ true
       → Between last (with_section s (part_between opener closer) f) ls r → Between last f (opener ∷ inside ++ closer ∷ ls) r
-  stop : (f : Found) (orc : Part) (l : Line) (ls : List Line)
+  stop : (f : SectionsFound) (orc : Part) (l : Line) (ls : List Line)
       → mark_of l.bytes ≡ mark.Stop → f.orc ≡ Some orc
       → Between last f (l ∷ ls) (Ok (record { orc = orc; sco = unwrap_or f.sco no_text }))
-  no_orchestra : (f : Found) (l : Line) (ls : List Line)
+  no_orchestra : (f : SectionsFound) (l : Line) (ls : List Line)
       → mark_of l.bytes ≡ mark.Stop → f.orc ≡ None → Between last f (l ∷ ls) (Err (fault kind.MissingTag l.number))
-  twice : (s : Section) (f : Found) (l : Line) (ls : List Line)
+  twice : (s : Section) (f : SectionsFound) (l : Line) (ls : List Line)
       → mark_of l.bytes ≡ mark.Opens s → stood s f ≡ true → Between last f (l ∷ ls) (Err (fault kind.SectionTwice l.number))
-  stray : (f : Found) (l : Line) (ls : List Line)
+  stray : (f : SectionsFound) (l : Line) (ls : List Line)
       → mark_of l.bytes ≡ mark.Other → Between last f (l ∷ ls) (Err (fault kind.NotInProfile l.number))
-  unclosed : (s : Section) (f : Found) (opener : Line) (inside : List Line)
+  unclosed : (s : Section) (f : SectionsFound) (opener : Line) (inside : List Line)
       → mark_of opener.bytes ≡ mark.Opens s → stood s f ≡ false → All (λ l. closes s l.bytes ≡ false) inside
       → Between last f (opener ∷ inside) (Err (fault kind.MissingTag last))
-  cut : (f : Found) → Between last f [] (Err (fault kind.MissingTag last))
+  cut : (f : SectionsFound) → Between last f [] (Err (fault kind.MissingTag last))
 
 -- What a file comes to: whatever stands before its first tag doesn't count.
 pub data Reading (text : List ℕ) : Result Parts CsdFault → Type 0 where

@@ -1,10 +1,10 @@
 // A line of a file, and what it says.
-ghost use Rattle.std.specs.List.{list_all, prefix_len};
-ghost use Rattle.std.specs.Prelude.{◌≡◌, ◌≤◌, length};
+ghost use Rattle.std.specs.List.{list_all};
+ghost use Rattle.std.specs.Prelude.{◌≡◌};
 ghost use Rattle.cs_base.specs.Lines.{is_blank};
 ghost use Rattle.cs_csd.specs.Lines.{after_blanks, closes, closing, is_idle, is_start, is_stop, is_tag, mark_of, opening};
 
-use cs_base::is_blank;
+use cs_base::{blanks_len, is_blank};
 
 /// A section of a file.
 #[derive(Clone, Copy)]
@@ -16,7 +16,7 @@ pub enum Section {
 
 /// What a line between sections says.
 #[derive(Clone, Copy)]
-pub enum Mark {
+pub enum LineMark {
     /// Nothing: it has blanks alone, or is a comment.
     Idle,
     /// A section is opened.
@@ -59,21 +59,21 @@ impl Section {
 }
 
 /// What a line between sections says.
-pub fn mark_of(bytes: &[u8]) -> Mark
+pub fn mark_of(bytes: &[u8]) -> LineMark
     ensures { result ≡ mark_of bytes.now }
 {
     if is_idle(bytes) {
-        Mark::Idle
+        LineMark::Idle
     } else if is_tag(Section::Options.opening(), bytes) {
-        Mark::Opens(Section::Options)
+        LineMark::Opens(Section::Options)
     } else if is_tag(Section::Instruments.opening(), bytes) {
-        Mark::Opens(Section::Instruments)
+        LineMark::Opens(Section::Instruments)
     } else if is_tag(Section::Score.opening(), bytes) {
-        Mark::Opens(Section::Score)
+        LineMark::Opens(Section::Score)
     } else if is_tag(b"</CsoundSynthesizer>", bytes) {
-        Mark::Stop
+        LineMark::Stop
     } else {
-        Mark::Other
+        LineMark::Other
     }
 }
 
@@ -103,14 +103,6 @@ fn after_blanks(bytes: &[u8]) -> &[u8]
     ensures { result.now ≡ after_blanks bytes.now }
 {
     &bytes[blanks_len(bytes)..]
-}
-
-// How many blanks a line begins with.
-fn blanks_len(bytes: &[u8]) -> usize
-    ensures value { result ≡ prefix_len is_blank bytes.now }
-    ensures within { result ≤ length bytes.now }
-{
-    bytes.iter().take_while(|byte| is_blank(**byte)).count()
 }
 
 fn all_blank(bytes: &[u8]) -> bool

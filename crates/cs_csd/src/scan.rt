@@ -1,16 +1,17 @@
 // Where one stands in a file, line after line.
 ghost use Rattle.std.specs.Prelude.{◌≡◌, ◌≤◌, ◌+◌, length};
 ghost use Rattle.cs_base.specs.Limits.{most_csd_bytes};
-ghost use Rattle.cs_csd.specs.Lines.{line, mark_of};
+ghost use Rattle.cs_base.specs.Lines.{line};
+ghost use Rattle.cs_csd.specs.Lines.{mark_of};
 ghost use Rattle.cs_csd.specs.Sections.{fault, nothing_found, stood, with_section};
 ghost use Rattle.cs_csd.specs.inner.Scan.{begun, finish, inside, marked, opened, step, stopped};
 
-use crate::line::{Mark, Section, is_start, mark_of};
+use crate::line::{LineMark, Section, is_start, mark_of};
 use crate::{CsdFault, CsdKind, Part, Parts};
 
 /// The sections that stood before; what the options say isn't kept.
 #[derive(Clone, Copy)]
-pub struct Found {
+pub struct SectionsFound {
     pub options: bool,
     pub orc: Option<Part>,
     pub sco: Option<Part>,
@@ -18,23 +19,23 @@ pub struct Found {
 
 /// Where one stands.
 #[derive(Clone, Copy)]
-pub enum State {
+pub enum ScanState {
     /// Before the first tag.
     Before,
     /// Between sections.
-    Between(Found),
+    Between(SectionsFound),
     /// In a section, whose text begins as the part says.
-    Inside(Found, Section, Part),
+    Inside(SectionsFound, Section, Part),
     /// After the last tag.
     Done(Parts),
 }
 
-impl Found {
+impl SectionsFound {
     /// No section stood before.
-    pub fn nothing() -> Found
+    pub fn nothing() -> SectionsFound
         ensures { result ≡ nothing_found }
     {
-        Found {
+        SectionsFound {
             options: false,
             orc: None,
             sco: None,
@@ -53,19 +54,19 @@ impl Found {
     }
 
     // With one more section.
-    fn with(self, section: Section, part: Part) -> Found
+    fn with(self, section: Section, part: Part) -> SectionsFound
         ensures { result ≡ with_section section part self }
     {
         match section {
-            Section::Options => Found {
+            Section::Options => SectionsFound {
                 options: true,
                 ..self
             },
-            Section::Instruments => Found {
+            Section::Instruments => SectionsFound {
                 orc: Some(part),
                 ..self
             },
-            Section::Score => Found {
+            Section::Score => SectionsFound {
                 sco: Some(part),
                 ..self
             },
@@ -73,18 +74,18 @@ impl Found {
     }
 }
 
-impl State {
+impl ScanState {
     /// Where one stands after a line of this number, whose first byte has this place.
-    pub fn step(self, number: u32, at: u32, bytes: &[u8]) -> Result<State, CsdFault>
+    pub fn step(self, number: u32, at: u32, bytes: &[u8]) -> Result<ScanState, CsdFault>
         requires place { at + length bytes.now ≤ most_csd_bytes }
         requires number { number ≤ most_csd_bytes + 1 }
         ensures { result ≡ step self (line number at bytes.now) }
     {
         match self {
-            State::Before => Ok(begun(bytes)),
-            State::Between(found) => between(found, number, at, bytes),
-            State::Inside(found, section, part) => Ok(inside(found, section, part, at, bytes)),
-            State::Done(parts) => Ok(State::Done(parts)),
+            ScanState::Before => Ok(begun(bytes)),
+            ScanState::Between(found) => between(found, number, at, bytes),
+            ScanState::Inside(found, section, part) => Ok(inside(found, section, part, at, bytes)),
+            ScanState::Done(parts) => Ok(ScanState::Done(parts)),
         }
     }
 
@@ -93,49 +94,54 @@ impl State {
         ensures { result ≡ finish last self }
     {
         match self {
-            State::Done(parts) => Ok(parts),
+            ScanState::Done(parts) => Ok(parts),
             _ => Err(fault(CsdKind::MissingTag, last)),
         }
     }
 }
 
-fn begun(bytes: &[u8]) -> State
+fn begun(bytes: &[u8]) -> ScanState
     ensures { result ≡ begun bytes.now }
 {
     if is_start(bytes) {
-        State::Between(Found::nothing())
+        ScanState::Between(SectionsFound::nothing())
     } else {
-        State::Before
+        ScanState::Before
     }
 }
 
 // What a line in a section leads to.
-fn inside(found: Found, section: Section, part: Part, at: u32, bytes: &[u8]) -> State
+fn inside(found: SectionsFound, section: Section, part: Part, at: u32, bytes: &[u8]) -> ScanState
     ensures { result ≡ inside found section part at bytes.now }
 {
     if section.is_closed_by(bytes) {
-        State::Between(found.with(section, Part { to: at, ..part }))
+        ScanState::Between(found.with(section, Part { to: at, ..part }))
     } else {
-        State::Inside(found, section, part)
+        ScanState::Inside(found, section, part)
     }
 }
 
 // What a line between sections leads to.
-fn between(found: Found, number: u32, at: u32, bytes: &[u8]) -> Result<State, CsdFault>
+fn between(found: SectionsFound, number: u32, at: u32, bytes: &[u8]) -> Result<ScanState, CsdFault>
     requires place { at + length bytes.now ≤ most_csd_bytes }
     requires number { number ≤ most_csd_bytes + 1 }
     ensures { result ≡ marked (line number at bytes.now) found (mark_of bytes.now) }
 {
     match mark_of(bytes) {
-        Mark::Idle => Ok(State::Between(found)),
-        Mark::Opens(section) => opened(section, number, at + bytes.len() as u32 + 1, found),
-        Mark::Stop => stopped(number, found),
-        Mark::Other => Err(fault(CsdKind::NotInProfile, number)),
+        LineMark::Idle => Ok(ScanState::Between(found)),
+        LineMark::Opens(section) => opened(section, number, at + bytes.len() as u32 + 1, found),
+        LineMark::Stop => stopped(number, found),
+        LineMark::Other => Err(fault(CsdKind::NotInProfile, number)),
     }
 }
 
 // A section is opened, whose text begins at a place, in the line after this one.
-fn opened(section: Section, number: u32, from: u32, found: Found) -> Result<State, CsdFault>
+fn opened(
+    section: Section,
+    number: u32,
+    from: u32,
+    found: SectionsFound,
+) -> Result<ScanState, CsdFault>
     requires { number ≤ most_csd_bytes + 1 }
     ensures { result ≡ opened section number from found }
 {
@@ -147,16 +153,16 @@ fn opened(section: Section, number: u32, from: u32, found: Found) -> Result<Stat
         to: from,
         line: number + 1,
     };
-    Ok(State::Inside(found, section, part))
+    Ok(ScanState::Inside(found, section, part))
 }
 
 // The last line that is read.
-fn stopped(number: u32, found: Found) -> Result<State, CsdFault>
+fn stopped(number: u32, found: SectionsFound) -> Result<ScanState, CsdFault>
     ensures { result ≡ stopped number found found.orc }
 {
     match found.orc {
         None => Err(fault(CsdKind::MissingTag, number)),
-        Some(orc) => Ok(State::Done(Parts {
+        Some(orc) => Ok(ScanState::Done(Parts {
             orc,
             sco: found.sco.unwrap_or(Part {
                 from: 0,

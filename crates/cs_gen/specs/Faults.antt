@@ -2,7 +2,7 @@
 use Rattle.std.specs.Prelude.{◌≡◌, ℕ, ◌+◌, ◌-◌, ◌*◌, ◌/◌, Bool, ◌&&◌, ◌||◌, ◌==◌, List, [], ◌∷◌, length, ℤ, pos, unsigned_abs, int_lt, Option, Some, None, slice_index_or, if◌then◌else◌}
 use Rattle.std.specs.List.{list_any, range_with_len}
 use Rattle.std.specs.Ordering.{int_eq}
-use Rattle.cs_base.specs.Numbers.{floor_div, one}
+use Rattle.cs_base.specs.Numbers.{whole_below}
 use Rattle.cs_base.specs.declared.fault.Or.{Or}
 use Rattle.cs_base.specs.declared.fault.Or.TheVariants.{Fault, OutOfMemory}
 use Rattle.cs_gen.specs.declared.check.GenFault.{GenFault}
@@ -11,10 +11,6 @@ use Rattle.cs_gen.specs.declared.check.GenFault.TheVariants.{Size, Unknown, Nega
 -- argument k of a GEN, counted from 0; one that is missing is 0
 abbrev pub argument : List ℤ → ℕ → ℤ
 argument args k = slice_index_or args k (pos 0)
-
--- the whole part of a number, rounded down
-abbrev pub whole : ℤ → ℤ
-whole raw = floor_div raw one
 
 -- how many segments GEN07's arguments give: one for each value after the first
 abbrev pub segments_of : List ℤ → ℕ
@@ -35,7 +31,7 @@ is_gen gen = (unsigned_abs gen == 2) || (unsigned_abs gen == 7) || (unsigned_abs
 -- one of GEN07's segments has a negative length: segment k's is the whole part of argument 2k + 1
 unfoldable pub has_negative_length : List ℤ → Bool
 has_negative_length args =
-    list_any (λ k. int_lt (whole (argument args (2 * k + 1))) (pos 0)) (range_with_len 0 (segments_of args))
+    list_any (λ k. int_lt (whole_below (argument args (2 * k + 1))) (pos 0)) (range_with_len 0 (segments_of args))
 
 -- the first rule that a table breaks: its size, then its GEN, then the lengths of its segments
 unfoldable pub table_fault : ℤ → ℤ → List ℤ → Option GenFault
@@ -46,7 +42,7 @@ table_fault size gen args =
     else Some Unknown
     else Some Size
 
--- why no table was made: its fault, or want of memory where it has none
+-- why no table was made: its fault, or out of memory where it has none
 abbrev pub IsCauseOf : Option GenFault → Or GenFault → Type 0
 IsCauseOf fault (Fault found) = fault ≡ Some found
 IsCauseOf fault OutOfMemory = fault ≡ None

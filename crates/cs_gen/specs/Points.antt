@@ -1,8 +1,8 @@
 -- The points of a table, each by a formula for its one place.
 use Rattle.std.specs.Prelude.{ℕ, ◌+◌, ◌-◌, ◌*◌, ◌/◌, ◌%◌, ◌^◌, max, sum, ◌==◌, nat_lt, nat_le, List, [], ◌∷◌, length, map, ℤ, pos, neg_ℤ, ◌+ℤ◌, ◌-ℤ◌, ◌*ℤ◌, unsigned_abs, int_lt, slice_index, if◌then◌else◌}
 use Rattle.std.specs.List.{position_or_len, range_with_len}
-use Rattle.cs_base.specs.Numbers.{clamp, floor_div, one, total}
-use Rattle.cs_gen.specs.Faults.{argument, whole, segments_of}
+use Rattle.cs_base.specs.Numbers.{clamp, floor_div, one, total, whole_below}
+use Rattle.cs_gen.specs.Faults.{argument, segments_of}
 
 -- the height of the wave at its crest
 abbrev pub full_scale : ℤ
@@ -52,7 +52,7 @@ harmonics len strengths j =
 
 -- GEN07: how many points segment k is long
 abbrev pub length_of : List ℤ → ℕ → ℕ
-length_of args k = unsigned_abs (whole (argument args (2 * k + 1)))
+length_of args k = unsigned_abs (whole_below (argument args (2 * k + 1)))
 
 -- the place at which segment k begins: the lengths of those before it
 unfoldable pub begin_of : List ℤ → ℕ → ℕ

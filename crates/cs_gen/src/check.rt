@@ -1,12 +1,13 @@
 // Which tables are refused, and for what.
 ghost use Rattle.std.specs.Prelude.{◌≡◌, Some, None, OnOk, IfErr, unsigned_abs, All, pos, ◌||◌, ◌+ℤ◌, ◌≤ℤ◌, int_lt, ◌<◌, ◌+◌, ◌*◌};
-ghost use Rattle.cs_gen.specs.Faults.{table_fault, is_size, is_gen, has_negative_length, whole, argument, segments_of};
+ghost use Rattle.cs_gen.specs.Faults.{table_fault, is_size, is_gen, has_negative_length, argument, segments_of};
+ghost use Rattle.cs_base.specs.Numbers.{whole_below};
 ghost use Rattle.std.specs.List.{list_any};
 ghost use Rattle.std.specs.Ordering.{int_eq};
 
 use cs_base::Num;
 
-/// Why a table can't be made; of several reasons the first.
+/// Why a table can't be made: the first of these that applies.
 #[derive(Clone, Copy, Debug, PartialEq, Eq)]
 pub enum GenFault {
     /// The size is neither a power of two from 2 to 65,536 nor one more.
@@ -96,7 +97,7 @@ pub(crate) fn argument(args: &[Num], k: usize) -> Num
 // A length counts as its whole part, rounded down, so that a negative one stays negative.
 fn is_negative_segment(args: &[Num], k: usize) -> bool
     requires { k < segments_of args.now }
-    ensures { result ≡ int_lt (whole (argument args.now (2 * k + 1))) (pos 0) }
+    ensures { result ≡ int_lt (whole_below (argument args.now (2 * k + 1))) (pos 0) }
 {
     args[2 * k + 1].raw() < 0
 }

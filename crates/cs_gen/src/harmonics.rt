@@ -6,7 +6,7 @@ ghost use Rattle.cs_gen.specs.Points.{full_scale, harmonics, wave};
 use crate::sine::{FULL_SCALE, wave};
 use cs_base::Num;
 
-/// Place `j` of a table of `len` points, where `strengths` are those of the harmonics 1, 2 and so on.
+/// The point at place `j` of a table of `len` points; `strengths` are those of the harmonics 1, 2 and so on.
 pub(crate) fn harmonics(len: u64, strengths: &[Num], j: u64) -> Num
     requires some { 0 < len }
     requires wide { len ≤ 65536 }
@@ -22,7 +22,7 @@ pub(crate) fn harmonics(len: u64, strengths: &[Num], j: u64) -> Num
     Num::of_wide(sum)
 }
 
-// A strength times the wave, where the harmonic has come so many of `len` parts of its turn.
+// A strength times the wave, where the harmonic is `phase` of `len` parts into its turn.
 fn harmonic(len: u64, strength: Num, phase: u64) -> i64
     requires wide { len ≤ 65536 }
     requires within { phase < len }

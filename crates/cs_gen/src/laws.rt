@@ -1,6 +1,8 @@
 // What holds of every table that is accepted: calls that do nothing, whose contracts are the laws.
-ghost use Rattle.std.specs.Prelude.{◌≡◌, ◌∷◌, [], List, None, ℤ, pos, negsuc, ◌≤ℤ◌};
+ghost use Rattle.std.specs.Prelude.{◌≡◌, ◌∷◌, [], List, Some, None, ℤ, pos, negsuc, ◌≤ℤ◌};
 ghost use Rattle.cs_gen.specs.Faults.{table_fault};
+ghost use Rattle.cs_gen.specs.Places.{place_of_index};
+ghost use Rattle.cs_gen.specs.declared.check.GenFault.TheVariants as fault;
 ghost use Rattle.cs_gen.specs.Points.{points_of};
 ghost use Rattle.cs_gen.specs.Tables.{IsMade, curve_of};
 
@@ -29,4 +31,26 @@ pub fn tables_worked_by_hand()
         ≡ pos 5 ∷ pos 6 ∷ pos 7 ∷ [] }
     ensures turn { curve_of (points_of (pos 4) (pos 10) (pos 65536 ∷ []))
         ≡ pos 0 ∷ pos 65536 ∷ pos 0 ∷ negsuc 65535 ∷ pos 0 ∷ [] }
+{}
+
+/// Which tables are refused, and the place of an index, as docs/LANGUAGE.md says, computed. The size comes before the
+/// GEN, and the GEN before the lengths of segments; a length with no value after it isn't looked at.
+pub fn faults_worked_by_hand()
+    ensures three_points { table_fault (pos 3) (pos 2) [] ≡ None }
+    ensures no_size { (table_fault (pos 1) (pos 2) [] ≡ Some fault.Size)
+        × (table_fault (pos 6) (pos 2) [] ≡ Some fault.Size)
+        × (table_fault (pos 65538) (pos 2) [] ≡ Some fault.Size)
+        × (table_fault (negsuc 7) (pos 2) [] ≡ Some fault.Size) }
+    ensures unknown { (table_fault (pos 4) (pos 3) [] ≡ Some fault.Unknown)
+        × (table_fault (pos 4) (pos 0) [] ≡ Some fault.Unknown) }
+    ensures negative { table_fault (pos 4) (negsuc 6) (pos 0 ∷ negsuc 16383 ∷ pos 65536 ∷ [])
+        ≡ Some fault.NegativeLength }
+    ensures unfinished { table_fault (pos 4) (negsuc 6) (pos 458752 ∷ negsuc 65535 ∷ []) ≡ None }
+    ensures size_first { table_fault (pos 6) (pos 3) (pos 0 ∷ negsuc 65535 ∷ pos 65536 ∷ []) ≡ Some fault.Size }
+    ensures size_before_length { table_fault (pos 6) (pos 7) (pos 0 ∷ negsuc 65535 ∷ pos 65536 ∷ [])
+        ≡ Some fault.Size }
+    ensures unknown_before_length { table_fault (pos 4) (pos 3) (pos 0 ∷ negsuc 65535 ∷ pos 65536 ∷ [])
+        ≡ Some fault.Unknown }
+    ensures index { (place_of_index 4 (negsuc 65535) ≡ 0) × (place_of_index 4 (pos 65470) ≡ 0)
+        × (place_of_index 4 (pos 131072) ≡ 2) × (place_of_index 4 (pos 589824) ≡ 3) }
 {}

@@ -1,21 +1,23 @@
 //! Tables by formula: every point that a table of the profile keeps, from its size, its GEN and the arguments.
 //!
-//! The one contract: `make_table` answers a made table (`IsMade`, specs/Tables.antt), or the fault that `check_table`
-//! finds, or want of memory. Each point is a formula of its one place (specs/Points.antt). How a table is filled, by a
-//! walk along the segments, a turning phase or a second pass, may be changed without anyone above noticing.
+//! Its one contract: `make_table` returns a made table (`IsMade`, specs/Tables.antt), or the fault that `check_table`
+//! finds, or is out of memory. Each point is a formula of its one place (specs/Points.antt). How a table is filled, by
+//! a walk along the segments, a turning phase or a second pass, may be changed without anyone above noticing.
 //!
-//! Modules in reading order: `check` (what is refused), `sine` (the one wave), `harmonics` (GEN10), `segments` (GEN07),
-//! `normal` (positive GENs), `table` (GEN02 and the whole), `laws`.
+//! To be read in this order: `check` (what is refused), `sine` (the one wave), `harmonics` (GEN10), `segments` (GEN07),
+//! `normal` (positive GENs), `table` (GEN02 and the whole), `place` (where an index is read), `laws`.
 #![tactic(auto)]
 
 mod check;
 mod harmonics;
 mod laws;
 mod normal;
+mod place;
 mod segments;
 mod sine;
 mod table;
 
 pub use check::{GenFault, check_table};
-pub use laws::{accepted_tables_are_made, tables_worked_by_hand};
+pub use laws::{accepted_tables_are_made, faults_worked_by_hand, tables_worked_by_hand};
+pub use place::place_of_index;
 pub use table::{Points, make_table};

@@ -3,7 +3,7 @@ ghost use Rattle.std.specs.Prelude.{◌≡◌, ◌<◌, ◌≤◌, ◌^◌, ◌*
 ghost use Rattle.cs_base.specs.Numbers.{IsRaw, floor_div, one};
 ghost use Rattle.cs_gen.specs.Points.{greatest, normalised};
 
-use cs_base::Num;
+use cs_base::{Num, ONE};
 
 /// Brings the greatest absolute value to 1 where the GEN is positive.
 pub(crate) fn normalise_for(gen_: i64, points: &mut Vec<Num>)
@@ -62,5 +62,5 @@ fn ratio(value: i64, most: u64) -> Num
     requires most { unsigned_abs value ≤ most }
     ensures { result ≡ floor_div (value *ℤ one) (pos most) }
 {
-    Num::of_raw((value * 65536).div_euclid(most as i64))
+    Num::of_raw((value * ONE).div_euclid(most as i64))
 }

@@ -92,7 +92,7 @@ fn difference(next: i64, value: i64) -> i128
     i128::from(next) - i128::from(value)
 }
 
-// So many parts of a rise, rounded down.
+// `into` of `length` parts of a rise, rounded down.
 fn part(rise: i128, into: u64, length: u64) -> i128
     requires small { unsigned_abs rise < 2 ^ 48 }
     requires inside { into < length }
@@ -115,5 +115,5 @@ fn length_of(args: &[Num], segment: usize) -> u64
     ensures value { result ≡ length_of args.now segment }
     ensures bounded { result ≤ 2 ^ 31 }
 {
-    args[2 * segment + 1].raw().div_euclid(65536).unsigned_abs()
+    args[2 * segment + 1].whole_below().unsigned_abs()
 }

@@ -12,10 +12,10 @@ use Rattle.cs_base.specs.declared.fault.ScoreKind.TheVariants.{NothingToCarry}
 use Rattle.cs_score.specs.Notes.{gap_by}
 use Rattle.cs_score.specs.inner.State.{filled, filled_one, completed, fields_read, instr_read, p1_before, p2_read, IsKept, IsLast}
 use Rattle.cs_score.specs.inner.Values.{AreValues}
-use Rattle.cs_score.specs.declared.field.Instrument.{Instrument}
+use Rattle.cs_score.specs.declared.field.InstrumentNumber.{InstrumentNumber}
 use Rattle.cs_score.specs.declared.last.LastNote.{LastNote}
 use Rattle.cs_score.specs.declared.last.NoteRead.{NoteRead}
-use Rattle.cs_score.specs.declared.refusal.Refusal.{Refusal}
+use Rattle.cs_score.specs.declared.statement_fault.StatementFault.{StatementFault}
 
 pub length-filled : (ws before : List Field) → length (filled ws before) ≡ max (length ws) (length before)
 length-filled [] before = omega arith
@@ -55,10 +55,10 @@ taken_whole ws before fields more l v e = (
 )
 
 -- what the next statement may take from one is what the code keeps of it
-kept_one : (last next : LastNote) (written fields : List Field) (instr : Instrument) (p2 : ℕ) → instr_read last written ≡ Ok instr →
+kept_one : (last next : LastNote) (written fields : List Field) (instr : InstrumentNumber) (p2 : ℕ) → instr_read last written ≡ Ok instr →
     fields ≡ fields_read last written → p2_read last written ≡ Ok p2 → IsLast instr p2 fields next → IsKept last written next
 kept_one last next written fields instr p2 i f p l =
-    let P : Option Instrument → Type 0 = λ o. IsSome o in
+    let P : Option InstrumentNumber → Type 0 = λ o. IsSome o in
     record {
       is_instr = i ∙ sym (ap p1_before l.is_instr);
       stands = subst P (sym l.is_instr) refl;
@@ -67,7 +67,7 @@ kept_one last next written fields instr p2 i f p l =
       is_fields = l.is_fields ∙ f;
     }
 
-pub kept_is : (r : Result NoteRead Refusal) (last : LastNote) (written : List Field) (instr : Instrument) (p2 : ℕ) (fields : List Field) →
+pub kept_is : (r : Result NoteRead StatementFault) (last : LastNote) (written : List Field) (instr : InstrumentNumber) (p2 : ℕ) (fields : List Field) →
     instr_read last written ≡ Ok instr → fields ≡ fields_read last written → p2_read last written ≡ Ok p2 →
     IfOk r (λ read. IsLast instr p2 fields read.last) → IfOk r (λ read. IsKept last written read.last)
 kept_is (Ok read) last written instr p2 fields i f p l = kept_one last read.last written fields instr p2 i f p l

@@ -12,7 +12,7 @@ use Rattle.cs_base.specs.declared.limit.LimitHit.{LimitHit}
 use Rattle.cs_base.proofs.Texts.{count_by-append}
 use Rattle.cs_score.specs.declared.kept.TableNumbers.{TableNumbers}
 use Rattle.cs_score.specs.declared.kept.EventCount.{EventCount}
-use Rattle.cs_score.specs.declared.kept.Kept.{Kept}
+use Rattle.cs_score.specs.declared.kept.KeptStatements.{KeptStatements}
 use Rattle.cs_score.specs.declared.statement.ScoreStmt.{ScoreStmt}
 use Rattle.cs_score.specs.Limits.{at_statement, counts, different, first_at, is_counted, numbers_of, own_number, passes_events, passes_tables}
 use Rattle.cs_score.specs.inner.Counts.{HasCount, HasNumbers, Holds, IsSeen}
@@ -232,7 +232,7 @@ none_before which passes all s e = by_first (first_at passes [] all) refl
     by_first None h = refl
     by_first (Some x) h = absurd (let wrong = e ∙ ap (at_statement which) (first_stays passes [] all (s ∷ []) x h) in cc)
 
-pub kept_more : (all : List ScoreStmt) (s : ScoreStmt) (kept next : Kept) → Holds all kept → HasNumbers (all ++ s ∷ []) next.tables
+pub kept_more : (all : List ScoreStmt) (s : ScoreStmt) (kept next : KeptStatements) → Holds all kept → HasNumbers (all ++ s ∷ []) next.tables
     → HasCount (all ++ s ∷ []) next.events →
     next.statements ≡ kept.statements ++ s ∷ [] → Holds (all ++ s ∷ []) next
 kept_more all s kept next before tables events pushed = record {

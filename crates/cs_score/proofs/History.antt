@@ -7,11 +7,11 @@ use Rattle.cs_base.specs.declared.fault.ScoreKind.TheVariants.{NothingToCarry}
 use Rattle.cs_gen.specs.Faults.{table_fault}
 use Rattle.cs_score.specs.declared.field.Field.{Field}
 use Rattle.cs_score.specs.declared.field.Field.TheVariants.{Number, Same, After, Ahead, Foreign, Unreadable}
-use Rattle.cs_score.specs.declared.field.Instrument.{Instrument}
+use Rattle.cs_score.specs.declared.field.InstrumentNumber.{InstrumentNumber}
 use Rattle.cs_score.specs.declared.last.LastNote.{LastNote}
 use Rattle.cs_score.specs.declared.past.Past.{Past}
-use Rattle.cs_score.specs.declared.row.Letter.{Letter}
-use Rattle.cs_score.specs.declared.row.Letter.TheVariants as letter
+use Rattle.cs_score.specs.declared.row.StatementLetter.{StatementLetter}
+use Rattle.cs_score.specs.declared.row.StatementLetter.TheVariants as letter
 use Rattle.cs_score.specs.declared.row.Row.{Row}
 use Rattle.cs_score.specs.declared.statement.ScoreWhat.{ScoreWhat}
 use Rattle.cs_score.specs.declared.statement.ScoreWhat.TheVariants.{Note, Hold, Stop, Table, Extend, Tempo, Section}
@@ -27,11 +27,11 @@ use Rattle.cs_score.proofs.Carried.{field_is, fields_next}
 instr_is : (above : List Row) (past : Past) (row : Row) → Keeps above past → instr_read past.last row.fields ≡ p1 (row ∷ above)
 instr_is above past row k = ap (p1_by (slice_get row.fields 0)) k.instr
 
-no_same : (r : Result Instrument ScoreKind) → is_same r (Err NothingToCarry) ≡ false
+no_same : (r : Result InstrumentNumber ScoreKind) → is_same r (Err NothingToCarry) ≡ false
 no_same (Ok a) = refl
 no_same (Err e) = refl
 
-same_by : (b : Bool) (r before last : Result Instrument ScoreKind) → last ≡ (if b then before else Err NothingToCarry)
+same_by : (b : Bool) (r before last : Result InstrumentNumber ScoreKind) → last ≡ (if b then before else Err NothingToCarry)
     → is_same r last ≡ (b && is_same r before)
 same_by true r before last e = ap (is_same r) e
 same_by false r before last e = ap (is_same r) e ∙ no_same r
@@ -106,7 +106,7 @@ table_is above past fs k =
 
 -- ---- any row
 
-asked_by_is : (above : List Row) (past : Past) (row : Row) (l : Letter) → Keeps above past → asked_after past row l ≡ asked_by above row l
+asked_by_is : (above : List Row) (past : Past) (row : Row) (l : StatementLetter) → Keeps above past → asked_after past row l ≡ asked_by above row l
 asked_by_is above past row letter.Note k = ap one (note_is above past row k)
 asked_by_is above past row letter.Table k = ap one (table_is above past row.fields k)
 asked_by_is above past row letter.Tempo k = refl
@@ -120,7 +120,7 @@ asked_by_is above past row letter.Stray k = refl
 pub asked_is : (above : List Row) (past : Past) (row : Row) → Keeps above past → asked_after past row row.letter ≡ asked above row
 asked_is above past row k = asked_by_is above past row row.letter k
 
-instr_more : (above : List Row) (past : Past) (row : Row) (next : LastNote) (l : Letter) → Keeps above past
+instr_more : (above : List Row) (past : Past) (row : Row) (next : LastNote) (l : StatementLetter) → Keeps above past
     → LastFollows past.last row next l → p1_before next.instr ≡ (if is_note_letter l then p1 (row ∷ above) else Err NothingToCarry)
 instr_more above past row next letter.Note k h = sym h.is_instr ∙ instr_is above past row k
 instr_more above past row next letter.Table k h = ap p1_before h
@@ -132,7 +132,7 @@ instr_more above past row next letter.Other k h = ap p1_before h
 instr_more above past row next letter.Stray k h = ap p1_before h
 
 -- of an `i` statement its parts are kept
-kept_by : (past : Past) (row : Row) (next : LastNote) (l : Letter) → LastFollows past.last row next l → is_note_letter l ≡ true
+kept_by : (past : Past) (row : Row) (next : LastNote) (l : StatementLetter) → LastFollows past.last row next l → is_note_letter l ≡ true
     → IsKept past.last row.fields next
 kept_by past row next letter.Note h e = h
 kept_by past row next letter.Table h e = absurd (let wrong : false ≡ true = e in cc)

@@ -3,7 +3,7 @@ use Rattle.std.proofs.Common.{◌≡◌, ℕ, ◌≤◌, Bool, true, false, List
 use Rattle.std.specs.Option.{option_to_list}
 use Rattle.std.proofs.lemmas.List.{append-nil, drop_all}
 use Rattle.cs_base.specs.declared.fault.ScoreFault.{ScoreFault}
-use Rattle.cs_score.specs.declared.kept.Kept.{Kept}
+use Rattle.cs_score.specs.declared.kept.KeptStatements.{KeptStatements}
 use Rattle.cs_score.specs.declared.past.Past.{Past}
 use Rattle.cs_score.specs.declared.row.Row.{Row}
 use Rattle.cs_score.specs.declared.statement.ScoreStmt.{ScoreStmt}
@@ -11,7 +11,8 @@ use Rattle.cs_score.specs.declared.statement.ScoreWhat.{ScoreWhat}
 use Rattle.cs_score.specs.Carry.{and_then}
 use Rattle.cs_score.specs.inner.Counts.{Holds, IsWhole}
 use Rattle.cs_score.specs.inner.Past.{IsFaultOf, Keeps, LineTaken, RowRead, asked_after}
-use Rattle.cs_score.specs.Rows.{lines_from, plain_of, rows_in, rows_of}
+use Rattle.cs_base.specs.Lines.{lines_from}
+use Rattle.cs_score.specs.Rows.{plain_of, rows_in, rows_of}
 use Rattle.cs_score.specs.Statements.{asked, at_line, is_end, score_of, stated, statements_of, up_to_end}
 use Rattle.cs_score.proofs.History.{asked_is, row_more}
 
@@ -24,10 +25,10 @@ score_is text = refl
 
 -- the rows of the lines from a place on
 abbrev pub rows_from : List ℕ → List ℕ → ℕ → List Row
-rows_from text plain at = rows_in text (lines_from at (drop at plain))
+rows_from text plain at = rows_in text (lines_from 1 at (drop at plain))
 
 -- what has been read of a text up to a place: the rows above it, their statements, and what the code keeps of both
-pub record Read (text plain : List ℕ) (at : ℕ) (past : Past) (kept : Kept) : Type 0 where
+pub record Read (text plain : List ℕ) (at : ℕ) (past : Past) (kept : KeptStatements) : Type 0 where
   pub above : List Row
   pub all : List ScoreStmt
   pub keeps : Keeps above past
@@ -38,17 +39,17 @@ with_nothing : (r : Result (List ScoreStmt) ScoreFault) → with_front [] r ≡ 
 with_nothing (Ok xs) = refl
 with_nothing (Err f) = refl
 
-pub nothing_read : (text plain : List ℕ) (past : Past) (kept : Kept) → plain ≡ plain_of text → Keeps [] past → Holds [] kept → Read text plain 0 past kept
+pub nothing_read : (text plain : List ℕ) (past : Past) (kept : KeptStatements) → plain ≡ plain_of text → Keeps [] past → Holds [] kept → Read text plain 0 past kept
 nothing_read text plain past kept e k h = record {
   above = [];
   all = [];
   keeps = k;
   holds = h;
-  whole = score_is text ∙ ap (λ t. statements_of [] (up_to_end (rows_in text (lines_from 0 t)))) (sym e) ∙ sym (with_nothing (statements_of [] (up_to_end (rows_from text plain 0))));
+  whole = score_is text ∙ ap (λ t. statements_of [] (up_to_end (rows_in text (lines_from 1 0 t)))) (sym e) ∙ sym (with_nothing (statements_of [] (up_to_end (rows_from text plain 0))));
 }
 
 -- a line without a statement
-pub blank_read : (text plain : List ℕ) (at next : ℕ) (past : Past) (kept : Kept) → rows_from text plain at ≡ rows_from text plain next
+pub blank_read : (text plain : List ℕ) (at next : ℕ) (past : Past) (kept : KeptStatements) → rows_from text plain at ≡ rows_from text plain next
     → Read text plain at past kept → Read text plain next past kept
 blank_read text plain at next past kept e r = record {
   above = r.above;
@@ -70,7 +71,7 @@ first_row above row rows these out e =
     ap (λ r. with_front out (and_then (stated row.line r) (λ these. and_then (statements_of (row ∷ above) rows) (λ more. Ok (these ++ more))))) e
     ∙ joined out (at_line row.line these) (statements_of (row ∷ above) rows)
 
-pub row_read : (text plain : List ℕ) (at next : ℕ) (past past' : Past) (kept kept' : Kept) (row : Row)
+pub row_read : (text plain : List ℕ) (at next : ℕ) (past past' : Past) (kept kept' : KeptStatements) (row : Row)
     → rows_from text plain at ≡ row ∷ rows_from text plain next → is_end row.letter ≡ false → RowRead past kept row past' kept'
     → Read text plain at past kept → Read text plain next past' kept'
 row_read text plain at next past past' kept kept' row e more one r =
@@ -87,7 +88,7 @@ row_read text plain at next past past' kept kept' row e more one r =
     }
 
 -- the last statement, an `e`
-pub end_read : (text plain : List ℕ) (at next : ℕ) (past past' : Past) (kept kept' : Kept) (row : Row)
+pub end_read : (text plain : List ℕ) (at next : ℕ) (past past' : Past) (kept kept' : KeptStatements) (row : Row)
     → rows_from text plain at ≡ row ∷ rows_from text plain next → is_end row.letter ≡ true → RowRead past kept row past' kept'
     → Read text plain at past kept → IsWhole text kept'
 end_read text plain at next past past' kept kept' row e end one r =
@@ -103,15 +104,15 @@ end_read text plain at next past past' kept kept' row e end one r =
     }
 
 -- the end of the text
-pub all_read : (text plain : List ℕ) (at : ℕ) (past : Past) (kept : Kept) → length plain ≤ at → Read text plain at past kept → IsWhole text kept
+pub all_read : (text plain : List ℕ) (at : ℕ) (past : Past) (kept : KeptStatements) → length plain ≤ at → Read text plain at past kept → IsWhole text kept
 all_read text plain at past kept l r = record {
   all = r.all;
-  read = r.whole ∙ ap (λ t. with_front r.all (statements_of r.above (up_to_end (rows_in text (lines_from at t))))) (drop_all at plain l) ∙ ap Ok (append-nil r.all);
+  read = r.whole ∙ ap (λ t. with_front r.all (statements_of r.above (up_to_end (rows_in text (lines_from 1 at t))))) (drop_all at plain l) ∙ ap Ok (append-nil r.all);
   holds = r.holds;
 }
 
 -- a fault
-pub fault_read : (text plain : List ℕ) (at next : ℕ) (past : Past) (kept : Kept) (row : Row) (f : ScoreFault)
+pub fault_read : (text plain : List ℕ) (at next : ℕ) (past : Past) (kept : KeptStatements) (row : Row) (f : ScoreFault)
     → rows_from text plain at ≡ row ∷ rows_from text plain next → f.line ≡ row.line → asked_after past row row.letter ≡ Err f.kind
     → Read text plain at past kept → score_of text ≡ Err f
 fault_read text plain at next past kept row f e line kind r =
@@ -123,7 +124,7 @@ fault_read text plain at next past kept row f e line kind r =
 
 -- ---- a line, with a statement or without
 
-pub line_read : (text plain : List ℕ) (at next : ℕ) (past past' : Past) (kept kept' : Kept) (row : Option Row) (ends : Bool)
+pub line_read : (text plain : List ℕ) (at next : ℕ) (past past' : Past) (kept kept' : KeptStatements) (row : Option Row) (ends : Bool)
     → rows_from text plain at ≡ option_to_list row ++ rows_from text plain next → LineTaken past kept row ends past' kept' → ends ≡ false
     → Read text plain at past kept → Read text plain next past' kept'
 line_read text plain at next past past' kept kept' None ends e t f r =
@@ -131,14 +132,14 @@ line_read text plain at next past past' kept kept' None ends e t f r =
 line_read text plain at next past past' kept kept' (Some row) ends e t f r =
     row_read text plain at next past past' kept kept' row e (sym t.1 ∙ f) t.0 r
 
-pub last_line_read : (text plain : List ℕ) (at next : ℕ) (past past' : Past) (kept kept' : Kept) (row : Option Row) (ends : Bool)
+pub last_line_read : (text plain : List ℕ) (at next : ℕ) (past past' : Past) (kept kept' : KeptStatements) (row : Option Row) (ends : Bool)
     → rows_from text plain at ≡ option_to_list row ++ rows_from text plain next → LineTaken past kept row ends past' kept' → ends ≡ true
     → Read text plain at past kept → IsWhole text kept'
 last_line_read text plain at next past past' kept kept' None ends e t f r = absurd (let wrong : false ≡ true = sym t.2 ∙ f in cc)
 last_line_read text plain at next past past' kept kept' (Some row) ends e t f r =
     end_read text plain at next past past' kept kept' row e (sym t.1 ∙ f) t.0 r
 
-pub line_fault_read : (text plain : List ℕ) (at next : ℕ) (past : Past) (kept : Kept) (row : Option Row) (f : ScoreFault)
+pub line_fault_read : (text plain : List ℕ) (at next : ℕ) (past : Past) (kept : KeptStatements) (row : Option Row) (f : ScoreFault)
     → rows_from text plain at ≡ option_to_list row ++ rows_from text plain next → IsFaultOf past row f → Read text plain at past kept
     → score_of text ≡ Err f
 line_fault_read text plain at next past kept None f e t r = absurd t

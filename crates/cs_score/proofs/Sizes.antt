@@ -11,8 +11,8 @@ use Rattle.cs_gen.specs.declared.check.GenFault.{GenFault}
 use Rattle.cs_gen.specs.declared.check.GenFault.TheVariants as gen
 use Rattle.cs_gen.specs.Faults.{table_fault}
 use Rattle.cs_score.specs.declared.field.Field.{Field}
-use Rattle.cs_score.specs.declared.row.Letter.{Letter}
-use Rattle.cs_score.specs.declared.row.Letter.TheVariants as letter
+use Rattle.cs_score.specs.declared.row.StatementLetter.{StatementLetter}
+use Rattle.cs_score.specs.declared.row.StatementLetter.TheVariants as letter
 use Rattle.cs_score.specs.declared.row.Row.{Row}
 use Rattle.cs_score.specs.declared.statement.ScoreWhat.{ScoreWhat}
 use Rattle.cs_score.specs.declared.statement.ScoreWhat.TheVariants.{Note, Hold, Stop, Table, Extend, Tempo, Section}
@@ -175,7 +175,7 @@ end_accepted : (first own : ℕ → Option ℤ) (line : ℕ) (fs : List Field) (
 end_accepted first own line [] these e = none_accepted first own these e
 end_accepted first own line (f ∷ fs) these e = absurd (no_list (record { line = line; kind = NotInProfile }) these e)
 
-these_accepted : (above : List Row) (row : Row) (these : List ScoreStmt) (l : Letter) → stated row.line (asked_by above row l) ≡ Ok these →
+these_accepted : (above : List Row) (row : Row) (these : List ScoreStmt) (l : StatementLetter) → stated row.line (asked_by above row l) ≡ Ok these →
     Accepted (first_size above) (λ n. size_by n row.fields l) these
 these_accepted above row these letter.Note e =
     one_accepted (first_size above) (λ n. size_by n row.fields letter.Note) row.line (note (base_of above) (row ∷ above)) these

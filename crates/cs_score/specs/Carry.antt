@@ -1,14 +1,15 @@
 -- What an `i` statement writes and what it takes from those before it. A list of rows stands newest first.
 use Rattle.std.specs.Prelude.{ℕ, Bool, true, false, List, [], ◌∷◌, ◌&&◌, ◌==◌, not, length, max, map, nat_le, slice_get, unwrap_or, Option, Some, None, Result, Ok, Err, if◌then◌else◌}
 use Rattle.std.specs.List.{range_with_len}
+use Rattle.cs_base.specs.Limits.{greatest_instrument}
 use Rattle.cs_base.specs.declared.fault.ScoreKind.{ScoreKind}
 use Rattle.cs_base.specs.declared.fault.ScoreKind.TheVariants.{BadNumber, NothingToCarry, NotInProfile}
-use Rattle.cs_score.specs.declared.field.Instrument.{Instrument}
+use Rattle.cs_score.specs.declared.field.InstrumentNumber.{InstrumentNumber}
 use Rattle.cs_score.specs.declared.field.Signed.{Signed}
 use Rattle.cs_score.specs.declared.field.Field.{Field}
 use Rattle.cs_score.specs.declared.field.Field.TheVariants.{Number, Same, After, Ahead, Foreign, Unreadable}
-use Rattle.cs_score.specs.declared.row.Letter.{Letter}
-use Rattle.cs_score.specs.declared.row.Letter.TheVariants as letter
+use Rattle.cs_score.specs.declared.row.StatementLetter.{StatementLetter}
+use Rattle.cs_score.specs.declared.row.StatementLetter.TheVariants as letter
 use Rattle.cs_score.specs.declared.row.Row.{Row}
 use Rattle.cs_score.specs.Fields.{is_whole}
 
@@ -27,19 +28,19 @@ number_of dot Foreign = Err NotInProfile
 number_of dot Unreadable = Err BadNumber
 
 -- an instrument number, with a minus for a stop
-abbrev pub as_instrument : Signed → Result Instrument ScoreKind
+abbrev pub as_instrument : Signed → Result InstrumentNumber ScoreKind
 as_instrument n =
     if is_whole n
-    then if nat_le 1 n.size.whole && nat_le n.size.whole 32767
+    then if nat_le 1 n.size.whole && nat_le n.size.whole greatest_instrument
     then Ok (record { number = n.size.whole; stop = n.minus })
     else Err BadNumber
     else Err NotInProfile
 
 -- p1 as it is written
-abbrev pub instrument_of : Field → Result Instrument ScoreKind
+abbrev pub instrument_of : Field → Result InstrumentNumber ScoreKind
 instrument_of f = and_then (number_of NothingToCarry f) as_instrument
 
-abbrev pub is_note_letter : Letter → Bool
+abbrev pub is_note_letter : StatementLetter → Bool
 is_note_letter letter.Note = true
 is_note_letter _ = false
 
@@ -48,21 +49,21 @@ abbrev pub is_note : List Row → Bool
 is_note [] = false
 is_note (row ∷ above) = is_note_letter row.letter
 
-abbrev pub p1_by : Option Field → Result Instrument ScoreKind → Result Instrument ScoreKind
+abbrev pub p1_by : Option Field → Result InstrumentNumber ScoreKind → Result InstrumentNumber ScoreKind
 p1_by None before = before
 p1_by (Some Same) before = before
 p1_by (Some f) before = instrument_of f
 
 -- p1 of an `i` statement: what it writes, or else p1 of the `i` statement right before
-abbrev pub p1 : List Row → Result Instrument ScoreKind
+abbrev pub p1 : List Row → Result InstrumentNumber ScoreKind
 p1 [] = Err NothingToCarry
 p1 (row ∷ above) = p1_by (slice_get row.fields 0) (if is_note above then p1 above else Err NothingToCarry)
 
 -- one instrument, and both a stop or neither
-abbrev pub is_same_instrument : Instrument → Instrument → Bool
+abbrev pub is_same_instrument : InstrumentNumber → InstrumentNumber → Bool
 is_same_instrument a b = a.number == b.number && (if a.stop then b.stop else not b.stop)
 
-abbrev pub is_same : Result Instrument ScoreKind → Result Instrument ScoreKind → Bool
+abbrev pub is_same : Result InstrumentNumber ScoreKind → Result InstrumentNumber ScoreKind → Bool
 is_same (Ok a) (Ok b) = is_same_instrument a b
 is_same _ _ = false
 

@@ -7,3 +7,4 @@ pub mod Rows
 pub mod Sizes
 pub mod Statements
 pub mod inner
+pub mod Worked

@@ -7,6 +7,8 @@ use Rattle.cs_base.specs.declared.fault.ScoreFault.{ScoreFault}
 use Rattle.cs_base.specs.declared.limit.Limit.{Limit}
 use Rattle.cs_base.specs.declared.limit.Limit.TheVariants as limit
 use Rattle.cs_base.specs.declared.limit.LimitHit.{LimitHit}
+use Rattle.cs_base.specs.declared.refusal.Refusal.{Refusal}
+use Rattle.cs_base.specs.declared.refusal.Refusal.TheVariants as refusal
 use Rattle.cs_score.specs.declared.statement.ScoreWhat.{ScoreWhat}
 use Rattle.cs_score.specs.declared.statement.ScoreWhat.TheVariants.{Table, Tempo, Section}
 use Rattle.cs_score.specs.declared.statement.ScoreStmt.{ScoreStmt}
@@ -42,15 +44,15 @@ is_counted _ = true
 abbrev pub counts : ScoreStmt → Bool
 counts s = is_counted s.what
 
--- more different table numbers than may be, in the statements up to one
+-- more different table numbers than are allowed, in the statements up to one
 abbrev pub passes_tables : List ScoreStmt → ScoreStmt → Bool
 passes_tables upto s = nat_lt most_tables (different (numbers_of upto))
 
--- more `i` and `f` statements than may be
+-- more `i` and `f` statements than are allowed
 abbrev pub passes_events : List ScoreStmt → ScoreStmt → Bool
 passes_events upto s = nat_lt most_events (count_by counts upto)
 
--- the refusal of a limit at the line of a statement
+-- a limit hit at the line of a statement
 abbrev pub at_statement : Limit → Option ScoreStmt → Option LimitHit
 at_statement which None = None
 at_statement which (Some s) = Some (record { limit = which; line = s.line })
@@ -65,3 +67,9 @@ limit_of_score score =
 abbrev pub Passes : LimitHit → Result (List ScoreStmt) ScoreFault → Type 0
 Passes hit (Ok statements) = limit_of_score statements ≡ Some hit
 Passes hit (Err fault) = ⊥
+
+-- what a score is refused for: its first fault, else the first limit that its statements pass
+abbrev pub IsRefusedFor : Refusal → Result (List ScoreStmt) ScoreFault → Type 0
+IsRefusedFor (refusal.Score fault) meant = meant ≡ Err fault
+IsRefusedFor (refusal.Limit hit) meant = Passes hit meant
+IsRefusedFor (refusal.Orc fault) meant = ⊥

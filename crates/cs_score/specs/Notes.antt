@@ -1,9 +1,10 @@
 -- An `i` statement: its fields in order, then their count, and what it asks for.
 use Rattle.std.specs.Prelude.{ℕ, ◌+◌, ℤ, Bool, false, List, [], ◌∷◌, length, drop, nat_lt, slice_get, Option, Some, None, Result, Ok, Err, if◌then◌else◌}
 use Rattle.cs_base.specs.Decimals.{millionths_of}
+use Rattle.cs_base.specs.Limits.{greatest_field}
 use Rattle.cs_base.specs.declared.fault.ScoreKind.{ScoreKind}
 use Rattle.cs_base.specs.declared.fault.ScoreKind.TheVariants.{BadStatement, BadNumber, MissingField, NothingToCarry, NegativeTime}
-use Rattle.cs_score.specs.declared.field.Instrument.{Instrument}
+use Rattle.cs_score.specs.declared.field.InstrumentNumber.{InstrumentNumber}
 use Rattle.cs_score.specs.declared.field.Signed.{Signed}
 use Rattle.cs_score.specs.declared.field.Field.{Field}
 use Rattle.cs_score.specs.declared.field.Field.TheVariants.{Number, After, Ahead}
@@ -35,7 +36,7 @@ ok_or_zero (Ok n) = n
 ok_or_zero (Err _) = 0
 
 -- how much later than a note the next one by `+` starts: its p3 without the sign, and nothing after a stop
-abbrev pub gap_by : Result Instrument ScoreKind → Option Field → ℕ
+abbrev pub gap_by : Result InstrumentNumber ScoreKind → Option Field → ℕ
 gap_by (Ok instr) (Some (Number n)) = if instr.stop then 0 else size_of n
 gap_by _ _ = 0
 
@@ -55,14 +56,14 @@ abbrev pub zero : Signed
 zero = record { minus = false; size = record { whole = 0; billionths = 0 } }
 
 -- a note that lasts ends below the greatest beat; p3 of a stop is only a number
-abbrev pub as_length : Instrument → ℕ → Signed → Result Signed ScoreKind
+abbrev pub as_length : InstrumentNumber → ℕ → Signed → Result Signed ScoreKind
 as_length instr at n =
     if instr.stop then Ok n
     else if n.minus then Ok n
     else if nat_lt (at + size_of n) beats_end then Ok n else Err BadNumber
 
 -- p3; left off, it is 0
-abbrev pub p3_by : Instrument → ℕ → Option Field → Result Signed ScoreKind
+abbrev pub p3_by : InstrumentNumber → ℕ → Option Field → Result Signed ScoreKind
 p3_by instr at None = Ok zero
 p3_by instr at (Some f) = and_then (number_of NothingToCarry f) (as_length instr at)
 
@@ -72,36 +73,36 @@ values_of dot [] = Ok []
 values_of dot (f ∷ fs) = and_then (number_of dot f) (λ n. and_then (values_of dot fs) (λ zs. Ok (raw_of n ∷ zs)))
 
 -- the fewest fields: p1 and p2 of a stop, and p3 of a note
-abbrev pub fewest : Instrument → ℕ
+abbrev pub fewest : InstrumentNumber → ℕ
 fewest instr = if instr.stop then 2 else 3
 
 -- the count of fields is looked at last
-abbrev pub counted : Instrument → ℕ → ScoreWhat → Result ScoreWhat ScoreKind
+abbrev pub counted : InstrumentNumber → ℕ → ScoreWhat → Result ScoreWhat ScoreKind
 counted instr n what =
     if nat_lt n (fewest instr) then Err MissingField
-    else if nat_lt 100 n then Err BadStatement
+    else if nat_lt greatest_field n then Err BadStatement
     else Ok what
 
 -- a stop by its p1, a held note by its p3, or a note
-abbrev pub note_by : Instrument → ℕ → Signed → List ℤ → ScoreWhat
+abbrev pub note_by : InstrumentNumber → ℕ → Signed → List ℤ → ScoreWhat
 note_by instr at p3 more =
     if instr.stop then Stop instr.number at
     else if is_negative_time p3 then Hold instr.number at (raw_of p3) more
     else Note instr.number at (size_of p3) more
 
 -- when it starts, and its p3
-abbrev pub times_of : ℕ → Instrument → ℕ → Option Field → Result Times ScoreKind
+abbrev pub times_of : ℕ → InstrumentNumber → ℕ → Option Field → Result Times ScoreKind
 times_of base instr p2 p3 =
     and_then (start_of base p2) (λ at. and_then (p3_by instr at p3) (λ p3. Ok (record { at = at; p3 = p3 })))
 
 -- the fields from p4 on, then the count of all
-abbrev pub valued_note : Instrument → Times → List Field → Result ScoreWhat ScoreKind
+abbrev pub valued_note : InstrumentNumber → Times → List Field → Result ScoreWhat ScoreKind
 valued_note instr times fields =
     and_then (values_of NothingToCarry (drop 3 fields)) (λ more.
     counted instr (length fields) (note_by instr times.at times.p3 more))
 
 -- the fields after p1 in order, then their count
-abbrev pub note_of : ℕ → Instrument → Result ℕ ScoreKind → List Field → Result ScoreWhat ScoreKind
+abbrev pub note_of : ℕ → InstrumentNumber → Result ℕ ScoreKind → List Field → Result ScoreWhat ScoreKind
 note_of base instr p2 fields =
     and_then p2 (λ p2. and_then (times_of base instr p2 (slice_get fields 2)) (λ times.
     valued_note instr times fields))

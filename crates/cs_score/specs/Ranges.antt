@@ -1,7 +1,8 @@
 -- The ranges of a statement's values, which the layers above rest on.
 use Rattle.std.specs.Prelude.{ℕ, ◌≡◌, ◌+◌, ◌<◌, ◌≤◌, ◌≤ℤ◌, pos, List, [], ◌∷◌, length, Option, Some, None}
+use Rattle.cs_base.specs.Limits.{greatest_instrument, greatest_table}
 use Rattle.cs_gen.specs.Faults.{table_fault}
-use Rattle.cs_score.specs.declared.field.Instrument.{Instrument}
+use Rattle.cs_score.specs.declared.field.InstrumentNumber.{InstrumentNumber}
 use Rattle.cs_score.specs.declared.statement.TempoPoint.{TempoPoint}
 use Rattle.cs_score.specs.declared.statement.ScoreWhat.{ScoreWhat}
 use Rattle.cs_score.specs.declared.statement.ScoreWhat.TheVariants.{Note, Hold, Stop, Table, Extend, Tempo, Section}
@@ -13,16 +14,16 @@ beats_end = 10000000000000
 
 -- the numbers of instruments
 abbrev pub IsInstrument : ℕ → Type 0
-IsInstrument n = (1 ≤ n) × (n ≤ 32767)
+IsInstrument n = (1 ≤ n) × (n ≤ greatest_instrument)
 
 -- the number of an instrument, or 1 where there is none
-abbrev pub number_or_one : Option Instrument → ℕ
+abbrev pub number_or_one : Option InstrumentNumber → ℕ
 number_or_one None = 1
 number_or_one (Some instr) = instr.number
 
 -- the numbers of tables
 abbrev pub IsTableNumber : ℕ → Type 0
-IsTableNumber n = (1 ≤ n) × (n ≤ 65535)
+IsTableNumber n = (1 ≤ n) × (n ≤ greatest_table)
 
 -- a point of a tempo: its beat in range, and 1 to 60,000 beats a minute
 pub record IsTempoPoint (p : TempoPoint) : Type 0 where

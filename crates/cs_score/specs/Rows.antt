@@ -1,16 +1,16 @@
 -- The lines of a text that have a statement: its letter, its line number and its fields.
-use Rattle.std.specs.Prelude.{ℕ, Bool, List, [], ◌∷◌, ◌++◌, ◌+◌, ◌-◌, ◌==◌, not, map, take, drop, length, min, if◌then◌else◌}
+use Rattle.std.specs.Prelude.{ℕ, Bool, List, [], ◌∷◌, ◌++◌, ◌+◌, ◌-◌, ◌==◌, not, map, take, drop, if◌then◌else◌}
 use Rattle.std.specs.Char.{is_ascii_alphabetic}
 use Rattle.std.specs.List.{prefix_len}
 use Rattle.std.specs.Str.{byte}
 use Rattle.cs_base.specs.Comments.{comment_len}
-use Rattle.cs_base.specs.Lines.{begins, is_blank, is_feed, is_line_byte, line_after, space}
-use Rattle.cs_score.specs.declared.row.Letter.{Letter}
-use Rattle.cs_score.specs.declared.row.Letter.TheVariants as letter
+use Rattle.cs_base.specs.Lines.{Line, begins, is_blank, line_after, lines_of, space}
+use Rattle.cs_score.specs.declared.row.StatementLetter.{StatementLetter}
+use Rattle.cs_score.specs.declared.row.StatementLetter.TheVariants as letter
 use Rattle.cs_score.specs.declared.row.Row.{Row}
 use Rattle.cs_score.specs.Fields.{field_of}
 
--- how many bytes from here on are a comment, where so many are hidden by one that began before
+-- how many bytes from here on are a comment, where `hidden` of them are of one that began before
 abbrev pub hidden_here : ℕ → List ℕ → ℕ
 hidden_here hidden text = if hidden == 0 then comment_len text else hidden
 
@@ -23,22 +23,6 @@ plain_from hidden (b ∷ rest) =
 
 abbrev pub plain_of : List ℕ → List ℕ
 plain_of text = plain_from 0 text
-
--- a line: the place of its first byte, and its bytes
-pub record Line : Type 0 where
-  pub at : ℕ
-  pub bytes : List ℕ
-
-abbrev pub with_byte : ℕ → ℕ → List Line → List Line
-with_byte at b [] = record { at = at; bytes = b ∷ [] } ∷ []
-with_byte at b (l ∷ ls) = record { at = at; bytes = b ∷ l.bytes } ∷ ls
-
--- the lines of a text whose first byte has this place: line feeds end them
-abbrev pub lines_from : ℕ → List ℕ → List Line
-lines_from at [] = []
-lines_from at (b ∷ rest) =
-    if is_feed b then record { at = at; bytes = [] } ∷ lines_from (at + 1) rest
-    else with_byte at b (lines_from (at + 1) rest)
 
 abbrev pub with_first : ℕ → List (List ℕ) → List (List ℕ)
 with_first b [] = (b ∷ []) ∷ []
@@ -56,7 +40,7 @@ words (b ∷ rest) =
     else (b ∷ []) ∷ words rest
 
 -- what the first byte of a statement says
-abbrev pub letter_of : ℕ → Letter
+abbrev pub letter_of : ℕ → StatementLetter
 letter_of b =
     if b == byte "i" then letter.Note else if b == byte "f" then letter.Table
     else if b == byte "t" then letter.Tempo else if b == byte "b" then letter.Base
@@ -68,7 +52,7 @@ abbrev pub row_at : ℕ → List ℕ → List Row
 row_at line [] = []
 row_at line (b ∷ rest) = record { line = line; letter = letter_of b; fields = map field_of (words rest) } ∷ []
 
--- the statement of a line, if it has one; its line number is that of its letter
+-- the statement of a line, if it has one; its line number is that of its letter in the text with its comments
 abbrev pub row_of : List ℕ → Line → List Row
 row_of source l =
     let indent = prefix_len is_blank l.bytes in
@@ -78,10 +62,6 @@ abbrev pub rows_in : List ℕ → List Line → List Row
 rows_in source [] = []
 rows_in source (l ∷ ls) = row_of source l ++ rows_in source ls
 
--- the bytes of a text's first line, with its line feed
-abbrev pub next_len : List ℕ → ℕ
-next_len text = min (prefix_len is_line_byte text + 1) (length text)
-
 -- the statements of a text
 abbrev pub rows_of : List ℕ → List Row
-rows_of source = rows_in source (lines_from 0 (plain_of source))
+rows_of source = rows_in source (lines_of (plain_of source))

@@ -2,6 +2,7 @@
 use Rattle.std.specs.Prelude.{ℕ, ℤ, pos, Bool, true, false, List, [], ◌∷◌, ◌++◌, ◌&&◌, ◌==◌, not, length, drop, nat_le, nat_lt, slice_get, Option, Some, None, Result, Ok, Err, if◌then◌else◌}
 use Rattle.std.specs.Option.{option_or}
 use Rattle.std.specs.Ordering.{int_eq}
+use Rattle.cs_base.specs.Limits.{greatest_table}
 use Rattle.cs_base.specs.declared.fault.ScoreFault.{ScoreFault}
 use Rattle.cs_base.specs.declared.fault.ScoreKind.{ScoreKind}
 use Rattle.cs_base.specs.declared.fault.ScoreKind.TheVariants.{BadStatement, BadNumber, MissingField, BadTempo, BadGen, BadTableSize, TableResized, NotInProfile}
@@ -10,8 +11,8 @@ use Rattle.cs_gen.specs.declared.check.GenFault.TheVariants as gen
 use Rattle.cs_gen.specs.Faults.{table_fault}
 use Rattle.cs_score.specs.declared.field.Signed.{Signed}
 use Rattle.cs_score.specs.declared.field.Field.{Field}
-use Rattle.cs_score.specs.declared.row.Letter.{Letter}
-use Rattle.cs_score.specs.declared.row.Letter.TheVariants as letter
+use Rattle.cs_score.specs.declared.row.StatementLetter.{StatementLetter}
+use Rattle.cs_score.specs.declared.row.StatementLetter.TheVariants as letter
 use Rattle.cs_score.specs.declared.row.Row.{Row}
 use Rattle.cs_score.specs.declared.statement.TempoPoint.{TempoPoint}
 use Rattle.cs_score.specs.declared.statement.ScoreWhat.{ScoreWhat}
@@ -30,7 +31,7 @@ in_beats at = if nat_lt at beats_end then Ok at else Err BadNumber
 abbrev pub time_of : Field → Result ℕ ScoreKind
 time_of f = and_then (number_of BadNumber f) (λ n. and_then (as_time n) in_beats)
 
--- a field that isn't there reads as 0: it is missed when the fields are counted
+-- a missing field reads as 0; the count of fields reports it
 abbrev pub time_or_zero : Option Field → Result ℕ ScoreKind
 time_or_zero None = Ok 0
 time_or_zero (Some f) = time_of f
@@ -53,7 +54,7 @@ whole_at fs k = whole_or_zero (slice_get fs k)
 abbrev pub as_table_number : Signed → Result ℕ ScoreKind
 as_table_number n =
     if is_below_zero n then Err NotInProfile
-    else if is_whole n && nat_le n.size.whole 65535 then Ok n.size.whole
+    else if is_whole n && nat_le n.size.whole greatest_table then Ok n.size.whole
     else Err BadNumber
 
 abbrev pub table_number_at : List Field → Result ℕ ScoreKind
@@ -82,7 +83,7 @@ size_for number (Ok (Table m at size gen args)) = if m == number then Some size 
 size_for number _ = None
 
 -- the size that a statement gives a table
-abbrev pub size_by : ℕ → List Field → Letter → Option ℤ
+abbrev pub size_by : ℕ → List Field → StatementLetter → Option ℤ
 size_by number fs letter.Table = size_for number (written_table fs)
 size_by number fs _ = None
 
@@ -156,7 +157,7 @@ abbrev pub base_by : List Field → Result ℕ ScoreKind
 base_by [] = Err MissingField
 base_by (f ∷ fs) = and_then (time_of f) (λ base. and_then (values_of BadNumber fs) (λ _. Ok base))
 
-abbrev pub base_after : List Field → ℕ → Letter → ℕ
+abbrev pub base_after : List Field → ℕ → StatementLetter → ℕ
 base_after fs before letter.Base = ok_or_zero (base_by fs)
 base_after fs before letter.Section = 0
 base_after fs before _ = before
@@ -174,7 +175,7 @@ ended [] = Ok []
 ended (f ∷ fs) = Err NotInProfile
 
 -- what a row asks for after those above: one thing, or nothing
-abbrev pub asked_by : List Row → Row → Letter → Result (List ScoreWhat) ScoreKind
+abbrev pub asked_by : List Row → Row → StatementLetter → Result (List ScoreWhat) ScoreKind
 asked_by above row letter.Note = one (note (base_of above) (row ∷ above))
 asked_by above row letter.Table = one (table above row.fields)
 asked_by above row letter.Tempo = one (tempo_of row.fields)
@@ -203,7 +204,7 @@ statements_of above (row ∷ rows) =
     and_then (stated row.line (asked above row)) (λ these.
     and_then (statements_of (row ∷ above) rows) (λ more. Ok (these ++ more)))
 
-abbrev pub is_end : Letter → Bool
+abbrev pub is_end : StatementLetter → Bool
 is_end letter.End = true
 is_end _ = false
 

@@ -1,6 +1,5 @@
 -- What private clauses alone cite.
 pub mod Counts
 pub mod Past
-pub mod Refusals
 pub mod State
 pub mod Values

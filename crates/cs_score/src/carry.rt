@@ -7,10 +7,10 @@ ghost use Rattle.cs_score.specs.Ranges.{HasRange, IsInstrument, beats_end};
 ghost use Rattle.cs_score.specs.inner.State.{Ends, IsKept, IsLast, NoteAnswers, completed, filled, filled_one, instr_read, note_read, note_with, p1_before};
 ghost use Rattle.cs_score.specs.inner.Values.{AreValues};
 
-use crate::field::{Field, Instrument};
+use crate::field::{Field, InstrumentNumber};
 use crate::last::{LastNote, NoteRead};
-use crate::note::{Times, check_count, copied, field_at, gap, p1, p2, timed, values_or, what};
-use crate::refusal::Refusal;
+use crate::note::{Times, check_count, field_at, gap, p1, p2, timed, values_or, what};
+use crate::statement_fault::StatementFault;
 use cs_base::{Items, Nums};
 use std::alloc::{AllocError, Global};
 
@@ -20,7 +20,7 @@ pub fn read_note(
     base: u64,
     last: LastNote,
     written: Items<Field>,
-) -> Result<NoteRead, Refusal>
+) -> Result<NoteRead, StatementFault>
     requires { base < beats_end }
     ensures value { NoteAnswers result (note_read base last written) }
     ensures kept { IfOk result (λ read. IsKept last written read.last) }
@@ -36,8 +36,8 @@ fn note_with(
     base: u64,
     last: LastNote,
     written: Items<Field>,
-    instr: Instrument,
-) -> Result<NoteRead, Refusal>
+    instr: InstrumentNumber,
+) -> Result<NoteRead, StatementFault>
     requires base { base < beats_end }
     requires instr { instr_read last written ≡ Ok instr }
     requires in_range { IsInstrument instr.number }
@@ -57,10 +57,10 @@ fn note_with(
 fn note_of(
     alloc: Global,
     base: u64,
-    instr: Instrument,
+    instr: InstrumentNumber,
     p2: u64,
     carried: Carried,
-) -> Result<NoteRead, Refusal>
+) -> Result<NoteRead, StatementFault>
     requires base { base < beats_end }
     requires instr { IsInstrument instr.number }
     requires p2 { p2 < 2 ^ 63 }
@@ -75,11 +75,11 @@ fn note_of(
 // The statement after its p3.
 fn valued(
     alloc: Global,
-    instr: Instrument,
+    instr: InstrumentNumber,
     p2: u64,
     times: Times,
     carried: Carried,
-) -> Result<NoteRead, Refusal>
+) -> Result<NoteRead, StatementFault>
     requires instr { IsInstrument instr.number }
     requires p2 { p2 < beats_end }
     requires at { times.at < beats_end }
@@ -91,7 +91,7 @@ fn valued(
     let Carried { fields, taken } = carried;
     let more = values_or(alloc, taken, fields.as_slice())?;
     check_count(instr, fields.len())?;
-    let what = what(instr, times, copied(alloc, &more)?);
+    let what = what(instr, times, more.to_items(alloc)?);
     Ok(NoteRead {
         what,
         last: kept(instr, p2, fields, more),
@@ -99,7 +99,7 @@ fn valued(
 }
 
 // A statement continues the one before where both have the same p1.
-fn is_same(instr: Instrument, last: Option<Instrument>) -> bool
+fn is_same(instr: InstrumentNumber, last: Option<InstrumentNumber>) -> bool
     ensures { result ≡ is_same (Ok instr) (p1_before last) }
 {
     match last {
@@ -108,7 +108,7 @@ fn is_same(instr: Instrument, last: Option<Instrument>) -> bool
     }
 }
 
-fn kept(instr: Instrument, p2: u64, fields: Items<Field>, more: Nums) -> LastNote
+fn kept(instr: InstrumentNumber, p2: u64, fields: Items<Field>, more: Nums) -> LastNote
     requires instr { IsInstrument instr.number }
     requires p2 { p2 < beats_end }
     requires more { AreValues fields more }
@@ -124,7 +124,7 @@ fn kept(instr: Instrument, p2: u64, fields: Items<Field>, more: Nums) -> LastNot
     }
 }
 
-/// The fields of a statement, those of the one before in the place of each that is left to it.
+/// The statement's fields, with omitted ones filled from the previous `i`.
 #[derive(Drop)]
 pub struct Carried {
     pub fields: Items<Field>,
@@ -133,7 +133,7 @@ pub struct Carried {
     ghost taken_are_values: { IfSome taken (AreValues fields) } by { Prim.hlevel props },
 }
 
-// No field from p4 on is written in so many fields.
+// Fields up to p3: where no more are written, all from p4 on are taken.
 const UP_TO_P3: usize = 3;
 
 // The fields of a statement: from p4 on they are taken whole, with their values, where none of them is written.

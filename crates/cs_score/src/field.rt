@@ -19,7 +19,7 @@ pub struct Signed {
 
 /// p1 of an `i` statement: the number of an instrument, and whether a minus makes the statement a stop.
 #[derive(Clone, Copy, PartialEq, Eq)]
-pub struct Instrument {
+pub struct InstrumentNumber {
     pub number: u32,
     pub stop: bool,
 }

@@ -1,26 +1,24 @@
-// The statements of a score that are kept: all of them, until they pass a limit. What comes later is counted no more.
-ghost use Rattle.std.specs.Prelude.{◌≡◌, ◌≢◌, ◌++◌, ◌∷◌, [], ℕ, List, nat_lt, cond, All, IfOk, OnOk, Option, Some, None, Err, if◌then◌else◌};
+// The statements of a score that are kept: all of them, until they pass a limit. Those after that aren't counted.
+ghost use Rattle.std.specs.Prelude.{◌≡◌, ◌++◌, ◌∷◌, [], ℕ, List, nat_lt, cond, All, IfOk, OnOk, Option, Some, None, Err, if◌then◌else◌};
 ghost use Rattle.std.specs.Option.{is_none, option_or};
-ghost use Rattle.cs_base.specs.declared.fault.ScoreFault.{ScoreFault};
 ghost use Rattle.cs_base.specs.declared.limit.LimitHit.{LimitHit};
-ghost use Rattle.cs_score.specs.declared.refusal.ScoreRefusal.TheVariants as refusal;
 ghost use Rattle.cs_score.specs.declared.statement.ScoreStmt.{ScoreStmt};
 ghost use Rattle.cs_score.specs.Limits.{is_counted, limit_of_score, own_number};
 ghost use Rattle.cs_score.specs.Ranges.{IsInRange};
 ghost use Rattle.cs_score.specs.inner.Counts.{HasCount, HasNumbers, IsSeen, Holds};
 
-use crate::{ScoreRefusal, ScoreStmt, ScoreStmts, ScoreWhat};
+use crate::{ScoreStmt, ScoreStmts, ScoreWhat};
 use cs_base::{Limit, LimitHit, MOST_EVENTS, MOST_TABLES};
 use std::alloc::{AllocError, Global};
 
-/// The different table numbers so far, and the refusal of the table that gives one too many.
+/// The different table numbers so far, and the limit hit at the table that gives one too many.
 #[derive(Drop)]
 pub struct TableNumbers {
     pub seen: Vec<u32>,
     pub hit: Option<LimitHit>,
 }
 
-/// How many `i` and `f` statements there are so far, and the refusal of the one that is too many.
+/// How many `i` and `f` statements there are so far, and the limit hit at the one that is too many.
 #[derive(Drop)]
 pub struct EventCount {
     pub count: usize,
@@ -29,7 +27,7 @@ pub struct EventCount {
 
 /// What is kept of the statements so far: all of them, until they pass a limit.
 #[derive(Drop)]
-pub struct Kept {
+pub struct KeptStatements {
     pub statements: ScoreStmts,
     pub tables: TableNumbers,
     pub events: EventCount,
@@ -84,7 +82,7 @@ fn see_number(seen: &mut Vec<u32>, number: u32) -> Result<(), AllocError>
     Ok(())
 }
 
-// The refusal of a statement with which more is counted than may be.
+// The limit hit at a statement with which `count` is above `most`.
 fn hit(count: usize, most: usize, limit: Limit, line: u32) -> Option<LimitHit>
     ensures { result ≡ (if nat_lt most count then Some (record { limit = limit; line = line }) else None) }
 {
@@ -130,12 +128,12 @@ fn counted(what: &ScoreWhat) -> usize
     }
 }
 
-impl Kept {
-    pub fn new(alloc: Global) -> Kept
+impl KeptStatements {
+    pub fn new(alloc: Global) -> KeptStatements
         ensures keeps { Holds [] result }
         ensures none { result.statements ≡ [] }
     {
-        Kept {
+        KeptStatements {
             statements: ScoreStmts::new(alloc),
             tables: TableNumbers::new(alloc),
             events: EventCount::new(),
@@ -165,16 +163,15 @@ impl Kept {
     }
 
     /// The statements, or the first limit that they pass.
-    pub fn answer(self) -> Result<ScoreStmts, ScoreRefusal>
+    pub fn answer(self) -> Result<ScoreStmts, LimitHit>
         ensures statements { (all : List ScoreStmt) → Holds all self
             → IfOk result (λ statements. (statements ≡ all) × (limit_of_score all ≡ None)) }
         ensures kept { IfOk result (λ statements. statements ≡ self.statements) }
         ensures limit { (all : List ScoreStmt) (hit : LimitHit) → Holds all self
-            → result ≡ Err (refusal.Limit hit) → limit_of_score all ≡ Some hit }
-        ensures fault { (f : ScoreFault) → result ≢ Err (refusal.Fault f) }
+            → result ≡ Err hit → limit_of_score all ≡ Some hit }
     {
         match self.hit() {
-            Some(hit) => Err(ScoreRefusal::Limit(hit)),
+            Some(hit) => Err(hit),
             None => Ok(self.statements),
         }
     }

@@ -4,7 +4,7 @@ ghost use Rattle.cs_score.specs.Ranges.{IsInstrument, number_or_one, beats_end};
 ghost use Rattle.cs_score.specs.inner.Values.{AreValues};
 
 use crate::ScoreWhat;
-use crate::field::{Field, Instrument};
+use crate::field::{Field, InstrumentNumber};
 use cs_base::{Items, Nums};
 use std::alloc::Global;
 
@@ -12,7 +12,7 @@ use std::alloc::Global;
 #[derive(Drop)]
 pub struct LastNote {
     /// p1; `None` where no `i` statement stands right before.
-    pub instr: Option<Instrument>,
+    pub instr: Option<InstrumentNumber>,
     /// p2 before the base was added, in millionths.
     pub p2: u64,
     /// How much later the next note by `+` starts, in millionths.

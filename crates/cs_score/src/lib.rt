@@ -1,16 +1,16 @@
 //! Reads a score's text into statements, or refuses it at its first fault.
 //!
-//! Its one contract: `read_score` answers what `score_of` (specs/Statements.antt) says of the whole text: the line and
+//! Its one contract: `read_score` returns what `score_of` (specs/Statements.antt) says of the whole text: the line and
 //! kind of its first fault, else the first limit that its statements pass (specs/Limits.antt), else the statements in
 //! order, each value in its range (specs/Ranges.antt). There each field of an `i` statement looks back through the
 //! statements before it for what it carries (specs/Carry.antt), and so do the base and the first size of a table; the
 //! code keeps the last row, filled, and its values, and never looks back. How it does so (`comment`, `line`, `last`,
 //! `past`, `kept`, and specs/inner/) may be changed without anyone above noticing.
 //!
-//! To be read in this order: `statement` (what comes out), `refusal` (or what it is refused for), `read` (the one pass),
-//! `line` and `comment` (the text), `row` and `field` (what a line writes), `note`, `table` and `tempo` (what statements
+//! To be read in this order: `statement` (what comes out), `read` (the one pass), `line` and `comment` (the text),
+//! `row` and `field` (what a line writes), `note`, `table` and `tempo` (what statements
 //! ask for), `carry` and `last` (what an `i` takes from the one before), `past` and `statements` (what is kept from
-//! statement to statement), `kept` (the statements up to a limit), `laws`.
+//! statement to statement), `kept` (the statements up to a limit), `laws`, `worked` (scores read by the definitions).
 #![tactic(auto)]
 
 mod carry;
@@ -23,14 +23,18 @@ mod line;
 mod note;
 mod past;
 mod read;
-mod refusal;
 mod row;
 mod statement;
+mod statement_fault;
 mod statements;
 mod table;
 mod tempo;
+mod worked;
 
 pub use laws::tables_keep_one_size;
 pub use read::read_score;
-pub use refusal::ScoreRefusal;
 pub use statement::{ScoreStmt, ScoreStmts, ScoreWhat, TempoPoint, TempoPoints};
+pub use worked::{
+    fields_worked_by_hand, order_of_refusals_worked_by_hand, refusals_worked_by_hand,
+    starts_worked_by_hand,
+};

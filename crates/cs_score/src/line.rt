@@ -2,11 +2,11 @@
 ghost use Rattle.std.specs.Prelude.{◌≡◌, ◌<◌, ◌≤◌, ◌+◌, ◌-◌, ◌++◌, drop, take, length, count_by, IfOk};
 ghost use Rattle.std.specs.Option.{option_to_list};
 ghost use Rattle.cs_base.specs.Limits.{most_score_bytes};
-ghost use Rattle.cs_base.specs.Lines.{line_after};
-ghost use Rattle.cs_score.specs.Rows.{lines_from, next_len, row_at, rows_in};
+ghost use Rattle.cs_base.specs.Lines.{line_after, lines_from};
+ghost use Rattle.cs_score.specs.Rows.{row_at, rows_in};
 
-use crate::row::{Letter, Row, blanks_len, fields_of};
-use cs_base::{feeds, line_len};
+use crate::row::{Row, StatementLetter, fields_of};
+use cs_base::{blanks_len, feeds, line_len, next_len};
 use std::alloc::{AllocError, Global};
 
 /// A line that was read: its statement, if it has one, and the place and the line number of what follows.
@@ -29,8 +29,8 @@ pub fn read_line(
     requires plain { length plain.now ≡ length text.now }
     requires at { at < length plain.now }
     requires line { line ≡ line_after (take at text.now) }
-    ensures row { IfOk result (λ r. rows_in text.now (lines_from at (drop at plain.now))
-        ≡ option_to_list r.row ++ rows_in text.now (lines_from r.next (drop r.next plain.now))) }
+    ensures row { IfOk result (λ r. rows_in text.now (lines_from 1 at (drop at plain.now))
+        ≡ option_to_list r.row ++ rows_in text.now (lines_from 1 r.next (drop r.next plain.now))) }
     ensures next { IfOk result (λ r. (at < r.next) × (r.next ≤ length plain.now)) }
     ensures line { IfOk result (λ r. r.line ≡ line_after (take r.next text.now)) }
 {
@@ -46,13 +46,6 @@ pub fn read_line(
         next,
         line: line_on(text, row_line, letter, next),
     })
-}
-
-// The bytes of a line with its line feed.
-fn next_len(text: &[u8]) -> usize
-    ensures { result ≡ next_len text.now }
-{
-    (line_len(text) + 1).min(text.len())
 }
 
 // The line number at a place, from that at an earlier one.
@@ -74,7 +67,7 @@ fn row_at(alloc: Global, line: u32, text: &[u8]) -> Result<Option<Row>, AllocErr
         [] => Ok(None),
         [first, others @ ..] => Ok(Some(Row {
             line,
-            letter: Letter::of(*first),
+            letter: StatementLetter::of(*first),
             fields: fields_of(alloc, others)?,
         })),
     }

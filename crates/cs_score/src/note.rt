@@ -1,5 +1,6 @@
 // An `i` statement: what it writes, what it takes from the one before, and what it asks for.
 ghost use Rattle.std.specs.Prelude.{◌≡◌, ◌<◌, ◌≤◌, ◌+◌, ◌-◌, ◌^◌, Some, Ok, Err, IfOk, OnOk, IfSome, pos, unwrap_or, slice_get, drop, length, unsigned_abs, ℤ};
+ghost use Rattle.cs_base.specs.Limits.{greatest_field};
 ghost use Rattle.cs_base.specs.declared.fault.ScoreKind.TheVariants.{NothingToCarry};
 ghost use Rattle.cs_score.specs.Ranges.{IsInstrument, number_or_one, HasRange, beats_end};
 ghost use Rattle.cs_score.specs.declared.statement.ScoreWhat.{ScoreWhat};
@@ -9,22 +10,19 @@ ghost use Rattle.cs_score.specs.inner.State.{Answers, Ends, p1_before};
 ghost use Rattle.cs_score.specs.inner.Values.{AreValues};
 
 use crate::ScoreWhat;
-use crate::field::{Field, Instrument, Signed};
-use crate::refusal::Refusal;
-use cs_base::{Decimal, Items, Nums, ScoreKind};
-use std::alloc::{AllocError, Global};
+use crate::field::{Field, InstrumentNumber, Signed};
+use crate::statement_fault::StatementFault;
+use cs_base::{Decimal, GREATEST_FIELD, GREATEST_INSTRUMENT, Items, Nums, ScoreKind};
+use std::alloc::Global;
 
-/// The millionths of 10,000,000 beats: every beat lies before.
+/// Exclusive upper bound of a beat, in millionths: 10,000,000 beats.
 pub const BEATS_END: u64 = 10_000_000_000_000;
 
-/// The greatest number of an instrument.
-const INSTRUMENTS: u32 = 32_767;
-
-/// The most fields of an `i` statement.
-const FIELDS: usize = 100;
-
 // p1, which an `i` statement may leave to the one right before.
-pub fn p1(written: Option<Field>, before: Option<Instrument>) -> Result<Instrument, ScoreKind>
+pub fn p1(
+    written: Option<Field>,
+    before: Option<InstrumentNumber>,
+) -> Result<InstrumentNumber, ScoreKind>
     requires { IsInstrument (number_or_one before) }
     ensures value { result ≡ p1_by written (p1_before before) }
     ensures range { IfOk result (λ instr. IsInstrument instr.number) }
@@ -36,15 +34,15 @@ pub fn p1(written: Option<Field>, before: Option<Instrument>) -> Result<Instrume
 }
 
 // An instrument number, with a minus for a stop.
-fn instrument(n: Signed) -> Result<Instrument, ScoreKind>
+fn instrument(n: Signed) -> Result<InstrumentNumber, ScoreKind>
     ensures value { result ≡ as_instrument n }
     ensures range { IfOk result (λ instr. IsInstrument instr.number) }
 {
     if !n.is_whole() {
         return Err(ScoreKind::NotInProfile);
     }
-    if 1 <= n.size.whole && n.size.whole <= INSTRUMENTS {
-        Ok(Instrument {
+    if 1 <= n.size.whole && n.size.whole <= GREATEST_INSTRUMENT {
+        Ok(InstrumentNumber {
             number: n.size.whole,
             stop: n.minus,
         })
@@ -64,7 +62,7 @@ pub fn time(n: Signed) -> Result<u64, ScoreKind>
     }
 }
 
-// p2 before the base is added, where the note before starts at `before` and the next one by `+` so much later.
+// p2 before the base is added, where the note before starts at `before` and the next one by `+` starts `gap` later.
 pub fn p2(continuing: bool, before: u64, gap: u64, written: Option<Field>) -> Result<u64, ScoreKind>
     requires before { before < beats_end }
     requires gap { gap < 2 ^ 62 }
@@ -91,7 +89,7 @@ fn moved(continuing: bool, before: u64, distance: u64) -> Result<u64, ScoreKind>
 }
 
 // How much later than this one the next note by `+` starts.
-pub fn gap(instr: Instrument, p3: Option<Field>) -> u64
+pub fn gap(instr: InstrumentNumber, p3: Option<Field>) -> u64
     ensures value { result ≡ gap_by (Ok instr) p3 }
     ensures small { result < 2 ^ 62 }
 {
@@ -116,7 +114,7 @@ fn start(base: u64, p2: u64) -> Result<u64, ScoreKind>
 }
 
 // p3 of a note that starts at `at`; left off, it is 0.
-fn p3(instr: Instrument, at: u64, written: Option<Field>) -> Result<Signed, ScoreKind>
+fn p3(instr: InstrumentNumber, at: u64, written: Option<Field>) -> Result<Signed, ScoreKind>
     requires { at < beats_end }
     ensures value { result ≡ p3_by instr at written }
     ensures ends { IfOk result (Ends instr at) }
@@ -143,7 +141,7 @@ pub struct Times {
 /// The start, with the base, and p3.
 pub fn timed(
     base: u64,
-    instr: Instrument,
+    instr: InstrumentNumber,
     p2: u64,
     written: Option<Field>,
 ) -> Result<Times, ScoreKind>
@@ -159,7 +157,7 @@ pub fn timed(
 }
 
 // A note that lasts ends below the greatest beat; p3 of a stop is only a number.
-fn length(instr: Instrument, at: u64, n: Signed) -> Result<Signed, ScoreKind>
+fn length(instr: InstrumentNumber, at: u64, n: Signed) -> Result<Signed, ScoreKind>
     requires { at < beats_end }
     ensures value { result ≡ as_length instr at n }
     ensures ends { IfOk result (Ends instr at) }
@@ -172,7 +170,7 @@ fn length(instr: Instrument, at: u64, n: Signed) -> Result<Signed, ScoreKind>
 }
 
 /// The values of fields that are all numbers. A `.` that nothing fills is refused as `dot`.
-pub fn values(alloc: Global, dot: ScoreKind, fields: &[Field]) -> Result<Nums, Refusal>
+pub fn values(alloc: Global, dot: ScoreKind, fields: &[Field]) -> Result<Nums, StatementFault>
     ensures value { Answers result (values_of dot fields.now) }
     ensures len { IfOk result (λ values. length values ≡ length fields.now) }
 {
@@ -185,7 +183,11 @@ pub fn values(alloc: Global, dot: ScoreKind, fields: &[Field]) -> Result<Nums, R
 }
 
 /// The values of the fields from p4 on, which may be `taken` from the statement before.
-pub fn values_or(alloc: Global, taken: Option<Nums>, fields: &[Field]) -> Result<Nums, Refusal>
+pub fn values_or(
+    alloc: Global,
+    taken: Option<Nums>,
+    fields: &[Field],
+) -> Result<Nums, StatementFault>
     requires { IfSome taken (AreValues fields.now) }
     ensures value { Answers result (values_of NothingToCarry (drop 3 fields.now)) }
     ensures values { IfOk result (AreValues fields.now) }
@@ -196,29 +198,23 @@ pub fn values_or(alloc: Global, taken: Option<Nums>, fields: &[Field]) -> Result
     }
 }
 
-pub fn copied(alloc: Global, values: &Nums) -> Result<Nums, AllocError>
-    ensures { IfOk result (λ copy. copy ≡ values.now) }
-{
-    Ok(Nums::from_vec(values.as_slice().to_vec(alloc)?))
-}
-
-/// The count of fields is looked at last.
-pub fn check_count(instr: Instrument, count: usize) -> Result<(), ScoreKind>
+/// Checks the count of fields, which is looked at last.
+pub fn check_count(instr: InstrumentNumber, count: usize) -> Result<(), ScoreKind>
     ensures value { (what : ScoreWhat) → counted instr count what ≡ and_then result (λ _. Ok what) }
-    ensures few { OnOk result (count ≤ 100) }
+    ensures few { OnOk result (count ≤ greatest_field) }
 {
     let fewest = if instr.stop { 2 } else { 3 };
     if count < fewest {
         return Err(ScoreKind::MissingField);
     }
-    if count > FIELDS {
+    if count > GREATEST_FIELD {
         return Err(ScoreKind::BadStatement);
     }
     Ok(())
 }
 
 /// A stop by its p1, a held note by its p3, or a note.
-pub fn what(instr: Instrument, times: Times, more: Nums) -> ScoreWhat
+pub fn what(instr: InstrumentNumber, times: Times, more: Nums) -> ScoreWhat
     requires instr { IsInstrument instr.number }
     requires at { times.at < beats_end }
     requires ends { Ends instr times.at times.p3 }

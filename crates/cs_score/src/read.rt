@@ -3,43 +3,43 @@ ghost use Rattle.std.specs.Prelude.{◌≡◌, ◌≤◌, length, Some, None, Re
 ghost use Rattle.cs_base.specs.Limits.{most_score_bytes};
 ghost use Rattle.cs_base.specs.declared.fault.ScoreFault.{ScoreFault};
 ghost use Rattle.cs_base.specs.declared.fault.Or.TheVariants as or;
-ghost use Rattle.cs_base.specs.declared.limit.LimitHit.{LimitHit};
-ghost use Rattle.cs_score.specs.declared.refusal.ScoreRefusal.TheVariants as refusal;
-ghost use Rattle.cs_score.specs.Limits.{Passes, limit_of_score};
+ghost use Rattle.cs_base.specs.declared.refusal.Refusal.{Refusal};
+ghost use Rattle.cs_score.specs.Limits.{IsRefusedFor, limit_of_score};
 ghost use Rattle.cs_score.specs.inner.Counts.{IsWhole};
 ghost use Rattle.cs_score.specs.inner.Past.{IsFaultOf, LineTaken, RowRead};
 ghost use Rattle.cs_score.specs.Ranges.{IsInRange};
 ghost use Rattle.cs_score.specs.Statements.{is_end, score_of};
 
 use crate::comment::plain;
-use crate::kept::Kept;
+use crate::kept::KeptStatements;
 use crate::line::read_line;
 use crate::past::Past;
-use crate::refusal::Refusal;
-use crate::row::{Letter, Row};
-use crate::{ScoreRefusal, ScoreStmt, ScoreStmts};
-use cs_base::{Or, ScoreFault};
+use crate::row::{Row, StatementLetter};
+use crate::statement_fault::StatementFault;
+use crate::{ScoreStmt, ScoreStmts};
+use cs_base::{Or, Refusal, ScoreFault};
 use std::alloc::Global;
 
 /// Reads a score of at most 4,194,304 bytes into its statements, or finds its first fault, else the first limit that
 /// its statements pass: that on table numbers, else that on statements. What is carried and the base of a section are
 /// resolved.
-pub fn read_score(alloc: Global, text: &[u8]) -> Result<ScoreStmts, ScoreRefusal>
+pub fn read_score(alloc: Global, text: &[u8]) -> Result<ScoreStmts, Or<Refusal>>
     requires { length text.now ≤ most_score_bytes }
     ensures statements { IfOk result (λ statements. score_of text.now ≡ Ok statements) }
     ensures within { IfOk result (λ statements. limit_of_score statements ≡ None) }
     ensures ranges { IfOk result (λ statements. All IsInRange statements) }
     // The first fault of the whole text, also where a limit is passed before it.
-    ensures fault { (f : ScoreFault) → result ≡ Err (refusal.Fault f) → score_of text.now ≡ Err f }
-    ensures limit { (hit : LimitHit) → result ≡ Err (refusal.Limit hit)
-        → Passes hit (score_of text.now) }
+    ensures refused { (r : Refusal) → result ≡ Err (or.Fault r) → IsRefusedFor r (score_of text.now) }
 {
     let kept = read_all(alloc, text)?;
-    kept.answer()
+    match kept.answer() {
+        Ok(statements) => Ok(statements),
+        Err(hit) => Err(Or::Fault(Refusal::Limit(hit))),
+    }
 }
 
 // Reads the whole text; of its statements those are kept that pass no limit.
-fn read_all(alloc: Global, text: &[u8]) -> Result<Kept, Or<ScoreFault>>
+fn read_all(alloc: Global, text: &[u8]) -> Result<KeptStatements, Or<ScoreFault>>
     requires { length text.now ≤ most_score_bytes }
     ensures whole { IfOk result (IsWhole text.now) }
     ensures ranges { IfOk result (λ kept. All IsInRange kept.statements) }
@@ -47,7 +47,7 @@ fn read_all(alloc: Global, text: &[u8]) -> Result<Kept, Or<ScoreFault>>
 {
     let plain = plain(alloc, text)?;
     let mut past = Past::new(alloc);
-    let mut kept = Kept::new(alloc);
+    let mut kept = KeptStatements::new(alloc);
     let mut at = 0;
     let mut line = 1;
     while at < plain.len() {
@@ -62,11 +62,11 @@ fn read_all(alloc: Global, text: &[u8]) -> Result<Kept, Or<ScoreFault>>
     Ok(kept)
 }
 
-// Adds the statement of a line that has one. Answers whether it was an `e`.
+// Adds the statement of a line that has one. Returns whether it was an `e`.
 fn read_row(
     alloc: Global,
     past: &mut Past,
-    kept: &mut Kept,
+    kept: &mut KeptStatements,
     row: Option<Row>,
 ) -> Result<bool, Or<ScoreFault>>
     ensures read { IfOk result (λ ends. LineTaken past.old kept.old row ends past.new kept.new) }
@@ -84,17 +84,17 @@ fn read_row(
     }
 }
 
-fn is_end(letter: Letter) -> bool
+fn is_end(letter: StatementLetter) -> bool
     ensures { result ≡ is_end letter }
 {
-    matches!(letter, Letter::End)
+    matches!(letter, StatementLetter::End)
 }
 
 // Adds a statement, with its line.
 fn read_statement(
     alloc: Global,
     past: &mut Past,
-    kept: &mut Kept,
+    kept: &mut KeptStatements,
     row: Row,
 ) -> Result<(), Or<ScoreFault>>
     ensures read { OnOk result (RowRead past.old kept.old row past.new kept.new) }
@@ -109,7 +109,7 @@ fn read_statement(
             kept.take(ScoreStmt { line, what })?;
             Ok(())
         }
-        Err(Refusal::Fault(kind)) => Err(Or::Fault(ScoreFault { line, kind })),
-        Err(Refusal::OutOfMemory) => Err(Or::OutOfMemory),
+        Err(StatementFault::Kind(kind)) => Err(Or::Fault(ScoreFault { line, kind })),
+        Err(StatementFault::OutOfMemory) => Err(Or::OutOfMemory),
     }
 }

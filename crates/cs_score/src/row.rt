@@ -2,7 +2,6 @@
 ghost use Rattle.std.specs.Prelude.{◌≡◌, ◌<◌, ◌≤◌, drop, length, map, IfOk};
 ghost use Rattle.std.specs.List.{prefix_len};
 ghost use Rattle.cs_score.specs.Fields.{field_of};
-ghost use Rattle.cs_base.specs.Lines.{is_blank};
 ghost use Rattle.cs_score.specs.Rows.{letter_of, is_word_byte, words};
 
 use crate::field::Field;
@@ -11,7 +10,7 @@ use std::alloc::{AllocError, Global};
 
 /// What the first byte of a statement says.
 #[derive(Clone, Copy)]
-pub enum Letter {
+pub enum StatementLetter {
     /// `i`
     Note,
     /// `f`
@@ -30,19 +29,19 @@ pub enum Letter {
     Stray,
 }
 
-impl Letter {
-    pub fn of(byte: u8) -> Letter
+impl StatementLetter {
+    pub fn of(byte: u8) -> StatementLetter
         ensures { result ≡ letter_of byte }
     {
         match byte {
-            b'i' => Letter::Note,
-            b'f' => Letter::Table,
-            b't' => Letter::Tempo,
-            b'b' => Letter::Base,
-            b's' => Letter::Section,
-            b'e' => Letter::End,
-            _ if byte.is_ascii_alphabetic() => Letter::Other,
-            _ => Letter::Stray,
+            b'i' => StatementLetter::Note,
+            b'f' => StatementLetter::Table,
+            b't' => StatementLetter::Tempo,
+            b'b' => StatementLetter::Base,
+            b's' => StatementLetter::Section,
+            b'e' => StatementLetter::End,
+            _ if byte.is_ascii_alphabetic() => StatementLetter::Other,
+            _ => StatementLetter::Stray,
         }
     }
 }
@@ -51,7 +50,7 @@ impl Letter {
 #[derive(Drop)]
 pub struct Row {
     pub line: u32,
-    pub letter: Letter,
+    pub letter: StatementLetter,
     pub fields: Items<Field>,
 }
 
@@ -71,13 +70,6 @@ pub fn fields_of(alloc: Global, line: &[u8]) -> Result<Items<Field>, AllocError>
         }
     }
     Ok(fields)
-}
-
-pub fn blanks_len(text: &[u8]) -> usize
-    ensures value { result ≡ prefix_len is_blank text.now }
-    ensures within { result ≤ length text.now }
-{
-    text.iter().take_while(|byte| is_blank(**byte)).count()
 }
 
 fn word_len(text: &[u8]) -> usize

@@ -2,7 +2,7 @@
 ghost use Rattle.std.specs.Prelude.{ℕ, ◌≡◌, ◌==◌, Some, None, Ok, if◌then◌else◌, OnOk, IfOk, IfSome, nat_eq};
 ghost use Rattle.std.specs.HashMap.{get};
 ghost use Rattle.std.specs.Option.{option_or};
-ghost use Rattle.cs_score.specs.declared.row.Letter.TheVariants as letter;
+ghost use Rattle.cs_score.specs.declared.row.StatementLetter.TheVariants as letter;
 ghost use Rattle.cs_score.specs.Ranges.{HasRange};
 ghost use Rattle.cs_score.specs.Statements.{size_for};
 ghost use Rattle.cs_score.specs.inner.Past.{AskedAnswers, Follows, HasRangeOrNothing, asked_after};
@@ -11,8 +11,8 @@ use crate::ScoreWhat;
 use crate::carry::read_note;
 use crate::last::LastNote;
 use crate::past::Past;
-use crate::refusal::Refusal;
-use crate::row::{Letter, Row};
+use crate::row::{Row, StatementLetter};
+use crate::statement_fault::StatementFault;
 use crate::table::{Sizes, base, first_size, refusal, written_table};
 use crate::tempo::tempo;
 use cs_base::ScoreKind;
@@ -35,24 +35,24 @@ impl Past {
     }
 
     /// What a statement asks for after those that were read: one thing, or nothing.
-    pub fn read(&mut self, alloc: Global, row: Row) -> Result<Option<ScoreWhat>, Refusal>
+    pub fn read(&mut self, alloc: Global, row: Row) -> Result<Option<ScoreWhat>, StatementFault>
         ensures value { AskedAnswers result (asked_after self.old row row.letter) }
         ensures follows { OnOk result (Follows self.old row self.new) }
         ensures range { IfOk result HasRangeOrNothing }
     {
         match row.letter {
-            Letter::Note => self.note(alloc, row),
-            Letter::Table => self.table(alloc, row),
-            Letter::Tempo => self.tempo(alloc, row),
-            Letter::Base => self.base(alloc, row),
-            Letter::Section => Ok(self.section(row)),
-            Letter::End => self.end(row),
-            Letter::Other => Err(ScoreKind::NotInProfile.into()),
-            Letter::Stray => Err(ScoreKind::BadStatement.into()),
+            StatementLetter::Note => self.note(alloc, row),
+            StatementLetter::Table => self.table(alloc, row),
+            StatementLetter::Tempo => self.tempo(alloc, row),
+            StatementLetter::Base => self.base(alloc, row),
+            StatementLetter::Section => Ok(self.section(row)),
+            StatementLetter::End => self.end(row),
+            StatementLetter::Other => Err(ScoreKind::NotInProfile.into()),
+            StatementLetter::Stray => Err(ScoreKind::BadStatement.into()),
         }
     }
 
-    fn note(&mut self, alloc: Global, row: Row) -> Result<Option<ScoreWhat>, Refusal>
+    fn note(&mut self, alloc: Global, row: Row) -> Result<Option<ScoreWhat>, StatementFault>
         requires { row.letter ≡ letter.Note }
         ensures value { AskedAnswers result (asked_after self.old row letter.Note) }
         ensures follows { OnOk result (Follows self.old row self.new) }
@@ -64,7 +64,7 @@ impl Past {
         Ok(Some(read.what))
     }
 
-    fn table(&mut self, alloc: Global, row: Row) -> Result<Option<ScoreWhat>, Refusal>
+    fn table(&mut self, alloc: Global, row: Row) -> Result<Option<ScoreWhat>, StatementFault>
         requires { row.letter ≡ letter.Table }
         ensures value { AskedAnswers result (asked_after self.old row letter.Table) }
         ensures follows { OnOk result (Follows self.old row self.new) }
@@ -79,7 +79,7 @@ impl Past {
         Ok(Some(what))
     }
 
-    fn tempo(&mut self, alloc: Global, row: Row) -> Result<Option<ScoreWhat>, Refusal>
+    fn tempo(&mut self, alloc: Global, row: Row) -> Result<Option<ScoreWhat>, StatementFault>
         requires { row.letter ≡ letter.Tempo }
         ensures value { AskedAnswers result (asked_after self.old row letter.Tempo) }
         ensures follows { OnOk result (Follows self.old row self.new) }
@@ -90,7 +90,7 @@ impl Past {
         Ok(Some(what))
     }
 
-    fn base(&mut self, alloc: Global, row: Row) -> Result<Option<ScoreWhat>, Refusal>
+    fn base(&mut self, alloc: Global, row: Row) -> Result<Option<ScoreWhat>, StatementFault>
         requires { row.letter ≡ letter.Base }
         ensures value { AskedAnswers result (asked_after self.old row letter.Base) }
         ensures follows { OnOk result (Follows self.old row self.new) }
@@ -112,7 +112,7 @@ impl Past {
         Some(ScoreWhat::Section)
     }
 
-    fn end(&mut self, row: Row) -> Result<Option<ScoreWhat>, Refusal>
+    fn end(&mut self, row: Row) -> Result<Option<ScoreWhat>, StatementFault>
         requires { row.letter ≡ letter.End }
         ensures value { AskedAnswers result (asked_after self.old row letter.End) }
         ensures follows { OnOk result (Follows self.old row self.new) }

@@ -10,14 +10,11 @@ ghost use Rattle.cs_score.specs.inner.State.{Answers, HasWrittenRange};
 use crate::ScoreWhat;
 use crate::field::{Field, Signed};
 use crate::note::{BEATS_END, rest, time, values};
-use crate::refusal::Refusal;
-use cs_base::{Nums, ScoreKind};
+use crate::statement_fault::StatementFault;
+use cs_base::{GREATEST_TABLE, Nums, ScoreKind};
 use cs_gen::{GenFault, check_table};
 use std::alloc::Global;
 use std::collections::HashMap;
-
-/// The greatest number of a table.
-const TABLES: u32 = 65_535;
 
 /// The size that the first `f` of each number gave.
 pub type Sizes = HashMap<u32, i64>;
@@ -35,7 +32,7 @@ fn beats(field: Field) -> Result<u64, ScoreKind>
     }
 }
 
-// A field that isn't there reads as 0: it is missed when the fields are counted.
+// A missing field reads as 0; the count check afterwards reports it.
 fn time_at(fields: &[Field], k: usize) -> Result<u64, ScoreKind>
     ensures value { result ≡ time_at fields.now k }
     ensures below { IfOk result (λ at. at < beats_end) }
@@ -84,7 +81,7 @@ fn table_number(n: Signed) -> Result<u32, ScoreKind>
     if n.is_below_zero() {
         return Err(ScoreKind::NotInProfile);
     }
-    if n.is_whole() && n.size.whole <= TABLES {
+    if n.is_whole() && n.size.whole <= GREATEST_TABLE {
         Ok(n.size.whole)
     } else {
         Err(ScoreKind::BadNumber)
@@ -92,7 +89,7 @@ fn table_number(n: Signed) -> Result<u32, ScoreKind>
 }
 
 /// An `f` by its fields alone: a table, or the extension of a section by `f 0 time`.
-pub fn written_table(alloc: Global, fields: &[Field]) -> Result<ScoreWhat, Refusal>
+pub fn written_table(alloc: Global, fields: &[Field]) -> Result<ScoreWhat, StatementFault>
     ensures value { Answers result (written_table fields.now) }
     ensures range { IfOk result HasWrittenRange }
 {
@@ -117,7 +114,7 @@ fn extend(fields: &[Field]) -> Result<ScoreWhat, ScoreKind>
 }
 
 // The fields of a table in order, then their count.
-fn table(alloc: Global, number: u32, fields: &[Field]) -> Result<ScoreWhat, Refusal>
+fn table(alloc: Global, number: u32, fields: &[Field]) -> Result<ScoreWhat, StatementFault>
     requires { IsTableNumber number }
     ensures value { Answers result (table_by number fields.now) }
     ensures range { IfOk result HasWrittenRange }
@@ -195,7 +192,7 @@ fn table_refusal(fault: Option<GenFault>, resized: bool) -> Option<ScoreKind>
 }
 
 /// The base that a `b` gives; its further fields are numbers, and no more is asked of them.
-pub fn base(alloc: Global, fields: &[Field]) -> Result<u64, Refusal>
+pub fn base(alloc: Global, fields: &[Field]) -> Result<u64, StatementFault>
     ensures value { Answers result (base_by fields.now) }
     ensures below { IfOk result (λ base. base < beats_end) }
 {

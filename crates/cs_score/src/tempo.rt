@@ -6,7 +6,7 @@ ghost use Rattle.cs_score.specs.inner.State.{Answers};
 
 use crate::field::{Field, Signed};
 use crate::note::BEATS_END;
-use crate::refusal::Refusal;
+use crate::statement_fault::StatementFault;
 use crate::{ScoreWhat, TempoPoint, TempoPoints};
 use cs_base::ScoreKind;
 use std::alloc::Global;
@@ -17,7 +17,7 @@ const SLOWEST: u64 = 1_000_000;
 const FASTEST: u64 = 60_000_000_000;
 
 /// The tempo that a `t` gives.
-pub fn tempo(alloc: Global, fields: &[Field]) -> Result<ScoreWhat, Refusal>
+pub fn tempo(alloc: Global, fields: &[Field]) -> Result<ScoreWhat, StatementFault>
     ensures value { Answers result (tempo_of fields.now) }
     ensures range { IfOk result HasRange }
 {
@@ -28,7 +28,7 @@ pub fn tempo(alloc: Global, fields: &[Field]) -> Result<ScoreWhat, Refusal>
     Ok(ScoreWhat::Tempo { points })
 }
 
-fn points(alloc: Global, fields: &[Field]) -> Result<TempoPoints, Refusal>
+fn points(alloc: Global, fields: &[Field]) -> Result<TempoPoints, StatementFault>
     requires { 0 < length fields.now }
     ensures value { Answers result (points_of None fields.now) }
     ensures range { IfOk result AreTempoPoints }

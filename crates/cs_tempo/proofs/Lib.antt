@@ -14,3 +14,4 @@ pub mod Sweeps
 pub mod Times
 pub mod Walks
 pub mod Performable
+pub mod Stable

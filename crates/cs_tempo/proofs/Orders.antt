@@ -9,25 +9,25 @@ use Rattle.std.proofs.lemmas.Bool.{cases_Bool}
 use Rattle.std.proofs.lemmas.Bool.Decides.{nat_tests}
 use Rattle.std.proofs.lemmas.List.{at_drop_more, at_drop_all, drop_more, length-drop, map_push, map_more}
 use Rattle.cs_score.specs.declared.statement.ScoreStmt.{ScoreStmt}
-use Rattle.cs_tempo.specs.declared.order.Turn.{Turn}
+use Rattle.cs_tempo.specs.declared.order.SortKey.{SortKey}
 use Rattle.cs_tempo.specs.Order.{has_turn, beat_of, p1_of, p3_of, order_of, put, in_order}
 use Rattle.cs_tempo.specs.inner.Turns.{turn_of, own_turn, turns_from, turn_order, inserted, sorted}
 use Rattle.cs_tempo.proofs.Sorting.{Each, each_more, each_sorted}
 
 pub turn_total : IsTotalOrder turn_order
 turn_total =
-    then_total (on_total (λ (t : Turn). t.at) nat_cmp_total) (then_total (on_total (λ (t : Turn). t.p1) int_cmp_total)
-    (then_total (on_total (λ (t : Turn). t.p3) int_cmp_total) (on_total (λ (t : Turn). t.index) nat_cmp_total)))
+    then_total (on_total (λ (t : SortKey). t.at) nat_cmp_total) (then_total (on_total (λ (t : SortKey). t.p1) int_cmp_total)
+    (then_total (on_total (λ (t : SortKey). t.p3) int_cmp_total) (on_total (λ (t : SortKey). t.index) nat_cmp_total)))
 
 both_equal : (o p : Ordering) → ordering_then o p ≡ Equal → (o ≡ Equal) × (p ≡ Equal)
 both_equal Less p h = absurd (cc)
 both_equal Equal p h = (refl, h)
 both_equal Greater p h = absurd (cc)
 
-abbrev turn_by : ℕ → ℤ → ℤ → ℕ → Turn
+abbrev turn_by : ℕ → ℤ → ℤ → ℕ → SortKey
 turn_by at p1 p3 index = record { at = at; p1 = p1; p3 = p3; index = index }
 
-pub turn_same : (t u : Turn) → turn_order t u ≡ Equal → t ≡ u
+pub turn_same : (t u : SortKey) → turn_order t u ≡ Equal → t ≡ u
 turn_same t u h =
     let a = both_equal (nat_cmp t.at u.at) _ h in
     let b = both_equal (int_cmp t.p1 u.p1) _ a.1 in
@@ -55,11 +55,11 @@ later_place Equal Equal Equal k m h = not_less m k h
 
 module _ (section : List ScoreStmt) (d : ScoreStmt) where
   -- the statement of a turn
-  abbrev pub stmt : Turn → ScoreStmt
+  abbrev pub stmt : SortKey → ScoreStmt
   stmt t = get_or section t.index d
 
   -- a turn that is that of a statement at an index from k on
-  pub record IsFrom (k : ℕ) (t : Turn) : Type 0 where
+  pub record IsFrom (k : ℕ) (t : SortKey) : Type 0 where
     pub after : k ≤ t.index
     pub within : t.index < length section
     pub is : t ≡ turn_of t.index (stmt t).what
@@ -73,13 +73,13 @@ module _ (section : List ScoreStmt) (d : ScoreStmt) where
   next : (k : ℕ) (s : ScoreStmt) (later : List ScoreStmt) → drop k section ≡ s ∷ later → drop (k + 1) section ≡ later
   next k s later e = ap (drop 1) (sym (drop_more section k d (below k s later e)) ∙ e)
 
-  same_test : (k : ℕ) (s : ScoreStmt) (u : Turn) → IsFrom (k + 1) u → is_lt (turn_order u (turn_of k s.what)) ≡ is_lt (order_of (stmt u).what s.what)
+  same_test : (k : ℕ) (s : ScoreStmt) (u : SortKey) → IsFrom (k + 1) u → is_lt (turn_order u (turn_of k s.what)) ≡ is_lt (order_of (stmt u).what s.what)
   same_test k s u f =
       ap (λ t. is_lt (turn_order t (turn_of k s.what))) f.is
       ∙ later_place (nat_cmp (beat_of (stmt u).what) (beat_of s.what)) (int_cmp (p1_of (stmt u).what) (p1_of s.what))
       (int_cmp (p3_of (stmt u).what) (p3_of s.what)) k u.index (omega (arith, f.after))
 
-  put_is : (k : ℕ) (s : ScoreStmt) (us : List Turn) → get_or section k d ≡ s → Each (IsFrom (k + 1)) us →
+  put_is : (k : ℕ) (s : ScoreStmt) (us : List SortKey) → get_or section k d ≡ s → Each (IsFrom (k + 1)) us →
       map stmt (inserted turn_order (turn_of k s.what) us) ≡ put s (map stmt us)
   unfolding put
   put_is k s [] at e = ap (λ x. x ∷ []) at
@@ -91,7 +91,7 @@ module _ (section : List ScoreStmt) (d : ScoreStmt) where
       rw (f, f') (ap (λ x. x ∷ stmt u ∷ map stmt us) at))
       (cases_Bool (is_lt (turn_order u (turn_of k s.what))))
 
-  more_from : (k : ℕ) (us : List Turn) → Each (IsFrom (k + 1)) us → Each (IsFrom k) us
+  more_from : (k : ℕ) (us : List SortKey) → Each (IsFrom (k + 1)) us → Each (IsFrom k) us
   more_from k us e = each_more _ _ us (λ u f. record { after = omega (arith, f.after); within = f.within; is = f.is }) e
 
   pub turns_are : (k : ℕ) (later : List ScoreStmt) → drop k section ≡ later → Each (IsFrom k) (turns_from k later)
@@ -112,19 +112,19 @@ module _ (section : List ScoreStmt) (d : ScoreStmt) where
       let more = turns_are (k + 1) later (next k s later e) in
       let ih = order_is (k + 1) later (next k s later e) in
       ⊎_elim
-      (λ t. rw t (put_is k s (sorted turn_order (turns_from (k + 1) later)) (here k s later e) (each_sorted turn_order turn_total turn_same (IsFrom (k + 1)) _ more) ∙ ap (put s) ih))
+      (λ t. rw t (put_is k s (sorted turn_order (turns_from (k + 1) later)) (here k s later e) (each_sorted turn_order turn_total (IsFrom (k + 1)) _ more) ∙ ap (put s) ih))
       (λ f. rw f ih)
       (cases_Bool (has_turn s.what))
 
 -- a walk over a section: the turns so far, and those of the rest
-pub turn_more : (section : List ScoreStmt) (k : ℕ) (s : ScoreStmt) (done : List Turn) → k < length section → s ≡ get_or section k s →
+pub turn_more : (section : List ScoreStmt) (k : ℕ) (s : ScoreStmt) (done : List SortKey) → k < length section → s ≡ get_or section k s →
     (done ++ own_turn k s.what) ++ turns_from (k + 1) (drop (k + 1) section) ≡ done ++ turns_from k (drop k section)
 unfolding turns_from
 turn_more section k s done some at =
     append_assoc done (own_turn k s.what) (turns_from (k + 1) (drop (k + 1) section)) ∙ ap (λ r. done ++ r)
     (sym (at_drop_more (turns_from k) section k s some ∙ ap (λ u. turns_from k (u ∷ drop (k + 1) section)) (sym at)))
 
-pub turn_none : (section : List ScoreStmt) (k : ℕ) (done : List Turn) → length section ≤ k → done ++ turns_from k (drop k section) ≡ done
+pub turn_none : (section : List ScoreStmt) (k : ℕ) (done : List SortKey) → length section ≤ k → done ++ turns_from k (drop k section) ≡ done
 unfolding turns_from
 turn_none section k done all = ap (λ r. done ++ r) (at_drop_all (turns_from k) section k all) ∙ append-nil done
 
@@ -134,10 +134,10 @@ each_at P (x ∷ xs) e zero d some = e.0
 each_at P (x ∷ xs) e (suc k) d some = each_at P xs e.1 k d (omega arith)
 
 -- the sorted turns lie in the section
-pub turns_within : (section : List ScoreStmt) (d : ScoreStmt) (k : ℕ) (e : Turn) → k < length (sorted turn_order (turns_from 0 section)) →
+pub turns_within : (section : List ScoreStmt) (d : ScoreStmt) (k : ℕ) (e : SortKey) → k < length (sorted turn_order (turns_from 0 section)) →
     (get_or (sorted turn_order (turns_from 0 section)) k e).index < length section
 turns_within section d k e some =
-    (each_at (IsFrom section d 0) _ (each_sorted turn_order turn_total turn_same (IsFrom section d 0) _ (turns_are section d 0 section refl)) k e some).within
+    (each_at (IsFrom section d 0) _ (each_sorted turn_order turn_total (IsFrom section d 0) _ (turns_are section d 0 section refl)) k e some).within
 
 -- a walk that takes what it finds
 pub taken_more : {A B C : Type 0} (f : A → C) (g : B → C) (taken : List A) (a : A) (bs : List B) (k : ℕ) (e : B) → k < length bs → f a ≡ g (get_or bs k e) →

@@ -34,17 +34,14 @@ clash : (b : Bool) → b ≡ true → b ≡ false → ⊥
 clash true t f = absurd (cc)
 clash false t f = absurd (cc)
 
-module _ {X : Type 0} (R : X → X → Ordering) (o : IsTotalOrder R) (same : (x y : X) → R x y ≡ Equal → x ≡ y) where
-  order : IsStrictWeakOrder (λ x y. is_lt (R x y))
+module _ {X : Type 0} (R : X → X → Ordering) (o : IsTotalOrder R) where
+  pub order : IsStrictWeakOrder (λ x y. is_lt (R x y))
   order = ranks_by o (λ (x : X). x)
 
   -- no item comes before an earlier one
-  abbrev Rising : List X → Type 0
+  abbrev pub Rising : List X → Type 0
   Rising [] = Unit {0}
   Rising (x ∷ xs) = Each (λ y. is_lt (R y x) ≡ false) xs × Rising xs
-
-  abbrev count : X → List X → ℕ
-  count z xs = sum_by (λ y. cond (is_eq (R z y)) 1 0) xs
 
   pub each_inserted : (P : X → Type 0) (x : X) (ys : List X) → P x → Each P ys → Each P (inserted R x ys)
   each_inserted P x [] p e = (p, tt)
@@ -69,6 +66,10 @@ module _ {X : Type 0} (R : X → X → Ordering) (o : IsTotalOrder R) (same : (x
   pub rising_sorted : (xs : List X) → Rising (sorted R xs)
   rising_sorted [] = tt
   rising_sorted (x ∷ xs) = rising_inserted x (sorted R xs) (rising_sorted xs)
+
+module _ {X : Type 0} (R : X → X → Ordering) (o : IsTotalOrder R) (same : (x y : X) → R x y ≡ Equal → x ≡ y) where
+  abbrev count : X → List X → ℕ
+  count z xs = sum_by (λ y. cond (is_eq (R z y)) 1 0) xs
 
   count_inserted : (z x : X) (ys : List X) → count z (inserted R x ys) ≡ count z (x ∷ ys)
   count_inserted z x [] = refl
@@ -101,7 +102,7 @@ module _ {X : Type 0} (R : X → X → Ordering) (o : IsTotalOrder R) (same : (x
       (λ g'. ap is_eq g') g)
       (three_ways (R x z))
 
-  below_all : (x y : X) (ys : List X) → R x y ≡ Less → Rising (y ∷ ys) → Each (λ z. is_eq (R x z) ≡ false) (y ∷ ys)
+  below_all : (x y : X) (ys : List X) → R x y ≡ Less → Rising R o (y ∷ ys) → Each (λ z. is_eq (R x z) ≡ false) (y ∷ ys)
   below_all x y ys low r = (ap is_eq low, each_more _ _ ys (λ z h. apart x y z low h) r.0)
 
   counted_itself : (x : X) (xs : List X) → 1 ≤ count x (x ∷ xs)
@@ -109,7 +110,7 @@ module _ {X : Type 0} (R : X → X → Ordering) (o : IsTotalOrder R) (same : (x
       let f : X → ℕ = λ u. cond (is_eq (R x u)) 1 0 in
       let here : f x ≡ 1 = ap (λ c. cond (is_eq c) 1 0) (tied_itself o x) in omega (arith, sum_by-cons f x xs, here)
 
-  not_below : (x y : X) (xs ys : List X) → R x y ≡ Less → Rising (y ∷ ys) → ((z : X) → count z (x ∷ xs) ≡ count z (y ∷ ys)) → ⊥
+  not_below : (x y : X) (xs ys : List X) → R x y ≡ Less → Rising R o (y ∷ ys) → ((z : X) → count z (x ∷ xs) ≡ count z (y ∷ ys)) → ⊥
   not_below x y xs ys low r e = omega (arith, counted_itself x xs, none_counted x (y ∷ ys) (below_all x y ys low r), e x)
 
   heads : (x y : X) (xs ys : List X) → x ≡ y → xs ≡ ys → x ∷ xs ≡ y ∷ ys
@@ -121,7 +122,7 @@ module _ {X : Type 0} (R : X → X → Ordering) (o : IsTotalOrder R) (same : (x
       omega (arith, ap f p, sum_by-cons f x xs, sum_by-cons f y ys, e)
 
   -- two rising lists of the same items are one list
-  pub one_order : (xs ys : List X) → Rising xs → Rising ys → ((z : X) → count z xs ≡ count z ys) → xs ≡ ys
+  pub one_order : (xs ys : List X) → Rising R o xs → Rising R o ys → ((z : X) → count z xs ≡ count z ys) → xs ≡ ys
   one_order [] [] r s e = refl
   one_order [] (y ∷ ys) r s e = absurd (omega (arith, counted_itself y ys, e y))
   one_order (x ∷ xs) [] r s e = absurd (omega (arith, counted_itself x xs, e x))
@@ -132,7 +133,7 @@ module _ {X : Type 0} (R : X → X → Ordering) (o : IsTotalOrder R) (same : (x
       (λ g'. absurd (not_below y x ys xs (o.antisymm y x ∙ ap ordering_reverse g') r (λ z. sym (e z)))) g)
       (three_ways (R x y))
 
-  rising_from_far : (xs : List X) → ((i j : ℕ) (d : X) → i ≤ j → j < length xs → is_lt (R (get_or xs j d) (get_or xs i d)) ≡ false) → Rising xs
+  rising_from_far : (xs : List X) → ((i j : ℕ) (d : X) → i ≤ j → j < length xs → is_lt (R (get_or xs j d) (get_or xs i d)) ≡ false) → Rising R o xs
   rising_from_far [] h = tt
   rising_from_far (x ∷ xs) h = (
     each_from_index (λ y. is_lt (R y x) ≡ false) xs (λ j d l. h 0 (suc j) d (omega arith) (omega arith)),
@@ -142,5 +143,5 @@ module _ {X : Type 0} (R : X → X → Ordering) (o : IsTotalOrder R) (same : (x
   -- what std's sort gives
   pub is_sorted : (xs ys : List X) → IsPermutation xs ys → IsSorted R ys → ys ≡ sorted R xs
   is_sorted xs ys p s =
-      one_order ys (sorted R xs) (rising_from_far ys (sorted_far (λ x y. is_lt (R x y)) order ys s)) (rising_sorted xs)
+      one_order ys (sorted R xs) (rising_from_far ys (sorted_far (λ x y. is_lt (R x y)) (order R o) ys s)) (rising_sorted R o xs)
       (λ z. sum_by-IsPermutation (λ y. cond (is_eq (R z y)) 1 0) xs ys p ∙ sym (count_sorted z xs))

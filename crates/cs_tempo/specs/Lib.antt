@@ -7,3 +7,4 @@ pub mod Plot
 pub mod Sections
 pub mod Time
 pub mod inner
+pub mod Worked

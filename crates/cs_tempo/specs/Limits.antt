@@ -22,19 +22,19 @@ cycles_in (act.Table number size gen args) = 0
 abbrev pub is_active : ℕ → Event → Bool
 is_active cycle e = nat_le e.cycle cycle && nat_lt cycle (e.cycle + cycles_in e.act)
 
--- more bytes of samples than may be, in so many cycles
+-- more bytes of samples than allowed, in this many cycles, at two bytes a sample
 abbrev pub passes_bytes : Head → ℕ → Bool
 passes_bytes head cycles = nat_lt most_wav_bytes (cycles * head.ksmps * head.nchnls * 2)
 
--- more notes active in a start's cycle than may be, among the events up to it
+-- more notes active in a start's cycle than allowed, among the events up to it
 abbrev pub passes_notes : List Event → Event → Bool
 passes_notes upto e = nat_lt most_notes (count_by (is_active e.cycle) upto)
 
--- the refusal for the bytes of the sound file, at no line
+-- the limit hit by the bytes of the sound file, at no line
 abbrev pub bytes_hit : Option LimitHit
 bytes_hit = Some (record { limit = limit.WavBytes; line = 0 })
 
--- the refusal for notes at the line of a start
+-- the limit hit by notes at the line of a start
 abbrev pub at_event : Option Event → Option LimitHit
 at_event None = None
 at_event (Some e) = Some (record { limit = limit.Notes; line = e.line })

@@ -1,7 +1,7 @@
 -- What a performer may rest on: the plot of a score that passes no limit.
 use Rattle.std.specs.Prelude.{◌≡◌, ℕ, ◌+◌, ◌*◌, ◌≤◌, count_by, length, slice_get, Some, None, pos, All}
 use Rattle.std.specs.List.Sorted.{IsNonDecreasingBy}
-use Rattle.cs_base.specs.Limits.{most_events, most_notes, most_wav_bytes}
+use Rattle.cs_base.specs.Limits.{greatest_field, most_events, most_notes, most_wav_bytes}
 use Rattle.cs_base.specs.declared.head.Head.{Head}
 use Rattle.cs_gen.specs.Faults.{table_fault}
 use Rattle.cs_score.specs.Ranges.{IsInstrument, IsTableNumber}
@@ -14,11 +14,11 @@ use Rattle.cs_tempo.specs.Limits.{cycles_in, is_active}
 -- no fault, so its size is 2 to 65,537
 abbrev pub IsActInRange : EventAct → Type 0
 IsActInRange (act.Start instr cycles fields) =
-    IsInstrument instr × (3 ≤ length fields) × (length fields ≤ 100) × (slice_get fields 0 ≡ Some (pos (instr * 65536)))
+    IsInstrument instr × (3 ≤ length fields) × (length fields ≤ greatest_field) × (slice_get fields 0 ≡ Some (pos (instr * 65536)))
 IsActInRange (act.Table number size gen args) = IsTableNumber number × (table_fault size gen args ≡ None)
 
--- the sound file is no longer than may be; the events stand in the order of their cycles, no more of them than a
--- score's statements may be, no more notes active in any cycle than may be; each note ends within the plot
+-- the sound file is no longer than allowed; the events stand in the order of their cycles, no more of them than a score
+-- may have statements, and no more notes are active in any cycle than allowed; each note ends within the plot
 pub record IsPerformable (head : Head) (plot : Plot) : Type 0 where
   pub bytes : plot.cycles * head.ksmps * head.nchnls * 2 ≤ most_wav_bytes
   pub in_order : IsNonDecreasingBy (λ e. e.cycle) plot.events

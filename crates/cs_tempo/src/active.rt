@@ -9,7 +9,7 @@ use crate::plot::{Event, EventAct};
 use cs_base::{Limit, LimitHit, MOST_NOTES, OutOfMemory};
 use std::alloc::Global;
 
-/// The refusal of the first start with which more notes are active in its cycle than may be.
+/// The limit hit at the first start with which more notes are active in its cycle than allowed.
 pub fn note_hit(alloc: Global, events: &[Event]) -> Result<Option<LimitHit>, OutOfMemory>
     requires { IsNonDecreasingBy (λ e. e.cycle) events.now }
     ensures { IfOk result (λ hit. hit ≡ at_event (first_at passes_notes [] events.now)) }

@@ -15,7 +15,7 @@ use crate::pairing::{StopsByInstrument, stops_by_instrument, take_turn};
 use crate::plot::{Event, EventAct};
 use crate::section::end_of;
 use crate::time::seconds_of;
-use cs_base::{Items, Num, Nums, OutOfMemory};
+use cs_base::{Num, Nums, OutOfMemory};
 use cs_score::{ScoreStmt, ScoreWhat};
 use std::alloc::Global;
 use std::cmp::max;
@@ -154,7 +154,7 @@ fn act_of(
             number: *number,
             size: *size,
             gen_: *gen_,
-            args: copied(alloc, args)?,
+            args: args.to_items(alloc)?,
         })),
         ScoreWhat::Stop { .. } => Ok(None),
         ScoreWhat::Extend { .. } => Ok(None),
@@ -233,10 +233,4 @@ fn p1(instr: u32) -> Num
     ensures { result ≡ pos (instr * 65536) }
 {
     Num::of_whole(i64::from(instr))
-}
-
-fn copied(alloc: Global, items: &Nums) -> Result<Nums, OutOfMemory>
-    ensures { IfOk result (λ copy. copy ≡ items.now) }
-{
-    Ok(Nums::from_vec(items.as_slice().to_vec(alloc)?))
 }

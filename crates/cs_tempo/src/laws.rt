@@ -1,6 +1,7 @@
 // What holds of the definitions for every score: calls that do nothing, whose contracts are the laws.
-ghost use Rattle.std.specs.Prelude.{◌≡◌, ◌≤◌, ◌+◌, ◌*◌, ◌/◌, ◌^◌, ℕ, List, [], ◌∷◌, length, Some, None, ℤ, pos, negsuc, ◌+ℤ◌, ◌-ℤ◌, ◌*ℤ◌};
-ghost use Rattle.std.specs.List.{All};
+ghost use Rattle.std.specs.Prelude.{false, ◌≡◌, ◌≤◌, ◌+◌, ◌*◌, ◌/◌, ◌^◌, ℕ, List, [], ◌∷◌, length, Some, None, ℤ, pos, negsuc, ◌+ℤ◌, ◌-ℤ◌, ◌*ℤ◌};
+ghost use Rattle.std.specs.List.{All, AllPairs, filter};
+ghost use Rattle.std.specs.Ordering.{is_eq, is_lt};
 ghost use Rattle.std.specs.List.Sorted.{IsNonDecreasingBy};
 ghost use Rattle.cs_base.specs.Numbers.{floor_div};
 ghost use Rattle.cs_base.specs.declared.head.Head.{Head};
@@ -11,7 +12,11 @@ ghost use Rattle.cs_tempo.specs.Time.{IsTempo, ramp_time, time_of, cycle_of, sec
 ghost use Rattle.cs_score.specs.declared.statement.ScoreWhat.TheVariants as ScoreWhat;
 ghost use Rattle.cs_tempo.specs.Pairing.{stop_after};
 ghost use Rattle.cs_tempo.specs.Held.{ending_stop};
+ghost use Rattle.cs_score.specs.Worked.{at_line, held_note, note, stop, table, whole};
+ghost use Rattle.cs_tempo.specs.Order.{has_turn, in_order, order_of};
 ghost use Rattle.cs_tempo.specs.Plot.{plot_of};
+ghost use Rattle.cs_tempo.specs.Worked.{two_sections};
+ghost use Rattle.cs_tempo.specs.declared.plot.EventAct.TheVariants as act;
 ghost use Rattle.cs_tempo.specs.Limits.{cycles_in, limit_of};
 ghost use Rattle.cs_tempo.specs.Performable.{IsPerformable};
 
@@ -38,6 +43,16 @@ pub fn stops_end_the_first()
     ensures { (h : ScoreStmt) (n at : ℕ) (given : ℤ) (more : List ℤ) (earlier later : List ScoreStmt)
         → h.what ≡ ScoreWhat.Hold n at given more
         → ending_stop n (length earlier) (h ∷ earlier) later ≡ stop_after n earlier later }
+{}
+
+/// The order of a section by its own rule: no statement stands before one that comes before it by beat, p1 and p3, and
+/// those that are equal in these are all that have a turn, in the order of the text.
+pub fn turns_are_in_order()
+    ensures rising { (section : List ScoreStmt)
+        → AllPairs (λ s u. is_lt (order_of u.what s.what) ≡ false) (in_order section) }
+    ensures equal { (section : List ScoreStmt) (s : ScoreStmt)
+        → filter (λ u. is_eq (order_of s.what u.what)) (in_order section)
+        ≡ filter (λ u. is_eq (order_of s.what u.what)) (filter (λ u. has_turn u.what) section) }
 {}
 
 /// The events of a plot stand in the order of their cycles, and each note ends within the plot; the plot
@@ -87,4 +102,30 @@ pub fn pairings_worked_by_hand()
         let stop : ℕ → ScoreStmt = λ at. record { line = 1; what = ScoreWhat.Stop 1 at } in
         ending_stop 1 3 (held 2 ∷ stop 2 ∷ held 1 ∷ held 0 ∷ [])
         (stop 3 ∷ stop 4 ∷ stop 5 ∷ []) ≡ Some 4 }
+{}
+
+/// The order of docs/MEANING.md, computed: at one beat tables, then by p1 (a stop's is negative), then by p3 (a held
+/// note's is the number as given); an earlier beat comes first, and what is equal keeps the order of the text.
+pub fn orders_worked_by_hand()
+    ensures at_one_beat { in_order (note 1 0 5 ∷ held_note 2 0 5 ∷ stop 3 0 ∷ table 4 (negsuc 1) [] ∷ [])
+        ≡ table 4 (negsuc 1) [] ∷ stop 3 0 ∷ held_note 2 0 5 ∷ note 1 0 5 ∷ [] }
+    ensures by_beat { in_order (note 1 1 5 ∷ note 2 0 5 ∷ []) ≡ note 2 0 5 ∷ note 1 1 5 ∷ [] }
+    ensures equal { in_order (note 1 0 6 ∷ note 2 0 5 ∷ []) ≡ note 1 0 6 ∷ note 2 0 5 ∷ [] }
+    ensures without_turn { in_order (at_line 1 (ScoreWhat.Extend 0) ∷ note 2 0 5 ∷ []) ≡ note 2 0 5 ∷ [] }
+{}
+
+/// The whole plot of a score, computed at 8 frames a second and 4 frames a cycle, so that a beat lasts two cycles:
+/// table 1, a note of one beat and one that a stop ends after two beats; a note without a length; and in a second
+/// section, which begins at the cycle of that stop, a note of a quarter of a beat, which lasts one cycle.
+pub fn plot_worked_by_hand()
+    ensures { (head : Head) → head.sr ≡ 8 → head.ksmps ≡ 4 → plot_of head two_sections ≡ record {
+      events =
+          record { cycle = 0; line = 1; act = act.Table 1 (pos 4) (negsuc 1) [] }
+          ∷ record { cycle = 0; line = 3; act = act.Start 1 4 (whole 1 ∷ pos 0 ∷ negsuc 65535 ∷ whole 9 ∷ []) }
+          ∷ record { cycle = 0; line = 2; act = act.Start 1 2 (whole 1 ∷ pos 0 ∷ whole 1 ∷ whole 5 ∷ []) }
+          ∷ record { cycle = 2; line = 4; act = act.Start 1 0 (whole 1 ∷ whole 1 ∷ pos 0 ∷ []) }
+          ∷ record { cycle = 4; line = 7; act = act.Start 1 1 (whole 1 ∷ pos 0 ∷ pos 16384 ∷ []) }
+          ∷ [];
+      cycles = 5;
+    } }
 {}

@@ -1,10 +1,11 @@
 //! Time and the plot of a piece: when each note of a score starts and ends, in control cycles.
 //!
-//! The one contract: `schedule` answers the plot of a score (`plot_of`), which can be performed (`IsPerformable`), or the
-//! first limit that the score passes (`limit_of`), or want of memory. All times are exact whole numbers.
+//! Its one contract: `schedule` returns the plot of a score (`plot_of`), which can be performed (`IsPerformable`), or
+//! the first limit that the score passes (`limit_of`), or is out of memory. All times are exact whole numbers. How a
+//! beat's time is found, how turns are sorted, stops paired and notes counted may be changed without anyone above
+//! noticing.
 //!
-//! How a beat's time is found, how turns are sorted, stops paired and notes counted may be changed without
-//! anyone above noticing. In reading order: `time` (beats to nanoseconds to cycles), `clock`, `section`,
+//! To be read in this order: `time` (beats to nanoseconds to cycles), `clock`, `section`,
 //! `order`, `pairing`, `plot` (the types), `events`, `limits`, `active`, `scheduling`, `laws`.
 #![tactic(auto)]
 
@@ -21,10 +22,10 @@ mod section;
 mod time;
 
 pub use laws::{
-    pairings_worked_by_hand, plots_are_in_order, ramps_are_rounded_down,
-    scores_within_limits_are_performable, stops_end_the_first, time_never_falls,
-    times_worked_by_hand,
+    orders_worked_by_hand, pairings_worked_by_hand, plot_worked_by_hand, plots_are_in_order,
+    ramps_are_rounded_down, scores_within_limits_are_performable, stops_end_the_first,
+    time_never_falls, times_worked_by_hand, turns_are_in_order,
 };
 pub use plot::{Event, EventAct, Events, Plot};
 pub use scheduling::schedule;
-pub use time::{beat_time, cycle_of};
+pub use time::cycle_of;

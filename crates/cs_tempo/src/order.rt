@@ -11,7 +11,7 @@ use std::alloc::Global;
 
 /// What a turn is sorted by: its beat, its p1 and p3, and its index in the section.
 #[derive(Clone, Copy, PartialEq, Eq, PartialOrd, Ord)]
-pub struct Turn {
+pub struct SortKey {
     pub at: u64,
     pub p1: i32,
     pub p3: i64,
@@ -34,7 +34,7 @@ pub fn in_order(alloc: Global, section: &[ScoreStmt]) -> Result<Vec<&ScoreStmt>,
     Ok(order)
 }
 
-fn sorted_turns(alloc: Global, section: &[ScoreStmt]) -> Result<Vec<Turn>, OutOfMemory>
+fn sorted_turns(alloc: Global, section: &[ScoreStmt]) -> Result<Vec<SortKey>, OutOfMemory>
     requires { All IsInRange section.now }
     ensures sorted { IfOk result (λ turns. turns.items
         ≡ sorted turn_order (turns_from 0 section.now)) }
@@ -45,7 +45,7 @@ fn sorted_turns(alloc: Global, section: &[ScoreStmt]) -> Result<Vec<Turn>, OutOf
     Ok(turns)
 }
 
-fn turns_of(alloc: Global, section: &[ScoreStmt]) -> Result<Vec<Turn>, OutOfMemory>
+fn turns_of(alloc: Global, section: &[ScoreStmt]) -> Result<Vec<SortKey>, OutOfMemory>
     requires { All IsInRange section.now }
     ensures { IfOk result (λ turns. turns.items ≡ turns_from 0 section.now) }
 {
@@ -56,7 +56,7 @@ fn turns_of(alloc: Global, section: &[ScoreStmt]) -> Result<Vec<Turn>, OutOfMemo
     Ok(turns)
 }
 
-fn push_turn(turns: &mut Vec<Turn>, what: &ScoreWhat, index: usize) -> Result<(), OutOfMemory>
+fn push_turn(turns: &mut Vec<SortKey>, what: &ScoreWhat, index: usize) -> Result<(), OutOfMemory>
     requires { HasRange what.now }
     ensures { OnOk result (turns.new.items ≡ turns.old.items ++ own_turn index what.now) }
 {
@@ -67,7 +67,7 @@ fn push_turn(turns: &mut Vec<Turn>, what: &ScoreWhat, index: usize) -> Result<()
 }
 
 // The turn of the statement at an index, if it has one.
-fn turn_of(what: &ScoreWhat, index: usize) -> Option<Turn>
+fn turn_of(what: &ScoreWhat, index: usize) -> Option<SortKey>
     requires { HasRange what.now }
     ensures { result ≡ (if has_turn what.now then Some (turn_of index what.now) else None) }
 {
@@ -88,5 +88,5 @@ fn turn_of(what: &ScoreWhat, index: usize) -> Option<Turn>
         ScoreWhat::Table { at, .. } => (*at, TABLE, 0),
         _ => return None,
     };
-    Some(Turn { at, p1, p3, index })
+    Some(SortKey { at, p1, p3, index })
 }

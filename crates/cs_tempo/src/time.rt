@@ -1,34 +1,20 @@
 // The time of a beat and the control cycle of a time.
-ghost use Rattle.std.specs.Prelude.{◌≡◌, ◌≤◌, ◌<◌, ◌*◌, ◌+◌, ◌-◌, ◌^◌, ◌/◌, ℕ, List, drop, pos};
+ghost use Rattle.std.specs.Prelude.{◌≡◌, ◌≤◌, ◌<◌, ◌*◌, ◌+◌, ◌-◌, ◌^◌, ◌/◌, drop, pos};
+ghost use Rattle.cs_base.specs.Limits.{greatest_ksmps, greatest_sr};
 ghost use Rattle.cs_base.specs.Numbers.{IsRaw};
 ghost use Rattle.cs_score.specs.Ranges.{beats_end};
 ghost use Rattle.cs_score.specs.declared.statement.TempoPoint.{TempoPoint};
-ghost use Rattle.cs_tempo.specs.Time.{beat_length, rounded_up, ramp_time, time_along, time_of, IsTempo, Rises, cycle_of, seconds_of};
+ghost use Rattle.cs_tempo.specs.Time.{beat_length, rounded_up, ramp_time, time_along, Rises, cycle_of, seconds_of};
 
-use cs_score::{TempoPoint, TempoPoints};
-
-/// The time of a beat, in nanoseconds from the start of its section, by the points of the section's
-/// tempo; without points the tempo is 60 beats a minute. Along a ramp from one point to the next the
-/// duration of a beat goes evenly. Beats are in millionths.
-pub fn beat_time(points: &TempoPoints, beat: u64) -> u64
-    requires tempo { IsTempo points.now }
-    requires beat { beat < beats_end }
-    ensures time { result ≡ time_of points.now beat }
-    ensures small { result ≤ 60000 * beat }
-{
-    if points.is_empty() {
-        steady_time(1_000_000_000, beat)
-    } else {
-        time_along(points.as_slice(), beat)
-    }
-}
+use cs_base::ONE;
+use cs_score::TempoPoint;
 
 /// The control cycle of a time in nanoseconds, rounded half up, at `sr` frames a second and `ksmps`
 /// frames a cycle.
 #[tactic(auto, unfolding(crate::specs::Time::cycle_of))]
 pub fn cycle_of(ns: u64, sr: u32, ksmps: u32) -> u64
-    requires sr { (1 ≤ sr) × (sr ≤ 192000) }
-    requires ksmps { (1 ≤ ksmps) × (ksmps ≤ 4096) }
+    requires sr { (1 ≤ sr) × (sr ≤ greatest_sr) }
+    requires ksmps { (1 ≤ ksmps) × (ksmps ≤ greatest_ksmps) }
     ensures { result ≡ cycle_of ns sr ksmps }
 {
     let cycle = u128::from(ksmps) * 1_000_000_000;
@@ -42,7 +28,7 @@ pub(crate) fn seconds_of(ns: u64) -> i64
     ensures value { result ≡ pos (seconds_of ns) }
     ensures range { IsRaw result }
 {
-    (u128::from(ns) * 65536 / 1_000_000_000) as i64
+    (u128::from(ns) * ONE as u128 / 1_000_000_000) as i64
 }
 
 /// The time of a beat along points that rise.
@@ -89,7 +75,7 @@ fn beat_length(tempo: u64) -> u64
     60_000_000_000_000_000 / tempo
 }
 
-// The time of so many millionths of beats of one length.
+// The time of `x` millionths of a beat, where a beat lasts `length` nanoseconds.
 pub(crate) fn steady_time(length: u64, x: u64) -> u64
     requires length { length ≤ 60000000000 }
     requires x { x < beats_end }

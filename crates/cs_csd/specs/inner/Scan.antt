@@ -1,57 +1,58 @@
 -- A file line by line: where one stands after each.
 use Rattle.std.specs.Prelude.{ℕ, List, [], ◌∷◌, ◌+◌, length, Option, Some, None, unwrap_or, Result, Ok, Err, if◌then◌else◌}
-use Rattle.cs_csd.specs.declared.line.Mark.{Mark}
-use Rattle.cs_csd.specs.declared.line.Mark.TheVariants as mark
+use Rattle.cs_csd.specs.declared.line.LineMark.{LineMark}
+use Rattle.cs_csd.specs.declared.line.LineMark.TheVariants as mark
 use Rattle.cs_csd.specs.declared.line.Section.{Section}
 use Rattle.cs_csd.specs.declared.part.CsdFault.{CsdFault}
 use Rattle.cs_csd.specs.declared.part.CsdKind.TheVariants as kind
 use Rattle.cs_csd.specs.declared.part.Part.{Part}
 use Rattle.cs_csd.specs.declared.part.Parts.{Parts}
-use Rattle.cs_csd.specs.declared.scan.Found.{Found}
-use Rattle.cs_csd.specs.declared.scan.State.{State}
-use Rattle.cs_csd.specs.declared.scan.State.TheVariants as state
-use Rattle.cs_csd.specs.Lines.{Line, mark_of, closes, is_start}
+use Rattle.cs_csd.specs.declared.scan.SectionsFound.{SectionsFound}
+use Rattle.cs_csd.specs.declared.scan.ScanState.{ScanState}
+use Rattle.cs_csd.specs.declared.scan.ScanState.TheVariants as state
+use Rattle.cs_base.specs.Lines.{Line}
+use Rattle.cs_csd.specs.Lines.{mark_of, closes, is_start}
 use Rattle.cs_csd.specs.Sections.{fault, no_text, nothing_found, stood, with_section}
 
 -- a section is opened, whose text begins at a place, in the line after this one
-abbrev pub opened : Section → ℕ → ℕ → Found → Result State CsdFault
+abbrev pub opened : Section → ℕ → ℕ → SectionsFound → Result ScanState CsdFault
 opened s number from f =
     if stood s f then Err (fault kind.SectionTwice number)
     else Ok (state.Inside f s (record { from = from; to = from; line = number + 1 }))
 
-abbrev pub stopped : ℕ → Found → Option Part → Result State CsdFault
+abbrev pub stopped : ℕ → SectionsFound → Option Part → Result ScanState CsdFault
 stopped number f None = Err (fault kind.MissingTag number)
 stopped number f (Some orc) = Ok (state.Done (record { orc = orc; sco = unwrap_or f.sco no_text }))
 
-abbrev pub marked : Line → Found → Mark → Result State CsdFault
+abbrev pub marked : Line → SectionsFound → LineMark → Result ScanState CsdFault
 marked l f mark.Idle = Ok (state.Between f)
 marked l f (mark.Opens s) = opened s l.number (l.at + length l.bytes + 1) f
 marked l f mark.Stop = stopped l.number f f.orc
 marked l f mark.Other = Err (fault kind.NotInProfile l.number)
 
-abbrev pub begun : List ℕ → State
+abbrev pub begun : List ℕ → ScanState
 begun bytes = if is_start bytes then state.Between nothing_found else state.Before
 
-abbrev pub inside : Found → Section → Part → ℕ → List ℕ → State
+abbrev pub inside : SectionsFound → Section → Part → ℕ → List ℕ → ScanState
 inside f s p at bytes =
     if closes s bytes then state.Between (with_section s (record p { to = at }) f) else state.Inside f s p
 
-abbrev pub step : State → Line → Result State CsdFault
+abbrev pub step : ScanState → Line → Result ScanState CsdFault
 step state.Before l = Ok (begun l.bytes)
 step (state.Between f) l = marked l f (mark_of l.bytes)
 step (state.Inside f s p) l = Ok (inside f s p l.at l.bytes)
 step (state.Done parts) l = Ok (state.Done parts)
 
 -- the text ends here
-abbrev pub finish : ℕ → State → Result Parts CsdFault
+abbrev pub finish : ℕ → ScanState → Result Parts CsdFault
 finish last (state.Done parts) = Ok parts
 finish last _ = Err (fault kind.MissingTag last)
 
 -- goes on where there is no fault
-abbrev pub onward : Result State CsdFault → (State → Result Parts CsdFault) → Result Parts CsdFault
+abbrev pub onward : Result ScanState CsdFault → (ScanState → Result Parts CsdFault) → Result Parts CsdFault
 onward (Err f) more = Err f
 onward (Ok s) more = more s
 
-abbrev pub scan : ℕ → State → List Line → Result Parts CsdFault
+abbrev pub scan : ℕ → ScanState → List Line → Result Parts CsdFault
 scan last s [] = finish last s
 scan last s (l ∷ ls) = onward (step s l) (λ t. scan last t ls)

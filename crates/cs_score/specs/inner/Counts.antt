@@ -5,7 +5,7 @@ use Rattle.cs_base.specs.Limits.{most_events}
 use Rattle.cs_base.specs.declared.limit.Limit.TheVariants as limit
 use Rattle.cs_score.specs.declared.kept.TableNumbers.{TableNumbers}
 use Rattle.cs_score.specs.declared.kept.EventCount.{EventCount}
-use Rattle.cs_score.specs.declared.kept.Kept.{Kept}
+use Rattle.cs_score.specs.declared.kept.KeptStatements.{KeptStatements}
 use Rattle.cs_score.specs.declared.statement.ScoreStmt.{ScoreStmt}
 use Rattle.cs_score.specs.Statements.{score_of}
 use Rattle.cs_score.specs.Limits.{at_statement, counts, different, first_at, numbers_of, passes_events, passes_tables}
@@ -27,13 +27,13 @@ pub record HasCount (all : List ScoreStmt) (events : EventCount) : Type 0 where
   pub few : events.hit ≡ None → events.count ≤ most_events
 
 -- what is kept of some statements: all of them, until they pass a limit
-pub record Holds (all : List ScoreStmt) (kept : Kept) : Type 0 where
+pub record Holds (all : List ScoreStmt) (kept : KeptStatements) : Type 0 where
   pub tables : HasNumbers all kept.tables
   pub events : HasCount all kept.events
   pub all_kept : kept.tables.hit ≡ None → kept.events.hit ≡ None → kept.statements ≡ all
 
 -- a whole text was read: its statements, and what is kept of them
-pub record IsWhole (text : List ℕ) (kept : Kept) : Type 0 where
+pub record IsWhole (text : List ℕ) (kept : KeptStatements) : Type 0 where
   pub all : List ScoreStmt
   pub read : score_of text ≡ Ok all
   pub holds : Holds all kept

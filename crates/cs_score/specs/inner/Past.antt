@@ -6,13 +6,13 @@ use Rattle.cs_base.specs.declared.fault.ScoreFault.{ScoreFault}
 use Rattle.cs_base.specs.declared.fault.ScoreKind.{ScoreKind}
 use Rattle.cs_base.specs.declared.fault.ScoreKind.TheVariants.{NothingToCarry, NotInProfile, BadStatement}
 use Rattle.cs_score.specs.declared.field.Field.{Field}
-use Rattle.cs_score.specs.declared.kept.Kept.{Kept}
+use Rattle.cs_score.specs.declared.kept.KeptStatements.{KeptStatements}
 use Rattle.cs_score.specs.declared.last.LastNote.{LastNote}
 use Rattle.cs_score.specs.declared.past.Past.{Past}
-use Rattle.cs_score.specs.declared.refusal.Refusal.{Refusal}
-use Rattle.cs_score.specs.declared.refusal.Refusal.TheVariants as refusal
-use Rattle.cs_score.specs.declared.row.Letter.{Letter}
-use Rattle.cs_score.specs.declared.row.Letter.TheVariants as letter
+use Rattle.cs_score.specs.declared.statement_fault.StatementFault.{StatementFault}
+use Rattle.cs_score.specs.declared.statement_fault.StatementFault.TheVariants as fault
+use Rattle.cs_score.specs.declared.row.StatementLetter.{StatementLetter}
+use Rattle.cs_score.specs.declared.row.StatementLetter.TheVariants as letter
 use Rattle.cs_score.specs.declared.row.Row.{Row}
 use Rattle.cs_score.specs.declared.statement.ScoreWhat.{ScoreWhat}
 use Rattle.cs_score.specs.declared.statement.ScoreWhat.TheVariants.{Section}
@@ -25,10 +25,10 @@ use Rattle.cs_score.specs.inner.Counts.{Holds}
 use Rattle.cs_score.specs.inner.State.{IsKept, note_read, p1_before}
 
 -- a list of at most one thing, answered as one thing or none
-abbrev pub AskedAnswers : Result (Option ScoreWhat) Refusal → Result (List ScoreWhat) ScoreKind → Type 0
+abbrev pub AskedAnswers : Result (Option ScoreWhat) StatementFault → Result (List ScoreWhat) ScoreKind → Type 0
 AskedAnswers (Ok what) meant = meant ≡ Ok (option_to_list what)
-AskedAnswers (Err (refusal.Fault kind)) meant = meant ≡ Err kind
-AskedAnswers (Err refusal.OutOfMemory) meant = Unit {0}
+AskedAnswers (Err (fault.Kind kind)) meant = meant ≡ Err kind
+AskedAnswers (Err fault.OutOfMemory) meant = Unit {0}
 
 abbrev pub HasRangeOrNothing : Option ScoreWhat → Type 0
 HasRangeOrNothing None = Unit {0}
@@ -39,7 +39,7 @@ abbrev pub table_read : (ℕ → Option ℤ) → List Field → Result ScoreWhat
 table_read sizes fs = and_then (written_table fs) (λ what. unless (refusal_of sizes what) what)
 
 -- what a row asks for, by what the code keeps
-abbrev pub asked_after : Past → Row → Letter → Result (List ScoreWhat) ScoreKind
+abbrev pub asked_after : Past → Row → StatementLetter → Result (List ScoreWhat) ScoreKind
 asked_after past row letter.Note = one (note_read past.base past.last row.fields)
 asked_after past row letter.Table = one (table_read (get nat_eq past.sizes) row.fields)
 asked_after past row letter.Tempo = one (tempo_of row.fields)
@@ -50,7 +50,7 @@ asked_after past row letter.Other = Err NotInProfile
 asked_after past row letter.Stray = Err BadStatement
 
 -- only an `i` statement is kept for the next one
-abbrev pub LastFollows : LastNote → Row → LastNote → Letter → Type 0
+abbrev pub LastFollows : LastNote → Row → LastNote → StatementLetter → Type 0
 LastFollows last row next letter.Note = IsKept last row.fields next
 LastFollows last row next _ = next.instr ≡ None
 
@@ -70,14 +70,14 @@ pub record Keeps (above : List Row) (past : Past) : Type 0 where
   pub fields : is_note above ≡ true → past.last.fields ≡ fields above
 
 -- one row more was read: what it asks for stands at the end, with its line
-pub record RowRead (past : Past) (before : Kept) (row : Row) (next : Past) (after : Kept) : Type 0 where
+pub record RowRead (past : Past) (before : KeptStatements) (row : Row) (next : Past) (after : KeptStatements) : Type 0 where
   pub these : List ScoreWhat
   pub asked : asked_after past row row.letter ≡ Ok these
   pub grown : (all : List ScoreStmt) → Holds all before → Holds (all ++ at_line row.line these) after
   pub follows : Follows past row next
 
 -- a line was read: its statement, if it has one; the flag says that it was an `e`
-abbrev pub LineTaken : Past → Kept → Option Row → Bool → Past → Kept → Type 0
+abbrev pub LineTaken : Past → KeptStatements → Option Row → Bool → Past → KeptStatements → Type 0
 LineTaken past before None ends next after = (next ≡ past) × (after ≡ before) × (ends ≡ false)
 LineTaken past before (Some row) ends next after = RowRead past before row next after × (ends ≡ is_end row.letter)
 

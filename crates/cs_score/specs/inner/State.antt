@@ -4,12 +4,12 @@ use Rattle.cs_base.specs.declared.fault.ScoreKind.{ScoreKind}
 use Rattle.cs_base.specs.declared.fault.ScoreKind.TheVariants.{NothingToCarry}
 use Rattle.cs_score.specs.declared.last.LastNote.{LastNote}
 use Rattle.cs_score.specs.declared.last.NoteRead.{NoteRead}
-use Rattle.cs_score.specs.declared.field.Instrument.{Instrument}
+use Rattle.cs_score.specs.declared.field.InstrumentNumber.{InstrumentNumber}
 use Rattle.cs_score.specs.declared.field.Signed.{Signed}
 use Rattle.cs_score.specs.declared.field.Field.{Field}
 use Rattle.cs_score.specs.declared.field.Field.TheVariants.{Same}
-use Rattle.cs_score.specs.declared.refusal.Refusal.{Refusal}
-use Rattle.cs_score.specs.declared.refusal.Refusal.TheVariants as refusal
+use Rattle.cs_score.specs.declared.statement_fault.StatementFault.{StatementFault}
+use Rattle.cs_score.specs.declared.statement_fault.StatementFault.TheVariants as fault
 use Rattle.cs_score.specs.declared.statement.ScoreWhat.{ScoreWhat}
 use Rattle.cs_score.specs.declared.statement.ScoreWhat.TheVariants.{Table, Extend}
 use Rattle.cs_score.specs.Fields.{size_of}
@@ -17,19 +17,19 @@ use Rattle.cs_score.specs.Carry.{and_then, is_same, p1_by}
 use Rattle.cs_score.specs.Notes.{gap_by, note_of, p2_by}
 use Rattle.cs_score.specs.Ranges.{beats_end, IsTableNumber}
 
--- an answer of the code is what a definition says; want of memory may come in its place
-abbrev pub Answers : {A : Type 0} → Result A Refusal → Result A ScoreKind → Type 0
+-- an answer of the code is what a definition says; out of memory may come in its place
+abbrev pub Answers : {A : Type 0} → Result A StatementFault → Result A ScoreKind → Type 0
 Answers (Ok x) meant = meant ≡ Ok x
-Answers (Err (refusal.Fault kind)) meant = meant ≡ Err kind
-Answers (Err refusal.OutOfMemory) meant = Unit {0}
+Answers (Err (fault.Kind kind)) meant = meant ≡ Err kind
+Answers (Err fault.OutOfMemory) meant = Unit {0}
 
 -- p1 of the `i` statement right before, if one stands there
-abbrev pub p1_before : Option Instrument → Result Instrument ScoreKind
+abbrev pub p1_before : Option InstrumentNumber → Result InstrumentNumber ScoreKind
 p1_before (Some instr) = Ok instr
 p1_before None = Err NothingToCarry
 
 -- a note that lasts ends below the greatest beat
-abbrev pub Ends : Instrument → ℕ → Signed → Type 0
+abbrev pub Ends : InstrumentNumber → ℕ → Signed → Type 0
 Ends instr at n = instr.stop ≡ false → n.minus ≡ false → at + size_of n < beats_end
 
 -- the values of an `f` by its fields alone
@@ -53,7 +53,7 @@ abbrev pub completed : Bool → List Field → List Field → List Field
 completed continuing written before = if continuing then filled written before else written
 
 -- p1 of an `i` statement, by what it writes and what the code keeps of the one before
-abbrev pub instr_read : LastNote → List Field → Result Instrument ScoreKind
+abbrev pub instr_read : LastNote → List Field → Result InstrumentNumber ScoreKind
 instr_read last written = p1_by (slice_get written 0) (p1_before last.instr)
 
 abbrev pub continuing : LastNote → List Field → Bool
@@ -65,7 +65,7 @@ fields_read last written = completed (continuing last written) written last.fiel
 abbrev pub p2_read : LastNote → List Field → Result ℕ ScoreKind
 p2_read last written = p2_by (continuing last written) last.p2 last.gap (slice_get (fields_read last written) 1)
 
-abbrev pub note_with : ℕ → LastNote → List Field → Instrument → Result ScoreWhat ScoreKind
+abbrev pub note_with : ℕ → LastNote → List Field → InstrumentNumber → Result ScoreWhat ScoreKind
 note_with base last written instr = note_of base instr (p2_read last written) (fields_read last written)
 
 -- what it asks for
@@ -73,7 +73,7 @@ abbrev pub note_read : ℕ → LastNote → List Field → Result ScoreWhat Scor
 note_read base last written = and_then (instr_read last written) (note_with base last written)
 
 -- what the next `i` statement may take from one with these fields
-pub record IsLast (instr : Instrument) (p2 : ℕ) (fields : List Field) (last : LastNote) : Type 0 where
+pub record IsLast (instr : InstrumentNumber) (p2 : ℕ) (fields : List Field) (last : LastNote) : Type 0 where
   pub is_instr : last.instr ≡ Some instr
   pub is_p2 : last.p2 ≡ p2
   pub is_gap : last.gap ≡ gap_by (Ok instr) (slice_get fields 2)
@@ -87,7 +87,7 @@ pub record IsKept (last : LastNote) (written : List Field) (next : LastNote) : T
   pub is_gap : next.gap ≡ gap_by (p1_before next.instr) (slice_get next.fields 2)
   pub is_fields : next.fields ≡ fields_read last written
 
-abbrev pub NoteAnswers : Result NoteRead Refusal → Result ScoreWhat ScoreKind → Type 0
+abbrev pub NoteAnswers : Result NoteRead StatementFault → Result ScoreWhat ScoreKind → Type 0
 NoteAnswers (Ok r) meant = meant ≡ Ok r.what
-NoteAnswers (Err (refusal.Fault kind)) meant = meant ≡ Err kind
-NoteAnswers (Err refusal.OutOfMemory) meant = Unit {0}
+NoteAnswers (Err (fault.Kind kind)) meant = meant ≡ Err kind
+NoteAnswers (Err fault.OutOfMemory) meant = Unit {0}

@@ -4,23 +4,23 @@ use Rattle.std.specs.Ordering.{nat_cmp, int_cmp, ordering_then, is_lt}
 use Rattle.std.specs.declared.cmp.Ordering.{Ordering}
 use Rattle.cs_score.specs.declared.statement.ScoreWhat.{ScoreWhat}
 use Rattle.cs_score.specs.declared.statement.ScoreStmt.{ScoreStmt}
-use Rattle.cs_tempo.specs.declared.order.Turn.{Turn}
+use Rattle.cs_tempo.specs.declared.order.SortKey.{SortKey}
 use Rattle.cs_tempo.specs.Order.{has_turn, beat_of, p1_of, p3_of}
 
 -- the turn of the statement at an index of its section
-abbrev pub turn_of : ℕ → ScoreWhat → Turn
+abbrev pub turn_of : ℕ → ScoreWhat → SortKey
 turn_of index what = record { at = beat_of what; p1 = p1_of what; p3 = p3_of what; index = index }
 
-abbrev pub own_turn : ℕ → ScoreWhat → List Turn
+abbrev pub own_turn : ℕ → ScoreWhat → List SortKey
 own_turn index what = if has_turn what then turn_of index what ∷ [] else []
 
 -- the turns of statements that stand from an index on
-unfoldable pub turns_from : ℕ → List ScoreStmt → List Turn
+unfoldable pub turns_from : ℕ → List ScoreStmt → List SortKey
 turns_from index [] = []
 turns_from index (s ∷ later) = own_turn index s.what ++ turns_from (index + 1) later
 
 -- by beat, p1, p3 and index
-abbrev pub turn_order : Turn → Turn → Ordering
+abbrev pub turn_order : SortKey → SortKey → Ordering
 turn_order t u =
     ordering_then (nat_cmp t.at u.at) (ordering_then (int_cmp t.p1 u.p1)
     (ordering_then (int_cmp t.p3 u.p3) (nat_cmp t.index u.index)))

@@ -1,5 +1,5 @@
 use Rattle.std.proofs.Common.{◌+◌, ap, sym, ◌∙◌, subst, arith, Ok, Err}
-use Rattle.cs_csd.specs.Lines.{next_len}
+use Rattle.cs_base.specs.Lines.{next_len}
 use Rattle.cs_csd.specs.Sections.{Reading}
 use Rattle.cs_csd.proofs.Readings.{Read, all_read, as_sliced, fault_read, line_read}
 use Rattle.std.proofs.lemmas.List.{take_rest}

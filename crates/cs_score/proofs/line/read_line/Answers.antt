@@ -2,9 +2,10 @@ use Rattle.std.proofs.Common.{◌-◌, drop, take, length, ap, ◌∙◌}
 use Rattle.std.specs.List.{prefix_len}
 use Rattle.std.specs.Option.{option_to_list}
 use Rattle.std.proofs.lemmas.List.{take_rest}
-use Rattle.cs_base.specs.Lines.{is_blank}
-use Rattle.cs_score.specs.Rows.{next_len, row_at}
-use Rattle.cs_score.proofs.Lines.{line_len, row_read}
+use Rattle.cs_base.specs.Lines.{is_blank, next_len}
+use Rattle.cs_score.specs.Rows.{row_at}
+use Rattle.cs_base.proofs.LineCuts.{line_len}
+use Rattle.cs_score.proofs.Lines.{row_read}
 use Rattle.cs_score.proofs.line.read_line.Goals as goal
 
 pub returns-clause-row : goal.returns-clause-row

@@ -1,5 +1,5 @@
 use Rattle.cs_score.proofs.Counts.{kept_more}
-use Rattle.cs_score.proofs.kept.Kept.take.Goals as goal
+use Rattle.cs_score.proofs.kept.KeptStatements.take.Goals as goal
 
 pub returns-in_ok-push-clause-keeps : goal.returns-in_ok-push-clause-keeps
 returns-in_ok-push-clause-keeps c = λ all h.

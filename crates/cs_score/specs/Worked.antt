@@ -1,0 +1,42 @@
+-- Statements and refusals of worked examples, in short.
+use Rattle.std.specs.Prelude.{ℕ, ℤ, pos, negsuc, ◌*◌, List, [], ◌∷◌, Result, Err}
+use Rattle.cs_base.specs.declared.fault.ScoreFault.{ScoreFault}
+use Rattle.cs_base.specs.declared.fault.ScoreKind.{ScoreKind}
+use Rattle.cs_score.specs.declared.statement.ScoreStmt.{ScoreStmt}
+use Rattle.cs_score.specs.declared.statement.ScoreWhat.{ScoreWhat}
+use Rattle.cs_score.specs.declared.statement.ScoreWhat.TheVariants.{Note, Hold, Stop, Table, Section}
+
+abbrev pub at_line : ℕ → ScoreWhat → ScoreStmt
+at_line line what = record { line = line; what = what }
+
+-- whole beats in millionths, and a whole number in 65,536ths
+abbrev pub beats : ℕ → ℕ
+beats n = n * 1000000
+
+abbrev pub whole : ℕ → ℤ
+whole n = pos (n * 65536)
+
+-- a note of instrument 1 that lasts a beat, at a whole beat, with this p4
+abbrev pub note : ℕ → ℕ → ℕ → ScoreStmt
+note line at p4 = at_line line (Note 1 (beats at) (beats 1) (whole p4 ∷ []))
+
+-- the same without fields from p4 on
+abbrev pub bare_note : ℕ → ℕ → ScoreStmt
+bare_note line at = at_line line (Note 1 (beats at) (beats 1) [])
+
+-- a note of instrument 1 that is held, with -1 as its p3
+abbrev pub held_note : ℕ → ℕ → ℕ → ScoreStmt
+held_note line at p4 = at_line line (Hold 1 (beats at) (negsuc 65535) (whole p4 ∷ []))
+
+abbrev pub stop : ℕ → ℕ → ScoreStmt
+stop line at = at_line line (Stop 1 (beats at))
+
+abbrev pub section_end : ℕ → ScoreStmt
+section_end line = at_line line Section
+
+-- table 1 at beat 0, of 4 points
+abbrev pub table : ℕ → ℤ → List ℤ → ScoreStmt
+table line gen args = at_line line (Table 1 0 (pos 4) gen args)
+
+abbrev pub refused : ℕ → ScoreKind → Result (List ScoreStmt) ScoreFault
+refused line kind = Err (record { line = line; kind = kind })

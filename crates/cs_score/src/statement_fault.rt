@@ -1,0 +1,29 @@
+// Why a statement isn't read, before its line is known.
+ghost use Rattle.std.specs.Prelude.{◌≡◌};
+ghost use Rattle.cs_score.specs.declared.statement_fault.StatementFault.TheVariants as fault;
+
+use cs_base::ScoreKind;
+use std::alloc::AllocError;
+
+/// Why a statement isn't read: the rule that it breaks, or out of memory. Its line is known where the text is read.
+#[derive(Clone, Copy)]
+pub enum StatementFault {
+    Kind(ScoreKind),
+    OutOfMemory,
+}
+
+impl From<ScoreKind> for StatementFault {
+    ghost from_gives = { λ kind e. e ≡ fault.Kind kind };
+
+    fn from(kind: ScoreKind) -> Self {
+        StatementFault::Kind(kind)
+    }
+}
+
+impl From<AllocError> for StatementFault {
+    ghost from_gives = { λ _ e. e ≡ fault.OutOfMemory };
+
+    fn from(_: AllocError) -> Self {
+        StatementFault::OutOfMemory
+    }
+}
