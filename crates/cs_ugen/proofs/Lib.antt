@@ -4,5 +4,6 @@ pub mod Loops
 pub mod Oscillators
 pub mod Phases
 pub mod Quotients
+pub mod Shorts
 pub mod Blocks
 pub mod Units

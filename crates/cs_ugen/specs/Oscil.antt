@@ -26,9 +26,17 @@ start settled = argument settled 1
 abbrev pub place_at : List ℤ → ℕ → ℕ
 place_at curve phase = phase * curve_len curve / turn
 
+-- the point at a phase's place
+abbrev pub point_at : List ℤ → ℕ → ℤ
+point_at curve phase = argument curve (place_at curve phase)
+
+-- the amplitude times the curve at a phase, as one reads a curve at a phase
+abbrev pub wave_by : (List ℤ → ℕ → ℤ) → ℕ → List ℤ → ℤ
+wave_by read phase x = product_of (amplitude x) (read (points x) phase)
+
 -- the amplitude times the point at the phase's place
 abbrev pub held_wave : ℕ → List ℤ → ℤ
-held_wave phase x = product_of (amplitude x) (argument (points x) (place_at (points x) phase))
+held_wave = wave_by point_at
 
 -- the wave at the phase that the steps before have turned to
 unfoldable pub oscil_of : Rate → Pace → List ℤ → List (List ℤ) → ℤ
@@ -38,8 +46,12 @@ oscil_of rate pace settled inputs =
 abbrev pub oscil_start : Rate → Pace → List ℤ → Turning
 oscil_start rate pace settled = begun rate pace (start settled)
 
+-- a step of a wave, as one reads a curve at a phase
+abbrev pub wave_step : (List ℤ → ℕ → ℤ) → Turning → List ℤ → Turning × ℤ
+wave_step read t x = (turned t (frequency x), wave_by read t.phase x)
+
 abbrev pub oscil_step : Turning → List ℤ → Turning × ℤ
-oscil_step t x = (turned t (frequency x), held_wave t.phase x)
+oscil_step = wave_step point_at
 
 abbrev pub OscilStands : Turning → Rate → Pace → List ℤ → List (List ℤ) → Type 0
 OscilStands t rate pace settled inputs = HasTurned t rate pace (start settled) (map frequency inputs)

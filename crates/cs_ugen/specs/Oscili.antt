@@ -1,21 +1,23 @@
 -- oscili: xamp, xcps, ifn [, iphs] reads a table as a wave, with straight lines between its points.
 use Rattle.std.specs.Prelude.{ℕ, ◌*◌, ◌/◌, ◌%◌, List, map, ℤ}
-use Rattle.cs_base.specs.Numbers.{product_of}
 use Rattle.cs_base.specs.declared.resource.Rate.{Rate}
 use Rattle.cs_signal.specs.Pace.{Pace}
 use Rattle.cs_ugen.specs.Inputs.{before_last, last_of}
-use Rattle.cs_ugen.specs.Oscil.{amplitude, frequency, points, start, place_at}
-use Rattle.cs_ugen.specs.Phases.{Turning, HasTurned, begun, turn, turned, phase_of}
+use Rattle.cs_ugen.specs.Oscil.{frequency, place_at, start, wave_by, wave_step}
+use Rattle.cs_ugen.specs.Phases.{Turning, HasTurned, begun, turn, phase_of}
 use Rattle.cs_ugen.specs.Points.{curve_len, between_points}
 
 -- how far a phase lies behind its place, in 65,536ths of the way to the next
 abbrev pub fraction_at : List ℤ → ℕ → ℕ
 fraction_at curve phase = phase * curve_len curve % turn / 256
 
+-- the curve at a phase, on the line between two points
+abbrev pub line_at : List ℤ → ℕ → ℤ
+line_at curve phase = between_points curve (place_at curve phase) (fraction_at curve phase)
+
 -- the amplitude times the curve at a phase
 abbrev pub wave : ℕ → List ℤ → ℤ
-wave phase x =
-    product_of (amplitude x) (between_points (points x) (place_at (points x) phase) (fraction_at (points x) phase))
+wave = wave_by line_at
 
 -- the wave at the phase that the steps before have turned to
 unfoldable pub oscili_of : Rate → Pace → List ℤ → List (List ℤ) → ℤ
@@ -26,7 +28,7 @@ abbrev pub oscili_start : Rate → Pace → List ℤ → Turning
 oscili_start rate pace settled = begun rate pace (start settled)
 
 abbrev pub oscili_step : Turning → List ℤ → Turning × ℤ
-oscili_step t x = (turned t (frequency x), wave t.phase x)
+oscili_step = wave_step line_at
 
 abbrev pub OsciliStands : Turning → Rate → Pace → List ℤ → List (List ℤ) → Type 0
 OsciliStands t rate pace settled inputs = HasTurned t rate pace (start settled) (map frequency inputs)

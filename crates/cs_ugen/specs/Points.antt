@@ -1,5 +1,5 @@
 -- What is read of a table: its points with the guard point behind the last of them, as cs_gen's `curve_of` has it.
-use Rattle.std.specs.Prelude.{◌≡◌, ℕ, ◌+◌, ◌-◌, Bool, true, ◌==◌, List, length, ℤ, pos, ◌+ℤ◌, ◌-ℤ◌, ◌*ℤ◌}
+use Rattle.std.specs.Prelude.{◌≡◌, ℕ, ◌+◌, ◌-◌, Bool, true, ◌==◌, List, length, ℤ, pos, negsuc, ◌≤ℤ◌, ◌+ℤ◌, ◌-ℤ◌, ◌*ℤ◌}
 use Rattle.std.specs.List.{list_any}
 use Rattle.cs_base.specs.Numbers.{floor_div, one}
 use Rattle.cs_gen.specs.Faults.{lengths}
@@ -17,6 +17,14 @@ is_len n = list_any (λ len. n == len) lengths
 pub record IsCurve (points : List ℤ) : Type 0 where
   pub guarded : length points ≡ curve_len points + 1
   pub power : is_len (curve_len points) ≡ true
+
+-- a value that fits into 32 bits
+abbrev pub IsShort : ℤ → Type 0
+IsShort z = (negsuc 2147483647 ≤ℤ z) × (z ≤ℤ pos 2147483647)
+
+-- so do all points
+abbrev pub AreShort : List ℤ → Type 0
+AreShort points = (place : ℕ) → IsShort (argument points place)
 
 -- on the way from p to q, so many 65,536ths of it, rounded down
 abbrev pub on_the_way : ℤ → ℤ → ℕ → ℤ

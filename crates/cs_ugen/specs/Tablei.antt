@@ -1,19 +1,23 @@
 -- tablei: xndx, ifn reads a table at an index, on the straight line between two points. It keeps nothing from step to step.
 use Rattle.std.specs.Prelude.{ℕ, ◌-◌, ◌*◌, ◌/◌, ◌%◌, List, ℤ}
 use Rattle.cs_base.specs.declared.resource.Rate.{Rate}
+use Rattle.cs_gen.specs.Places.{from_zero_to}
 use Rattle.cs_signal.specs.Pace.{Pace}
 use Rattle.cs_ugen.specs.Inputs.{last_of}
 use Rattle.cs_ugen.specs.Points.{curve_len, between_points}
-use Rattle.cs_ugen.specs.Table.{from_zero_to, index, points}
+use Rattle.cs_ugen.specs.Table.{index, index_step, points}
 
 -- an index brought into 0 .. len * 65536 - 1, in 65,536ths of a place
 abbrev pub index_of : List ℤ → ℤ → ℕ
 index_of curve ndx = from_zero_to (curve_len curve * 65536 - 1) ndx
 
+-- a curve at an index, on the line between two points
+abbrev pub line_of : List ℤ → ℤ → ℤ
+line_of curve ndx = between_points curve (index_of curve ndx / 65536) (index_of curve ndx % 65536)
+
 -- the curve at the index of the last step
 abbrev pub curve_at_index : List ℤ → ℤ
-curve_at_index x =
-    between_points (points x) (index_of (points x) (index x) / 65536) (index_of (points x) (index x) % 65536)
+curve_at_index x = line_of (points x) (index x)
 
 unfoldable pub tablei_of : Rate → Pace → List ℤ → List (List ℤ) → ℤ
 tablei_of rate pace settled inputs = curve_at_index (last_of inputs)
@@ -23,7 +27,7 @@ abbrev pub tablei_start : Rate → Pace → List ℤ → Unit {0}
 tablei_start rate pace settled = tt
 
 abbrev pub tablei_step : Unit {0} → List ℤ → Unit {0} × ℤ
-tablei_step t x = (tt, curve_at_index x)
+tablei_step = index_step line_of
 
 abbrev pub TableiStands : Unit {0} → Rate → Pace → List ℤ → List (List ℤ) → Type 0
 TableiStands t rate pace settled inputs = Unit {0}

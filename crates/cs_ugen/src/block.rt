@@ -6,6 +6,7 @@ ghost use Rattle.cs_signal.specs.Steps.{run};
 ghost use Rattle.cs_ugen.specs.Units.{inputs_at, moving_count, opcode_of, reads_table, unit_step};
 
 use crate::Curve;
+use crate::reading::{Interpolating, Truncating};
 use crate::unit::{Kind, Unit};
 use cs_base::Num;
 use cs_signal::Operand;
@@ -51,10 +52,12 @@ impl Unit {
         ensures kept { C.kept curve.old curve.new }
     {
         match &mut self.kind {
-            Kind::Oscil(unit) => unit.block_on(&inputs[0], &inputs[1], curve, out),
-            Kind::Oscili(unit) => unit.block_on(&inputs[0], &inputs[1], curve, out),
-            Kind::Table(unit) => unit.block_on(&inputs[0], curve, out),
-            Kind::Tablei(unit) => unit.block_on(&inputs[0], curve, out),
+            Kind::Oscil(unit) => unit.block_on::<Truncating, C>(&inputs[0], &inputs[1], curve, out),
+            Kind::Oscili(unit) => unit.block_on::<Interpolating, C>(
+                &inputs[0], &inputs[1], curve, out,
+            ),
+            Kind::Table(unit) => unit.block_on::<Truncating, C>(&inputs[0], curve, out),
+            Kind::Tablei(unit) => unit.block_on::<Interpolating, C>(&inputs[0], curve, out),
             _ => unreachable!(),
         }
     }

@@ -1,11 +1,12 @@
 // What is read: the points of a table, with the guard point behind the last of them.
-ghost use Rattle.std.specs.Prelude.{◌≡◌, ◌<◌, ◌^◌, ◌≤◌, ℤ, pos, ◌-ℤ◌, ◌*ℤ◌, unsigned_abs, List};
+ghost use Rattle.std.specs.Prelude.{IfSome, true, ◌≡◌, ◌<◌, ◌^◌, ◌≤◌, ℤ, pos, ◌-ℤ◌, ◌*ℤ◌, unsigned_abs, List};
 ghost use Rattle.std.specs.Int.{int_rem_euclid};
 ghost use Rattle.cs_base.specs.Numbers.{IsRaw, floor_div};
 ghost use Rattle.cs_gen.specs.Tables.{curve_of};
-ghost use Rattle.cs_ugen.specs.Points.{IsCurve, between_points, curve_len, on_the_way};
+ghost use Rattle.cs_ugen.specs.Points.{AreShort, IsCurve, IsShort, between_points, curve_len, on_the_way};
 ghost use Rattle.cs_signal.specs.Operands.{argument};
 
+use crate::frozen::ShortCurve;
 use cs_base::Num;
 
 /// A table as a unit reads it: `len` points and behind them the guard point, which no call changes. What a curve
@@ -29,6 +30,33 @@ pub trait Curve {
         ensures same { points self.new ≡ points self.old }
         ensures kept { kept self.old self.new };
 
+    /// The same of a place before the guard point, which needs no look at where that is.
+    #[inline(always)]
+    fn inner(&mut self, place: u32) -> Num
+        requires { place < curve_len (points self.old) }
+        ensures value { result ≡ argument (points self.old) place }
+        ensures same { points self.new ≡ points self.old }
+        ensures kept { kept self.old self.new }
+    {
+        self.at(place)
+    }
+
+    /// Whether all points are known to fit into 32 bits, so that no product with one is looked at.
+    #[inline(always)]
+    fn is_short(&self) -> bool
+        ensures { result ≡ true → AreShort (points self.now) }
+    {
+        false
+    }
+
+    /// The same curve for a loop, where it lies in one row and `is_short` there; else None.
+    #[inline(always)]
+    fn short(&self) -> Option<ShortCurve<'_>>
+        ensures { IfSome result (λ s. curve_of s.points.now ≡ points self.now) }
+    {
+        None
+    }
+
     ghost stays: { (x : Self) → kept x x };
 
     ghost chain: { (x y z : Self) → kept x y → kept y z → kept x z };
@@ -46,8 +74,21 @@ pub(crate) fn len_of<C: Curve>(curve: &C) -> u32
 
 /// The curve between the point at a place and the next, so many 65,536ths of the way.
 #[inline(always)]
-#[tactic(auto, unfolding(crate::specs::Points::between_points))]
 pub(crate) fn between_points<C: Curve>(curve: &mut C, place: u32, fraction: u32) -> Num
+    requires place { place < curve_len (C.points curve.old) }
+    requires few { curve_len (C.points curve.old) ≤ 65536 }
+    requires fraction { fraction < 65536 }
+    ensures value { result ≡ between_points (C.points curve.old) place fraction }
+    ensures short { AreShort (C.points curve.old) → IsShort result }
+    ensures same { C.points curve.new ≡ C.points curve.old }
+    ensures kept { C.kept curve.old curve.new }
+{
+    read_between(curve, place, fraction)
+}
+
+#[inline(always)]
+#[tactic(auto, unfolding(crate::specs::Points::between_points))]
+fn read_between<C: Curve>(curve: &mut C, place: u32, fraction: u32) -> Num
     requires place { place < curve_len (C.points curve.old) }
     requires few { curve_len (C.points curve.old) ≤ 65536 }
     requires fraction { fraction < 65536 }
@@ -55,9 +96,57 @@ pub(crate) fn between_points<C: Curve>(curve: &mut C, place: u32, fraction: u32)
     ensures same { C.points curve.new ≡ C.points curve.old }
     ensures kept { C.kept curve.old curve.new }
 {
-    let here = curve.at(place);
+    let here = curve.inner(place);
     let next = curve.at(place + 1);
-    on_the_way(here, next, fraction)
+    if curve.is_short() {
+        short_way(here, next, fraction)
+    } else {
+        on_the_way(here, next, fraction)
+    }
+}
+
+// Between two points that fit into 32 bits: the product is within 64.
+#[inline(always)]
+fn short_way(here: Num, next: Num, fraction: u32) -> Num
+    requires fraction { fraction < 65536 }
+    requires here { IsShort here }
+    requires next { IsShort next }
+    ensures { result ≡ on_the_way here next fraction }
+{
+    moved(
+        here,
+        next,
+        fraction,
+        part_of(here.raw(), next.raw(), fraction),
+    )
+}
+
+#[inline(always)]
+fn part_of(here: i64, next: i64, fraction: u32) -> i64
+    requires fraction { fraction < 65536 }
+    requires here { IsShort here }
+    requires next { IsShort next }
+    ensures { result ≡ floor_div ((next -ℤ here) *ℤ pos fraction) (pos 65536) }
+{
+    floored(scaled(next - here, fraction))
+}
+
+/// A 65,536th, rounded down: as a division but for the look at the sign.
+#[inline(always)]
+pub(crate) fn floored(x: i64) -> i64
+    ensures { result ≡ floor_div x (pos 65536) }
+{
+    x >> 16
+}
+
+#[inline(always)]
+fn scaled(difference: i64, fraction: u32) -> i64
+    requires fraction { fraction < 65536 }
+    requires bounded { unsigned_abs difference < 2 ^ 32 }
+    ensures value { result ≡ difference *ℤ pos fraction }
+    ensures bounded { unsigned_abs result < 2 ^ 48 }
+{
+    difference * i64::from(fraction)
 }
 
 #[inline(always)]

@@ -1,35 +1,85 @@
 // A table that stays as it was made.
 ghost use Rattle.std.specs.Prelude.{◌≡◌, ◌<◌, ◌≤◌, ◌-◌, ◌%◌, true, refl, length};
 ghost use Rattle.std.proofs.Common.{◌∙◌};
-ghost use Rattle.cs_gen.specs.Points.{len_of, guard_place};
+ghost use Rattle.cs_gen.specs.Points.{len_of};
 ghost use Rattle.cs_gen.specs.Tables.{curve_of};
-ghost use Rattle.cs_ugen.specs.Points.{IsCurve, curve_len, is_len};
+ghost use Rattle.cs_ugen.specs.Points.{AreShort, IsCurve, IsShort, curve_len, is_len};
 ghost use Rattle.cs_signal.specs.Operands.{argument};
 
 use crate::curve::Curve;
 use cs_base::Num;
 
-/// A made table as a curve: its points, and the guard point, which is the last of a size that is one more than a
+/// The points of a table that stays as it was made, and whether all of them fit into 32 bits.
+#[derive(Clone, Copy)]
+pub struct FrozenTable<'p> {
+    points: &'p [Num],
+    short: bool,
+    ghost short_is: { short ≡ true → AreShort points.now },
+}
+
+impl<'p> FrozenTable<'p> {
+    /// The table of these points. It looks at each of them.
+    pub fn new(points: &'p [Num]) -> FrozenTable<'p>
+        ensures { result.points.now ≡ points.now }
+    {
+        FrozenTable {
+            points,
+            short: are_short(points),
+        }
+    }
+}
+
+fn are_short(points: &[Num]) -> bool
+    ensures { result ≡ true → AreShort points.now }
+{
+    for place in 0..points.len() {
+        if !is_short(points[place]) {
+            return false;
+        }
+    }
+    true
+}
+
+/// Whether a value fits into 32 bits.
+#[inline(always)]
+pub(crate) fn is_short(x: Num) -> bool
+    ensures { result ≡ true → IsShort x }
+{
+    -2_147_483_648 <= x.raw() && x.raw() <= 2_147_483_647
+}
+
+/// A frozen table as a curve: its points, and the guard point, which is the last of a size that is one more than a
 /// power of two, else the first.
 #[derive(Clone, Copy)]
 pub struct Frozen<'p> {
     points: &'p [Num],
     len: u32,
-    guard: Num,
+    short: bool,
     ghost len_is: { len ≡ len_of (length points.now) },
     ghost power: { is_len len ≡ true },
-    ghost guard_is: { guard ≡ argument points.now (guard_place (length points.now)) },
+    ghost short_is: { short ≡ true → AreShort points.now },
 }
 
 impl<'p> Frozen<'p> {
-    /// The curve of a table by its points, as many as its size.
+    /// The curve of a table by its points, as many as its size. It looks at each of them.
     pub fn new(points: &'p [Num]) -> Frozen<'p>
         requires { is_len (len_of (length points.now)) ≡ true }
         ensures { result.points.now ≡ points.now }
     {
-        let len = power_below(points.len());
-        let guard = guard_of(points);
-        Frozen { points, len, guard }
+        Frozen::of(FrozenTable::new(points))
+    }
+
+    /// The curve of a table. It takes no time that grows with it.
+    pub fn of(table: FrozenTable<'p>) -> Frozen<'p>
+        requires { is_len (len_of (length table.points.now)) ≡ true }
+        ensures { result.points.now ≡ table.entry.points.now }
+    {
+        let len = power_below(table.points.len());
+        Frozen {
+            points: table.points,
+            len,
+            short: table.short,
+        }
     }
 }
 
@@ -41,16 +91,25 @@ fn power_below(size: usize) -> u32
     (size - size % 2) as u32
 }
 
-// The guard point of a table.
-fn guard_of(points: &[Num]) -> Num
-    requires { 2 ≤ length points.now }
-    ensures { result ≡ argument points.now (guard_place (length points.now)) }
+// The point at a place of the curve of some points: behind the last of them stands the first.
+#[inline(always)]
+fn point_at(points: &[Num], place: u32) -> Num
+    requires power { is_len (len_of (length points.now)) ≡ true }
+    requires place { place ≤ len_of (length points.now) }
+    ensures { result ≡ argument (curve_of points.now) place }
 {
-    if points.len() % 2 == 1 {
-        points[points.len() - 1]
-    } else {
-        points[0]
-    }
+    let place = place as usize;
+    let held = if place < points.len() { place } else { 0 };
+    points[held]
+}
+
+// The same before the guard point.
+#[inline(always)]
+fn inner_at(points: &[Num], place: u32) -> Num
+    requires { place < len_of (length points.now) }
+    ensures { result ≡ argument (curve_of points.now) place }
+{
+    points[place as usize]
 }
 
 impl Curve for Frozen<'_> {
@@ -65,11 +124,64 @@ impl Curve for Frozen<'_> {
 
     #[inline(always)]
     fn at(&mut self, place: u32) -> Num {
-        if place < self.len {
-            self.points[place as usize]
+        point_at(self.points, place)
+    }
+
+    #[inline(always)]
+    fn inner(&mut self, place: u32) -> Num {
+        inner_at(self.points, place)
+    }
+
+    #[inline(always)]
+    fn short(&self) -> Option<ShortCurve<'_>> {
+        if self.short {
+            Some(ShortCurve {
+                points: self.points,
+                len: self.len,
+            })
         } else {
-            self.guard
+            None
         }
+    }
+
+    ghost stays = { λ x. refl };
+
+    ghost chain = { λ x y z p q. q ∙ p };
+}
+
+/// A frozen table as a curve whose points all fit into 32 bits.
+#[derive(Clone, Copy)]
+pub struct ShortCurve<'p> {
+    points: &'p [Num],
+    len: u32,
+    ghost len_is: { len ≡ len_of (length points.now) },
+    ghost power: { is_len len ≡ true },
+    ghost short_is: { AreShort points.now },
+}
+
+impl Curve for ShortCurve<'_> {
+    ghost points = { λ f. curve_of f.points.now };
+
+    ghost kept = { λ before after. after ≡ before };
+
+    #[inline(always)]
+    fn len(&self) -> u32 {
+        self.len
+    }
+
+    #[inline(always)]
+    fn at(&mut self, place: u32) -> Num {
+        point_at(self.points, place)
+    }
+
+    #[inline(always)]
+    fn inner(&mut self, place: u32) -> Num {
+        inner_at(self.points, place)
+    }
+
+    #[inline(always)]
+    fn is_short(&self) -> bool {
+        true
     }
 
     ghost stays = { λ x. refl };

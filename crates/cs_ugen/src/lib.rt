@@ -6,35 +6,30 @@
 //! states lie in one type, and which loop runs a block, may be changed without anyone above noticing; `gen`, the formulas and
 //! `Stands` may not.
 //!
-//! Modules in reading order: `phase` (what turns), `curve` (what is read), `frozen` (a table that stays as it was made); a module
-//! an opcode: `phasor`, `oscil`, `oscili`, `table`, `tablei`; `oscillator_laws`; `unit` (the type, and its start), `step` (one
-//! step), `block` (a whole vector of steps in one call), `laws`.
+//! Modules in reading order: `phase` (what turns), `curve` (what is read), `frozen` (a table that stays as it was made), `reading`
+//! (points held, or lines between them); `phasor`, `oscillator` (`oscil`, `oscili`), `table` (`table`, `tablei`);
+//! `oscillator_laws`; `unit` (the type, and its start), `step` (one step), `block` (a whole vector of steps in one call), `laws`.
 #![tactic(auto)]
 
 mod block;
 mod curve;
 mod frozen;
 mod laws;
-mod oscil;
-mod oscili;
+mod oscillator;
 mod oscillator_laws;
 mod phase;
 mod phasor;
+mod reading;
 mod step;
 mod table;
-mod tablei;
 mod unit;
 
 pub use cs_signal::delay_samples;
 pub use curve::Curve;
-pub use frozen::Frozen;
+pub use frozen::{Frozen, FrozenTable, ShortCurve};
 pub use laws::{blocks_meet_their_formulas, units_meet_their_formulas};
-pub use oscil::Oscil;
-pub use oscili::Oscili;
 pub use oscillator_laws::{
     made_tables_are_curves, oscillators_meet_their_formulas, steps_worked_by_hand,
 };
 pub use phasor::Phasor;
-pub use table::Table;
-pub use tablei::Tablei;
 pub use unit::Unit;

@@ -84,7 +84,8 @@ impl Phase {
         ensures value { result ≡ self.now.phase }
         ensures small { result < turn }
     {
-        self.phase
+        // It is below already; the compiler is told so.
+        self.phase % TURN
     }
 
     /// Goes on from this phase.

@@ -4,6 +4,7 @@ ghost use Rattle.cs_signal.specs.Biquad.{biquad_step};
 ghost use Rattle.cs_ugen.specs.Units.{moving_count, opcode_of, reads_table, unit_step};
 
 use crate::Curve;
+use crate::reading::{Interpolating, Truncating};
 use crate::unit::{Kind, Unit};
 use cs_base::Num;
 use cs_signal::{Biquad, argument};
@@ -42,10 +43,10 @@ impl Unit {
         ensures kept { C.kept curve.old curve.new }
     {
         match &mut self.kind {
-            Kind::Oscil(unit) => unit.step_on(inputs[0], inputs[1], curve),
-            Kind::Oscili(unit) => unit.step_on(inputs[0], inputs[1], curve),
-            Kind::Table(unit) => unit.step_on(inputs[0], curve),
-            Kind::Tablei(unit) => unit.step_on(inputs[0], curve),
+            Kind::Oscil(unit) => unit.step_on::<Truncating, C>(inputs[0], inputs[1], curve),
+            Kind::Oscili(unit) => unit.step_on::<Interpolating, C>(inputs[0], inputs[1], curve),
+            Kind::Table(unit) => unit.step_on::<Truncating, C>(inputs[0], curve),
+            Kind::Tablei(unit) => unit.step_on::<Interpolating, C>(inputs[0], curve),
             _ => unreachable!(),
         }
     }

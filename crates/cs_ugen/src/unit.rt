@@ -3,7 +3,9 @@ ghost use Rattle.std.specs.Prelude.{◌≡◌, IfOk, OnErr, true};
 ghost use Rattle.cs_signal.specs.Pace.{pace_of};
 ghost use Rattle.cs_ugen.specs.Units.{IsUnitOpcode, takes_memory, unit_start};
 
-use crate::{Oscil, Oscili, Phasor, Table, Tablei};
+use crate::Phasor;
+use crate::oscillator::Oscillator;
+use crate::table::Table;
 use cs_base::{Head, Num, OutOfMemory, Rate};
 use cs_signal::{
     Biquad, Delay, Diff, Downsamp, Integ, Interp, Limit, Line, Linen, Linseg, Samphold,
@@ -20,8 +22,8 @@ pub struct Unit {
 
 #[derive(Drop)]
 pub(crate) enum Kind {
-    Oscil(Oscil),
-    Oscili(Oscili),
+    Oscil(Oscillator),
+    Oscili(Oscillator),
     Phasor(Phasor),
     Line(Line),
     Linseg(Linseg),
@@ -29,7 +31,7 @@ pub(crate) enum Kind {
     Delay(Delay),
     Biquad(Biquad),
     Table(Table),
-    Tablei(Tablei),
+    Tablei(Table),
     Integ(Integ),
     Diff(Diff),
     Samphold(Samphold),
@@ -61,10 +63,10 @@ impl Unit {
     {
         match opcode {
             Opcode::Oscil => Ok(Unit {
-                kind: Kind::Oscil(Oscil::start(rate, head, settled)),
+                kind: Kind::Oscil(Oscillator::start(rate, head, settled)),
             }),
             Opcode::Oscili => Ok(Unit {
-                kind: Kind::Oscili(Oscili::start(rate, head, settled)),
+                kind: Kind::Oscili(Oscillator::start(rate, head, settled)),
             }),
             Opcode::Phasor => Ok(Unit {
                 kind: Kind::Phasor(Phasor::start(rate, head, settled)),
@@ -88,7 +90,7 @@ impl Unit {
                 kind: Kind::Table(Table::start()),
             }),
             Opcode::Tablei => Ok(Unit {
-                kind: Kind::Tablei(Tablei::start()),
+                kind: Kind::Tablei(Table::start()),
             }),
             Opcode::Integ => Ok(Unit {
                 kind: Kind::Integ(Integ::start()),

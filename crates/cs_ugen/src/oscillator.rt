@@ -1,0 +1,211 @@
+// `oscil` and `oscili`: a table read as a wave.
+ghost use Rattle.std.specs.Prelude.{◌≡◌, ◌<◌, ◌∷◌, ◌^◌, ◌≤◌, length, ◌*ℤ◌, unsigned_abs};
+ghost use Rattle.cs_base.specs.Numbers.{product_of};
+ghost use Rattle.cs_ugen.specs.Oscil.{oscil_start, wave_step};
+ghost use Rattle.cs_ugen.specs.Phases.{turn};
+ghost use Rattle.cs_ugen.specs.Points.{IsShort};
+ghost use Rattle.cs_signal.specs.Operands.{argument, operand_at, Lasts};
+ghost use Rattle.cs_signal.specs.Pace.{pace_of};
+ghost use Rattle.cs_signal.specs.Steps.{run};
+
+use crate::curve::{Curve, floored};
+use crate::frozen::is_short;
+use crate::phase::{Phase, moved};
+use crate::reading::Reading;
+use cs_base::{Head, Num, Rate};
+use cs_signal::{Operand, argument};
+use std::marker::Model;
+
+/// An `oscil` or `oscili` of a note.
+#[derive(Drop)]
+pub(crate) struct Oscillator {
+    phase: Phase,
+}
+
+impl Model for Oscillator {
+    ghost use Rattle.cs_ugen.specs.Phases.{Turning};
+
+    ghost Value = { Turning };
+
+    ghost view = { λ unit. unit.phase };
+}
+
+impl Oscillator {
+    /// One that has no step behind it. Settled: the table's number, which the caller finds, and the starting phase in
+    /// turns, or no more.
+    pub(crate) fn start(rate: Rate, head: &Head, init: &[Num]) -> Oscillator
+        ensures { result ≡ oscil_start rate (pace_of head.now) init.now }
+    {
+        Oscillator {
+            phase: Phase::start(rate, head, argument(init, 1)),
+        }
+    }
+
+    /// One step at this amplitude and frequency.
+    #[inline(always)]
+    pub(crate) fn step_on<R: Reading, C: Curve>(&mut self, amp: Num, cps: Num, curve: &mut C) -> Num
+        ensures value { (self.new, result) ≡ wave_step R.on_turn self.old (amp ∷ cps ∷ C.points curve.old) }
+        ensures same { C.points curve.new ≡ C.points curve.old }
+        ensures kept { C.kept curve.old curve.new }
+    {
+        let phase = self.phase.turn(cps);
+        wave::<R, C>(amp, curve, phase)
+    }
+
+    /// A step for each frame of `out`.
+    #[inline(always)]
+    pub(crate) fn block_on<R: Reading, C: Curve>(
+        &mut self,
+        amp: &Operand,
+        cps: &Operand,
+        curve: &mut C,
+        out: &mut [Num],
+    )
+        requires amp { Lasts (length out.old) amp.now }
+        requires cps { Lasts (length out.old) cps.now }
+        ensures value { (self.new, out.new) ≡ run (wave_step R.on_turn)
+            (λ j. operand_at amp.now j ∷ operand_at cps.now j ∷ C.points curve.old) self.old 0 (length out.old) }
+        ensures same { C.points curve.new ≡ C.points curve.old }
+        ensures kept { C.kept curve.old curve.new }
+    {
+        match curve.short() {
+            Some(short) => {
+                let mut local = short;
+                play::<R, _>(self, amp, cps, &mut local, out);
+            }
+            None => play::<R, C>(self, amp, cps, curve, out),
+        }
+    }
+}
+
+#[inline(always)]
+fn play<R: Reading, C: Curve>(
+    unit: &mut Oscillator,
+    amp: &Operand,
+    cps: &Operand,
+    curve: &mut C,
+    out: &mut [Num],
+)
+    requires amp { Lasts (length out.old) amp.now }
+    requires cps { Lasts (length out.old) cps.now }
+    ensures value { (unit.new, out.new) ≡ run (wave_step R.on_turn)
+        (λ j. operand_at amp.now j ∷ operand_at cps.now j ∷ C.points curve.old) unit.old 0 (length out.old) }
+    ensures same { C.points curve.new ≡ C.points curve.old }
+    ensures kept { C.kept curve.old curve.new }
+{
+    match (amp, cps) {
+        (Operand::Held(amp), Operand::Held(cps)) => {
+            // Both arms are the same text: in the first the compiler knows that the amplitude fits into 32 bits.
+            if is_short(*amp) {
+                held::<R, C>(unit, *amp, *cps, curve, out);
+            } else {
+                held::<R, C>(unit, *amp, *cps, curve, out);
+            }
+        }
+        (Operand::Row(amp), Operand::Held(cps)) => shaped::<R, C>(unit, amp, *cps, curve, out),
+        _ => along::<R, C>(unit, amp, cps, curve, out),
+    }
+}
+
+// Amplitude and frequency are held.
+#[inline(always)]
+fn held<R: Reading, C: Curve>(
+    unit: &mut Oscillator,
+    amp: Num,
+    cps: Num,
+    curve: &mut C,
+    out: &mut [Num],
+)
+    ensures value { (unit.new, out.new)
+        ≡ run (wave_step R.on_turn) (λ j. amp ∷ cps ∷ C.points curve.old) unit.old 0 (length out.old) }
+    ensures same { C.points curve.new ≡ C.points curve.old }
+    ensures kept { C.kept curve.old curve.new }
+{
+    let parts = unit.phase.hold(cps);
+    let mut phase = unit.phase.get();
+    for j in 0..out.len() {
+        out[j] = wave::<R, C>(amp, curve, phase);
+        phase = moved(phase, parts);
+    }
+    unit.phase.set(phase);
+}
+
+// The frequency is held, and the amplitude changes from frame to frame.
+#[inline(always)]
+fn shaped<R: Reading, C: Curve>(
+    unit: &mut Oscillator,
+    amp: &[Num],
+    cps: Num,
+    curve: &mut C,
+    out: &mut [Num],
+)
+    requires { length amp.now ≡ length out.old }
+    ensures value { (unit.new, out.new) ≡ run (wave_step R.on_turn)
+        (λ j. argument amp.now j ∷ cps ∷ C.points curve.old) unit.old 0 (length out.old) }
+    ensures same { C.points curve.new ≡ C.points curve.old }
+    ensures kept { C.kept curve.old curve.new }
+{
+    let parts = unit.phase.hold(cps);
+    let mut phase = unit.phase.get();
+    for j in 0..out.len() {
+        out[j] = wave::<R, C>(amp[j], curve, phase);
+        phase = moved(phase, parts);
+    }
+    unit.phase.set(phase);
+}
+
+// The frequency changes from frame to frame.
+#[inline(always)]
+fn along<R: Reading, C: Curve>(
+    unit: &mut Oscillator,
+    amp: &Operand,
+    cps: &Operand,
+    curve: &mut C,
+    out: &mut [Num],
+)
+    ensures value { (unit.new, out.new) ≡ run (wave_step R.on_turn)
+        (λ j. operand_at amp.now j ∷ operand_at cps.now j ∷ C.points curve.old) unit.old 0 (length out.old) }
+    ensures same { C.points curve.new ≡ C.points curve.old }
+    ensures kept { C.kept curve.old curve.new }
+{
+    for j in 0..out.len() {
+        out[j] = unit.step_on::<R, C>(amp.at(j), cps.at(j), curve);
+    }
+}
+
+// The amplitude times the curve at a phase.
+#[inline(always)]
+fn wave<R: Reading, C: Curve>(amp: Num, curve: &mut C, phase: u32) -> Num
+    requires { phase < turn }
+    ensures value { result ≡ product_of amp (R.on_turn (C.points curve.old) phase) }
+    ensures same { C.points curve.new ≡ C.points curve.old }
+    ensures kept { C.kept curve.old curve.new }
+{
+    let known = curve.is_short();
+    let value = R::turned(curve, phase);
+    if known && is_short(amp) {
+        short_product(amp, value)
+    } else {
+        amp.mul(value)
+    }
+}
+
+// The product of two numbers that fit into 32 bits: it is within 64, and in range.
+#[inline(always)]
+fn short_product(x: Num, y: Num) -> Num
+    requires x { IsShort x }
+    requires y { IsShort y }
+    ensures { result ≡ product_of x y }
+{
+    Num::exact(floored(times(x.raw(), y.raw())))
+}
+
+#[inline(always)]
+fn times(x: i64, y: i64) -> i64
+    requires x { IsShort x }
+    requires y { IsShort y }
+    ensures value { result ≡ x *ℤ y }
+    ensures bounded { unsigned_abs result ≤ 2 ^ 62 }
+{
+    x * y
+}

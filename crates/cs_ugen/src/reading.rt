@@ -1,0 +1,102 @@
+// How a curve is read: each point held until the next, or on straight lines between its points.
+ghost use Rattle.std.specs.Prelude.{◌≡◌, ◌<◌, ◌≤◌, ◌-◌, ◌*◌, ◌/◌, ◌%◌, ℕ, ℤ, List};
+ghost use Rattle.cs_gen.specs.Places.{from_zero_to};
+ghost use Rattle.cs_ugen.specs.Oscil.{point_at};
+ghost use Rattle.cs_ugen.specs.Oscili.{fraction_at, line_at};
+ghost use Rattle.cs_ugen.specs.Phases.{turn};
+ghost use Rattle.cs_ugen.specs.Points.{AreShort, IsShort};
+ghost use Rattle.cs_ugen.specs.Table.{point_of};
+ghost use Rattle.cs_ugen.specs.Tablei.{line_of};
+
+use crate::curve::{Curve, between_points, len_of};
+use crate::phase::{TURN, place_at};
+use cs_base::Num;
+use cs_gen::place_of_index;
+
+/// A way to read a curve.
+pub(crate) trait Reading {
+    /// The curve at a phase.
+    ghost on_turn: { List ℤ → ℕ → ℤ };
+
+    /// The curve at an index.
+    ghost on_index: { List ℤ → ℤ → ℤ };
+
+    /// The curve at a phase.
+    fn turned<C: Curve>(curve: &mut C, phase: u32) -> Num
+        requires { phase < turn }
+        ensures value { result ≡ on_turn (C.points curve.old) phase }
+        ensures short { AreShort (C.points curve.old) → IsShort result }
+        ensures same { C.points curve.new ≡ C.points curve.old }
+        ensures kept { C.kept curve.old curve.new };
+
+    /// The curve at an index.
+    fn indexed<C: Curve>(curve: &mut C, ndx: Num) -> Num
+        ensures value { result ≡ on_index (C.points curve.old) ndx }
+        ensures same { C.points curve.new ≡ C.points curve.old }
+        ensures kept { C.kept curve.old curve.new };
+}
+
+/// Each point is held until the next.
+pub(crate) struct Truncating;
+
+impl Reading for Truncating {
+    ghost on_turn = { point_at };
+
+    ghost on_index = { point_of };
+
+    #[inline(always)]
+    fn turned<C: Curve>(curve: &mut C, phase: u32) -> Num {
+        let len = len_of(curve);
+        curve.inner(place_at(phase, len))
+    }
+
+    #[inline(always)]
+    fn indexed<C: Curve>(curve: &mut C, ndx: Num) -> Num {
+        let len = len_of(curve);
+        curve.inner(place_of_index(ndx, len))
+    }
+}
+
+/// Straight lines run from point to point.
+pub(crate) struct Interpolating;
+
+impl Reading for Interpolating {
+    ghost on_turn = { line_at };
+
+    ghost on_index = { line_of };
+
+    #[inline(always)]
+    fn turned<C: Curve>(curve: &mut C, phase: u32) -> Num {
+        let len = len_of(curve);
+        between_points(curve, place_at(phase, len), fraction_at(phase, len))
+    }
+
+    #[inline(always)]
+    fn indexed<C: Curve>(curve: &mut C, ndx: Num) -> Num {
+        let len = len_of(curve);
+        let index = index_of(ndx, len);
+        between_points(curve, index / 65536, index % 65536)
+    }
+}
+
+// How far a phase lies behind its place, in 65,536ths of the way to the next.
+#[inline(always)]
+fn fraction_at(phase: u32, len: u32) -> u32
+    requires phase { phase < turn }
+    requires len { len ≤ 65536 }
+    ensures value { result ≡ phase * len % turn / 256 }
+    ensures small { result < 65536 }
+{
+    (u64::from(phase) * u64::from(len) % u64::from(TURN) / 256) as u32
+}
+
+// An index brought into 0 .. len * 65536 - 1, in 65,536ths of a place.
+#[inline(always)]
+fn index_of(ndx: Num, len: u32) -> u32
+    requires some { 1 ≤ len }
+    requires few { len ≤ 65536 }
+    ensures value { result ≡ from_zero_to (len * 65536 - 1) ndx }
+    ensures inside { result < len * 65536 }
+{
+    ndx.raw().max(0).min(i64::from(len) * 65536 - 1) as u32
+}
