@@ -1,12 +1,11 @@
 -- Which of what notes share an op may read or write.
 use Rattle.std.specs.Prelude.{ℕ, Bool, true, false, ◌&&◌, List, [], ◌∷◌, map, nat_le, if◌then◌else◌}
-use Rattle.std.specs.List.{filter, flat_map, list_any, range_with_len}
+use Rattle.std.specs.List.{filter, flat_map, range_with_len}
 use Rattle.cs_base.specs.declared.resource.Res.{Res}
 use Rattle.cs_base.specs.declared.resource.Res.TheVariants as res
-use Rattle.cs_words.specs.Catalogue.{row_of}
+use Rattle.cs_base.specs.declared.spaces.Spaces.{Spaces}
+use Rattle.cs_words.specs.Catalogue.{row_of, takes_table}
 use Rattle.cs_words.specs.declared.catalogue.Opcode.{Opcode}
-use Rattle.cs_words.specs.declared.catalogue.Letter.{Letter}
-use Rattle.cs_words.specs.declared.catalogue.Letter.TheVariants as letter
 use Rattle.cs_words.specs.declared.catalogue.Shape.{Shape}
 use Rattle.cs_words.specs.declared.catalogue.Shape.TheVariants as shape
 use Rattle.cs_words.specs.declared.catalogue.Space.{Space}
@@ -17,11 +16,7 @@ use Rattle.cs_ir.specs.declared.op.Op.{Op}
 use Rattle.cs_ir.specs.declared.op.Reach.{Reach}
 use Rattle.cs_ir.specs.declared.op.Reach.TheVariants as reach
 
--- how many places each zak space has
-pub record Spaces : Type 0 where
-  pub control : ℕ
-  pub audio : ℕ
-
+-- how many places a zak space has
 abbrev pub places_of : Spaces → Space → ℕ
 places_of spaces space.Control = spaces.control
 places_of spaces space.Audio = spaces.audio
@@ -41,20 +36,12 @@ reaches reach.Nothing n = false
 reaches (reach.Span first last) n = nat_le first n && nat_le n last
 reaches reach.Any n = true
 
--- the live tables, and the places of a space of so many, that lie within a reach
+-- the live tables, and the places of a space, that lie within a reach
 abbrev pub tables_within : Stock → Reach → List Res
 tables_within stock r = map res.Table (filter (reaches r) stock.live)
 
 abbrev pub places_within : Stock → Space → Reach → List Res
 places_within stock s r = map (zak_place s) (filter (reaches r) (range_with_len 0 (places_of stock.spaces s)))
-
--- a table's number is among the arguments
-abbrev pub is_table : Letter → Bool
-is_table letter.Table = true
-is_table _ = false
-
-abbrev pub takes_table : Opcode → Bool
-takes_table opcode = list_any is_table (row_of opcode).fixed
 
 -- What a unit may touch, by its shape, and what of it it may write. A unit that writes may also read.
 abbrev pub shape_uses : Stock → Shape → Bool → Reach → List Res

@@ -1,9 +1,9 @@
 // What holds of code: calls that do nothing, whose contracts are the laws.
-ghost use Rattle.std.specs.Prelude.{◌≡◌, ℕ, ℤ, pos, negsuc, [], ◌∷◌, List, length, true, slice_get, Some, ◌*ℤ◌, neg_ℤ};
+ghost use Rattle.std.specs.Prelude.{◌≡◌, ℕ, ℤ, pos, negsuc, [], ◌∷◌, length, true, slice_get, Some, ◌*ℤ◌, neg_ℤ};
 ghost use Rattle.cs_base.specs.Numbers.{one};
 ghost use Rattle.cs_ir.specs.Asks.{ask_of};
 ghost use Rattle.cs_ir.specs.Validity.{is_fine, valid};
-ghost use Rattle.cs_ir.specs.Values.{applied, combined, cpspch_of};
+ghost use Rattle.cs_ir.specs.Values.{combined, cpspch_of};
 ghost use Rattle.cs_ir.specs.declared.op.Code.{Code};
 ghost use Rattle.cs_ir.specs.declared.op.Op.{Op};
 ghost use Rattle.cs_words.specs.declared.sign.BinOp.TheVariants as op;

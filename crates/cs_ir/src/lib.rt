@@ -1,12 +1,14 @@
 //! The flat code of a note: registers, ops, and what a code does in a world.
 //!
-//! Its one contract: `Code::check` takes exactly the codes that can be run (specs/Validity.antt), and hands back any
-//! other; all that runs a code may rely on it. What a code does is the fold over its ops in specs/Machine.antt, in any
-//! world (specs/Worlds.antt); which of what notes share it may touch is specs/Resources.antt. How operands are stored
-//! and how instruments are kept may be changed without anyone above noticing.
+//! Its one contract: a `ValidCode` is a code that can be run (specs/Validity.antt), and all that runs a code may rely
+//! on it. `Code::check` takes exactly these and hands back any other; `ValidCode::of` takes one that is proved to be
+//! valid. What a code does is the fold over its ops in specs/Machine.antt, in any world (specs/Worlds.antt); which of
+//! what notes share it may touch is specs/Resources.antt. How operands are stored and how instruments are kept may be
+//! changed without anyone above noticing.
 //!
 //! To be read in this order: `register`, `operands`, `op` (what code is made of), `validity` (which code can be run),
-//! `instrument` (codes under numbers), `ask` (a note that a note asks for), `value` (operators and functions), `laws`.
+//! `instrument` (codes under numbers), `resources` (tables and zak places by number), `ask` (a note that a note asks
+//! for), `value` (operators and functions), `laws`.
 #![tactic(auto)]
 
 mod ask;
@@ -15,6 +17,7 @@ mod laws;
 mod op;
 mod operands;
 mod register;
+mod resources;
 mod validity;
 mod value;
 
@@ -24,5 +27,6 @@ pub use laws::{valid_code_is_fine, worked_examples};
 pub use op::{Act, Code, Op, Reach};
 pub use operands::Operands;
 pub use register::{Counts, Reg};
+pub use resources::{places_of, zak_place};
 pub use validity::{ValidCode, is_started, is_unit};
 pub use value::{apply, combine, holds, negate, truth};

@@ -1,13 +1,12 @@
 // Which codes can be run.
-ghost use Rattle.std.specs.Prelude.{◌≡◌, map, true, false, IfOk, IfErr, ◌&&◌, ◌||◌, not, filter};
+ghost use Rattle.std.specs.Prelude.{◌≡◌, true, false, IfOk, IfErr, ◌&&◌, ◌||◌, filter};
 ghost use Rattle.std.specs.List.{list_all, list_any};
 ghost use Rattle.cs_words.specs.Catalogue.{is_moving, row_of};
 ghost use Rattle.cs_base.specs.Rates.{same_rate};
-ghost use Rattle.cs_ir.specs.Machine.{gives};
 ghost use Rattle.cs_ir.specs.Units.{is_started, is_unit};
 ghost use Rattle.cs_ir.specs.Validity.{count_of, has_register, writes, finds, suits_operator, suits_function};
 ghost use Rattle.cs_ir.specs.Validity.{may_run_at, bound_at, take_all, as_sounds, stores_at, starts_with, runs_with, is_still};
-ghost use Rattle.cs_ir.specs.Validity.{has_value, takes_from, is_fine, fine_from, valid};
+ghost use Rattle.cs_ir.specs.Validity.{has_value, takes_from, is_fine, valid};
 ghost use Rattle.cs_ir.specs.declared.register.Reg.{Reg};
 
 use crate::{Act, Code, Counts, Op, Reg};
@@ -64,6 +63,14 @@ impl Code {
 }
 
 impl ValidCode {
+    /// A code that is known to be valid.
+    pub fn of(code: Code) -> ValidCode
+        requires { valid code ≡ true }
+        ensures { result ≡ code }
+    {
+        ValidCode { code }
+    }
+
     /// The code itself.
     pub fn code(&self) -> &Code
         ensures same { result.now ≡ self.now }

@@ -3,7 +3,7 @@ use Rattle.std.specs.Prelude.{ℕ, ℤ, pos, Bool, ◌&&◌, ◌+◌, ◌-◌, L
 use Rattle.cs_base.specs.Numbers.{floor_div, one}
 use Rattle.cs_base.specs.declared.resource.Rate.{Rate}
 use Rattle.cs_base.specs.declared.resource.Rate.TheVariants as rate
-use Rattle.cs_words.specs.Catalogue.{Row, row_of, letter_at, is_settled}
+use Rattle.cs_words.specs.Catalogue.{Row, row_of, letter_at, is_settled, takes_table}
 use Rattle.cs_words.specs.declared.catalogue.Opcode.{Opcode}
 use Rattle.cs_words.specs.declared.catalogue.Shape.{Shape}
 use Rattle.cs_words.specs.declared.catalogue.Shape.TheVariants as shape
@@ -12,7 +12,8 @@ use Rattle.cs_words.specs.declared.sign.BinOp.TheVariants as op
 use Rattle.cs_typed.specs.TypedTree as typed
 use Rattle.cs_typed.specs.TypedTree.{Expression, number, var, pair}
 use Rattle.cs_typed.specs.declared.tree.Var.{Var as Variable}
-use Rattle.cs_ir.specs.Resources.{Spaces, places_of, takes_table}
+use Rattle.cs_base.specs.declared.spaces.Spaces.{Spaces}
+use Rattle.cs_ir.specs.Resources.{places_of}
 use Rattle.cs_ir.specs.declared.op.Reach.{Reach}
 use Rattle.cs_ir.specs.declared.op.Reach.TheVariants as reach
 
@@ -90,7 +91,7 @@ reach_of spaces shape.ZakMix table (v ∷ x ∷ xs) is = place_reach (places_of 
 reach_of spaces (shape.ZakClear s) table (x ∷ y ∷ xs) is = span_reach (places_of spaces s) x y
 reach_of spaces _ table xs is = reach.Nothing
 
--- what a variable or a channel has, and that with something added
+-- what a channel has with something added
 abbrev pub plus : Rate → Variable → Expression → Expression
 plus r v e = pair r op.Add (var r v) e
 
@@ -110,11 +111,10 @@ core_call spaces r vs opcode sh args =
     let xs = moving (row_of opcode) 0 args in let is = settled (row_of opcode) 0 args in
     unit r vs opcode (reach_of spaces sh (takes_table opcode) xs is) xs is
 
--- A statement, the statements of a block, and the arms of an `if`. `x += e` is `x = x + e`.
+-- A statement, the statements of a block, and the arms of an `if`.
 abbrev mutual
   pub core_stmt : Spaces → typed.Statement → Stmt
   core_stmt spaces (typed.set line r v e) = set r v e
-  core_stmt spaces (typed.add_to line r v e) = set r v (plus r v e)
   core_stmt spaces (typed.call line r vs opcode args) = core_call spaces r vs opcode (row_of opcode).shape args
   core_stmt spaces (typed.choose line r list) = choose r (core_arms spaces list)
 

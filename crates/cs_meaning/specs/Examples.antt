@@ -24,7 +24,8 @@ use Rattle.cs_meaning.specs.Plain.{Cause, Plain, Piece, plain, fresh, next_cycle
 abbrev eighths : ℤ → ℕ
 eighths t = unsigned_abs (floor_div (t *ℤ pos 8) scale)
 
--- a piece of eight frames a second and four a cycle, with one channel, without tables and generators, whose notes have 7 in each field
+-- a piece of eight frames a second and four a cycle, with one channel, these zak spaces, no tables and no generators; its notes have 7
+-- in each field
 abbrev pub small_piece : ℕ → ℕ → Piece
 small_piece zak_k zak_a = record {
   head = record { sr = 8; ksmps = 4; nchnls = 1; dbfs = pos (32768 * 65536) };
@@ -98,25 +99,25 @@ each z = z ∷ z ∷ z ∷ z ∷ []
 abbrev pub whole : ℕ → ℤ
 whole n = pos (n * 65536)
 
-abbrev lit : ℕ → Expression
+abbrev pub lit : ℕ → Expression
 lit n = number rate.Init (whole n)
 
-abbrev one : Statement → Block
+abbrev pub one : Statement → Block
 one s = andthen s no_stmt
 
-abbrev gk : ℕ → Variable
+abbrev pub gk : ℕ → Variable
 gk n = Global (res.Gk n)
 
-abbrev k : ℕ → Variable
+abbrev pub k : ℕ → Variable
 k n = Local rate.Control n
 
-abbrev a : ℕ → Variable
+abbrev pub a : ℕ → Variable
 a n = Local rate.Audio n
 
-abbrev read : Variable → Expression
+abbrev pub read : Variable → Expression
 read v = var rate.Control v
 
-abbrev out : Variable → Statement
+abbrev pub out : Variable → Statement
 out v = call 0 rate.Audio [] op.Out (value (var rate.Audio v) ∷ [])
 
 -- gk1 init 0, gk2 init 0
@@ -235,7 +236,7 @@ reading_any = one (call 5 rate.Control (k 0 ∷ []) op.Zkr (value (field rate.In
 abbrev pub no_code : Block
 no_code = no_stmt
 
--- what statements use and write in a piece with so many places in its zak space of control values
+-- what statements use and write in a piece whose zak space of control values has this number of places
 abbrev pub stock : ℕ → Stock
 stock places = record { spaces = record { control = places; audio = 0 }; live = [] }
 

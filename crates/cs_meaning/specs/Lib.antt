@@ -2,6 +2,7 @@ pub mod Beginning
 pub mod Core
 pub mod Examples
 pub mod Initialising
+pub mod Kinds
 pub mod Notes
 pub mod Performing
 pub mod Plain

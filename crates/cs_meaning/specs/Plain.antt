@@ -1,16 +1,16 @@
 -- The plain world: what notes share as one map of values, and each unit as the list of all its inputs so far.
 use Rattle.std.specs.Prelude.{ℕ, ℤ, pos, Bool, true, false, not, ◌&&◌, ◌||◌, ◌+◌, ◌-◌, ◌*◌, ◌==◌, ◌++◌, zero, suc, List, [], ◌∷◌, map, nat_lt, nat_le, unsigned_abs, slice_index_or, int_lt, Option, Some, None, if◌then◌else◌}
-use Rattle.std.specs.Int.{int_max, int_min, is_negative}
+use Rattle.std.specs.Int.{is_negative}
 use Rattle.std.specs.List.{range_with_len}
 use Rattle.std.specs.Option.{is_some}
 use Rattle.cs_base.specs.Limits.{most_delay_samples}
-use Rattle.cs_base.specs.Numbers.{floor_div, one, sum_of, quotient_of}
+use Rattle.cs_base.specs.Numbers.{whole_below, sum_of, quotient_of}
 use Rattle.cs_base.specs.Rates.{same_res, res_rate}
 use Rattle.cs_base.specs.declared.resource.Rate.{Rate}
 use Rattle.cs_base.specs.declared.resource.Rate.TheVariants as rate
 use Rattle.cs_base.specs.declared.resource.Res.{Res}
 use Rattle.cs_base.specs.declared.resource.Res.TheVariants as res
-use Rattle.cs_words.specs.Catalogue.{row_of}
+use Rattle.cs_words.specs.Catalogue.{row_of, takes_table}
 use Rattle.cs_words.specs.declared.catalogue.Opcode.{Opcode}
 use Rattle.cs_words.specs.declared.catalogue.Opcode.TheVariants as op
 use Rattle.cs_words.specs.declared.catalogue.Shape.{Shape}
@@ -19,16 +19,18 @@ use Rattle.cs_words.specs.declared.catalogue.Space.{Space}
 use Rattle.cs_words.specs.declared.catalogue.Space.TheVariants as space
 use Rattle.cs_words.specs.declared.word.HeadName.{HeadName}
 use Rattle.cs_words.specs.declared.word.HeadName.TheVariants as head
+use Rattle.cs_gen.specs.Places.{place_of_index}
 use Rattle.cs_gen.specs.Points.{len_of}
 use Rattle.cs_gen.specs.Tables.{curve_of}
 use Rattle.cs_typed.specs.Places.{Header}
-use Rattle.cs_ir.specs.Resources.{Spaces, places_of, zak_place, reaches, takes_table}
+use Rattle.cs_base.specs.declared.spaces.Spaces.{Spaces}
+use Rattle.cs_ir.specs.Resources.{places_of, zak_place, reaches}
 use Rattle.cs_ir.specs.Waves.{Wave, held, silence, operand}
 use Rattle.cs_ir.specs.Worlds.{World}
 use Rattle.cs_ir.specs.declared.op.Reach.{Reach}
 
 -- What opcodes with a state do: what one gives at its last step, by its rate, its settled values and all inputs so far; and how
--- many samples a delay of so many raw seconds keeps.
+-- many samples a delay of a time in raw seconds keeps.
 pub record Generators : Type 0 where
   pub gen : Opcode → Rate → List ℤ → List (List ℤ) → ℤ
   pub delay : ℤ → ℕ
@@ -95,11 +97,11 @@ saved ksmps g w x = record x { shared = shared_with g (held ksmps (res_rate g) w
 
 -- The whole number below a value, where it is 0 or more.
 abbrev pub index : ℤ → Option ℕ
-index z = if is_negative z then None else Some (unsigned_abs (floor_div z one))
+index z = if is_negative z then None else Some (unsigned_abs (whole_below z))
 
 -- Tables. The number of a table is the whole number below the unit's first settled value.
 abbrev pub table_number : List ℤ → ℤ
-table_number is = floor_div (slice_index_or is 0 (pos 0)) one
+table_number is = whole_below (slice_index_or is 0 (pos 0))
 
 abbrev pub find_table : List Table → ℤ → Option Table
 find_table [] n = None
@@ -127,7 +129,7 @@ abbrev pub step_at : Rate → ℕ → ℕ
 step_at rate.Audio j = j
 step_at _ j = 0
 
--- The inputs of the first so many steps of a cycle: the moving arguments at each, and the points of the table that is read.
+-- The inputs of the first n steps of a cycle: the moving arguments at each, and the points of the table that is read.
 abbrev pub inputs_of : List Wave → List ℤ → ℕ → List (List ℤ)
 inputs_of ws points n = map (λ j. map (λ w. w j) ws ++ points) (range_with_len 0 n)
 
@@ -159,17 +161,13 @@ unit_does piece u reach ws None x = (x, silence)
 unit_does piece u reach ws (Some h) x =
     if may_touch reach h then has_run piece u h ws (unit_points piece h x) x else (x, silence)
 
--- A place of a table of so many points: an index brought into the table.
-abbrev pub table_place : ℕ → ℤ → ℕ
-table_place len z = unsigned_abs (int_max (pos 0) (int_min (floor_div z one) (pos (len - 1))))
-
--- After so many steps a place of a table has what the last step stored that went there, else what it had.
+-- After some steps a place of a table has what the last step stored that went there, else what it had.
 abbrev pub stored : (ℕ → ℕ) → Wave → ℕ → Wave → Wave
 stored place sig zero w a = w a
 stored place sig (suc n) w a = if place n == a then sig n else stored place sig n w a
 
 abbrev pub places_of_indices : Table → Wave → ℕ → ℕ
-places_of_indices t indices j = table_place (len_of t.size) (indices j)
+places_of_indices t indices j = place_of_index (len_of t.size) (indices j)
 
 abbrev pub store_into : ℕ → Rate → List Wave → Table → Plain → Plain
 store_into ksmps r ws t x =
@@ -204,7 +202,7 @@ added w v = λ j. sum_of (w j) (v j)
 
 -- the places from one value to another are set to 0
 abbrev pub is_between : ℤ → ℤ → ℕ → Bool
-is_between first last n = not (int_lt (pos n) (floor_div first one)) && not (int_lt (floor_div last one) (pos n))
+is_between first last n = not (int_lt (pos n) (whole_below first)) && not (int_lt (whole_below last) (pos n))
 
 abbrev pub is_cleared : Piece → Space → Reach → ℤ → ℤ → Res → Bool
 is_cleared piece space.Control reach first last (res.ZakK n) = has_place piece space.Control reach n && is_between first last n

@@ -5,12 +5,15 @@
 //! statement is short for; specs/Notes what an expression is worth; specs/Initialising and specs/Performing what a note
 //! does as it begins and in a control cycle, in any world (cs_ir's `World`); specs/Uses what it touches; specs/Plain the
 //! plain world, where what notes share is one map and a unit is the list of all its inputs. specs/Examples are small
-//! pieces as typed trees.
+//! pieces as typed trees, specs/Kinds notes with each kind of statement.
 //!
-//! Its one contract: `notes_worked_by_hand`, by which the examples sound as they were reckoned by hand. A definition here
-//! may be said in other words where every law of the crates above still stands.
+//! Its one contract: the examples are worth what was reckoned by hand (`notes_worked_by_hand`, `kinds_worked_by_hand`,
+//! `values_worked_by_hand`). A definition here may be said in other words where every law of the crates above still
+//! stands.
 #![tactic(auto)]
 
+mod kinds;
 mod laws;
 
+pub use kinds::{kinds_worked_by_hand, values_worked_by_hand};
 pub use laws::notes_worked_by_hand;

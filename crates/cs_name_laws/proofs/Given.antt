@@ -7,7 +7,8 @@ use Rattle.cs_base.specs.declared.resource.Rate.TheVariants as rate
 use Rattle.cs_words.specs.NameSets.{has}
 use Rattle.cs_words.specs.Names.{name_rate, is_global}
 use Rattle.cs_words.proofs.Places.{seen_is_there, stays_there}
-use Rattle.cs_grammar.specs.Tree.{Statement, set, add_to, call, choose, Block, no_stmt, andthen, Arms, otherwise, arm, Instrument, Orchestra}
+use Rattle.cs_grammar.specs.Tree.{Statement, set, call, choose, Block, no_stmt, andthen, Arms, otherwise, arm, Instrument, Orchestra}
+use Rattle.cs_typing.proofs.Naming.{Give, BlockGives, ArmsGive}
 use Rattle.cs_typing.specs.Known.{Table, no_names, of_rate, with_name, in_table, added}
 use Rattle.cs_typing.specs.Typing.{given_global, given_globals, globals, globals_of_block, globals_of_arms, globals_of_instruments, all_globals, line_of, before, from, Item, alone, body, items}
 
@@ -15,25 +16,9 @@ use Rattle.cs_typing.specs.Typing.{given_global, given_globals, globals, globals
 abbrev pub IsGiven : Table → List ℕ → Type 0
 IsGiven g name = is_global name ≡ true → in_table g name ≡ true
 
--- all global variables that statements give are among these
-abbrev mutual
-  pub Give : Table → Statement → Type 0
-  Give g (set line name e) = IsGiven g name
-  Give g (add_to line name e) = IsGiven g name
-  Give g (call line results opcode args) = All (IsGiven g) results
-  Give g (choose line list) = ArmsGive g list
-
-  pub BlockGives : Table → Block → Type 0
-  BlockGives g no_stmt = Unit {0}
-  BlockGives g (andthen x rest) = Give g x × BlockGives g rest
-
-  pub ArmsGive : Table → Arms → Type 0
-  ArmsGive g (otherwise b) = BlockGives g b
-  ArmsGive g (arm c b rest) = BlockGives g b × ArmsGive g rest
-
 abbrev pub ItemGives : Table → Item → Type 0
-ItemGives g (alone b) = BlockGives g b
-ItemGives g (body i) = BlockGives g i.body
+ItemGives g (alone b) = BlockGives (IsGiven g) b
+ItemGives g (body i) = BlockGives (IsGiven g) i.body
 
 abbrev pub ItemsGive : Table → List Item → Type 0
 ItemsGive g [] = Unit {0}
@@ -41,7 +26,7 @@ ItemsGive g (x ∷ rest) = ItemGives g x × ItemsGive g rest
 
 abbrev InstrumentsGive : Table → List Instrument → Type 0
 InstrumentsGive g [] = Unit {0}
-InstrumentsGive g (i ∷ rest) = BlockGives g i.body × InstrumentsGive g rest
+InstrumentsGive g (i ∷ rest) = BlockGives (IsGiven g) i.body × InstrumentsGive g rest
 
 -- ---- a table that grows
 
@@ -85,7 +70,6 @@ all_keep t (name ∷ names) m h = all_keep (given_global t name) names m (given_
 mutual
   stmt_keeps : (t : Table) (x : Statement) → IsWithin t (globals t x)
   stmt_keeps t (set line name e) m h = given_keeps t name m h
-  stmt_keeps t (add_to line name e) m h = given_keeps t name m h
   stmt_keeps t (call line results opcode args) m h = all_keep t results m h
   stmt_keeps t (choose line list) m h = arms_keep t list m h
 
@@ -110,18 +94,17 @@ all_given t (name ∷ names) g w =
     (all_given (given_global t name) names g w)
 
 mutual
-  gives : (t : Table) (x : Statement) (g : Table) → IsWithin (globals t x) g → Give g x
+  gives : (t : Table) (x : Statement) (g : Table) → IsWithin (globals t x) g → Give (IsGiven g) x
   gives t (set line name e) g w = λ h. w name (given_there t name h)
-  gives t (add_to line name e) g w = λ h. w name (given_there t name h)
   gives t (call line results opcode args) g w = all_given t results g w
   gives t (choose line list) g w = arms_give t list g w
 
-  block_gives : (t : Table) (b : Block) (g : Table) → IsWithin (globals_of_block t b) g → BlockGives g b
+  block_gives : (t : Table) (b : Block) (g : Table) → IsWithin (globals_of_block t b) g → BlockGives (IsGiven g) b
   block_gives t no_stmt g w = tt
   block_gives t (andthen x rest) g w =
       (gives t x g (λ m h. w m (block_keeps (globals t x) rest m h)), block_gives (globals t x) rest g w)
 
-  arms_give : (t : Table) (list : Arms) (g : Table) → IsWithin (globals_of_arms t list) g → ArmsGive g list
+  arms_give : (t : Table) (list : Arms) (g : Table) → IsWithin (globals_of_arms t list) g → ArmsGive (IsGiven g) list
   arms_give t (otherwise b) g w = block_gives t b g w
   arms_give t (arm c b rest) g w =
       (block_gives t b g (λ m h. w m (arms_keep (globals_of_block t b) rest m h)), arms_give (globals_of_block t b) rest g w)
@@ -135,23 +118,23 @@ instruments_give t (i ∷ rest) g w = (
 
 -- ---- the parts in the order of the text
 
-before_gives : (g : Table) (line : ℕ) (b : Block) → BlockGives g b → BlockGives g (before line b)
+before_gives : (g : Table) (line : ℕ) (b : Block) → BlockGives (IsGiven g) b → BlockGives (IsGiven g) (before line b)
 before_gives g line no_stmt h = tt
 before_gives g line (andthen x rest) h = by (nat_lt (line_of x) line) (before_gives g line rest h.1)
   where
-    by : (b : Bool) → BlockGives g (before line rest) → BlockGives g (if b then andthen x (before line rest) else no_stmt)
+    by : (b : Bool) → BlockGives (IsGiven g) (before line rest) → BlockGives (IsGiven g) (if b then andthen x (before line rest) else no_stmt)
     by true more = (h.0, more)
     by false more = tt
 
-from_gives : (g : Table) (line : ℕ) (b : Block) → BlockGives g b → BlockGives g (from line b)
+from_gives : (g : Table) (line : ℕ) (b : Block) → BlockGives (IsGiven g) b → BlockGives (IsGiven g) (from line b)
 from_gives g line no_stmt h = tt
 from_gives g line (andthen x rest) h = by (nat_lt (line_of x) line) (from_gives g line rest h.1)
   where
-    by : (b : Bool) → BlockGives g (from line rest) → BlockGives g (if b then from line rest else andthen x rest)
+    by : (b : Bool) → BlockGives (IsGiven g) (from line rest) → BlockGives (IsGiven g) (if b then from line rest else andthen x rest)
     by true more = more
     by false more = h
 
-items_give : (g : Table) (outside : Block) (list : List Instrument) → BlockGives g outside → InstrumentsGive g list → ItemsGive g (items outside list)
+items_give : (g : Table) (outside : Block) (list : List Instrument) → BlockGives (IsGiven g) outside → InstrumentsGive g list → ItemsGive g (items outside list)
 items_give g outside [] h k = (h, tt)
 items_give g outside (i ∷ rest) h k =
     (before_gives g i.line outside h, (k.0, items_give g (from i.line outside) rest (from_gives g i.line outside h) k.1))

@@ -1,6 +1,5 @@
 mod Given
 mod Growing
 mod Named
-mod NamedCalls
 mod NamedCore
 mod Touching

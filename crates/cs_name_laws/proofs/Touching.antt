@@ -10,13 +10,14 @@ use Rattle.cs_base.specs.declared.resource.Rate.{Rate}
 use Rattle.cs_base.specs.declared.resource.Rate.TheVariants as rate
 use Rattle.cs_base.specs.declared.resource.Res.{Res}
 use Rattle.cs_base.specs.declared.resource.Res.TheVariants as res
-use Rattle.cs_words.specs.Catalogue.{row_of}
+use Rattle.cs_words.specs.Catalogue.{row_of, takes_table}
 use Rattle.cs_words.specs.declared.catalogue.Opcode.{Opcode}
 use Rattle.cs_words.specs.declared.catalogue.Shape.{Shape}
 use Rattle.cs_words.specs.declared.catalogue.Shape.TheVariants as shape
 use Rattle.cs_words.specs.declared.catalogue.Space.{Space}
 use Rattle.cs_words.specs.declared.catalogue.Space.TheVariants as space
-use Rattle.cs_ir.specs.Resources.{Spaces, Stock, places_of, zak_place, reaches, tables_within, places_within, takes_table, shape_uses, unit_uses}
+use Rattle.cs_base.specs.declared.spaces.Spaces.{Spaces}
+use Rattle.cs_ir.specs.Resources.{Stock, places_of, zak_place, reaches, tables_within, places_within, shape_uses, unit_uses}
 use Rattle.cs_ir.specs.Units.{is_started}
 use Rattle.cs_ir.specs.Waves.{if_init}
 use Rattle.cs_ir.specs.declared.op.Reach.{Reach}
@@ -24,10 +25,11 @@ use Rattle.cs_meaning.specs.Beginning.{expr_reads, exprs_read, expr_begins, expr
 use Rattle.cs_meaning.specs.Core.{Stmt, Block, Arms, set, unit, out, out_at, ask, turnoff, nothing, choose, no_stmt, andthen, otherwise, arm, core}
 use Rattle.cs_meaning.specs.Uses.{var_uses, expr_uses, exprs_use, vars_use, stmt_uses, block_uses, arms_use}
 use Rattle.cs_typed.specs.TypedTree as typed
+use Rattle.cs_typed.specs.Variables.{EachInExpression}
 use Rattle.cs_typed.specs.TypedTree.{SharedNames, Expression, number, var, field, head, neg, pair, pick, apply}
 use Rattle.cs_typed.specs.declared.tree.Var.{Var as Variable}
 use Rattle.cs_typed.specs.declared.tree.Var.TheVariants.{Local, Global}
-use Rattle.cs_name_laws.specs.Names.{is_named, is_there, IsNamed, IsNamedExpression, IsNamedBlock}
+use Rattle.cs_name_laws.specs.Names.{is_named, is_there, IsNamed, IsNamedBlock}
 use Rattle.cs_name_laws.proofs.NamedCore.{IsNamedCore, IsNamedCoreBlock, AreNamedCoreArms, block_core}
 
 abbrev There : SharedNames → Stock → Res → Type 0
@@ -67,7 +69,7 @@ vars_there : (names : SharedNames) (stock : Stock) (vs : List Variable) → All 
 vars_there names stock [] h = none names stock
 vars_there names stock (v ∷ vs) h = var_there names stock v (All-head (IsNamed names) v vs h)
 
-reads_there : (names : SharedNames) (stock : Stock) (e : Expression) → IsNamedExpression names e → AreThere names stock (expr_reads e)
+reads_there : (names : SharedNames) (stock : Stock) (e : Expression) → EachInExpression (IsNamed names) e → AreThere names stock (expr_reads e)
 reads_there names stock (number r n) h = none names stock
 reads_there names stock (var r v) h = var_there names stock v h
 reads_there names stock (field r k) h = none names stock
@@ -80,7 +82,7 @@ reads_there names stock (pick r c a b) h =
     (both names stock (expr_reads a) (expr_reads b) (reads_there names stock a h.1) (reads_there names stock b h.2))
 reads_there names stock (apply r f a) h = reads_there names stock a h
 
-uses_there : (names : SharedNames) (stock : Stock) (e : Expression) → IsNamedExpression names e → AreThere names stock (expr_uses e)
+uses_there : (names : SharedNames) (stock : Stock) (e : Expression) → EachInExpression (IsNamed names) e → AreThere names stock (expr_uses e)
 uses_there names stock (number r n) h = none names stock
 uses_there names stock (var r v) h = by_rate names stock r [] (var_uses v) (none names stock) (var_there names stock v h)
 uses_there names stock (field r k) h = none names stock
@@ -95,7 +97,7 @@ uses_there names stock (pick r c a b) h =
     (both names stock (expr_uses a) (expr_uses b) (uses_there names stock a h.1) (uses_there names stock b h.2)))
 uses_there names stock (apply r f a) h = by_rate names stock r [] (expr_uses a) (none names stock) (uses_there names stock a h)
 
-begins_there : (names : SharedNames) (stock : Stock) (e : Expression) → IsNamedExpression names e → AreThere names stock (expr_begins e)
+begins_there : (names : SharedNames) (stock : Stock) (e : Expression) → EachInExpression (IsNamed names) e → AreThere names stock (expr_begins e)
 begins_there names stock (number r n) h = none names stock
 begins_there names stock (var r v) h = by_rate names stock r (var_uses v) [] (var_there names stock v h) (none names stock)
 begins_there names stock (field r k) h = none names stock
@@ -116,21 +118,21 @@ begins_there names stock (apply r f a) h =
 
 -- of each of some expressions
 each_there : (names : SharedNames) (stock : Stock) (f : Expression → List Res)
-    → ((e : Expression) → IsNamedExpression names e → AreThere names stock (f e))
-    → (es : List Expression) → All (IsNamedExpression names) es → AreThere names stock (flat_map f es)
+    → ((e : Expression) → EachInExpression (IsNamed names) e → AreThere names stock (f e))
+    → (es : List Expression) → All (EachInExpression (IsNamed names)) es → AreThere names stock (flat_map f es)
 each_there names stock f one [] h = none names stock
 each_there names stock f one (e ∷ es) h =
     All-same (There names stock) (flat_map f (e ∷ es)) (f e ++ flat_map f es) (flat_map-cons f e es)
-    (both names stock (f e) (flat_map f es) (one e (All-head (IsNamedExpression names) e es h))
-    (each_there names stock f one es (All-tail (IsNamedExpression names) e es h)))
+    (both names stock (f e) (flat_map f es) (one e (All-head (EachInExpression (IsNamed names)) e es h))
+    (each_there names stock f one es (All-tail (EachInExpression (IsNamed names)) e es h)))
 
-use_there : (names : SharedNames) (stock : Stock) (es : List Expression) → All (IsNamedExpression names) es → AreThere names stock (exprs_use es)
+use_there : (names : SharedNames) (stock : Stock) (es : List Expression) → All (EachInExpression (IsNamed names)) es → AreThere names stock (exprs_use es)
 use_there names stock es h = each_there names stock expr_uses (uses_there names stock) es h
 
-read_there : (names : SharedNames) (stock : Stock) (es : List Expression) → All (IsNamedExpression names) es → AreThere names stock (exprs_read es)
+read_there : (names : SharedNames) (stock : Stock) (es : List Expression) → All (EachInExpression (IsNamed names)) es → AreThere names stock (exprs_read es)
 read_there names stock es h = each_there names stock expr_reads (reads_there names stock) es h
 
-begin_there : (names : SharedNames) (stock : Stock) (es : List Expression) → All (IsNamedExpression names) es → AreThere names stock (exprs_begin es)
+begin_there : (names : SharedNames) (stock : Stock) (es : List Expression) → All (EachInExpression (IsNamed names)) es → AreThere names stock (exprs_begin es)
 begin_there names stock es h = each_there names stock expr_begins (begins_there names stock) es h
 
 -- ---- units
@@ -179,7 +181,7 @@ shape_there names stock sh table r = none names stock
 unit_there : (names : SharedNames) (stock : Stock) (opcode : Opcode) (r : Reach) → AreThere names stock (unit_uses stock opcode r)
 unit_there names stock opcode r = shape_there names stock (row_of opcode).shape (takes_table opcode) r
 
-settled_there : (names : SharedNames) (stock : Stock) (opcode : Opcode) (es : List Expression) → All (IsNamedExpression names) es
+settled_there : (names : SharedNames) (stock : Stock) (opcode : Opcode) (es : List Expression) → All (EachInExpression (IsNamed names)) es
     → AreThere names stock (settled_reads opcode es)
 settled_there names stock opcode es h = by (is_started (row_of opcode).shape)
   where

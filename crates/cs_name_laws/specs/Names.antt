@@ -6,6 +6,7 @@ use Rattle.cs_base.specs.declared.resource.Res.TheVariants as res
 use Rattle.cs_ir.specs.Resources.{Stock}
 use Rattle.cs_typed.specs.TypedTree as typed
 use Rattle.cs_typed.specs.TypedTree.{SharedNames}
+use Rattle.cs_typed.specs.Variables.{EachInBlock}
 use Rattle.cs_typed.specs.declared.tree.Var.{Var as Variable}
 use Rattle.cs_typed.specs.declared.tree.Var.TheVariants.{Local, Global}
 
@@ -22,51 +23,19 @@ is_named names (res.Table n) = false
 
 -- What a piece has: the global variables and channels that have names, the zak places of its two spaces, and its live tables.
 abbrev pub is_there : SharedNames → Stock → Res → Bool
-is_there names stock (res.Gi n) = nat_lt n (length names.gi)
-is_there names stock (res.Gk n) = nat_lt n (length names.gk)
-is_there names stock (res.Ga n) = nat_lt n (length names.ga)
-is_there names stock (res.Control n) = nat_lt n (length names.control)
-is_there names stock (res.Sound n) = nat_lt n (length names.sound)
 is_there names stock (res.ZakK n) = nat_lt n stock.spaces.control
 is_there names stock (res.ZakA n) = nat_lt n stock.spaces.audio
 is_there names stock (res.Table n) = list_any (λ m. m == n) stock.live
+is_there names stock g = is_named names g
 
 -- a variable of the body, or one of what has names
 abbrev pub IsNamed : SharedNames → Variable → Type 0
 IsNamed names (Local r n) = Unit {0}
 IsNamed names (Global g) = is_named names g ≡ true
 
--- all that an expression reads by name
-abbrev pub IsNamedExpression : SharedNames → typed.Expression → Type 0
-IsNamedExpression names (typed.number r v) = Unit {0}
-IsNamedExpression names (typed.var r v) = IsNamed names v
-IsNamedExpression names (typed.field r k) = Unit {0}
-IsNamedExpression names (typed.head r h) = Unit {0}
-IsNamedExpression names (typed.neg r a) = IsNamedExpression names a
-IsNamedExpression names (typed.pair r o a b) = IsNamedExpression names a × IsNamedExpression names b
-IsNamedExpression names (typed.pick r c a b) = IsNamedExpression names c × IsNamedExpression names a × IsNamedExpression names b
-IsNamedExpression names (typed.apply r f a) = IsNamedExpression names a
-
--- an argument: a value, or a channel
-abbrev pub IsNamedArgument : SharedNames → typed.Argument → Type 0
-IsNamedArgument names (typed.value e) = IsNamedExpression names e
-IsNamedArgument names (typed.text v) = IsNamed names v
-
 -- all that statements read and give by name
-abbrev mutual
-  pub IsNamedStatement : SharedNames → typed.Statement → Type 0
-  IsNamedStatement names (typed.set line r v e) = IsNamed names v × IsNamedExpression names e
-  IsNamedStatement names (typed.add_to line r v e) = IsNamed names v × IsNamedExpression names e
-  IsNamedStatement names (typed.call line r vs opcode args) = All (IsNamed names) vs × All (IsNamedArgument names) args
-  IsNamedStatement names (typed.choose line r list) = AreNamedArms names list
-
-  pub IsNamedBlock : SharedNames → typed.Block → Type 0
-  IsNamedBlock names typed.no_stmt = Unit {0}
-  IsNamedBlock names (typed.andthen x rest) = IsNamedStatement names x × IsNamedBlock names rest
-
-  pub AreNamedArms : SharedNames → typed.Arms → Type 0
-  AreNamedArms names (typed.otherwise b) = IsNamedBlock names b
-  AreNamedArms names (typed.arm c b rest) = IsNamedExpression names c × IsNamedBlock names b × AreNamedArms names rest
+abbrev pub IsNamedBlock : SharedNames → typed.Block → Type 0
+IsNamedBlock names b = EachInBlock (IsNamed names) b
 
 -- An orchestra names nothing of what notes share but what its own lists have, outside instruments and in each of them.
 pub record NamesWhatThereIs (o : typed.Orchestra) : Type 0 where

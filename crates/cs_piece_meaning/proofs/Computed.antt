@@ -7,11 +7,15 @@ use Rattle.cs_meaning.specs.Examples.{each, whole}
 use Rattle.cs_tempo.specs.Time.{cycle_of}
 use Rattle.cs_piece_meaning.specs.Course.{closing}
 use Rattle.cs_piece_meaning.specs.Heard.{frames_of}
-use Rattle.cs_piece_meaning.specs.OrderExamples.{asked_in_its_cycle, refused_late, table_made_twice}
+use Rattle.cs_piece_meaning.specs.OrderExamples.{asked_in_its_cycle, refused_late, table_made_twice, table_stored_to}
 
 pub made_again : frames_of table_made_twice ≡ each (whole 5) ++ each (whole 9)
 unfolding gen table_of points_of point plain_point
 made_again = refl
+
+pub stored : frames_of table_stored_to ≡ each (whole 9) ++ each (whole 9)
+unfolding gen table_of points_of point plain_point
+stored = refl
 
 pub asked : frames_of asked_in_its_cycle ≡ each (whole 0) ++ (each (whole 7) ++ each (whole 0))
 unfolding cycle_of

@@ -5,7 +5,7 @@ use Rattle.cs_base.specs.declared.resource.Rate.TheVariants as rate
 use Rattle.cs_words.specs.declared.catalogue.Opcode.TheVariants as op
 use Rattle.cs_typed.specs.TypedTree.{number, var, field, value, set, call, Block as Statements, no_stmt, andthen}
 use Rattle.cs_typed.specs.declared.tree.Var.TheVariants.{Local}
-use Rattle.cs_ir.specs.Resources.{Spaces}
+use Rattle.cs_base.specs.declared.spaces.Spaces.{Spaces}
 use Rattle.cs_meaning.specs.Core.{Block, core}
 use Rattle.cs_meaning.specs.Examples.{counting, ending, missing_table, telling, whole, zeros, no_code}
 use Rattle.cs_tempo.specs.declared.plot.Event.{Event}
@@ -34,7 +34,7 @@ piece_of_two outside first second events cycles = record {
   cycles = cycles;
 }
 
--- an instrument begins in a cycle, lasts so many, and has a p4
+-- a note of an instrument, by the cycle in which it begins, the number of cycles that it lasts, and its p4
 abbrev pub note : ℕ → ℕ → ℕ → ℤ → Event
 note instr at cycles p4 = record {
   cycle = at;

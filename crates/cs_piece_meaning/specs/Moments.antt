@@ -3,7 +3,7 @@ use Rattle.std.specs.Prelude.{ℕ, ℤ, pos, ◌-◌, ◌==◌, Bool, not, List,
 use Rattle.std.specs.List.{list_any}
 use Rattle.cs_base.specs.declared.resource.Res.{Res}
 use Rattle.cs_typed.specs.Places.{Header}
-use Rattle.cs_ir.specs.Resources.{Spaces}
+use Rattle.cs_base.specs.declared.spaces.Spaces.{Spaces}
 use Rattle.cs_ir.specs.Waves.{Wave}
 use Rattle.cs_meaning.specs.Core.{Block}
 use Rattle.cs_meaning.specs.Notes.{Note}

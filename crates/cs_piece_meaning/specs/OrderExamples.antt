@@ -1,5 +1,5 @@
 -- Small performances whose order can be heard: eight frames a second, four a control cycle, one channel.
-use Rattle.std.specs.Prelude.{ℕ, pos, negsuc, [], ◌∷◌, None, false}
+use Rattle.std.specs.Prelude.{ℕ, pos, negsuc, List, [], ◌∷◌, None, false}
 use Rattle.cs_base.specs.declared.resource.Rate.TheVariants as rate
 use Rattle.cs_base.specs.declared.resource.Res.TheVariants as res
 use Rattle.cs_words.specs.declared.catalogue.Opcode.TheVariants as op
@@ -18,10 +18,10 @@ lit n = number rate.Init (whole n)
 abbrev first : Statement → Statements → Statements
 first s rest = andthen s rest
 
--- if p4 == 1 then gk1 = gk1 + 1 else a1 = gk1, out a1
+-- if p4 == 1 then gk1 = gk1 + 1 else a1 = gk1, out a1: decided once, as the note begins
 abbrev pub counting_or_telling : Statements
 counting_or_telling =
-    first (choose 4 rate.Control (arm (pair rate.Init sign.Equal (field rate.Init 4) (lit 1)) counting (otherwise telling))) no_stmt
+    first (choose 4 rate.Init (arm (pair rate.Init sign.Equal (field rate.Init 4) (lit 1)) counting (otherwise telling))) no_stmt
 
 -- two notes of one instrument over two cycles, with these p4, one started after the other
 abbrev pub two_of_one : ℕ → ℕ → Composition
@@ -34,19 +34,33 @@ sounding_table =
     (first (set 4 rate.Audio (Local rate.Audio 0) (var rate.Control (Local rate.Control 0)))
     (first (call 5 rate.Audio [] op.Out (value (var rate.Audio (Local rate.Audio 0)) ∷ [])) no_stmt))
 
--- table 1 is made in a cycle, by GEN02 as it is given, four points of this height
-abbrev made : ℕ → ℕ → Event
-made at height = record {
+-- table 1 is made in a cycle, by GEN02 as it is given, of four points
+abbrev made : ℕ → ℕ → ℕ → ℕ → ℕ → Event
+made at p q r s = record {
   cycle = at;
   line = 1;
-  act = act.Table 1 (pos 4) (negsuc 1) (whole height ∷ whole height ∷ whole height ∷ whole height ∷ []);
+  act = act.Table 1 (pos 4) (negsuc 1) (whole p ∷ whole q ∷ whole r ∷ whole s ∷ []);
+}
+
+-- one instrument over two cycles, and table 1, which is live
+abbrev with_table : Statements → List Event → Composition
+with_table body events = record (piece_of_two no_code body no_code events 2) {
+  tables = record { number = 1; size = 4; frozen = None; present = false } ∷ [];
 }
 
 -- a live table that is made in the first cycle, and again in the second, while a note reads it
 abbrev pub table_made_twice : Composition
-table_made_twice = record (piece_of_two no_code sounding_table no_code (made 0 5 ∷ note 1 0 2 (pos 0) ∷ made 1 9 ∷ []) 2) {
-  tables = record { number = 1; size = 4; frozen = None; present = false } ∷ [];
-}
+table_made_twice = with_table sounding_table (made 0 5 5 5 5 ∷ note 1 0 2 (pos 0) ∷ made 1 9 9 9 9 ∷ [])
+
+-- tablew 9, 2, 1; a1 table 2, 1; out a1, of a table 5, 6, 7, 8
+abbrev storing_and_sounding : Statements
+storing_and_sounding =
+    first (call 3 rate.Init [] op.Tablew (value (lit 9) ∷ value (lit 2) ∷ value (lit 1) ∷ []))
+    (first (call 4 rate.Audio (Local rate.Audio 0 ∷ []) op.Table (value (lit 2) ∷ value (lit 1) ∷ []))
+    (first (call 5 rate.Audio [] op.Out (value (var rate.Audio (Local rate.Audio 0)) ∷ [])) no_stmt))
+
+abbrev pub table_stored_to : Composition
+table_stored_to = with_table storing_and_sounding (made 0 5 6 7 8 ∷ note 1 0 2 (pos 0) ∷ [])
 
 -- schedule 2, 0, .5, 7: a note that is asked for now
 abbrev asking_now : Statement

@@ -7,7 +7,7 @@ ghost use Rattle.cs_base.specs.Limits.{most_notes};
 ghost use Rattle.cs_piece_meaning.specs.Moments.{Active, Composition, Moment};
 ghost use Rattle.cs_piece_meaning.specs.Starts.{Start, in_vain, start_in};
 ghost use Rattle.cs_meaning.specs.Examples.{each, whole};
-ghost use Rattle.cs_piece_meaning.specs.OrderExamples.{asked_in_its_cycle, refused_late, table_made_twice, two_of_one};
+ghost use Rattle.cs_piece_meaning.specs.OrderExamples.{asked_in_its_cycle, refused_late, table_made_twice, table_stored_to, two_of_one};
 ghost use Rattle.cs_piece_meaning.specs.Orders.{AreInOrder, IsSameNote, notes_in};
 
 /// The notes that are performed in a cycle stand by instrument number and, those of one number, by age; no two have one age; each
@@ -53,6 +53,8 @@ pub fn orders_worked_by_hand()
     ensures younger_counts { frames_of (two_of_one 0 1) ≡ each (whole 0) ++ each (whole 1) }
     // A table that is made again in a cycle has its new points for the notes of that cycle.
     ensures made_again { frames_of table_made_twice ≡ each (whole 5) ++ each (whole 9) }
+    // A note sounds what it stored into a table as it began.
+    ensures stored { frames_of table_stored_to ≡ each (whole 9) ++ each (whole 9) }
     // A note that is asked for in its own cycle starts in it.
     ensures asked { frames_of asked_in_its_cycle ≡ each (whole 0) ++ each (whole 7) ++ each (whole 0) }
     // What a refused note wrote stays, and the note that it asked for starts.

@@ -17,7 +17,7 @@ pub record Clock : Type 0 where
 abbrev pub clock_of : Head → ℕ → Clock
 clock_of head cycles = record { sr = head.sr; ksmps = head.ksmps; cycles = cycles }
 
--- seconds from now on, in 65,536ths; fewer than 0 count as none
+-- seconds from now on, in 65,536ths; a negative number counts as 0
 abbrev pub none_or : ℤ → ℤ
 none_or seconds = int_max seconds (pos 0)
 
@@ -28,7 +28,7 @@ from_now seconds = unsigned_abs (none_or seconds)
 abbrev pub nanoseconds : ℕ → ℕ
 nanoseconds raw = raw * 10 ^ 9 / 65536
 
--- the cycle in which so many 65,536ths of a second have passed
+-- the cycle in which this many 65,536ths of a second have passed since a cycle's start
 abbrev pub cycle_after : Clock → ℕ → ℕ → ℕ
 cycle_after clock now raw = now + cycle_of (nanoseconds raw) clock.sr clock.ksmps
 

@@ -50,7 +50,7 @@ those_in dues c = filter (λ d. d.cycle == c) dues
 abbrev pub waiting : Queue → Waiting
 waiting q = record { due = those_in q.dues; kept = q.kept }
 
--- by ascending cycle; no more were kept than may be
+-- by ascending cycle; no more were kept than allowed
 pub record AreInOrder (dues : List Due) (kept : ℕ) : Type 0 where
   pub ascending : IsNonDecreasingBy (λ d. d.cycle) dues
   pub within : length dues ≤ kept

@@ -2,7 +2,7 @@
 ghost use Rattle.std.specs.Prelude.{◌≡◌, ◌<◌, ◌^◌, IfOk};
 ghost use Rattle.cs_sched.specs.Times.{begins_in, clock_of, cycle_after, ends_in, fields_of, from_now, lasts, nanoseconds};
 
-use cs_base::{Head, Num, Nums, OutOfMemory};
+use cs_base::{Head, Num, Nums, ONE, OutOfMemory};
 use cs_ir::Ask;
 use cs_tempo::cycle_of;
 use std::alloc::Global;
@@ -20,7 +20,7 @@ pub struct Due {
     pub fields: Nums,
 }
 
-/// Seconds from now on, in 65,536ths; fewer than 0 count as none.
+/// Seconds from now on, in 65,536ths; a negative number counts as 0.
 pub(crate) fn from_now(when: Num) -> u64
     ensures value { result ≡ from_now when }
     ensures small { result < 2 ^ 47 }
@@ -55,7 +55,7 @@ fn ends_in(head: &Head, now: u32, ask: &Ask) -> u128
     cycle_after(head, now, after).max(begins_in(head, now, ask) + 1)
 }
 
-/// The cycle in which so many 65,536ths of a second have passed.
+/// The cycle in which `raw` 65,536ths of a second have passed since the start of cycle `now`.
 fn cycle_after(head: &Head, now: u32, raw: u64) -> u128
     requires { raw < 2 ^ 48 }
     ensures value { result ≡ cycle_after (clock_of head.now 0) now raw }
@@ -69,7 +69,7 @@ fn nanoseconds(raw: u64) -> u64
     ensures value { result ≡ nanoseconds raw }
     ensures small { result < 2 ^ 63 }
 {
-    (u128::from(raw) * 1_000_000_000 / 65_536) as u64
+    (u128::from(raw) * 1_000_000_000 / ONE as u128) as u64
 }
 
 /// The p-fields of a note that one with the p2 `time` asks for.

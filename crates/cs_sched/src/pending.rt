@@ -16,16 +16,16 @@ use std::marker::Model;
 #[derive(Clone, Copy)]
 pub enum Added {
     Kept,
-    /// It would last less than no time.
+    /// Its duration is negative.
     Negative,
     /// It would begin when the piece has ended.
     PastEnd,
-    /// So many have been kept before that no more are.
+    /// 100,000 have been kept before: no more are.
     TooMany,
 }
 
-/// Notes that were asked for and haven't begun. Contracts see those that begin in each cycle, in the order in which they
-/// were kept, and how many were kept in all.
+/// Notes that were asked for and haven't begun. Contracts see those that begin in each cycle, in the order in which
+/// they were kept, and how many were kept in all.
 #[derive(Drop)]
 pub struct Pending {
     dues: VecDeque<Due>,
@@ -43,7 +43,7 @@ impl Model for Pending {
 }
 
 impl Pending {
-    /// Nothing waits. It takes no memory, and keeps the allocator.
+    /// Nothing waits. It keeps the allocator and can't be out of memory.
     pub fn new(alloc: Global) -> Pending
         ensures { waiting result ≡ nothing_waits }
     {
@@ -53,8 +53,8 @@ impl Pending {
         }
     }
 
-    /// A note with the p2 `time` asks in cycle `now` for another, in a piece of `total` cycles. The answer is the first that
-    /// applies of `Negative`, `TooMany` (past 100,000 in all), `PastEnd` and `Kept`.
+    /// A note with the p2 `time` asks in cycle `now` for another, in a piece of `total` cycles. The result is the
+    /// first that applies of `Negative`, `TooMany` (past 100,000 in all), `PastEnd` and `Kept`.
     pub fn add(
         &mut self,
         alloc: Global,

@@ -6,7 +6,9 @@ use Rattle.cs_base.specs.Rates.{is_init}
 use Rattle.cs_base.specs.declared.resource.Rate.{Rate}
 use Rattle.cs_base.specs.declared.resource.Rate.TheVariants as rate
 use Rattle.cs_words.specs.Names.{name_rate}
-use Rattle.cs_grammar.specs.Tree.{Expression, Argument, value, text, Statement, set, add_to, call, choose, Block, no_stmt, andthen, joins, Arms, otherwise, arm, Definition}
+use Rattle.cs_grammar.specs.declared.tree.Callee.{Callee}
+use Rattle.cs_grammar.specs.declared.tree.Callee.TheVariants as callee
+use Rattle.cs_grammar.specs.Tree.{Expression, Argument, value, text, Statement, set, call, choose, Block, no_stmt, andthen, joins, Arms, otherwise, arm, Definition}
 use Rattle.cs_typed.specs.TypedTree as typed
 use Rattle.cs_typed.specs.declared.tree.Var.{Var as Variable}
 use Rattle.cs_typing.specs.Statements.{all_init, choice_rate}
@@ -19,16 +21,16 @@ use Rattle.cs_meaning.specs.Notes as note
 use Rattle.cs_meaning.specs.Notes.{Note, Place, past, past_parts, past_stmt, assign}
 use Rattle.cs_meaning.specs.Notes.{value as value_of}
 use Rattle.cs_meaning.specs.Performing as performing
-use Rattle.cs_udo.specs.Expanded.{Template, Opcodes, no_opcodes, assignments, value_in, called, after_called, after, after_block, after_arms, expanded, expanded_block, expanded_arms, whole_body, template, defining, defining_all}
+use Rattle.cs_udo.specs.Expanded.{Template, Opcodes, no_opcodes, defined, assignments, value_in, called, after_called, after, after_block, after_arms, expanded, expanded_block, expanded_arms, whole_body, template, defining, defining_all}
 use Rattle.cs_udo.specs.Names.{in_frame, renamed, renamed_argument}
-use Rattle.cs_udo_meaning.specs.Frames.{Framed, seen_from, put_back, spot, Reading, variable_read, expression_read, read, past_copy, going_on, copied, init_copy, perf_copy, past_copies, init_copies, perf_copies, Action, Actions, no_actions, values_in, past_call, init_call, perf_call, past_any, init_any, perf_any, past_framed, past_block, past_arms, init_framed, init_block, init_first, init_all, perf_framed, perf_block, perf_arms, action, acting, acting_all}
+use Rattle.cs_udo_meaning.specs.Frames.{Framed, seen_from, put_back, spot, Reading, variable_read, expression_read, read, past_copy, going_on, copied, init_copy, perf_copy, past_copies, init_copies, perf_copies, Action, Actions, no_actions, action_of, values_in, past_call, init_call, perf_call, past_any, init_any, perf_any, past_framed, past_block, past_arms, init_framed, init_block, init_first, init_all, perf_framed, perf_block, perf_arms, action, acting, acting_all}
 use Rattle.cs_udo_meaning.specs.Numbered.{Numbering, Tells, Variables, numbered, expression_by, statement_by, block_by, arms_by}
 use Rattle.cs_udo_meaning.specs.Stands.{own_name, Fits, Stands}
 use Rattle.cs_udo_meaning.proofs.Alike.{Alike, AlikeStmt, past_alike, past_stmt_alike, value_same, keep_same, init_same, perf_same, Agree}
 use Rattle.cs_udo_meaning.proofs.Fresh.{own_rate}
 use Rattle.cs_udo_meaning.proofs.Named.{Named, NamedAll, NamedArguments, NamedStmt, NamedBlock, NamedArms, any_names, any_arguments, any_block}
-use Rattle.cs_udo_meaning.proofs.Renamed.{KeepsRates, rate_kept, expression_renamed, set_renamed, add_renamed, call_renamed}
-use Rattle.cs_udo_meaning.proofs.Standing.{SameVariable, both_shared, variable_alike, expression_alike, set_alike, add_alike, plain_alike, Seen, to_seen, from_seen, seen_agree}
+use Rattle.cs_udo_meaning.proofs.Renamed.{KeepsRates, rate_kept, expression_renamed, set_renamed, call_renamed}
+use Rattle.cs_udo_meaning.proofs.Standing.{SameVariable, both_shared, variable_alike, expression_alike, set_alike, call_alike, Seen, to_seen, from_seen, seen_agree}
 
 -- ---- orders of frames
 
@@ -45,6 +47,10 @@ GrowsIf (Some t) = (n : ℕ) → n ≤ t.after n
 pub record Grows (opcodes : Opcodes) : Type 0 where
   pub each : (name : List ℕ) → GrowsIf (opcodes name)
 
+grows_called : (opcodes : Opcodes) → Grows opcodes → (c : Callee) → GrowsIf (defined opcodes c)
+grows_called opcodes g (callee.Opcode o) = tt
+grows_called opcodes g (callee.Name name) = g.each name
+
 called_grows : (found : Option Template) → GrowsIf found → (n : ℕ) → n ≤ after_called n found
 called_grows None h n = omega arith
 called_grows (Some t) h n = h n
@@ -52,8 +58,7 @@ called_grows (Some t) h n = h n
 mutual
   pub after_grows : (opcodes : Opcodes) → Grows opcodes → (n : ℕ) (x : Statement) → n ≤ after opcodes n x
   after_grows opcodes g n (set line x e) = omega arith
-  after_grows opcodes g n (add_to line x e) = omega arith
-  after_grows opcodes g n (call line xs name args) = called_grows (opcodes name) (g.each name) n
+  after_grows opcodes g n (call line xs c args) = called_grows (defined opcodes c) (grows_called opcodes g c) n
   after_grows opcodes g n (choose line list) = after_arms_grows opcodes g n list
 
   pub after_block_grows : (opcodes : Opcodes) → Grows opcodes → (n : ℕ) (b : Block) → n ≤ after_block opcodes n b
@@ -151,19 +156,12 @@ module _ {W : Type 0} (m : Reading W) (flat : Numbering) (tf : Tells flat) (to :
       subst (λ a. AlikeStmt (Same f) (core.core_stmt m.spaces a) (read m (set line x e))) (sym (set_renamed (own_name f) (own_rates f) m.shared v line x e))
       (set_alike (λ y. v (own_name f y)) (numbered m.shared m.number) (alike_variable f) both_shared m.spaces m.shared line x e n k)
 
-  alike_add : (f line : ℕ) (x : List ℕ) (e : Expression) → Fits f x → Named (Fits f) e
-      → AlikeStmt (Same f) (flat_stmt (add_to line (own_name f x) (renamed (own_name f) e))) (read m (add_to line x e))
-  alike_add f line x e n k =
-      subst (λ a. AlikeStmt (Same f) (core.core_stmt m.spaces a) (read m (add_to line x e)))
-      (sym (add_renamed (own_name f) (own_rates f) m.shared v line x e))
-      (add_alike (λ y. v (own_name f y)) (numbered m.shared m.number) (alike_variable f) both_shared m.spaces m.shared line x e n k)
-
-  alike_call : (f line : ℕ) (xs : List (List ℕ)) (name : List ℕ) (args : List Argument) → NamedAll (Fits f) xs → NamedArguments (Fits f) args
-      → AlikeStmt (Same f) (flat_stmt (call line (map (own_name f) xs) name (map (renamed_argument (own_name f)) args))) (read m (call line xs name args))
-  alike_call f line xs name args n k =
-      subst (λ a. AlikeStmt (Same f) (core.core_stmt m.spaces a) (read m (call line xs name args)))
-      (sym (call_renamed (own_name f) (own_rates f) m.shared v line xs name args))
-      (plain_alike (λ y. v (own_name f y)) (numbered m.shared m.number) (alike_variable f) both_shared m.spaces m.shared line xs name args n k)
+  alike_call : (f line : ℕ) (xs : List (List ℕ)) (c : Callee) (args : List Argument) → NamedAll (Fits f) xs → NamedArguments (Fits f) args
+      → AlikeStmt (Same f) (flat_stmt (call line (map (own_name f) xs) c (map (renamed_argument (own_name f)) args))) (read m (call line xs c args))
+  alike_call f line xs c args n k =
+      subst (λ a. AlikeStmt (Same f) (core.core_stmt m.spaces a) (read m (call line xs c args)))
+      (sym (call_renamed (own_name f) (own_rates f) m.shared v line xs c args))
+      (call_alike (λ y. v (own_name f y)) (numbered m.shared m.number) (alike_variable f) both_shared m.spaces m.shared line xs c args n k)
 
   agree : (f : ℕ) (u : Framed W) → Agree m.world (Same f) (Seen flat m.number f u)
   agree f u = seen_agree m.world flat m.number tf to f u
@@ -306,12 +304,16 @@ module _ {W : Type 0} (m : Reading W) (flat : Numbering) (tf : Tells flat) (to :
   pub record Act (opcodes : Opcodes) (env : Actions W) : Type 0 where
     pub each : (name : List ℕ) → ActsIf (opcodes name) (env name)
 
+  acts_called : (opcodes : Opcodes) (env : Actions W) → Act opcodes env → (c : Callee) → ActsIf (defined opcodes c) (action_of env c)
+  acts_called opcodes env k (callee.Opcode o) = tt
+  acts_called opcodes env k (callee.Name name) = k.each name
+
   -- ---- a call
 
-  called_is : (f n line : ℕ) (xs : List (List ℕ)) (name : List ℕ) (args : List Argument) (t : Template) (a : Action W) → 1 ≤ n → Acts t a
-      → called (own_name f) n line xs name args (Some t)
+  called_is : (f n line : ℕ) (xs : List (List ℕ)) (c : Callee) (args : List Argument) (t : Template) (a : Action W) → 1 ≤ n → Acts t a
+      → called (own_name f) n line xs c args (Some t)
       ≡ joins (copies_of line f n a.inputs args) (joins (t.block n) (copies_of line n f xs (values_in a.results)))
-  called_is f n line xs name args t a h k =
+  called_is f n line xs c args t a h k =
       let inner_is = inner_name n h in
       let given_results : map (value_in n) t.results ≡ map (renamed_argument (own_name n)) (values_in a.results) =
       ap (λ l. map (value_in n) l) k.results ∙ results_in n a.results ∙ ap (λ g. map (renamed_argument g) (values_in a.results)) (sym inner_is) in
@@ -319,10 +321,10 @@ module _ {W : Type 0} (m : Reading W) (flat : Numbering) (tf : Tells flat) (to :
       λ i. joins (assignments line (inputs i) (map (renamed_argument (own_name f)) args))
       (joins (t.block n) (assignments line (map (own_name f) xs) (given_results i)))
 
-  call_past : (f n line : ℕ) (p : Place) (xs : List (List ℕ)) (name : List ℕ) (args : List Argument) (t : Template) (a : Action W) → 1 ≤ n → Acts t a
+  call_past : (f n line : ℕ) (p : Place) (xs : List (List ℕ)) (c : Callee) (args : List Argument) (t : Template) (a : Action W) → 1 ≤ n → Acts t a
       → NamedArguments (Fits f) args
-      → past_call m (spot p n) a xs args ≡ spot (note.past_block p (flat_block (called (own_name f) n line xs name args (Some t)))) (t.after n)
-  call_past f n line p xs name args t a h k named =
+      → past_call m (spot p n) a xs args ≡ spot (note.past_block p (flat_block (called (own_name f) n line xs c args (Some t)))) (t.after n)
+  call_past f n line p xs c args t a h k named =
       let given_values = values_in a.results in
       let one = copies_of line f n a.inputs args in
       let two = copies_of line n f xs given_values in
@@ -334,12 +336,12 @@ module _ {W : Type 0} (m : Reading W) (flat : Numbering) (tf : Tells flat) (to :
       ∙ past_joins ready (t.block n) two
       ∙ copies_past line n f body xs given_values (any_arguments (Fits n) (fits_inner n h) given_values) in
       ap (λ q. spot (past_copies m q.place xs given_values) q.frame) (k.past ready n h)
-      ∙ ap (λ q. spot q (t.after n)) (sym moved ∙ ap (λ b. note.past_block p (flat_block b)) (sym (called_is f n line xs name args t a h k)))
+      ∙ ap (λ q. spot q (t.after n)) (sym moved ∙ ap (λ b. note.past_block p (flat_block b)) (sym (called_is f n line xs c args t a h k)))
 
-  call_init : (f n line : ℕ) (p : Place) (xs : List (List ℕ)) (name : List ℕ) (args : List Argument) (t : Template) (a : Action W) → 1 ≤ n → Acts t a
+  call_init : (f n line : ℕ) (p : Place) (xs : List (List ℕ)) (c : Callee) (args : List Argument) (t : Template) (a : Action W) → 1 ≤ n → Acts t a
       → NamedAll (Fits f) xs → NamedArguments (Fits f) args → (s : Note W) (u : Framed W) → Stand s u
-      → Stand (initial.init_block m.world p (flat_block (called (own_name f) n line xs name args (Some t))) s) (init_call m f (spot p n) a xs args u)
-  call_init f n line p xs name args t a h k fits named s u stand =
+      → Stand (initial.init_block m.world p (flat_block (called (own_name f) n line xs c args (Some t))) s) (init_call m f (spot p n) a xs args u)
+  call_init f n line p xs c args t a h k fits named s u stand =
       let given_values = values_in a.results in
       let one = copies_of line f n a.inputs args in
       let two = copies_of line n f xs given_values in
@@ -355,16 +357,16 @@ module _ {W : Type 0} (m : Reading W) (flat : Numbering) (tf : Tells flat) (to :
       subst (λ q. Stand (initial.init_block m.world body (flat_block two) s2) (init_copies m n f q.place xs given_values u2)) (sym (k.past ready n h))
       (copies_init line n f body xs given_values s2 u2 fits (any_arguments (Fits n) (fits_inner n h) given_values) stand2) in
       let framed = init_call m f (spot p n) a xs args u in
-      subst (λ b. Stand (initial.init_block m.world p (flat_block b) s) framed) (sym (called_is f n line xs name args t a h k))
+      subst (λ b. Stand (initial.init_block m.world p (flat_block b) s) framed) (sym (called_is f n line xs c args t a h k))
       (subst (λ z. Stand z framed)
       (sym (init_joins p one (joins (t.block n) two) s
       ∙ ap (λ q. initial.init_block m.world q (flat_block (joins (t.block n) two)) s1) (copies_past line f n p a.inputs args named)
       ∙ init_joins ready (t.block n) two s1)) last)
 
-  call_perf : (f n line : ℕ) (p : Place) (xs : List (List ℕ)) (name : List ℕ) (args : List Argument) (t : Template) (a : Action W) → 1 ≤ n → Acts t a
+  call_perf : (f n line : ℕ) (p : Place) (xs : List (List ℕ)) (c : Callee) (args : List Argument) (t : Template) (a : Action W) → 1 ≤ n → Acts t a
       → NamedAll (Fits f) xs → NamedArguments (Fits f) args → (s : Note W) (u : Framed W) → Stand s u
-      → Stand (performing.perf_block m.world p (flat_block (called (own_name f) n line xs name args (Some t))) s) (perf_call m f (spot p n) a xs args u)
-  call_perf f n line p xs name args t a h k fits named s u stand =
+      → Stand (performing.perf_block m.world p (flat_block (called (own_name f) n line xs c args (Some t))) s) (perf_call m f (spot p n) a xs args u)
+  call_perf f n line p xs c args t a h k fits named s u stand =
       let given_values = values_in a.results in
       let one = copies_of line f n a.inputs args in
       let two = copies_of line n f xs given_values in
@@ -380,42 +382,42 @@ module _ {W : Type 0} (m : Reading W) (flat : Numbering) (tf : Tells flat) (to :
       subst (λ q. Stand (performing.perf_block m.world body (flat_block two) s2) (perf_copies m n f q.place xs given_values u2)) (sym (k.past ready n h))
       (copies_perf line n f body xs given_values s2 u2 fits (any_arguments (Fits n) (fits_inner n h) given_values) stand2) in
       let framed = perf_call m f (spot p n) a xs args u in
-      subst (λ b. Stand (performing.perf_block m.world p (flat_block b) s) framed) (sym (called_is f n line xs name args t a h k))
+      subst (λ b. Stand (performing.perf_block m.world p (flat_block b) s) framed) (sym (called_is f n line xs c args t a h k))
       (subst (λ z. Stand z framed)
       (sym (perf_joins p one (joins (t.block n) two) s
       ∙ ap (λ q. performing.perf_block m.world q (flat_block (joins (t.block n) two)) s1) (copies_past line f n p a.inputs args named)
       ∙ perf_joins ready (t.block n) two s1)) last)
 
   -- a call of a defined opcode or of another
-  any_past : (f n line : ℕ) (p : Place) (xs : List (List ℕ)) (name : List ℕ) (args : List Argument) (t : Option Template) (a : Option (Action W)) → 1 ≤ n
+  any_past : (f n line : ℕ) (p : Place) (xs : List (List ℕ)) (c : Callee) (args : List Argument) (t : Option Template) (a : Option (Action W)) → 1 ≤ n
       → ActsIf t a
       → NamedAll (Fits f) xs → NamedArguments (Fits f) args
-      → past_any m (spot p n) (call line xs name args) xs args a
-      ≡ spot (note.past_block p (flat_block (called (own_name f) n line xs name args t))) (after_called n t)
-  any_past f n line p xs name args None None h k fits named = ap (λ q. spot q n) (sym (past_stmt_alike (alike_call f line xs name args fits named) p))
-  any_past f n line p xs name args None (Some a) h k fits named = absurd k
-  any_past f n line p xs name args (Some t) None h k fits named = absurd k
-  any_past f n line p xs name args (Some t) (Some a) h k fits named = call_past f n line p xs name args t a h k named
+      → past_any m (spot p n) (call line xs c args) xs args a
+      ≡ spot (note.past_block p (flat_block (called (own_name f) n line xs c args t))) (after_called n t)
+  any_past f n line p xs c args None None h k fits named = ap (λ q. spot q n) (sym (past_stmt_alike (alike_call f line xs c args fits named) p))
+  any_past f n line p xs c args None (Some a) h k fits named = absurd k
+  any_past f n line p xs c args (Some t) None h k fits named = absurd k
+  any_past f n line p xs c args (Some t) (Some a) h k fits named = call_past f n line p xs c args t a h k named
 
-  any_init : (f n line : ℕ) (p : Place) (xs : List (List ℕ)) (name : List ℕ) (args : List Argument) (t : Option Template) (a : Option (Action W)) → 1 ≤ n
+  any_init : (f n line : ℕ) (p : Place) (xs : List (List ℕ)) (c : Callee) (args : List Argument) (t : Option Template) (a : Option (Action W)) → 1 ≤ n
       → ActsIf t a
       → NamedAll (Fits f) xs → NamedArguments (Fits f) args → (s : Note W) (u : Framed W) → Stand s u
-      → Stand (initial.init_block m.world p (flat_block (called (own_name f) n line xs name args t)) s)
-      (init_any m f (spot p n) (call line xs name args) xs args a u)
-  any_init f n line p xs name args None None h k fits named s u stand = plain_init f p _ _ s u (alike_call f line xs name args fits named) stand
-  any_init f n line p xs name args None (Some a) h k fits named s u stand = absurd k
-  any_init f n line p xs name args (Some t) None h k fits named s u stand = absurd k
-  any_init f n line p xs name args (Some t) (Some a) h k fits named s u stand = call_init f n line p xs name args t a h k fits named s u stand
+      → Stand (initial.init_block m.world p (flat_block (called (own_name f) n line xs c args t)) s)
+      (init_any m f (spot p n) (call line xs c args) xs args a u)
+  any_init f n line p xs c args None None h k fits named s u stand = plain_init f p _ _ s u (alike_call f line xs c args fits named) stand
+  any_init f n line p xs c args None (Some a) h k fits named s u stand = absurd k
+  any_init f n line p xs c args (Some t) None h k fits named s u stand = absurd k
+  any_init f n line p xs c args (Some t) (Some a) h k fits named s u stand = call_init f n line p xs c args t a h k fits named s u stand
 
-  any_perf : (f n line : ℕ) (p : Place) (xs : List (List ℕ)) (name : List ℕ) (args : List Argument) (t : Option Template) (a : Option (Action W)) → 1 ≤ n
+  any_perf : (f n line : ℕ) (p : Place) (xs : List (List ℕ)) (c : Callee) (args : List Argument) (t : Option Template) (a : Option (Action W)) → 1 ≤ n
       → ActsIf t a
       → NamedAll (Fits f) xs → NamedArguments (Fits f) args → (s : Note W) (u : Framed W) → Stand s u
-      → Stand (performing.perf_block m.world p (flat_block (called (own_name f) n line xs name args t)) s)
-      (perf_any m f (spot p n) (call line xs name args) xs args a u)
-  any_perf f n line p xs name args None None h k fits named s u stand = plain_perf f p _ _ s u (alike_call f line xs name args fits named) stand
-  any_perf f n line p xs name args None (Some a) h k fits named s u stand = absurd k
-  any_perf f n line p xs name args (Some t) None h k fits named s u stand = absurd k
-  any_perf f n line p xs name args (Some t) (Some a) h k fits named s u stand = call_perf f n line p xs name args t a h k fits named s u stand
+      → Stand (performing.perf_block m.world p (flat_block (called (own_name f) n line xs c args t)) s)
+      (perf_any m f (spot p n) (call line xs c args) xs args a u)
+  any_perf f n line p xs c args None None h k fits named s u stand = plain_perf f p _ _ s u (alike_call f line xs c args fits named) stand
+  any_perf f n line p xs c args None (Some a) h k fits named s u stand = absurd k
+  any_perf f n line p xs c args (Some t) None h k fits named s u stand = absurd k
+  any_perf f n line p xs c args (Some t) (Some a) h k fits named s u stand = call_perf f n line p xs c args t a h k fits named s u stand
 
   -- ---- statements, in the order of the text
 
@@ -450,9 +452,8 @@ module _ {W : Type 0} (m : Reading W) (flat : Numbering) (tf : Tells flat) (to :
       past_stands : (n : ℕ) → 1 ≤ n → (p : Place) (x : Statement) → NamedStmt (Fits f) x
           → past_framed m env (spot p n) x ≡ spot (note.past_block p (text_of n x)) (after opcodes n x)
       past_stands n h p (set line x e) named = ap (λ q. spot q n) (sym (past_stmt_alike (alike_set f line x e named.0 named.1) p))
-      past_stands n h p (add_to line x e) named = ap (λ q. spot q n) (sym (past_stmt_alike (alike_add f line x e named.0 named.1) p))
-      past_stands n h p (call line xs name args) named =
-          any_past f n line p xs name args (opcodes name) (env name) h (k.each name) named.0 named.1
+      past_stands n h p (call line xs c args) named =
+          any_past f n line p xs c args (defined opcodes c) (action_of env c) h (acts_called opcodes env k c) named.0 named.1
       past_stands n h p (choose line list) named = past_arms_stand n h p list named
 
       pub past_block_stands : (n : ℕ) → 1 ≤ n → (p : Place) (b : Block) → NamedBlock (Fits f) b
@@ -478,9 +479,8 @@ module _ {W : Type 0} (m : Reading W) (flat : Numbering) (tf : Tells flat) (to :
       init_stands : (n : ℕ) → 1 ≤ n → (p : Place) (x : Statement) → NamedStmt (Fits f) x → (t : Note W) (u : Framed W) → Stand t u
           → Stand (initial.init_block m.world p (text_of n x) t) (init_framed m env f (spot p n) x u)
       init_stands n h p (set line x e) named t u stand = plain_init f p _ _ t u (alike_set f line x e named.0 named.1) stand
-      init_stands n h p (add_to line x e) named t u stand = plain_init f p _ _ t u (alike_add f line x e named.0 named.1) stand
-      init_stands n h p (call line xs name args) named t u stand =
-          any_init f n line p xs name args (opcodes name) (env name) h (k.each name) named.0 named.1 t u stand
+      init_stands n h p (call line xs c args) named t u stand =
+          any_init f n line p xs c args (defined opcodes c) (action_of env c) h (acts_called opcodes env k c) named.0 named.1 t u stand
       init_stands n h p (choose line list) named t u stand =
           let made = expanded_arms opcodes (own_name f) n list in
           subst (λ r. Stand (initial.init_block m.world p (text_of n (choose line list)) t)
@@ -547,9 +547,8 @@ module _ {W : Type 0} (m : Reading W) (flat : Numbering) (tf : Tells flat) (to :
       perf_stands : (n : ℕ) → 1 ≤ n → (p : Place) (x : Statement) → NamedStmt (Fits f) x → (t : Note W) (u : Framed W) → Stand t u
           → Stand (performing.perf_block m.world p (text_of n x) t) (perf_framed m env f (spot p n) x u)
       perf_stands n h p (set line x e) named t u stand = plain_perf f p _ _ t u (alike_set f line x e named.0 named.1) stand
-      perf_stands n h p (add_to line x e) named t u stand = plain_perf f p _ _ t u (alike_add f line x e named.0 named.1) stand
-      perf_stands n h p (call line xs name args) named t u stand =
-          any_perf f n line p xs name args (opcodes name) (env name) h (k.each name) named.0 named.1 t u stand
+      perf_stands n h p (call line xs c args) named t u stand =
+          any_perf f n line p xs c args (defined opcodes c) (action_of env c) h (acts_called opcodes env k c) named.0 named.1 t u stand
       perf_stands n h p (choose line list) named t u stand = perf_arms_stand n h p list named t u stand
 
       pub perf_block_stands : (n : ℕ) → 1 ≤ n → (p : Place) (b : Block) → NamedBlock (Fits f) b → (t : Note W) (u : Framed W) → Stand t u

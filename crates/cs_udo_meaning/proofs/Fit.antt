@@ -1,22 +1,21 @@
 -- Expanded instruments call no `zakinit`, and each number is of one instrument.
-use Rattle.std.proofs.Common.{◌≡◌, ◌≢◌, ℕ, ◌+◌, eqb, Bool, true, false, if◌then◌else◌, nat_lt, List, [], ◌∷◌, ◌++◌, codes, map, Option, Some, None, Result, Ok, Err, refl, sym, ap, subst, ◌∙◌}
+use Rattle.std.proofs.Common.{◌≡◌, ◌≢◌, ℕ, ◌+◌, eqb, Bool, true, false, if◌then◌else◌, nat_lt, List, [], ◌∷◌, ◌++◌, map, Option, Some, None, Ok, refl, sym, ap, subst, ◌∙◌}
 use Rattle.std.specs.Option.{option_or}
 use Rattle.std.specs.Str.{bytes_eq}
 use Rattle.std.specs.List.{All, IsDistinct, flat_map}
 use Rattle.std.proofs.lemmas.Bool.{eq-eqb, eqb-true}
 use Rattle.std.proofs.lemmas.List.Elements.{All-cons, All-nil, All-head, All-tail}
 use Rattle.std.proofs.lemmas.Map.Made.{IsDistinct-from_AllPairs}
-use Rattle.cs_words.proofs.Apart.{found_so}
-use Rattle.cs_words.specs.Catalogue.{catalogued}
-use Rattle.cs_words.specs.declared.catalogue.Opcode.{Opcode}
 use Rattle.cs_words.specs.declared.catalogue.Opcode.TheVariants as op
 use Rattle.cs_base.specs.declared.fault.OrcFault.{OrcFault}
 use Rattle.cs_base.specs.declared.limit.LimitHit.{LimitHit}
 use Rattle.cs_grammar.specs.declared.scope.Place.TheVariants as place
-use Rattle.cs_grammar.specs.Tree.{Argument, value, text, Statement, set, add_to, call, choose, Block, no_stmt, andthen, joins, Arms, otherwise, arm, Definition, Instrument, Orchestra}
+use Rattle.cs_grammar.specs.declared.tree.Callee.{Callee}
+use Rattle.cs_grammar.specs.declared.tree.Callee.TheVariants as callee
+use Rattle.cs_grammar.specs.Tree.{Argument, value, text, Statement, set, call, choose, Block, no_stmt, andthen, joins, Arms, otherwise, arm, Definition, Instrument, Orchestra}
 use Rattle.cs_grammar.specs.WellFormed.{WellFormedStmt, WellFormedBlock, WellFormedArms, WellFormedInstrument, WellFormedDefinition, IsWellFormed, all_numbers}
 use Rattle.cs_udo.specs.Names.{as_it_is, in_frame, renamed_argument, slots}
-use Rattle.cs_udo.specs.Expanded.{Template, Opcodes, no_opcodes, assignments, value_in, called, after, after_block, expanded, expanded_block, expanded_arms, whole_body, template, defining, defining_all, before, opcodes_before, expanded_instrument, expanded_orchestra}
+use Rattle.cs_udo.specs.Expanded.{Template, Opcodes, no_opcodes, defined, assignments, value_in, called, after, after_block, expanded, expanded_block, expanded_arms, whole_body, template, defining, defining_all, before, opcodes_before, expanded_instrument, expanded_orchestra}
 use Rattle.cs_udo.specs.Counted.{first_limit}
 use Rattle.cs_udo.specs.Refused.{first_fault}
 use Rattle.cs_udo.specs.Expanding.{within, unless, expanding}
@@ -33,8 +32,7 @@ use Rattle.cs_typed.specs.WellRated.{HasNoZakinit, BlockHasNoZakinit, ArmsHaveNo
 abbrev mutual
   pub Calm : Statement → Type 0
   Calm (set line x e) = Unit {0}
-  Calm (add_to line x e) = Unit {0}
-  Calm (call line xs name args) = name ≢ codes "zakinit"
+  Calm (call line xs c args) = c ≢ callee.Opcode op.Zakinit
   Calm (choose line list) = CalmArms list
 
   pub CalmBlock : Block → Type 0
@@ -60,8 +58,7 @@ calm_assignments line (x ∷ xs) (value e ∷ args) = (tt, calm_assignments line
 mutual
   calm_in_instrument : (depth : ℕ) (x : Statement) → WellFormedStmt place.Instrument [] depth x → Calm x
   calm_in_instrument depth (set line x e) h = tt
-  calm_in_instrument depth (add_to line x e) h = tt
-  calm_in_instrument depth (call line xs name args) h = h.1.1
+  calm_in_instrument depth (call line xs c args) h = h.1.1
   calm_in_instrument depth (choose line list) h = calm_arms_in_instrument (depth + 1) list h.1
 
   calm_block_in_instrument : (depth : ℕ) (b : Block) → WellFormedBlock place.Instrument [] depth b → CalmBlock b
@@ -75,8 +72,7 @@ mutual
 mutual
   calm_in_definition : (own : List ℕ) (depth : ℕ) (x : Statement) → WellFormedStmt place.Definition own depth x → Calm x
   calm_in_definition own depth (set line x e) h = tt
-  calm_in_definition own depth (add_to line x e) h = tt
-  calm_in_definition own depth (call line xs name args) h = h.1.1.0
+  calm_in_definition own depth (call line xs c args) h = h.1.1.0
   calm_in_definition own depth (choose line list) h = calm_arms_in_definition own (depth + 1) list h.1
 
   calm_block_in_definition : (own : List ℕ) (depth : ℕ) (b : Block) → WellFormedBlock place.Definition own depth b → CalmBlock b
@@ -98,9 +94,13 @@ CalmIf (Some t) = (f : ℕ) → CalmBlock (t.block f)
 record AllCalm (opcodes : Opcodes) : Type 0 where
   pub each : (name : List ℕ) → CalmIf (opcodes name)
 
-calm_called : (own : List ℕ → List ℕ) (f line : ℕ) (xs : List (List ℕ)) (name : List ℕ) (args : List Argument) (found : Option Template) → name ≢ codes "zakinit" → CalmIf found → CalmBlock (called own f line xs name args found)
-calm_called own f line xs name args None h k = (h, tt)
-calm_called own f line xs name args (Some t) h k =
+called_calm : (opcodes : Opcodes) → AllCalm opcodes → (c : Callee) → CalmIf (defined opcodes c)
+called_calm opcodes k (callee.Opcode o) = tt
+called_calm opcodes k (callee.Name name) = k.each name
+
+calm_called : (own : List ℕ → List ℕ) (f line : ℕ) (xs : List (List ℕ)) (c : Callee) (args : List Argument) (found : Option Template) → c ≢ callee.Opcode op.Zakinit → CalmIf found → CalmBlock (called own f line xs c args found)
+calm_called own f line xs c args None h k = (h, tt)
+calm_called own f line xs c args (Some t) h k =
     calm_joins (assignments line (map (in_frame f) t.inputs) (map (renamed_argument own) args))
     (joins (t.block f) (assignments line (map own xs) (map (value_in f) t.results)))
     (calm_assignments line (map (in_frame f) t.inputs) (map (renamed_argument own) args))
@@ -110,8 +110,7 @@ calm_called own f line xs name args (Some t) h k =
 mutual
   calm_expanded : (opcodes : Opcodes) → AllCalm opcodes → (own : List ℕ → List ℕ) (f : ℕ) (x : Statement) → Calm x → CalmBlock (expanded opcodes own f x)
   calm_expanded opcodes k own f (set line x e) h = (tt, tt)
-  calm_expanded opcodes k own f (add_to line x e) h = (tt, tt)
-  calm_expanded opcodes k own f (call line xs name args) h = calm_called own f line xs name args (opcodes name) h (k.each name)
+  calm_expanded opcodes k own f (call line xs c args) h = calm_called own f line xs c args (defined opcodes c) h (called_calm opcodes k c)
   calm_expanded opcodes k own f (choose line list) h = (calm_expanded_arms opcodes k own f list h, tt)
 
   calm_expanded_block : (opcodes : Opcodes) → AllCalm opcodes → (own : List ℕ → List ℕ) (f : ℕ) (b : Block) → CalmBlock b → CalmBlock (expanded_block opcodes own f b)
@@ -164,18 +163,14 @@ calm_instruments ds k (i ∷ rest) h =
 
 -- ---- their typed form
 
-call_lacks : (line : ℕ) (n : Known) (o : Option Opcode) (results : List (List ℕ)) (args : List Argument) → o ≢ Some op.Zakinit → HasNoZakinit (typed_call line n o results args)
-call_lacks line n None results args h = tt
-call_lacks line n (Some o) results args h = λ e. h (ap Some e)
-
-not_read : (name : List ℕ) → name ≢ codes "zakinit" → catalogued name ≢ Some op.Zakinit
-not_read name h = λ e. h (sym (found_so name op.Zakinit e))
+call_lacks : (line : ℕ) (n : Known) (c : Callee) (results : List (List ℕ)) (args : List Argument) → c ≢ callee.Opcode op.Zakinit → HasNoZakinit (typed_call line n c results args)
+call_lacks line n (callee.Name name) results args h = tt
+call_lacks line n (callee.Opcode o) results args h = λ e. h (ap callee.Opcode e)
 
 mutual
   stmt_lacks : (n : Known) (x : Statement) → Calm x → HasNoZakinit (typed_statement n x)
   stmt_lacks n (set line name e) h = tt
-  stmt_lacks n (add_to line name e) h = tt
-  stmt_lacks n (call line results name args) h = call_lacks line n (catalogued name) results args (not_read name h)
+  stmt_lacks n (call line results c args) h = call_lacks line n c results args h
   stmt_lacks n (choose line list) h = arms_lack n list h
 
   block_lacks : (n : Known) (b : Block) → CalmBlock b → BlockHasNoZakinit (typed_block n b)

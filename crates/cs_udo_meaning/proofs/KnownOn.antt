@@ -10,12 +10,14 @@ use Rattle.cs_base.specs.declared.fault.OrcFault.{OrcFault}
 use Rattle.cs_base.specs.declared.fault.OrcKind.{OrcKind}
 use Rattle.cs_base.specs.declared.fault.OrcKind.TheVariants as orc
 use Rattle.cs_base.specs.declared.resource.Rate.{Rate}
-use Rattle.cs_words.specs.Catalogue.{Row, row_of, catalogued, takes_count, result_count}
+use Rattle.cs_words.specs.Catalogue.{Row, row_of, takes_count, result_count}
 use Rattle.cs_words.specs.NameSets.{seen}
 use Rattle.cs_words.specs.Names.{name_rate, is_global}
 use Rattle.cs_words.specs.declared.catalogue.Opcode.{Opcode}
 use Rattle.cs_words.specs.declared.catalogue.Opcode.TheVariants as op
-use Rattle.cs_grammar.specs.Tree.{Expression, number, var, field, head, neg, pair, pick, apply, Argument, value, text, Statement, set, add_to, call, choose, Block, no_stmt, andthen, Arms, otherwise, arm}
+use Rattle.cs_grammar.specs.declared.tree.Callee.{Callee}
+use Rattle.cs_grammar.specs.declared.tree.Callee.TheVariants as callee
+use Rattle.cs_grammar.specs.Tree.{Expression, number, var, field, head, neg, pair, pick, apply, Argument, value, text, Statement, set, call, choose, Block, no_stmt, andthen, Arms, otherwise, arm}
 use Rattle.cs_typed.specs.Places.{stands_outside}
 use Rattle.cs_typed.specs.TypedTree as typed
 use Rattle.cs_typed.specs.declared.setting.Setting.{Setting}
@@ -24,7 +26,7 @@ use Rattle.cs_typing.specs.Calls.{all_fit, bound_of, may_result, is_even, kind_o
 use Rattle.cs_typing.specs.Expressions.{is_value, is_condition, rate_of, reads_known, typed_expression}
 use Rattle.cs_typing.specs.Known.{Table, in_table, place_in, added, Shared, Known, knows, after_giving, given, given_all, used, use_channel, clashes, global, variable, channel_of}
 use Rattle.cs_typing.specs.Settings.{at}
-use Rattle.cs_typing.specs.Statements.{set_fault, condition_fault, sum_with, known, known_block, known_arms, fault, block_fault, arms_fault, choice_rate, typed_statement, typed_block, typed_arms}
+use Rattle.cs_typing.specs.Statements.{set_fault, condition_fault, known, known_block, known_arms, fault, block_fault, arms_fault, choice_rate, typed_statement, typed_block, typed_arms}
 use Rattle.cs_typing.specs.declared.known.Channel.{Channel}
 use Rattle.cs_typing.specs.declared.known.Channel.TheVariants as channel
 use Rattle.cs_udo_meaning.specs.Numbered.{Numbering, numbered, expression_by, arguments_by, row_by, call_by, statement_by, block_by, arms_by}
@@ -85,15 +87,14 @@ row_later n row results args = record {
   locals = (given_all_later n results).locals;
 }
 
-call_later : (n : Known) (o : Option Opcode) (results : List (List ℕ)) (args : List Argument) → Later n (call_known n o results args)
-call_later n None results args = given_all_later n results
-call_later n (Some o) results args = row_later n (row_of o) results args
+call_later : (n : Known) (c : Callee) (results : List (List ℕ)) (args : List Argument) → Later n (call_known n c results args)
+call_later n (callee.Name name) results args = given_all_later n results
+call_later n (callee.Opcode o) results args = row_later n (row_of o) results args
 
 mutual
   pub known_later : (n : Known) (x : Statement) → Later n (known n x)
   known_later n (set line name e) = given_later n name
-  known_later n (add_to line name e) = given_later n name
-  known_later n (call line results opcode args) = call_later n (catalogued opcode) results args
+  known_later n (call line results c args) = call_later n c results args
   known_later n (choose line list) = known_arms_later n list
 
   pub known_block_later : (n : Known) (b : Block) → Later n (known_block n b)
@@ -286,11 +287,11 @@ row_same q n m s line o results args h l p =
     let made = arguments_same n m s o (bound_of results) results args whole p counts.1 inner.0 right.1 l.shared in
     λ i. typed.call line (call_rate row.shape results args) (given_on i) o (made i)
 
-call_same : (q : Setting) (n m : Known) (s : Numbering) (line : ℕ) (o : Option Opcode) (results : List (List ℕ)) (args : List Argument)
-    → call_fault q n o results args ≡ None → Later (call_known n o results args) m → HasPlaces s m.locals
-    → typed_call line n o results args ≡ call_by line m.shared (numbered m.shared s) o results args
-call_same q n m s line None results args h l p = refl
-call_same q n m s line (Some o) results args h l p = row_same q n m s line o results args h l p
+call_same : (q : Setting) (n m : Known) (s : Numbering) (line : ℕ) (c : Callee) (results : List (List ℕ)) (args : List Argument)
+    → call_fault q n c results args ≡ None → Later (call_known n c results args) m → HasPlaces s m.locals
+    → typed_call line n c results args ≡ call_by line m.shared (numbered m.shared s) c results args
+call_same q n m s line (callee.Name name) results args h l p = refl
+call_same q n m s line (callee.Opcode o) results args h l p = row_same q n m s line o results args h l p
 
 -- ---- statements
 
@@ -322,12 +323,8 @@ mutual
       let whole : Later n m = later_further n (given n x) m (given_later n x) l in
       λ i. typed.set line (name_rate x) (variable_given n m s x whole.shared.globals l.locals p i)
       (expression_same n m s e whole p (set_known q n line x e h) i)
-  statement_same q n m s (add_to line x e) h l p =
-      let whole : Later n m = later_further n (given n x) m (given_later n x) l in
-      let reads = and_parts (knows n x) (reads_known n e) (set_known q n line x (sum_with x e) h) in
-      λ i. typed.add_to line (name_rate x) (variable_given n m s x whole.shared.globals l.locals p i) (expression_same n m s e whole p reads.1 i)
-  statement_same q n m s (call line results opcode args) h l p =
-      call_same q n m s line (catalogued opcode) results args (at_none line (call_fault q n (catalogued opcode) results args) h) l p
+  statement_same q n m s (call line results c args) h l p =
+      call_same q n m s line c results args (at_none line (call_fault q n c results args) h) l p
   statement_same q n m s (choose line list) h l p = ap (typed.choose line (choice_rate list)) (arms_same q n m s line list h l p)
 
   pub block_same : (q : Setting) (n m : Known) (s : Numbering) (b : Block) → block_fault q n b ≡ None → Later (known_block n b) m → HasPlaces s m.locals

@@ -1,7 +1,7 @@
 -- The names of variables in statements.
 use Rattle.std.proofs.Common.{ℕ, suc, ◌+◌, List, [], ◌∷◌, arith}
 use Rattle.std.specs.List.{All}
-use Rattle.cs_grammar.specs.Tree.{Expression, number, var, field, head, neg, pair, pick, apply, Argument, value, text, Statement, set, add_to, call, choose, Block, no_stmt, andthen, Arms, otherwise, arm}
+use Rattle.cs_grammar.specs.Tree.{Expression, number, var, field, head, neg, pair, pick, apply, Argument, value, text, Statement, set, call, choose, Block, no_stmt, andthen, Arms, otherwise, arm}
 use Rattle.cs_grammar.specs.WellFormed.{HasNoStop, IsVariable, WellFormedExpr, WellFormedArg, WellFormedStmt, WellFormedBlock, WellFormedArms}
 use Rattle.cs_grammar.specs.declared.scope.Place.{Place}
 
@@ -27,8 +27,7 @@ NamedArguments P (text t ∷ args) = NamedArguments P args
 abbrev mutual
   pub NamedStmt : (List ℕ → Type 0) → Statement → Type 0
   NamedStmt P (set line x e) = P x × Named P e
-  NamedStmt P (add_to line x e) = P x × Named P e
-  NamedStmt P (call line xs name args) = NamedAll P xs × NamedArguments P args
+  NamedStmt P (call line xs c args) = NamedAll P xs × NamedArguments P args
   NamedStmt P (choose line list) = NamedArms P list
 
   pub NamedBlock : (List ℕ → Type 0) → Block → Type 0
@@ -62,8 +61,7 @@ module _ (P : List ℕ → Type 0) (h : (x : List ℕ) → P x) where
   mutual
     pub any_stmt : (x : Statement) → NamedStmt P x
     any_stmt (set line x e) = (h x, any_named e)
-    any_stmt (add_to line x e) = (h x, any_named e)
-    any_stmt (call line xs name args) = (any_names xs, any_arguments args)
+    any_stmt (call line xs c args) = (any_names xs, any_arguments args)
     any_stmt (choose line list) = any_arms list
 
     pub any_block : (b : Block) → NamedBlock P b
@@ -106,8 +104,7 @@ module _ (P : List ℕ → Type 0) (k : (x : List ℕ) → HasNoStop x → P x) 
   mutual
     stmt_named : (p : Place) (own : List ℕ) (d : ℕ) (x : Statement) → WellFormedStmt p own d x → NamedStmt P x
     stmt_named p own d (set line x e) h = (k x h.0.1, expression_named e h.1)
-    stmt_named p own d (add_to line x e) h = (k x h.0.1, expression_named e h.1)
-    stmt_named p own d (call line xs name args) h = (names_named xs h.0, arguments_named args h.2)
+    stmt_named p own d (call line xs c args) h = (names_named xs h.0, arguments_named args h.2)
     stmt_named p own d (choose line list) h = arms_named p own (d + 1) list h.1
 
     pub block_named : (p : Place) (own : List ℕ) (d : ℕ) (b : Block) → WellFormedBlock p own d b → NamedBlock P b

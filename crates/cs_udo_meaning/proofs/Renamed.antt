@@ -3,12 +3,14 @@ use Rattle.std.proofs.Common.{◌≡◌, ◌∙◌, ℕ, true, false, ◌&&◌, 
 use Rattle.std.specs.List.{list_all}
 use Rattle.cs_base.specs.Rates.{faster, is_init, is_audio}
 use Rattle.cs_base.specs.declared.resource.Rate.TheVariants as rate
-use Rattle.cs_words.specs.Catalogue.{Row, row_of, catalogued}
+use Rattle.cs_words.specs.Catalogue.{Row, row_of}
 use Rattle.cs_words.specs.Names.{name_rate}
 use Rattle.cs_words.specs.declared.catalogue.Opcode.{Opcode}
 use Rattle.cs_words.specs.declared.catalogue.Shape.{Shape}
 use Rattle.cs_words.specs.declared.catalogue.Shape.TheVariants as shape
-use Rattle.cs_grammar.specs.Tree.{Expression, number, var, field, head, neg, pair, pick, apply, Argument, value, text, set, add_to, call}
+use Rattle.cs_grammar.specs.declared.tree.Callee.{Callee}
+use Rattle.cs_grammar.specs.declared.tree.Callee.TheVariants as callee
+use Rattle.cs_grammar.specs.Tree.{Expression, number, var, field, head, neg, pair, pick, apply, Argument, value, text, set, call}
 use Rattle.cs_typed.specs.Places.{is_starting, is_writing}
 use Rattle.cs_typed.specs.TypedTree as typed
 use Rattle.cs_typing.specs.Calls.{bound_of, any_sound, kind_of, channel_use, is_still, call_rate}
@@ -16,7 +18,7 @@ use Rattle.cs_typing.specs.Expressions.{applied_rate, rate_of}
 use Rattle.cs_typing.specs.Known.{Shared}
 use Rattle.cs_typing.specs.declared.known.Channel.{Channel}
 use Rattle.cs_udo.specs.Names.{renamed, renamed_argument}
-use Rattle.cs_udo_meaning.specs.Numbered.{Variables, expression_by, argument_by, arguments_by, row_by, call_by, statement_by}
+use Rattle.cs_udo_meaning.specs.Numbered.{Variables, expression_by, argument_by, arguments_by, row_by, statement_by}
 
 -- other names of the same rates
 pub record KeepsRates (own : List ℕ → List ℕ) : Type 0 where
@@ -109,21 +111,12 @@ row_renamed own k g v line o row xs args =
     ∙ λ i. typed.call line (call_rate_kept own k row.shape xs args i) (results_renamed own v xs i) o
     (arguments_renamed own k g v (channel_use row.shape xs args) args i)
 
-call_renamed_by : (own : List ℕ → List ℕ) → KeepsRates own
-    → (g : Shared) (v : Variables) (line : ℕ) (o : Option Opcode) (xs : List (List ℕ)) (args : List Argument)
-    → call_by line g v o (map own xs) (map (renamed_argument own) args) ≡ call_by line g (λ x. v (own x)) o xs args
-call_renamed_by own k g v line None xs args = refl
-call_renamed_by own k g v line (Some o) xs args = row_renamed own k g v line o (row_of o) xs args
-
 pub set_renamed : (own : List ℕ → List ℕ) → KeepsRates own → (g : Shared) (v : Variables) (line : ℕ) (x : List ℕ) (e : Expression)
     → statement_by g v (set line (own x) (renamed own e)) ≡ statement_by g (λ y. v (own y)) (set line x e)
 set_renamed own k g v line x e = λ i. typed.set line (k.rate x i) (v (own x)) (expression_renamed own k v e i)
 
-pub add_renamed : (own : List ℕ → List ℕ) → KeepsRates own → (g : Shared) (v : Variables) (line : ℕ) (x : List ℕ) (e : Expression)
-    → statement_by g v (add_to line (own x) (renamed own e)) ≡ statement_by g (λ y. v (own y)) (add_to line x e)
-add_renamed own k g v line x e = λ i. typed.add_to line (k.rate x i) (v (own x)) (expression_renamed own k v e i)
-
 pub call_renamed : (own : List ℕ → List ℕ) → KeepsRates own
-    → (g : Shared) (v : Variables) (line : ℕ) (xs : List (List ℕ)) (name : List ℕ) (args : List Argument)
-    → statement_by g v (call line (map own xs) name (map (renamed_argument own) args)) ≡ statement_by g (λ y. v (own y)) (call line xs name args)
-call_renamed own k g v line xs name args = call_renamed_by own k g v line (catalogued name) xs args
+    → (g : Shared) (v : Variables) (line : ℕ) (xs : List (List ℕ)) (c : Callee) (args : List Argument)
+    → statement_by g v (call line (map own xs) c (map (renamed_argument own) args)) ≡ statement_by g (λ y. v (own y)) (call line xs c args)
+call_renamed own k g v line xs (callee.Opcode o) args = row_renamed own k g v line o (row_of o) xs args
+call_renamed own k g v line xs (callee.Name name) args = refl

@@ -7,10 +7,11 @@ use Rattle.cs_base.specs.Rates.{same_rate, res_rate}
 use Rattle.cs_base.specs.declared.resource.Rate.{Rate}
 use Rattle.cs_base.specs.declared.resource.Rate.TheVariants as rate
 use Rattle.cs_base.specs.declared.resource.Res.{Res}
-use Rattle.cs_words.specs.Catalogue.{row_of, catalogued}
+use Rattle.cs_words.specs.Catalogue.{row_of}
 use Rattle.cs_words.specs.Names.{name_rate, is_global}
-use Rattle.cs_words.specs.declared.catalogue.Opcode.{Opcode}
-use Rattle.cs_grammar.specs.Tree.{Expression, number, var, field, head, neg, pair, pick, apply, Argument, value, text, set, add_to, call}
+use Rattle.cs_grammar.specs.declared.tree.Callee.{Callee}
+use Rattle.cs_grammar.specs.declared.tree.Callee.TheVariants as callee
+use Rattle.cs_grammar.specs.Tree.{Expression, number, var, field, head, neg, pair, pick, apply, Argument, value, text, set, call}
 use Rattle.cs_typed.specs.declared.tree.Var.{Var as Variable}
 use Rattle.cs_typed.specs.declared.tree.Var.TheVariants.{Local, Global}
 use Rattle.cs_typing.specs.Calls.{channel_use, call_rate}
@@ -22,10 +23,9 @@ use Rattle.cs_ir.specs.Machine.{same_reg, put}
 use Rattle.cs_ir.specs.Waves.{Wave, held}
 use Rattle.cs_ir.specs.Worlds.{World}
 use Rattle.cs_meaning.specs.Core.{core_stmt}
-use Rattle.cs_words.specs.declared.sign.BinOp.TheVariants as op
 use Rattle.cs_meaning.specs.Notes.{Note, reg, look, assign}
 use Rattle.cs_udo_meaning.specs.Frames.{Framed, seen_from, put_back}
-use Rattle.cs_udo_meaning.specs.Numbered.{Numbering, Tells, Variables, numbered, expression_by, arguments_by, call_by, statement_by}
+use Rattle.cs_udo_meaning.specs.Numbered.{Numbering, Tells, Variables, numbered, expression_by, arguments_by, statement_by}
 use Rattle.cs_udo_meaning.specs.Stands.{own_name, Fits, Stands}
 use Rattle.cs_udo_meaning.proofs.Alike.{Alike, alike_number, alike_var, alike_field, alike_head, alike_neg, alike_pair, alike_pick, alike_apply, AlikeVariables, no_variable, more_variables, AlikeArguments, no_argument, more_values, more_texts, AlikeStmt, alike_set, alike_empty, core_alike, Agree}
 use Rattle.cs_udo_meaning.proofs.Fresh.{own_shared, own_rate, own_local, own_apart}
@@ -113,26 +113,16 @@ module _ {V : Variable → Variable → Type 0} {P : List ℕ → Type 0} (v w :
   results_alike [] n = no_variable
   results_alike (x ∷ xs) n = more_variables (v x) (w x) (map v xs) (map w xs) (h x n.0) (results_alike xs n.1)
 
-  call_alike : (spaces : _) (g : Shared) (line : ℕ) (o : Option Opcode) (xs : List (List ℕ)) (args : List Argument) → NamedAll P xs → NamedArguments P args
-      → AlikeStmt V (core_stmt spaces (call_by line g v o xs args)) (core_stmt spaces (call_by line g w o xs args))
-  call_alike spaces g line None xs args n m = alike_empty rate.Init
-  call_alike spaces g line (Some o) xs args n m =
-      core_alike spaces (call_rate (row_of o).shape xs args) o (row_of o).shape (results_alike xs n)
-      (arguments_alike g (channel_use (row_of o).shape xs args) args m)
-
   pub set_alike : (spaces : _) (g : Shared) (line : ℕ) (x : List ℕ) (e : Expression) → P x → Named P e
       → AlikeStmt V (core_stmt spaces (statement_by g v (set line x e))) (core_stmt spaces (statement_by g w (set line x e)))
   set_alike spaces g line x e n m = alike_set (name_rate x) (v x) (w x) _ _ (h x n) (expression_alike e m)
 
-  pub add_alike : (spaces : _) (g : Shared) (line : ℕ) (x : List ℕ) (e : Expression) → P x → Named P e
-      → AlikeStmt V (core_stmt spaces (statement_by g v (add_to line x e))) (core_stmt spaces (statement_by g w (add_to line x e)))
-  add_alike spaces g line x e n m =
-      alike_set (name_rate x) (v x) (w x) _ _ (h x n)
-      (alike_pair (name_rate x) op.Add _ _ _ _ (alike_var (name_rate x) (v x) (w x) (h x n)) (expression_alike e m))
-
-  pub plain_alike : (spaces : _) (g : Shared) (line : ℕ) (xs : List (List ℕ)) (name : List ℕ) (args : List Argument) → NamedAll P xs → NamedArguments P args
-      → AlikeStmt V (core_stmt spaces (statement_by g v (call line xs name args))) (core_stmt spaces (statement_by g w (call line xs name args)))
-  plain_alike spaces g line xs name args n m = call_alike spaces g line (catalogued name) xs args n m
+  pub call_alike : (spaces : _) (g : Shared) (line : ℕ) (xs : List (List ℕ)) (c : Callee) (args : List Argument) → NamedAll P xs → NamedArguments P args
+      → AlikeStmt V (core_stmt spaces (statement_by g v (call line xs c args))) (core_stmt spaces (statement_by g w (call line xs c args)))
+  call_alike spaces g line xs (callee.Name name) args n m = alike_empty rate.Init
+  call_alike spaces g line xs (callee.Opcode o) args n m =
+      core_alike spaces (call_rate (row_of o).shape xs args) o (row_of o).shape (results_alike xs n)
+      (arguments_alike g (channel_use (row_of o).shape xs args) args m)
 
 -- ---- a note, and the note that a frame sees
 

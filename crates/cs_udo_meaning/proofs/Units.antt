@@ -3,12 +3,14 @@ use Rattle.std.proofs.Common.{◌≡◌, ℕ, ◌≤◌, ◌<◌, Bool, true, fa
 use Rattle.std.specs.List.{AllPairs}
 use Rattle.std.specs.Option.{option_or}
 use Rattle.std.specs.Str.{bytes_eq}
-use Rattle.cs_grammar.specs.Tree.{Argument, value, text, Statement, set, add_to, call, choose, Block, no_stmt, andthen, Arms, otherwise, arm, Definition}
+use Rattle.cs_grammar.specs.declared.tree.Callee.{Callee}
+use Rattle.cs_grammar.specs.declared.tree.Callee.TheVariants as callee
+use Rattle.cs_grammar.specs.Tree.{Argument, value, text, Statement, set, call, choose, Block, no_stmt, andthen, Arms, otherwise, arm, Definition}
 use Rattle.cs_meaning.specs.Core as core
 use Rattle.cs_meaning.specs.Notes as note
 use Rattle.cs_meaning.specs.Notes.{Place, past, past_parts, past_stmt}
 use Rattle.cs_udo.specs.Expanded.{whole_body}
-use Rattle.cs_udo_meaning.specs.Frames.{Spot, Reading, read, past_copy, past_copies, Action, Actions, no_actions, values_in, past_inputs, past_call, past_any, past_condition, past_framed, past_block, past_arms, unit_of, units_of_call, units_of, units_of_block, units_of_arms, inner, action, acting, acting_all}
+use Rattle.cs_udo_meaning.specs.Frames.{Spot, Reading, read, past_copy, past_copies, Action, Actions, no_actions, action_of, values_in, past_inputs, past_call, past_any, past_condition, past_framed, past_block, past_arms, unit_of, units_of_call, units_of, units_of_block, units_of_arms, inner, action, acting, acting_all}
 use Rattle.cs_udo_meaning.proofs.Untouched.{Ascend, joined, ascending}
 
 chain : (a b c : ℕ) → a ≤ b → b ≤ c → a ≤ c
@@ -61,6 +63,10 @@ module _ {W : Type 0} (m : Reading W) where
   pub record AllRising (env : Actions W) : Type 0 where
     pub each : (name : List ℕ) → Rising (env name)
 
+  called_rising : (env : Actions W) → AllRising env → (c : Callee) → Rising (action_of env c)
+  called_rising env k (callee.Opcode o) = tt
+  called_rising env k (callee.Name name) = k.each name
+
   called_rises : (p : Spot) (x : Statement) (xs : List (List ℕ)) (args : List Argument) (a : Option (Action W)) → Rising a
       → Ascend p.place.unit (past_any m p x xs args a).place.unit (units_of_call m p x args a)
   called_rises p x xs args None h = stmt_ascends p.place (read m x)
@@ -73,8 +79,7 @@ module _ {W : Type 0} (m : Reading W) where
     mutual
       rises : (p : Spot) (x : Statement) → Ascend p.place.unit (past_framed m env p x).place.unit (units_of m env p x)
       rises p (set line x e) = omega arith
-      rises p (add_to line x e) = omega arith
-      rises p (call line xs name args) = called_rises p (call line xs name args) xs args (env name) (k.each name)
+      rises p (call line xs c args) = called_rises p (call line xs c args) xs args (action_of env c) (called_rising env k c)
       rises p (choose line list) = arms_rise p list
 
       block_rises : (p : Spot) (b : Block) → Ascend p.place.unit (past_block m env p b).place.unit (units_of_block m env p b)

@@ -10,7 +10,9 @@ use Rattle.std.proofs.lemmas.List.Kept.{AllPairs-cons}
 use Rattle.cs_base.specs.declared.resource.Rate.{Rate}
 use Rattle.cs_base.specs.declared.resource.Rate.TheVariants as rate
 use Rattle.cs_words.specs.Names.{name_rate}
-use Rattle.cs_grammar.specs.Tree.{Expression, Argument, value, text, Statement, set, add_to, call, choose, Block, no_stmt, andthen, Arms, otherwise, arm, Definition}
+use Rattle.cs_grammar.specs.declared.tree.Callee.{Callee}
+use Rattle.cs_grammar.specs.declared.tree.Callee.TheVariants as callee
+use Rattle.cs_grammar.specs.Tree.{Expression, Argument, value, text, Statement, set, call, choose, Block, no_stmt, andthen, Arms, otherwise, arm, Definition}
 use Rattle.cs_typing.specs.Statements.{choice_rate}
 use Rattle.cs_ir.specs.Values.{holds}
 use Rattle.cs_ir.specs.Waves.{if_init}
@@ -19,7 +21,7 @@ use Rattle.cs_meaning.specs.Performing.{perf_stmt}
 use Rattle.cs_meaning.specs.Notes.{Note, Place, assign}
 use Rattle.cs_meaning.specs.Notes.{value as value_of}
 use Rattle.cs_udo.specs.Expanded.{whole_body}
-use Rattle.cs_udo_meaning.specs.Frames.{Framed, seen_from, put_back, Spot, Reading, variable_read, expression_read, read, past_copy, going_on, init_copy, perf_copy, init_copies, perf_copies, Action, Actions, no_actions, values_in, past_inputs, past_call, init_call, perf_call, past_any, init_any, perf_any, past_condition, past_framed, past_block, past_arms, init_framed, init_block, init_first, init_all, perf_framed, perf_block, perf_arms, inner, action, acting, acting_all, frames_of_call, frames_of, frames_of_block, frames_of_arms}
+use Rattle.cs_udo_meaning.specs.Frames.{Framed, seen_from, put_back, Spot, Reading, variable_read, expression_read, read, past_copy, going_on, init_copy, perf_copy, init_copies, perf_copies, Action, Actions, no_actions, action_of, values_in, past_inputs, past_call, init_call, perf_call, past_any, init_any, perf_any, past_condition, past_framed, past_block, past_arms, init_framed, init_block, init_first, init_all, perf_framed, perf_block, perf_arms, inner, action, acting, acting_all, frames_of_call, frames_of, frames_of_block, frames_of_arms}
 use Rattle.cs_udo_meaning.specs.Untouched.{IsOutside}
 
 chain : (a b c : ℕ) → a ≤ b → b ≤ c → a ≤ c
@@ -148,6 +150,10 @@ module _ {W : Type 0} (m : Reading W) where
   pub record AllAlone (env : Actions W) : Type 0 where
     pub each : (name : List ℕ) → AloneIf (env name)
 
+  called_alone : (env : Actions W) → AllAlone env → (c : Callee) → AloneIf (action_of env c)
+  called_alone env k (callee.Opcode o) = tt
+  called_alone env k (callee.Name name) = k.each name
+
   any_grows : (p : Spot) (x : Statement) (xs : List (List ℕ)) (args : List Argument) (a : Option (Action W)) → AloneIf a
       → p.frame ≤ (past_any m p x xs args a).frame
   any_grows p x xs args None k = omega arith
@@ -191,8 +197,7 @@ module _ {W : Type 0} (m : Reading W) where
     mutual
       past_grows : (p : Spot) (x : Statement) → p.frame ≤ (past_framed m env p x).frame
       past_grows p (set line x e) = omega arith
-      past_grows p (add_to line x e) = omega arith
-      past_grows p (call line xs name args) = any_grows p (call line xs name args) xs args (env name) (k.each name)
+      past_grows p (call line xs c args) = any_grows p (call line xs c args) xs args (action_of env c) (called_alone env k c)
       past_grows p (choose line list) = past_arms_grow p list
 
       pub past_block_grows : (p : Spot) (b : Block) → p.frame ≤ (past_block m env p b).frame
@@ -211,8 +216,7 @@ module _ {W : Type 0} (m : Reading W) where
       init_kept : (f g : ℕ) → (g == f) ≡ false → (p : Spot) (x : Statement) (u : Framed W) → IsOutside g p.frame (past_framed m env p x).frame
           → (init_framed m env f p x u).frames g ≡ u.frames g
       init_kept f g nf p (set line x e) u o = elsewhere f g nf (init_stmt m.world p.place (read m (set line x e)) (seen_from f u)) u
-      init_kept f g nf p (add_to line x e) u o = elsewhere f g nf (init_stmt m.world p.place (read m (add_to line x e)) (seen_from f u)) u
-      init_kept f g nf p (call line xs name args) u o = init_any_kept f g nf p (call line xs name args) xs args (env name) (k.each name) u o
+      init_kept f g nf p (call line xs c args) u o = init_any_kept f g nf p (call line xs c args) xs args (action_of env c) (called_alone env k c) u o
       init_kept f g nf p (choose line list) u o =
           let a = init_first m env f p list u in
           let b = init_all m env f p list u in
@@ -257,8 +261,7 @@ module _ {W : Type 0} (m : Reading W) where
       perf_kept : (f g : ℕ) → (g == f) ≡ false → (p : Spot) (x : Statement) (u : Framed W) → IsOutside g p.frame (past_framed m env p x).frame
           → (perf_framed m env f p x u).frames g ≡ u.frames g
       perf_kept f g nf p (set line x e) u o = elsewhere f g nf (perf_stmt m.world p.place (read m (set line x e)) (seen_from f u)) u
-      perf_kept f g nf p (add_to line x e) u o = elsewhere f g nf (perf_stmt m.world p.place (read m (add_to line x e)) (seen_from f u)) u
-      perf_kept f g nf p (call line xs name args) u o = perf_any_kept f g nf p (call line xs name args) xs args (env name) (k.each name) u o
+      perf_kept f g nf p (call line xs c args) u o = perf_any_kept f g nf p (call line xs c args) xs args (action_of env c) (called_alone env k c) u o
       perf_kept f g nf p (choose line list) u o = perf_arms_kept f g nf p list u o
 
       pub perf_block_kept : (f g : ℕ) → (g == f) ≡ false → (p : Spot) (b : Block) (u : Framed W) → IsOutside g p.frame (past_block m env p b).frame
@@ -292,8 +295,7 @@ module _ {W : Type 0} (m : Reading W) where
     mutual
       frames_ascend : (p : Spot) (x : Statement) → Ascend p.frame (past_framed m env p x).frame (frames_of m env p x)
       frames_ascend p (set line x e) = omega arith
-      frames_ascend p (add_to line x e) = omega arith
-      frames_ascend p (call line xs name args) = called_ascends p (call line xs name args) xs args (env name) (k.each name)
+      frames_ascend p (call line xs c args) = called_ascends p (call line xs c args) xs args (action_of env c) (called_alone env k c)
       frames_ascend p (choose line list) = arms_ascend p list
 
       block_ascends : (p : Spot) (b : Block) → Ascend p.frame (past_block m env p b).frame (frames_of_block m env p b)

@@ -1,10 +1,12 @@
 -- Small instruments with defined opcodes, which are worked out by frames.
-use Rattle.std.specs.Prelude.{ℕ, ℤ, List, [], ◌∷◌, codes, map}
+use Rattle.std.specs.Prelude.{ℕ, ℤ, pos, ◌+ℤ◌, List, [], ◌∷◌, codes, map}
 use Rattle.std.specs.List.{range_with_len}
 use Rattle.cs_base.specs.declared.resource.Rate.TheVariants as rate
 use Rattle.cs_words.specs.NameSets.{place_of}
 use Rattle.cs_words.specs.declared.sign.BinOp.TheVariants as op
-use Rattle.cs_grammar.specs.Tree.{pair, var, Statement, set, call, choose, otherwise, arm, Definition, Instrument}
+use Rattle.cs_words.specs.declared.catalogue.Opcode.TheVariants as opcode
+use Rattle.cs_grammar.specs.declared.tree.Callee.TheVariants as callee
+use Rattle.cs_grammar.specs.Tree.{pair, var, value, Statement, set, call, choose, otherwise, arm, Definition, Instrument}
 use Rattle.cs_meaning.specs.Examples.{small_piece, whole}
 use Rattle.cs_meaning.specs.Plain.{Plain, Piece, plain, fresh, next_cycle}
 use Rattle.cs_ir.specs.Waves.{silence}
@@ -21,6 +23,12 @@ k1 = codes "k1"
 abbrev k2 : List ℕ
 k2 = codes "k2"
 
+abbrev k3 : List ℕ
+k3 = codes "k3"
+
+abbrev i1 : List ℕ
+i1 = codes "i1"
+
 abbrev a1 : List ℕ
 a1 = codes "a1"
 
@@ -31,9 +39,18 @@ sevens = small_piece 0 0
 abbrev pub of_fives : Piece
 of_fives = record sevens { fields = λ n. whole 5 }
 
+-- a piece in which a unit gives the sum of its first inputs so far
+abbrev sum_so_far : List (List ℤ) → ℤ
+sum_so_far [] = pos 0
+sum_so_far ([] ∷ rest) = sum_so_far rest
+sum_so_far ((x ∷ xs) ∷ rest) = x +ℤ sum_so_far rest
+
+abbrev pub of_sums : Piece
+of_sums = record sevens { generators = record { gen = λ opcode r is h. sum_so_far h; delay = sevens.generators.delay } }
+
 -- local names by their places among those of these examples, places of results among them
 abbrev known_names : List (List ℕ)
-known_names = k1 ∷ k2 ∷ a1 ∷ slot 0 rate.Control ∷ slot 1 rate.Control ∷ []
+known_names = k1 ∷ k2 ∷ k3 ∷ i1 ∷ a1 ∷ slot 0 rate.Control ∷ slot 1 rate.Control ∷ slot 0 rate.Init ∷ []
 
 abbrev no_shared : Shared
 no_shared = record { globals = no_names; control = []; sound = [] }
@@ -58,11 +75,11 @@ heard piece ds body =
 
 -- a1 = k1 * 10 + k2 / out a1
 abbrev tells : List Statement
-tells = set 20 a1 (pair op.Add (pair op.Mul (var k1) (literal 10)) (var k2)) ∷ call 21 [] (codes "out") (variable a1 ∷ []) ∷ []
+tells = set 20 a1 (pair op.Add (pair op.Mul (var k1) (literal 10)) (var k2)) ∷ call 21 [] (callee.Opcode opcode.Out) (variable a1 ∷ []) ∷ []
 
 -- k1 Count / k2 Count / a1 = k1 * 10 + k2 / out a1
 abbrev pub counted : List Statement
-counted = call 9 (k1 ∷ []) (codes "Count") [] ∷ call 10 (k2 ∷ []) (codes "Count") [] ∷ tells
+counted = call 9 (k1 ∷ []) (callee.Name (codes "Count")) [] ∷ call 10 (k2 ∷ []) (callee.Name (codes "Count")) [] ∷ tells
 
 -- opcode Bump, k, k / k1 xin / k1 = k1 + 1 / xout k1 / endop
 abbrev pub bump : Definition
@@ -78,7 +95,7 @@ bump = record {
 
 -- k1 = 5 / k2 Bump k1
 abbrev pub calls_bump : List Statement
-calls_bump = set 9 k1 (literal 5) ∷ call 10 (k2 ∷ []) (codes "Bump") (variable k1 ∷ []) ∷ tells
+calls_bump = set 9 k1 (literal 5) ∷ call 10 (k2 ∷ []) (callee.Name (codes "Bump")) (variable k1 ∷ []) ∷ tells
 
 -- opcode Swap, kk, kk / k1, k2 xin / xout k2, k1 / endop
 abbrev pub swap : Definition
@@ -95,11 +112,78 @@ swap = record {
 -- k1 = 1 / k2 = 2 / k1, k2 Swap k1, k2
 abbrev pub calls_swap : List Statement
 calls_swap = set 9 k1 (literal 1) ∷ set 10 k2 (literal 2)
-    ∷ call 11 (k1 ∷ k2 ∷ []) (codes "Swap") (variable k1 ∷ variable k2 ∷ []) ∷ tells
+    ∷ call 11 (k1 ∷ k2 ∷ []) (callee.Name (codes "Swap")) (variable k1 ∷ variable k2 ∷ []) ∷ tells
 
 -- k2 Count / if k2 == 1 then k1 Count else k1 = 0 endif / a1 = k1 / out a1
 abbrev pub calls_only_first : List Statement
-calls_only_first = call 9 (k2 ∷ []) (codes "Count") []
-    ∷ choose 10 (arm (pair op.Equal (var k2) (literal 1)) (statements (call 11 (k1 ∷ []) (codes "Count") [] ∷ []))
+calls_only_first = call 9 (k2 ∷ []) (callee.Name (codes "Count")) []
+    ∷ choose 10 (arm (pair op.Equal (var k2) (literal 1)) (statements (call 11 (k1 ∷ []) (callee.Name (codes "Count")) [] ∷ []))
     (otherwise (statements (set 13 k1 (literal 0) ∷ []))))
-    ∷ set 15 a1 (var k1) ∷ call 16 [] (codes "out") (variable a1 ∷ []) ∷ []
+    ∷ set 15 a1 (var k1) ∷ call 16 [] (callee.Opcode opcode.Out) (variable a1 ∷ []) ∷ []
+
+-- opcode Inc, k, k / k1 xin / k2 init 0 / k2 = k2 + k1 / xout k2 / endop
+abbrev pub inc : Definition
+inc = record {
+  line = 3;
+  name = codes "Inc";
+  outs = rate.Control ∷ [];
+  ins = rate.Control ∷ [];
+  names = k1 ∷ [];
+  body = statements (call 4 (k2 ∷ []) (callee.Opcode opcode.Init) (value (literal 0) ∷ [])
+      ∷ set 5 k2 (pair op.Add (var k2) (var k1)) ∷ []);
+  result = variable k2 ∷ [];
+}
+
+-- opcode Two, k, k / k1 xin / k2 Inc k1 / k3 Inc k1 * 2 / xout k2 * 10 + k3 / endop
+abbrev pub two : Definition
+two = record {
+  line = 6;
+  name = codes "Two";
+  outs = rate.Control ∷ [];
+  ins = rate.Control ∷ [];
+  names = k1 ∷ [];
+  body = statements (call 7 (k2 ∷ []) (callee.Name (codes "Inc")) (variable k1 ∷ [])
+      ∷ call 8 (k3 ∷ []) (callee.Name (codes "Inc")) (value (pair op.Mul (var k1) (literal 2)) ∷ []) ∷ []);
+  result = value (pair op.Add (pair op.Mul (var k2) (literal 10)) (var k3)) ∷ [];
+}
+
+-- k1 Two 1 / k2 Two 2 / a1 = k1 + k2 / 8 / out a1
+abbrev pub calls_two : List Statement
+calls_two = call 9 (k1 ∷ []) (callee.Name (codes "Two")) (value (literal 1) ∷ [])
+    ∷ call 10 (k2 ∷ []) (callee.Name (codes "Two")) (value (literal 2) ∷ [])
+    ∷ set 11 a1 (pair op.Add (var k1) (pair op.Div (var k2) (literal 8)))
+    ∷ call 12 [] (callee.Opcode opcode.Out) (variable a1 ∷ []) ∷ []
+
+-- opcode Turn, k, k / k1 xin / k2 phasor k1 / xout k2 / endop
+abbrev pub turn : Definition
+turn = record {
+  line = 3;
+  name = codes "Turn";
+  outs = rate.Control ∷ [];
+  ins = rate.Control ∷ [];
+  names = k1 ∷ [];
+  body = statements (call 4 (k2 ∷ []) (callee.Opcode opcode.Phasor) (variable k1 ∷ []) ∷ []);
+  result = variable k2 ∷ [];
+}
+
+-- k1 Turn 1 / k2 Turn 2
+abbrev pub calls_turn : List Statement
+calls_turn = call 9 (k1 ∷ []) (callee.Name (codes "Turn")) (value (literal 1) ∷ [])
+    ∷ call 10 (k2 ∷ []) (callee.Name (codes "Turn")) (value (literal 2) ∷ []) ∷ tells
+
+-- opcode Half, i, i / i1 xin / xout i1 / 2 / endop
+abbrev pub half : Definition
+half = record {
+  line = 3;
+  name = codes "Half";
+  outs = rate.Init ∷ [];
+  ins = rate.Init ∷ [];
+  names = i1 ∷ [];
+  body = statements [];
+  result = value (pair op.Div (var i1) (literal 2)) ∷ [];
+}
+
+-- i1 Half 8 / a1 = i1 / out a1
+abbrev pub calls_half : List Statement
+calls_half = call 9 (i1 ∷ []) (callee.Name (codes "Half")) (value (literal 8) ∷ [])
+    ∷ set 10 a1 (var i1) ∷ call 11 [] (callee.Opcode opcode.Out) (variable a1 ∷ []) ∷ []

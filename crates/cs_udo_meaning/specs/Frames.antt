@@ -3,12 +3,14 @@ use Rattle.std.specs.Prelude.{ℕ, ℤ, true, false, ◌==◌, ◌+◌, List, []
 use Rattle.std.specs.Option.{option_or}
 use Rattle.std.specs.Str.{bytes_eq}
 use Rattle.cs_words.specs.Names.{name_rate}
-use Rattle.cs_grammar.specs.Tree.{Expression, var, Argument, value, Statement, set, add_to, call, choose, Block, no_stmt, andthen, Arms, otherwise, arm, Definition}
+use Rattle.cs_grammar.specs.declared.tree.Callee.{Callee}
+use Rattle.cs_grammar.specs.declared.tree.Callee.TheVariants as callee
+use Rattle.cs_grammar.specs.Tree.{Expression, var, Argument, value, Statement, set, call, choose, Block, no_stmt, andthen, Arms, otherwise, arm, Definition}
 use Rattle.cs_typed.specs.TypedTree as typed
 use Rattle.cs_typed.specs.declared.tree.Var.{Var}
 use Rattle.cs_typing.specs.Known.{Shared}
 use Rattle.cs_typing.specs.Statements.{choice_rate}
-use Rattle.cs_ir.specs.Resources.{Spaces}
+use Rattle.cs_base.specs.declared.spaces.Spaces.{Spaces}
 use Rattle.cs_ir.specs.Values.{holds}
 use Rattle.cs_ir.specs.Waves.{Wave, if_init, silence}
 use Rattle.cs_ir.specs.Worlds.{World}
@@ -128,6 +130,11 @@ Actions W = List ℕ → Option (Action W)
 abbrev pub no_actions : {W : Type 0} → Actions W
 no_actions name = None
 
+-- what the defined opcode that is called does, if it is one
+abbrev pub action_of : {W : Type 0} → Actions W → Callee → Option (Action W)
+action_of env (callee.Opcode o) = None
+action_of env (callee.Name name) = env name
+
 -- the values of variables, as arguments
 abbrev pub values_in : List (List ℕ) → List Argument
 values_in xs = map (λ x. value (var x)) xs
@@ -175,8 +182,7 @@ past_condition m p c = spot (past_parts (past p.place.part (expression_read m c)
 abbrev mutual
   pub past_framed : {W : Type 0} → Reading W → Actions W → Spot → Statement → Spot
   past_framed m env p (set line x e) = past_plain m p (set line x e)
-  past_framed m env p (add_to line x e) = past_plain m p (add_to line x e)
-  past_framed m env p (call line xs name args) = past_any m p (call line xs name args) xs args (env name)
+  past_framed m env p (call line xs c args) = past_any m p (call line xs c args) xs args (action_of env c)
   past_framed m env p (choose line list) = past_arms m env p list
 
   pub past_block : {W : Type 0} → Reading W → Actions W → Spot → Block → Spot
@@ -195,8 +201,7 @@ frames_of_call m p args (Some a) = p.frame ∷ a.calls (past_inputs m p a args)
 abbrev mutual
   pub frames_of : {W : Type 0} → Reading W → Actions W → Spot → Statement → List ℕ
   frames_of m env p (set line x e) = []
-  frames_of m env p (add_to line x e) = []
-  frames_of m env p (call line xs name args) = frames_of_call m p args (env name)
+  frames_of m env p (call line xs c args) = frames_of_call m p args (action_of env c)
   frames_of m env p (choose line list) = frames_of_arms m env p list
 
   pub frames_of_block : {W : Type 0} → Reading W → Actions W → Spot → Block → List ℕ
@@ -221,8 +226,7 @@ units_of_call m p x args (Some a) = a.units (past_inputs m p a args)
 abbrev mutual
   pub units_of : {W : Type 0} → Reading W → Actions W → Spot → Statement → List ℕ
   units_of m env p (set line x e) = []
-  units_of m env p (add_to line x e) = []
-  units_of m env p (call line xs name args) = units_of_call m p (call line xs name args) args (env name)
+  units_of m env p (call line xs c args) = units_of_call m p (call line xs c args) args (action_of env c)
   units_of m env p (choose line list) = units_of_arms m env p list
 
   pub units_of_block : {W : Type 0} → Reading W → Actions W → Spot → Block → List ℕ
@@ -239,8 +243,7 @@ abbrev mutual
 abbrev mutual
   pub init_framed : {W : Type 0} → Reading W → Actions W → ℕ → Spot → Statement → Framed W → Framed W
   init_framed m env f p (set line x e) u = init_plain m f p (set line x e) u
-  init_framed m env f p (add_to line x e) u = init_plain m f p (add_to line x e) u
-  init_framed m env f p (call line xs name args) u = init_any m f p (call line xs name args) xs args (env name) u
+  init_framed m env f p (call line xs c args) u = init_any m f p (call line xs c args) xs args (action_of env c) u
   init_framed m env f p (choose line list) u =
       going_on m.world u (if_init (choice_rate list) (init_first m env f p list u) (init_all m env f p list u))
 
@@ -267,8 +270,7 @@ abbrev mutual
 abbrev mutual
   pub perf_framed : {W : Type 0} → Reading W → Actions W → ℕ → Spot → Statement → Framed W → Framed W
   perf_framed m env f p (set line x e) u = perf_plain m f p (set line x e) u
-  perf_framed m env f p (add_to line x e) u = perf_plain m f p (add_to line x e) u
-  perf_framed m env f p (call line xs name args) u = perf_any m f p (call line xs name args) xs args (env name) u
+  perf_framed m env f p (call line xs c args) u = perf_any m f p (call line xs c args) xs args (action_of env c) u
   perf_framed m env f p (choose line list) u = perf_arms m env f p list u
 
   pub perf_block : {W : Type 0} → Reading W → Actions W → ℕ → Spot → Block → Framed W → Framed W

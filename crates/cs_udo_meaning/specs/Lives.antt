@@ -3,7 +3,7 @@ use Rattle.std.specs.Prelude.{List, [], ◌∷◌, ◌≡◌}
 use Rattle.cs_grammar.specs.Tree.{Definition, Instrument}
 use Rattle.cs_typed.specs.TypedTree as typed
 use Rattle.cs_typing.specs.Known.{Shared}
-use Rattle.cs_ir.specs.Resources.{Spaces}
+use Rattle.cs_base.specs.declared.spaces.Spaces.{Spaces}
 use Rattle.cs_ir.specs.Worlds.{World}
 use Rattle.cs_meaning.specs.Core as core
 use Rattle.cs_meaning.specs.Initialising as initial

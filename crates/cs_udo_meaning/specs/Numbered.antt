@@ -1,10 +1,12 @@
 -- The typed form of statements where a variable is given for each name: what typing gives where all names of a text are known.
 use Rattle.std.specs.Prelude.{ℕ, zero, suc, ◌+◌, List, [], ◌∷◌, ◌++◌, ◌≡◌, map, Option, Some, None, if◌then◌else◌}
 use Rattle.cs_base.specs.declared.resource.Rate.TheVariants as rate
-use Rattle.cs_words.specs.Catalogue.{Row, row_of, catalogued}
+use Rattle.cs_words.specs.Catalogue.{Row, row_of}
 use Rattle.cs_words.specs.Names.{name_rate, is_global}
 use Rattle.cs_words.specs.declared.catalogue.Opcode.{Opcode}
-use Rattle.cs_grammar.specs.Tree.{Expression, number, var, field, head, neg, pair, pick, apply, Argument, value, text, Statement, set, add_to, call, choose, Block, no_stmt, andthen, Arms, otherwise, arm}
+use Rattle.cs_grammar.specs.declared.tree.Callee.{Callee}
+use Rattle.cs_grammar.specs.declared.tree.Callee.TheVariants as callee
+use Rattle.cs_grammar.specs.Tree.{Expression, number, var, field, head, neg, pair, pick, apply, Argument, value, text, Statement, set, call, choose, Block, no_stmt, andthen, Arms, otherwise, arm}
 use Rattle.cs_typed.specs.TypedTree as typed
 use Rattle.cs_typed.specs.declared.tree.Var.{Var}
 use Rattle.cs_typed.specs.declared.tree.Var.TheVariants as variant
@@ -68,16 +70,15 @@ row_by line g v opcode row results args =
     typed.call line (call_rate row.shape results args) (map v results) opcode
     (arguments_by g v (channel_use row.shape results args) args)
 
-abbrev pub call_by : ℕ → Shared → Variables → Option Opcode → List (List ℕ) → List Argument → typed.Statement
-call_by line g v None results args = typed.choose line rate.Init (typed.otherwise typed.no_stmt)
-call_by line g v (Some opcode) results args = row_by line g v opcode (row_of opcode) results args
+abbrev pub call_by : ℕ → Shared → Variables → Callee → List (List ℕ) → List Argument → typed.Statement
+call_by line g v (callee.Opcode o) results args = row_by line g v o (row_of o) results args
+call_by line g v (callee.Name name) results args = typed.choose line rate.Init (typed.otherwise typed.no_stmt)
 
 -- statements, with their variables
 abbrev mutual
   pub statement_by : Shared → Variables → Statement → typed.Statement
   statement_by g v (set line name e) = typed.set line (name_rate name) (v name) (expression_by v e)
-  statement_by g v (add_to line name e) = typed.add_to line (name_rate name) (v name) (expression_by v e)
-  statement_by g v (call line results opcode args) = call_by line g v (catalogued opcode) results args
+  statement_by g v (call line results c args) = call_by line g v c results args
   statement_by g v (choose line list) = typed.choose line (choice_rate list) (arms_by g v list)
 
   pub block_by : Shared → Variables → Block → typed.Block

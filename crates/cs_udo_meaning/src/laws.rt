@@ -9,7 +9,7 @@ ghost use Rattle.cs_typed.specs.WellRated.{BlockHasNoZakinit};
 ghost use Rattle.cs_typing.specs.Typing.{type_fault, typed_of};
 ghost use Rattle.cs_udo.specs.Expanding.{expanding};
 ghost use Rattle.cs_udo.specs.Worked.{twice, calls_twice, count};
-ghost use Rattle.cs_udo_meaning.specs.Examples.{bump, calls_bump, counted, heard, of_fives, sevens, swap, calls_swap, calls_only_first};
+ghost use Rattle.cs_udo_meaning.specs.Examples.{bump, calls_bump, counted, heard, of_fives, of_sums, sevens, swap, calls_swap, calls_only_first, inc, two, calls_two, turn, calls_turn, half, calls_half};
 ghost use Rattle.cs_udo_meaning.specs.Frames.{Framed, Reading, Spot, acting_all, frames_of_block, init_block, no_actions, past_block, perf_block, units_of_block};
 ghost use Rattle.cs_udo_meaning.specs.Lives.{MeansFrames};
 ghost use Rattle.cs_udo_meaning.specs.Numbered.{Tells, spelled};
@@ -73,6 +73,12 @@ pub fn calls_worked_by_hand()
     ensures copies { heard sevens (bump ∷ []) calls_bump ≡ each (whole 56) ∷ each (whole 56) ∷ [] }
     // All results are worked out before the first is given: 1 and 2 change places.
     ensures results { heard sevens (swap ∷ []) calls_swap ≡ each (whole 21) ∷ each (whole 21) ∷ [] }
+    // Calls in calls: each of four counts by itself, so the two results are 12 and 24, and then 24 and 48.
+    ensures nested { heard sevens (inc ∷ two ∷ []) calls_two ≡ each (whole 15) ∷ each (whole 30) ∷ [] }
+    // A unit in a body has a state at each place: where it gives the sum of its inputs, 1 and 2, and then 2 and 4.
+    ensures states { heard of_sums (turn ∷ []) calls_turn ≡ each (whole 12) ∷ each (whole 24) ∷ [] }
+    // Inputs and results of rate Init are given as the note begins.
+    ensures init { heard sevens (half ∷ []) calls_half ≡ each (whole 4) ∷ each (whole 4) ∷ [] }
     // A call in an `if` counts where its arm is taken alone, and keeps its frame from cycle to cycle.
     ensures in_an_if { heard sevens (count ∷ []) calls_only_first ≡ each (whole 1) ∷ each (whole 0) ∷ [] }
 {}

@@ -9,7 +9,7 @@ use Rattle.cs_base.specs.declared.resource.Rate.{Rate}
 use Rattle.cs_base.specs.declared.resource.Rate.TheVariants as rate
 use Rattle.cs_base.specs.declared.resource.Res.{Res}
 use Rattle.cs_base.proofs.Rates.{same_rate_is}
-use Rattle.cs_words.specs.Catalogue.{row_of}
+use Rattle.cs_words.specs.Catalogue.{row_of, takes_table}
 use Rattle.cs_words.specs.declared.catalogue.Opcode.{Opcode}
 use Rattle.cs_words.specs.declared.catalogue.Shape.{Shape}
 use Rattle.cs_words.specs.declared.catalogue.Shape.TheVariants as shape
@@ -19,7 +19,6 @@ use Rattle.cs_signal.specs.Delay.{delay_length}
 use Rattle.cs_ir.specs.Machine.{Machine, same_reg, write, acts, is_done, step, run, gives, new_machine}
 use Rattle.cs_ir.specs.Validity.{has_register, writes, finds, takes_from, is_fine, fine_from}
 use Rattle.cs_ir.specs.Waves.{Wave, held, silence, operand, first_values}
-use Rattle.cs_ir.specs.Resources.{takes_table}
 use Rattle.cs_ir.specs.declared.op.Act.{Act}
 use Rattle.cs_ir.specs.declared.op.Act.TheVariants as act
 use Rattle.cs_ir.specs.declared.op.Op.{Op}

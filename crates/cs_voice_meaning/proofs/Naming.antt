@@ -9,7 +9,8 @@ use Rattle.cs_base.specs.declared.resource.Res.{Res}
 use Rattle.cs_words.specs.declared.catalogue.Space.{Space}
 use Rattle.cs_words.specs.declared.catalogue.Space.TheVariants as space
 use Rattle.cs_ir.specs.Validity.{has_value}
-use Rattle.cs_ir.specs.Resources.{Stock, Spaces, places_of, zak_place, reaches, places_within}
+use Rattle.cs_base.specs.declared.spaces.Spaces.{Spaces}
+use Rattle.cs_ir.specs.Resources.{Stock, places_of, zak_place, reaches, places_within}
 use Rattle.cs_ir.specs.declared.op.Reach.{Reach}
 use Rattle.cs_meaning.specs.Plain.{Table, find_table}
 use Rattle.cs_voice_meaning.specs.Follows.{AreNamed}

@@ -8,7 +8,7 @@ use Rattle.cs_base.specs.declared.resource.Rate.{Rate}
 use Rattle.cs_base.specs.declared.resource.Res.{Res}
 use Rattle.cs_base.specs.declared.resource.Res.TheVariants as res
 use Rattle.cs_base.proofs.Tests.{by_test}
-use Rattle.cs_words.specs.Catalogue.{row_of}
+use Rattle.cs_words.specs.Catalogue.{row_of, takes_table}
 use Rattle.cs_words.specs.declared.catalogue.Opcode.{Opcode}
 use Rattle.cs_words.specs.declared.catalogue.Shape.{Shape}
 use Rattle.cs_words.specs.declared.catalogue.Shape.TheVariants as shape
@@ -16,7 +16,7 @@ use Rattle.cs_words.specs.declared.catalogue.Space.{Space}
 use Rattle.cs_words.specs.declared.catalogue.Space.TheVariants as space
 use Rattle.cs_gen.specs.Tables.{curve_of}
 use Rattle.cs_signal.specs.Delay.{delay_length}
-use Rattle.cs_ir.specs.Resources.{Stock, takes_table, reaches, shape_uses, tables_within, places_within, zak_place}
+use Rattle.cs_ir.specs.Resources.{Stock, reaches, shape_uses, tables_within, places_within, zak_place}
 use Rattle.cs_ir.specs.Waves.{Wave, held, silence, operand}
 use Rattle.cs_ir.specs.declared.op.Reach.{Reach}
 use Rattle.cs_cells.specs.Cells.{in_area}

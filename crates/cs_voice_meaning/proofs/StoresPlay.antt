@@ -1,27 +1,25 @@
 -- Stores into tables, and zak places, in the voice's world and in the plain one.
 use Rattle.std.proofs.Common.{◌≡◌, ℕ, ℤ, pos, zero, suc, ◌+◌, ◌-◌, ◌<◌, ◌≤◌, Bool, true, false, not, ◌&&◌, ◌||◌, ◌==◌, List, nat_lt, unsigned_abs, Option, Some, None, if◌then◌else◌, refl, sym, ◌∙◌, ap, subst, arith}
-use Rattle.std.specs.Int.{int_max, int_min}
 use Rattle.std.specs.Option.{is_some}
-use Rattle.std.proofs.lemmas.Int.{ints, clamps}
 use Rattle.std.proofs.lemmas.Bool.Decides.{nat_tests}
-use Rattle.cs_base.specs.Numbers.{floor_div, one}
 use Rattle.cs_base.specs.declared.resource.Rate.{Rate}
 use Rattle.cs_base.specs.declared.resource.Rate.TheVariants as rate
 use Rattle.cs_base.specs.declared.resource.Res.{Res}
 use Rattle.cs_base.specs.declared.resource.Res.TheVariants as res
-use Rattle.cs_words.specs.Catalogue.{row_of}
+use Rattle.cs_words.specs.Catalogue.{row_of, takes_table}
 use Rattle.cs_words.specs.declared.catalogue.Opcode.{Opcode}
 use Rattle.cs_words.specs.declared.catalogue.Opcode.TheVariants as op
 use Rattle.cs_words.specs.declared.catalogue.Shape.TheVariants as shape
 use Rattle.cs_words.specs.declared.catalogue.Space.{Space}
+use Rattle.cs_gen.specs.Places.{place_of_index}
 use Rattle.cs_gen.specs.Points.{len_of}
 use Rattle.cs_ir.specs.Validity.{has_value}
-use Rattle.cs_ir.specs.Resources.{Stock, takes_table, reaches, tables_within, places_within, zak_place}
+use Rattle.cs_ir.specs.Resources.{Stock, reaches, tables_within, places_within, zak_place}
 use Rattle.cs_ir.specs.Waves.{Wave, silence, operand}
 use Rattle.cs_ir.specs.declared.op.Reach.{Reach}
 use Rattle.cs_cells.specs.declared.footprint.Area.{Area}
 use Rattle.cs_meaning.specs.Plain as plain
-use Rattle.cs_meaning.specs.Plain.{Piece, Plain, History, Table, find_table, table_number, table_place, stored, places_of_indices, steps_of, is_live, store_where, at_place, has_place}
+use Rattle.cs_meaning.specs.Plain.{Piece, Plain, History, Table, find_table, table_number, stored, places_of_indices, steps_of, is_live, store_where, at_place, has_place}
 use Rattle.cs_voice_meaning.specs.Placing.{area_of, wave_of, IsPlaced, IsTablePlaced}
 use Rattle.cs_voice_meaning.specs.VoiceWorld.{Playing, VoiceState, load, save, table_stored, store_plays, may_touch, pace_of}
 use Rattle.cs_voice_meaning.specs.Follows.{Kinds, AreNamed, Plays, SameUnit, SameState}
@@ -71,13 +69,8 @@ stores_take op.EventI h = absurd (cc)
 
 -- ---- points that are stored
 
-brought_in : (q : ℤ) (m : ℕ) → unsigned_abs (int_max (pos 0) (int_min q (pos m))) ≤ m
-brought_in q m = omega (arith, ints, clamps)
-
-within_table : (size : ℕ) (z : ℤ) → 0 < size → table_place (len_of size) z < size
-within_table size z some =
-    let below : table_place (len_of size) z ≤ len_of size - 1 = brought_in (floor_div z one) (len_of size - 1) in
-    omega (arith, below, some)
+within_table : (size : ℕ) (z : ℤ) → 0 < size → place_of_index (len_of size) z < size
+within_table size z some = omega (arith, some)
 
 differ : (m n len : ℕ) → m < len → len ≤ n → (m == n) ≡ false
 differ m n len low high = grind (arith, nat_tests)

@@ -15,7 +15,8 @@ use Rattle.cs_signal.specs.Pace.{Pace}
 use Rattle.cs_signal.specs.Steps.{HasAnswered}
 use Rattle.cs_ugen.proofs.Units.{units}
 use Rattle.cs_ugen.specs.Units.{IsUnitOpcode, Stands, gen, unit_start}
-use Rattle.cs_ir.specs.Resources.{Stock, takes_table, reaches, tables_within}
+use Rattle.cs_words.specs.Catalogue.{takes_table}
+use Rattle.cs_ir.specs.Resources.{Stock, reaches, tables_within}
 use Rattle.cs_ir.specs.Waves.{Wave, held, silence}
 use Rattle.cs_ir.specs.declared.op.Reach.{Reach}
 use Rattle.cs_cells.specs.declared.footprint.Area.{Area}

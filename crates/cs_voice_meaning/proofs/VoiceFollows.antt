@@ -4,7 +4,7 @@ use Rattle.std.specs.Option.{is_some}
 use Rattle.cs_base.specs.Limits.{most_delay_samples}
 use Rattle.cs_base.specs.declared.resource.Rate.{Rate}
 use Rattle.cs_base.specs.declared.resource.Res.{Res}
-use Rattle.cs_words.specs.Catalogue.{row_of}
+use Rattle.cs_words.specs.Catalogue.{row_of, takes_table}
 use Rattle.cs_words.specs.declared.catalogue.Opcode.{Opcode}
 use Rattle.cs_words.specs.declared.catalogue.Shape.{Shape}
 use Rattle.cs_words.specs.declared.catalogue.Shape.TheVariants as shape
@@ -12,7 +12,7 @@ use Rattle.cs_words.specs.declared.catalogue.Space.TheVariants as space
 use Rattle.cs_signal.specs.Delay.{delay_length}
 use Rattle.cs_ugen.specs.Units.{unit_start}
 use Rattle.cs_ir.specs.Validity.{has_value}
-use Rattle.cs_ir.specs.Resources.{Stock, takes_table, shape_uses}
+use Rattle.cs_ir.specs.Resources.{Stock, shape_uses}
 use Rattle.cs_ir.specs.Waves.{Wave, held, operand}
 use Rattle.cs_ir.specs.declared.op.Reach.{Reach}
 use Rattle.cs_cells.specs.declared.footprint.Area.{Area}

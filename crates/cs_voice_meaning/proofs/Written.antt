@@ -9,7 +9,7 @@ use Rattle.cs_base.specs.declared.resource.Res.{Res}
 use Rattle.cs_base.specs.declared.resource.Res.TheVariants as res
 use Rattle.cs_base.proofs.Rates.{same_res_here}
 use Rattle.cs_base.proofs.Tests.{by_test}
-use Rattle.cs_words.specs.Catalogue.{row_of}
+use Rattle.cs_words.specs.Catalogue.{row_of, takes_table}
 use Rattle.cs_words.specs.declared.catalogue.Opcode.{Opcode}
 use Rattle.cs_words.specs.declared.catalogue.Shape.{Shape}
 use Rattle.cs_words.specs.declared.catalogue.Shape.TheVariants as shape
@@ -17,7 +17,7 @@ use Rattle.cs_words.specs.declared.catalogue.Space.{Space}
 use Rattle.cs_words.specs.declared.catalogue.Space.TheVariants as space
 use Rattle.cs_signal.specs.Delay.{delay_length}
 use Rattle.cs_ir.specs.Machine.{Machine, acts, is_done, step, run, gives, write}
-use Rattle.cs_ir.specs.Resources.{Stock, takes_table, reaches, shape_uses, is_store, act_writes, tables_within, places_within, zak_place}
+use Rattle.cs_ir.specs.Resources.{Stock, reaches, shape_uses, is_store, act_writes, tables_within, places_within, zak_place}
 use Rattle.cs_ir.specs.Waves.{Wave, held, silence, operand, first_values}
 use Rattle.cs_ir.specs.declared.op.Act.{Act}
 use Rattle.cs_ir.specs.declared.op.Act.TheVariants as act

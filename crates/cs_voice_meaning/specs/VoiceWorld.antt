@@ -7,7 +7,7 @@ use Rattle.cs_base.specs.Rates.{res_rate}
 use Rattle.cs_base.specs.declared.resource.Rate.{Rate}
 use Rattle.cs_base.specs.declared.resource.Res.{Res}
 use Rattle.cs_base.specs.declared.resource.Res.TheVariants as res
-use Rattle.cs_words.specs.Catalogue.{row_of}
+use Rattle.cs_words.specs.Catalogue.{row_of, takes_table}
 use Rattle.cs_words.specs.declared.catalogue.Opcode.{Opcode}
 use Rattle.cs_words.specs.declared.catalogue.Shape.{Shape}
 use Rattle.cs_words.specs.declared.catalogue.Shape.TheVariants as shape
@@ -19,7 +19,7 @@ use Rattle.cs_signal.specs.Pace.{Pace}
 use Rattle.cs_signal.specs.Steps.{run}
 use Rattle.cs_ugen.specs.Units.{gen, unit_start, unit_step}
 use Rattle.cs_ugen.specs.declared.unit.Kind.{Kind}
-use Rattle.cs_ir.specs.Resources.{reaches, takes_table}
+use Rattle.cs_ir.specs.Resources.{reaches}
 use Rattle.cs_ir.specs.Waves.{Wave, held, silence, operand}
 use Rattle.cs_ir.specs.Worlds.{World}
 use Rattle.cs_ir.specs.declared.op.Reach.{Reach}

@@ -1,8 +1,11 @@
-use Rattle.cs_piece_meaning.proofs.Computed.{asked, made_again, refused, refused_counted, refused_started}
+use Rattle.cs_piece_meaning.proofs.Computed.{asked, made_again, refused, refused_counted, refused_started, stored}
 use Rattle.cs_piece_meaning.proofs.order_laws.orders_worked_by_hand.Goals as goal
 
 pub returns-clause-made_again : goal.returns-clause-made_again
 returns-clause-made_again c = made_again
+
+pub returns-clause-stored : goal.returns-clause-stored
+returns-clause-stored c = stored
 
 pub returns-clause-asked : goal.returns-clause-asked
 returns-clause-asked c = asked
