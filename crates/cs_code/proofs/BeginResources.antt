@@ -22,7 +22,7 @@ use Rattle.cs_typed.specs.WellRated.{node_rate}
 use Rattle.cs_typed.specs.declared.tree.Var.{Var as Variable}
 use Rattle.cs_typed.specs.declared.tree.Var.TheVariants.{Local, Global}
 use Rattle.cs_code.specs.inner.Frames.{Frame, op_of, kept_reg, temp, direct, spot, spots}
-use Rattle.cs_code.specs.inner.Code.{unless_there, own, code, copied, operand_code, operands_code, kept_code, keep_code, keep_all_code, set_code, target, given_code, start_code, unit_code, arm_code, init_code, init_block_code, first_code, all_code}
+use Rattle.cs_code.specs.inner.Code.{unless_there, own, code, copied, operand_code, operands_code, kept_code, keep_code, keep_all_code, set_code, target, given_code, start_code, unit_code, init_code, init_block_code, first_code, all_code}
 use Rattle.cs_code.proofs.Resources.{use_two, write_two, nothing_read, last_uses, given_use, arm_use, copied_write, own_write, operands_write, set_write, unit_write, arm_write}
 
 -- ---- what whole expressions read

@@ -26,7 +26,7 @@ module _ (b : Bases) (n : ℕ) where
   F = frame_of b
 
   abbrev G : Frame
-  G = frame_of (record b { init = n })
+  G = frame_of (record b { temporaries = record b.temporaries { init = n } })
 
   spot_by : (r : Rate) (at d : ℕ) (here : Option Reg) → reg_or (kept_or F false r at here) (temp F r d) ≡ reg_or (kept_or G false r at here) (temp G r d)
   spot_by rate.Init at d here = refl

@@ -1,7 +1,7 @@
 -- Arms one after another whose jumps are aimed once their end is known.
 use Rattle.std.proofs.Common.{◌≡◌, ◌∙◌, ◌+◌, ◌<◌, ◌≤◌, ◌++◌, ℕ, zero, suc, List, [], ◌∷◌, length, get_or, set, arith, refl, sym, ap}
 use Rattle.std.proofs.lemmas.List.{append_assoc, length-append}
-use Rattle.cs_ir.specs.Resources.{Spaces}
+use Rattle.cs_base.specs.declared.spaces.Spaces.{Spaces}
 use Rattle.cs_ir.specs.declared.op.Act.{Act}
 use Rattle.cs_ir.specs.declared.op.Act.TheVariants as act
 use Rattle.cs_ir.specs.declared.op.Op.{Op}
@@ -158,13 +158,6 @@ arm_made old first tested filled jumped new cond body q test past a b c d e g h 
     ∙ aim_seam (old ++ cond) none (body ++ (jump ∷ [])) (act.Unless past)
     ∙ ap (λ n. (old ++ cond) ++ (op_of (act.Unless n) q (q ∷ []) ∷ (body ++ (jump ∷ [])))) long
     ∙ append_assoc old cond (op_of (act.Unless (past_branch (length old) b0)) q (q ∷ []) ∷ (body ++ (jump ∷ [])))
-
--- where its jump stands
-pub jump_made : (old first tested filled cond body : List Op) (q : Reg) → first ≡ old ++ cond → tested ≡ first ++ (op_of (act.Unless 0) q (q ∷ []) ∷ [])
-    → filled ≡ tested ++ body → length filled ≡ jump_at (length old) (record { cond = cond; q = q; body = body })
-jump_made old first tested filled cond body q a b c =
-    let none : Op = op_of (act.Unless 0) q (q ∷ []) in
-    omega (arith, ap length a, ap length b, ap length c, length-append old cond, length-append first (none ∷ []), length-append tested body)
 
 -- where its body begins
 pub body_made : (old first tested cond : List Op) (q : Reg) → first ≡ old ++ cond → tested ≡ first ++ (op_of (act.Unless 0) q (q ∷ []) ∷ [])

@@ -3,11 +3,10 @@ use Rattle.std.proofs.Common.{◌≡◌, ◌∷◌, ℕ, Bool, true, false, true
 use Rattle.std.proofs.lemmas.Option.{none-some}
 use Rattle.cs_base.specs.declared.resource.Rate.{Rate}
 use Rattle.cs_base.specs.declared.resource.Rate.TheVariants as rate
-use Rattle.cs_ir.specs.Resources.{Spaces}
+use Rattle.cs_base.specs.declared.spaces.Spaces.{Spaces}
 use Rattle.cs_meaning.specs.Core.{Stmt, core_call, plus, values_of, set, unit, out, out_at, ask, turnoff, nothing, choose}
 use Rattle.cs_typed.specs.TypedTree.{Expression, Argument, value, text, var, number}
 use Rattle.cs_typed.specs.declared.tree.Var.{Var as Variable}
-use Rattle.cs_words.specs.Catalogue.{row_of}
 use Rattle.cs_words.specs.declared.catalogue.Opcode.{Opcode}
 use Rattle.cs_words.specs.declared.catalogue.Shape.{Shape}
 use Rattle.cs_words.specs.declared.catalogue.Shape.TheVariants as shape
@@ -15,7 +14,7 @@ use Rattle.cs_words.specs.declared.catalogue.Space.{Space}
 use Rattle.cs_meaning.specs.Notes.{Place}
 use Rattle.cs_code.specs.declared.frame.Pass.{Pass}
 use Rattle.cs_code.specs.declared.frame.Pass.TheVariants as pass
-use Rattle.cs_code.specs.inner.Emitted.{plain_unit, pass_code, channel_of, taken_by, put_shape}
+use Rattle.cs_code.specs.inner.Emitted.{plain_unit, pass_code, taken_by, put_shape}
 use Rattle.cs_code.specs.inner.Frames.{Frame}
 
 pub once : (o : Spaces) (r : Rate) (v : Variable) (vs : List Variable) (op : Opcode) (e : Expression) (args : List Argument)
@@ -115,22 +114,6 @@ pub plain_clear : (o : Spaces) (r : Rate) (vs : List Variable) (op : Opcode) (s 
 plain_clear o r [] op s args = refl
 plain_clear o r (v ∷ vs) op s args = refl
 
--- a channel's argument, or none
-abbrev or_else : Variable → Option Variable → Variable
-or_else d None = d
-or_else d (Some c) = c
-
--- a value and the channel after it
-pub taken_some : (e : Expression) (c : Variable) (rest : List Argument) → channel_of rest ≡ Some c → taken_by (value e ∷ rest) ≡ Some (c, e)
-taken_some e c [] h = absurd (none-some c h)
-taken_some e c (value x ∷ rest) h = absurd (none-some c h)
-taken_some e c (text d ∷ rest) h = ap (λ k. Some (or_else d k, e)) h
-
-pub taken_none : (e : Expression) (rest : List Argument) → channel_of rest ≡ None → taken_by (value e ∷ rest) ≡ None
-taken_none e [] h = refl
-taken_none e (value x ∷ rest) h = refl
-taken_none e (text d ∷ rest) h = absurd (none-some d (sym h))
-
 abbrev first_of : Variable × Expression → Option (Variable × Expression) → Variable × Expression
 first_of d None = d
 first_of d (Some x) = x
@@ -151,30 +134,6 @@ put_takes o r vs op adds c e (value x ∷ (text d ∷ rest)) h =
     whole [] false = refl
     whole (v ∷ vs) true = refl
     whole (v ∷ vs) false = refl
-
-put_no : (o : Spaces) (r : Rate) (vs : List Variable) (op : Opcode) (adds : Bool) (args : List Argument) → taken_by args ≡ None
-    → plain_unit o r vs op (put_shape adds) args ≡ core_call o r vs op (put_shape adds) args
-put_no o r [] op true [] h = refl
-put_no o r [] op false [] h = refl
-put_no o r (v ∷ vs) op true [] h = refl
-put_no o r (v ∷ vs) op false [] h = refl
-put_no o r [] op true (text x ∷ rest) h = refl
-put_no o r [] op false (text x ∷ rest) h = refl
-put_no o r (v ∷ vs) op true (text x ∷ rest) h = refl
-put_no o r (v ∷ vs) op false (text x ∷ rest) h = refl
-put_no o r [] op true (value x ∷ []) h = refl
-put_no o r [] op false (value x ∷ []) h = refl
-put_no o r (v ∷ vs) op true (value x ∷ []) h = refl
-put_no o r (v ∷ vs) op false (value x ∷ []) h = refl
-put_no o r [] op true (value x ∷ (value y ∷ rest)) h = refl
-put_no o r [] op false (value x ∷ (value y ∷ rest)) h = refl
-put_no o r (v ∷ vs) op true (value x ∷ (value y ∷ rest)) h = refl
-put_no o r (v ∷ vs) op false (value x ∷ (value y ∷ rest)) h = refl
-put_no o r vs op adds (value x ∷ (text d ∷ rest)) h = absurd (none-some (d, x) (sym h))
-
-pub put_falls : (o : Spaces) (r : Rate) (vs : List Variable) (op : Opcode) (adds : Bool) (args : List Argument) → taken_by args ≡ None
-    → put_shape adds ≡ (row_of op).shape → plain_unit o r vs op (row_of op).shape args ≡ core_call o r vs op (put_shape adds) args
-put_falls o r vs op adds args h shaped = sym (ap (λ k. plain_unit o r vs op k args) shaped) ∙ put_no o r vs op adds args h
 
 -- The code of what is no `if` is the same at each place.
 abbrev is_choice : Stmt → Bool
@@ -264,3 +223,16 @@ set_anywhere way f place p r v e = sym (anywhere way f place p (set r v e) refl)
 pub call_anywhere : (way : Pass) (f : Frame) (place : ℕ) (p : Place) (o : Spaces) (r : Rate) (vs : List Variable) (op : Opcode) (sh : Shape)
     (args : List Argument) → pass_code way f place p (core_call o r vs op sh args) ≡ pass_code way f 0 p (core_call o r vs op sh args)
 call_anywhere way f place p o r vs op sh args = sym (anywhere way f place p (core_call o r vs op sh args) (call_simple o r vs op sh args))
+
+-- what a call of a shape is short for, by its arguments
+pub ruleset once_by_arguments = (once, once_none, once_no_value, once_text)
+
+pub ruleset get_by_arguments = (get, get_none, get_no_text, get_value)
+
+pub ruleset clear_by_arguments = (clear, clear_none, clear_value)
+
+-- and of any other shape
+pub ruleset call_by_shape = (plain_unit_shape, plain_store, plain_mix, plain_get, plain_put, plain_clear, sends, sends_at, asks, ends, sizes)
+
+-- the code of an assignment and of a call is the same at each place
+pub ruleset at_each_place = (set_anywhere, call_anywhere)

@@ -9,8 +9,8 @@ use Rattle.cs_meaning.specs.Notes.{Place, past, past_parts, past_stmt, past_bloc
 use Rattle.cs_typed.specs.TypedTree.{Expression}
 use Rattle.cs_code.specs.declared.frame.Pass.{Pass}
 use Rattle.cs_code.specs.declared.frame.Pass.TheVariants as pass
-use Rattle.cs_code.specs.inner.Code.{keep_code, init_block_code, all_code}
-use Rattle.cs_code.specs.inner.Emitted.{pass_code, pass_block_code, chosen_code, each_arm_code, takes_all}
+use Rattle.cs_code.specs.inner.Code.{keep_code, operand_code, init_block_code, all_code}
+use Rattle.cs_code.specs.inner.Emitted.{pass_code, pass_block_code, chosen_code, cond_code, each_arm_code, is_whole, takes_all}
 use Rattle.cs_code.specs.inner.Frames.{Frame}
 
 -- a statement and those that follow, in either pass
@@ -59,18 +59,6 @@ each_more f ops new total p q c b rest made at was =
     ∙ ap (λ xs. ops ++ xs) (append_assoc cond body (all_code f (place + length cond + length body) done rest))
     ∙ was
 
--- an arm's condition and then its body
-pub each_made : (f : Frame) (ops mid new : List Op) (p : Place) (at : ℕ) (c : Expression) (b : Block) → mid ≡ ops ++ keep_code f p.part c → at
-    ≡ past p.part c → new ≡ mid ++ init_block_code f (length mid) (past_parts at p) b → new ≡ ops ++ each_arm_code f (length ops) p c b
-each_made f ops mid new p at c b kept next made =
-    let cond : List Op = keep_code f p.part c in
-    let long : length mid ≡ length ops + length cond = omega (arith, ap length kept ∙ length-append ops cond) in
-    made
-    ∙ ap (λ n. mid ++ init_block_code f (length mid) (past_parts n p) b) next
-    ∙ ap (λ n. mid ++ init_block_code f n (past_parts (past p.part c) p) b) long
-    ∙ ap (λ xs. xs ++ init_block_code f (length ops + length cond) (past_parts (past p.part c) p) b) kept
-    ∙ append_assoc ops cond (init_block_code f (length ops + length cond) (past_parts (past p.part c) p) b)
-
 -- no statement more
 pub block_none : (way : Pass) (f : Frame) (place : ℕ) (p : Place) → pass_block_code way f place p no_stmt ≡ []
 block_none pass.Initialisation f place p = refl
@@ -90,3 +78,13 @@ one_taken pass.Initialisation f place p rate.Init arms h = refl
 one_taken pass.Initialisation f place p rate.Control arms h = absurd (true≢false h)
 one_taken pass.Initialisation f place p rate.Audio arms h = absurd (true≢false h)
 one_taken pass.Performance f place p r arms h = refl
+
+-- all of them are initialised in the initialisation alone
+pub taken_pass : (way : Pass) (r : Rate) → takes_all way r ≡ true → way ≡ pass.Initialisation
+taken_pass pass.Initialisation r h = refl
+taken_pass pass.Performance r h = absurd (true≢false (sym h))
+
+-- a condition in the performance
+pub tested : (way : Pass) (f : Frame) (at : ℕ) (e : Expression) → way ≡ pass.Performance → operand_code f (is_whole way) at e 0 ≡ cond_code way f at e
+tested pass.Performance f at e h = refl
+tested pass.Initialisation f at e h = absurd (cc)

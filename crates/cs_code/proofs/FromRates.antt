@@ -15,10 +15,10 @@ use Rattle.cs_words.specs.declared.catalogue.Opcode.TheVariants as op
 use Rattle.cs_words.specs.declared.catalogue.Shape.{Shape}
 use Rattle.cs_words.specs.declared.catalogue.Shape.TheVariants as shape
 use Rattle.cs_words.specs.declared.word.Func.TheVariants as func
-use Rattle.cs_ir.specs.Resources.{Spaces}
+use Rattle.cs_base.specs.declared.spaces.Spaces.{Spaces}
 use Rattle.cs_ir.specs.Units.{is_unit}
 use Rattle.cs_ir.specs.Validity.{take_all, stores_at, as_sounds, bound_at}
-use Rattle.cs_meaning.specs.Core.{ask, core, core_stmt, core_arms, core_call, values_of, settled, moving, plus}
+use Rattle.cs_meaning.specs.Core.{ask, core, core_stmt, core_arms, core_call, values_of, settled, moving}
 use Rattle.cs_typed.specs.TypedTree as typed
 use Rattle.cs_typed.specs.TypedTree.{Expression, number, var, field, head, neg, pair, pick, apply}
 use Rattle.cs_typed.specs.WellRated.{node_rate, var_rate, is_variable, is_channel, is_read_once, both_sound, may_give, IsRated, IsRatedArgument, IsRatedSet, IsRatedCall, IsRatedStatement, IsRatedBlock, IsRatedArms, fits_letter, fit_letters, bound_by, goes_beyond, done_at}
@@ -416,15 +416,9 @@ set_ranked : (s : Setting) (r : Rate) (v : Variable) (e : Expression) → IsRate
 set_ranked s r v e h =
     (takes_it (node_rate e) v (variable_holds v h.1) (ap (within (node_rate e)) (sym h.0) ∙ h.2), ranked e h.4)
 
-sum_ranked : (s : Setting) (r : Rate) (v : Variable) (e : Expression) → IsRatedSet s r v e → RankedSet v (plus r v e)
-sum_ranked s r v e h =
-    let holds : holds_value v ≡ true = variable_holds v h.1 in
-    (takes_it r v holds (ap (λ y. within y (var_rate v)) h.0 ∙ within_self (var_rate v)), (within_self r, h.2, refl, ranked_var r v holds h.0, ranked e h.4))
-
 mutual
   stmt_ranked : (spaces : Spaces) (s : Setting) (x : typed.Statement) → IsRatedStatement s x → RankedStmt (core_stmt spaces x)
   stmt_ranked spaces s (typed.set line r v e) h = set_ranked s r v e h
-  stmt_ranked spaces s (typed.add_to line r v e) h = sum_ranked s r v e h
   stmt_ranked spaces s (typed.call line r vs opcode args) h = call_ranked spaces s r vs opcode args h
   stmt_ranked spaces s (typed.choose line r list) h = arms_ranked spaces s list h.1
 
@@ -463,7 +457,6 @@ narrow_call s spaces r vs opcode sh args h = tt
 mutual
   narrow_stmt : (spaces : Spaces) (s : Setting) (x : typed.Statement) → IsRatedStatement s x → Narrow s.channels (core_stmt spaces x)
   narrow_stmt spaces s (typed.set line r v e) h = tt
-  narrow_stmt spaces s (typed.add_to line r v e) h = tt
   narrow_stmt spaces s (typed.call line r vs opcode args) h = narrow_call s spaces r vs opcode (row_of opcode).shape args h.channels
   narrow_stmt spaces s (typed.choose line r list) h = narrow_arms spaces s list h.1
 

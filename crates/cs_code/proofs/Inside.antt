@@ -5,7 +5,8 @@ use Rattle.cs_base.specs.declared.resource.Rate.TheVariants as rate
 use Rattle.cs_words.specs.declared.catalogue.Opcode.{Opcode}
 use Rattle.cs_ir.specs.Machine.{gives}
 use Rattle.cs_meaning.specs.Core.{Stmt, Block, Arms, set, unit, out, out_at, ask, turnoff, nothing, choose, no_stmt, andthen, otherwise, arm}
-use Rattle.cs_typed.specs.TypedTree.{Expression, number, var, field, head, neg, pair, pick, apply}
+use Rattle.cs_typed.specs.TypedTree.{Expression}
+use Rattle.cs_typed.specs.Variables.{EachInExpression}
 use Rattle.cs_typed.specs.WellRated.{node_rate}
 use Rattle.cs_typed.specs.declared.tree.Var.{Var as Variable}
 use Rattle.cs_typed.specs.declared.tree.Var.TheVariants.{Local, Global}
@@ -32,14 +33,7 @@ InsideVar lim (Local r n) = n < lim r
 InsideVar lim (Global g) = Unit {0}
 
 abbrev pub Inside : (Rate → ℕ) → Expression → Type 0
-Inside lim (number r n) = Unit {0}
-Inside lim (var r v) = InsideVar lim v
-Inside lim (field r k) = Unit {0}
-Inside lim (head r h) = Unit {0}
-Inside lim (neg r a) = Inside lim a
-Inside lim (pair r o a b) = Inside lim a × Inside lim b
-Inside lim (pick r c a b) = Inside lim c × Inside lim a × Inside lim b
-Inside lim (apply r g a) = Inside lim a
+Inside lim e = EachInExpression (InsideVar lim) e
 
 abbrev pub InsideAll : (Rate → ℕ) → List Expression → Type 0
 InsideAll lim [] = Unit {0}

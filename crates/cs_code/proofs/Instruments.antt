@@ -3,11 +3,13 @@ use Rattle.std.proofs.Common.{◌≡◌, ℕ, ◌+◌, ◌<◌, ◌≤◌, max, 
 use Rattle.std.specs.List.{All, AllZip}
 use Rattle.std.proofs.lemmas.Grind.{flat_map-append}
 use Rattle.std.proofs.lemmas.List.{map_more, map-append, get_or-map, length-map}
+use Rattle.cs_base.specs.declared.per_rate.PerRate.{PerRate}
 use Rattle.cs_base.specs.declared.resource.Rate.{Rate}
 use Rattle.cs_base.specs.declared.resource.Rate.TheVariants as rate
 use Rattle.cs_ir.specs.Cycles.{are_of_cycle}
 use Rattle.cs_ir.specs.Instruments.{Numbered, numbers_of}
-use Rattle.cs_ir.specs.Resources.{Spaces, ops_use, ops_write}
+use Rattle.cs_base.specs.declared.spaces.Spaces.{Spaces}
+use Rattle.cs_ir.specs.Resources.{ops_use, ops_write}
 use Rattle.cs_ir.specs.Validity.{count_of, fine_from}
 use Rattle.cs_ir.specs.declared.op.Code.{Code}
 use Rattle.cs_ir.specs.declared.op.Op.{Op}
@@ -15,21 +17,20 @@ use Rattle.cs_ir.specs.declared.register.Counts.{Counts}
 use Rattle.cs_meaning.specs.Core.{core}
 use Rattle.cs_meaning.specs.Notes.{start, past_block}
 use Rattle.cs_typed.specs.TypedTree as typed
+use Rattle.cs_typed.specs.Variables.{IsCounted, EachInBlock}
 use Rattle.cs_typed.specs.WellRated.{IsRatedBlock}
 use Rattle.cs_typed.specs.declared.setting.Setting.{Setting}
 use Rattle.cs_typed.specs.declared.tree.TypedInstr.{TypedInstr}
 use Rattle.cs_code.specs.Lowered.{IsCodeOf, IsNumberedCode, numbered_with, bodies, all_numbers}
 use Rattle.cs_code.specs.Means.{Means}
 use Rattle.cs_code.specs.Names.{block_units, AllNamed}
-use Rattle.cs_code.specs.inner.Census.{Roomy}
 use Rattle.cs_code.specs.inner.Code.{init_block_code, perf_block_code}
 use Rattle.cs_code.specs.inner.Counted.{reached, no_registers}
-use Rattle.cs_code.specs.inner.Frames.{Frame}
-use Rattle.cs_code.specs.inner.Limits.{ops_limit, block_limit, parts_of}
+use Rattle.cs_code.specs.inner.Frames.{Frame, frame_for}
+use Rattle.cs_code.specs.inner.Limits.{ops_limit}
 use Rattle.cs_code.proofs.BeginResources.{begins_block_use, begins_block_write}
 use Rattle.cs_code.proofs.InCycle.{perf_in_cycle}
-use Rattle.cs_code.proofs.Inside.{Fits}
-use Rattle.cs_code.proofs.Means.{means_by_frame}
+use Rattle.cs_code.proofs.Means.{means_its_tree}
 use Rattle.cs_code.proofs.Resources.{block_use, block_write}
 use Rattle.cs_code.proofs.Validity.{units_counted, init_valid, perf_valid, init_named_rated, perf_named_rated}
 
@@ -44,15 +45,17 @@ reaches_second units g h rate.Init = omega arith
 reaches_second units g h rate.Control = omega arith
 reaches_second units g h rate.Audio = omega arith
 
--- What the making of two codes answers.
-pub record Made (spaces : Spaces) (t : typed.Block) (f : Frame) (counts : Counts) (init perf : List Op) : Type 0 where
-  pub room : Roomy f (core spaces t)
-  pub init_is : init ≡ init_block_code f 0 start (core spaces t)
-  pub perf_is : perf ≡ perf_block_code f 0 start (core spaces t)
+-- What the making of two codes of a block with these local variables answers.
+pub record Made (spaces : Spaces) (locals : PerRate ℕ) (t : typed.Block) (counts : Counts) (init perf : List Op) : Type 0 where
+  pub init_is : init ≡ init_block_code (frame_for locals (core spaces t)) 0 start (core spaces t)
+  pub perf_is : perf ≡ perf_block_code (frame_for locals (core spaces t)) 0 start (core spaces t)
   pub counts_are : counts ≡ reached (no_registers (past_block start (core spaces t)).unit) (λ r. max (ops_limit r init) (ops_limit r perf))
 
-module _ (spaces : Spaces) (s : Setting) (t : typed.Block) (rated : IsRatedBlock s t) (f : Frame) (counts : Counts) (init perf : List Op)
-    (made : Made spaces t f counts init perf) where
+module _ (spaces : Spaces) (locals : PerRate ℕ) (s : Setting) (t : typed.Block) (rated : IsRatedBlock s t) (counts : Counts) (init perf : List Op)
+    (made : Made spaces locals t counts init perf) where
+  abbrev f : Frame
+  f = frame_for locals (core spaces t)
+
   units_are : counts.units ≡ (past_block start (core spaces t)).unit
   units_are = ap (λ (c : Counts). c.units) made.counts_are
 
@@ -78,17 +81,15 @@ module _ (spaces : Spaces) (s : Setting) (t : typed.Block) (rated : IsRatedBlock
       subst (λ ops. fine_from counts (length ops) 0 ops ≡ true) (sym made.perf_is)
       (perf_valid spaces s t rated f counts units (λ r. subst (λ ops. ops_limit r ops ≤ count_of counts r) made.perf_is (perf_reached r)))
 
-  made_means : Means (core spaces t) init perf
-  made_means =
-      let fits : Fits f (λ r. block_limit r (core spaces t)) (parts_of (core spaces t)) =
-      record { locals = made.room.locals; below = made.room.below; room = made.room.room } in
+  made_means : EachInBlock (IsCounted locals) t → Means (core spaces t) init perf
+  made_means counted =
       subst (λ ops. Means (core spaces t) ops perf) (sym made.init_is)
-      (subst (λ ops. Means (core spaces t) (init_block_code f 0 start (core spaces t)) ops) (sym made.perf_is) (means_by_frame spaces s t rated f fits))
+      (subst (λ ops. Means (core spaces t) (init_block_code f 0 start (core spaces t)) ops) (sym made.perf_is) (means_its_tree spaces s locals t rated counted))
 
   -- the promise of an instrument, of any two codes with these ops and counts
-  pub made_code : (a b : Code) → a.ops.items ≡ init → a.counts ≡ counts → b.ops.items ≡ perf → b.counts ≡ counts → IsCodeOf spaces s.channels t a b
-  made_code a b ops_a counts_a ops_b counts_b = record {
-    means = subst (λ ops. Means (core spaces t) ops b.ops.items) (sym ops_a) (subst (λ ops. Means (core spaces t) init ops) (sym ops_b) made_means);
+  pub made_code : EachInBlock (IsCounted locals) t → (a b : Code) → a.ops.items ≡ init → a.counts ≡ counts → b.ops.items ≡ perf → b.counts ≡ counts → IsCodeOf spaces s.channels t a b
+  made_code counted a b ops_a counts_a ops_b counts_b = record {
+    means = subst (λ ops. Means (core spaces t) ops b.ops.items) (sym ops_a) (subst (λ ops. Means (core spaces t) init ops) (sym ops_b) (made_means counted));
     init_valid = ap (λ c. fine_from c (length a.ops.items) 0 a.ops.items) counts_a
         ∙ ap (λ ops. fine_from counts (length ops) 0 ops) ops_a ∙ made_init_valid;
     perf_valid = ap (λ c. fine_from c (length b.ops.items) 0 b.ops.items) counts_b
@@ -135,10 +136,6 @@ one_numbered spaces channels t ps ns i d list x low h number code =
     ap (λ l. ps ++ l) (map_more with ns i d low) ∙ sym (append_assoc ps (numbered_with t (take i ns)) (with (get_or ns i d) ∷ [])) in
     subst (λ l. AllZip (IsNumberedCode spaces channels) l (list ++ x ∷ [])) (sym more)
     (zip_one (IsNumberedCode spaces channels) (ps ++ numbered_with t (take i ns)) list (with (get_or ns i d)) x h (number, code))
-
-pub none_numbered : (spaces : Spaces) (channels : ℕ) (ps : List (ℕ × typed.Block)) (list : List Numbered) → AllZip (IsNumberedCode spaces channels) ps list
-    → AllZip (IsNumberedCode spaces channels) (ps ++ []) list
-none_numbered spaces channels ps list h = subst (λ l. AllZip (IsNumberedCode spaces channels) l list) (sym (append-nil ps)) h
 
 -- the bodies of one instrument more
 pub bodies_more : (xs : List TypedInstr) (i : ℕ) (x : TypedInstr) → i < length xs → x ≡ get_or xs i x

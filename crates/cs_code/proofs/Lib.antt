@@ -1,13 +1,11 @@
 pub mod Arms
 pub mod BeginResources
 pub mod Beginnings
-pub mod Bounds
 pub mod Branches
 pub mod Calls
 pub mod Chains
 pub mod Expressions
 pub mod FromRates
-pub mod Grown
 pub mod InCycle
 pub mod Initialises
 pub mod Inside
@@ -28,3 +26,4 @@ pub mod Resources
 pub mod Runs
 pub mod Valid
 pub mod Validity
+pub mod Worked

@@ -82,3 +82,11 @@ past_splits at (neg r a) = refl
 past_splits at (pair r o a b) = refl
 past_splits at (pick r c a b) = refl
 past_splits at (apply r g a) = refl
+
+-- what stands somewhere already, and what is made
+pub ruleset nodes = (there_code, there_spot, there_past, made_code, made_spot)
+
+pub ruleset copies = (there_copied, made_copied, there_past)
+
+-- the kept parts of an expression, by whether it changes
+pub ruleset splits = (rate_of_part, keep_splits, past_splits)

@@ -1,51 +1,30 @@
--- A well rated tree, its limits and its frame meet what the simulation asks.
-use Rattle.std.proofs.Common.{◌≡◌, ℕ, ◌+◌, ◌≤◌, Bool, true, false, List, [], ◌∷◌, length, if◌then◌else◌, refl, subst, arith, ne_eqb}
+-- A well rated tree whose local variables are counted meets what the simulation asks.
+use Rattle.std.proofs.Common.{◌≡◌, ℕ, ◌+◌, ◌≤◌, Bool, true, false, List, [], ◌∷◌, length, if◌then◌else◌, refl, arith, ne_eqb}
 use Rattle.std.proofs.lemmas.Bool.{and_parts}
-use Rattle.cs_base.proofs.Rates.{same_rate_here}
-use Rattle.cs_base.specs.Rates.{is_init}
+use Rattle.std.proofs.lemmas.List.Elements.{All-head, All-tail}
+use Rattle.std.specs.List.{All}
+use Rattle.cs_base.specs.Rates.{at_rate, is_init}
+use Rattle.cs_base.specs.declared.per_rate.PerRate.{PerRate}
 use Rattle.cs_base.specs.declared.resource.Rate.{Rate}
 use Rattle.cs_base.specs.declared.resource.Rate.TheVariants as rate
-use Rattle.cs_words.specs.Catalogue.{row_of, result_count}
+use Rattle.cs_base.specs.declared.spaces.Spaces.{Spaces}
+use Rattle.cs_words.specs.Catalogue.{Row, row_of, result_count, letter_at, is_settled}
 use Rattle.cs_words.specs.declared.catalogue.Opcode.{Opcode}
 use Rattle.cs_words.specs.declared.catalogue.Shape.{Shape}
 use Rattle.cs_words.specs.declared.catalogue.Shape.TheVariants as shape
-use Rattle.cs_ir.specs.Machine.{gives}
-use Rattle.cs_ir.specs.Resources.{Spaces}
-use Rattle.cs_meaning.specs.Core.{Stmt, Block, Arms, set, unit, out, out_at, ask, turnoff, nothing, choose, no_stmt, andthen, otherwise, arm, core, core_stmt, core_arms, core_call}
+use Rattle.cs_meaning.specs.Core.{Block, core, core_stmt, core_arms, core_call, values_of, moving, settled}
 use Rattle.cs_typed.specs.TypedTree as typed
-use Rattle.cs_typed.specs.TypedTree.{Expression, number, var, field, head, neg, pair, pick, apply}
+use Rattle.cs_typed.specs.TypedTree.{Expression, Argument}
+use Rattle.cs_typed.specs.Variables.{IsCounted, EachInExpression, EachInArgument, EachInStatement, EachInBlock, EachInArms}
 use Rattle.cs_typed.specs.WellRated.{node_rate, all_still, IsRatedStatement, IsRatedBlock, IsRatedArms}
 use Rattle.cs_typed.specs.declared.setting.Setting.{Setting}
 use Rattle.cs_typed.specs.declared.tree.Var.{Var as Variable}
 use Rattle.cs_typed.specs.declared.tree.Var.TheVariants.{Local, Global}
-use Rattle.cs_code.specs.inner.Limits.{var_limit, expr_limit, exprs_limit, vars_limit, stmt_limit, block_limit, arms_limit, parts_of, frame_for}
+use Rattle.cs_typed.proofs.Variables.{expression_weaker}
+use Rattle.cs_code.specs.inner.Frames.{frame_for, parts_of}
 use Rattle.cs_code.proofs.Inside.{Fits, InsideVar, Inside, InsideAll, Takes, AllStill, InsideStmt, InsideBlock, InsideArms}
 
--- What rates give: a variable takes a unit's result only where its opcode gives one, and an `if` of rate Init has kept conditions.
-abbrev Gives : Opcode → List Variable → Type 0
-Gives opcode [] = Unit {0}
-Gives opcode (v ∷ vs) = gives opcode ≡ true
-
-abbrev mutual
-  SoundStmt : Stmt → Type 0
-  SoundStmt (set r v e) = Unit {0}
-  SoundStmt (unit r vs opcode reach xs is) = Gives opcode vs
-  SoundStmt (out r es) = Unit {0}
-  SoundStmt (out_at r es) = Unit {0}
-  SoundStmt (ask es) = Unit {0}
-  SoundStmt (turnoff r) = Unit {0}
-  SoundStmt nothing = Unit {0}
-  SoundStmt (choose r arms) = (r ≡ rate.Init → AllStill arms) × SoundArms arms
-
-  SoundBlock : Block → Type 0
-  SoundBlock no_stmt = Unit {0}
-  SoundBlock (andthen s b) = SoundStmt s × SoundBlock b
-
-  SoundArms : Arms → Type 0
-  SoundArms (otherwise b) = SoundBlock b
-  SoundArms (arm c b rest) = SoundBlock b × SoundArms rest
-
--- ---- from the rules of rates
+-- ---- conditions that are known when the note begins
 
 pub init_is : (r : Rate) → is_init r ≡ true → r ≡ rate.Init
 init_is rate.Init h = refl
@@ -62,107 +41,100 @@ stills spaces (typed.arm c b rest) h =
     let both = and_parts (is_init (node_rate c)) (all_still rest) h in
     (init_is (node_rate c) both.0, stills spaces rest both.1)
 
-gives_some : (opcode : Opcode) (vs : List Variable) → length vs ≡ result_count (row_of opcode) → Gives opcode vs
-gives_some opcode [] h = tt
-gives_some opcode (v ∷ vs) h = rw (ne_eqb (result_count (row_of opcode)) 0 (λ e. absurd (omega arith))) refl
+-- ---- what a block with these local variables names
 
-sound_call : (spaces : Spaces) (r : Rate) (vs : List Variable) (opcode : Opcode) (sh : Shape) (args : List typed.Argument) → Gives opcode vs
-    → SoundStmt (core_call spaces r vs opcode sh args)
-sound_call spaces r (v ∷ vs) opcode shape.Init (typed.value e ∷ args) h = tt
-sound_call spaces r vs opcode shape.Out args h = tt
-sound_call spaces r vs opcode shape.OutAt args h = tt
-sound_call spaces r vs opcode shape.Turnoff args h = tt
-sound_call spaces r vs opcode shape.ZakInit args h = tt
-sound_call spaces r (v ∷ vs) opcode shape.ChannelGet (typed.text c ∷ args) h = tt
-sound_call spaces r vs opcode shape.ChannelPut (typed.value e ∷ typed.text c ∷ args) h = tt
-sound_call spaces r vs opcode shape.ChannelMix (typed.value e ∷ typed.text c ∷ args) h = tt
-sound_call spaces r vs opcode shape.ChannelClear (typed.text c ∷ args) h = tt
-sound_call spaces r vs opcode shape.Ask args h = tt
-sound_call spaces r vs opcode sh args h = h
+module _ (counts : PerRate ℕ) where
+  inside_var : (v : Variable) → IsCounted counts v → InsideVar (at_rate counts) v
+  inside_var (Local q n) h = h
+  inside_var (Global g) h = tt
 
-mutual
-  sound_stmt : (spaces : Spaces) (s : Setting) (x : typed.Statement) → IsRatedStatement s x → SoundStmt (core_stmt spaces x)
-  sound_stmt spaces s (typed.set line r v e) h = tt
-  sound_stmt spaces s (typed.add_to line r v e) h = tt
-  sound_stmt spaces s (typed.call line r vs opcode args) h = sound_call spaces r vs opcode (row_of opcode).shape args (gives_some opcode vs h.results)
-  sound_stmt spaces s (typed.choose line r list) h = (λ k. stills spaces list (still_if (all_still list) r h.0 k), sound_arms spaces s list h.1)
+  inside_expr : (e : Expression) → EachInExpression (IsCounted counts) e → Inside (at_rate counts) e
+  inside_expr e h = expression_weaker (IsCounted counts) (InsideVar (at_rate counts)) inside_var e h
 
-  sound_block : (spaces : Spaces) (s : Setting) (b : typed.Block) → IsRatedBlock s b → SoundBlock (core spaces b)
-  sound_block spaces s typed.no_stmt h = tt
-  sound_block spaces s (typed.andthen x rest) h = (sound_stmt spaces s x h.0, sound_block spaces s rest h.1)
+  inside_either : (b : Bool) (xs ys : List Expression) → InsideAll (at_rate counts) xs → InsideAll (at_rate counts) ys
+      → InsideAll (at_rate counts) (if b then xs else ys)
+  inside_either true xs ys h k = h
+  inside_either false xs ys h k = k
 
-  sound_arms : (spaces : Spaces) (s : Setting) (list : typed.Arms) → IsRatedArms s list → SoundArms (core_arms spaces list)
-  sound_arms spaces s (typed.otherwise b) h = sound_block spaces s b h
-  sound_arms spaces s (typed.arm c b rest) h = (sound_block spaces s b h.3, sound_arms spaces s rest h.4)
+  abbrev Counted : Argument → Type 0
+  Counted a = EachInArgument (IsCounted counts) a
 
--- ---- from the limits
+  inside_values : (args : List Argument) → All Counted args → InsideAll (at_rate counts) (values_of args)
+  inside_values [] h = tt
+  inside_values (typed.value e ∷ rest) h =
+      (inside_expr e (All-head Counted (typed.value e) rest h), inside_values rest (All-tail Counted (typed.value e) rest h))
+  inside_values (typed.text v ∷ rest) h = inside_values rest (All-tail Counted (typed.text v) rest h)
 
-inside_var : (lim : Rate → ℕ) (v : Variable) → ((r : Rate) → var_limit r v ≤ lim r) → InsideVar lim v
-inside_var lim (Local q n) h =
-    let here : n + 1 ≤ lim q = subst (λ b. (if b then n + 1 else 0) ≤ lim q) (same_rate_here q) (h q) in
-    omega arith
-inside_var lim (Global g) h = tt
+  inside_settled : (row : Row) (n : ℕ) (args : List Argument) → All Counted args → InsideAll (at_rate counts) (settled row n args)
+  inside_settled row n [] h = tt
+  inside_settled row n (typed.value e ∷ rest) h =
+      let more = inside_settled row (n + 1) rest (All-tail Counted (typed.value e) rest h) in
+      inside_either (is_settled (letter_at row n)) (e ∷ settled row (n + 1) rest) (settled row (n + 1) rest)
+      (inside_expr e (All-head Counted (typed.value e) rest h), more) more
+  inside_settled row n (typed.text v ∷ rest) h = inside_settled row (n + 1) rest (All-tail Counted (typed.text v) rest h)
 
-inside_expr : (lim : Rate → ℕ) (e : Expression) → ((r : Rate) → expr_limit r e ≤ lim r) → Inside lim e
-inside_expr lim (number r n) h = tt
-inside_expr lim (var r v) h = inside_var lim v h
-inside_expr lim (field r k) h = tt
-inside_expr lim (head r k) h = tt
-inside_expr lim (neg r a) h = inside_expr lim a h
-inside_expr lim (pair r o a b) h =
-    (inside_expr lim a (λ q. let m = h q in omega arith), inside_expr lim b (λ q. let m = h q in omega arith))
-inside_expr lim (pick r c a b) h = (
-  inside_expr lim c (λ q. let m = h q in omega arith),
-  inside_expr lim a (λ q. let m = h q in omega arith),
-  inside_expr lim b (λ q. let m = h q in omega arith),
-)
-inside_expr lim (apply r g a) h = inside_expr lim a h
+  inside_moving : (row : Row) (n : ℕ) (args : List Argument) → All Counted args → InsideAll (at_rate counts) (moving row n args)
+  inside_moving row n [] h = tt
+  inside_moving row n (typed.value e ∷ rest) h =
+      let more = inside_moving row (n + 1) rest (All-tail Counted (typed.value e) rest h) in
+      inside_either (is_settled (letter_at row n)) (moving row (n + 1) rest) (e ∷ moving row (n + 1) rest) more
+      (inside_expr e (All-head Counted (typed.value e) rest h), more)
+  inside_moving row n (typed.text v ∷ rest) h = inside_moving row (n + 1) rest (All-tail Counted (typed.text v) rest h)
 
-inside_exprs : (lim : Rate → ℕ) (es : List Expression) → ((r : Rate) → exprs_limit r es ≤ lim r) → InsideAll lim es
-inside_exprs lim [] h = tt
-inside_exprs lim (e ∷ es) h = (inside_expr lim e (λ q. let m = h q in omega arith), inside_exprs lim es (λ q. let m = h q in omega arith))
+  -- a variable takes a unit's result only where its opcode gives one
+  inside_takes : (opcode : Opcode) (vs : List Variable) → All (IsCounted counts) vs → length vs ≡ result_count (row_of opcode)
+      → Takes (at_rate counts) opcode vs
+  inside_takes opcode [] h k = tt
+  inside_takes opcode (v ∷ vs) h k =
+      (inside_var v (All-head (IsCounted counts) v vs h), rw (ne_eqb (result_count (row_of opcode)) 0 (λ e. absurd (omega arith))) refl)
 
-inside_takes : (lim : Rate → ℕ) (opcode : Opcode) (vs : List Variable) → ((r : Rate) → vars_limit r vs ≤ lim r) → Gives opcode vs → Takes lim opcode vs
-inside_takes lim opcode [] h g = tt
-inside_takes lim opcode (v ∷ vs) h g = (inside_var lim v (λ q. let m = h q in omega arith), g)
+  inside_call : (spaces : Spaces) (r : Rate) (vs : List Variable) (opcode : Opcode) (sh : Shape) (args : List Argument)
+      → Takes (at_rate counts) opcode vs → All (IsCounted counts) vs → All Counted args → InsideStmt (at_rate counts) (core_call spaces r vs opcode sh args)
+  inside_call spaces r (v ∷ vs) opcode shape.Init (typed.value e ∷ args) t h k =
+      (inside_var v (All-head (IsCounted counts) v vs h), inside_expr e (All-head Counted (typed.value e) args k))
+  inside_call spaces r vs opcode shape.Out args t h k = inside_values args k
+  inside_call spaces r vs opcode shape.OutAt args t h k = inside_values args k
+  inside_call spaces r vs opcode shape.Turnoff args t h k = tt
+  inside_call spaces r vs opcode shape.ZakInit args t h k = tt
+  inside_call spaces r (v ∷ vs) opcode shape.ChannelGet (typed.text c ∷ args) t h k =
+      (inside_var v (All-head (IsCounted counts) v vs h), inside_var c (All-head Counted (typed.text c) args k))
+  inside_call spaces r vs opcode shape.ChannelPut (typed.value e ∷ typed.text c ∷ args) t h k =
+      let rest = All-tail Counted (typed.value e) (typed.text c ∷ args) k in
+      (inside_var c (All-head Counted (typed.text c) args rest), inside_expr e (All-head Counted (typed.value e) (typed.text c ∷ args) k))
+  inside_call spaces r vs opcode shape.ChannelMix (typed.value e ∷ typed.text c ∷ args) t h k =
+      let rest = All-tail Counted (typed.value e) (typed.text c ∷ args) k in
+      let channel = inside_var c (All-head Counted (typed.text c) args rest) in
+      (channel, (channel, inside_expr e (All-head Counted (typed.value e) (typed.text c ∷ args) k)))
+  inside_call spaces r vs opcode shape.ChannelClear (typed.text c ∷ args) t h k = (inside_var c (All-head Counted (typed.text c) args k), tt)
+  inside_call spaces r vs opcode shape.Ask args t h k = inside_values args k
+  inside_call spaces r vs opcode sh args t h k = (t, inside_moving (row_of opcode) 0 args k, inside_settled (row_of opcode) 0 args k)
 
-mutual
-  inside_stmt : (lim : Rate → ℕ) (s : Stmt) → ((r : Rate) → stmt_limit r s ≤ lim r) → SoundStmt s → InsideStmt lim s
-  inside_stmt lim (set r v e) h k = (inside_var lim v (λ q. let m = h q in omega arith), inside_expr lim e (λ q. let m = h q in omega arith))
-  inside_stmt lim (unit r vs opcode reach xs is) h k = (
-    inside_takes lim opcode vs (λ q. let m = h q in omega arith) k,
-    inside_exprs lim xs (λ q. let m = h q in omega arith),
-    inside_exprs lim is (λ q. let m = h q in omega arith),
-  )
-  inside_stmt lim (out r es) h k = inside_exprs lim es h
-  inside_stmt lim (out_at r es) h k = inside_exprs lim es h
-  inside_stmt lim (ask es) h k = inside_exprs lim es h
-  inside_stmt lim (turnoff r) h k = tt
-  inside_stmt lim nothing h k = tt
-  inside_stmt lim (choose r arms) h k = (k.0, inside_arms lim arms h k.1)
+  mutual
+    inside_stmt : (spaces : Spaces) (s : Setting) (x : typed.Statement) → IsRatedStatement s x → EachInStatement (IsCounted counts) x
+        → InsideStmt (at_rate counts) (core_stmt spaces x)
+    inside_stmt spaces s (typed.set line r v e) rated h = (inside_var v h.0, inside_expr e h.1)
+    inside_stmt spaces s (typed.call line r vs opcode args) rated h =
+        inside_call spaces r vs opcode (row_of opcode).shape args (inside_takes opcode vs h.0 rated.results) h.0 h.1
+    inside_stmt spaces s (typed.choose line r list) rated h =
+        (λ k. stills spaces list (still_if (all_still list) r rated.0 k), inside_arms spaces s list rated.1 h)
 
-  pub inside_block : (lim : Rate → ℕ) (b : Block) → ((r : Rate) → block_limit r b ≤ lim r) → SoundBlock b → InsideBlock lim b
-  inside_block lim no_stmt h k = tt
-  inside_block lim (andthen s b) h k =
-      (inside_stmt lim s (λ q. let m = h q in omega arith) k.0, inside_block lim b (λ q. let m = h q in omega arith) k.1)
+    pub rated_inside : (spaces : Spaces) (s : Setting) (b : typed.Block) → IsRatedBlock s b → EachInBlock (IsCounted counts) b
+        → InsideBlock (at_rate counts) (core spaces b)
+    rated_inside spaces s typed.no_stmt rated h = tt
+    rated_inside spaces s (typed.andthen x rest) rated h =
+        (inside_stmt spaces s x rated.0 h.0, rated_inside spaces s rest rated.1 h.1)
 
-  inside_arms : (lim : Rate → ℕ) (arms : Arms) → ((r : Rate) → arms_limit r arms ≤ lim r) → SoundArms arms → InsideArms lim arms
-  inside_arms lim (otherwise b) h k = inside_block lim b h k
-  inside_arms lim (arm c b rest) h k = (
-    inside_expr lim c (λ q. let m = h q in omega arith),
-    inside_block lim b (λ q. let m = h q in omega arith) k.0,
-    inside_arms lim rest (λ q. let m = h q in omega arith) k.1,
-  )
+    inside_arms : (spaces : Spaces) (s : Setting) (list : typed.Arms) → IsRatedArms s list → EachInArms (IsCounted counts) list
+        → InsideArms (at_rate counts) (core_arms spaces list)
+    inside_arms spaces s (typed.otherwise b) rated h = rated_inside spaces s b rated h
+    inside_arms spaces s (typed.arm c b rest) rated h =
+        (inside_expr c h.0, rated_inside spaces s b rated.3 h.1, inside_arms spaces s rest rated.4 h.2)
 
--- a well rated block stays within its limits
-pub rated_inside : (spaces : Spaces) (s : Setting) (b : typed.Block) → IsRatedBlock s b → InsideBlock (λ r. block_limit r (core spaces b)) (core spaces b)
-rated_inside spaces s b h = inside_block (λ r. block_limit r (core spaces b)) (core spaces b) (λ r. omega arith) (sound_block spaces s b h)
-
--- its frame has room for it
-pub frame_fits : (b : Block) → Fits (frame_for b) (λ r. block_limit r b) (parts_of b)
-frame_fits b = record { locals = room; below = omega arith; room = omega arith }
+-- the frame of a block has room for it
+pub frame_fits : (counts : PerRate ℕ) (b : Block) → Fits (frame_for counts b) (at_rate counts) (parts_of b)
+frame_fits counts b = record { locals = room; below = omega arith; room = omega arith }
   where
-    room : (r : Rate) → block_limit r b ≤ (frame_for b).base r
+    room : (r : Rate) → at_rate counts r ≤ (frame_for counts b).base r
     room rate.Init = omega arith
     room rate.Control = omega arith
     room rate.Audio = omega arith

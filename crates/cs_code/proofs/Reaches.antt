@@ -1,7 +1,8 @@
 -- What a unit may touch, by what is known of its arguments.
 use Rattle.std.proofs.Common.{◌≡◌, ◌∷◌, ℕ, ℤ, Bool, List, [], cond, refl, sym, ap}
 use Rattle.cs_base.specs.declared.resource.Rate.{Rate}
-use Rattle.cs_ir.specs.Resources.{Spaces, places_of}
+use Rattle.cs_base.specs.declared.spaces.Spaces.{Spaces}
+use Rattle.cs_ir.specs.Resources.{places_of}
 use Rattle.cs_ir.specs.declared.op.Reach.TheVariants as reach
 use Rattle.cs_meaning.specs.Core.{table_reach, place_reach, span_reach, reach_of}
 use Rattle.cs_typed.specs.TypedTree.{Expression, number, var, field, head, neg, pair, pick, apply}

@@ -147,10 +147,6 @@ module _ (end : ℕ) where
   unless_fine place (Some q) ops h = tt
   unless_fine place None ops h = h
 
-  -- one op more that goes nowhere else
-  last_fine : (place : ℕ) (op : Op) → takes_from op.act op.into.rate op.from ≡ true → Lands end place op.act → Fine end place (op ∷ [])
-  last_fine place op h l = (h, l, tt)
-
   own_fine : (f : Frame) (whole : Bool) (e : Expression) (at i d place : ℕ) → Ranked e → Fine end place (own f whole at e (reg (node_rate e) i) d)
   own_fine f whole (number r n) at i d place h = (refl, tt, tt)
   own_fine f whole (var r (Local q n)) at i d place h = (ap (λ y. within y r) h ∙ within_self r, tt, tt)

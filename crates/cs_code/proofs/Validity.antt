@@ -1,7 +1,7 @@
 -- The codes of a well rated block are valid, and name what there is.
 use Rattle.std.proofs.Common.{◌≡◌, ◌≤◌, true, List, length, arith}
 use Rattle.cs_base.specs.declared.resource.Rate.{Rate}
-use Rattle.cs_ir.specs.Resources.{Spaces}
+use Rattle.cs_base.specs.declared.spaces.Spaces.{Spaces}
 use Rattle.cs_ir.specs.Validity.{count_of, fine_from}
 use Rattle.cs_ir.specs.declared.op.Op.{Op}
 use Rattle.cs_ir.specs.declared.register.Counts.{Counts}

@@ -1,3 +1,4 @@
+pub mod Examples
 pub mod Lowered
 pub mod Means
 pub mod Names

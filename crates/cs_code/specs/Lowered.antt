@@ -4,7 +4,8 @@ use Rattle.std.specs.List.{AllZip, flat_map}
 use Rattle.std.specs.List.Sorted.{IsPermutation, IsStrictlyIncreasing}
 use Rattle.cs_ir.specs.Cycles.{are_of_cycle}
 use Rattle.cs_ir.specs.Instruments.{Numbered, numbers_of}
-use Rattle.cs_ir.specs.Resources.{Spaces, Stock, ops_use, ops_write}
+use Rattle.cs_base.specs.declared.spaces.Spaces.{Spaces}
+use Rattle.cs_ir.specs.Resources.{Stock, ops_use, ops_write}
 use Rattle.cs_ir.specs.Validity.{valid}
 use Rattle.cs_ir.specs.declared.op.Code.{Code}
 use Rattle.cs_meaning.specs.Beginning.{block_begins, block_begin_writes}
@@ -14,7 +15,7 @@ use Rattle.cs_typed.specs.TypedTree as typed
 use Rattle.cs_code.specs.Means.{Means}
 use Rattle.cs_code.specs.Names.{block_units, AllNamed}
 
--- The two codes of a block, in a piece with such zak spaces and so many channels: they mean its statements, can be run on the
+-- The two codes of a block, in a piece with these zak spaces and this number of channels: they mean its statements, can be run on the
 -- same registers and units, name what there is, and use and may write exactly what the statements do: the initialisation what they
 -- do as the note begins, and the performance what they do in a cycle, which starts no unit and asks for no note.
 pub record IsCodeOf (spaces : Spaces) (channels : ℕ) (body : typed.Block) (init perf : Code) : Type 0 where
@@ -30,10 +31,6 @@ pub record IsCodeOf (spaces : Spaces) (channels : ℕ) (body : typed.Block) (ini
   pub begins : (stock : Stock) → ops_use stock init.ops.items ≡ block_begins stock (core spaces body)
   pub begin_writes : (stock : Stock) → ops_write stock init.ops.items ≡ block_begin_writes stock (core spaces body)
   pub perf_cycle : are_of_cycle perf.ops.items ≡ true
-
--- the zak spaces of a piece
-abbrev pub spaces_in : typed.Orchestra → Spaces
-spaces_in o = record { control = o.zak_k; audio = o.zak_a }
 
 -- the numbers of all instruments, and the body of each, in the order of the text
 abbrev pub all_numbers : List typed.Instrument → List ℕ
@@ -52,6 +49,6 @@ IsNumberedCode spaces channels p i = (i.number ≡ p.0) × IsCodeOf spaces chann
 -- The instruments of an orchestra, by ascending number: for each number in the text one, with codes of its body.
 pub record AreInstrumentsOf (o : typed.Orchestra) (l : List Numbered) : Type 0 where
   pub in_text : List Numbered
-  pub each : AllZip (IsNumberedCode (spaces_in o) o.head.nchnls) (bodies o.instrs) in_text
+  pub each : AllZip (IsNumberedCode o.spaces o.head.nchnls) (bodies o.instrs) in_text
   pub same : IsPermutation in_text l
   pub ascending : IsStrictlyIncreasing (numbers_of l)

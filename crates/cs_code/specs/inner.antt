@@ -1,8 +1,8 @@
 -- What only clauses of private functions cite: the code that is made, as functions of the tree.
 pub mod Branches
-pub mod Census
 pub mod Code
 pub mod Counted
 pub mod Emitted
 pub mod Frames
 pub mod Limits
+pub mod Rated

@@ -1,15 +1,15 @@
-// The code of a call's arguments. Which of them are settled as the note begins the letters of the
-// catalogue say.
-ghost use Rattle.std.specs.Prelude.{◌≡◌, ◌+◌, ◌++◌, [], length, IfOk, OnOk};
+// The code of a call's arguments. The catalogue's letters say which arguments are fixed at note start.
+ghost use Rattle.std.specs.Prelude.{◌≡◌, ◌+◌, ◌++◌, length, IfOk, OnOk};
 ghost use Rattle.cs_meaning.specs.Notes.{past_all};
 ghost use Rattle.cs_typed.specs.TypedTree.{argument};
 ghost use Rattle.cs_words.specs.Catalogue.{row_of, letter_at};
 ghost use Rattle.cs_code.specs.inner.Code.{operands_code, keep_all_code};
-ghost use Rattle.cs_code.specs.inner.Emitted.{frame_of, is_picked, picked, taken, picks_of};
+ghost use Rattle.cs_code.specs.inner.Emitted.{frame_of, is_picked, picked, taken, picks_of, is_whole};
 ghost use Rattle.cs_code.specs.inner.Frames.{spots};
+ghost use Rattle.cs_code.specs.declared.frame.Pass.TheVariants as pass;
 
 use crate::expr::{keep, operand};
-use crate::frame::{Bases, add};
+use crate::frame::{Context, add};
 use cs_base::{OutOfMemory, Rate};
 use cs_ir::{Op, Reg};
 use cs_typed::{TypedArg, Var};
@@ -72,20 +72,19 @@ pub fn picks(which: Which, opcode: Opcode, place: usize) -> bool
 pub fn operands(
     alloc: Global,
     ops: &mut Vec<Op>,
-    bases: Bases,
-    whole: bool,
+    context: Context,
     at: usize,
     which: Which,
     call: &Call<'_>,
 ) -> Result<Gathered, OutOfMemory>
     ensures ops { OnOk result (ops.new.items ≡ ops.old.items
-        ++ operands_code (frame_of bases) whole at (picks_of which call.now) 0) }
+        ++ operands_code (frame_of context.bases) (is_whole context.pass) at (picks_of which call.now) 0) }
     ensures regs { IfOk result (λ g. g.regs.items
-        ≡ spots (frame_of bases) whole at (picks_of which call.now) 0) }
+        ≡ spots (frame_of context.bases) (is_whole context.pass) at (picks_of which call.now) 0) }
     ensures next { IfOk result (λ g. g.next ≡ past_all at (picks_of which call.now)) }
 {
     let mut regs = Vec::new(alloc);
-    let next = gather(ops, &mut regs, bases, whole, at, which, call)?;
+    let next = gather(ops, &mut regs, context, at, which, call)?;
     Ok(Gathered { regs, next })
 }
 
@@ -93,23 +92,22 @@ pub fn operands(
 fn gather(
     ops: &mut Vec<Op>,
     regs: &mut Vec<Reg>,
-    bases: Bases,
-    whole: bool,
+    context: Context,
     at: usize,
     which: Which,
     call: &Call<'_>,
 ) -> Result<usize, OutOfMemory>
     ensures ops { OnOk result (ops.new.items ≡ ops.old.items
-        ++ operands_code (frame_of bases) whole at (picks_of which call.now) 0) }
+        ++ operands_code (frame_of context.bases) (is_whole context.pass) at (picks_of which call.now) 0) }
     ensures regs { OnOk result (regs.new.items ≡ regs.old.items
-        ++ spots (frame_of bases) whole at (picks_of which call.now) 0) }
+        ++ spots (frame_of context.bases) (is_whole context.pass) at (picks_of which call.now) 0) }
     ensures next { IfOk result (λ n. n ≡ past_all at (picks_of which call.now)) }
 {
     let mut free = Free { next: at, d: 0 };
     let mut place = 0;
     for arg in call.args {
         let take = picks(which, call.opcode, place);
-        free = one_operand(ops, regs, bases, whole, free, take, arg)?;
+        free = one_operand(ops, regs, context, free, take, arg)?;
         place = add(place, 1)?;
     }
     Ok(free.next)
@@ -120,23 +118,24 @@ fn gather(
 fn one_operand(
     ops: &mut Vec<Op>,
     regs: &mut Vec<Reg>,
-    bases: Bases,
-    whole: bool,
+    context: Context,
     free: Free,
     take: bool,
     arg: &TypedArg,
 ) -> Result<Free, OutOfMemory>
     ensures ops { OnOk result (ops.new.items ≡ ops.old.items
-        ++ operands_code (frame_of bases) whole free.next (taken take (argument arg.now)) free.d) }
+        ++ operands_code (frame_of context.bases) (is_whole context.pass) free.next
+        (taken take (argument arg.now)) free.d) }
     ensures regs { OnOk result (regs.new.items ≡ regs.old.items
-        ++ spots (frame_of bases) whole free.next (taken take (argument arg.now)) free.d) }
+        ++ spots (frame_of context.bases) (is_whole context.pass) free.next
+        (taken take (argument arg.now)) free.d) }
     ensures next { IfOk result (λ r. r.next ≡ past_all free.next (taken take (argument arg.now))) }
     ensures d { IfOk result (λ r. r.d ≡ free.d + length (taken take (argument arg.now))) }
 {
     match arg {
         TypedArg::Value(e) => {
             if take {
-                let spot = operand(ops, bases, whole, free.next, e, free.d)?;
+                let spot = operand(ops, context, free.next, e, free.d)?;
                 regs.push(spot.reg)?;
                 Ok(Free {
                     next: spot.next,
@@ -150,23 +149,23 @@ fn one_operand(
     }
 }
 
-/// The parts that are kept of the arguments that are picked; answers the number of the next kept
-/// value.
+/// The parts that are kept of the arguments that are picked. Returns the number of the next kept value.
 pub fn keep_all(
     ops: &mut Vec<Op>,
-    bases: Bases,
+    context: Context,
     at: usize,
     which: Which,
     call: &Call<'_>,
 ) -> Result<usize, OutOfMemory>
+    requires { context.pass ≡ pass.Initialisation }
     ensures ops { OnOk result (ops.new.items ≡ ops.old.items
-        ++ keep_all_code (frame_of bases) at (picks_of which call.now)) }
+        ++ keep_all_code (frame_of context.bases) at (picks_of which call.now)) }
     ensures next { IfOk result (λ n. n ≡ past_all at (picks_of which call.now)) }
 {
     let mut next = at;
     let mut place = 0;
     for arg in call.args {
-        next = keep_one(ops, bases, next, picks(which, call.opcode, place), arg)?;
+        next = keep_one(ops, context, next, picks(which, call.opcode, place), arg)?;
         place = add(place, 1)?;
     }
     Ok(next)
@@ -175,19 +174,20 @@ pub fn keep_all(
 #[tactic(auto, using(crate::proofs::Lists::append_nothing))]
 fn keep_one(
     ops: &mut Vec<Op>,
-    bases: Bases,
+    context: Context,
     at: usize,
     take: bool,
     arg: &TypedArg,
 ) -> Result<usize, OutOfMemory>
+    requires { context.pass ≡ pass.Initialisation }
     ensures ops { OnOk result (ops.new.items ≡ ops.old.items
-        ++ keep_all_code (frame_of bases) at (taken take (argument arg.now))) }
+        ++ keep_all_code (frame_of context.bases) at (taken take (argument arg.now))) }
     ensures next { IfOk result (λ n. n ≡ past_all at (taken take (argument arg.now))) }
 {
     match arg {
         TypedArg::Value(e) => {
             if take {
-                keep(ops, bases, at, e)
+                keep(ops, context, at, e)
             } else {
                 Ok(at)
             }

@@ -3,51 +3,29 @@ ghost use Rattle.std.specs.Prelude.{◌≡◌, max, IfOk};
 ghost use Rattle.cs_meaning.specs.Core.{core};
 ghost use Rattle.cs_meaning.specs.Notes.{start, past_block};
 ghost use Rattle.cs_typed.specs.TypedTree as typed;
-ghost use Rattle.cs_code.specs.inner.Census.{Roomy, first_bases};
 ghost use Rattle.cs_code.specs.inner.Code.{init_block_code, perf_block_code};
 ghost use Rattle.cs_code.specs.inner.Counted.{reached, no_registers};
-ghost use Rattle.cs_code.specs.inner.Emitted.{frame_of, spaces_of};
+ghost use Rattle.cs_code.specs.inner.Frames.{frame_for};
 ghost use Rattle.cs_code.specs.inner.Limits.{ops_limit};
 
-use crate::census::{Limits, with_block};
 use crate::counts::with_ops;
-use crate::frame::{Bases, Layout, Pass, Step, Zak, add};
+use crate::frame::{Bases, Context, Pass, Step, add};
 use crate::stmt::body_of;
-use cs_base::OutOfMemory;
+use cs_base::{OutOfMemory, PerRate, Spaces};
 use cs_ir::{Counts, Op};
 use cs_typed::TypedStmt;
 use std::alloc::Global;
 
-/// The two codes of a block, and the frame that they are made for.
+/// The two codes of a block, over the same registers and units.
 #[derive(Drop)]
 pub struct Codes {
     pub init: Vec<Op>,
     pub perf: Vec<Op>,
-    pub bases: Bases,
     pub counts: Counts,
 }
 
 /// Where a block begins.
 const START: Step = Step { part: 0, unit: 0 };
-
-// Where the temporaries of a block's performance begin: after its local variables. It has none of
-// rate Init, which begin after the kept values that it counts.
-fn bases_of(stmts: &[TypedStmt]) -> Result<Bases, OutOfMemory>
-    ensures { IfOk result (λ b. b ≡ first_bases (typed.block stmts.now)) }
-{
-    let none = Limits {
-        init: 0,
-        control: 0,
-        audio: 0,
-    };
-    let limits = with_block(none, stmts)?;
-    Ok(Bases {
-        kept: limits.init,
-        init: 0,
-        control: limits.control,
-        audio: limits.audio,
-    })
-}
 
 // The counts of two codes.
 #[tactic(auto, using(crate::proofs::Reached::reached_two))]
@@ -65,35 +43,49 @@ fn counts_of(units: usize, init: &[Op], perf: &[Op]) -> Result<Counts, OutOfMemo
     with_ops(counts, perf)
 }
 
-/// The two codes of a block.
-pub fn codes_of(alloc: Global, zak: Zak, stmts: &[TypedStmt]) -> Result<Codes, OutOfMemory>
-    ensures room { IfOk result (λ c. Roomy (frame_of c.bases) (core (spaces_of zak)
-        (typed.block stmts.now))) }
-    ensures init { IfOk result (λ c. c.init.items
-        ≡ init_block_code (frame_of c.bases) 0 start (core (spaces_of zak)
-        (typed.block stmts.now))) }
-    ensures perf { IfOk result (λ c. c.perf.items
-        ≡ perf_block_code (frame_of c.bases) 0 start (core (spaces_of zak)
-        (typed.block stmts.now))) }
+/// The two codes of a block with these local variables. The performance is made first: it keeps no temporary of rate
+/// Init, and counts the kept values, after which those of the initialisation begin.
+pub fn codes_of(
+    alloc: Global,
+    spaces: Spaces,
+    locals: PerRate<usize>,
+    stmts: &[TypedStmt],
+) -> Result<Codes, OutOfMemory>
+    ensures init { let body = core spaces (typed.block stmts.now) in
+        IfOk result (λ c. c.init.items ≡ init_block_code (frame_for locals body) 0 start body) }
+    ensures perf { let body = core spaces (typed.block stmts.now) in
+        IfOk result (λ c. c.perf.items ≡ perf_block_code (frame_for locals body) 0 start body) }
     ensures counts { IfOk result (λ c. c.counts
-        ≡ reached (no_registers (past_block start (core (spaces_of zak)
+        ≡ reached (no_registers (past_block start (core spaces
         (typed.block stmts.now))).unit)
         (λ r. max (ops_limit r c.init.items) (ops_limit r c.perf.items))) }
 {
-    let first = bases_of(stmts)?;
-    let layout = Layout { bases: first, zak };
-    let perf = body_of(alloc, layout, Pass::Performance, START, stmts)?;
+    let kept = locals.init;
     let bases = Bases {
-        init: add(first.kept, perf.next.part)?,
-        ..first
+        kept,
+        temporaries: locals,
     };
-    let layout = Layout { bases, zak };
-    let init = body_of(alloc, layout, Pass::Initialisation, START, stmts)?;
+    let context = Context {
+        pass: Pass::Performance,
+        bases,
+        spaces,
+    };
+    let perf = body_of(alloc, context, START, stmts)?;
+    let init = add(kept, perf.next.part)?;
+    let bases = Bases {
+        kept,
+        temporaries: PerRate { init, ..locals },
+    };
+    let context = Context {
+        pass: Pass::Initialisation,
+        bases,
+        spaces,
+    };
+    let init = body_of(alloc, context, START, stmts)?;
     let counts = counts_of(init.next.unit, &init.ops, &perf.ops)?;
     Ok(Codes {
         init: init.ops,
         perf: perf.ops,
-        bases,
         counts,
     })
 }

@@ -60,7 +60,7 @@ fn with_op(counts: Counts, op: &Op) -> Result<Counts, OutOfMemory>
     with_regs(counts, op.from.as_slice())
 }
 
-/// Counts that reach all that some ops name besides what they reach already.
+/// Raises `counts` to cover every register that `ops` name.
 pub fn with_ops(counts: Counts, ops: &[Op]) -> Result<Counts, OutOfMemory>
     ensures { IfOk result (λ m. m ≡ reached counts (λ r. ops_limit r ops.now)) }
 {

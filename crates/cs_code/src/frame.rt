@@ -1,35 +1,21 @@
 // Where a note's values stand among the registers, and the ops that are appended.
-ghost use Rattle.std.specs.Prelude.{◌≡◌, ◌+◌, ◌++◌, [], ◌∷◌, IfOk, OnOk, Some};
+ghost use Rattle.std.specs.Prelude.{◌≡◌, ◌+◌, ◌++◌, [], ◌∷◌, not, IfOk, OnOk, Some};
 ghost use Rattle.cs_ir.specs.Waves.{if_init};
 ghost use Rattle.cs_meaning.specs.Notes.{reg};
-ghost use Rattle.cs_code.specs.inner.Emitted.{frame_of, base_of};
+ghost use Rattle.cs_code.specs.inner.Emitted.{frame_of, is_whole};
 ghost use Rattle.cs_code.specs.inner.Frames.{op_of, kept_reg, temp};
 
-use cs_base::{OutOfMemory, Rate};
+use cs_base::{OutOfMemory, PerRate, Rate, Spaces};
 use cs_ir::{Act, Op, Operands, Reg};
 
-/// For each rate the number of the first register that is free for what is worked out in between, and the register of the
-/// first kept value.
+/// Where values stand among the registers: local variables from 0 on, then, at rate Init, the kept values, then
+/// temporaries.
 #[derive(Clone, Copy)]
 pub struct Bases {
+    /// The register of the first kept value.
     pub kept: usize,
-    pub init: usize,
-    pub control: usize,
-    pub audio: usize,
-}
-
-/// The numbers of places of the two zak spaces.
-#[derive(Clone, Copy)]
-pub struct Zak {
-    pub control: usize,
-    pub audio: usize,
-}
-
-/// What code is made for.
-#[derive(Clone, Copy)]
-pub struct Layout {
-    pub bases: Bases,
-    pub zak: Zak,
+    /// The first temporary of each rate.
+    pub temporaries: PerRate<usize>,
 }
 
 /// Which of a note's two codes is made.
@@ -37,6 +23,14 @@ pub struct Layout {
 pub enum Pass {
     Initialisation,
     Performance,
+}
+
+/// What code is made for: one of a note's two codes, where its values stand, and the zak spaces of the piece.
+#[derive(Clone, Copy)]
+pub struct Context {
+    pub pass: Pass,
+    pub bases: Bases,
+    pub spaces: Spaces,
 }
 
 /// How many values were kept and units met in the text before a place.
@@ -53,13 +47,24 @@ pub struct Spot {
     pub next: usize,
 }
 
-/// A sum; no code is as long as one that doesn't fit.
+/// `a + b`. One that doesn't fit is reported as out of memory, since no code of that length fits in memory.
 pub fn add(a: usize, b: usize) -> Result<usize, OutOfMemory>
     ensures { IfOk result (λ n. n ≡ a + b) }
 {
     match a.checked_add(b) {
         Some(sum) => Ok(sum),
         None => Err(OutOfMemory),
+    }
+}
+
+impl Pass {
+    pub fn is_performance(self) -> bool
+        ensures { result ≡ not (is_whole self) }
+    {
+        match self {
+            Pass::Initialisation => false,
+            Pass::Performance => true,
+        }
     }
 }
 
@@ -73,24 +78,14 @@ pub fn kept_reg(bases: Bases, at: usize) -> Result<Reg, OutOfMemory>
     })
 }
 
-/// A register for what is worked out in between.
+/// Temporary number `d` of a rate.
 pub fn temp(bases: Bases, rate: Rate, d: usize) -> Result<Reg, OutOfMemory>
     ensures { IfOk result (λ q. q ≡ temp (frame_of bases) rate d) }
 {
     Ok(Reg {
         rate,
-        index: add(base_of(bases, rate), d)?,
+        index: add(bases.temporaries.of(rate), d)?,
     })
-}
-
-fn base_of(bases: Bases, rate: Rate) -> usize
-    ensures { result ≡ base_of bases rate }
-{
-    match rate {
-        Rate::Init => bases.init,
-        Rate::Control => bases.control,
-        Rate::Audio => bases.audio,
-    }
 }
 
 /// The number of the next kept value: one more at rate Init, else what its parts leave.

@@ -9,7 +9,7 @@ ghost use Rattle.cs_code.specs.inner.Emitted.{frame_of, place_of, value_of, pick
 
 use crate::args::{Call, Which, keep_all, operands};
 use crate::expr::{keep_value, set};
-use crate::frame::{Bases, Step, add, push};
+use crate::frame::{Context, Pass, Step, add, push};
 use crate::unit::{Run, run_unit, start_unit};
 use crate::value::Value;
 use cs_base::{OutOfMemory, Rate};
@@ -20,24 +20,28 @@ use std::alloc::Global;
 /// A variable takes a value once, or what is kept of the value.
 pub fn assign(
     ops: &mut Vec<Op>,
-    bases: Bases,
+    context: Context,
     p: Step,
     done: Rate,
     to: Var,
     value: &Value<'_>,
 ) -> Result<Step, OutOfMemory>
     ensures ops { OnOk result (ops.new.items ≡ ops.old.items
-        ++ init_code (frame_of bases) 0 (place_of p) (set done to (value_of value.now))) }
+        ++ init_code (frame_of context.bases) 0 (place_of p) (set done to (value_of value.now))) }
     ensures next { IfOk result (λ q. place_of q
         ≡ past_stmt (place_of p) (set done to (value_of value.now))) }
 {
+    let context = Context {
+        pass: Pass::Initialisation,
+        ..context
+    };
     match done {
         Rate::Init => {
-            set(ops, bases, true, 0, to, value)?;
+            set(ops, context, 0, to, value)?;
             Ok(p)
         }
         Rate::Control | Rate::Audio => Ok(Step {
-            part: keep_value(ops, bases, p.part, value)?,
+            part: keep_value(ops, context, p.part, value)?,
             unit: p.unit,
         }),
     }
@@ -47,44 +51,57 @@ pub fn assign(
 pub fn unit(
     alloc: Global,
     ops: &mut Vec<Op>,
-    bases: Bases,
+    context: Context,
     p: Step,
     run: Run,
     call: &Call<'_>,
 ) -> Result<Step, OutOfMemory>
     requires { run.unit ≡ p.unit }
     ensures ops { OnOk result (ops.new.items ≡ ops.old.items
-        ++ init_code (frame_of bases) 0 (place_of p) (unit call.now.rate call.now.results.now
+        ++ init_code (frame_of context.bases) 0 (place_of p) (unit call.now.rate call.now.results.now
         call.now.opcode run.reach
         (picks_of which.Moving call.now) (picks_of which.Settled call.now))) }
     ensures next { IfOk result (λ q. place_of q
         ≡ past_stmt (place_of p) (unit call.now.rate call.now.results.now call.now.opcode run.reach
         (picks_of which.Moving call.now) (picks_of which.Settled call.now))) }
 {
+    let context = Context {
+        pass: Pass::Initialisation,
+        ..context
+    };
     let unit = add(p.unit, 1)?;
     match call.rate {
         Rate::Init => {
-            start_unit(alloc, ops, bases, run.unit, call)?;
-            run_unit(alloc, ops, bases, true, 0, run, call)?;
+            start_unit(alloc, ops, context, run.unit, call)?;
+            run_unit(alloc, ops, context, 0, run, call)?;
             Ok(Step { part: p.part, unit })
         }
         Rate::Control | Rate::Audio => {
-            let part = keep_all(ops, bases, p.part, Which::Moving, call)?;
-            start_unit(alloc, ops, bases, run.unit, call)?;
+            let part = keep_all(ops, context, p.part, Which::Moving, call)?;
+            start_unit(alloc, ops, context, run.unit, call)?;
             Ok(Step { part, unit })
         }
     }
 }
 
 /// What is kept of values that go out.
-pub fn out(ops: &mut Vec<Op>, bases: Bases, p: Step, call: &Call<'_>) -> Result<Step, OutOfMemory>
+pub fn out(
+    ops: &mut Vec<Op>,
+    context: Context,
+    p: Step,
+    call: &Call<'_>,
+) -> Result<Step, OutOfMemory>
     ensures ops { OnOk result (ops.new.items ≡ ops.old.items
-        ++ keep_all_code (frame_of bases) p.part (picks_of which.All call.now)) }
+        ++ keep_all_code (frame_of context.bases) p.part (picks_of which.All call.now)) }
     ensures part { IfOk result (λ q. q.part ≡ past_all p.part (picks_of which.All call.now)) }
     ensures unit { IfOk result (λ q. q.unit ≡ p.unit) }
 {
+    let context = Context {
+        pass: Pass::Initialisation,
+        ..context
+    };
     Ok(Step {
-        part: keep_all(ops, bases, p.part, Which::All, call)?,
+        part: keep_all(ops, context, p.part, Which::All, call)?,
         unit: p.unit,
     })
 }
@@ -93,13 +110,17 @@ pub fn out(ops: &mut Vec<Op>, bases: Bases, p: Step, call: &Call<'_>) -> Result<
 pub fn ask(
     alloc: Global,
     ops: &mut Vec<Op>,
-    bases: Bases,
+    context: Context,
     call: &Call<'_>,
 ) -> Result<(), OutOfMemory>
     ensures { OnOk result (ops.new.items ≡ ops.old.items
-        ++ init_code (frame_of bases) 0 start (ask (picks_of which.All call.now))) }
+        ++ init_code (frame_of context.bases) 0 start (ask (picks_of which.All call.now))) }
 {
-    let found = operands(alloc, ops, bases, true, 0, Which::All, call)?;
+    let context = Context {
+        pass: Pass::Initialisation,
+        ..context
+    };
+    let found = operands(alloc, ops, context, 0, Which::All, call)?;
     let into = Reg {
         rate: Rate::Init,
         index: 0,

@@ -1,25 +1,26 @@
-//! The code of notes: from the typed tree two flat codes for each instrument, one that a note runs as it begins and one for
-//! each control cycle.
+//! The code of notes: from the typed tree two flat codes for each instrument, one that a note runs as it begins and
+//! one for each control cycle.
 //!
-//! Its one contract is `lower`'s: for each number in the text one instrument, whose codes mean the tree (specs/Means.antt) in
-//! every piece, use and write what it does, and are valid (specs/Lowered.antt). Which ops are made is the crate's own
-//! (specs/inner/Code.antt) and may be changed without anyone above noticing.
+//! Its one contract is `lower`'s: for each number in the text one instrument, whose codes mean the tree
+//! (specs/Means.antt) in every piece, use and write what it does, and are valid (specs/Lowered.antt). Which ops are
+//! made is the crate's own (specs/inner/Code.antt) and may be changed without anyone above noticing.
 //!
-//! To be read in this order: `frame` (where values stand among the registers), `value` and `expr` (expressions), `args`,
-//! `reach` and `unit` (calls of units), `init` and `perf` (simple statements in either pass), `call` (what a call is short
-//! for), `jumps` (jumps that are aimed once their end is known), `stmt` (statements, blocks, arms), `census` (local variables), `counts`
-//! (registers in use), `codes` (both codes of a block), `orchestra` (`lower`: codes checked, and instruments by number).
+//! To be read in this order: `frame` (where values stand among the registers), `value` and `expr` (expressions),
+//! `args`, `reach` and `unit` (calls of units), `init` and `perf` (simple statements in either pass), `call` (what a
+//! call is short for), `jumps` (jumps that are aimed once their end is known), `stmt` (statements, blocks, arms),
+//! `counts` (registers in use), `codes` (both codes of a block), `orchestra` (`lower`: valid codes, and instruments by
+//! number), `laws` (codes worked by hand).
 #![tactic(auto)]
 
 mod args;
 mod call;
-mod census;
 mod codes;
 mod counts;
 mod expr;
 mod frame;
 mod init;
 mod jumps;
+mod laws;
 mod orchestra;
 mod perf;
 mod reach;
@@ -27,4 +28,5 @@ mod stmt;
 mod unit;
 mod value;
 
+pub use laws::codes_worked_by_hand;
 pub use orchestra::{Lowered, lower};

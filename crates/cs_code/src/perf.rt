@@ -11,7 +11,7 @@ ghost use Rattle.cs_code.specs.inner.Frames.{op_of};
 
 use crate::args::{Call, Which, operands};
 use crate::expr::set;
-use crate::frame::{Bases, Step, add, push};
+use crate::frame::{Context, Pass, Step, add, push};
 use crate::unit::{Run, run_unit};
 use crate::value::Value;
 use cs_base::{OutOfMemory, Rate};
@@ -22,21 +22,25 @@ use std::alloc::Global;
 /// A variable takes a value in each cycle.
 pub fn assign(
     ops: &mut Vec<Op>,
-    bases: Bases,
+    context: Context,
     p: Step,
     done: Rate,
     to: Var,
     value: &Value<'_>,
 ) -> Result<Step, OutOfMemory>
     ensures ops { OnOk result (ops.new.items ≡ ops.old.items
-        ++ perf_code (frame_of bases) 0 (place_of p) (set done to (value_of value.now))) }
+        ++ perf_code (frame_of context.bases) 0 (place_of p) (set done to (value_of value.now))) }
     ensures next { IfOk result (λ q. place_of q
         ≡ past_stmt (place_of p) (set done to (value_of value.now))) }
 {
+    let context = Context {
+        pass: Pass::Performance,
+        ..context
+    };
     match done {
         Rate::Init => Ok(p),
         Rate::Control | Rate::Audio => Ok(Step {
-            part: set(ops, bases, false, p.part, to, value)?,
+            part: set(ops, context, p.part, to, value)?,
             unit: p.unit,
         }),
     }
@@ -46,25 +50,29 @@ pub fn assign(
 pub fn unit(
     alloc: Global,
     ops: &mut Vec<Op>,
-    bases: Bases,
+    context: Context,
     p: Step,
     run: Run,
     call: &Call<'_>,
 ) -> Result<Step, OutOfMemory>
     requires { run.unit ≡ p.unit }
     ensures ops { OnOk result (ops.new.items ≡ ops.old.items
-        ++ perf_code (frame_of bases) 0 (place_of p) (unit call.now.rate call.now.results.now
+        ++ perf_code (frame_of context.bases) 0 (place_of p) (unit call.now.rate call.now.results.now
         call.now.opcode run.reach
         (picks_of which.Moving call.now) [])) }
     ensures next { IfOk result (λ q. place_of q
         ≡ past_stmt (place_of p) (unit call.now.rate call.now.results.now call.now.opcode run.reach
         (picks_of which.Moving call.now) [])) }
 {
+    let context = Context {
+        pass: Pass::Performance,
+        ..context
+    };
     let unit = add(p.unit, 1)?;
     match call.rate {
         Rate::Init => Ok(Step { part: p.part, unit }),
         Rate::Control | Rate::Audio => {
-            let part = run_unit(alloc, ops, bases, false, p.part, run, call)?;
+            let part = run_unit(alloc, ops, context, p.part, run, call)?;
             Ok(Step { part, unit })
         }
     }
@@ -103,17 +111,21 @@ fn out_at_ops(ops: &mut Vec<Op>, regs: &[Reg]) -> Result<(), OutOfMemory>
 pub fn out(
     alloc: Global,
     ops: &mut Vec<Op>,
-    bases: Bases,
+    context: Context,
     p: Step,
     call: &Call<'_>,
 ) -> Result<Step, OutOfMemory>
     ensures ops { OnOk result (ops.new.items ≡ ops.old.items
-        ++ perf_code (frame_of bases) 0 (place_of p) (out rate.Audio (picks_of which.All
+        ++ perf_code (frame_of context.bases) 0 (place_of p) (out rate.Audio (picks_of which.All
         call.now))) }
     ensures next { IfOk result (λ q. place_of q
         ≡ past_stmt (place_of p) (out rate.Audio (picks_of which.All call.now))) }
 {
-    let found = operands(alloc, ops, bases, false, p.part, Which::All, call)?;
+    let context = Context {
+        pass: Pass::Performance,
+        ..context
+    };
+    let found = operands(alloc, ops, context, p.part, Which::All, call)?;
     out_ops(ops, &found.regs)?;
     Ok(Step {
         part: found.next,
@@ -125,17 +137,21 @@ pub fn out(
 pub fn out_at(
     alloc: Global,
     ops: &mut Vec<Op>,
-    bases: Bases,
+    context: Context,
     p: Step,
     call: &Call<'_>,
 ) -> Result<Step, OutOfMemory>
     ensures ops { OnOk result (ops.new.items ≡ ops.old.items
-        ++ perf_code (frame_of bases) 0 (place_of p) (out_at rate.Audio (picks_of which.All
+        ++ perf_code (frame_of context.bases) 0 (place_of p) (out_at rate.Audio (picks_of which.All
         call.now))) }
     ensures next { IfOk result (λ q. place_of q
         ≡ past_stmt (place_of p) (out_at rate.Audio (picks_of which.All call.now))) }
 {
-    let found = operands(alloc, ops, bases, false, p.part, Which::All, call)?;
+    let context = Context {
+        pass: Pass::Performance,
+        ..context
+    };
+    let found = operands(alloc, ops, context, p.part, Which::All, call)?;
     out_at_ops(ops, &found.regs)?;
     Ok(Step {
         part: found.next,

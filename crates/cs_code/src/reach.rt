@@ -1,21 +1,20 @@
 // Which tables, or which zak places, a unit may touch, by the literals among its arguments.
 ghost use Rattle.std.specs.Prelude.{◌≡◌, IfOk};
-ghost use Rattle.cs_ir.specs.Resources.{places_of, takes_table};
-ghost use Rattle.cs_meaning.specs.Core.{whole_below, reach_of};
+ghost use Rattle.cs_meaning.specs.Core.{reach_of};
 ghost use Rattle.cs_typed.specs.TypedTree.{argument, expression};
-ghost use Rattle.cs_words.specs.Catalogue.{row_of};
+ghost use Rattle.cs_words.specs.Catalogue.{row_of, takes_table};
 ghost use Rattle.cs_code.specs.declared.args.Which.TheVariants as which;
-ghost use Rattle.cs_code.specs.inner.Emitted.{spaces_of, picked, known_at, known_of, table_known};
+ghost use Rattle.cs_code.specs.inner.Emitted.{picked, known_at, known_of, table_known};
 ghost use Rattle.cs_code.specs.inner.Emitted.{place_known, span_known, reach_known, picks_of};
 ghost use Rattle.std.specs.Prelude.{if◌then◌else◌};
 ghost use Rattle.cs_ir.specs.declared.op.Reach.TheVariants as reach;
 
 use crate::args::{Call, Which, picks};
-use crate::frame::{Zak, add};
-use cs_base::{Num, OutOfMemory};
-use cs_ir::Reach;
+use crate::frame::add;
+use cs_base::{Num, OutOfMemory, Spaces};
+use cs_ir::{Reach, places_of};
 use cs_typed::{TypedArg, TypedExpr, TypedPart};
-use cs_words::{Opcode, Shape, Space, signature_of};
+use cs_words::{Opcode, Shape, signature_of};
 
 /// What is known of an argument: nothing where there is none, and of a literal the whole number
 /// below it.
@@ -28,8 +27,8 @@ pub enum Known {
 
 /// What a unit may touch.
 #[tactic(auto, using(crate::proofs::Reaches::reach_by_known))]
-pub fn reach_of(zak: Zak, call: &Call<'_>) -> Result<Reach, OutOfMemory>
-    ensures { IfOk result (λ r. r ≡ reach_of (spaces_of zak) (row_of call.now.opcode).shape
+pub fn reach_of(spaces: Spaces, call: &Call<'_>) -> Result<Reach, OutOfMemory>
+    ensures { IfOk result (λ r. r ≡ reach_of spaces (row_of call.now.opcode).shape
         (takes_table call.now.opcode)
         (picks_of which.Moving call.now)
         (picks_of which.Settled call.now)) }
@@ -37,22 +36,22 @@ pub fn reach_of(zak: Zak, call: &Call<'_>) -> Result<Reach, OutOfMemory>
     let table = known_at(Which::Settled, call, 0)?;
     let first = known_at(Which::Moving, call, 0)?;
     let second = known_at(Which::Moving, call, 1)?;
-    Ok(reach_by(zak, call.opcode, table, first, second))
+    Ok(reach_by(spaces, call.opcode, table, first, second))
 }
 
 // What a unit may touch, by what is known of its first settled argument and of its first two that
 // may move.
-fn reach_by(zak: Zak, opcode: Opcode, table: Known, first: Known, second: Known) -> Reach
-    ensures { result ≡ reach_known (spaces_of zak) (row_of opcode).shape
+fn reach_by(spaces: Spaces, opcode: Opcode, table: Known, first: Known, second: Known) -> Reach
+    ensures { result ≡ reach_known spaces (row_of opcode).shape
         (takes_table opcode) table first second }
 {
     match signature_of(opcode).shape() {
         Shape::Unit => if_table(opcode, table),
         Shape::Store => table_of(table),
-        Shape::ZakGet(space) => place_of(places_of(zak, space), first),
-        Shape::ZakPut(space) => place_of(places_of(zak, space), second),
-        Shape::ZakMix => place_of(zak.audio, second),
-        Shape::ZakClear(space) => span_of(places_of(zak, space), first, second),
+        Shape::ZakGet(space) => place_of(places_of(spaces, space), first),
+        Shape::ZakPut(space) => place_of(places_of(spaces, space), second),
+        Shape::ZakMix => place_of(spaces.audio, second),
+        Shape::ZakClear(space) => span_of(places_of(spaces, space), first, second),
         _ => Reach::Nothing,
     }
 }
@@ -60,29 +59,10 @@ fn reach_by(zak: Zak, opcode: Opcode, table: Known, first: Known, second: Known)
 fn if_table(opcode: Opcode, table: Known) -> Reach
     ensures { result ≡ (if takes_table opcode then table_known table else reach.Nothing) }
 {
-    if takes_table(opcode) {
+    if signature_of(opcode).takes_table() {
         table_of(table)
     } else {
         Reach::Nothing
-    }
-}
-
-// Whether a table's number is among the arguments.
-fn takes_table(opcode: Opcode) -> bool
-    ensures { result ≡ takes_table opcode }
-{
-    matches!(
-        opcode,
-        Opcode::Oscil | Opcode::Oscili | Opcode::Table | Opcode::Tablei | Opcode::Tablew
-    )
-}
-
-fn places_of(zak: Zak, space: Space) -> usize
-    ensures { result ≡ places_of (spaces_of zak) space }
-{
-    match space {
-        Space::Control => zak.control,
-        Space::Audio => zak.audio,
     }
 }
 
@@ -95,11 +75,11 @@ fn table_of(table: Known) -> Reach
     }
 }
 
-fn place_of(places: usize, place: Known) -> Reach
+fn place_of(places: u32, place: Known) -> Reach
     ensures { result ≡ place_known places place }
 {
     match place {
-        Known::Literal(n) => if n < places {
+        Known::Literal(n) => if n < places as usize {
             Reach::Span(n, n)
         } else {
             Reach::Nothing
@@ -109,13 +89,13 @@ fn place_of(places: usize, place: Known) -> Reach
     }
 }
 
-fn span_of(places: usize, first: Known, last: Known) -> Reach
+fn span_of(places: u32, first: Known, last: Known) -> Reach
     ensures { result ≡ span_known places first last }
 {
     match (first, last) {
         (Known::Literal(n), Known::Literal(m)) => {
-            if n < places && n <= m {
-                Reach::Span(n, m.min(places - 1))
+            if n < places as usize && n <= m {
+                Reach::Span(n, m.min(places as usize - 1))
             } else {
                 Reach::Nothing
             }
@@ -149,14 +129,7 @@ fn known_of(e: &TypedExpr) -> Known
     ensures { result ≡ known_of (expression e.now) }
 {
     match &e.what {
-        TypedPart::Number(value) => Known::Literal(whole_below(*value)),
+        TypedPart::Number(value) => Known::Literal(value.whole_below().unsigned_abs() as usize),
         _ => Known::Other,
     }
-}
-
-// The whole number below a literal.
-fn whole_below(value: Num) -> usize
-    ensures { result ≡ whole_below value }
-{
-    value.raw().div_euclid(65536).unsigned_abs() as usize
 }

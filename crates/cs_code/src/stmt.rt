@@ -6,16 +6,17 @@ ghost use Rattle.cs_meaning.specs.Notes.{past, past_parts, past_stmt, past_block
 ghost use Rattle.cs_typed.specs.TypedTree as typed;
 ghost use Rattle.cs_typed.specs.declared.tree.TypedArm.{out-TypedArm};
 ghost use Rattle.cs_code.specs.inner.Code.{all_code, init_block_code};
-ghost use Rattle.cs_code.specs.inner.Emitted.{frame_of, place_of, spaces_of, pass_code};
+ghost use Rattle.cs_code.specs.inner.Emitted.{frame_of, place_of, pass_code};
 ghost use Rattle.cs_code.specs.inner.Emitted.{pass_block_code, cond_code, cond_reg};
 ghost use Rattle.cs_code.specs.inner.Emitted.{each_arm_code, takes_all};
 ghost use Rattle.cs_code.specs.inner.Branches.{joined, opened, jump_at, jumps, branch_of};
 ghost use Rattle.cs_code.specs.inner.Branches.{branches, past_arm, past_list};
+ghost use Rattle.cs_code.specs.declared.frame.Pass.TheVariants as pass;
 
 use crate::args::Call;
 use crate::call::{assign, call};
 use crate::expr::{keep, operand};
-use crate::frame::{Layout, Pass, Spot, Step, kept_reg, push};
+use crate::frame::{Context, Pass, Spot, Step, kept_reg, push};
 use crate::jumps::{aim, aim_all};
 use crate::value::Value;
 use cs_base::{OutOfMemory, Rate};
@@ -33,68 +34,61 @@ pub struct Body {
 /// The code of the statements of a note.
 pub fn body_of(
     alloc: Global,
-    layout: Layout,
-    pass: Pass,
+    context: Context,
     p: Step,
     stmts: &[TypedStmt],
 ) -> Result<Body, OutOfMemory>
-    ensures ops { IfOk result (λ m. m.ops.items ≡ pass_block_code pass (frame_of layout.bases) 0
-        (place_of p) (core (spaces_of layout.zak) (typed.block stmts.now))) }
+    ensures ops { IfOk result (λ m. m.ops.items ≡ pass_block_code context.pass (frame_of context.bases) 0
+        (place_of p) (core context.spaces (typed.block stmts.now))) }
     ensures next { IfOk result (λ m. place_of m.next
-        ≡ past_block (place_of p) (core (spaces_of layout.zak) (typed.block stmts.now))) }
+        ≡ past_block (place_of p) (core context.spaces (typed.block stmts.now))) }
 {
     let mut ops = Vec::new(alloc);
-    let next = block(alloc, &mut ops, layout, pass, p, stmts)?;
+    let next = block(alloc, &mut ops, context, p, stmts)?;
     Ok(Body { ops, next })
 }
 
-/// The code of the statements of a block; answers what was met before its end.
+/// The code of the statements of a block. Returns what was met before its end.
 #[cycle(stmt)]
 #[tactic(auto, using(crate::proofs::Chains::block_none, crate::proofs::Lists::append_nothing))]
 pub fn block(
     alloc: Global,
     ops: &mut Vec<Op>,
-    layout: Layout,
-    pass: Pass,
+    context: Context,
     p: Step,
     stmts: &[TypedStmt],
 ) -> Result<Step, OutOfMemory>
     ensures ops { OnOk result (ops.new.items ≡ ops.old.items
-        ++ pass_block_code pass (frame_of layout.bases) (length ops.old.items) (place_of p)
-        (core (spaces_of layout.zak) (typed.block stmts.now))) }
+        ++ pass_block_code context.pass (frame_of context.bases) (length ops.old.items) (place_of p)
+        (core context.spaces (typed.block stmts.now))) }
     ensures next { IfOk result (λ q. place_of q
-        ≡ past_block (place_of p) (core (spaces_of layout.zak) (typed.block stmts.now))) }
+        ≡ past_block (place_of p) (core context.spaces (typed.block stmts.now))) }
 {
     let mut next = p;
     for s in stmts {
-        next = stmt(alloc, ops, layout, pass, next, s)?;
+        next = stmt(alloc, ops, context, next, s)?;
     }
     Ok(next)
 }
 
-/// The code of a statement; answers what was met before its end.
+/// The code of a statement. Returns what was met before its end.
 #[cycle(stmt)]
-#[tactic(auto, using(crate::proofs::Calls::set_anywhere, crate::proofs::Calls::call_anywhere))]
+#[tactic(auto, using(crate::proofs::Calls::at_each_place, crate::proofs::Chains::taken_pass))]
 fn stmt(
     alloc: Global,
     ops: &mut Vec<Op>,
-    layout: Layout,
-    pass: Pass,
+    context: Context,
     p: Step,
     s: &TypedStmt,
 ) -> Result<Step, OutOfMemory>
     ensures ops { OnOk result (ops.new.items ≡ ops.old.items
-        ++ pass_code pass (frame_of layout.bases) (length ops.old.items) (place_of p)
-        (core_stmt (spaces_of layout.zak) (typed.statement s.now))) }
+        ++ pass_code context.pass (frame_of context.bases) (length ops.old.items) (place_of p)
+        (core_stmt context.spaces (typed.statement s.now))) }
     ensures next { IfOk result (λ q. place_of q
-        ≡ past_stmt (place_of p) (core_stmt (spaces_of layout.zak) (typed.statement s.now))) }
+        ≡ past_stmt (place_of p) (core_stmt context.spaces (typed.statement s.now))) }
 {
     match &s.what {
-        TypedWhat::Set(v, e) => assign(ops, layout.bases, pass, p, s.rate, *v, &Value::Of(e)),
-        TypedWhat::AddTo(v, e) => {
-            let value = Value::Added(s.rate, *v, e);
-            assign(ops, layout.bases, pass, p, s.rate, *v, &value)
-        }
+        TypedWhat::Set(v, e) => assign(ops, context, p, s.rate, *v, &Value::Of(e)),
         TypedWhat::Call(results, opcode, args) => {
             let made = Call {
                 rate: s.rate,
@@ -102,16 +96,16 @@ fn stmt(
                 opcode: *opcode,
                 args,
             };
-            call(alloc, ops, layout, pass, p, &made)
+            call(alloc, ops, context, p, &made)
         }
         TypedWhat::Choose(arms, els) => {
-            if takes_all(pass, s.rate) {
-                let next = each_arm(alloc, ops, layout, p, arms)?;
-                block(alloc, ops, layout, Pass::Initialisation, next, els)
+            if takes_all(context.pass, s.rate) {
+                let next = each_arm(alloc, ops, context, p, arms)?;
+                block(alloc, ops, context, next, els)
             } else {
                 let mut ends = Vec::new(alloc);
-                let last = arms_of(alloc, ops, layout, pass, p, arms, &mut ends)?;
-                let done = block(alloc, ops, layout, pass, last, els)?;
+                let last = arms_of(alloc, ops, context, p, arms, &mut ends)?;
+                let done = block(alloc, ops, context, last, els)?;
                 aim_all(ops, &ends);
                 Ok(done)
             }
@@ -119,8 +113,7 @@ fn stmt(
     }
 }
 
-// Whether the arms of an `if` are all made the same: those that are initialised while nothing is
-// chosen yet.
+// Whether all arms of an `if` are initialised, because the conditions aren't known as the note begins.
 fn takes_all(pass: Pass, rate: Rate) -> bool
     ensures { result ≡ takes_all pass rate }
 {
@@ -137,24 +130,23 @@ fn takes_all(pass: Pass, rate: Rate) -> bool
 fn arms_of(
     alloc: Global,
     ops: &mut Vec<Op>,
-    layout: Layout,
-    pass: Pass,
+    context: Context,
     p: Step,
     arms: &[TypedArm],
     ends: &mut Vec<usize>,
 ) -> Result<Step, OutOfMemory>
     ensures ops { OnOk result (ops.new.items ≡ ops.old.items
-        ++ opened (length ops.old.items) (branches pass (frame_of layout.bases)
-        (spaces_of layout.zak) (length ops.old.items) (place_of p) arms.now)) }
+        ++ opened (length ops.old.items) (branches context.pass (frame_of context.bases)
+        context.spaces (length ops.old.items) (place_of p) arms.now)) }
     ensures ends { OnOk result (ends.new.items ≡ ends.old.items
-        ++ jumps (length ops.old.items) (branches pass (frame_of layout.bases)
-        (spaces_of layout.zak) (length ops.old.items) (place_of p) arms.now)) }
+        ++ jumps (length ops.old.items) (branches context.pass (frame_of context.bases)
+        context.spaces (length ops.old.items) (place_of p) arms.now)) }
     ensures next { IfOk result (λ q. place_of q
-        ≡ past_list (spaces_of layout.zak) (place_of p) arms.now) }
+        ≡ past_list context.spaces (place_of p) arms.now) }
 {
     let mut next = p;
     for a in arms {
-        next = arm(alloc, ops, layout, pass, next, a, ends)?;
+        next = arm(alloc, ops, context, next, a, ends)?;
     }
     Ok(next)
 }
@@ -165,29 +157,28 @@ fn arms_of(
 fn arm(
     alloc: Global,
     ops: &mut Vec<Op>,
-    layout: Layout,
-    pass: Pass,
+    context: Context,
     p: Step,
     arm: &TypedArm,
     ends: &mut Vec<usize>,
 ) -> Result<Step, OutOfMemory>
     ensures ops { OnOk result (ops.new.items ≡ ops.old.items
-        ++ joined (length ops.old.items) (branch_of pass (frame_of layout.bases)
-        (spaces_of layout.zak) (length ops.old.items) (place_of p) arm.now) 0) }
+        ++ joined (length ops.old.items) (branch_of context.pass (frame_of context.bases)
+        context.spaces (length ops.old.items) (place_of p) arm.now) 0) }
     ensures ends { OnOk result (ends.new.items ≡ ends.old.items
-        ++ jump_at (length ops.old.items) (branch_of pass (frame_of layout.bases)
-        (spaces_of layout.zak) (length ops.old.items) (place_of p) arm.now) ∷ []) }
+        ++ jump_at (length ops.old.items) (branch_of context.pass (frame_of context.bases)
+        context.spaces (length ops.old.items) (place_of p) arm.now) ∷ []) }
     ensures next { IfOk result (λ q. place_of q
-        ≡ past_arm (spaces_of layout.zak) (place_of p) arm.now) }
+        ≡ past_arm context.spaces (place_of p) arm.now) }
 {
-    let spot = condition(ops, layout, pass, p.part, &arm.cond)?;
+    let spot = condition(ops, context, p.part, &arm.cond)?;
     let test = ops.len();
     push(ops, Act::Unless(0), spot.reg, Operands::one(spot.reg))?;
     let at = Step {
         part: spot.next,
         unit: p.unit,
     };
-    let next = block(alloc, ops, layout, pass, at, &arm.body)?;
+    let next = block(alloc, ops, context, at, &arm.body)?;
     ends.push(ops.len())?;
     push(ops, Act::Jump(0), spot.reg, Operands::none())?;
     let past = ops.len();
@@ -198,23 +189,22 @@ fn arm(
 // The condition of an arm.
 fn condition(
     ops: &mut Vec<Op>,
-    layout: Layout,
-    pass: Pass,
+    context: Context,
     at: usize,
     e: &TypedExpr,
 ) -> Result<Spot, OutOfMemory>
     ensures ops { OnOk result (ops.new.items ≡ ops.old.items
-        ++ cond_code pass (frame_of layout.bases) at (typed.expression e.now)) }
-    ensures reg { IfOk result (λ s. s.reg ≡ cond_reg pass (frame_of layout.bases) at
+        ++ cond_code context.pass (frame_of context.bases) at (typed.expression e.now)) }
+    ensures reg { IfOk result (λ s. s.reg ≡ cond_reg context.pass (frame_of context.bases) at
         (typed.expression e.now)) }
     ensures next { IfOk result (λ s. s.next ≡ past at (typed.expression e.now)) }
 {
-    match pass {
+    match context.pass {
         Pass::Initialisation => Ok(Spot {
-            reg: kept_reg(layout.bases, at)?,
-            next: keep(ops, layout.bases, at, e)?,
+            reg: kept_reg(context.bases, at)?,
+            next: keep(ops, context, at, e)?,
         }),
-        Pass::Performance => operand(ops, layout.bases, false, at, e, 0),
+        Pass::Performance => operand(ops, context, at, e, 0),
     }
 }
 
@@ -223,22 +213,23 @@ fn condition(
 fn each_arm(
     alloc: Global,
     ops: &mut Vec<Op>,
-    layout: Layout,
+    context: Context,
     p: Step,
     arms: &[TypedArm],
 ) -> Result<Step, OutOfMemory>
+    requires { context.pass ≡ pass.Initialisation }
     ensures ops { IfOk result (λ q. (els : typed.Block)
-        → ops.new.items ++ init_block_code (frame_of layout.bases) (length ops.new.items)
-        (place_of q) (core (spaces_of layout.zak) els)
-        ≡ ops.old.items ++ all_code (frame_of layout.bases) (length ops.old.items)
-        (place_of p) (core_arms (spaces_of layout.zak) (typed.arms els arms.now))) }
+        → ops.new.items ++ init_block_code (frame_of context.bases) (length ops.new.items)
+        (place_of q) (core context.spaces els)
+        ≡ ops.old.items ++ all_code (frame_of context.bases) (length ops.old.items)
+        (place_of p) (core_arms context.spaces (typed.arms els arms.now))) }
     ensures next { IfOk result (λ q. (els : typed.Block)
-        → past_block (place_of q) (core (spaces_of layout.zak) els)
-        ≡ past_arms (place_of p) (core_arms (spaces_of layout.zak) (typed.arms els arms.now))) }
+        → past_block (place_of q) (core context.spaces els)
+        ≡ past_arms (place_of p) (core_arms context.spaces (typed.arms els arms.now))) }
 {
     let mut next = p;
     for a in arms {
-        next = one_arm(alloc, ops, layout, next, a)?;
+        next = one_arm(alloc, ops, context, next, a)?;
     }
     Ok(next)
 }
@@ -248,20 +239,21 @@ fn each_arm(
 fn one_arm(
     alloc: Global,
     ops: &mut Vec<Op>,
-    layout: Layout,
+    context: Context,
     p: Step,
     arm: &TypedArm,
 ) -> Result<Step, OutOfMemory>
+    requires { context.pass ≡ pass.Initialisation }
     ensures ops { OnOk result (ops.new.items ≡ ops.old.items
-        ++ each_arm_code (frame_of layout.bases) (length ops.old.items) (place_of p)
-        (typed.expression (out-TypedArm arm.now).cond) (core (spaces_of layout.zak) (typed.block
+        ++ each_arm_code (frame_of context.bases) (length ops.old.items) (place_of p)
+        (typed.expression (out-TypedArm arm.now).cond) (core context.spaces (typed.block
         (out-TypedArm arm.now).body.items))) }
     ensures next { IfOk result (λ q. place_of q
         ≡ past_block (past_parts (past p.part (typed.expression (out-TypedArm arm.now).cond))
         (place_of p))
-        (core (spaces_of layout.zak) (typed.block (out-TypedArm arm.now).body.items))) }
+        (core context.spaces (typed.block (out-TypedArm arm.now).body.items))) }
 {
-    let part = keep(ops, layout.bases, p.part, &arm.cond)?;
+    let part = keep(ops, context, p.part, &arm.cond)?;
     let at = Step { part, unit: p.unit };
-    block(alloc, ops, layout, Pass::Initialisation, at, &arm.body)
+    block(alloc, ops, context, at, &arm.body)
 }

@@ -1,12 +1,12 @@
 // The code of units.
-ghost use Rattle.std.specs.Prelude.{◌≡◌, ◌+◌, ◌++◌, [], ◌∷◌, IfOk, OnOk};
+ghost use Rattle.std.specs.Prelude.{◌≡◌, ◌+◌, ◌++◌, [], IfOk, OnOk};
 ghost use Rattle.cs_meaning.specs.Notes.{past_all};
 ghost use Rattle.cs_code.specs.declared.args.Which.TheVariants as which;
 ghost use Rattle.cs_code.specs.inner.Code.{start_code, unit_code, target, given_code};
-ghost use Rattle.cs_code.specs.inner.Emitted.{frame_of, picks_of};
+ghost use Rattle.cs_code.specs.inner.Emitted.{frame_of, picks_of, is_whole};
 
 use crate::args::{Call, Which, operands};
-use crate::frame::{Bases, push, temp};
+use crate::frame::{Bases, Context, Pass, push, temp};
 use cs_base::{OutOfMemory, Rate};
 use cs_ir::{Act, Op, Operands, Reach, Reg, is_started};
 use cs_typed::Var;
@@ -17,16 +17,20 @@ use std::alloc::Global;
 pub fn start_unit(
     alloc: Global,
     ops: &mut Vec<Op>,
-    bases: Bases,
+    context: Context,
     unit: usize,
     call: &Call<'_>,
 ) -> Result<(), OutOfMemory>
     ensures { OnOk result (ops.new.items ≡ ops.old.items
-        ++ start_code (frame_of bases) call.now.rate call.now.opcode unit (picks_of which.Settled
+        ++ start_code (frame_of context.bases) call.now.rate call.now.opcode unit (picks_of which.Settled
         call.now)) }
 {
     if is_started(signature_of(call.opcode).shape()) {
-        let found = operands(alloc, ops, bases, true, 0, Which::Settled, call)?;
+        let context = Context {
+            pass: Pass::Initialisation,
+            ..context
+        };
+        let found = operands(alloc, ops, context, 0, Which::Settled, call)?;
         let into = Reg {
             rate: call.rate,
             index: 0,
@@ -89,27 +93,25 @@ pub struct Run {
     pub reach: Reach,
 }
 
-/// A unit runs; answers the number of the next kept value.
+/// A unit runs. Returns the number of the next kept value.
 pub fn run_unit(
     alloc: Global,
     ops: &mut Vec<Op>,
-    bases: Bases,
-    whole: bool,
+    context: Context,
     at: usize,
     run: Run,
     call: &Call<'_>,
 ) -> Result<usize, OutOfMemory>
     ensures ops { OnOk result (ops.new.items ≡ ops.old.items
-        ++ unit_code (frame_of bases) whole at call.now.rate call.now.results.now call.now.opcode
-        run.unit
-        run.reach (picks_of which.Moving call.now)) }
+        ++ unit_code (frame_of context.bases) (is_whole context.pass) at call.now.rate
+        call.now.results.now call.now.opcode run.unit run.reach (picks_of which.Moving call.now)) }
     ensures next { IfOk result (λ n. n ≡ past_all at (picks_of which.Moving call.now)) }
 {
-    let into = target(bases, call.rate, call.results)?;
-    let found = operands(alloc, ops, bases, whole, at, Which::Moving, call)?;
+    let into = target(context.bases, call.rate, call.results)?;
+    let found = operands(alloc, ops, context, at, Which::Moving, call)?;
     let next = found.next;
     let act = Act::Unit(call.opcode, run.unit, run.reach);
     push(ops, act, into, Operands::from_vec(found.regs))?;
-    give(ops, bases, call.rate, call.results)?;
+    give(ops, context.bases, call.rate, call.results)?;
     Ok(next)
 }

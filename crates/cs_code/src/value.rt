@@ -2,10 +2,10 @@
 ghost use Rattle.std.specs.Prelude.{◌≡◌, IfOk};
 ghost use Rattle.cs_typed.specs.TypedTree.{expression};
 ghost use Rattle.cs_typed.specs.WellRated.{node_rate};
-ghost use Rattle.cs_code.specs.inner.Emitted.{frame_of, value_of};
+ghost use Rattle.cs_code.specs.inner.Emitted.{frame_of, value_of, is_whole};
 ghost use Rattle.cs_code.specs.inner.Frames.{local_of, direct};
 
-use crate::frame::{Bases, kept_reg};
+use crate::frame::{Context, kept_reg};
 use cs_base::{OutOfMemory, Rate};
 use cs_ir::Reg;
 use cs_typed::{TypedExpr, TypedPart, Var};
@@ -17,8 +17,8 @@ pub enum Value<'t> {
     Of(&'t TypedExpr),
     /// What a variable has, at a rate.
     Read(Rate, Var),
-    /// What a variable has and an expression are added, at a rate.
-    Added(Rate, Var, &'t TypedExpr),
+    /// What a channel of sounds has and an expression are added.
+    Mixed(Var, &'t TypedExpr),
     /// The number 0.
     Zero,
 }
@@ -30,7 +30,8 @@ pub fn rate_of(value: &Value<'_>) -> Rate
 {
     match value {
         Value::Of(e) => e.rate,
-        Value::Read(rate, _) | Value::Added(rate, _, _) => *rate,
+        Value::Read(rate, _) => *rate,
+        Value::Mixed(_, _) => Rate::Audio,
         Value::Zero => Rate::Init,
     }
 }
@@ -62,16 +63,11 @@ fn local_in(e: &TypedExpr) -> Option<Reg>
 }
 
 /// Where a value stands already.
-pub fn direct(
-    bases: Bases,
-    whole: bool,
-    at: usize,
-    value: &Value<'_>,
-) -> Result<Option<Reg>, OutOfMemory>
-    ensures { IfOk result (λ q. q ≡ direct (frame_of bases) whole at (value_of value.now)) }
+pub fn direct(context: Context, at: usize, value: &Value<'_>) -> Result<Option<Reg>, OutOfMemory>
+    ensures { IfOk result (λ q. q ≡ direct (frame_of context.bases) (is_whole context.pass) at (value_of value.now)) }
 {
-    if !whole && rate_of(value).is_init() {
-        Ok(Some(kept_reg(bases, at)?))
+    if context.pass.is_performance() && rate_of(value).is_init() {
+        Ok(Some(kept_reg(context.bases, at)?))
     } else {
         Ok(local_of(value))
     }

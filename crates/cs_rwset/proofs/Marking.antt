@@ -3,7 +3,7 @@ use Rattle.std.proofs.Common.{◌≡◌, ◌<◌, ◌≤◌, ◌+◌, ◌++◌, 
 use Rattle.std.specs.List.{filter, flat_map, range_with_len}
 use Rattle.std.proofs.lemmas.List.{append-nil, length-map, take_more}
 use Rattle.std.proofs.lemmas.List.Concat.{flat_map-append}
-use Rattle.cs_ir.specs.Resources.{Spaces}
+use Rattle.cs_base.specs.declared.spaces.Spaces.{Spaces}
 use Rattle.cs_ir.specs.declared.op.Op.{Op}
 use Rattle.std.proofs.lemmas.List.Elements.{filter-append}
 use Rattle.std.proofs.lemmas.Bool.{cond-true, cond-false, false_from_ne_true}
@@ -110,10 +110,10 @@ act_marks areas rs xs wide names is same =
     more_marks areas rs xs (covers (stock_of areas).spaces names)
     (λ place a e. same a.res ∙ covers_named areas place a.res (a, e, refl) wide ∙ ap (λ l. is_among l a.res) is)
 
-pub op_marks : (areas : List Area) (rs xs : List Res) (sizes : Spaces) (wide names : Named) → sizes ≡ (stock_of areas).spaces → resources (stock_of areas) wide ≡ xs
-    → ((r : Res) → covers sizes names r ≡ covers sizes wide r)
-    → marked_by (λ r. is_among rs r || covers sizes names r) areas ≡ marks_of areas (rs ++ xs)
-op_marks areas rs xs sizes wide names sized is =
+pub op_marks : (areas : List Area) (rs xs : List Res) (spaces : Spaces) (wide names : Named) → spaces ≡ (stock_of areas).spaces → resources (stock_of areas) wide ≡ xs
+    → ((r : Res) → covers spaces names r ≡ covers spaces wide r)
+    → marked_by (λ r. is_among rs r || covers spaces names r) areas ≡ marks_of areas (rs ++ xs)
+op_marks areas rs xs spaces wide names sized is =
     subst
     (λ s. ((r : Res) → covers s names r ≡ covers s wide r) → marked_by (λ r. is_among rs r || covers s names r) areas ≡ marks_of areas (rs ++ xs))
     (sym sized) (act_marks areas rs xs wide names is)

@@ -7,8 +7,7 @@ ghost use Rattle.cs_rwset.specs.Footprints.{is_place, place_count, places_holdin
 ghost use Rattle.cs_rwset.specs.inner.Marks.{marks_of};
 
 use crate::marks::{mark_op, marked_places};
-use crate::named::Sizes;
-use cs_base::{OutOfMemory, Res};
+use cs_base::{OutOfMemory, Res, Spaces};
 use cs_cells::{Footprint, Layout};
 use cs_ir::{Code, Op};
 use cs_words::Space;
@@ -24,7 +23,7 @@ struct Marks {
 /// What a performance code may touch in a layout: the places of the areas whose resource one of
 /// its ops may use, and of those whose resource one may write, each ascending. It takes as long as
 /// the code has ops and the layout has areas, and for each op whose reach is over many numbers as
-/// long again as the layout has areas. Want of memory alone is refused.
+/// long again as the layout has areas. The one error is out of memory.
 pub fn footprint(alloc: Global, perf: &Code, layout: &Layout) -> Result<Footprint, OutOfMemory>
     ensures uses { IfOk result (λ f. f.uses
         ≡ places_holding layout.now (ops_use (stock_of layout.now) perf.now.ops.items)) }
@@ -50,7 +49,7 @@ fn marks_of(alloc: Global, ops: &[Op], layout: &Layout) -> Result<Marks, OutOfMe
     ensures writes { IfOk result (λ m. m.writes.items
         ≡ marks_of layout.now (ops_write (stock_of layout.now) ops.now)) }
 {
-    let sizes = sizes_of(layout);
+    let spaces = spaces_of(layout);
     let areas = layout.len() as usize;
     let mut marks = Marks {
         uses: vec![in alloc; false; areas]?,
@@ -59,26 +58,26 @@ fn marks_of(alloc: Global, ops: &[Op], layout: &Layout) -> Result<Marks, OutOfMe
     // No two areas are of one resource.
     let _ = layout.words();
     for op in ops {
-        mark_op(&mut marks.uses, &mut marks.writes, layout, &sizes, op);
+        mark_op(&mut marks.uses, &mut marks.writes, layout, spaces, op);
     }
     Ok(marks)
 }
 
 /// How many places each zak space has.
-fn sizes_of(layout: &Layout) -> Sizes
+fn spaces_of(layout: &Layout) -> Spaces
     ensures { result ≡ (stock_of layout.now).spaces }
 {
-    Sizes {
+    Spaces {
         control: place_count(layout, Space::Control),
         audio: place_count(layout, Space::Audio),
     }
 }
 
 /// How many places of a zak space have an area.
-fn place_count(layout: &Layout, space: Space) -> usize
+fn place_count(layout: &Layout, space: Space) -> u32
     ensures { result ≡ place_count layout.now space }
 {
-    let mut count: usize = 0;
+    let mut count: u32 = 0;
     for place in 0..layout.len() {
         if is_place(space, layout.area(place).res) {
             count += 1;

@@ -29,10 +29,12 @@ pub fn places_are_of_resources()
 pub fn footprints_are_of_ops()
     ensures used { (areas : List Area) (ops : List Op) (place : ℕ)
         → Contains (places_holding areas (ops_use (stock_of areas) ops)) place
-        ↔ ((op : Op) × (r : Res) × Contains ops op × Contains (act_uses (stock_of areas) op.act) r × HasPlace areas r place) }
+        ↔ ((op : Op) × (r : Res) × Contains ops op × Contains (act_uses (stock_of areas) op.act) r
+        × HasPlace areas r place) }
     ensures written { (areas : List Area) (ops : List Op) (place : ℕ)
         → Contains (places_holding areas (ops_write (stock_of areas) ops)) place
-        ↔ ((op : Op) × (r : Res) × Contains ops op × Contains (act_writes (stock_of areas) op.act) r × HasPlace areas r place) }
+        ↔ ((op : Op) × (r : Res) × Contains ops op × Contains (act_writes (stock_of areas) op.act) r
+        × HasPlace areas r place) }
 {}
 
 /// The cells of a footprint: exactly those that lie in an area of one of the resources.

@@ -8,16 +8,16 @@ ghost use Rattle.cs_rwset.specs.Footprints.{stock_of};
 ghost use Rattle.cs_rwset.specs.inner.Marks.{marked, marked_by, marks_of};
 ghost use Rattle.cs_rwset.specs.inner.Named.{covers};
 
-use crate::named::{Named, Sizes, names_of, writes};
-use cs_base::{OutOfMemory, Places, Res};
+use crate::named::{Named, names_of, writes};
+use cs_base::{OutOfMemory, Places, Res, Spaces};
 use cs_cells::Layout;
 use cs_ir::Op;
 use std::alloc::Global;
 
 /// Marks what an op may use, and what it may write.
-pub fn mark_op(uses: &mut [bool], written: &mut [bool], layout: &Layout, sizes: &Sizes, op: &Op)
+pub fn mark_op(uses: &mut [bool], written: &mut [bool], layout: &Layout, spaces: Spaces, op: &Op)
     requires laid { IsLaid layout.now }
-    requires sizes { sizes.now ≡ (stock_of layout.now).spaces }
+    requires spaces { spaces ≡ (stock_of layout.now).spaces }
     requires uses { length uses.old ≡ length layout.now }
     requires writes { length written.old ≡ length layout.now }
     ensures uses { (rs : List Res) → uses.old ≡ marks_of layout.now rs
@@ -26,24 +26,24 @@ pub fn mark_op(uses: &mut [bool], written: &mut [bool], layout: &Layout, sizes: 
         → written.new ≡ marks_of layout.now (rs ++ act_writes (stock_of layout.now) op.now.act) }
 {
     let named = names_of(op.act);
-    let names = named.narrowed(sizes);
-    mark(uses, layout, sizes, &names);
+    let names = named.narrowed(spaces);
+    mark(uses, layout, spaces, names);
     if writes(op.act) {
-        mark(written, layout, sizes, &names);
+        mark(written, layout, spaces, names);
     }
 }
 
 /// Marks each area whose resource is named.
-fn mark(marks: &mut [bool], layout: &Layout, sizes: &Sizes, names: &Named)
+fn mark(marks: &mut [bool], layout: &Layout, spaces: Spaces, names: Named)
     requires laid { IsLaid layout.now }
     requires long { length marks.old ≡ length layout.now }
     ensures { (P : Res → Bool) → marks.old ≡ marked_by P layout.now
-        → marks.new ≡ marked_by (λ r. P r || covers sizes.now names.now r) layout.now }
+        → marks.new ≡ marked_by (λ r. P r || covers spaces names r) layout.now }
 {
-    match *names {
+    match names {
         Named::Nothing => {}
         Named::One(res) => mark_one(marks, layout, res),
-        _ => mark_all(marks, layout, sizes, names),
+        _ => mark_all(marks, layout, spaces, names),
     }
 }
 
@@ -60,13 +60,13 @@ fn mark_one(marks: &mut [bool], layout: &Layout, res: Res)
 }
 
 /// Marks each area whose resource is named, by a look at every area.
-fn mark_all(marks: &mut [bool], layout: &Layout, sizes: &Sizes, names: &Named)
+fn mark_all(marks: &mut [bool], layout: &Layout, spaces: Spaces, names: Named)
     requires long { length marks.old ≡ length layout.now }
     ensures { (P : Res → Bool) → marks.old ≡ marked_by P layout.now
-        → marks.new ≡ marked_by (λ r. P r || covers sizes.now names.now r) layout.now }
+        → marks.new ≡ marked_by (λ r. P r || covers spaces names r) layout.now }
 {
     for place in 0..layout.len() {
-        if names.covers(sizes, layout.area(place).res) {
+        if names.covers(spaces, layout.area(place).res) {
             marks[place as usize] = true;
         }
     }

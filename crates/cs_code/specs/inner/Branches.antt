@@ -1,6 +1,6 @@
 -- Arms of an `if` of which one is done, one after another, and the jumps past the others.
 use Rattle.std.specs.Prelude.{ℕ, zero, suc, ◌+◌, ◌++◌, List, [], ◌∷◌, length}
-use Rattle.cs_ir.specs.Resources.{Spaces}
+use Rattle.cs_base.specs.declared.spaces.Spaces.{Spaces}
 use Rattle.cs_ir.specs.declared.op.Act.{Act}
 use Rattle.cs_ir.specs.declared.op.Act.TheVariants as act
 use Rattle.cs_ir.specs.declared.op.Op.{Op}

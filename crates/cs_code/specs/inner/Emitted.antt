@@ -1,9 +1,10 @@
 -- What the functions that make code work on, in the words of the definitions.
 use Rattle.std.specs.Prelude.{ℕ, Bool, true, false, not, zero, suc, ◌+◌, ◌-◌, ◌&&◌, ◌++◌, List, [], ◌∷◌, length, min, nat_lt, nat_le, Option, Some, None, map, if◌then◌else◌, pos}
-use Rattle.cs_base.specs.Rates.{is_init}
+use Rattle.cs_base.specs.Rates.{at_rate, is_init}
 use Rattle.cs_base.specs.declared.resource.Rate.{Rate}
 use Rattle.cs_base.specs.declared.resource.Rate.TheVariants as rate
-use Rattle.cs_ir.specs.Resources.{Spaces, places_of, takes_table}
+use Rattle.cs_base.specs.declared.spaces.Spaces.{Spaces}
+use Rattle.cs_ir.specs.Resources.{places_of}
 use Rattle.cs_ir.specs.declared.op.Op.{Op}
 use Rattle.cs_ir.specs.declared.op.Reach.{Reach}
 use Rattle.cs_ir.specs.declared.op.Reach.TheVariants as reach
@@ -11,9 +12,9 @@ use Rattle.cs_ir.specs.declared.register.Reg.{Reg}
 use Rattle.cs_meaning.specs.Core.{plus, core_call, whole_below, moving, settled, reach_of, Stmt, Block, Arms, unit}
 use Rattle.cs_meaning.specs.Notes.{past, past_parts, Place}
 use Rattle.cs_typed.specs.TypedTree as typed
-use Rattle.cs_typed.specs.TypedTree.{Expression, number, var, field, head, neg, pair, pick, apply}
+use Rattle.cs_typed.specs.TypedTree.{Expression, number, var, neg, pair, pick, apply}
 use Rattle.cs_typed.specs.declared.tree.Var.{Var as Variable}
-use Rattle.cs_words.specs.Catalogue.{Row, row_of, letter_at, is_settled}
+use Rattle.cs_words.specs.Catalogue.{Row, row_of, letter_at, is_settled, takes_table}
 use Rattle.cs_words.specs.declared.catalogue.Letter.{Letter}
 use Rattle.cs_words.specs.declared.catalogue.Opcode.{Opcode}
 use Rattle.cs_words.specs.declared.catalogue.Shape.{Shape}
@@ -25,7 +26,6 @@ use Rattle.cs_code.specs.declared.frame.Bases.{Bases}
 use Rattle.cs_code.specs.declared.frame.Pass.{Pass}
 use Rattle.cs_code.specs.declared.frame.Pass.TheVariants as pass
 use Rattle.cs_code.specs.declared.frame.Step.{Step}
-use Rattle.cs_code.specs.declared.frame.Zak.{Zak}
 use Rattle.cs_code.specs.declared.reach.Known.{Known}
 use Rattle.cs_code.specs.declared.reach.Known.TheVariants as known
 use Rattle.cs_code.specs.declared.value.Value.{Value}
@@ -33,26 +33,17 @@ use Rattle.cs_code.specs.declared.value.Value.TheVariants as value
 use Rattle.cs_code.specs.inner.Code.{keep_code, operand_code, init_code, init_block_code, first_code, perf_code, perf_block_code, perf_arms_code}
 use Rattle.cs_code.specs.inner.Frames.{Frame, kept_reg, spot}
 
--- a frame, from its four numbers
-abbrev pub base_of : Bases → Rate → ℕ
-base_of b rate.Init = b.init
-base_of b rate.Control = b.control
-base_of b rate.Audio = b.audio
-
 abbrev pub frame_of : Bases → Frame
-frame_of b = record { kept = b.kept; base = base_of b }
+frame_of b = record { kept = b.kept; base = at_rate b.temporaries }
 
 abbrev pub place_of : Step → Place
 place_of p = record { part = p.part; unit = p.unit }
-
-abbrev pub spaces_of : Zak → Spaces
-spaces_of z = record { control = z.control; audio = z.audio }
 
 -- what a variable takes
 abbrev pub value_of : Value → Expression
 value_of (value.Of e) = typed.expression e.now
 value_of (value.Read r v) = var r v
-value_of (value.Added r v e) = plus r v (typed.expression e.now)
+value_of (value.Mixed v e) = plus rate.Audio v (typed.expression e.now)
 value_of value.Zero = number rate.Init (pos 0)
 
 -- the code of the kept parts of an expression that changes, and the number after theirs
@@ -70,7 +61,7 @@ parts_past at (pick r c a b) = past (past (past at c) a) b
 parts_past at (apply r f a) = past at a
 parts_past at _ = at
 
--- the values among arguments from a place on that have such a letter: settled, moving, or any
+-- the values among arguments from a place on whose letter is settled, moving, or any
 abbrev pub is_picked : Which → Letter → Bool
 is_picked which.Settled l = is_settled l
 is_picked which.Moving l = not (is_settled l)
@@ -93,6 +84,11 @@ arguments_of k = map typed.argument k.args.now
 
 abbrev pub picks_of : Which → Call → List Expression
 picks_of w k = picked w (row_of k.opcode) 0 (arguments_of k)
+
+-- the initialisation works values out as a whole; the performance takes the parts that don't change as they are kept
+abbrev pub is_whole : Pass → Bool
+is_whole pass.Initialisation = true
+is_whole pass.Performance = false
 
 -- what stands in both passes, by the pass
 abbrev pub pass_code : Pass → Frame → ℕ → Place → Stmt → List Op

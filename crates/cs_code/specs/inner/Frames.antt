@@ -1,12 +1,15 @@
 -- Where a note's values stand among the registers.
 use Rattle.std.specs.Prelude.{ℕ, Bool, true, false, ◌+◌, List, [], ◌∷◌, Option, Some, None}
+use Rattle.cs_base.specs.Rates.{at_rate}
+use Rattle.cs_base.specs.declared.per_rate.PerRate.{PerRate}
 use Rattle.cs_base.specs.declared.resource.Rate.{Rate}
 use Rattle.cs_base.specs.declared.resource.Rate.TheVariants as rate
 use Rattle.cs_ir.specs.Waves.{if_init}
 use Rattle.cs_ir.specs.declared.op.Act.{Act}
 use Rattle.cs_ir.specs.declared.op.Op.{Op}
 use Rattle.cs_ir.specs.declared.register.Reg.{Reg}
-use Rattle.cs_meaning.specs.Notes.{reg, past}
+use Rattle.cs_meaning.specs.Core.{Block}
+use Rattle.cs_meaning.specs.Notes.{reg, start, past, past_block}
 use Rattle.cs_typed.specs.TypedTree.{Expression, var}
 use Rattle.cs_typed.specs.WellRated.{node_rate}
 use Rattle.cs_typed.specs.declared.tree.Var.TheVariants.{Local}
@@ -15,6 +18,14 @@ use Rattle.cs_typed.specs.declared.tree.Var.TheVariants.{Local}
 pub record Frame : Type 0 where
   pub kept : ℕ
   pub base : Rate → ℕ
+
+-- how many values a block keeps
+abbrev pub parts_of : Block → ℕ
+parts_of b = (past_block start b).part
+
+-- The frame of a block with these local variables: no register lies idle between them, its kept values and its temporaries.
+abbrev pub frame_for : PerRate ℕ → Block → Frame
+frame_for locals b = record { kept = locals.init; base = at_rate (record locals { init = locals.init + parts_of b }) }
 
 abbrev pub op_of : Act → Reg → List Reg → Op
 op_of act into from = record { act = act; into = into; from = from }

@@ -4,7 +4,8 @@ use Rattle.cs_base.specs.Rates.{same_res}
 use Rattle.cs_base.specs.declared.resource.Res.{Res}
 use Rattle.cs_base.specs.declared.resource.Res.TheVariants as res
 use Rattle.cs_words.specs.declared.catalogue.Space.TheVariants as space
-use Rattle.cs_ir.specs.Resources.{Stock, Spaces, places_within, reaches, tables_within}
+use Rattle.cs_base.specs.declared.spaces.Spaces.{Spaces}
+use Rattle.cs_ir.specs.Resources.{Stock, places_within, reaches, tables_within}
 use Rattle.cs_rwset.specs.declared.named.Named.{Named}
 use Rattle.cs_rwset.specs.declared.named.Named.TheVariants as named
 

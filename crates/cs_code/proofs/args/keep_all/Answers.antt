@@ -18,7 +18,7 @@ loop-arg-preserved c =
     let on = c.in_ok-place.ensures in
     let n = c.loop-arg.place in
     let m = c.in_ok-place.place in
-    let f = frame_of c.args.bases in (
+    let f = frame_of c.args.context.bases in (
       on ∙ ap (λ k. k + 1) was.0,
       keep_more f c.args.which row args n m (argument x) rest c.picks.result c.loop-arg.ops.items c.keep_one.new.ops.items _ c.loop-arg.next
           c.in_ok-next.next split c.picks.ensures on made.ops made.next was.1,

@@ -1,19 +1,25 @@
-use Rattle.std.proofs.Common.{◌∙◌, refl, ap}
-use Rattle.cs_meaning.specs.Core.{core}
+use Rattle.std.proofs.Common.{◌≡◌, ◌∙◌, ◌+◌, ℕ, ap}
+use Rattle.cs_base.specs.Rates.{at_rate}
+use Rattle.cs_base.specs.declared.per_rate.PerRate.{PerRate}
+use Rattle.cs_meaning.specs.Core.{Block, core}
 use Rattle.cs_meaning.specs.Notes.{Place, start}
 use Rattle.cs_typed.specs.TypedTree as typed
-use Rattle.cs_code.specs.inner.Emitted.{spaces_of}
+use Rattle.cs_code.specs.inner.Code.{init_block_code}
+use Rattle.cs_code.specs.inner.Frames.{parts_of}
 use Rattle.cs_code.proofs.Beginnings.{same_block}
-use Rattle.cs_code.proofs.Bounds.{roomy}
 use Rattle.cs_code.proofs.codes.codes_of.Goals as goal
 
-pub returns-clause-room : goal.returns-clause-room
-returns-clause-room c =
-    let first = c.in_ok-first.first in
-    roomy (record first { init = c.in_ok-add.field-0 }) first c.in_ok-perf.perf.next.part (spaces_of c.args.zak) (typed.block c.args.stmts.now)
-    c.in_ok-first.ensures (ap (λ (p : Place). p.part) c.in_ok-perf.ensures.next) refl c.in_ok-add.ensures refl refl
+pub returns-clause-init : goal.returns-clause-init
+returns-clause-init c =
+    let locals : PerRate ℕ = c.args.locals in
+    let body : Block = core c.args.spaces (typed.block c.args.stmts.now) in
+    let counted : c.in_ok-perf.perf.next.part ≡ parts_of body = ap (λ (p : Place). p.part) c.in_ok-perf.ensures.next in
+    c.in_ok-init-2.ensures.ops
+    ∙ ap (λ n. init_block_code (record { kept = locals.init; base = at_rate (record locals { init = n }) }) 0 start body)
+    (c.in_ok-init.ensures ∙ ap (λ n. locals.init + n) counted)
 
 pub returns-clause-perf : goal.returns-clause-perf
 returns-clause-perf c =
-    c.in_ok-perf.ensures.ops
-    ∙ same_block c.in_ok-first.first c.in_ok-add.field-0 0 start (core (spaces_of c.args.zak) (typed.block c.args.stmts.now))
+    let locals : PerRate ℕ = c.args.locals in
+    let body : Block = core c.args.spaces (typed.block c.args.stmts.now) in
+    c.in_ok-perf.ensures.ops ∙ same_block (record { kept = locals.init; temporaries = locals }) (locals.init + parts_of body) 0 start body

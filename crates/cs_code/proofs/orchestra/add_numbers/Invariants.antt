@@ -1,6 +1,6 @@
 use Rattle.std.proofs.Common.{ℕ, ◌++◌, List, take}
 use Rattle.std.specs.List.{AllZip}
-use Rattle.cs_ir.specs.Resources.{Spaces}
+use Rattle.cs_base.specs.declared.spaces.Spaces.{Spaces}
 use Rattle.cs_typed.specs.TypedTree as typed
 use Rattle.cs_code.specs.Lowered.{IsCodeOf, IsNumberedCode, numbered_with}
 use Rattle.cs_code.proofs.orchestra.add_numbers.Given as goal

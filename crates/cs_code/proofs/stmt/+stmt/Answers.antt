@@ -6,20 +6,20 @@ use Rattle.cs_typed.specs.TypedTree as typed
 use Rattle.cs_typed.specs.declared.tree.TypedArm.{out-TypedArm}
 use Rattle.cs_typed.specs.declared.tree.TypedWhat.TheViews.{the_lemmas}
 use Rattle.cs_typed.proofs.Trees.{typed_block_is, typed_arms_is}
-use Rattle.cs_code.specs.inner.Code.{all_code, init_block_code}
+use Rattle.cs_code.specs.inner.Code.{all_code}
 use Rattle.cs_code.specs.inner.Branches.{opened, jumps, aim_all, branches, past_list, condition_of, body_of}
-use Rattle.cs_code.specs.inner.Emitted.{frame_of, place_of, spaces_of, pass_code, pass_block_code, cond_code, cond_reg}
+use Rattle.cs_code.specs.inner.Emitted.{frame_of, place_of, pass_code, pass_block_code, cond_code, cond_reg}
 use Rattle.cs_code.specs.inner.Frames.{op_of}
 use Rattle.cs_code.proofs.Branches.{arm_made, body_made, arms_more, chosen_made, past_chosen}
-use Rattle.cs_code.proofs.Chains.{block_more, each_more, all_taken, one_taken}
+use Rattle.cs_code.proofs.Chains.{block_more, each_more, all_taken, one_taken, taken_pass}
 use Rattle.cs_code.proofs.Lists.{dropped}
 use Rattle.cs_code.proofs.stmt.+stmt.Goals as goal
 
 pub block-loop-s-preserved : goal.block-loop-s-preserved
 block-loop-s-preserved t c =
     let was = c.loop-s.invariant in
-    let sp = spaces_of c.args.layout.zak in
-    let f = frame_of c.args.layout.bases in
+    let sp = c.args.context.spaces in
+    let f = frame_of c.args.context.bases in
     let i = c.loop-s.s-index in
     let x = c.s-item.result in
     let p = place_of c.loop-s.next in
@@ -28,17 +28,17 @@ block-loop-s-preserved t c =
     let split : core sp (typed.block (drop i c.args.stmts.now)) ≡ andthen (core_stmt sp (typed.statement x)) rest = ap (λ xs. core sp (typed.block xs)) (dropped
     c.args.stmts.now i x (omega arith) c.s-item.is) in
     let made = c.in_ok-next.ensures in (
-      block_more c.args.pass f old c.stmt.new.ops.items _ p (place_of c.in_ok-next.next) (core_stmt sp (typed.statement x)) rest made.ops made.next
-          (sym (ap (λ b. old ++ pass_block_code c.args.pass f (length old) p b) split) ∙ was.0),
+      block_more c.args.context.pass f old c.stmt.new.ops.items _ p (place_of c.in_ok-next.next) (core_stmt sp (typed.statement x)) rest made.ops made.next
+          (sym (ap (λ b. old ++ pass_block_code c.args.context.pass f (length old) p b) split) ∙ was.0),
       ap (λ q. past_block q rest) made.next ∙ sym (ap (past_block p) split) ∙ was.1,
     )
 
 pub arms_of-loop-a-preserved : goal.arms_of-loop-a-preserved
 arms_of-loop-a-preserved t c =
     let was = c.loop-a.invariant in
-    let sp = spaces_of c.args.layout.zak in
-    let f = frame_of c.args.layout.bases in
-    let way = c.args.pass in
+    let sp = c.args.context.spaces in
+    let f = frame_of c.args.context.bases in
+    let way = c.args.context.pass in
     let i = c.loop-a.a-index in
     let x = c.a-item.result in
     let p = place_of c.loop-a.next in
@@ -55,8 +55,8 @@ arms_of-loop-a-preserved t c =
 pub each_arm-loop-a-preserved : goal.each_arm-loop-a-preserved
 each_arm-loop-a-preserved t c els =
     let was = c.loop-a.invariant els in
-    let sp = spaces_of c.args.layout.zak in
-    let f = frame_of c.args.layout.bases in
+    let sp = c.args.context.spaces in
+    let f = frame_of c.args.context.bases in
     let i = c.loop-a.a-index in
     let x = c.a-item.result in
     let e = typed.expression (out-TypedArm x).cond in
@@ -74,9 +74,9 @@ each_arm-loop-a-preserved t c els =
 
 pub stmt-returns-in_ok-next-in-Choose-clause-ops : goal.stmt-returns-in_ok-next-in-Choose-clause-ops
 stmt-returns-in_ok-next-in-Choose-clause-ops t c =
-    let sp = spaces_of c.args.layout.zak in
-    let f = frame_of c.args.layout.bases in
-    let way = c.args.pass in
+    let sp = c.args.context.spaces in
+    let f = frame_of c.args.context.bases in
+    let way = c.args.context.pass in
     let old = c.args.ops.now.items in
     let place = length old in
     let p = place_of c.args.p in
@@ -93,7 +93,8 @@ stmt-returns-in_ok-next-in-Choose-clause-ops t c =
     let mid = c.each_arm.new.ops.items in
     let next = place_of c.in_ok-next-in-Choose.next in
     subst (λ y. OnOk c.block.result (c.block.new.ops.items ≡ y))
-    (ap (λ xs. mid ++ init_block_code f (length mid) next (core sp (typed.block xs))) c.deref-then-takes_all-2.ensures.value
+    (ap (λ xs. mid ++ pass_block_code way f (length mid) next (core sp (typed.block xs))) c.deref-then-takes_all-2.ensures.value
+    ∙ ap (λ w. mid ++ pass_block_code w f (length mid) next (core sp els)) (taken_pass way r (sym c.takes_all.ensures ∙ c.if-takes_all.true))
     ∙ c.in_ok-next-in-Choose.ensures.ops els
     ∙ ap (λ xs. old ++ all_code f place p (core_arms sp (typed.arms els xs))) c.deref-then-takes_all.ensures.value
     ∙ sym (ap (λ x. old ++ x) (all_taken way f place p r (core_arms sp (typed.arms els list)) (sym c.takes_all.ensures ∙ c.if-takes_all.true)))
@@ -102,7 +103,7 @@ stmt-returns-in_ok-next-in-Choose-clause-ops t c =
 
 pub stmt-returns-in_ok-next-in-Choose-clause-next : goal.stmt-returns-in_ok-next-in-Choose-clause-next
 stmt-returns-in_ok-next-in-Choose-clause-next t c =
-    let sp = spaces_of c.args.layout.zak in
+    let sp = c.args.context.spaces in
     let p = place_of c.args.p in
     let els = typed.block c.in-Choose.els.items in
     let seen : typed.statement c.args.s.now ≡ typed.choose c.args.s.now.line c.args.s.now.rate (typed.arms els c.in-Choose.arms.items) = search
@@ -117,9 +118,9 @@ stmt-returns-in_ok-next-in-Choose-clause-next t c =
 
 pub arm-returns-clause-ops : goal.arm-returns-clause-ops
 arm-returns-clause-ops t c =
-    let sp = spaces_of c.args.layout.zak in
-    let f = frame_of c.args.layout.bases in
-    let way = c.args.pass in
+    let sp = c.args.context.spaces in
+    let f = frame_of c.args.context.bases in
+    let way = c.args.context.pass in
     let old = c.args.ops.now.items in
     let p = place_of c.args.p in
     let e = condition_of c.args.arm.now in
@@ -153,9 +154,9 @@ arm-returns-clause-ops t c =
 
 pub stmt-returns-in_ok-done-in-Choose-clause-ops : goal.stmt-returns-in_ok-done-in-Choose-clause-ops
 stmt-returns-in_ok-done-in-Choose-clause-ops t c =
-    let sp = spaces_of c.args.layout.zak in
-    let f = frame_of c.args.layout.bases in
-    let way = c.args.pass in
+    let sp = c.args.context.spaces in
+    let f = frame_of c.args.context.bases in
+    let way = c.args.context.pass in
     let old = c.args.ops.now.items in
     let place = length old in
     let p = place_of c.args.p in
@@ -188,7 +189,7 @@ stmt-returns-in_ok-done-in-Choose-clause-ops t c =
 
 pub stmt-returns-in_ok-done-in-Choose-clause-next : goal.stmt-returns-in_ok-done-in-Choose-clause-next
 stmt-returns-in_ok-done-in-Choose-clause-next t c =
-    let sp = spaces_of c.args.layout.zak in
+    let sp = c.args.context.spaces in
     let p = place_of c.args.p in
     let els = typed.block c.in-Choose.els.items in
     let list = c.in-Choose.arms.items in

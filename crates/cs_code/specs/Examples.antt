@@ -1,0 +1,62 @@
+-- Two small instruments, and their codes worked by hand.
+use Rattle.std.specs.Prelude.{ℕ, pos, ◌*ℤ◌, ◌≡◌, List, [], ◌∷◌}
+use Rattle.cs_base.specs.Numbers.{one}
+use Rattle.cs_base.specs.declared.resource.Rate.{Rate}
+use Rattle.cs_base.specs.declared.resource.Rate.TheVariants as rate
+use Rattle.cs_words.specs.declared.catalogue.Opcode.TheVariants as opcode
+use Rattle.cs_words.specs.declared.sign.BinOp.TheVariants as sign
+use Rattle.cs_ir.specs.declared.op.Act.{Act}
+use Rattle.cs_ir.specs.declared.op.Act.TheVariants as act
+use Rattle.cs_ir.specs.declared.op.Code.{Code}
+use Rattle.cs_ir.specs.declared.op.Op.{Op}
+use Rattle.cs_ir.specs.declared.op.Reach.TheVariants as reach
+use Rattle.cs_ir.specs.declared.register.Counts.{Counts}
+use Rattle.cs_ir.specs.declared.register.Reg.{Reg}
+use Rattle.cs_typed.specs.TypedTree as typed
+use Rattle.cs_typed.specs.declared.tree.Var.TheVariants.{Local}
+
+-- k1 = k1 + 1
+abbrev pub counter : typed.Block
+counter =
+    typed.andthen (typed.set 1 rate.Control (Local rate.Control 0)
+    (typed.pair rate.Control sign.Add (typed.var rate.Control (Local rate.Control 0)) (typed.number rate.Init one))) typed.no_stmt
+
+-- a1 oscili k1, 440, 1
+-- out a1
+abbrev pub tone : typed.Block
+tone =
+    typed.andthen (typed.call 1 rate.Audio (Local rate.Audio 0 ∷ []) opcode.Oscili
+    (typed.value (typed.var rate.Control (Local rate.Control 0)) ∷ typed.value (typed.number rate.Init (pos 440 *ℤ one))
+    ∷ typed.value (typed.number rate.Init one) ∷ []))
+    (typed.andthen (typed.call 2 rate.Audio [] opcode.Out (typed.value (typed.var rate.Audio (Local rate.Audio 0)) ∷ [])) typed.no_stmt)
+
+abbrev at : Rate → ℕ → Reg
+at r n = record { rate = r; index = n }
+
+abbrev op : Act → Reg → List Reg → Op
+op a into from = record { act = a; into = into; from = from }
+
+-- As a note begins the 1 is kept, and in each cycle it is added.
+abbrev pub counter_init : List Op
+counter_init = op (act.Const one) (at rate.Init 0) [] ∷ []
+
+abbrev pub counter_perf : List Op
+counter_perf = op (act.Pair sign.Add) (at rate.Control 0) (at rate.Control 0 ∷ at rate.Init 0 ∷ []) ∷ []
+
+-- As a note begins the frequency is kept and the unit started on its table, and in each cycle the unit runs and its sound goes out.
+abbrev pub tone_init : List Op
+tone_init =
+    op (act.Const (pos 440 *ℤ one)) (at rate.Init 0) []
+    ∷ op (act.Const one) (at rate.Init 1) []
+    ∷ op (act.Start opcode.Oscili 0) (at rate.Audio 0) (at rate.Init 1 ∷ [])
+    ∷ []
+
+abbrev pub tone_perf : List Op
+tone_perf =
+    op (act.Unit opcode.Oscili 0 (reach.Span 1 1)) (at rate.Audio 0) (at rate.Control 0 ∷ at rate.Init 0 ∷ [])
+    ∷ op (act.Out 0) (at rate.Audio 0) (at rate.Audio 0 ∷ [])
+    ∷ []
+
+-- a code with these ops, over these registers and units
+abbrev pub IsMadeOf : List Op → Counts → Code → Type 0
+IsMadeOf ops counts code = (code.ops.items ≡ ops) × (code.counts ≡ counts)
