@@ -5,7 +5,8 @@ use Rattle.std.proofs.lemmas.List.Sums.{sum_by-cons}
 use Rattle.cs_base.specs.declared.resource.Res.{Res}
 use Rattle.cs_base.specs.declared.resource.Res.TheVariants as res
 use Rattle.cs_base.proofs.Texts.{count_by-append}
-use Rattle.cs_ir.specs.Resources.{Spaces, places_of}
+use Rattle.cs_base.specs.declared.spaces.Spaces.{Spaces}
+use Rattle.cs_ir.specs.Resources.{places_of}
 use Rattle.cs_layout.specs.Layouts.{Shared, numbered, of_tables, shared_by, laid_from, areas_of}
 use Rattle.cs_layout.proofs.Tails.{from_gk, from_ga, from_control, from_sound, from_zk, from_za}
 use Rattle.cs_layout.specs.declared.areas.LiveTable.{LiveTable}

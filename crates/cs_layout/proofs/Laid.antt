@@ -1,11 +1,11 @@
 -- Areas one behind the other.
-use Rattle.std.proofs.Common.{◌≡◌, ℕ, zero, suc, ◌+◌, ◌<◌, Bool, true, false, List, [], ◌∷◌, ◌||◌, length, take, sum_by, arith, ap, sym, ◌∙◌, refl, subst, slice_get, Option, Some, None, if◌then◌else◌}
+use Rattle.std.proofs.Common.{◌≡◌, ℕ, zero, suc, ◌+◌, List, [], ◌∷◌, length, take, sum_by, arith, ap, sym, ◌∙◌, refl, slice_get, Some}
 use Rattle.std.specs.List.{list_any}
 use Rattle.std.specs.Option.{is_some}
 use Rattle.std.proofs.lemmas.List.Sums.{sum_by-cons}
 use Rattle.cs_base.specs.Rates.{same_res}
 use Rattle.cs_base.specs.declared.resource.Res.{Res}
-use Rattle.cs_base.proofs.Rates.{same_res_is, same_res_here}
+use Rattle.cs_base.proofs.Rates.{same_res_is}
 use Rattle.cs_base.proofs.Tests.{by_test, some_is}
 use Rattle.cs_cells.specs.Areas.{word_count}
 use Rattle.cs_cells.specs.declared.footprint.Area.{Area}

@@ -1,5 +1,5 @@
 -- Which limit areas pass.
-use Rattle.std.proofs.Common.{◌≡◌, ◌<◌, ◌≤◌, Bool, true, false, List, length, nat_lt, Option, Some, None, Result, Err, IfSome, if◌then◌else◌, refl, sym, subst, ◌∙◌, ap, arith}
+use Rattle.std.proofs.Common.{◌≡◌, ◌<◌, ◌≤◌, true, false, List, length, nat_lt, Option, Some, None, Result, Err, IfSome, if◌then◌else◌, sym, subst, ◌∙◌, ap, arith}
 use Rattle.std.proofs.lemmas.Bool.Decides.{nat_tests}
 use Rattle.cs_base.specs.Limits.{most_resources, most_words}
 use Rattle.cs_base.specs.declared.fault.Or.{Or}

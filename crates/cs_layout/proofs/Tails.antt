@@ -1,7 +1,7 @@
 -- What is shared from each kind of resource on.
 use Rattle.std.proofs.Common.{ℕ, List, ◌++◌, length}
 use Rattle.cs_base.specs.declared.resource.Res.TheVariants as res
-use Rattle.cs_ir.specs.Resources.{Spaces}
+use Rattle.cs_base.specs.declared.spaces.Spaces.{Spaces}
 use Rattle.cs_layout.specs.Layouts.{Shared, numbered, of_tables}
 use Rattle.cs_layout.specs.declared.areas.LiveTable.{LiveTable}
 use Rattle.cs_typed.specs.TypedTree.{SharedNames}

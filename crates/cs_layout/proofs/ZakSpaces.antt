@@ -4,7 +4,8 @@ use Rattle.std.specs.Option.{is_some}
 use Rattle.cs_base.specs.declared.resource.Res.TheVariants as res
 use Rattle.cs_words.specs.declared.catalogue.Space.{Space}
 use Rattle.cs_words.specs.declared.catalogue.Space.TheVariants as space
-use Rattle.cs_ir.specs.Resources.{Spaces, places_of, zak_place}
+use Rattle.cs_base.specs.declared.spaces.Spaces.{Spaces}
+use Rattle.cs_ir.specs.Resources.{places_of, zak_place}
 use Rattle.cs_typed.specs.TypedTree.{SharedNames}
 use Rattle.cs_voice_meaning.specs.Placing.{area_of}
 use Rattle.cs_machine.specs.Access.{spaces_of}

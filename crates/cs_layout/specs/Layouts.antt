@@ -4,7 +4,7 @@ use Rattle.std.specs.List.{list_any, range_with_len}
 use Rattle.cs_base.specs.declared.resource.Res.{Res}
 use Rattle.cs_base.specs.declared.resource.Res.TheVariants as res
 use Rattle.cs_cells.specs.declared.footprint.Area.{Area}
-use Rattle.cs_ir.specs.Resources.{Spaces}
+use Rattle.cs_base.specs.declared.spaces.Spaces.{Spaces}
 use Rattle.cs_layout.specs.declared.areas.LiveTable.{LiveTable}
 use Rattle.cs_meaning.specs.Plain.{Table, find_table}
 use Rattle.cs_typed.specs.TypedTree.{SharedNames}
@@ -14,7 +14,7 @@ pub record Shared : Type 0 where
   pub res : Res
   pub cells : ℕ
 
--- so many resources of a kind, numbered from 0, each with so many cells
+-- `count` resources of a kind, numbered from 0, each with `cells` cells
 abbrev pub numbered : (ℕ → Res) → ℕ → ℕ → List Shared
 numbered kind count cells = map (λ n. record { res = kind n; cells = cells }) (range_with_len 0 count)
 
@@ -35,7 +35,7 @@ shared_by ksmps names spaces live =
     ++ (numbered res.ZakA spaces.audio ksmps
     ++ of_tables live))))))
 
--- areas of so many cells each, one behind the other, from an address on
+-- the areas of what is shared, one behind the other, from an address on
 abbrev pub laid_from : ℕ → List Shared → List Area
 laid_from first [] = []
 laid_from first (s ∷ rest) = record { res = s.res; first = first; length = s.cells } ∷ laid_from (first + s.cells) rest

@@ -4,12 +4,11 @@ ghost use Rattle.std.specs.Prelude.{◌≡◌, ◌<◌, ◌≤◌, ◌+◌, ◌*
 ghost use Rattle.cs_base.specs.Limits.{most_resources, most_words};
 ghost use Rattle.cs_base.specs.declared.fault.Or.TheVariants as or;
 ghost use Rattle.cs_cells.specs.Areas.{limit_passed};
-ghost use Rattle.cs_ir.specs.Resources.{Spaces};
 ghost use Rattle.cs_layout.specs.Layouts.{AreApart, areas_of, laid_from, of_tables};
 ghost use Rattle.cs_layout.specs.inner.Groups.{groups_of, members, res_of};
 ghost use Rattle.cs_typed.specs.TypedTree.{shared_names};
 
-use cs_base::{Limit, LimitHit, MOST_RESOURCES, MOST_WORDS, Or, OutOfMemory, Res};
+use cs_base::{Limit, LimitHit, MOST_RESOURCES, MOST_WORDS, Or, OutOfMemory, Res, Spaces};
 use cs_cells::{Area, Layout};
 use cs_typed::Globals;
 use std::alloc::Global;
@@ -22,27 +21,26 @@ pub struct LiveTable {
     pub size: u32,
 }
 
-/// The layout of a piece of so many frames a control cycle, with these variables and channels, so many places of the two zak
-/// spaces, and these live tables, no two of one number. More areas than 4,096 pass the limit on resources, and then more cells
-/// than 65,536 that on words, at line 0.
+/// The layout of a piece with `ksmps` frames a control cycle, these variables and channels, zak spaces and live
+/// tables, no two of one number. More areas than 4,096 pass the limit on resources, and then more cells than 65,536
+/// that on words, at line 0.
 pub fn layout(
     alloc: Global,
     ksmps: u32,
     globals: &Globals,
-    zak_k: u32,
-    zak_a: u32,
+    spaces: Spaces,
     live: &[LiveTable],
 ) -> Result<Layout, Or<LimitHit>>
     requires { AreApart live.now }
     ensures areas { IfOk result (λ l. l ≡ areas_of ksmps (shared_names globals.now)
-        (record { control = zak_k; audio = zak_a }) live.now) }
+        spaces live.now) }
     ensures limit { IfSome (limit_passed (areas_of ksmps (shared_names globals.now)
-        (record { control = zak_k; audio = zak_a }) live.now)) (λ h. result ≡ Err (or.Fault h)) }
-    // Within the limits want of memory alone is refused.
+        spaces live.now)) (λ h. result ≡ Err (or.Fault h)) }
+    // Within the limits the one error is out of memory.
     ensures memory { IfNone (limit_passed (areas_of ksmps (shared_names globals.now)
-        (record { control = zak_k; audio = zak_a }) live.now)) (IfErr result (λ e. e ≡ or.OutOfMemory)) }
+        spaces live.now)) (IfErr result (λ e. e ≡ or.OutOfMemory)) }
 {
-    let groups = groups_of(ksmps, globals, zak_k, zak_a);
+    let groups = groups_of(ksmps, globals, spaces);
     if count_of(&groups, live) > MOST_RESOURCES as u128 {
         return Err(passed(Limit::Resources));
     }
@@ -81,7 +79,7 @@ impl Kind {
     }
 }
 
-// So many resources of a kind, each with so many cells.
+// `count` resources of a kind, each with `cells` cells.
 #[derive(Clone, Copy)]
 struct Group {
     kind: Kind,
@@ -89,8 +87,8 @@ struct Group {
     cells: u32,
 }
 
-fn groups_of(ksmps: u32, globals: &Globals, zak_k: u32, zak_a: u32) -> [Group; 7]
-    ensures { result ≡ groups_of ksmps (shared_names globals.now) (record { control = zak_k; audio = zak_a }) }
+fn groups_of(ksmps: u32, globals: &Globals, spaces: Spaces) -> [Group; 7]
+    ensures { result ≡ groups_of ksmps (shared_names globals.now) spaces }
 {
     [
         many(Kind::Gi, globals.gi.len(), 1),
@@ -98,8 +96,8 @@ fn groups_of(ksmps: u32, globals: &Globals, zak_k: u32, zak_a: u32) -> [Group; 7
         many(Kind::Ga, globals.ga.len(), ksmps),
         many(Kind::Control, globals.control.len(), 1),
         many(Kind::Sound, globals.sound.len(), ksmps),
-        many(Kind::ZakK, zak_k as usize, 1),
-        many(Kind::ZakA, zak_a as usize, ksmps),
+        many(Kind::ZakK, spaces.control as usize, 1),
+        many(Kind::ZakA, spaces.audio as usize, ksmps),
     ]
 }
 

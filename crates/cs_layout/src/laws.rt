@@ -7,7 +7,7 @@ ghost use Rattle.cs_base.specs.Rates.{res_rate};
 ghost use Rattle.cs_base.specs.declared.resource.Res.{Res};
 ghost use Rattle.cs_cells.specs.Areas.{IsLaid};
 ghost use Rattle.cs_cells.specs.declared.footprint.Area.{Area};
-ghost use Rattle.cs_ir.specs.Resources.{Spaces};
+ghost use Rattle.cs_base.specs.declared.spaces.Spaces.{Spaces};
 ghost use Rattle.cs_ir.specs.Validity.{has_value};
 ghost use Rattle.cs_layout.specs.Layouts.{AreApart, AreLive, areas_of, is_shared};
 ghost use Rattle.cs_layout.specs.declared.areas.LiveTable.{LiveTable};
@@ -16,8 +16,8 @@ ghost use Rattle.cs_rwset.specs.Footprints.{stock_of};
 ghost use Rattle.cs_voice_meaning.specs.Placing.{IsPlaced, area_of, cell_count};
 ghost use Rattle.cs_typed.specs.TypedTree.{SharedNames};
 
-/// Areas follow one another and no resource has two; a resource has one exactly where the piece has the resource, with a cell
-/// for each frame of a control cycle where it is a sound, else one.
+/// Areas follow one another and no resource has two; a resource has one exactly where the piece has the resource, with
+/// a cell for each frame of a control cycle where it is a sound, else one.
 pub fn layouts_are_complete()
     ensures laid { (ksmps : ℕ) (names : SharedNames) (spaces : Spaces) (live : List LiveTable) → AreApart live
         → IsLaid (areas_of ksmps names spaces live) }
@@ -30,7 +30,8 @@ pub fn layouts_are_complete()
         → (stock_of (areas_of ksmps names spaces live)).spaces ≡ spaces }
 {}
 
-/// The zak spaces of a layout are those of the piece: each of their places has its area, from 0 on, and no other place has one.
+/// The zak spaces of a layout are those of the piece: each of their places has its area, from 0 on, and no other place
+/// has one.
 pub fn layouts_have_their_places()
     ensures spaces { (ksmps : ℕ) (names : SharedNames) (spaces : Spaces) (live : List LiveTable)
         → spaces_of (areas_of ksmps names spaces live) ≡ spaces }
@@ -38,7 +39,8 @@ pub fn layouts_have_their_places()
         → AreSpaces (areas_of ksmps names spaces live) }
 {}
 
-/// What the notes of a piece share is placed in its layout: its zak spaces, and those of its tables that notes may write.
+/// What the notes of a piece share is placed in its layout: its zak spaces, and those of its tables that notes may
+/// write.
 pub fn layouts_hold_a_piece()
     ensures { (names : SharedNames) (live : List LiveTable) (piece : Piece) → AreApart live → 0 < piece.head.ksmps
         → AreLive live piece.tables → All (λ t. 0 < t.size) live

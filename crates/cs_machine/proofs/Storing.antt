@@ -8,7 +8,8 @@ use Rattle.cs_gen.specs.Points.{len_of}
 use Rattle.cs_ir.specs.Waves.{Wave}
 use Rattle.cs_cells.specs.Cells.{cell, in_area}
 use Rattle.cs_cells.specs.declared.footprint.Area.{Area}
-use Rattle.cs_meaning.specs.Plain.{Table, places_of_indices, stored, table_place}
+use Rattle.cs_gen.specs.Places.{place_of_index}
+use Rattle.cs_meaning.specs.Plain.{Table, places_of_indices, stored}
 use Rattle.cs_voice_meaning.specs.Placing.{wave_in, with_wave}
 use Rattle.cs_machine.proofs.Writing.{frame_in, in_here, set_cell}
 
@@ -71,6 +72,6 @@ one_stored c cells area place sig w j p z before at_p low long is = (λ i a. at 
 
 -- the places of a table of as many points as the area has cells
 pub in_table : (t : Table) (area : Area) (indices sig w : Wave) (n : ℕ) (cells now : ℕ → ℤ) → t.size ≡ area.length
-    → now ≡ with_wave (Some area) (stored (λ j. table_place (len_of area.length) (indices j)) sig n w) cells
+    → now ≡ with_wave (Some area) (stored (λ j. place_of_index (len_of area.length) (indices j)) sig n w) cells
     → now ≡ with_wave (Some area) (stored (places_of_indices t indices) sig n w) cells
-in_table t area indices sig w n cells now size h = h ∙ ap (λ k. with_wave (Some area) (stored (λ j. table_place (len_of k) (indices j)) sig n w) cells) (sym size)
+in_table t area indices sig w n cells now size h = h ∙ ap (λ k. with_wave (Some area) (stored (λ j. place_of_index (len_of k) (indices j)) sig n w) cells) (sym size)

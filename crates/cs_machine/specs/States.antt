@@ -12,7 +12,8 @@ use Rattle.cs_ugen.specs.Points.{is_len}
 use Rattle.cs_signal.specs.Operands.{argument}
 use Rattle.cs_ugen.specs.Units.{IsUnitOpcode, opcode_of}
 use Rattle.cs_ir.specs.Machine.{Machine, acts}
-use Rattle.cs_ir.specs.Resources.{Stock, act_uses, act_writes, takes_table}
+use Rattle.cs_words.specs.Catalogue.{takes_table}
+use Rattle.cs_ir.specs.Resources.{Stock, act_uses, act_writes}
 use Rattle.cs_ir.specs.declared.op.Act.{Act}
 use Rattle.cs_ir.specs.declared.register.Counts.{Counts}
 use Rattle.cs_ir.specs.declared.register.Reg.{Reg}
@@ -53,7 +54,7 @@ machine_of s cells next asks cause = record {
 pub record IsSettingOf (at : Setting) (areas : List Area) (piece : Piece) : Type 0 where
   pub layout : at.layout.now ≡ areas
   pub head : piece.head ≡ header_of_head at.head.now
-  pub spaces : piece.spaces ≡ record { control = at.zak_k; audio = at.zak_a }
+  pub spaces : piece.spaces ≡ at.spaces
   pub fields : (k : ℕ) → piece.fields k ≡ argument at.fields.now (k - 1)
 
 -- What a unit has kept of its table is what the piece has: the points of a frozen one, or else the area that notes may change.

@@ -6,8 +6,9 @@ ghost use Rattle.cs_ir.specs.Values.{applied, negated};
 ghost use Rattle.cs_ir.specs.Waves.{both, chosen};
 ghost use Rattle.cs_machine.specs.Registers.{IsWritten, values};
 
+use crate::pairs::{combine_row, negate_row};
 use crate::registers::Registers;
-use crate::rows::{apply_row, combine_row, copy, negate_row};
+use crate::rows::{apply_row, copy};
 use cs_base::{Num, Rate};
 use cs_ir::{Reg, apply, combine, holds, negate};
 use cs_words::{BinOp, Func};

@@ -8,10 +8,11 @@
 //! How registers, units and channels lie in memory, which loop fills a row, in which order cells are read and written, and
 //! how a table is read, may be changed without anyone above noticing.
 //!
-//! Modules in reading order: `rows` (loops over the frames of a cycle), `registers`, `compute` (operators and functions over
-//! registers), `outputs` (the channels); `places` (areas and numbers), `area_rows` (an area at once), `zak`, `table` (stores),
-//! `live` (reading); `player` (a unit and its table), `gather` (a player on registers); `state` (what a note keeps, and what it
-//! plays in), `values` (numbers, p-fields, the header), `operate` (operators and functions), `output` (channels, a note's end).
+//! Modules in reading order: `rows` (loops over the frames of a cycle), `pairs` (an operator and two operands over them),
+//! `registers`, `compute` (operators and functions over registers), `outputs` (the channels); `places` (areas and numbers),
+//! `area_rows` (an area at once), `zak`, `table` (stores), `live` (reading); `player` (a unit and its table), `gather` (a player
+//! on registers); `state` (what a note keeps, and what it plays in), `values` (numbers, p-fields, the header), `operate`
+//! (operators and functions), `output` (channels, a note's end).
 #![tactic(auto)]
 
 mod area_rows;
@@ -21,6 +22,7 @@ mod live;
 mod operate;
 mod output;
 mod outputs;
+mod pairs;
 mod places;
 mod player;
 mod registers;
@@ -33,7 +35,7 @@ mod zak;
 pub use area_rows::{mix_row, read_row, write_row, write_value};
 pub use gather::{block, step};
 pub use outputs::Outputs;
-pub use places::{area_of, index, reaches, zak_place};
+pub use places::{area_of, index};
 pub use player::Player;
 pub use registers::Registers;
 pub use state::{Setting, State};

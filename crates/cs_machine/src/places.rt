@@ -1,13 +1,10 @@
 // Where a resource has its cells, and what numbers name.
 ghost use Rattle.std.specs.Prelude.{◌≡◌, ◌+◌, ◌<◌, ◌≤◌, length, slice_get, IfSome, Some};
-ghost use Rattle.cs_ir.specs.Resources.{reaches, zak_place};
 ghost use Rattle.cs_meaning.specs.Plain.{index};
 ghost use Rattle.cs_voice_meaning.specs.Placing.{area_of};
 
 use cs_base::{Num, Res};
 use cs_cells::{Area, Layout};
-use cs_ir::Reach;
-use cs_words::Space;
 
 /// The area of a resource, where it has one.
 pub fn area_of(layout: &Layout, res: Res) -> Option<Area>
@@ -41,25 +38,4 @@ pub fn index(value: Num) -> Option<usize>
         return None;
     }
     Some(raw.div_euclid(65536).unsigned_abs() as usize)
-}
-
-/// Whether a number lies within a reach.
-pub fn reaches(reach: Reach, number: usize) -> bool
-    ensures { result ≡ reaches reach number }
-{
-    match reach {
-        Reach::Nothing => false,
-        Reach::Span(first, last) => first <= number && number <= last,
-        Reach::Any => true,
-    }
-}
-
-/// The zak place of a number.
-pub fn zak_place(space: Space, number: usize) -> Res
-    ensures { result ≡ zak_place space number }
-{
-    match space {
-        Space::Control => Res::ZakK(number),
-        Space::Audio => Res::ZakA(number),
-    }
 }

@@ -11,12 +11,11 @@ ghost use Rattle.cs_signal.specs.Steps.{run};
 ghost use Rattle.cs_ugen.specs.Units.{inputs_at, moving_count, opcode_of, unit_step};
 
 use crate::live::LiveTable;
-use crate::reaches;
 use cs_base::Num;
 use cs_cells::{Area, Bank};
 use cs_ir::Reach;
 use cs_signal::Operand;
-use cs_ugen::{Frozen, Unit};
+use cs_ugen::{Frozen, FrozenTable, Unit};
 use cs_words::Opcode;
 use std::marker::Model;
 
@@ -66,15 +65,15 @@ impl<'t> Player<'t> {
     }
 
     /// A player of an opcode on a frozen table: the table's number, and its points.
-    pub fn on_frozen(opcode: Opcode, table: i64, unit: Unit, points: &'t [Num]) -> Player<'t>
-        requires { is_len (len_of (length points.now)) ≡ true }
-        ensures { result ≡ record { opcode = opcode; table = table; state = unit; points = Some points.entry.now; area = None } }
+    pub fn on_frozen(opcode: Opcode, table: i64, unit: Unit, points: FrozenTable<'t>) -> Player<'t>
+        requires { is_len (len_of (length points.points.now)) ≡ true }
+        ensures { result ≡ record { opcode = opcode; table = table; state = unit; points = Some points.entry.points.now; area = None } }
     {
         Player {
             opcode,
             table,
             unit,
-            reads: Reads::Frozen(Frozen::new(points)),
+            reads: Reads::Frozen(Frozen::of(points)),
         }
     }
 
@@ -97,7 +96,7 @@ impl<'t> Player<'t> {
     {
         match &self.reads {
             Reads::Nothing => true,
-            _ => reaches(reach, self.table.unsigned_abs() as usize),
+            _ => reach.contains(self.table.unsigned_abs() as usize),
         }
     }
 

@@ -9,7 +9,7 @@ ghost use Rattle.cs_machine.specs.States.{IsStateIn, machine_of};
 
 use crate::registers::zeros;
 use crate::{Outputs, Player, Registers};
-use cs_base::{Head, Num, OutOfMemory};
+use cs_base::{Head, Num, OutOfMemory, Spaces};
 use cs_cells::Layout;
 use cs_ir::Counts;
 use std::alloc::Global;
@@ -38,8 +38,7 @@ pub struct State<'p> {
 pub struct Setting<'s> {
     pub head: &'s Head,
     pub layout: &'s Layout,
-    pub zak_k: u32,
-    pub zak_a: u32,
+    pub spaces: Spaces,
     pub fields: &'s [Num],
 }
 

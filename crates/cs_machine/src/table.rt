@@ -4,7 +4,7 @@ ghost use Rattle.cs_machine.specs.Access.{CanTouch};
 ghost use Rattle.cs_base.specs.declared.resource.Rate.TheVariants as rate;
 ghost use Rattle.cs_cells.specs.Cells.{cell};
 ghost use Rattle.cs_gen.specs.Points.{len_of};
-ghost use Rattle.cs_meaning.specs.Plain.{Table, places_of_indices, stored, table_place};
+ghost use Rattle.cs_meaning.specs.Plain.{Table, places_of_indices, stored};
 ghost use Rattle.cs_ugen.specs.Points.{is_len};
 ghost use Rattle.cs_signal.specs.Operands.{operand_at};
 ghost use Rattle.cs_voice_meaning.specs.Placing.{wave_in, with_wave};
@@ -12,6 +12,7 @@ ghost use Rattle.cs_voice_meaning.specs.Placing.{wave_in, with_wave};
 use crate::area_rows::set_frame;
 use cs_base::Num;
 use cs_cells::{Area, Bank};
+use cs_gen::place_of_index;
 use cs_signal::Operand;
 
 // The power of two of a size.
@@ -34,20 +35,7 @@ pub fn store<B: Bank>(bank: &mut B, area: Area, steps: usize, sig: &Operand, ndx
 {
     let len = power_below(area.length);
     for j in 0..steps {
-        let place = place_of(ndx.at(j), len);
+        let place = place_of_index(ndx.at(j), len);
         set_frame(bank, area, place as usize, sig.at(j));
     }
-}
-
-// The place of an index: its whole part, rounded down, brought into 0 .. len - 1.
-fn place_of(ndx: Num, len: u32) -> u32
-    requires { 1 ≤ len }
-    ensures value { result ≡ table_place len ndx }
-    ensures inside { result < len }
-{
-    ndx.raw()
-        .div_euclid(65536)
-        .min(i64::from(len - 1))
-        .max(0)
-        .unsigned_abs() as u32
 }

@@ -10,7 +10,7 @@ ghost use Rattle.cs_voice_meaning.specs.Placing.{area_of};
 ghost use Rattle.cs_voice_meaning.specs.VoiceWorld.{lies_cleared};
 
 use crate::area_rows::clear;
-use crate::places::{area_at, index, reaches};
+use crate::places::{area_at, index};
 use cs_base::{Num, Res};
 use cs_cells::{Bank, Layout};
 use cs_ir::Reach;
@@ -51,8 +51,8 @@ fn clears(space: Space, reach: Reach, first: Option<usize>, last: Option<usize>,
     ensures { result ≡ clears space reach first last res }
 {
     match (space, res) {
-        (Space::Control, Res::ZakK(n)) => reaches(reach, n) && lies_between(first, last, n),
-        (Space::Audio, Res::ZakA(n)) => reaches(reach, n) && lies_between(first, last, n),
+        (Space::Control, Res::ZakK(n)) => reach.contains(n) && lies_between(first, last, n),
+        (Space::Audio, Res::ZakA(n)) => reach.contains(n) && lies_between(first, last, n),
         _ => false,
     }
 }

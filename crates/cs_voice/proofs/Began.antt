@@ -103,7 +103,7 @@ refused_so s m (refusal.DelayTooLong samples) e = e
 -- the parts of a voice that plays from an instrument's sheet
 pub made_voice : (instrument : Numbered) (number age : ℕ) (foot : Footprint) (stage : Stage) (ms : List Bool) (fields : List ℤ) (perf : Code) (counts : Counts) (state : State)
     → IsPlayable (sheet_at instrument age foot stage ms fields) → number ≡ instrument.number → perf ≡ instrument.perf → length ms ≡ length stage.tables.now
-    → AreSpaces stage.layout.now → spaces_of stage.layout.now ≡ record { control = stage.zak_k; audio = stage.zak_a } → valid perf ≡ true
+    → AreSpaces stage.layout.now → spaces_of stage.layout.now ≡ stage.spaces → valid perf ≡ true
     → counts ≡ perf.counts → IsStateOf (sheet_at instrument age foot stage ms fields) counts state
     → MakeVoice number age stage foot perf fields state
 made_voice instrument number age foot stage ms fields perf counts state playable numbered same long places zak fine counted of = record {
@@ -128,7 +128,7 @@ made_voice instrument number age foot stage ms fields perf counts state playable
 
 pub on_sheet : (instrument : Numbered) (number age : ℕ) (foot : Footprint) (stage : Stage) (ms : List Bool) (fields : List ℤ) (perf : Code) (counts : Counts) (state : State)
     → IsPlayable (sheet_at instrument age foot stage ms fields) → number ≡ instrument.number → perf ≡ instrument.perf → length ms ≡ length stage.tables.now
-    → AreSpaces stage.layout.now → spaces_of stage.layout.now ≡ record { control = stage.zak_k; audio = stage.zak_a } → valid perf ≡ true
+    → AreSpaces stage.layout.now → spaces_of stage.layout.now ≡ stage.spaces → valid perf ≡ true
     → counts ≡ perf.counts → IsStateOf (sheet_at instrument age foot stage ms fields) counts state
     → IsOn (sheet_at instrument age foot stage ms fields) (voice_in number age stage foot perf fields state)
 unfolding made_voice
@@ -137,16 +137,16 @@ on_sheet instrument number age foot stage ms fields perf counts state playable n
 
 -- the code that begins a sheet's notes can be done over a bank of all cells
 pub can_pass : (get set : ℕ → Type 0) (count : ℕ) (finds : Finds) (instrument : Numbered) (age : ℕ) (foot : Footprint) (stage : Stage) (ms : List Bool) (fields : List ℤ) (init : Code) (state : State)
-    → finds.at.layout.now ≡ stage.layout.now → finds.at.head.now ≡ stage.head.now → finds.at.zak_k ≡ stage.zak_k → finds.at.zak_a ≡ stage.zak_a
+    → finds.at.layout.now ≡ stage.layout.now → finds.at.head.now ≡ stage.head.now → finds.at.spaces ≡ stage.spaces
     → finds.at.fields.now ≡ fields → finds.tables.now ≡ stage.tables.now → init ≡ instrument.init → valid init ≡ true
     → ((cells : ℕ → ℤ) → machine_of state cells 0 [] None ≡ new_machine (fresh_voice cells))
     → ((areas : List Area) (piece : Piece) (kinds : Kinds) → piece.head.ksmps ≡ stage.head.now.ksmps → piece.head.nchnls ≡ stage.head.now.nchnls → IsStateIn areas piece kinds init.counts state)
     → IsPlayable (sheet_at instrument age foot stage ms fields) → length ms ≡ length stage.tables.now
     → CanAllBePlayed stage.layout.now (tables_of stage.tables.now ms) → AreSpaces stage.layout.now
-    → spaces_of stage.layout.now ≡ record { control = stage.zak_k; audio = stage.zak_a }
+    → spaces_of stage.layout.now ≡ stage.spaces
     → ((a : ℕ) → a < word_count stage.layout.now → get a) → ((a : ℕ) → a < word_count stage.layout.now → set a) → word_count stage.layout.now ≤ count
     → CanPass get set count finds ms init (sheet_at instrument age foot stage ms fields) state
-can_pass get set count finds instrument age foot stage ms fields init state layout head zk za given tabled same fine fresh in_piece playable long can places zak gets sets words =
+can_pass get set count finds instrument age foot stage ms fields init state layout head zs given tabled same fine fresh in_piece playable long can places zak gets sets words =
     let new = new_state (sheet_at instrument age foot stage ms fields) init.counts state fresh in_piece playable in
     record {
       begin = record {
@@ -154,7 +154,7 @@ can_pass get set count finds instrument age foot stage ms fields init state layo
           setting = record {
             layout = layout;
             head = ap header_of_head (sym head);
-            spaces = λ i. record { control = sym zk i; audio = sym za i };
+            spaces = sym zs;
             fields = λ k. ap (λ f. argument f (k - 1)) (sym given);
           };
           places = places;

@@ -92,21 +92,21 @@ module _ (number age : ℕ) (stage : Stage) (foot : Footprint) (code : Code) (fi
   -- the code of a voice can be run over a bank that has what the voice may touch
   pub can_run : (can_get can_set : ℕ → Type 0) (count : ℕ) (s : State) (h : Kept s) (at : Setting) (t : State)
       → ((a : ℕ) → Uses voice_job (voice s) a → can_get a) → ((a : ℕ) → Writes voice_job (voice s) a → can_set a) → ((a : ℕ) → Uses voice_job (voice s) a → a < count)
-      → at.layout.now ≡ stage.layout.now → at.head.now ≡ stage.head.now → at.zak_k ≡ stage.zak_k → at.zak_a ≡ stage.zak_a → at.fields.now ≡ fields
+      → at.layout.now ≡ stage.layout.now → at.head.now ≡ stage.head.now → at.spaces ≡ stage.spaces → at.fields.now ≡ fields
       → IsStateIn stage.layout.now (piece_of (voice s)) h.voice.playable.kinds code.counts t
       → CanRun can_get can_set count at (context s h) code.ops.items t
-  can_run can_get can_set count s h at t get set within layout head zak_k zak_a given st =
+  can_run can_get can_set count s h at t get set within layout head zak given st =
       let p = h.voice.playable in
       let sh = sheet_of (voice s) in
       record {
         setting = record {
           layout = refl;
           head = ap header_of_head (sym head);
-          spaces = λ i. record { control = sym zak_k i; audio = sym zak_a i };
+          spaces = sym zak;
           fields = λ k. ap (λ l. argument l (k - 1)) (sym given);
         };
         spaces = subst (λ l. AreSpaces l) (sym layout) h.spaces;
-        zak = ap spaces_of layout ∙ h.zak ∙ (λ i. record { control = sym zak_k i; audio = sym zak_a i });
+        zak = ap spaces_of layout ∙ h.zak ∙ sym zak;
         placed = subst (λ l. IsPlaced l p.stock (piece_of (voice s))) (sym layout) p.placed;
         state = subst (λ l. IsStateIn l (piece_of (voice s)) p.kinds code.counts t) (sym layout) st;
         fine = h.voice.code;
@@ -188,13 +188,13 @@ module _ (number age : ℕ) (stage : Stage) (foot : Footprint) (code : Code) (fi
   -- a body runs: its channels are cleared, its code is run in a setting, and its registers and channels are asked
   module _ (s : State) (h : Kept s) (u : State) (silent : outs u.outs ≡ (λ n. silence)) (long : length u.outs.rows ≡ length s.outs.rows)
       (frames : u.outs.ksmps ≡ s.outs.ksmps) (same : u ≡ record s { outs = u.outs })
-      (at : Setting) (layout : at.layout.now ≡ stage.layout.now) (head : at.head.now ≡ stage.head.now) (zak_k : at.zak_k ≡ stage.zak_k) (zak_a : at.zak_a ≡ stage.zak_a)
+      (at : Setting) (layout : at.layout.now ≡ stage.layout.now) (head : at.head.now ≡ stage.head.now) (zak : at.spaces ≡ stage.spaces)
       (given : at.fields.now ≡ fields) (ops : List Op) (is : ops ≡ code.ops.items) (can_get can_set : ℕ → Type 0) (count : ℕ)
       (get : (a : ℕ) → Uses voice_job (voice s) a → can_get a) (set : (a : ℕ) → Writes voice_job (voice s) a → can_set a) (within : (a : ℕ) → Uses voice_job (voice s) a → a < count) where
     pub able : CanRun can_get can_set count at (context s h) ops u
     able = subst (λ l. CanRun can_get can_set count at (context s h) l u) (sym is)
         (subst (λ z. CanRun can_get can_set count at (context s h) code.ops.items z) (sym same)
-        (can_run can_get can_set count s h at (record s { outs = u.outs }) get set within layout head zak_k zak_a given (cleared s h u.outs long frames)))
+        (can_run can_get can_set count s h at (record s { outs = u.outs }) get set within layout head zak given (cleared s h u.outs long frames)))
 
     module _ (t : State) (c d : Cells) (run : (x : Context) → CanRun can_get can_set count at x ops u → HasRun at.layout.now x ops u (cell c) t (cell d))
         (all_registers : filled t.regs (values t.regs) ≡ t.regs) (all_channels : refilled t.outs (outs t.outs) ≡ t.outs) where

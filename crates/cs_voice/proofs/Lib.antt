@@ -10,6 +10,7 @@ pub mod Touching
 pub mod Began
 pub mod Ops
 pub mod Passed
+pub mod Going
 pub mod Running
 pub mod Starting
 pub mod Tabled

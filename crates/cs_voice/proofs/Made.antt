@@ -5,7 +5,8 @@ use Rattle.std.proofs.lemmas.List.{length-map}
 use Rattle.cs_base.specs.declared.resource.Rate.{Rate}
 use Rattle.cs_base.specs.declared.resource.Res.{Res}
 use Rattle.cs_words.specs.declared.catalogue.Opcode.{Opcode}
-use Rattle.cs_ir.specs.Resources.{Stock, takes_table}
+use Rattle.cs_words.specs.Catalogue.{takes_table}
+use Rattle.cs_ir.specs.Resources.{Stock}
 use Rattle.cs_ir.specs.declared.op.Act.{Act}
 use Rattle.cs_ir.specs.declared.op.Act.TheVariants as act
 use Rattle.cs_ir.specs.declared.op.Code.{Code}

@@ -1,5 +1,5 @@
 -- The code that begins a note, op by op.
-use Rattle.std.proofs.Common.{◌≡◌, ℕ, ℤ, ◌+◌, ◌<◌, ◌≤◌, ◌⊎◌, inl, inr, Bool, true, false, ◌&&◌, List, [], ◌∷◌, ◌++◌, length, map, nat_lt, nat_le, slice_get, Option, Some, None, if◌then◌else◌, refl, sym, ◌∙◌, ap, subst, append_assoc, arith}
+use Rattle.std.proofs.Common.{◌≡◌, ℕ, ℤ, ◌+◌, ◌<◌, ◌≤◌, ◌⊎◌, inl, inr, Bool, true, false, ◌&&◌, List, [], ◌∷◌, ◌++◌, length, map, slice_get, Option, Some, None, if◌then◌else◌, refl, sym, ◌∙◌, ap, subst, append_assoc, arith}
 use Rattle.std.specs.Option.{option_map}
 use Rattle.std.specs.List.{list_all}
 use Rattle.std.proofs.lemmas.Bool.{and_parts}
@@ -9,7 +9,6 @@ use Rattle.cs_ir.specs.Asks.{ask_of}
 use Rattle.cs_ir.specs.Cycles.{are_of_cycle, is_of_cycle}
 use Rattle.cs_ir.specs.Machine.{acts}
 use Rattle.cs_words.specs.Catalogue.{row_of, unit_takes}
-use Rattle.cs_base.specs.declared.resource.Rate.{Rate}
 use Rattle.cs_ir.specs.Units.{is_started}
 use Rattle.cs_ir.specs.Validity.{finds, is_fine, is_still, may_run_at, starts_with, takes_from}
 use Rattle.cs_ir.specs.Values.{holds}
@@ -21,7 +20,6 @@ use Rattle.cs_ir.specs.declared.op.Code.{Code}
 use Rattle.cs_ir.specs.declared.op.Op.{Op}
 use Rattle.cs_ir.specs.declared.register.Counts.{Counts}
 use Rattle.cs_ir.specs.declared.register.Reg.{Reg}
-use Rattle.cs_voice.specs.Cells.{spaces_at}
 use Rattle.cs_voice.specs.Ready.{CanBeDone, DoesOp, IsReady, is_here}
 use Rattle.cs_machine.specs.Access.{AreSpaces, spaces_of}
 use Rattle.cs_cells.specs.Areas.{word_count}
@@ -41,7 +39,7 @@ use Rattle.cs_voice.specs.Tables.{CanAllBePlayed, tables_of}
 use Rattle.cs_voice.specs.Starting.{Starts, cause_of}
 use Rattle.cs_voice.specs.declared.begin.Refusal.{Refusal}
 use Rattle.cs_voice.specs.declared.tables.Finds.{Finds}
-use Rattle.cs_voice.specs.inner.Jumps.{GoesOn, is_jump}
+use Rattle.cs_voice.specs.inner.Jumps.{GoesOn}
 use Rattle.cs_voice.proofs.Ops.{can_do, names_of, op_of, takes_of}
 use Rattle.cs_voice.proofs.Running.{IsUpTo, begins, ends, jumps, one_more, refuses}
 
@@ -77,7 +75,7 @@ module _ (get set : ℕ → Type 0) (count : ℕ) (finds : Finds) (ms : List Boo
     setting = record { layout = refl; head = found.setting.head; spaces = found.setting.spaces; fields = found.setting.fields };
     placed = subst (λ areas. IsPlaced areas p.stock s.piece) here p.placed;
     spaces = subst AreSpaces here found.places;
-    zak = subst (λ areas. spaces_of areas ≡ spaces_at finds.at) here (found.spaces ∙ found.setting.spaces);
+    zak = subst (λ areas. spaces_of areas ≡ finds.at.spaces) here (found.spaces ∙ found.setting.spaces);
     state = subst (λ areas. IsStateIn areas s.piece p.kinds old.regs.counts old) here (state.in_piece p);
     end = fine.end;
     place = fine.place;
@@ -168,19 +166,6 @@ jumped s now cells next more (act.Unless later) into ws place to g = by (holds (
     by false h = (later, refl, inr (sym h))
 jumped s now cells next more _ into ws place to g = absurd g
 
-later_on : (counts : Counts) (end place to : ℕ) (t : Act) (ws : List Wave) → finds counts end place t ≡ true → GoesOn t ws place to → place < to
-later_on counts end place to (act.Jump later) ws f g =
-    let p = and_parts (nat_lt place later) (nat_le later end) f in let h = p.0 in grind (arith, nat_tests)
-later_on counts end place to (act.Unless later) ws f g = by (holds (operand 0 ws 0)) g
-  where
-    by : (b : Bool) → to ≡ (if b then place + 1 else later) → place < to
-    by true h = omega arith
-    by false h = let p = and_parts (nat_lt place later) (nat_le later end) f in let q = p.0 in grind (arith, nat_tests)
-later_on counts end place to _ ws f g = absurd g
-
-pub jump_later : (counts : Counts) (end place to : ℕ) (op : Op) (ws : List Wave) → is_fine counts end place op ≡ true → GoesOn op.act ws place to → place < to
-jump_later counts end place to op ws fine g = later_on counts end place to op.act ws (names_of counts end place op fine) g
-
 pub passed_jump : (s : Sheet) (first : State) (before : ℕ → ℤ) (asked : List Ask) (place to : ℕ) (now : State) (cells : ℕ → ℤ) (asks : List Ask) (op : Op)
     → IsPassed s first before asked place now cells asks → slice_get s.init place ≡ Some op → place < to
     → GoesOn op.act (map (values now.regs) op.from) place to → IsPassed s first before asked to now cells asks
@@ -244,37 +229,6 @@ passed_refused s first before asked place now new cells after asks asks_new op r
       (machine_of new after u.next (u.more ++ d.more) (Some (cause_of refused))) u.up at refl (d.machine u.next u.more) refl;
   state = subst (λ c. IsStateOf s c new) u.counted d.state;
 }
-
--- where a jump goes on
-pub goes_jump : (t : Act) (ws : List Wave) (place to : ℕ) → t ≡ act.Jump to → GoesOn t ws place to
-goes_jump t ws place to is = let P : Act → Type 0 = λ a. GoesOn a ws place to in subst P (sym is) refl
-
-pub goes_on_here : (t : Act) (ws : List Wave) (place later : ℕ) → t ≡ act.Unless later → holds (operand 0 ws 0) ≡ true → GoesOn t ws place (place + 1)
-goes_on_here t ws place later is h =
-    let P : Act → Type 0 = λ a. GoesOn a ws place (place + 1) in
-    subst P (sym is) (sym (ap (λ b. if b then place + 1 else later) h))
-
-pub goes_on_later : (t : Act) (ws : List Wave) (place later : ℕ) → t ≡ act.Unless later → holds (operand 0 ws 0) ≡ false → GoesOn t ws place later
-goes_on_later t ws place later is h =
-    let P : Act → Type 0 = λ a. GoesOn a ws place later in
-    subst P (sym is) (sym (ap (λ b. if b then place + 1 else later) h))
-
-takes_one : (later : ℕ) (r : Rate) (xs : List Reg) → takes_from (act.Unless later) r xs ≡ true → (x : Reg) × (xs ≡ x ∷ [])
-takes_one later r [] e = absurd cc
-takes_one later r (x ∷ []) e = (x, refl)
-takes_one later r (x ∷ y ∷ xs) e = absurd cc
-
-pub condition_of : (counts : Counts) (end place later : ℕ) (op : Op) → is_fine counts end place op ≡ true → op.act ≡ act.Unless later → (x : Reg) × (op.from ≡ x ∷ [])
-condition_of counts end place later op fine is =
-    takes_one later op.into.rate op.from (subst (λ t. takes_from t op.into.rate op.from ≡ true) is (takes_of counts end place op fine))
-
--- what isn't a jump, a start or an ask is done by the acts over cells
-pub here_of : (t : Act) → is_jump t ≡ false → ((o : Opcode) (u : ℕ) → t ≡ act.Start o u → ⊥) → (t ≡ act.Ask → ⊥) → is_here t ≡ true
-here_of (act.Jump to) j s a = absurd cc
-here_of (act.Unless to) j s a = absurd cc
-here_of (act.Start o u) j s a = absurd (s o u refl)
-here_of act.Ask j s a = absurd (a refl)
-here_of _ j s a = refl
 
 -- what a start names and takes
 starts_at : (counts : Counts) (end place u : ℕ) (o : Opcode) → finds counts end place (act.Start o u) ≡ true → u < counts.units

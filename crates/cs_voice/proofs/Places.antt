@@ -11,7 +11,8 @@ use Rattle.cs_words.specs.declared.catalogue.Opcode.TheVariants as op
 use Rattle.cs_words.specs.declared.catalogue.Space.{Space}
 use Rattle.cs_words.specs.declared.catalogue.Space.TheVariants as space
 use Rattle.cs_ir.specs.Machine.{Machine, acts, in_world, write}
-use Rattle.cs_ir.specs.Resources.{Spaces, places_of, reaches, zak_place}
+use Rattle.cs_base.specs.declared.spaces.Spaces.{Spaces}
+use Rattle.cs_ir.specs.Resources.{places_of, reaches, zak_place}
 use Rattle.cs_ir.specs.Validity.{has_value}
 use Rattle.cs_ir.specs.Waves.{Wave, held, silence}
 use Rattle.cs_ir.specs.declared.op.Act.TheVariants as act
@@ -23,7 +24,7 @@ use Rattle.cs_machine.specs.Rows.{row_wave}
 use Rattle.cs_voice_meaning.specs.Placing.{area_of, wave_in, wave_of, with_wave}
 use Rattle.cs_voice_meaning.specs.VoiceWorld.{VoiceState, cleared, load, saved, voice_world}
 use Rattle.cs_machine.proofs.Writing.{frame_past}
-use Rattle.cs_voice.specs.Cells.{MayReach, clear_of, get_of, put_of, spaces_at}
+use Rattle.cs_voice.specs.Cells.{MayReach, clear_of, get_of, put_of}
 use Rattle.cs_voice.specs.inner.Zak.{reached}
 use Rattle.cs_machine.specs.States.{MayTouch}
 use Rattle.cs_machine.specs.declared.state.Setting.{Setting}
@@ -57,22 +58,22 @@ clearing areas piece space.Audio u reach into v w m = refl
 -- ---- the place that a number names
 
 pub at_reached : {A : Type 0} (at : Setting) (piece : Piece) (s : Space) (reach : Reach) (k : Option ℕ) (g : Res) (other : A) (found : Res → A)
-    → piece.spaces ≡ spaces_at at → reached at s reach k ≡ Some g → at_place piece s reach k other found ≡ found g
+    → piece.spaces ≡ at.spaces → reached at s reach k ≡ Some g → at_place piece s reach k other found ≡ found g
 at_reached at piece s reach None g other found same h = absurd cc
 at_reached {A} at piece s reach (Some n) g other found same h =
     ap (λ (spaces : Spaces). if nat_lt n (places_of spaces s) && reaches reach n then found (zak_place s n) else other) same
-    ∙ by (nat_lt n (places_of (spaces_at at) s) && reaches reach n) h
+    ∙ by (nat_lt n (places_of at.spaces s) && reaches reach n) h
   where
     by : (b : Bool) → (if b then Some (zak_place s n) else None) ≡ Some g → (if b then found (zak_place s n) else other) ≡ found g
     by true e = ap found (some_is (zak_place s n) g e)
     by false e = absurd cc
 
 pub not_reached : {A : Type 0} (at : Setting) (piece : Piece) (s : Space) (reach : Reach) (k : Option ℕ) (other : A) (found : Res → A)
-    → piece.spaces ≡ spaces_at at → reached at s reach k ≡ None → at_place piece s reach k other found ≡ other
+    → piece.spaces ≡ at.spaces → reached at s reach k ≡ None → at_place piece s reach k other found ≡ other
 not_reached at piece s reach None other found same h = refl
 not_reached {A} at piece s reach (Some n) other found same h =
     ap (λ (spaces : Spaces). if nat_lt n (places_of spaces s) && reaches reach n then found (zak_place s n) else other) same
-    ∙ by (nat_lt n (places_of (spaces_at at) s) && reaches reach n) h
+    ∙ by (nat_lt n (places_of at.spaces s) && reaches reach n) h
   where
     by : (b : Bool) → (if b then Some (zak_place s n) else None) ≡ None → (if b then found (zak_place s n) else other) ≡ other
     by true e = absurd cc
@@ -81,17 +82,17 @@ not_reached {A} at piece s reach (Some n) other found same h =
 pub reached_here : {can : ℕ → Type 0} (count : ℕ) (at : Setting) (s : Space) (reach : Reach) (k : Option ℕ) (g : Res)
     → MayReach can count at s reach → reached at s reach k ≡ Some g → MayTouch can count at.layout.now g
 reached_here count at s reach None g may h = absurd cc
-reached_here {can} count at s reach (Some n) g may h = by_test (nat_lt n (places_of (spaces_at at) s) && reaches reach n)
-    (λ yes. let parts = and_parts (nat_lt n (places_of (spaces_at at) s)) (reaches reach n) yes in
+reached_here {can} count at s reach (Some n) g may h = by_test (nat_lt n (places_of at.spaces s) && reaches reach n)
+    (λ yes. let parts = and_parts (nat_lt n (places_of at.spaces s)) (reaches reach n) yes in
     let here : Some (zak_place s n) ≡ Some g = sym (ap (λ b. if b then Some (zak_place s n) else None) yes) ∙ h in
     subst (MayTouch can count at.layout.now) (some_is (zak_place s n) g here)
-    (may n (ltb-true n (places_of (spaces_at at) s) parts.0) parts.1))
+    (may n (ltb-true n (places_of at.spaces s) parts.0) parts.1))
     (λ no. let none : None ≡ Some g = sym (ap (λ b. if b then Some (zak_place s n) else None) no) ∙ h in absurd cc)
 
 place_of_number : (at : Setting) (s : Space) (reach : Reach) (k : Option ℕ) (g : Res) → reached at s reach k ≡ Some g
     → (n : ℕ) × (zak_place s n ≡ g)
 place_of_number at s reach None g h = absurd cc
-place_of_number at s reach (Some n) g h = (n, by (nat_lt n (places_of (spaces_at at) s) && reaches reach n) h)
+place_of_number at s reach (Some n) g h = (n, by (nat_lt n (places_of at.spaces s) && reaches reach n) h)
   where
     by : (b : Bool) → (if b then Some (zak_place s n) else None) ≡ Some g → zak_place s n ≡ g
     by true e = some_is (zak_place s n) g e

@@ -11,7 +11,8 @@ use Rattle.cs_words.specs.declared.catalogue.Opcode.TheVariants as op
 use Rattle.cs_gen.specs.Tables.{curve_of}
 use Rattle.cs_ugen.specs.Units.{IsUnitOpcode, reads_table}
 use Rattle.cs_ir.specs.Machine.{gives}
-use Rattle.cs_ir.specs.Resources.{Stock, takes_table, reaches}
+use Rattle.cs_words.specs.Catalogue.{takes_table}
+use Rattle.cs_ir.specs.Resources.{Stock, reaches}
 use Rattle.cs_ir.specs.declared.op.Reach.{Reach}
 use Rattle.cs_cells.specs.declared.footprint.Area.{Area}
 use Rattle.cs_meaning.specs.Plain.{Piece, Table, find_table, points_of, read_points}

@@ -3,7 +3,7 @@ use Rattle.std.proofs.Common.{◌≡◌, ℕ, ℤ, ◌<◌, suc, true, ◌&&◌,
 use Rattle.std.proofs.lemmas.Bool.{and_parts}
 use Rattle.cs_base.specs.Rates.{is_audio, res_rate}
 use Rattle.cs_base.specs.declared.resource.Rate.{Rate}
-use Rattle.cs_words.specs.Catalogue.{moving_letters, row_of, takes}
+use Rattle.cs_words.specs.Catalogue.{moving_letters, row_of, takes, takes_table}
 use Rattle.cs_words.specs.declared.catalogue.Letter.{Letter}
 use Rattle.cs_words.specs.declared.catalogue.Letter.TheVariants as letter
 use Rattle.cs_words.specs.declared.catalogue.Opcode.{Opcode}
@@ -12,7 +12,7 @@ use Rattle.cs_words.specs.declared.catalogue.Shape.{Shape}
 use Rattle.cs_words.specs.declared.catalogue.Space.{Space}
 use Rattle.cs_words.specs.declared.catalogue.Space.TheVariants as space
 use Rattle.cs_ugen.specs.Units.{IsUnitOpcode, moving_count}
-use Rattle.cs_ir.specs.Resources.{Stock, act_uses, act_writes, places_within, tables_within, takes_table, shape_uses, unit_uses}
+use Rattle.cs_ir.specs.Resources.{Stock, act_uses, act_writes, places_within, tables_within, shape_uses, unit_uses}
 use Rattle.cs_ir.specs.Units.{is_unit}
 use Rattle.cs_ir.specs.Validity.{bound_at, finds, has_register, may_run_at, stores_at, take_all, takes_from, writes}
 use Rattle.cs_ir.specs.declared.op.Act.{Act}

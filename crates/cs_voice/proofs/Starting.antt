@@ -8,7 +8,7 @@ use Rattle.cs_base.specs.Limits.{most_delay_samples}
 use Rattle.cs_base.specs.declared.resource.Rate.{Rate}
 use Rattle.cs_base.specs.declared.resource.Res.TheVariants as res
 use Rattle.cs_base.proofs.Tests.{by_test}
-use Rattle.cs_words.specs.Catalogue.{row_of}
+use Rattle.cs_words.specs.Catalogue.{row_of, takes_table}
 use Rattle.cs_words.specs.declared.catalogue.Opcode.{Opcode}
 use Rattle.cs_words.specs.declared.catalogue.Opcode.TheVariants as op
 use Rattle.cs_signal.specs.Delay.{delay_length}
@@ -17,7 +17,6 @@ use Rattle.cs_ugen.specs.Units.{IsUnitOpcode, unit_start}
 use Rattle.cs_ugen.specs.declared.unit.Kind.{Kind}
 use Rattle.cs_ugen.proofs.Units.{state_starts}
 use Rattle.cs_ir.specs.Machine.{Machine, in_world}
-use Rattle.cs_ir.specs.Resources.{takes_table}
 use Rattle.cs_ir.specs.Units.{is_started}
 use Rattle.cs_ir.specs.declared.register.Counts.{Counts}
 use Rattle.cs_cells.specs.declared.footprint.Area.{Area}

@@ -20,8 +20,8 @@ use Rattle.cs_voice_meaning.specs.Voices.{has_channel}
 use Rattle.cs_machine.specs.States.{Does, IsStateIn, machine_of}
 use Rattle.cs_machine.specs.declared.state.State.{State}
 use Rattle.cs_machine.specs.declared.state.Setting.{Setting}
-use Rattle.cs_voice.specs.Ready.{CanBeDone, DoesOp, is_here}
-use Rattle.cs_voice.specs.inner.Jumps.{GoesOn, is_jump}
+use Rattle.cs_voice.specs.Ready.{CanBeDone, DoesOp}
+use Rattle.cs_voice.specs.inner.Jumps.{GoesOn}
 use Rattle.cs_voice.specs.Cycles.{CanRun, CanStep, Context, HasMoved, HasRun, HasStepped}
 use Rattle.cs_voice.proofs.Passing.{run_from, one_on, on_to, at_end}
 
@@ -122,19 +122,8 @@ module _ (can_get can_set : ℕ → Type 0) (count : ℕ) (at : Setting) (c : Co
     can = h.can;
   }
 
--- what is done in a cycle starts nothing and asks for nothing
-here_in_cycle : (t : Act) → is_jump t ≡ false → is_of_cycle t ≡ true → is_here t ≡ true
-here_in_cycle (act.Jump to) h g = absurd cc
-here_in_cycle (act.Unless to) h g = absurd cc
-here_in_cycle (act.Start o u) h g = absurd cc
-here_in_cycle act.Ask h g = absurd cc
-here_in_cycle _ h g = refl
-
 module _ (can_get can_set : ℕ → Type 0) (count : ℕ) (at : Setting) (c : Context) (s : State) (end place : ℕ) (op : Op)
     (h : CanStep can_get can_set count at c end place op s) where
-  pub here_of_step : is_jump op.act ≡ false → is_here op.act ≡ true
-  here_of_step goes = here_in_cycle op.act goes h.acts
-
   pub can_be_done : CanBeDone can_get can_set count at op s
   can_be_done = record { piece = c.piece; kinds = c.kinds; stock = c.stock; ready = h.ready }
 

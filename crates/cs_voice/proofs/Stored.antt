@@ -4,12 +4,12 @@ use Rattle.std.specs.Option.{is_some, option_map}
 use Rattle.cs_base.specs.declared.resource.Rate.{Rate}
 use Rattle.cs_base.specs.declared.resource.Rate.TheVariants as rate
 use Rattle.cs_base.specs.declared.resource.Res.TheVariants as res
-use Rattle.cs_words.specs.Catalogue.{row_of}
+use Rattle.cs_words.specs.Catalogue.{row_of, takes_table}
 use Rattle.cs_words.specs.declared.catalogue.Opcode.{Opcode}
 use Rattle.cs_words.specs.declared.catalogue.Opcode.TheVariants as op
 use Rattle.cs_words.specs.declared.catalogue.Shape.TheVariants as shape
 use Rattle.cs_ir.specs.Machine.{Machine, acts, gives, in_world, written}
-use Rattle.cs_ir.specs.Resources.{Stock, takes_table}
+use Rattle.cs_ir.specs.Resources.{Stock}
 use Rattle.cs_ir.specs.Waves.{Wave, operand, silence}
 use Rattle.cs_ir.specs.declared.op.Act.TheVariants as act
 use Rattle.cs_ir.specs.declared.op.Reach.{Reach}

@@ -11,7 +11,8 @@ use Rattle.cs_words.specs.declared.catalogue.Space.{Space}
 use Rattle.cs_gen.specs.Points.{len_of}
 use Rattle.cs_ugen.specs.Points.{is_len}
 use Rattle.cs_ugen.specs.Units.{IsUnitOpcode, moving_count, opcode_of, reads_table}
-use Rattle.cs_ir.specs.Resources.{Stock, places_of, places_within, reaches, tables_within, takes_table}
+use Rattle.cs_words.specs.Catalogue.{takes_table}
+use Rattle.cs_ir.specs.Resources.{Stock, places_of, places_within, reaches, tables_within}
 use Rattle.cs_ir.specs.declared.op.Reach.{Reach}
 use Rattle.cs_ir.specs.declared.register.Reg.{Reg}
 use Rattle.cs_cells.specs.declared.footprint.Area.{Area}
@@ -24,7 +25,7 @@ use Rattle.cs_voice_meaning.specs.Follows.{AreNamed, Kinds}
 use Rattle.cs_voice_meaning.specs.Placing.{IsPlaced, area_of}
 use Rattle.cs_machine.specs.States.{IsOnTable, IsPlayerOf, MayTouch}
 use Rattle.cs_machine.specs.declared.state.Setting.{Setting}
-use Rattle.cs_voice.specs.Cells.{MayReach, spaces_at}
+use Rattle.cs_voice.specs.Cells.{MayReach}
 use Rattle.cs_voice.specs.Units.{MayPlay, MayStore, may_play}
 use Rattle.cs_voice.proofs.Points.{IsLiveOn, live_table, table_taken, unit_result}
 
@@ -105,8 +106,8 @@ may_store allowed count areas stock piece kinds opcode r reach p takes placed na
 
 -- ---- zak places
 
-pub may_reach : (allowed : ℕ → Type 0) (count : ℕ) (at : Setting) (stock : Stock) (piece : Piece) (s : Space) (reach : Reach) → stock.spaces ≡ piece.spaces → piece.spaces ≡ spaces_at at
+pub may_reach : (allowed : ℕ → Type 0) (count : ℕ) (at : Setting) (stock : Stock) (piece : Piece) (s : Space) (reach : Reach) → stock.spaces ≡ piece.spaces → piece.spaces ≡ at.spaces
     → AreNamed (MayTouch allowed count at.layout.now) (places_within stock s reach) → MayReach allowed count at s reach
 may_reach allowed count at stock piece s reach same here named n low within =
-    place_named (MayTouch allowed count at.layout.now) stock (spaces_at at) s reach n (same ∙ here) named
-    (and_from (nat_lt n (places_of (spaces_at at) s)) (reaches reach n) (lt-ltb n (places_of (spaces_at at) s) low) within)
+    place_named (MayTouch allowed count at.layout.now) stock at.spaces s reach n (same ∙ here) named
+    (and_from (nat_lt n (places_of at.spaces s)) (reaches reach n) (lt-ltb n (places_of at.spaces s) low) within)

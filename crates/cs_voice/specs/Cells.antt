@@ -6,7 +6,7 @@ use Rattle.cs_words.specs.declared.catalogue.Opcode.{Opcode}
 use Rattle.cs_words.specs.declared.catalogue.Opcode.TheVariants as op
 use Rattle.cs_words.specs.declared.catalogue.Space.{Space}
 use Rattle.cs_words.specs.declared.catalogue.Space.TheVariants as space
-use Rattle.cs_ir.specs.Resources.{Spaces, Stock, places_of, reaches, zak_place}
+use Rattle.cs_ir.specs.Resources.{Stock, places_of, reaches, zak_place}
 use Rattle.cs_ir.specs.Validity.{has_value}
 use Rattle.cs_ir.specs.declared.op.Act.{Act}
 use Rattle.cs_ir.specs.declared.op.Reach.{Reach}
@@ -32,13 +32,9 @@ pub record AreSized (areas : List Area) (ksmps : ℕ) : Type 0 where
   pub cells : (g : Res) (area : Area) → area_of areas g ≡ Some area → has_value g ≡ true
       → area.length ≡ cell_count ksmps (res_rate g)
 
--- the zak spaces of a setting
-abbrev pub spaces_at : Setting → Spaces
-spaces_at at = record { control = at.zak_k; audio = at.zak_a }
-
 -- what can be done to the cells of each zak place that a unit may reach
 abbrev pub MayReach : (ℕ → Type 0) → ℕ → Setting → Space → Reach → Type 0
-MayReach allowed count at s reach = (n : ℕ) → n < places_of (spaces_at at) s → reaches reach n ≡ true
+MayReach allowed count at s reach = (n : ℕ) → n < places_of at.spaces s → reaches reach n ≡ true
     → MayTouch allowed count at.layout.now (zak_place s n)
 
 -- the opcodes that read a place of a space, write it and clear places

@@ -10,7 +10,6 @@ use Rattle.cs_ir.specs.declared.register.Counts.{Counts}
 use Rattle.cs_cells.specs.declared.footprint.Area.{Area}
 use Rattle.cs_meaning.specs.Plain.{Piece}
 use Rattle.cs_machine.specs.Access.{AreSpaces, spaces_of}
-use Rattle.cs_voice.specs.Cells.{spaces_at}
 use Rattle.cs_voice.specs.Ready.{IsReady}
 use Rattle.cs_machine.specs.Registers.{values}
 use Rattle.cs_voice_meaning.specs.Placing.{HasArea, IsPlaced}
@@ -42,7 +41,7 @@ pub record CanRun (can_get can_set : ℕ → Type 0) (count : ℕ) (at : Setting
   pub setting : IsSettingOf at at.layout.now c.piece
   pub placed : IsPlaced at.layout.now c.stock c.piece
   pub spaces : AreSpaces at.layout.now
-  pub zak : spaces_of at.layout.now ≡ spaces_at at
+  pub zak : spaces_of at.layout.now ≡ at.spaces
   pub state : IsStateIn at.layout.now c.piece c.kinds c.counts s
   pub fine : fine_from c.counts (length ops) 0 ops ≡ true
   pub named : OpsNamed c.stock c.kinds (HasArea at.layout.now) ops

@@ -7,6 +7,7 @@ pub mod Starts
 pub mod Tables
 pub mod Mixing
 pub mod Cycles
+pub mod Codes
 pub mod Memory
 pub mod VoiceData
 pub mod VoiceMeaning

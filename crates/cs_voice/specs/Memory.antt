@@ -1,6 +1,5 @@
 -- A voice as it lies in memory.
 use Rattle.std.specs.Prelude.{ℕ, ℤ, ◌≡◌, true, List, map, Option, Some, None}
-use Rattle.std.specs.Borrow.{Bor}
 use Rattle.std.specs.Option.{option_map}
 use Rattle.cs_ir.specs.Validity.{valid}
 use Rattle.cs_ir.specs.declared.op.Code.{Code}
@@ -8,6 +7,7 @@ use Rattle.cs_cells.specs.declared.footprint.Footprint.{Footprint}
 use Rattle.cs_meaning.specs.Plain.{Table}
 use Rattle.cs_machine.specs.Access.{AreSpaces, spaces_of}
 use Rattle.cs_machine.specs.Players.{playing}
+use Rattle.cs_ugen.specs.declared.frozen.FrozenTable.{FrozenTable}
 use Rattle.cs_voice_meaning.specs.Voices.{Sheet, IsPlayable}
 use Rattle.cs_typed.specs.TypedTree.{header_of_head}
 use Rattle.cs_machine.specs.States.{IsStateIn}
@@ -19,9 +19,9 @@ use Rattle.cs_voice.specs.VoiceData.{VoiceData, IsSheetFor, piece_of}
 use Rattle.cs_voice.specs.VoiceMeaning.{IsVoice}
 
 -- the points of a table that stays as it is
-abbrev pub frozen_in : Option (Bor (List ℤ)) → Option (List ℤ)
+abbrev pub frozen_in : Option FrozenTable → Option (List ℤ)
 frozen_in None = None
-frozen_in (Some points) = Some points.now
+frozen_in (Some t) = Some t.points.now
 
 -- a table as the definitions have it, once it has been made
 abbrev pub table_of : TableAt → Table
@@ -33,7 +33,7 @@ voice_in number age stage foot code fields s = record {
   number = number;
   age = age;
   head = header_of_head stage.head.now;
-  spaces = record { control = stage.zak_k; audio = stage.zak_a };
+  spaces = stage.spaces;
   tables = map table_of stage.tables.now;
   areas = stage.layout.now;
   fields = fields;
@@ -53,7 +53,7 @@ pub record MakeVoice (number age : ℕ) (stage : Stage) (foot : Footprint) (code
   pub parts : IsSheetFor sheet (voice_in number age stage foot code fields s)
   pub playable : IsPlayable sheet
   pub spaces : AreSpaces stage.layout.now
-  pub zak : spaces_of stage.layout.now ≡ record { control = stage.zak_k; audio = stage.zak_a }
+  pub zak : spaces_of stage.layout.now ≡ stage.spaces
   pub fine : valid code ≡ true
   pub state : IsStateIn sheet.areas sheet.piece playable.kinds code.counts s
 
@@ -61,7 +61,7 @@ pub record MakeVoice (number age : ℕ) (stage : Stage) (foot : Footprint) (code
 pub record IsKept (number age : ℕ) (stage : Stage) (foot : Footprint) (code : Code) (fields : List ℤ) (s : State) : Type 0 where
   pub voice : IsVoice (voice_in number age stage foot code fields s)
   pub spaces : AreSpaces stage.layout.now
-  pub zak : spaces_of stage.layout.now ≡ record { control = stage.zak_k; audio = stage.zak_a }
+  pub zak : spaces_of stage.layout.now ≡ stage.spaces
   pub state : IsStateIn stage.layout.now (piece_of (voice_in number age stage foot code fields s)) voice.playable.kinds code.counts s
 
 -- the voice that a body is, and what is so of each body

@@ -10,7 +10,6 @@ use Rattle.cs_machine.specs.Access.{AreSpaces, spaces_of}
 use Rattle.cs_voice_meaning.specs.Placing.{HasArea, IsPlaced}
 use Rattle.cs_voice_meaning.specs.Follows.{ActNamed, Kinds}
 use Rattle.cs_voice_meaning.specs.Voices.{has_channel}
-use Rattle.cs_voice.specs.Cells.{spaces_at}
 use Rattle.cs_machine.specs.States.{CanDo, Does, HasRoom, IsSettingOf, IsStateIn}
 use Rattle.cs_machine.specs.declared.state.Setting.{Setting}
 use Rattle.cs_machine.specs.declared.state.State.{State}
@@ -30,7 +29,7 @@ pub record IsReady (can_get can_set : ℕ → Type 0) (count : ℕ) (at : Settin
   pub setting : IsSettingOf at at.layout.now piece
   pub placed : IsPlaced at.layout.now stock piece
   pub spaces : AreSpaces at.layout.now
-  pub zak : spaces_of at.layout.now ≡ spaces_at at
+  pub zak : spaces_of at.layout.now ≡ at.spaces
   pub state : IsStateIn at.layout.now piece kinds s.regs.counts s
   pub end : ℕ
   pub place : ℕ

@@ -20,7 +20,7 @@ use Rattle.cs_voice.specs.declared.note.Started.TheVariants as started
 abbrev pub piece_at : Stage → List Bool → List ℤ → Piece
 piece_at stage made fields = record {
   head = header_of_head stage.head.now;
-  spaces = record { control = stage.zak_k; audio = stage.zak_a };
+  spaces = stage.spaces;
   tables = tables_of stage.tables.now made;
   generators = the_generators (pace_of (header_of_head stage.head.now));
   fields = λ k. argument fields (k - 1);

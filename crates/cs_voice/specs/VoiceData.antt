@@ -6,7 +6,7 @@ use Rattle.cs_words.specs.Catalogue.{row_of}
 use Rattle.cs_words.specs.declared.catalogue.Shape.TheVariants as shape
 use Rattle.cs_typed.specs.Places.{Header}
 use Rattle.cs_signal.specs.Operands.{argument}
-use Rattle.cs_ir.specs.Resources.{Spaces}
+use Rattle.cs_base.specs.declared.spaces.Spaces.{Spaces}
 use Rattle.cs_ir.specs.declared.op.Act.{Act}
 use Rattle.cs_ir.specs.declared.op.Act.TheVariants as act
 use Rattle.cs_ir.specs.declared.op.Code.{Code}

@@ -3,7 +3,6 @@ ghost use Rattle.std.specs.Prelude.{◌≡◌, ◌+◌, ◌<◌, ◌≤◌, true
 ghost use Rattle.cs_base.specs.Limits.{most_delay_samples};
 ghost use Rattle.cs_base.specs.declared.resource.Res.TheVariants as res;
 ghost use Rattle.cs_cells.specs.declared.footprint.Area.{Area};
-ghost use Rattle.cs_ir.specs.Resources.{takes_table};
 ghost use Rattle.cs_ir.specs.Units.{is_started};
 ghost use Rattle.cs_ir.specs.declared.register.Counts.{Counts};
 ghost use Rattle.cs_meaning.specs.Plain.{Piece, is_delay, table_number};
@@ -17,16 +16,16 @@ ghost use Rattle.cs_voice.specs.inner.Begun.{BeginsDelay, BeginsOnTable};
 ghost use Rattle.cs_typed.specs.TypedTree.{header_of_head};
 ghost use Rattle.cs_machine.specs.States.{IsStateIn};
 ghost use Rattle.cs_ugen.specs.Units.{IsUnitOpcode, unit_start};
-ghost use Rattle.cs_words.specs.Catalogue.{row_of};
+ghost use Rattle.cs_words.specs.Catalogue.{row_of, takes_table};
 
 use crate::TableAt;
-use crate::tables::{Finds, find, table_number, takes_table};
+use crate::tables::{Finds, find, table_number};
 use cs_base::{Head, MOST_DELAY_SAMPLES, Num, OutOfMemory, Rate, Res};
 use cs_cells::Layout;
 use cs_machine::{Player, State, area_of};
 use cs_signal::{argument, delay_samples};
 use cs_ugen::Unit;
-use cs_words::Opcode;
+use cs_words::{Opcode, signature_of};
 use std::alloc::Global;
 
 /// Why a note doesn't start.
@@ -65,7 +64,7 @@ pub(crate) fn begin<'p>(
         → kinds start.unit ≡ (start.opcode, start.rate) → IsStateIn finds.now.at.layout.now piece kinds counts state.old
         → Starts finds.now.at.layout.now piece kinds counts start.opcode start.rate start.unit settled.now state.old state.new refused) }
 {
-    if takes_table(start.opcode) {
+    if signature_of(start.opcode).takes_table() {
         let refused = begin_on_table(alloc, state, finds, made, start, settled)?;
         Ok(refused)
     } else if is_delay(start.opcode) {

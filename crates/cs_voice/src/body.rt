@@ -41,8 +41,7 @@ impl Body<'_> {
         let at = Setting {
             head: self.stage.head,
             layout: self.stage.layout,
-            zak_k: self.stage.zak_k,
-            zak_a: self.stage.zak_a,
+            spaces: self.stage.spaces,
             fields: &self.fields,
         };
         perform(&mut self.state, &at, &self.code.ops, bank);

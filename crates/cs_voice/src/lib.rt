@@ -10,9 +10,10 @@
 //! voices are added may be changed without anyone above noticing.
 //!
 //! Modules in reading order: `shared` (what notes share, by resource and rate), `zak` (zak places), `unit` (units), `store`
-//! (stores into tables), `any` (the act of any op), `jumps` (where an op goes on); `stage` (what all notes of a piece play
-//! in), `cycle` (a code from place to place), `body`, `voice` (the note and its run as a job), `laws`; `tables` (what a note
-//! finds), `begin` (units), `asks`, `pass` (the first code), `note` (how a note begins); `adding` (what voices give together).
+//! (stores into tables), `any` (the act of any op), `jumps` (where an op goes on), `run` (a code from place to place); `stage`
+//! (what all notes of a piece play in), `cycle` (the second code, once a control cycle), `body`, `voice` (the note and its run as
+//! a job), `laws`; `tables` (what a note finds), `begin` (units), `asks`, `pass` (the first code), `note` (how a note begins);
+//! `adding` (what voices give together).
 #![tactic(auto)]
 
 mod adding;
@@ -25,6 +26,7 @@ mod jumps;
 mod laws;
 mod note;
 mod pass;
+mod run;
 mod shared;
 mod stage;
 mod store;

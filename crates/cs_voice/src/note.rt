@@ -50,7 +50,7 @@ pub fn start<'p, B: Bank>(
     requires made { length made.now ≡ length stage.tables.now }
     requires tables { CanAllBePlayed stage.layout.now (piece_at stage made.now fields.items).tables }
     requires places { AreSpaces stage.layout.now }
-    requires spaces { spaces_of stage.layout.now ≡ record { control = stage.zak_k; audio = stage.zak_a } }
+    requires spaces { spaces_of stage.layout.now ≡ stage.spaces }
     requires get { (a : ℕ) → a < word_count stage.layout.now → B.can_get (B.rest bank.old) a }
     requires set { (a : ℕ) → a < word_count stage.layout.now → B.can_set (B.rest bank.old) a }
     requires cells { word_count stage.layout.now ≤ length (B.cells bank.old) }
@@ -68,8 +68,7 @@ pub fn start<'p, B: Bank>(
         at: Setting {
             head: stage.head,
             layout: stage.layout,
-            zak_k: stage.zak_k,
-            zak_a: stage.zak_a,
+            spaces: stage.spaces,
             fields: &fields,
         },
         tables: stage.tables,

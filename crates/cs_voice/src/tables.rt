@@ -2,14 +2,13 @@
 ghost use Rattle.std.specs.Prelude.{◌≡◌, ◌&&◌, ◌==◌, not, unsigned_abs, length};
 ghost use Rattle.std.specs.Int.{is_negative};
 ghost use Rattle.std.specs.Option.{option_map};
-ghost use Rattle.cs_ir.specs.Resources.{takes_table};
+ghost use Rattle.cs_words.specs.Catalogue.{takes_table};
 ghost use Rattle.cs_meaning.specs.Plain.{find_table, table_number};
 ghost use Rattle.cs_voice.specs.Tables.{table_at, tables_of};
 
 use crate::TableAt;
 use cs_base::Num;
 use cs_machine::Setting;
-use cs_words::Opcode;
 
 /// What a note that begins finds; beside it stands of each table whether it has been made by now.
 #[derive(Clone, Copy)]
@@ -55,14 +54,4 @@ pub(crate) fn table_number(settled: &[Num]) -> i64
         Some(value) => value.raw().div_euclid(65_536),
         None => 0,
     }
-}
-
-/// Whether a table's number is among the arguments of an opcode.
-pub(crate) fn takes_table(opcode: Opcode) -> bool
-    ensures { result ≡ takes_table opcode }
-{
-    matches!(
-        opcode,
-        Opcode::Oscil | Opcode::Oscili | Opcode::Table | Opcode::Tablei | Opcode::Tablew
-    )
 }

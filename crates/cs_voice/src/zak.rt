@@ -1,7 +1,7 @@
 // Zak places, read, written, mixed into and cleared by the numbers that values name.
 ghost use Rattle.std.specs.Prelude.{◌≡◌, ℕ, [], ◌∷◌, length, true};
 ghost use Rattle.cs_machine.specs.Access.{AreSpaces, spaces_of};
-ghost use Rattle.cs_voice.specs.Cells.{AreSized, DoesOver, MayReach, clear_of, get_of, put_of, spaces_at};
+ghost use Rattle.cs_voice.specs.Cells.{AreSized, DoesOver, MayReach, clear_of, get_of, put_of};
 ghost use Rattle.cs_voice.specs.inner.Zak.{reached};
 ghost use Rattle.cs_base.specs.Rates.{is_audio};
 ghost use Rattle.cs_base.specs.declared.resource.Rate.TheVariants as rate;
@@ -18,8 +18,8 @@ ghost use Rattle.cs_machine.specs.States.{HasRoom, MayTouch};
 use crate::shared::{area_at, read, write};
 use cs_base::{Num, Rate, Res};
 use cs_cells::{Area, Bank};
-use cs_ir::{Reach, Reg};
-use cs_machine::{Registers, Setting, State, clear_places, index, mix_row, reaches, zak_place};
+use cs_ir::{Reach, Reg, places_of, zak_place};
+use cs_machine::{Registers, Setting, State, clear_places, index, mix_row};
 use cs_words::Space;
 
 /// Reads the zak place that a value names, or 0 where there is none within reach: the act `Unit` of `zkr` and `zar`.
@@ -124,7 +124,7 @@ pub(crate) fn zak_clear<B: Bank>(
     requires first { has_register state.old.regs.counts first ≡ true }
     requires last { has_register state.old.regs.counts last ≡ true }
     requires spaces { AreSpaces at.now.layout.now }
-    requires zak { spaces_of at.now.layout.now ≡ spaces_at at.now }
+    requires zak { spaces_of at.now.layout.now ≡ at.now.spaces }
     requires write { MayReach (B.can_set (B.rest bank.old)) (length (B.cells bank.old)) at.now space reach }
     ensures does { (unit : ℕ) (into : Reg) → DoesOver at.now (act.Unit (clear_of space) unit reach) into (first ∷ last ∷ [])
         state.old (cell (B.cells bank.old)) state.new (cell (B.cells bank.new)) }
@@ -146,17 +146,9 @@ fn place(at: &Setting<'_>, space: Space, reach: Reach, value: Num) -> Option<Res
     ensures { result ≡ reached at.now space reach (index value) }
 {
     match index(value) {
-        Some(n) if n < places(at, space) && reaches(reach, n) => Some(zak_place(space, n)),
+        Some(n) if n < places_of(at.spaces, space) as usize && reach.contains(n) => Some(zak_place(
+            space, n,
+        )),
         _ => None,
-    }
-}
-
-/// How many places a zak space has.
-fn places(at: &Setting<'_>, space: Space) -> usize
-    ensures { result ≡ places_of (spaces_at at.now) space }
-{
-    match space {
-        Space::Control => at.zak_k as usize,
-        Space::Audio => at.zak_a as usize,
     }
 }

@@ -1,4 +1,4 @@
--- Ops that jump, and where they go on.
+-- Ops that jump, and where they go on; and those that only a code has that begins a note.
 use Rattle.std.specs.Prelude.{ℕ, ◌≡◌, ◌+◌, Bool, true, false, List, if◌then◌else◌}
 use Rattle.cs_ir.specs.Values.{holds}
 use Rattle.cs_ir.specs.Waves.{Wave, operand}
@@ -9,6 +9,11 @@ abbrev pub is_jump : Act → Bool
 is_jump (act.Jump to) = true
 is_jump (act.Unless to) = true
 is_jump _ = false
+
+abbrev pub is_start : Act → Bool
+is_start (act.Start opcode u) = true
+is_start act.Ask = true
+is_start _ = false
 
 -- an op at a place goes on at another
 abbrev pub GoesOn : Act → List Wave → ℕ → ℕ → Type 0

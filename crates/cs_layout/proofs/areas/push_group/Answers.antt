@@ -1,4 +1,4 @@
-use Rattle.std.proofs.Common.{◌≡◌, ◌∙◌, ◌++◌, ◌∷◌, [], ap}
+use Rattle.std.proofs.Common.{◌∙◌, ◌++◌, ◌∷◌, [], ap}
 use Rattle.cs_layout.specs.inner.Groups.{res_of}
 use Rattle.cs_layout.proofs.Made.{next_is, one_pushed}
 use Rattle.cs_layout.proofs.areas.push_group.Goals as goal

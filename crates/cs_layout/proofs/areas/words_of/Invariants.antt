@@ -1,4 +1,4 @@
-use Rattle.std.proofs.Common.{◌≡◌, ◌≤◌, ◌+◌, ◌*◌, ◌^◌, length, take, sum_by}
+use Rattle.std.proofs.Common.{◌≡◌, ◌≤◌, ◌+◌, ◌*◌, ◌^◌, take, sum_by}
 use Rattle.cs_layout.proofs.areas.words_of.Given as goal
 
 abbrev pub invariant-loop-group : goal.invariant-loop-group

@@ -4,7 +4,8 @@ use Rattle.cs_base.specs.declared.resource.Rate.TheVariants as rate
 use Rattle.cs_gen.specs.Points.{len_of}
 use Rattle.cs_signal.specs.Operands.{operand_at}
 use Rattle.cs_cells.specs.Cells.{cell}
-use Rattle.cs_meaning.specs.Plain.{stored, table_place}
+use Rattle.cs_gen.specs.Places.{place_of_index}
+use Rattle.cs_meaning.specs.Plain.{stored}
 use Rattle.cs_voice_meaning.specs.Placing.{wave_in, with_wave}
 use Rattle.cs_machine.proofs.Curved.{some_points, place_within}
 use Rattle.cs_machine.proofs.Storing.{none_stored, one_stored, in_table}
@@ -14,12 +15,12 @@ use Rattle.cs_machine.proofs.table.store.Goals as goal
 pub loop-j-init : goal.loop-j-init
 loop-j-init g c = record { cells = none_stored c.args.area (cell (g.B.Bank.cells c.args.bank.now)); long = refl; rest = refl }
 
-pub place_of-place-requires : goal.place_of-place-requires
-place_of-place-requires g c = let some = some_points c.args.area.length c.requires.power in let is = c.power_below-len.ensures in omega (arith, some, is)
+pub place_of_index-place-requires : goal.place_of_index-place-requires
+place_of_index-place-requires g c = let some = some_points c.args.area.length c.requires.power in let is = c.power_below-len.ensures in omega (arith, some, is)
 
 pub set_frame-requires-clause-frame : goal.set_frame-requires-clause-frame
 set_frame-requires-clause-frame g c =
-    place_within c.args.area.length c.place_of-place.result (let low = c.place_of-place.ensures.inside in let is = c.power_below-len.ensures in omega (arith, low, is))
+    place_within c.args.area.length c.place_of_index-place.result (let low = c.place_of_index-place.ensures.inside in let is = c.power_below-len.ensures in omega (arith, low, is))
 
 pub set_frame-requires-clause-write : goal.set_frame-requires-clause-write
 set_frame-requires-clause-write g c =
@@ -28,18 +29,18 @@ set_frame-requires-clause-write g c =
 
 pub loop-j-preserved : goal.loop-j-preserved
 loop-j-preserved g c =
-    let low : c.place_of-place.result < c.args.area.length = place_within c.args.area.length c.place_of-place.result (let l = c.place_of-place.ensures.inside in let is = c.power_below-len.ensures in omega (arith, l, is)) in
-    let long = within_here (g.B.Bank.can_set (g.B.Bank.rest c.args.bank.now)) (length (g.B.Bank.cells c.args.bank.now)) c.args.area c.place_of-place.result c.requires.write low in
+    let low : c.place_of_index-place.result < c.args.area.length = place_within c.args.area.length c.place_of_index-place.result (let l = c.place_of_index-place.ensures.inside in let is = c.power_below-len.ensures in omega (arith, l, is)) in
+    let long = within_here (g.B.Bank.can_set (g.B.Bank.rest c.args.bank.now)) (length (g.B.Bank.cells c.args.bank.now)) c.args.area c.place_of_index-place.result c.requires.write low in
     record {
       cells = ap cell c.set_frame.ensures.cells
-          ∙ one_stored (g.B.Bank.cells c.loop-j.bank) (cell (g.B.Bank.cells c.args.bank.now)) c.args.area (λ j. table_place (len_of c.args.area.length) (operand_at c.args.ndx.now j)) (operand_at c.args.sig.now) (wave_in rate.Audio c.args.area (cell (g.B.Bank.cells c.args.bank.now))) c.loop-j.j c.place_of-place.result c.at-in-loop-j.result c.loop-j.invariant.cells
-          (c.place_of-place.ensures.value ∙ ap (λ n. table_place n c.at.result) c.power_below-len.ensures ∙ ap (table_place (len_of c.args.area.length)) c.at.ensures) low
-          (subst (λ n. c.args.area.first + c.place_of-place.result < n) (sym c.loop-j.invariant.long) long) c.at-in-loop-j.ensures;
-      long = ap length c.set_frame.ensures.cells ∙ length-set (g.B.Bank.cells c.loop-j.bank) (c.args.area.first + c.place_of-place.result) c.at-in-loop-j.result ∙ c.loop-j.invariant.long;
+          ∙ one_stored (g.B.Bank.cells c.loop-j.bank) (cell (g.B.Bank.cells c.args.bank.now)) c.args.area (λ j. place_of_index (len_of c.args.area.length) (operand_at c.args.ndx.now j)) (operand_at c.args.sig.now) (wave_in rate.Audio c.args.area (cell (g.B.Bank.cells c.args.bank.now))) c.loop-j.j c.place_of_index-place.result c.at-in-loop-j.result c.loop-j.invariant.cells
+          (c.place_of_index-place.ensures.value ∙ ap (λ n. place_of_index n c.at.result) c.power_below-len.ensures ∙ ap (place_of_index (len_of c.args.area.length)) c.at.ensures) low
+          (subst (λ n. c.args.area.first + c.place_of_index-place.result < n) (sym c.loop-j.invariant.long) long) c.at-in-loop-j.ensures;
+      long = ap length c.set_frame.ensures.cells ∙ length-set (g.B.Bank.cells c.loop-j.bank) (c.args.area.first + c.place_of_index-place.result) c.at-in-loop-j.result ∙ c.loop-j.invariant.long;
       rest = c.set_frame.ensures.rest ∙ c.loop-j.invariant.rest;
     }
 
 pub returns-clause-cells : goal.returns-clause-cells
 returns-clause-cells g c t size =
     in_table t c.args.area (operand_at c.args.ndx.now) (operand_at c.args.sig.now) (wave_in rate.Audio c.args.area (cell (g.B.Bank.cells c.args.bank.now))) c.args.steps (cell (g.B.Bank.cells c.args.bank.now)) (cell (g.B.Bank.cells c.loop-j.bank)) size
-    (c.loop-j.invariant.cells ∙ ap (λ n. with_wave (Some c.args.area) (stored (λ j. table_place (len_of c.args.area.length) (operand_at c.args.ndx.now j)) (operand_at c.args.sig.now) n (wave_in rate.Audio c.args.area (cell (g.B.Bank.cells c.args.bank.now)))) (cell (g.B.Bank.cells c.args.bank.now))) (let e : c.loop-j.j ≡ c.args.steps = omega (arith, c.loop-j-test.false) in e))
+    (c.loop-j.invariant.cells ∙ ap (λ n. with_wave (Some c.args.area) (stored (λ j. place_of_index (len_of c.args.area.length) (operand_at c.args.ndx.now j)) (operand_at c.args.sig.now) n (wave_in rate.Audio c.args.area (cell (g.B.Bank.cells c.args.bank.now)))) (cell (g.B.Bank.cells c.args.bank.now))) (let e : c.loop-j.j ≡ c.args.steps = omega (arith, c.loop-j-test.false) in e))

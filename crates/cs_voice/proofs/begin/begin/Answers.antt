@@ -1,4 +1,6 @@
 use Rattle.std.proofs.Common.{sym, ◌∙◌, ap, subst}
+use Rattle.std.specs.List.{list_any}
+use Rattle.cs_words.specs.Catalogue.{is_table}
 use Rattle.cs_meaning.specs.Plain.{table_number}
 use Rattle.cs_signal.specs.Pace.{pace_of}
 use Rattle.cs_voice_meaning.specs.VoiceWorld as world
@@ -12,7 +14,7 @@ pub returns-in_ok-refused : goal.returns-in_ok-refused
 returns-in_ok-refused c piece kinds counts head tables kind state =
     on_table c.args.finds.now.at.layout.now piece kinds counts c.args.start.opcode c.args.start.rate c.args.start.unit c.args.settled.now c.args.state.now c.begin_on_table.new.state
     (pace_of c.args.finds.now.at.head.now) (ap world.pace_of head) kind state c.requires.unit c.requires.delays c.in_ok-refused.refused
-    (sym c.takes_table.ensures ∙ c.if-takes_table.true)
+    (sym (c.takes_table.ensures ∙ ap (λ r. list_any is_table r.fixed) c.signature_of.ensures) ∙ c.if-takes_table.true)
     (subst (λ ts. CanAllBePlayed c.args.finds.now.at.layout.now ts) (sym tables) c.requires.tables)
     (subst (λ ts. BeginsOnTable c.args.finds.now.at.layout.now ts (table_number c.args.settled.now) c.args.start.opcode
     (unit_start c.args.start.opcode c.args.start.rate (pace_of c.args.finds.now.at.head.now) c.args.settled.now) c.args.start.unit c.args.state.now c.begin_on_table.new.state c.in_ok-refused.refused)
@@ -28,4 +30,4 @@ pub returns-in_ok-begin_alone : goal.returns-in_ok-begin_alone
 returns-in_ok-begin_alone c piece kinds counts head tables kind state =
     alone c.args.finds.now.at.layout.now piece kinds counts c.args.start.opcode c.args.start.rate c.args.start.unit c.args.settled.now c.args.state.now c.begin_alone.new.state
     (pace_of c.args.finds.now.at.head.now) (ap world.pace_of head) kind state c.requires.unit c.requires.delays
-    (sym c.takes_table.ensures ∙ c.if-takes_table.false) (sym c.is_delay.ensures ∙ c.if-is_delay.false) c.in_ok-begin_alone.ensures
+    (sym (c.takes_table.ensures ∙ ap (λ r. list_any is_table r.fixed) c.signature_of.ensures) ∙ c.if-takes_table.false) (sym c.is_delay.ensures ∙ c.if-is_delay.false) c.in_ok-begin_alone.ensures

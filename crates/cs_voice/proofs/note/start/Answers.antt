@@ -14,7 +14,7 @@ pass-requires g c = (
   (sheet_at c.args.instrument.now c.args.age c.args.foot.now c.args.stage c.args.made.now c.args.fields.items),
   (can_pass (g.B.Bank.can_get (g.B.Bank.rest c.args.bank.now)) (g.B.Bank.can_set (g.B.Bank.rest c.args.bank.now)) (length (g.B.Bank.cells c.args.bank.now))
       _ c.args.instrument.now c.args.age c.args.foot.now c.args.stage c.args.made.now c.args.fields.items c.init-init.result.now c.in_ok-state.state
-      refl refl refl refl c.deref.ensures.value refl c.init-init.ensures.same c.init-init.ensures.valid c.in_ok-state.ensures.machine c.in_ok-state.ensures.state
+      refl refl refl c.deref.ensures.value refl c.init-init.ensures.same c.init-init.ensures.valid c.in_ok-state.ensures.machine c.in_ok-state.ensures.state
       c.requires.playable c.requires.made c.requires.tables c.requires.places c.requires.spaces c.requires.get c.requires.set c.requires.cells),
 )
 
@@ -27,7 +27,7 @@ returns-in-Some-clause-started g c =
     (c.in_ok-refusal.ensures.passes (sheet_at c.args.instrument.now c.args.age c.args.foot.now c.args.stage c.args.made.now c.args.fields.items)
     (can_pass (g.B.Bank.can_get (g.B.Bank.rest c.args.bank.now)) (g.B.Bank.can_set (g.B.Bank.rest c.args.bank.now)) (length (g.B.Bank.cells c.args.bank.now))
     _ c.args.instrument.now c.args.age c.args.foot.now c.args.stage c.args.made.now c.args.fields.items c.init-init.result.now c.in_ok-state.state
-    refl refl refl refl c.deref.ensures.value refl c.init-init.ensures.same c.init-init.ensures.valid c.in_ok-state.ensures.machine c.in_ok-state.ensures.state
+    refl refl refl c.deref.ensures.value refl c.init-init.ensures.same c.init-init.ensures.valid c.in_ok-state.ensures.machine c.in_ok-state.ensures.state
     c.requires.playable c.requires.made c.requires.tables c.requires.places c.requires.spaces c.requires.get c.requires.set c.requires.cells)) ∙ ap (option_map cause_of) c.in-Some.is))
 
 pub returns-in-Some-clause-cells : goal.returns-in-Some-clause-cells
@@ -36,7 +36,7 @@ returns-in-Some-clause-cells g c = cells_left (sheet_at c.args.instrument.now c.
     (c.in_ok-refusal.ensures.passes (sheet_at c.args.instrument.now c.args.age c.args.foot.now c.args.stage c.args.made.now c.args.fields.items)
     (can_pass (g.B.Bank.can_get (g.B.Bank.rest c.args.bank.now)) (g.B.Bank.can_set (g.B.Bank.rest c.args.bank.now)) (length (g.B.Bank.cells c.args.bank.now))
     _ c.args.instrument.now c.args.age c.args.foot.now c.args.stage c.args.made.now c.args.fields.items c.init-init.result.now c.in_ok-state.state
-    refl refl refl refl c.deref.ensures.value refl c.init-init.ensures.same c.init-init.ensures.valid c.in_ok-state.ensures.machine c.in_ok-state.ensures.state
+    refl refl refl c.deref.ensures.value refl c.init-init.ensures.same c.init-init.ensures.valid c.in_ok-state.ensures.machine c.in_ok-state.ensures.state
     c.requires.playable c.requires.made c.requires.tables c.requires.places c.requires.spaces c.requires.get c.requires.set c.requires.cells))
 
 pub returns-in-Some-clause-asks : goal.returns-in-Some-clause-asks
@@ -45,7 +45,7 @@ returns-in-Some-clause-asks g c = asks_left (sheet_at c.args.instrument.now c.ar
     (c.in_ok-refusal.ensures.passes (sheet_at c.args.instrument.now c.args.age c.args.foot.now c.args.stage c.args.made.now c.args.fields.items)
     (can_pass (g.B.Bank.can_get (g.B.Bank.rest c.args.bank.now)) (g.B.Bank.can_set (g.B.Bank.rest c.args.bank.now)) (length (g.B.Bank.cells c.args.bank.now))
     _ c.args.instrument.now c.args.age c.args.foot.now c.args.stage c.args.made.now c.args.fields.items c.init-init.result.now c.in_ok-state.state
-    refl refl refl refl c.deref.ensures.value refl c.init-init.ensures.same c.init-init.ensures.valid c.in_ok-state.ensures.machine c.in_ok-state.ensures.state
+    refl refl refl c.deref.ensures.value refl c.init-init.ensures.same c.init-init.ensures.valid c.in_ok-state.ensures.machine c.in_ok-state.ensures.state
     c.requires.playable c.requires.made c.requires.tables c.requires.places c.requires.spaces c.requires.get c.requires.set c.requires.cells))
 
 pub of-requires : goal.of-requires
@@ -58,7 +58,7 @@ of-requires g c =
     (c.in_ok-refusal.ensures.passes (sheet_at c.args.instrument.now c.args.age c.args.foot.now c.args.stage c.args.made.now c.args.fields.items)
     (can_pass (g.B.Bank.can_get (g.B.Bank.rest c.args.bank.now)) (g.B.Bank.can_set (g.B.Bank.rest c.args.bank.now)) (length (g.B.Bank.cells c.args.bank.now))
     _ c.args.instrument.now c.args.age c.args.foot.now c.args.stage c.args.made.now c.args.fields.items c.init-init.result.now c.in_ok-state.state
-    refl refl refl refl c.deref.ensures.value refl c.init-init.ensures.same c.init-init.ensures.valid c.in_ok-state.ensures.machine c.in_ok-state.ensures.state
+    refl refl refl c.deref.ensures.value refl c.init-init.ensures.same c.init-init.ensures.valid c.in_ok-state.ensures.machine c.in_ok-state.ensures.state
     c.requires.playable c.requires.made c.requires.tables c.requires.places c.requires.spaces c.requires.get c.requires.set c.requires.cells)).state
 
 pub returns-clause-started : goal.returns-clause-started
@@ -69,7 +69,7 @@ returns-clause-started g c =
     (c.in_ok-refusal.ensures.passes (sheet_at c.args.instrument.now c.args.age c.args.foot.now c.args.stage c.args.made.now c.args.fields.items)
     (can_pass (g.B.Bank.can_get (g.B.Bank.rest c.args.bank.now)) (g.B.Bank.can_set (g.B.Bank.rest c.args.bank.now)) (length (g.B.Bank.cells c.args.bank.now))
     _ c.args.instrument.now c.args.age c.args.foot.now c.args.stage c.args.made.now c.args.fields.items c.init-init.result.now c.in_ok-state.state
-    refl refl refl refl c.deref.ensures.value refl c.init-init.ensures.same c.init-init.ensures.valid c.in_ok-state.ensures.machine c.in_ok-state.ensures.state
+    refl refl refl c.deref.ensures.value refl c.init-init.ensures.same c.init-init.ensures.valid c.in_ok-state.ensures.machine c.in_ok-state.ensures.state
     c.requires.playable c.requires.made c.requires.tables c.requires.places c.requires.spaces c.requires.get c.requires.set c.requires.cells)) c.number-number.result c.args.age c.args.stage c.args.foot.now c.perf-perf.result.now c.args.fields.items (none_if c.in_ok-refusal.refusal c.in_default.not-Some)
     (on_sheet c.args.instrument.now c.number-number.result c.args.age c.args.foot.now c.args.stage c.args.made.now c.args.fields.items c.perf-perf.result.now
     c.in_ok-state.state.regs.counts c.pass.new.state c.requires.playable c.number-number.ensures c.perf-perf.ensures.same c.requires.made c.requires.places c.requires.spaces
@@ -79,7 +79,7 @@ returns-clause-started g c =
     (c.in_ok-refusal.ensures.passes (sheet_at c.args.instrument.now c.args.age c.args.foot.now c.args.stage c.args.made.now c.args.fields.items)
     (can_pass (g.B.Bank.can_get (g.B.Bank.rest c.args.bank.now)) (g.B.Bank.can_set (g.B.Bank.rest c.args.bank.now)) (length (g.B.Bank.cells c.args.bank.now))
     _ c.args.instrument.now c.args.age c.args.foot.now c.args.stage c.args.made.now c.args.fields.items c.init-init.result.now c.in_ok-state.state
-    refl refl refl refl c.deref.ensures.value refl c.init-init.ensures.same c.init-init.ensures.valid c.in_ok-state.ensures.machine c.in_ok-state.ensures.state
+    refl refl refl c.deref.ensures.value refl c.init-init.ensures.same c.init-init.ensures.valid c.in_ok-state.ensures.machine c.in_ok-state.ensures.state
     c.requires.playable c.requires.made c.requires.tables c.requires.places c.requires.spaces c.requires.get c.requires.set c.requires.cells)).state))
 
 pub returns-clause-cells : goal.returns-clause-cells
@@ -88,7 +88,7 @@ returns-clause-cells g c = cells_left (sheet_at c.args.instrument.now c.args.age
     (c.in_ok-refusal.ensures.passes (sheet_at c.args.instrument.now c.args.age c.args.foot.now c.args.stage c.args.made.now c.args.fields.items)
     (can_pass (g.B.Bank.can_get (g.B.Bank.rest c.args.bank.now)) (g.B.Bank.can_set (g.B.Bank.rest c.args.bank.now)) (length (g.B.Bank.cells c.args.bank.now))
     _ c.args.instrument.now c.args.age c.args.foot.now c.args.stage c.args.made.now c.args.fields.items c.init-init.result.now c.in_ok-state.state
-    refl refl refl refl c.deref.ensures.value refl c.init-init.ensures.same c.init-init.ensures.valid c.in_ok-state.ensures.machine c.in_ok-state.ensures.state
+    refl refl refl c.deref.ensures.value refl c.init-init.ensures.same c.init-init.ensures.valid c.in_ok-state.ensures.machine c.in_ok-state.ensures.state
     c.requires.playable c.requires.made c.requires.tables c.requires.places c.requires.spaces c.requires.get c.requires.set c.requires.cells))
 
 pub returns-clause-asks : goal.returns-clause-asks
@@ -97,5 +97,5 @@ returns-clause-asks g c = asks_left (sheet_at c.args.instrument.now c.args.age c
     (c.in_ok-refusal.ensures.passes (sheet_at c.args.instrument.now c.args.age c.args.foot.now c.args.stage c.args.made.now c.args.fields.items)
     (can_pass (g.B.Bank.can_get (g.B.Bank.rest c.args.bank.now)) (g.B.Bank.can_set (g.B.Bank.rest c.args.bank.now)) (length (g.B.Bank.cells c.args.bank.now))
     _ c.args.instrument.now c.args.age c.args.foot.now c.args.stage c.args.made.now c.args.fields.items c.init-init.result.now c.in_ok-state.state
-    refl refl refl refl c.deref.ensures.value refl c.init-init.ensures.same c.init-init.ensures.valid c.in_ok-state.ensures.machine c.in_ok-state.ensures.state
+    refl refl refl c.deref.ensures.value refl c.init-init.ensures.same c.init-init.ensures.valid c.in_ok-state.ensures.machine c.in_ok-state.ensures.state
     c.requires.playable c.requires.made c.requires.tables c.requires.places c.requires.spaces c.requires.get c.requires.set c.requires.cells))

@@ -1,11 +1,11 @@
 use Rattle.std.proofs.Common.{◌≡◌, length}
 use Rattle.cs_ir.specs.Waves.{both}
-use Rattle.cs_machine.specs.Rows.{Begins, row_wave}
-use Rattle.cs_machine.proofs.rows.by_row.Given as goal
+use Rattle.cs_machine.specs.Rows.{Begins}
+use Rattle.cs_machine.proofs.pairs.each.Given as goal
 
 -- the places before this one are filled
 abbrev pub invariant-loop-j : goal.invariant-loop-j
-invariant-loop-j l = record {
-  frames : Begins l.j (both l.operator (row_wave l.xs) (row_wave l.ys)) l.out;
+invariant-loop-j g l = record {
+  frames : Begins l.j (both l.operator (g.X.Side.wave l.x) (g.Y.Side.wave l.y)) l.out;
   long : length l.out ≡ length l.initial.out;
 }
