@@ -1,5 +1,5 @@
 -- Two texts have one meaning.
-use Rattle.std.proofs.Common.{◌≡◌, ℕ, Bool, List, Ok, Err, ap}
+use Rattle.std.proofs.Common.{◌≡◌, ℕ, List, Ok, Err, ap}
 use Rattle.cs_base.specs.declared.fault.OrcFault.{OrcFault}
 use Rattle.cs_base.specs.declared.fault.OrcKind.{OrcKind}
 use Rattle.cs_base.specs.declared.head.Head.{Head}
@@ -7,9 +7,11 @@ use Rattle.cs_base.specs.declared.limit.Limit.TheVariants as limit
 use Rattle.cs_lex.specs.declared.token.Token.{Token}
 use Rattle.cs_score.specs.Statements.{score_of}
 use Rattle.cs_typed.specs.TypedTree as typed
+use Rattle.cs_base.specs.declared.width.SampleWidth.{SampleWidth}
+use Rattle.cs_udo.specs.Expanding.{expanding}
 use Rattle.cs_compile.specs.Then.{Is}
-use Rattle.cs_compile.specs.Meaning.{HasHead, HasTokens, HasTree, IsPlayedAs, IsRead, IsReadAs, IsTypedAs, expanded, means, no_longer_than, orchestra_means, orchestra_plays, piece_of, plotted, refused_as, score_means, short_texts_mean, typed_form}
-use Rattle.cs_compile.specs.declared.refusal.Refusal.TheVariants as why
+use Rattle.cs_compile.specs.Meaning.{HasHead, HasTokens, HasTree, IsPlayedAs, IsRead, IsReadAs, IsTypedAs, means, no_longer_than, orchestra_means, orchestra_plays, piece_of, plotted, refused_as, score_means, short_texts_mean, typed_form}
+use Rattle.cs_base.specs.declared.refusal.Refusal.TheVariants as why
 use Rattle.cs_compile.proofs.Chains.{HasOne, is_one, then_one}
 use Rattle.cs_compile.proofs.Heads.{head_one}
 
@@ -40,25 +42,25 @@ score_one head text =
     then_one (Is (refused_as why.Score (score_of text))) (λ score. Is (plotted head score)) (is_one (refused_as why.Score (score_of text)))
     (λ score. is_one (plotted head score))
 
-plays_one : (wide : Bool) (score : List ℕ) (o : typed.Orchestra) → HasOne (orchestra_plays wide score o)
-plays_one wide score o =
-    then_one (HasHead o.head) (IsPlayedAs wide score o) (head_one o.head)
-    (λ head. then_one (score_means head score) (λ plot. Is (piece_of wide o head plot)) (score_one head score)
-    (λ plot. is_one (piece_of wide o head plot)))
+plays_one : (width : SampleWidth) (score : List ℕ) (o : typed.Orchestra) → HasOne (orchestra_plays width score o)
+plays_one width score o =
+    then_one (HasHead o.head) (IsPlayedAs width score o) (head_one o.head)
+    (λ head. then_one (score_means head score) (λ plot. Is (piece_of width o head plot)) (score_one head score)
+    (λ plot. is_one (piece_of width o head plot)))
 
 module _ (tokens : (text : List ℕ) → HasOne (HasTokens text)) (trees : (text : List ℕ) (ts : List Token) → HasOne (HasTree text ts)) where
   -- an orchestra has one typed form
   orchestra_one : (text : List ℕ) → HasOne (orchestra_means text)
   orchestra_one text =
       then_one (IsReadAs text) IsTypedAs (then_one (HasTokens text) (HasTree text) (tokens text) (trees text))
-      (λ t. then_one (Is (expanded t)) (λ e. Is (typed_form e)) (is_one (expanded t)) (λ e. is_one (typed_form e)))
+      (λ t. then_one (Is (expanding t)) (λ e. Is (typed_form e)) (is_one (expanding t)) (λ e. is_one (typed_form e)))
 
-  short_one : (wide : Bool) (orchestra score : List ℕ) → HasOne (short_texts_mean wide orchestra score)
-  short_one wide orchestra score =
-      then_one (orchestra_means orchestra) (orchestra_plays wide score) (orchestra_one orchestra) (λ o. plays_one wide score o)
+  short_one : (width : SampleWidth) (orchestra score : List ℕ) → HasOne (short_texts_mean width orchestra score)
+  short_one width orchestra score =
+      then_one (orchestra_means orchestra) (orchestra_plays width score) (orchestra_one orchestra) (λ o. plays_one width score o)
 
-  pub means_one : (wide : Bool) (orchestra score : List ℕ) → HasOne (means wide orchestra score)
-  means_one wide orchestra score =
+  pub means_one : (width : SampleWidth) (orchestra score : List ℕ) → HasOne (means width orchestra score)
+  means_one width orchestra score =
       then_one (Is (no_longer_than limit.OrchestraBytes orchestra)) _ (is_one (no_longer_than limit.OrchestraBytes orchestra))
-      (λ orc. then_one (Is (no_longer_than limit.ScoreBytes score)) (λ sco. short_texts_mean wide orc sco) (is_one (no_longer_than limit.ScoreBytes score))
-      (λ sco. short_one wide orc sco))
+      (λ orc. then_one (Is (no_longer_than limit.ScoreBytes score)) (λ sco. short_texts_mean width orc sco) (is_one (no_longer_than limit.ScoreBytes score))
+      (λ sco. short_one width orc sco))

@@ -1,5 +1,5 @@
 -- What the single steps answer, and how their answers go together.
-use Rattle.std.proofs.Common.{◌≡◌, ◌≤◌, ◌<◌, ℕ, Bool, true, false, nat_lt, List, length, Option, Some, None, Result, Ok, Err, IfOk, refl, sym, subst, ap, ◌∙◌, arith}
+use Rattle.std.proofs.Common.{◌≡◌, ◌≤◌, ◌<◌, ℕ, Bool, true, false, nat_lt, List, length, Option, Some, None, Result, Ok, Err, IfOk, refl, sym, ap, ◌∙◌, arith}
 use Rattle.std.specs.Option.{option_or}
 use Rattle.std.specs.Result.{IsErrAnd}
 use Rattle.std.proofs.lemmas.Bool.Decides.{nat_tests}
@@ -12,7 +12,7 @@ use Rattle.cs_base.specs.declared.limit.Limit.{Limit}
 use Rattle.cs_base.specs.declared.limit.LimitHit.{LimitHit}
 use Rattle.cs_base.specs.Limits.{most_of}
 use Rattle.cs_grammar.specs.Tree as tree
-use Rattle.cs_score.specs.Limits.{Passes, limit_of_score}
+use Rattle.cs_score.specs.Limits.{IsRefusedFor, Passes, limit_of_score}
 use Rattle.cs_score.specs.Statements.{score_of}
 use Rattle.cs_score.specs.declared.statement.ScoreStmt.{ScoreStmt}
 use Rattle.cs_tempo.specs.Limits.{limit_of, limit_of_sections}
@@ -21,25 +21,15 @@ use Rattle.cs_tempo.specs.Sections.{sections_of}
 use Rattle.cs_tempo.specs.declared.plot.Plot.{Plot}
 use Rattle.cs_typed.specs.TypedTree as typed
 use Rattle.cs_typing.specs.Typing.{judged, type_fault, typed_of}
+use Rattle.cs_base.specs.declared.width.SampleWidth.{SampleWidth}
 use Rattle.cs_compile.specs.Then.{Is}
 use Rattle.cs_piece_meaning.specs.Moments.{Composition}
 use Rattle.cs_compile.specs.Meaning.{HasHead, IsPlayedAs, no_longer_than, orchestra_means, orchestra_plays, passed_if, piece_of, plotted, refused_as, score_means, short_texts_mean, typed_form, unless_passed}
-use Rattle.cs_compile.specs.declared.refusal.Refusal.{Refusal}
-use Rattle.cs_compile.specs.declared.refusal.Refusal.TheVariants as why
+use Rattle.cs_base.specs.declared.refusal.Refusal.{Refusal}
+use Rattle.cs_base.specs.declared.refusal.Refusal.TheVariants as why
 use Rattle.cs_compile.proofs.Chains.{goes_on, refuses}
 
 -- RESULTS
-
--- the refusal that a call gives is the one that it speaks of
-pub refusal_is : {A F : Type 0} (P : F → Type 0) (x y : F) → P x → ◌≡◌ {A = Result A (Or F)} (Err (or.Fault x)) (Err (or.Fault y)) → P y
-refusal_is P x y p e = subst P (same e) p
-  where
-    same : {A F : Type 0} {x y : F} → ◌≡◌ {A = Result A (Or F)} (Err (or.Fault x)) (Err (or.Fault y)) → x ≡ y
-    same e = cc
-
--- an error is the same in another result
-pub error_as : {A B E : Type 0} (x y : E) → ◌≡◌ {A = Result A E} (Err x) (Err y) → ◌≡◌ {A = Result B E} (Err x) (Err y)
-error_as x y e = let same : x ≡ y = cc in ap (λ (z : _). Err z) same
 
 -- the exit of a `?` gives the refusal that it had
 pub left_with : {A B F : Type 0} (r : Result B (Or F)) (e : Or F) (x : F) → IsErrAnd r (λ y. y ≡ e) → r ≡ Err (or.Fault x) → ◌≡◌ {A = Result A (Or F)} (Err e) (Err (or.Fault x))
@@ -112,20 +102,25 @@ score_passes head text hit p =
     score_plotted head text at.0 (Err (why.Limit hit)) at.1
     (not_plotted head at.0 hit (ap (λ (first : Option LimitHit). option_or first (limit_of_sections head (sections_of at.0))) at.2))
 
+-- a score that is refused as it is read
+pub score_refused_for : (head : Head) (text : List ℕ) (r : Refusal) → IsRefusedFor r (score_of text) → score_means head text (Err r)
+score_refused_for head text (why.Score fault) read = score_refused head text fault read
+score_refused_for head text (why.Limit hit) passes = score_passes head text hit passes
+score_refused_for head text (why.Orc fault) never = absurd never
+
 -- BOTH TEXTS
 
-pub played : (wide : Bool) (orchestra text : List ℕ) (o : typed.Orchestra) (head : Head) (plot : Plot) (r : Result Composition Refusal)
-    → orchestra_means orchestra (Ok o) → typed.header_of_head head ≡ o.head → score_means head text (Ok plot) → piece_of wide o head plot ≡ r
-    → short_texts_mean wide orchestra text r
-played wide orchestra text o head plot r is has score piece =
-    goes_on (orchestra_means orchestra) (orchestra_plays wide text) o r is
-    (goes_on (HasHead o.head) (IsPlayedAs wide text o) head r has
-    (goes_on (score_means head text) (λ p. Is (piece_of wide o head p)) plot r score (sym piece)))
+pub played : (width : SampleWidth) (orchestra text : List ℕ) (o : typed.Orchestra) (head : Head) (r : Result Composition Refusal)
+    → orchestra_means orchestra (Ok o) → typed.header_of_head head ≡ o.head → IsPlayedAs width text o head r → short_texts_mean width orchestra text r
+played width orchestra text o head r is has plays =
+    goes_on (orchestra_means orchestra) (orchestra_plays width text) o r is (goes_on (HasHead o.head) (IsPlayedAs width text o) head r has plays)
 
-pub not_played : (wide : Bool) (orchestra text : List ℕ) (o : typed.Orchestra) (head : Head) (refusal : Refusal)
-    → orchestra_means orchestra (Ok o) → typed.header_of_head head ≡ o.head → score_means head text (Err refusal)
-    → short_texts_mean wide orchestra text (Err refusal)
-not_played wide orchestra text o head refusal is has score =
-    goes_on (orchestra_means orchestra) (orchestra_plays wide text) o (Err refusal) is
-    (goes_on (HasHead o.head) (IsPlayedAs wide text o) head (Err refusal) has
-    (refuses (score_means head text) (λ p. Is (piece_of wide o head p)) refusal score))
+pub plotted_plays : (width : SampleWidth) (text : List ℕ) (o : typed.Orchestra) (head : Head) (plot : Plot) (r : Result Composition Refusal)
+    → score_means head text (Ok plot) → piece_of width o head plot ≡ r → IsPlayedAs width text o head r
+plotted_plays width text o head plot r score piece =
+    goes_on (score_means head text) (λ p. Is (piece_of width o head p)) plot r score (sym piece)
+
+pub not_plotted_plays : (width : SampleWidth) (text : List ℕ) (o : typed.Orchestra) (head : Head) (refusal : Refusal)
+    → score_means head text (Err refusal) → IsPlayedAs width text o head (Err refusal)
+not_plotted_plays width text o head refusal score =
+    refuses (score_means head text) (λ p. Is (piece_of width o head p)) refusal score

@@ -13,10 +13,12 @@ use Rattle.cs_typed.specs.TypedTree as typed
 use Rattle.cs_typing.specs.Settings.{earlier, header, headers_fault, settings_fault}
 use Rattle.cs_typing.specs.Typing.{judged, type_fault, typed_of}
 use Rattle.cs_typing.proofs.Ranges.{channels_within, cycle_within, frames_within, scale_within}
+use Rattle.cs_base.specs.declared.width.SampleWidth.{SampleWidth}
+use Rattle.cs_udo.specs.Expanding.{expanding}
 use Rattle.cs_compile.specs.Then.{GoesOn, Is}
-use Rattle.cs_compile.specs.Meaning.{HasHead, HasTokens, HasTree, IsPlayedAs, IsRead, IsReadAs, IsTypedAs, expanded, means, no_longer_than, orchestra_means, orchestra_plays, piece_of, plotted, refused_as, score_means, short_texts_mean, typed_form}
-use Rattle.cs_compile.specs.declared.refusal.Refusal.{Refusal}
-use Rattle.cs_compile.specs.declared.refusal.Refusal.TheVariants as why
+use Rattle.cs_compile.specs.Meaning.{HasHead, HasTokens, HasTree, IsPlayedAs, IsRead, IsReadAs, IsTypedAs, means, no_longer_than, orchestra_means, orchestra_plays, piece_of, plotted, refused_as, score_means, short_texts_mean, typed_form}
+use Rattle.cs_base.specs.declared.refusal.Refusal.{Refusal}
+use Rattle.cs_base.specs.declared.refusal.Refusal.TheVariants as why
 use Rattle.cs_compile.proofs.Chains.{then_some}
 use Rattle.cs_compile.proofs.Heads.{made}
 
@@ -76,17 +78,17 @@ head_some text o h = read_from h.first o h.after
 -- THE CHAIN
 
 typed_some : (t : tree.Orchestra) → HasSome (IsTypedAs t)
-typed_some t = then_some (Is (expanded t)) (λ e. Is (typed_form e)) (expanded t) refl (λ e _. (typed_form e, refl))
+typed_some t = then_some (Is (expanding t)) (λ e. Is (typed_form e)) (expanding t) refl (λ e _. (typed_form e, refl))
 
 score_some : (head : Head) (text : List ℕ) → HasSome (score_means head text)
 score_some head text =
     then_some (Is (refused_as why.Score (score_of text))) (λ score. Is (plotted head score)) (refused_as why.Score (score_of text)) refl
     (λ score _. (plotted head score, refl))
 
-plays_some : (wide : Bool) (score : List ℕ) (o : typed.Orchestra) (head : Head) → HasSome (IsPlayedAs wide score o head)
-plays_some wide score o head =
+plays_some : (width : SampleWidth) (score : List ℕ) (o : typed.Orchestra) (head : Head) → HasSome (IsPlayedAs width score o head)
+plays_some width score o head =
     let plot = score_some head score in
-    then_some (score_means head score) (λ plot. Is (piece_of wide o head plot)) plot.0 plot.1 (λ p _. (piece_of wide o head p, refl))
+    then_some (score_means head score) (λ plot. Is (piece_of width o head plot)) plot.0 plot.1 (λ p _. (piece_of width o head p, refl))
 
 module _ (tokens : (text : List ℕ) → HasSome (HasTokens text)) (trees : (text : List ℕ) (ts : List Token) → HasSome (HasTree text ts)) where
   tree_some : (text : List ℕ) → HasSome (IsReadAs text)
@@ -95,15 +97,15 @@ module _ (tokens : (text : List ℕ) → HasSome (HasTokens text)) (trees : (tex
   orchestra_some : (text : List ℕ) → HasSome (orchestra_means text)
   orchestra_some text = let first = tree_some text in then_some (IsReadAs text) IsTypedAs first.0 first.1 (λ t _. typed_some t)
 
-  short_some : (wide : Bool) (orchestra score : List ℕ) → HasSome (short_texts_mean wide orchestra score)
-  short_some wide orchestra score =
+  short_some : (width : SampleWidth) (orchestra score : List ℕ) → HasSome (short_texts_mean width orchestra score)
+  short_some width orchestra score =
       let first = orchestra_some orchestra in
-      then_some (orchestra_means orchestra) (orchestra_plays wide score) first.0 first.1
+      then_some (orchestra_means orchestra) (orchestra_plays width score) first.0 first.1
       (λ o is. let head = head_some orchestra o is in
-      then_some (HasHead o.head) (IsPlayedAs wide score o) (Ok head.0) head.1 (λ h _. plays_some wide score o h))
+      then_some (HasHead o.head) (IsPlayedAs width score o) (Ok head.0) head.1 (λ h _. plays_some width score o h))
 
-  pub means_some : (wide : Bool) (orchestra score : List ℕ) → HasSome (means wide orchestra score)
-  means_some wide orchestra score =
+  pub means_some : (width : SampleWidth) (orchestra score : List ℕ) → HasSome (means width orchestra score)
+  means_some width orchestra score =
       then_some (Is (no_longer_than limit.OrchestraBytes orchestra)) _ (no_longer_than limit.OrchestraBytes orchestra) refl
-      (λ orc _. then_some (Is (no_longer_than limit.ScoreBytes score)) (λ sco. short_texts_mean wide orc sco) (no_longer_than limit.ScoreBytes score) refl
-      (λ sco _. short_some wide orc sco))
+      (λ orc _. then_some (Is (no_longer_than limit.ScoreBytes score)) (λ sco. short_texts_mean width orc sco) (no_longer_than limit.ScoreBytes score) refl
+      (λ sco _. short_some width orc sco))

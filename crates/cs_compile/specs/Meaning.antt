@@ -1,4 +1,5 @@
--- What two texts mean: the composition that is performed, or the first refusal, in the order in which refusals are looked for.
+-- What two texts mean: the composition that is performed, or the first refusal, in the order in which refusals are
+-- looked for.
 use Rattle.std.specs.Prelude.{ℕ, ◌≡◌, ◌*◌, Bool, nat_lt, List, length, Option, Some, None, Result, Ok, Err, if◌then◌else◌}
 use Rattle.std.specs.Option.{option_or}
 use Rattle.cs_base.specs.Limits.{most_of, most_wav_bytes}
@@ -7,10 +8,11 @@ use Rattle.cs_base.specs.declared.head.Head.{Head}
 use Rattle.cs_base.specs.declared.limit.Limit.{Limit}
 use Rattle.cs_base.specs.declared.limit.Limit.TheVariants as limit
 use Rattle.cs_base.specs.declared.limit.LimitHit.{LimitHit}
+use Rattle.cs_base.specs.declared.refusal.Refusal.{Refusal}
+use Rattle.cs_base.specs.declared.refusal.Refusal.TheVariants as why
+use Rattle.cs_base.specs.declared.width.SampleWidth.{SampleWidth}
 use Rattle.cs_cells.specs.Areas.{limit_passed}
 use Rattle.cs_compile.specs.Then.{Is, Then}
-use Rattle.cs_compile.specs.declared.refusal.Refusal.{Refusal}
-use Rattle.cs_compile.specs.declared.refusal.Refusal.TheVariants as why
 use Rattle.cs_piece_meaning.specs.Moments.{Composition}
 use Rattle.cs_grammar.specs.Orchestra.{ParseFault, Tree}
 use Rattle.cs_grammar.specs.Tree as tree
@@ -26,9 +28,7 @@ use Rattle.cs_typed.specs.Places.{Header}
 use Rattle.cs_typed.specs.TypedTree as typed
 use Rattle.cs_typing.specs.Typing.{typing}
 use Rattle.cs_udo.specs.Expanding.{expanding}
-use Rattle.cs_udo.specs.declared.fault.ExpandFault.{ExpandFault}
-use Rattle.cs_udo.specs.declared.fault.ExpandFault.TheVariants as expansion
-use Rattle.cs_wav.specs.Wav.{bytes_of, size_of}
+use Rattle.cs_wav.specs.Wav.{size_of}
 
 -- what a part of the orchestra is read as: a value, or its first fault by line and kind
 abbrev pub IsRead : {A : Type 0} → (A → Type 0) → (ℕ → OrcKind → Type 0) → Result A Refusal → Type 0
@@ -55,7 +55,8 @@ passed_if which b = if b then Some (record { limit = which; line = 0 }) else Non
 abbrev pub no_longer_than : Limit → List ℕ → Result (List ℕ) Refusal
 no_longer_than which text = unless_passed (passed_if which (nat_lt (most_of which) (length text))) text
 
--- AN ORCHESTRA by itself: its tokens, their tree, the tree with the calls of defined opcodes expanded, and its typed form
+-- AN ORCHESTRA by itself: its tokens, their tree, the tree with the calls of defined opcodes expanded, and its typed
+-- form
 
 abbrev pub HasTokens : List ℕ → Result (List Token) Refusal → Type 0
 HasTokens text = IsRead (Lexed text) (LexFault text)
@@ -66,19 +67,11 @@ HasTree text tokens = IsRead (Tree text tokens) (ParseFault text tokens)
 abbrev pub IsReadAs : List ℕ → Result tree.Orchestra Refusal → Type 0
 IsReadAs text = Then (HasTokens text) (HasTree text)
 
--- a call that is refused, or a limit on instruments or statements
-abbrev pub expansion_fault : ExpandFault → Refusal
-expansion_fault (expansion.Orc f) = why.Orc f
-expansion_fault (expansion.Limit hit) = why.Limit hit
-
-abbrev pub expanded : tree.Orchestra → Result tree.Orchestra Refusal
-expanded t = refused_as expansion_fault (expanding t)
-
 abbrev pub typed_form : tree.Orchestra → Result typed.Orchestra Refusal
 typed_form t = refused_as why.Orc (typing t)
 
 abbrev pub IsTypedAs : tree.Orchestra → Result typed.Orchestra Refusal → Type 0
-IsTypedAs t = Then (Is (expanded t)) (λ e. Is (typed_form e))
+IsTypedAs t = Then (Is (expanding t)) (λ e. Is (typed_form e))
 
 abbrev pub orchestra_means : List ℕ → Result typed.Orchestra Refusal → Type 0
 orchestra_means text = Then (IsReadAs text) IsTypedAs
@@ -91,19 +84,19 @@ plotted head score = unless_passed (limit_of head score) (plot_of head score)
 abbrev pub score_means : Head → List ℕ → Result Plot Refusal → Type 0
 score_means head text = Then (Is (refused_as why.Score (score_of text))) (λ score. Is (plotted head score))
 
--- A PIECE of an orchestra and a plot, in samples of two bytes or, where `wide`, of three
+-- A PIECE of an orchestra and a plot, in samples of this width
 
--- the samples of so many cycles have more bytes than a sound file may have
-abbrev pub is_too_long : Bool → Head → ℕ → Bool
-is_too_long wide head cycles = nat_lt most_wav_bytes (size_of (bytes_of wide) (cycles * head.ksmps) head)
+-- the samples of these cycles have more bytes than a sound file may have
+abbrev pub is_too_long : SampleWidth → Head → ℕ → Bool
+is_too_long width head cycles = nat_lt most_wav_bytes (size_of width (cycles * head.ksmps) head)
 
 -- the first limit that it passes: on resources, on their words, on the bytes of its samples
-abbrev pub limit_of_piece : Bool → typed.Orchestra → Head → Plot → Option LimitHit
-limit_of_piece wide o head plot =
-    option_or (limit_passed (areas_in o plot.events)) (passed_if limit.WavBytes (is_too_long wide head plot.cycles))
+abbrev pub limit_of_piece : SampleWidth → typed.Orchestra → Head → Plot → Option LimitHit
+limit_of_piece width o head plot =
+    option_or (limit_passed (areas_in o plot.events)) (passed_if limit.WavBytes (is_too_long width head plot.cycles))
 
-abbrev pub piece_of : Bool → typed.Orchestra → Head → Plot → Result Composition Refusal
-piece_of wide o head plot = unless_passed (limit_of_piece wide o head plot) (composition o plot)
+abbrev pub piece_of : SampleWidth → typed.Orchestra → Head → Plot → Result Composition Refusal
+piece_of width o head plot = unless_passed (limit_of_piece width o head plot) (composition o plot)
 
 -- a header with the ranges of its numbers; that of a typed orchestra has them
 abbrev pub HasHead : Header → Result Head Refusal → Type 0
@@ -111,19 +104,19 @@ HasHead h (Ok head) = typed.header_of_head head ≡ h
 HasHead h (Err r) = ⊥
 
 -- a score that is played by this orchestra
-abbrev pub IsPlayedAs : Bool → List ℕ → typed.Orchestra → Head → Result Composition Refusal → Type 0
-IsPlayedAs wide score o head = Then (score_means head score) (λ plot. Is (piece_of wide o head plot))
+abbrev pub IsPlayedAs : SampleWidth → List ℕ → typed.Orchestra → Head → Result Composition Refusal → Type 0
+IsPlayedAs width score o head = Then (score_means head score) (λ plot. Is (piece_of width o head plot))
 
-abbrev pub orchestra_plays : Bool → List ℕ → typed.Orchestra → Result Composition Refusal → Type 0
-orchestra_plays wide score o = Then (HasHead o.head) (IsPlayedAs wide score o)
+abbrev pub orchestra_plays : SampleWidth → List ℕ → typed.Orchestra → Result Composition Refusal → Type 0
+orchestra_plays width score o = Then (HasHead o.head) (IsPlayedAs width score o)
 
 -- two texts of which neither is too long
-abbrev pub short_texts_mean : Bool → List ℕ → List ℕ → Result Composition Refusal → Type 0
-short_texts_mean wide orchestra score = Then (orchestra_means orchestra) (orchestra_plays wide score)
+abbrev pub short_texts_mean : SampleWidth → List ℕ → List ℕ → Result Composition Refusal → Type 0
+short_texts_mean width orchestra score = Then (orchestra_means orchestra) (orchestra_plays width score)
 
--- TWO TEXTS, whose samples are `wide` or not, mean a composition, or have this first refusal.
-abbrev pub means : Bool → List ℕ → List ℕ → Result Composition Refusal → Type 0
-means wide orchestra score =
+-- TWO TEXTS mean a composition in samples of this width, or have this first refusal.
+abbrev pub means : SampleWidth → List ℕ → List ℕ → Result Composition Refusal → Type 0
+means width orchestra score =
     Then (Is (no_longer_than limit.OrchestraBytes orchestra)) (λ orc.
     Then (Is (no_longer_than limit.ScoreBytes score)) (λ sco.
-    short_texts_mean wide orc sco))
+    short_texts_mean width orc sco))

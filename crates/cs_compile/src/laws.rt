@@ -1,7 +1,8 @@
 // What holds of the meaning of every two texts: a call that does nothing, whose contract is the law.
-ghost use Rattle.std.specs.Prelude.{◌≡◌, ℕ, Bool, List, Result};
+ghost use Rattle.std.specs.Prelude.{◌≡◌, ℕ, List, Result};
+ghost use Rattle.cs_base.specs.declared.refusal.Refusal.{Refusal};
+ghost use Rattle.cs_base.specs.declared.width.SampleWidth.{SampleWidth};
 ghost use Rattle.cs_compile.specs.Meaning.{means};
-ghost use Rattle.cs_compile.specs.declared.refusal.Refusal.{Refusal};
 ghost use Rattle.cs_piece_meaning.specs.Moments.{Composition};
 
 use cs_grammar::one_reading as one_tree;
@@ -9,10 +10,10 @@ use cs_lex::one_reading as one_list_of_tokens;
 
 /// Every two texts have one meaning, in samples of either width: one composition, or one first refusal.
 pub fn texts_have_one_meaning()
-    ensures some { (wide : Bool) (orchestra score : List ℕ)
-        → (r : Result Composition Refusal) × means wide orchestra score r }
-    ensures one { (wide : Bool) (orchestra score : List ℕ) (r s : Result Composition Refusal)
-        → means wide orchestra score r → means wide orchestra score s → r ≡ s }
+    ensures some { (width : SampleWidth) (orchestra score : List ℕ)
+        → (r : Result Composition Refusal) × means width orchestra score r }
+    ensures one { (width : SampleWidth) (orchestra score : List ℕ) (r s : Result Composition Refusal)
+        → means width orchestra score r → means width orchestra score s → r ≡ s }
 {
     one_list_of_tokens();
     one_tree();

@@ -1,21 +1,19 @@
 //! From two texts to all that their piece needs to be performed, or to their first refusal. It has no runtime.
 //!
-//! The one contract: `compile` answers exactly what the texts mean (specs/Meaning, `means`), a chain of steps each of which goes on
-//! from the value of the one before (specs/Then): a setup of the composition that they mean, or the first refusal in the stated
-//! order of steps. `texts_have_one_meaning` says that there is one and no other. In which order the parts are worked out, what is
-//! kept between them and when it is given back may be changed without anyone above noticing, as long as the first refusal by the
-//! chain is the one that is told.
+//! The one contract: `compile` returns exactly what the texts mean (specs/Meaning, `means`), a chain of steps each of
+//! which goes on from the value of the one before (specs/Then): a setup of the composition that they mean, or the
+//! first refusal in the stated order of steps. `texts_have_one_meaning` says that there is one and no other. In which
+//! order the parts are worked out, what is kept between them and when it is given back may be changed without anyone
+//! above noticing, as long as the first refusal by the chain is the one that is told.
 //!
-//! To be read in this order: `refusal`, `orchestra` (a text's typed orchestra), `score` (a text's plot), `piece` (both together:
+//! To be read in this order: `orchestra` (a text's typed orchestra), `score` (a text's plot), `piece` (both together:
 //! `compile`), `laws`.
 #![tactic(auto)]
 
 mod laws;
 mod orchestra;
 mod piece;
-mod refusal;
 mod score;
 
 pub use laws::texts_have_one_meaning;
 pub use piece::compile;
-pub use refusal::Refusal;

@@ -1,22 +1,20 @@
 // What an orchestra's text means by itself: its typed orchestra.
-ghost use Rattle.std.specs.Prelude.{◌≡◌, ◌≤◌, length, map, eqb, Ok, Err, IfOk};
+ghost use Rattle.std.specs.Prelude.{◌≡◌, ◌≤◌, length, eqb, Ok, Err, IfOk};
 ghost use Rattle.std.specs.List.{IsDistinct};
 ghost use Rattle.cs_base.specs.Limits.{most_orchestra_bytes};
 ghost use Rattle.cs_base.specs.declared.fault.Or.TheVariants as or;
-ghost use Rattle.cs_base.specs.declared.fault.OrcFault.{OrcFault};
+ghost use Rattle.cs_base.specs.declared.refusal.Refusal.{Refusal};
 ghost use Rattle.cs_code.specs.Lowered.{all_numbers};
-ghost use Rattle.cs_compile.specs.Meaning.{IsReadAs, IsTypedAs, expanded, orchestra_means, typed_form};
-ghost use Rattle.cs_compile.specs.declared.refusal.Refusal.{Refusal};
-ghost use Rattle.cs_compile.specs.declared.refusal.Refusal.TheVariants as why;
+ghost use Rattle.cs_compile.specs.Meaning.{IsReadAs, IsTypedAs, orchestra_means, typed_form};
 ghost use Rattle.cs_grammar.specs.Tree as tree;
 ghost use Rattle.cs_grammar.specs.WellFormed.{IsWellFormed};
 ghost use Rattle.cs_name_laws.specs.Names.{NamesWhatThereIs};
 ghost use Rattle.cs_typed.specs.TypedTree as typed;
 ghost use Rattle.cs_typed.specs.WellRated.{IsWellRated};
 ghost use Rattle.cs_typing.specs.Typing.{typed_of};
+ghost use Rattle.cs_udo.specs.Expanding.{expanding};
 
-use crate::refusal::{Refusal, of_expansion, of_orchestra};
-use cs_base::{Or, OrcFault};
+use cs_base::{Or, Refusal};
 use cs_grammar::{Orc, parse, trees_are_well_formed};
 use cs_lex::lex;
 use cs_name_laws::typed_trees_name_what_there_is;
@@ -46,21 +44,10 @@ fn read_tree(alloc: Global, text: &[u8]) -> Result<Orc, Or<Refusal>>
     ensures well_formed { IfOk result (λ orc. IsWellFormed (tree.orchestra orc)) }
     ensures refused { (r : Refusal) → result ≡ Err (or.Fault r) → IsReadAs text.now (Err r) }
 {
-    of_orchestra(tree_of(alloc, text))
-}
-
-// The tree of a text, or its first fault.
-fn tree_of(alloc: Global, text: &[u8]) -> Result<Orc, Or<OrcFault>>
-    requires { length text.now ≤ most_orchestra_bytes }
-    ensures tree { IfOk result (λ orc. IsReadAs text.now (Ok (tree.orchestra orc))) }
-    ensures well_formed { IfOk result (λ orc. IsWellFormed (tree.orchestra orc)) }
-    ensures fault { (f : OrcFault) → result ≡ Err (or.Fault f) → IsReadAs text.now (Err (why.Orc f)) }
-{
     trees_are_well_formed();
-    match lex(alloc, text) {
-        Ok(tokens) => parse(alloc, text, &tokens),
-        Err(refusal) => Err(refusal),
-    }
+    let tokens = lex(alloc, text)?;
+    let tree = parse(alloc, text, &tokens)?;
+    Ok(tree)
 }
 
 // The typed form of a tree, its calls of defined opcodes expanded.
@@ -72,19 +59,19 @@ fn typed_tree(alloc: Global, orc: Orc) -> Result<TypedOrc, Or<Refusal>>
     ensures named { IfOk result (λ o. NamesWhatThereIs (typed.orchestra o)) }
     ensures refused { (r : Refusal) → result ≡ Err (or.Fault r) → IsTypedAs (tree.orchestra orc) (Err r) }
 {
-    let expanded = expanded(alloc, orc)?;
-    typed_form(alloc, &expanded)
+    let whole = expanded(alloc, orc)?;
+    typed_form(alloc, &whole)
 }
 
 // A tree without calls of defined opcodes, or why there is none.
 fn expanded(alloc: Global, orc: Orc) -> Result<Orc, Or<Refusal>>
     requires { IsWellFormed (tree.orchestra orc) }
-    ensures expanded { IfOk result (λ e. expanded (tree.orchestra orc) ≡ Ok (tree.orchestra e)) }
+    ensures expanded { IfOk result (λ e. expanding (tree.orchestra orc) ≡ Ok (tree.orchestra e)) }
     ensures distinct { IfOk result (λ e. IsDistinct eqb (all_numbers (typed_of (tree.orchestra e)).instrs)) }
-    ensures refused { (r : Refusal) → result ≡ Err (or.Fault r) → expanded (tree.orchestra orc) ≡ Err r }
+    ensures refused { (r : Refusal) → result ≡ Err (or.Fault r) → expanding (tree.orchestra orc) ≡ Err r }
 {
     expansions_can_be_lowered();
-    of_expansion(expand(alloc, orc))
+    expand(alloc, orc)
 }
 
 // The typed form of an expanded tree, or the refusal of its first broken rule of rates and names.
@@ -98,5 +85,6 @@ fn typed_form(alloc: Global, orc: &Orc) -> Result<TypedOrc, Or<Refusal>>
 {
     typing_is_well_rated();
     typed_trees_name_what_there_is();
-    of_orchestra(type_orc(alloc, orc))
+    let typed = type_orc(alloc, orc)?;
+    Ok(typed)
 }

@@ -1,48 +1,51 @@
 // What two texts mean together.
-ghost use Rattle.std.specs.Prelude.{◌≡◌, ◌≤◌, ◌*◌, length, eqb, Some, Ok, Err, IfOk, OnOk};
+ghost use Rattle.std.specs.Prelude.{◌≡◌, ◌≤◌, ◌*◌, length, eqb, false, true, Ok, Err, IfOk};
 ghost use Rattle.std.specs.List.{IsDistinct};
+ghost use Rattle.cs_base.specs.Faults.{passed};
 ghost use Rattle.cs_base.specs.Limits.{most_orchestra_bytes, most_score_bytes, most_wav_bytes};
 ghost use Rattle.cs_base.specs.declared.fault.Or.TheVariants as or;
+ghost use Rattle.cs_base.specs.declared.limit.Limit.TheVariants as limit;
+ghost use Rattle.cs_base.specs.declared.refusal.Refusal.{Refusal};
 ghost use Rattle.cs_code.specs.Lowered.{all_numbers};
-ghost use Rattle.cs_compile.specs.Meaning.{is_too_long, means, piece_of, short_texts_mean};
-ghost use Rattle.cs_compile.specs.declared.refusal.Refusal.{Refusal};
-ghost use Rattle.cs_compile.specs.declared.refusal.Refusal.TheVariants as why;
+ghost use Rattle.cs_compile.specs.Meaning.{IsPlayedAs, is_too_long, means, piece_of, short_texts_mean};
 ghost use Rattle.cs_name_laws.specs.Names.{NamesWhatThereIs};
 ghost use Rattle.cs_piece.specs.Setups.{AreOfOneSize, composition_of};
 ghost use Rattle.cs_tempo.specs.Performable.{IsPerformable};
 ghost use Rattle.cs_typed.specs.TypedTree as typed;
 ghost use Rattle.cs_typed.specs.WellRated.{IsWellRated};
-ghost use Rattle.cs_wav.specs.Wav.{bytes_of, size_of};
+ghost use Rattle.cs_wav.specs.Wav.{size_of};
 
 use crate::orchestra::read_orchestra;
-use crate::refusal::{Refusal, of_limit, passed, unless_long};
-use crate::score::read_plot_beside;
-use cs_base::{Head, Limit, MOST_ORCHESTRA_BYTES, MOST_SCORE_BYTES, MOST_WAV_BYTES, Or};
+use crate::score::read_plot;
+use cs_base::{
+    Head, Limit, MOST_ORCHESTRA_BYTES, MOST_SCORE_BYTES, MOST_WAV_BYTES, Or, Refusal, SampleWidth,
+};
 use cs_piece::Setup;
 use cs_tempo::Plot;
 use cs_typed::TypedOrc;
 use std::alloc::Global;
 
-/// All that the piece of two texts needs to be performed, in samples of two bytes or, where `wide`, of three; or the first refusal
-/// of the texts. A setup's samples fit a sound file.
+/// All that the piece of two texts needs to be performed, in samples of this width; or the first refusal of the
+/// texts. A setup's samples fit a sound file.
 pub fn compile(
     alloc: Global,
     orchestra: &[u8],
     score: &[u8],
-    wide: bool,
+    width: SampleWidth,
 ) -> Result<Setup, Or<Refusal>>
-    ensures accepted { IfOk result (λ s. means wide orchestra.now score.now (Ok (composition_of s))) }
-    ensures fits { IfOk result (λ s. size_of (bytes_of wide) (s.plot.cycles * s.orchestra.head.ksmps) s.orchestra.head ≤ most_wav_bytes) }
+    ensures accepted { IfOk result (λ s. means width orchestra.now score.now (Ok (composition_of s))) }
+    ensures fits { IfOk result (λ s. size_of width
+        (s.plot.cycles * s.orchestra.head.ksmps) s.orchestra.head ≤ most_wav_bytes) }
     // Want of memory alone has no clause.
-    ensures refused { (r : Refusal) → result ≡ Err (or.Fault r) → means wide orchestra.now score.now (Err r) }
+    ensures refused { (r : Refusal) → result ≡ Err (or.Fault r) → means width orchestra.now score.now (Err r) }
 {
     if orchestra.len() > MOST_ORCHESTRA_BYTES {
-        return Err(Or::Fault(passed(Limit::OrchestraBytes)));
+        return Err(Or::Fault(Refusal::passed(Limit::OrchestraBytes)));
     }
     if score.len() > MOST_SCORE_BYTES {
-        return Err(Or::Fault(passed(Limit::ScoreBytes)));
+        return Err(Or::Fault(Refusal::passed(Limit::ScoreBytes)));
     }
-    compile_short(alloc, orchestra, score, wide)
+    compile_short(alloc, orchestra, score, width)
 }
 
 // The same of texts that are not too long.
@@ -50,18 +53,40 @@ fn compile_short(
     alloc: Global,
     orchestra: &[u8],
     score: &[u8],
-    wide: bool,
+    width: SampleWidth,
 ) -> Result<Setup, Or<Refusal>>
     requires orchestra { length orchestra.now ≤ most_orchestra_bytes }
     requires score { length score.now ≤ most_score_bytes }
-    ensures accepted { IfOk result (λ s. short_texts_mean wide orchestra.now score.now (Ok (composition_of s))) }
-    ensures fits { IfOk result (λ s. size_of (bytes_of wide) (s.plot.cycles * s.orchestra.head.ksmps) s.orchestra.head ≤ most_wav_bytes) }
-    ensures refused { (r : Refusal) → result ≡ Err (or.Fault r) → short_texts_mean wide orchestra.now score.now (Err r) }
+    ensures accepted { IfOk result (λ s. short_texts_mean width orchestra.now score.now (Ok (composition_of s))) }
+    ensures fits { IfOk result (λ s. size_of width
+        (s.plot.cycles * s.orchestra.head.ksmps) s.orchestra.head ≤ most_wav_bytes) }
+    ensures refused { (r : Refusal) → result ≡ Err (or.Fault r)
+        → short_texts_mean width orchestra.now score.now (Err r) }
 {
     let typed = read_orchestra(alloc, orchestra)?;
-    let head = typed.head;
-    let read = read_plot_beside(alloc, score, &head, typed)?;
-    prepared(alloc, read.0, read.1, wide)
+    with_score(alloc, typed, score, width)
+}
+
+// The same of an orchestra that was read.
+fn with_score(
+    alloc: Global,
+    orchestra: TypedOrc,
+    score: &[u8],
+    width: SampleWidth,
+) -> Result<Setup, Or<Refusal>>
+    requires rated { IsWellRated (typed.orchestra orchestra) }
+    requires distinct { IsDistinct eqb (all_numbers (typed.orchestra orchestra).instrs) }
+    requires named { NamesWhatThereIs (typed.orchestra orchestra) }
+    requires score { length score.now ≤ most_score_bytes }
+    ensures accepted { IfOk result (λ s. IsPlayedAs width score.now (typed.orchestra orchestra) orchestra.head
+        (Ok (composition_of s))) }
+    ensures fits { IfOk result (λ s. size_of width
+        (s.plot.cycles * s.orchestra.head.ksmps) s.orchestra.head ≤ most_wav_bytes) }
+    ensures refused { (r : Refusal) → result ≡ Err (or.Fault r)
+        → IsPlayedAs width score.now (typed.orchestra orchestra) orchestra.head (Err r) }
+{
+    let plot = read_plot(alloc, score, &orchestra.head)?;
+    prepared(alloc, orchestra, plot, width)
 }
 
 // What an orchestra and a plot need to be performed, or the refusal of the first limit that they pass together.
@@ -69,27 +94,41 @@ fn prepared(
     alloc: Global,
     orchestra: TypedOrc,
     plot: Plot,
-    wide: bool,
+    width: SampleWidth,
 ) -> Result<Setup, Or<Refusal>>
     requires rated { IsWellRated (typed.orchestra orchestra) }
     requires distinct { IsDistinct eqb (all_numbers (typed.orchestra orchestra).instrs) }
     requires named { NamesWhatThereIs (typed.orchestra orchestra) }
     requires performable { IsPerformable orchestra.head plot }
     requires sizes { AreOfOneSize plot.events }
-    ensures accepted { IfOk result (λ s. piece_of wide (typed.orchestra orchestra) orchestra.head plot ≡ Ok (composition_of s)) }
-    ensures fits { IfOk result (λ s. size_of (bytes_of wide) (s.plot.cycles * s.orchestra.head.ksmps) s.orchestra.head ≤ most_wav_bytes) }
-    ensures refused { (r : Refusal) → result ≡ Err (or.Fault r) → piece_of wide (typed.orchestra orchestra) orchestra.head plot ≡ Err r }
+    ensures accepted { IfOk result (λ s. piece_of width (typed.orchestra orchestra) orchestra.head plot
+        ≡ Ok (composition_of s)) }
+    ensures fits { IfOk result (λ s. size_of width
+        (s.plot.cycles * s.orchestra.head.ksmps) s.orchestra.head ≤ most_wav_bytes) }
+    ensures refused { (r : Refusal) → result ≡ Err (or.Fault r)
+        → piece_of width (typed.orchestra orchestra) orchestra.head plot ≡ Err r }
 {
-    let too_long = is_too_long(wide, &orchestra.head, plot.cycles);
-    unless_long(too_long, of_limit(Setup::new(alloc, orchestra, plot)))
+    let too_long = is_too_long(width, &orchestra.head, plot.cycles);
+    let setup = Setup::new(alloc, orchestra, plot)?;
+    unless_long(setup, too_long)
+}
+
+// A value whose samples fit a sound file; else the refusal.
+fn unless_long<T: Drop>(value: T, too_long: bool) -> Result<T, Or<Refusal>>
+    ensures value { IfOk result (λ v. (v ≡ value) × (too_long ≡ false)) }
+    ensures refused { (r : Refusal) → result ≡ Err (or.Fault r) → (r ≡ passed limit.WavBytes) × (too_long ≡ true) }
+{
+    if too_long {
+        return Err(Or::Fault(Refusal::passed(Limit::WavBytes)));
+    }
+    Ok(value)
 }
 
 // Whether the samples of a piece have more bytes than a sound file may have.
-fn is_too_long(wide: bool, head: &Head, cycles: u32) -> bool
-    ensures { result ≡ is_too_long wide head.now cycles }
+fn is_too_long(width: SampleWidth, head: &Head, cycles: u32) -> bool
+    ensures { result ≡ is_too_long width head.now cycles }
 {
     let frames = u64::from(cycles) * u64::from(head.ksmps);
     let samples = frames * u64::from(head.nchnls);
-    let bytes = if wide { samples * 3 } else { samples * 2 };
-    bytes > MOST_WAV_BYTES
+    samples * u64::from(width.bytes()) > MOST_WAV_BYTES
 }

@@ -81,7 +81,7 @@ marked_long n (t ∷ ts) (f ∷ fs) h = ap suc (marked_long n ts fs (omega arith
 points_some : (t : TableAt) → is_some t.points ≡ is_some (table_of t).frozen
 points_some t = of_points t.points
   where
-    of_points : (o : Option (Bor (List ℤ))) → is_some o ≡ is_some (frozen_in o)
+    of_points : (o : _) → is_some o ≡ is_some (frozen_in o)
     of_points None = refl
     of_points (Some x) = refl
 

@@ -48,7 +48,7 @@ pub same_piece : (c : Composition) (stage : Stage) (flags : List Bool) (numbers 
     → flags ≡ flags_of c.tables numbers → piece_with c numbers fields ≡ piece_at stage flags fields
 same_piece c stage flags numbers fields is f =
     let head : c.head ≡ header_of stage.head.now = sym is.head in
-    let spaces : c.spaces ≡ record { control = stage.zak_k; audio = stage.zak_a } = sym is.spaces in
+    let spaces : c.spaces ≡ stage.spaces = sym is.spaces in
     let tables : map (as_made numbers) c.tables ≡ tables_of stage.tables.now flags =
     same_tables c.tables stage.tables.now numbers is.tables ∙ ap (tables_of stage.tables.now) (sym f) in
     λ i. record {

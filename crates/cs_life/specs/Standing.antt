@@ -23,8 +23,8 @@ use Rattle.cs_life.specs.declared.life.Life.{Life}
 abbrev pub flags_of : List Table → List ℕ → List Bool
 flags_of tables made = map (λ (t : Table). list_any (λ n. n == t.number) made) tables
 
--- A voice stands for a note that plays: the same instrument and p-fields, an instrument of the note's statements, and what the note
--- has come to.
+-- A voice stands for a note that plays: the same instrument and p-fields, an instrument of the note's statements, and
+-- what the note has come to.
 pub record Plays (c : Composition) (stage : Stage) (flags : List Bool) (v : VoiceData) (a : Active) : Type 0 where
   pub i : Numbered
   pub foot : Footprint
@@ -39,8 +39,8 @@ pub record Plays (c : Composition) (stage : Stage) (flags : List Bool) (v : Voic
 abbrev pub kept_count : ℕ → ℕ
 kept_count n = min n (2 ^ 64 - 1)
 
--- Cells and voices stand at a moment: cells hold what notes share, each voice stands for the note at its place, in the order of
--- performing; so many are no more than may play.
+-- Cells and voices stand at a moment: cells hold what notes share, each voice stands for the note at its place, in
+-- the order of performing; so many are no more than may play.
 pub record VoicesStand (c : Composition) (stage : Stage) (flags : List Bool) (voices : List VoiceData) (cells : Cells) (m : Moment) : Type 0 where
   pub stage_is : IsStageOf c stage
   pub made : flags ≡ flags_of c.tables m.made
@@ -50,8 +50,8 @@ pub record VoicesStand (c : Composition) (stage : Stage) (flags : List Bool) (vo
   pub in_order : IsNonDecreasingBy (λ (v : VoiceData). v.number) voices
   pub few : length voices ≤ most_notes
 
--- All that is kept stands at a moment: the voices and cells, over the setup's layout; when each note ends, which notes wait, and the
--- counts of starts.
+-- All that is kept stands at a moment: the voices and cells, over the setup's layout; when each note ends, which
+-- notes wait, and the counts of starts.
 pub record Stands (c : Composition) (life : Life) (voices : List VoiceData) (cells : Cells) (m : Moment) : Type 0 where
   pub stand : VoicesStand c life.stage life.made.items voices cells m
   pub layout : life.stage.layout.now ≡ life.setup.now.layout

@@ -20,9 +20,9 @@ use cs_voice::Voice;
 use std::alloc::Global;
 
 impl<'t> Life<'t> {
-    /// The notes of a cycle begin: those whose end it is leave, then its events are done, then the notes that wait for it start.
-    /// `cycle` is that of the next cycle; after the last, its events alone are done. `voices` are those that play, in the order of
-    /// performing. After want of memory nothing is promised of the voices.
+    /// The notes of a cycle begin: those whose end it is leave, then its events are done, then the notes that wait
+    /// for it start. `cycle` is that of the next cycle; after the last, its events alone are done. `voices` are those
+    /// that play, in the order of performing. After want of memory nothing is promised of the voices.
     pub fn begin_cycle<B: Bank>(
         &mut self,
         alloc: Global,
@@ -30,11 +30,14 @@ impl<'t> Life<'t> {
         voices: &mut Vec<Voice<'t>>,
         bank: &mut B,
     ) -> Result<(), OutOfMemory>
-        requires stands { (m : Moment) × Stands (composition_of self.old.setup.now) self.old voices.old.items (B.cells bank.old) m }
+        requires stands { (m : Moment) × Stands (composition_of self.old.setup.now) self.old voices.old.items
+            (B.cells bank.old) m }
         requires get { (a : ℕ) → a < word_count self.old.setup.now.layout → B.can_get (B.rest bank.old) a }
         requires set { (a : ℕ) → a < word_count self.old.setup.now.layout → B.can_set (B.rest bank.old) a }
-        ensures begun { OnOk result ((m : Moment) → Stands (composition_of self.old.setup.now) self.old voices.old.items (B.cells bank.old) m
-            → Stands (composition_of self.old.setup.now) self.new voices.new.items (B.cells bank.new) (begins (composition_of self.old.setup.now) cycle m)) }
+        ensures begun { OnOk result ((m : Moment) → Stands
+            (composition_of self.old.setup.now) self.old voices.old.items (B.cells bank.old) m
+            → Stands (composition_of self.old.setup.now) self.new voices.new.items (B.cells bank.new)
+            (begins (composition_of self.old.setup.now) cycle m)) }
         ensures setup { self.new.setup.now ≡ self.old.setup.now }
         ensures long { length (B.cells bank.new) ≡ length (B.cells bank.old) }
         ensures rest { B.rest bank.new ≡ B.rest bank.old }
@@ -52,8 +55,10 @@ impl<'t> Life<'t> {
         voices: &mut Vec<Voice<'t>>,
         bank: &mut B,
     ) -> Result<(), OutOfMemory>
-        requires able { CanGoOn (B.can_get (B.rest bank.old)) (B.can_set (B.rest bank.old)) self.old voices.old.items (B.cells bank.old) }
-        ensures done { OnOk result (HasGoneOn (all_done (composition_of self.old.setup.now) (events_in (composition_of self.old.setup.now) cycle))
+        requires able { CanGoOn (B.can_get (B.rest bank.old))
+            (B.can_set (B.rest bank.old)) self.old voices.old.items (B.cells bank.old) }
+        ensures done { OnOk result (HasGoneOn (all_done (composition_of self.old.setup.now)
+            (events_in (composition_of self.old.setup.now) cycle))
             self.old voices.old.items (B.cells bank.old) self.new voices.new.items (B.cells bank.new)) }
         ensures setup { self.new.setup.now ≡ self.old.setup.now }
         ensures long { length (B.cells bank.new) ≡ length (B.cells bank.old) }
@@ -73,7 +78,8 @@ impl<'t> Life<'t> {
         voices: &mut Vec<Voice<'t>>,
         bank: &mut B,
     ) -> Result<(), OutOfMemory>
-        requires able { CanGoOn (B.can_get (B.rest bank.old)) (B.can_set (B.rest bank.old)) self.old voices.old.items (B.cells bank.old) }
+        requires able { CanGoOn (B.can_get (B.rest bank.old))
+            (B.can_set (B.rest bank.old)) self.old voices.old.items (B.cells bank.old) }
         requires events { All (λ (e : Event). CanBeDone (composition_of self.old.setup.now) e.act) events.now }
         ensures done { OnOk result (HasGoneOn (all_done (composition_of self.old.setup.now) events.now)
             self.old voices.old.items (B.cells bank.old) self.new voices.new.items (B.cells bank.new)) }
@@ -95,9 +101,11 @@ impl<'t> Life<'t> {
         voices: &mut Vec<Voice<'t>>,
         bank: &mut B,
     ) -> Result<(), OutOfMemory>
-        requires able { CanGoOn (B.can_get (B.rest bank.old)) (B.can_set (B.rest bank.old)) self.old voices.old.items (B.cells bank.old) }
+        requires able { CanGoOn (B.can_get (B.rest bank.old))
+            (B.can_set (B.rest bank.old)) self.old voices.old.items (B.cells bank.old) }
         requires event { CanBeDone (composition_of self.old.setup.now) event.now.act }
-        ensures done { OnOk result (HasGoneOn (act_done (composition_of self.old.setup.now) event.now.cycle event.now.act)
+        ensures done { OnOk result (HasGoneOn (act_done
+            (composition_of self.old.setup.now) event.now.cycle event.now.act)
             self.old voices.old.items (B.cells bank.old) self.new voices.new.items (B.cells bank.new)) }
         ensures setup { self.new.setup.now ≡ self.old.setup.now }
         ensures long { length (B.cells bank.new) ≡ length (B.cells bank.old) }
@@ -137,7 +145,8 @@ impl<'t> Life<'t> {
         voices: &mut Vec<Voice<'t>>,
         bank: &mut B,
     ) -> Result<(), OutOfMemory>
-        requires able { CanGoOn (B.can_get (B.rest bank.old)) (B.can_set (B.rest bank.old)) self.old voices.old.items (B.cells bank.old) }
+        requires able { CanGoOn (B.can_get (B.rest bank.old))
+            (B.can_set (B.rest bank.old)) self.old voices.old.items (B.cells bank.old) }
         ensures started { OnOk result (HasGoneOn (all_waited (composition_of self.old.setup.now) cycle)
             self.old voices.old.items (B.cells bank.old) self.new voices.new.items (B.cells bank.new)) }
         ensures setup { self.new.setup.now ≡ self.old.setup.now }

@@ -18,14 +18,18 @@ use cs_voice::voices_perform;
 
 /// The serial run of the voices of a moment, over its cells, is the performance of the cycle.
 pub fn serial_runs_perform()
-    ensures performed { (c : Composition) (life : Life) (voices : List VoiceData) (cells : Cells) (m : Moment) → Stands c life voices cells m
+    ensures performed { (c : Composition) (life : Life) (voices : List VoiceData) (cells : Cells) (m : Moment)
+        → Stands c life voices cells m
         → Stands c life (serial_jobs voice_job voices cells) (serial_cells voice_job voices cells) (performed c m) }
     // The voices of a moment can be run together: they stand over one layout, and each has a footprint in it.
-    ensures layouts { (c : Composition) (life : Life) (voices : List VoiceData) (cells : Cells) (m : Moment) → Stands c life voices cells m
+    ensures layouts { (c : Composition) (life : Life) (voices : List VoiceData) (cells : Cells) (m : Moment)
+        → Stands c life voices cells m
         → All (λ (v : VoiceData). v.areas ≡ life.stage.layout.now) voices }
-    ensures footprints { (c : Composition) (life : Life) (voices : List VoiceData) (cells : Cells) (m : Moment) → Stands c life voices cells m
+    ensures footprints { (c : Composition) (life : Life) (voices : List VoiceData) (cells : Cells) (m : Moment)
+        → Stands c life voices cells m
         → All (λ (v : VoiceData). IsFootprint (length life.stage.layout.now) v.foot) voices }
-    ensures few { (c : Composition) (life : Life) (voices : List VoiceData) (cells : Cells) (m : Moment) → Stands c life voices cells m
+    ensures few { (c : Composition) (life : Life) (voices : List VoiceData) (cells : Cells) (m : Moment)
+        → Stands c life voices cells m
         → length voices ≤ most_notes }
 {
     voices_perform();
@@ -37,8 +41,10 @@ pub fn voices_are_heard()
         → Stands c life voices cells (performed c (begins c n (moment_at c n)))
         → mixed c.head.ksmps c.head.nchnls voices ≡ mix_in c n }
     // What the sum of voices asks for, and how many notes they are.
-    ensures frames { (c : Composition) (life : Life) (voices : List VoiceData) (cells : Cells) (m : Moment) → Stands c life voices cells m
+    ensures frames { (c : Composition) (life : Life) (voices : List VoiceData) (cells : Cells) (m : Moment)
+        → Stands c life voices cells m
         → All (λ (v : VoiceData). v.outs.ksmps ≡ c.head.ksmps) voices }
-    ensures notes { (c : Composition) (life : Life) (voices : List VoiceData) (cells : Cells) (m : Moment) → Stands c life voices cells m
+    ensures notes { (c : Composition) (life : Life) (voices : List VoiceData) (cells : Cells) (m : Moment)
+        → Stands c life voices cells m
         → length voices ≡ length m.active }
 {}

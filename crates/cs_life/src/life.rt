@@ -12,7 +12,7 @@ ghost use Rattle.cs_voice.specs.VoiceData.{made};
 
 use cs_base::OutOfMemory;
 use cs_cells::Bank;
-use cs_piece::Setup;
+use cs_piece::{Playable, Setup};
 use cs_sched::Pending;
 use cs_voice::{Stage, TableAt, start};
 use std::alloc::Global;
@@ -32,8 +32,8 @@ pub struct Life<'t> {
 }
 
 impl<'t> Life<'t> {
-    /// The opening of a performance of `setup`, with its tables: the code outside instruments runs once over the cells of `bank`,
-    /// all of which are 0.
+    /// The opening of a performance of `setup`, with its tables: the code outside instruments runs once over the
+    /// cells of `bank`, all of which are 0.
     pub fn new<B: Bank>(
         alloc: Global,
         setup: &'t Setup,
@@ -44,7 +44,8 @@ impl<'t> Life<'t> {
         requires cells { B.cells bank.old ≡ replicate (word_count setup.now.layout) (pos 0) }
         requires get { (a : ℕ) → a < word_count setup.now.layout → B.can_get (B.rest bank.old) a }
         requires set { (a : ℕ) → a < word_count setup.now.layout → B.can_set (B.rest bank.old) a }
-        ensures stands { IfOk result (λ life. Stands (composition_of setup.now) life [] (B.cells bank.new) (opening (composition_of setup.now))) }
+        ensures stands { IfOk result (λ life. Stands (composition_of setup.now) life [] (B.cells bank.new)
+            (opening (composition_of setup.now))) }
         ensures setup { IfOk result (λ life. life.setup.now ≡ setup.now) }
         ensures rest { B.rest bank.new ≡ B.rest bank.old }
     {
@@ -77,15 +78,15 @@ impl<'t> Life<'t> {
     }
 }
 
-/// No table has been made yet, of so many.
+/// No table of `count` has been made yet.
 fn none_made(alloc: Global, count: usize) -> Result<Vec<bool>, OutOfMemory>
     ensures { IfOk result (λ v. v.items ≡ replicate count false) }
 {
     Ok(vec![in alloc; false; count]?)
 }
 
-/// The code outside instruments runs once. The voice that it makes, what it is refused for and what it asks for are let go: what
-/// notes share alone stays.
+/// The code outside instruments runs once. The voice that it makes, what it is refused for and what it asks for are
+/// let go: what notes share alone stays.
 fn begin_outside<'t, B: Bank>(
     alloc: Global,
     setup: &'t Setup,
@@ -99,11 +100,12 @@ fn begin_outside<'t, B: Bank>(
     requires cells { B.cells bank.old ≡ replicate (word_count setup.now.layout) (pos 0) }
     requires get { (a : ℕ) → a < word_count setup.now.layout → B.can_get (B.rest bank.old) a }
     requires set { (a : ℕ) → a < word_count setup.now.layout → B.can_set (B.rest bank.old) a }
-    ensures hold { OnOk result (Hold setup.now.layout (cell (B.cells bank.new)) (outside_done (composition_of setup.now)).world.shared) }
+    ensures hold { OnOk result (Hold setup.now.layout (cell (B.cells bank.new))
+        (outside_done (composition_of setup.now)).world.shared) }
     ensures long { length (B.cells bank.new) ≡ length (B.cells bank.old) }
     ensures rest { B.rest bank.new ≡ B.rest bank.old }
 {
-    let (instrument, foot) = setup.outside();
+    let Playable { instrument, foot } = setup.outside();
     let mut asks = Vec::new(alloc);
     let fields = Vec::new(alloc);
     start(

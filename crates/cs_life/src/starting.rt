@@ -25,9 +25,10 @@ use cs_voice::{Started, Voice, start};
 use std::alloc::Global;
 
 impl<'t> Life<'t> {
-    /// A note of the instrument of this number starts in the cycle `now`, to last so many cycles, with these p-fields from p1 on.
-    /// Where the instrument isn't there, where it would be one note too many, and where its initialisation is refused, the start
-    /// counts as one that started nothing. After want of memory nothing is promised of the voices.
+    /// A note of the instrument of this number starts in the cycle `now`, to last `cycles` cycles, with these
+    /// p-fields from p1 on. Where the instrument isn't there, where it would be one note too many, and where its
+    /// initialisation is refused, the start counts as one that started nothing. After want of memory nothing is
+    /// promised of the voices.
     pub(crate) fn start_note<B: Bank>(
         &mut self,
         alloc: Global,
@@ -38,12 +39,15 @@ impl<'t> Life<'t> {
         voices: &mut Vec<Voice<'t>>,
         bank: &mut B,
     ) -> Result<(), OutOfMemory>
-        requires stands { (m : Moment) × Stands (composition_of self.old.setup.now) self.old voices.old.items (B.cells bank.old) m }
+        requires stands { (m : Moment) × Stands (composition_of self.old.setup.now) self.old voices.old.items
+            (B.cells bank.old) m }
         requires get { (a : ℕ) → a < word_count self.old.setup.now.layout → B.can_get (B.rest bank.old) a }
         requires set { (a : ℕ) → a < word_count self.old.setup.now.layout → B.can_set (B.rest bank.old) a }
-        ensures started { OnOk result ((m : Moment) → Stands (composition_of self.old.setup.now) self.old voices.old.items (B.cells bank.old) m
+        ensures started { OnOk result ((m : Moment)
+            → Stands (composition_of self.old.setup.now) self.old voices.old.items (B.cells bank.old) m
             → Stands (composition_of self.old.setup.now) self.new voices.new.items (B.cells bank.new)
-            (start_in (composition_of self.old.setup.now) now (record { number = number; cycles = cycles; fields = fields.items }) m)) }
+            (start_in (composition_of self.old.setup.now) now
+            (record { number = number; cycles = cycles; fields = fields.items }) m)) }
         ensures setup { self.new.setup.now ≡ self.old.setup.now }
         ensures long { length (B.cells bank.new) ≡ length (B.cells bank.old) }
         ensures rest { B.rest bank.new ≡ B.rest bank.old }
@@ -54,19 +58,29 @@ impl<'t> Life<'t> {
                 self.start_nothing();
                 Ok(())
             }
-            Some((instrument, foot)) => {
+            Some(playable) => {
                 if !has_room(cycles, voices.len()) {
                     self.start_nothing();
                     return Ok(());
                 }
-                self.begin(alloc, now, instrument, foot, cycles, fields, voices, bank)
+                self.begin(
+                    alloc,
+                    now,
+                    playable.instrument,
+                    playable.foot,
+                    cycles,
+                    fields,
+                    voices,
+                    bank,
+                )
             }
         }
     }
 
     /// One start more that started nothing.
     fn start_nothing(&mut self)
-        ensures counted { (c : Composition) (voices : List VoiceData) (cells : Cells) (m : Moment) → Stands c self.old voices cells m
+        ensures counted { (c : Composition) (voices : List VoiceData) (cells : Cells) (m : Moment)
+            → Stands c self.old voices cells m
             → Stands c self.new voices cells (in_vain m) }
         ensures setup { self.new.setup.now ≡ self.old.setup.now }
     {
@@ -86,14 +100,17 @@ impl<'t> Life<'t> {
         bank: &mut B,
     ) -> Result<(), OutOfMemory>
         requires instrument { (body : Block) × IsInstrumentOf self.old.stage instrument.now foot.now body }
-        requires stands { (m : Moment) × Stands (composition_of self.old.setup.now) self.old voices.old.items (B.cells bank.old) m }
+        requires stands { (m : Moment) × Stands (composition_of self.old.setup.now) self.old voices.old.items
+            (B.cells bank.old) m }
         requires get { (a : ℕ) → a < word_count self.old.setup.now.layout → B.can_get (B.rest bank.old) a }
         requires set { (a : ℕ) → a < word_count self.old.setup.now.layout → B.can_set (B.rest bank.old) a }
         ensures begun { let s : Start = record { number = pos instrument.now.number; cycles = cycles; fields = fields.items } in
             let c : Composition = composition_of self.old.setup.now in
-            OnOk result ((body : Block) (m : Moment) → IsInstrumentOf self.old.stage instrument.now foot.now body → has_room s m ≡ true
+            OnOk result ((body : Block) (m : Moment) → IsInstrumentOf self.old.stage instrument.now foot.now body
+            → has_room s m ≡ true
             → Stands c self.old voices.old.items (B.cells bank.old) m
-            → Stands c self.new voices.new.items (B.cells bank.new) (initialised c now s body (begun c m.made s body m) m)) }
+            → Stands c self.new voices.new.items (B.cells bank.new)
+            (initialised c now s body (begun c m.made s body m) m)) }
         ensures setup { self.new.setup.now ≡ self.old.setup.now }
         ensures long { length (B.cells bank.new) ≡ length (B.cells bank.old) }
         ensures rest { B.rest bank.new ≡ B.rest bank.old }
@@ -125,7 +142,8 @@ impl<'t> Life<'t> {
         self.enter(begun, now, cycles, voices)
     }
 
-    /// A note that was initialised takes its place, where it lasts any cycle, or has started nothing, where it was refused.
+    /// A note that was initialised takes its place, where it lasts any cycle, or has started nothing, where it was
+    /// refused.
     fn enter(
         &mut self,
         begun: Started<'t>,
@@ -134,9 +152,12 @@ impl<'t> Life<'t> {
         voices: &mut Vec<Voice<'t>>,
     ) -> Result<(), OutOfMemory>
         requires { length voices.old.items ≡ length self.old.ends.items }
-        ensures entered { OnOk result ((c : Composition) (cells : Cells) (s : Start) (body : Block) (t : Note Plain) (m : Moment)
-            → IsBegun c self.old.stage self.old.made.items now s body t begun.entry → s.cycles ≡ cycles → has_room s m ≡ true
-            → Stands c self.old voices.old.items cells m → Stands c self.new voices.new.items cells (entered now s body t t.world.cause m)) }
+        ensures entered { OnOk result ((c : Composition) (cells : Cells) (s : Start) (body : Block) (t : Note Plain)
+            (m : Moment)
+            → IsBegun c self.old.stage self.old.made.items now s body t begun.entry → s.cycles ≡ cycles
+            → has_room s m ≡ true
+            → Stands c self.old voices.old.items cells m
+            → Stands c self.new voices.new.items cells (entered now s body t t.world.cause m)) }
         ensures setup { self.new.setup.now ≡ self.old.setup.now }
     {
         let Started::Live(voice) = begun else {
@@ -151,7 +172,7 @@ impl<'t> Life<'t> {
     }
 }
 
-/// Whether a note may start that lasts so many cycles, where so many others play.
+/// Whether a note that lasts `cycles` cycles may start where `playing` others play.
 fn has_room(cycles: u32, playing: usize) -> bool
     ensures { result ≡ (cycles == 0 || nat_lt playing most_notes) }
 {
@@ -168,8 +189,8 @@ fn time_of(fields: &[Num]) -> Num
     }
 }
 
-/// What a note with the p2 `time` asks for in the cycle `now` waits, in a piece of `total` cycles; what isn't kept counts as starts
-/// that started nothing.
+/// What a note with the p2 `time` asks for in the cycle `now` waits, in a piece of `total` cycles; what isn't kept
+/// counts as starts that started nothing.
 fn ask_all(
     alloc: Global,
     asks: Vec<Ask>,
@@ -180,7 +201,8 @@ fn ask_all(
     pending: &mut Pending,
     not_started: &mut u64,
 ) -> Result<(), OutOfMemory>
-    ensures { OnOk result ((c : Composition) (m : Moment) → clock_of c ≡ times.clock_of head.now total → Wait pending.old not_started.old m
+    ensures { OnOk result ((c : Composition) (m : Moment) → clock_of c ≡ times.clock_of head.now total
+        → Wait pending.old not_started.old m
         → Wait pending.new not_started.new (all_wanted c now time asks.items m)) }
 {
     for ask in asks {
@@ -199,7 +221,8 @@ fn ask_one(
     pending: &mut Pending,
     not_started: &mut u64,
 ) -> Result<(), OutOfMemory>
-    ensures { OnOk result ((c : Composition) (m : Moment) → clock_of c ≡ times.clock_of head.now total → Wait pending.old not_started.old m
+    ensures { OnOk result ((c : Composition) (m : Moment) → clock_of c ≡ times.clock_of head.now total
+        → Wait pending.old not_started.old m
         → Wait pending.new not_started.new (asked c now time ask m)) }
 {
     let answer = pending.add(alloc, ask, now, time, head, total)?;
@@ -236,7 +259,8 @@ fn keep<'t>(
     join(voice, u64::from(now) + u64::from(cycles), voices, ends)
 }
 
-/// A voice takes its place among those that play, behind all of its number and lower ones; so does the cycle in which it has ended.
+/// A voice takes its place among those that play, behind all of its number and lower ones; so does the cycle in which
+/// it has ended.
 fn join<'t>(
     voice: Voice<'t>,
     ending: u64,

@@ -25,7 +25,8 @@ use cs_voice::TableAt;
 use std::alloc::Global;
 
 impl<'t> Life<'t> {
-    /// Makes a table: each of its number has been made from now on, and where the points of the first are cells, they are its points.
+    /// Makes a table: each of its number has been made from now on, and where the points of the first are cells, they
+    /// are its points.
     pub(crate) fn make_table<B: Bank>(
         &mut self,
         alloc: Global,
@@ -35,11 +36,14 @@ impl<'t> Life<'t> {
         args: &[Num],
         bank: &mut B,
     ) -> Result<(), OutOfMemory>
-        requires stands { (voices : List VoiceData) × (m : Moment) × Stands (composition_of self.old.setup.now) self.old voices (B.cells bank.old) m }
+        requires stands { (voices : List VoiceData) × (m : Moment)
+            × Stands (composition_of self.old.setup.now) self.old voices (B.cells bank.old) m }
         requires set { (a : ℕ) → a < word_count self.old.setup.now.layout → B.can_set (B.rest bank.old) a }
         requires table { CanBeMade (composition_of self.old.setup.now) number size gen_ args.now }
-        ensures made { OnOk result ((voices : List VoiceData) (m : Moment) → Stands (composition_of self.old.setup.now) self.old voices (B.cells bank.old) m
-            → Stands (composition_of self.old.setup.now) self.new voices (B.cells bank.new) (made_table (composition_of self.old.setup.now) number (points_of size gen_ args.now) m)) }
+        ensures made { OnOk result ((voices : List VoiceData) (m : Moment)
+            → Stands (composition_of self.old.setup.now) self.old voices (B.cells bank.old) m
+            → Stands (composition_of self.old.setup.now) self.new voices (B.cells bank.new)
+            (made_table (composition_of self.old.setup.now) number (points_of size gen_ args.now) m)) }
         ensures setup { self.new.setup.now ≡ self.old.setup.now }
         ensures long { length (B.cells bank.new) ≡ length (B.cells bank.old) }
         ensures rest { B.rest bank.new ≡ B.rest bank.old }
@@ -94,7 +98,8 @@ fn points_of(alloc: Global, size: i64, gen_: i64, args: &[Num]) -> Result<Points
 
 /// The points of a table are written into its area.
 fn put<B: Bank>(layout: &Layout, number: usize, points: &[Num], bank: &mut B)
-    requires there { (area : Area) × (area_of layout.now (res.Table number) ≡ Some area) × (length points.now ≡ area.length)
+    requires there { (area : Area) × (area_of layout.now (res.Table number) ≡ Some area)
+        × (length points.now ≡ area.length)
         × CanTouch (B.can_set (B.rest bank.old)) (length (B.cells bank.old)) area }
     ensures written { PointsWritten true layout.now number points.now (B.cells bank.old) (B.cells bank.new) }
     ensures rest { B.rest bank.new ≡ B.rest bank.old }

@@ -1,10 +1,13 @@
 -- A cycle from the moment before it to the moment after it.
-use Rattle.std.proofs.Common.{◌≡◌, ◌≤◌, ◌<◌, ℕ, suc, ◌+◌, ◌*◌, ◌^◌, ℤ, Bool, true, false, List, [], ◌∷◌, length, refl, ap, sym, ◌∙◌, subst, arith}
+use Rattle.std.proofs.Common.{◌≡◌, ◌≤◌, ◌<◌, ℕ, suc, ◌+◌, ◌*◌, ◌^◌, ℤ, Bool, List, [], ◌∷◌, length, refl, ap, sym, ◌∙◌, subst, arith}
 use Rattle.std.proofs.Math.Nat.{mul-le-mul, mul-le-mul_left}
 use Rattle.std.specs.List.{count_by}
 use Rattle.std.proofs.lemmas.List.Sums.{count_by-le-length}
 use Rattle.cs_base.specs.Limits.{most_notes, most_wav_bytes}
+use Rattle.cs_base.specs.Widths.{bytes_of}
 use Rattle.cs_base.specs.declared.resource.Res.{Res}
+use Rattle.cs_base.specs.declared.width.SampleWidth.{SampleWidth}
+use Rattle.cs_base.specs.declared.width.SampleWidth.TheVariants.{TwoBytes, ThreeBytes}
 use Rattle.cs_cells.specs.Cells.{Cells}
 use Rattle.cs_piece_meaning.specs.Course.{begins, moment_at, next, performed, played_in, serial, turned_off}
 use Rattle.cs_piece_meaning.specs.Heard.{frames_before, mix_in}
@@ -14,7 +17,6 @@ use Rattle.cs_ir.specs.Waves.{Wave}
 use Rattle.cs_life.specs.Standing.{Stands}
 use Rattle.cs_life.specs.declared.life.Life.{Life}
 use Rattle.cs_voice.specs.VoiceData.{VoiceData}
-use Rattle.cs_wav.specs.Wav.{bytes_of}
 use Rattle.cs_perform.specs.inner.Stands.{CountsCycle}
 use Rattle.cs_perform.proofs.Frames.{count_by_both, frames_before_more, length-frames_before, length-mix_in}
 use Rattle.cs_perform.proofs.Standings.{count_active}
@@ -71,9 +73,9 @@ frames_fit cycles ksmps channels width bytes some one =
     let v : cycles * ksmps * channels ≤ most_wav_bytes = values_fit cycles ksmps channels width bytes some in
     omega (arith, h, v)
 
-pub some_width : (wide : Bool) → 1 ≤ bytes_of wide
-some_width true = omega arith
-some_width false = omega arith
+pub some_width : (width : SampleWidth) → 1 ≤ bytes_of width
+some_width TwoBytes = omega arith
+some_width ThreeBytes = omega arith
 
 -- the count of samples out of range, with those of one cycle more
 pub counted_more : (c : Composition) (p : ℤ → Bool) (n : ℕ) (mix : List ℤ) (outside more : ℕ) → mix ≡ mix_in c n

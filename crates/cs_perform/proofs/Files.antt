@@ -1,5 +1,5 @@
 -- The bytes that a sink has taken, where it is written: piece behind piece, up to the whole file.
-use Rattle.std.proofs.Common.{◌≡◌, ◌≤◌, ◌<◌, ℕ, zero, suc, ◌+◌, ◌*◌, ◌-◌, ◌%◌, ◌^◌, ◌==◌, ◌&&◌, ℤ, Bool, true, false, List, [], ◌∷◌, ◌++◌, length, replicate, refl, ap, sym, ◌∙◌, subst, inl, inr, arith, append_assoc, append-nil, if◌then◌else◌, ⊎_elim, ◌⊎◌, Err}
+use Rattle.std.proofs.Common.{◌≡◌, ◌≤◌, ◌<◌, ℕ, zero, suc, ◌+◌, ◌*◌, ◌-◌, ◌^◌, ℤ, List, [], ◌∷◌, ◌++◌, length, replicate, refl, ap, sym, ◌∙◌, subst, inl, inr, arith, append_assoc, append-nil, if◌then◌else◌, ⊎_elim, ◌⊎◌, Err}
 use Rattle.std.specs.Result.{IsErrOf}
 use Rattle.std.proofs.lemmas.List.{replicate-append-replicate}
 use Rattle.cs_base.specs.declared.head.Head.{Head}
@@ -10,6 +10,8 @@ use Rattle.cs_edge.specs.Moves.{SinkTold, Held, AreAll, Grown, TakenMore, WroteM
 use Rattle.cs_edge.proofs.Chains.{follows_on, grown_on, front_more}
 use Rattle.cs_edge.proofs.Stories.{more_none, wrote_on, stopped_writes, stopped_untouched}
 use Rattle.cs_perform.specs.Hearing.{IfWritten}
+use Rattle.cs_perform.specs.declared.order.Output.{Output}
+use Rattle.cs_perform.specs.declared.order.Output.TheVariants.{SoundFile, Nothing}
 use Rattle.cs_perform.specs.inner.Ends.{Finishes, Stops, padding}
 
 -- bytes more, and more again
@@ -48,59 +50,59 @@ front_behind before front bytes f =
 -- A SINK THAT IS WRITTEN, OR NOT
 
 module _ {W : Type 0} (tells : W → SinkTold) where
-  pub none_written : (w : Bool) (a : W) → IfWritten tells w a a (λ b n. WroteMore b n [])
-  none_written true a = more_none (tells a)
-  none_written false a = refl
+  pub none_written : (w : Output) (a : W) → IfWritten tells w a a (λ b n. WroteMore b n [])
+  none_written SoundFile a = more_none (tells a)
+  none_written Nothing a = refl
 
-  pub more_written : (w : Bool) (a b c : W) (xs ys : List ℕ) → IfWritten tells w a b (λ x y. WroteMore x y xs)
+  pub more_written : (w : Output) (a b c : W) (xs ys : List ℕ) → IfWritten tells w a b (λ x y. WroteMore x y xs)
       → IfWritten tells w b c (λ x y. WroteMore x y ys) → IfWritten tells w a c (λ x y. WroteMore x y (xs ++ ys))
-  more_written true a b c xs ys p q = more_both (tells a) (tells b) (tells c) xs ys p q
-  more_written false a b c xs ys p q = q ∙ p
+  more_written SoundFile a b c xs ys p q = more_both (tells a) (tells b) (tells c) xs ys p q
+  more_written Nothing a b c xs ys p q = q ∙ p
 
-  pub file_written : (w : Bool) (a b c : W) (name xs ys : List ℕ) → IfWritten tells w a b (λ x y. Wrote x y name xs)
+  pub file_written : (w : Output) (a b c : W) (name xs ys : List ℕ) → IfWritten tells w a b (λ x y. Wrote x y name xs)
       → IfWritten tells w b c (λ x y. WroteMore x y ys) → IfWritten tells w a c (λ x y. Wrote x y name (xs ++ ys))
-  file_written true a b c name xs ys p q = wrote_on (tells a) (tells b) (tells c) name xs ys p q
-  file_written false a b c name xs ys p q = q ∙ p
+  file_written SoundFile a b c name xs ys p q = wrote_on (tells a) (tells b) (tells c) name xs ys p q
+  file_written Nothing a b c name xs ys p q = q ∙ p
 
-  pub file_stopped : (w : Bool) (a b : W) (name front whole : List ℕ) → IfWritten tells w a b (λ x y. Wrote x y name front)
+  pub file_stopped : (w : Output) (a b : W) (name front whole : List ℕ) → IfWritten tells w a b (λ x y. Wrote x y name front)
       → IsFront front whole → IfWritten tells w a b (λ x y. Stopped x y name whole)
-  file_stopped true a b name front whole p f = stopped_writes (tells a) (tells b) name front whole p f
-  file_stopped false a b name front whole p f = p
+  file_stopped SoundFile a b name front whole p f = stopped_writes (tells a) (tells b) name front whole p f
+  file_stopped Nothing a b name front whole p f = p
 
-  pub file_untouched : (w : Bool) (a : W) (name whole : List ℕ) → IfWritten tells w a a (λ x y. Stopped x y name whole)
-  file_untouched true a name whole = stopped_untouched (tells a) (tells a) name whole refl
-  file_untouched false a name whole = refl
+  pub file_untouched : (w : Output) (a : W) (name whole : List ℕ) → IfWritten tells w a a (λ x y. Stopped x y name whole)
+  file_untouched SoundFile a name whole = stopped_untouched (tells a) (tells a) name whole refl
+  file_untouched Nothing a name whole = refl
 
-  pub file_finished : (w : Bool) (a b c : W) (name bytes last : List ℕ) → IfWritten tells w a b (λ x y. Wrote x y name bytes)
+  pub file_finished : (w : Output) (a b c : W) (name bytes last : List ℕ) → IfWritten tells w a b (λ x y. Wrote x y name bytes)
       → IfWritten tells w b c (Finishes last) → IfWritten tells w a c (λ x y. Finished x y name (bytes ++ last))
-  file_finished true a b c name bytes last p q = q (tells a) name bytes p
-  file_finished false a b c name bytes last p q = q ∙ p
+  file_finished SoundFile a b c name bytes last p q = q (tells a) name bytes p
+  file_finished Nothing a b c name bytes last p q = q ∙ p
 
-  pub file_not_finished : (w : Bool) (a b c : W) (name bytes last : List ℕ) → IfWritten tells w a b (λ x y. Wrote x y name bytes)
+  pub file_not_finished : (w : Output) (a b c : W) (name bytes last : List ℕ) → IfWritten tells w a b (λ x y. Wrote x y name bytes)
       → IfWritten tells w b c (Stops last) → IfWritten tells w a c (λ x y. Stopped x y name (bytes ++ last))
-  file_not_finished true a b c name bytes last p q = q (tells a) name bytes p
-  file_not_finished false a b c name bytes last p q = q ∙ p
+  file_not_finished SoundFile a b c name bytes last p q = q (tells a) name bytes p
+  file_not_finished Nothing a b c name bytes last p q = q ∙ p
 
-  pub file_paused : (w : Bool) (a b : W) (name bytes : List ℕ) (Q : Type 0) → IfWritten tells w a b (λ x y. Wrote x y name bytes)
+  pub file_paused : (w : Output) (a b : W) (name bytes : List ℕ) (Q : Type 0) → IfWritten tells w a b (λ x y. Wrote x y name bytes)
       → IfWritten tells w a b (λ x y. Q ⊎ Wrote x y name bytes)
-  file_paused true a b name bytes Q p = inr p
-  file_paused false a b name bytes Q p = p
+  file_paused SoundFile a b name bytes Q p = inr p
+  file_paused Nothing a b name bytes Q p = p
 
-  pub file_unbegun : (w : Bool) (a : W) (name bytes : List ℕ) (Q : Type 0) → Q → IfWritten tells w a a (λ x y. Q ⊎ Wrote x y name bytes)
-  file_unbegun true a name bytes Q q = inl q
-  file_unbegun false a name bytes Q q = refl
+  pub file_unbegun : (w : Output) (a : W) (name bytes : List ℕ) (Q : Type 0) → Q → IfWritten tells w a a (λ x y. Q ⊎ Wrote x y name bytes)
+  file_unbegun SoundFile a name bytes Q q = inl q
+  file_unbegun Nothing a name bytes Q q = refl
 
   -- the count of faults doesn't fall meanwhile
-  pub faults_after : (w : Bool) (a b : W) (bytes : List ℕ) → IfWritten tells w a b (λ x y. WroteMore x y bytes)
+  pub faults_after : (w : Output) (a b : W) (bytes : List ℕ) → IfWritten tells w a b (λ x y. WroteMore x y bytes)
       → (tells a).faults ≤ (tells b).faults
-  faults_after true a b bytes p = p.later
-  faults_after false a b bytes p =
+  faults_after SoundFile a b bytes p = p.later
+  faults_after Nothing a b bytes p =
       let same : (tells b).faults ≡ (tells a).faults = ap (λ (x : W). (tells x).faults) p in omega (arith, same)
 
-  pub faults_begun : (w : Bool) (a b : W) (name bytes : List ℕ) → IfWritten tells w a b (λ x y. Wrote x y name bytes)
+  pub faults_begun : (w : Output) (a b : W) (name bytes : List ℕ) → IfWritten tells w a b (λ x y. Wrote x y name bytes)
       → (tells a).faults ≤ (tells b).faults
-  faults_begun true a b name bytes p = p.later
-  faults_begun false a b name bytes p =
+  faults_begun SoundFile a b name bytes p = p.later
+  faults_begun Nothing a b name bytes p =
       let same : (tells b).faults ≡ (tells a).faults = ap (λ (x : W). (tells x).faults) p in omega (arith, same)
 
 pub rose_later : (a b c : ℕ) → a ≤ b → Rose b c → Rose a c

@@ -1,5 +1,5 @@
 -- The levels of a course are the turns of the notes that play.
-use Rattle.std.proofs.Common.{◌≡◌, ℕ, ◌+◌, Bool, true, false, List, [], ◌∷◌, ◌++◌, length, map, refl, ap, sym, ◌∙◌, subst, append_assoc, append-nil}
+use Rattle.std.proofs.Common.{◌≡◌, ℕ, ◌+◌, Bool, List, [], ◌∷◌, ◌++◌, length, map, refl, ap, sym, ◌∙◌, subst, append_assoc, append-nil}
 use Rattle.std.specs.List.{AllZip, flat_map, range_with_len}
 use Rattle.cs_cells.specs.declared.footprint.Area.{Area}
 use Rattle.cs_cells.specs.declared.footprint.Footprint.{Footprint}
@@ -9,6 +9,8 @@ use Rattle.cs_turns.specs.Turns.{IsFootOf, line_of, notes_in, turn_lines_before,
 use Rattle.cs_voice.specs.VoiceData.{VoiceData}
 use Rattle.cs_voice.specs.declared.stage.Stage.{Stage}
 use Rattle.cs_perform.specs.Performances.{if_told}
+use Rattle.cs_perform.specs.declared.order.TurnLines.{TurnLines}
+use Rattle.cs_perform.specs.declared.order.TurnLines.TheVariants.{Told, Untold}
 use Rattle.cs_perform.proofs.Frames.{rows_more}
 
 foot_of : (c : Composition) (stage : Stage) (flags : List Bool) (areas : List Area) (v : VoiceData) (a : Active)
@@ -31,22 +33,22 @@ feet_of_notes c stage flags areas (v ∷ voices) (a ∷ rest) e p =
 
 -- LINES
 
-pub told_both : (told : Bool) (xs ys : List ℕ) → if_told told xs ++ if_told told ys ≡ if_told told (xs ++ ys)
-told_both true xs ys = refl
-told_both false xs ys = refl
+pub told_both : (lines : TurnLines) (xs ys : List ℕ) → if_told lines xs ++ if_told lines ys ≡ if_told lines (xs ++ ys)
+told_both Told xs ys = refl
+told_both Untold xs ys = refl
 
 pub lines_more : (c : Composition) (n : ℕ) → turn_lines_before c (n + 1) ≡ turn_lines_before c n ++ line_of n (turns_in c (notes_in c n))
 lines_more c n = rows_more (λ cycle. line_of cycle (turns_in c (notes_in c cycle))) n
 
 -- the lines of one cycle more
-pub told_more : (told : Bool) (c : Composition) (n : ℕ) (start before now : List ℕ) → before ≡ start ++ if_told told (turn_lines_before c n)
-    → now ≡ before ++ if_told told (line_of n (turns_in c (notes_in c n))) → now ≡ start ++ if_told told (turn_lines_before c (n + 1))
-told_more told c n start before now so_far here =
+pub told_more : (lines : TurnLines) (c : Composition) (n : ℕ) (start before now : List ℕ) → before ≡ start ++ if_told lines (turn_lines_before c n)
+    → now ≡ before ++ if_told lines (line_of n (turns_in c (notes_in c n))) → now ≡ start ++ if_told lines (turn_lines_before c (n + 1))
+told_more lines c n start before now so_far here =
     let line : List ℕ = line_of n (turns_in c (notes_in c n)) in
-    here ∙ ap (λ (l : List ℕ). l ++ if_told told line) so_far
-    ∙ append_assoc start (if_told told (turn_lines_before c n)) (if_told told line)
-    ∙ ap (λ (l : List ℕ). start ++ l) (told_both told (turn_lines_before c n) line ∙ ap (if_told told) (sym (lines_more c n)))
+    here ∙ ap (λ (l : List ℕ). l ++ if_told lines line) so_far
+    ∙ append_assoc start (if_told lines (turn_lines_before c n)) (if_told lines line)
+    ∙ ap (λ (l : List ℕ). start ++ l) (told_both lines (turn_lines_before c n) line ∙ ap (if_told lines) (sym (lines_more c n)))
 
-pub no_lines : (told : Bool) (c : Composition) (start : List ℕ) → start ≡ start ++ if_told told (turn_lines_before c 0)
-no_lines true c start = sym (append-nil start)
-no_lines false c start = sym (append-nil start)
+pub no_lines : (lines : TurnLines) (c : Composition) (start : List ℕ) → start ≡ start ++ if_told lines (turn_lines_before c 0)
+no_lines Told c start = sym (append-nil start)
+no_lines Untold c start = sym (append-nil start)

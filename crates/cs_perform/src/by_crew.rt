@@ -70,8 +70,8 @@ fn play_with<'t, K: Sink, R: Threads + Wait + Sync, G: Gate + Sync>(
     played
 }
 
-/// What the caller of a performance lends it. A scope's closure says nothing of a reference that it captures by itself, so all are
-/// handed to it as one value and come back as one.
+/// What the caller of a performance lends it. A scope's closure says nothing of a reference that it captures by
+/// itself, so all are handed to it as one value and come back as one.
 #[derive(Drop)]
 struct Loan<'a, K> {
     wav: &'a mut K,
@@ -108,7 +108,7 @@ fn take_back<A, B, C>(a: &mut A, b: &mut B, c: &mut C)
     ensures { (a.new ≡ a.old) × (b.new ≡ b.old) × (c.new ≡ c.old) }
 {}
 
-/// By a standing crew of so many workers, in a scope of its own.
+/// By a standing crew of `workers` workers, in a scope of its own.
 fn play_in_scope<'a, 'e, 't, K: Sink, R: Threads + Wait + Sync, G: Gate + Sync>(
     alloc: Global,
     setup: &'t Setup,
@@ -122,7 +122,8 @@ fn play_in_scope<'a, 'e, 't, K: Sink, R: Threads + Wait + Sync, G: Gate + Sync>(
 ) -> (Result<Outcome, PlayFault>, Loan<'a, K>)
     requires workers { (1 ≤ workers) × (workers ≤ 32) }
     requires begun { MayPlay setup.now order loan.tally.now tables.now }
-    ensures same { (result.1.wav.ghost_name ≡ loan.entry.wav.ghost_name) × (result.1.taps.ghost_name ≡ loan.entry.taps.ghost_name)
+    ensures same { (result.1.wav.ghost_name ≡ loan.entry.wav.ghost_name)
+        × (result.1.taps.ghost_name ≡ loan.entry.taps.ghost_name)
         × (result.1.tally.ghost_name ≡ loan.entry.tally.ghost_name) }
     ensures performed { Performs (λ t h. stands_for t h) K.tells setup.now order name.now loan.entry.taps.now.items
         result.1.taps.now.items loan.entry.tally.now result.1.tally.now loan.entry.wav.now result.1.wav.now result.0 }
@@ -133,7 +134,8 @@ fn play_in_scope<'a, 'e, 't, K: Sink, R: Threads + Wait + Sync, G: Gate + Sync>(
         move |scope|
             requires workers { (1 ≤ workers) × (workers ≤ 32) }
             requires begun { MayPlay setup.now order loan.tally.now tables.now }
-            ensures same { (result.1.wav.ghost_name ≡ loan.entry.wav.ghost_name) × (result.1.taps.ghost_name ≡ loan.entry.taps.ghost_name)
+            ensures same { (result.1.wav.ghost_name ≡ loan.entry.wav.ghost_name)
+                × (result.1.taps.ghost_name ≡ loan.entry.taps.ghost_name)
                 × (result.1.tally.ghost_name ≡ loan.entry.tally.ghost_name) }
             ensures performed { Performs (λ t h. stands_for t h) K.tells setup.entry.now order name.entry.now loan.entry.taps.now.items
                 result.1.taps.now.items loan.entry.tally.now result.1.tally.now loan.entry.wav.now result.1.wav.now result.0 }
@@ -145,7 +147,7 @@ fn play_in_scope<'a, 'e, 't, K: Sink, R: Threads + Wait + Sync, G: Gate + Sync>(
     )
 }
 
-/// By a standing crew of so many workers, whose helpers are threads of this scope and have ended when it returns.
+/// By a standing crew of `workers` workers, whose helpers are threads of this scope and have ended when it returns.
 fn play_loan<'a, 's, 'e, 't: 's, K: Sink, R: Threads + Wait + Sync, G: Gate + Sync>(
     alloc: Global,
     scope: &'s Scope<'s, &'e ()>,
@@ -160,7 +162,8 @@ fn play_loan<'a, 's, 'e, 't: 's, K: Sink, R: Threads + Wait + Sync, G: Gate + Sy
 ) -> (Result<Outcome, PlayFault>, Loan<'a, K>)
     requires workers { (1 ≤ workers) × (workers ≤ 32) }
     requires begun { MayPlay setup.now order loan.tally.now tables.now }
-    ensures same { (result.1.wav.ghost_name ≡ loan.entry.wav.ghost_name) × (result.1.taps.ghost_name ≡ loan.entry.taps.ghost_name)
+    ensures same { (result.1.wav.ghost_name ≡ loan.entry.wav.ghost_name)
+        × (result.1.taps.ghost_name ≡ loan.entry.taps.ghost_name)
         × (result.1.tally.ghost_name ≡ loan.entry.tally.ghost_name) }
     ensures performed { Performs (λ t h. stands_for t h) K.tells setup.now order name.now loan.entry.taps.now.items
         result.1.taps.now.items loan.entry.tally.now result.1.tally.now loan.entry.wav.now result.1.wav.now result.0 }

@@ -1,15 +1,28 @@
 // What a performance is asked for, and what comes of it.
-use cs_base::Bytes;
+use cs_base::{Bytes, SampleWidth};
+
+/// Where the samples go.
+#[derive(Clone, Copy)]
+pub enum Output {
+    /// Into the sound file.
+    SoundFile,
+    /// Nowhere: the sink has no call.
+    Nothing,
+}
+
+/// Whether the lines of turns are told.
+#[derive(Clone, Copy)]
+pub enum TurnLines {
+    Told,
+    Untold,
+}
 
 /// What is asked for.
 #[derive(Clone, Copy)]
 pub struct Order {
-    /// Whether the sound file is written. Else the sink has no call.
-    pub write: bool,
-    /// Whether samples have 24 bits. Else they have 16.
-    pub wide: bool,
-    /// Whether the lines of turns are told.
-    pub turns: bool,
+    pub output: Output,
+    pub width: SampleWidth,
+    pub turns: TurnLines,
 }
 
 /// What comes out beside the sound.

@@ -23,11 +23,13 @@ use std::alloc::Global;
 use std::sync::Wait;
 use std::thread::Threads;
 
-/// For how many notes and edges there is room at first.
-const FIRST_ROOM: (u32, u32) = (16, 32);
+/// The number of notes for which there is room at first.
+const FIRST_NOTES: u32 = 16;
+/// The number of edges for which there is room at first.
+const FIRST_EDGES: u32 = 32;
 
-/// What is kept of a performance: its life, the notes that play, in the order of performing, the cells that they share, and the
-/// course of their cycle.
+/// What is kept of a performance: its life, the notes that play, in the order of performing, the cells that they
+/// share, and the course of their cycle.
 #[derive(Drop)]
 pub(crate) struct Stand<'t> {
     pub life: Life<'t>,
@@ -65,7 +67,8 @@ impl<'t> Stand<'t> {
     /// The notes of a cycle begin.
     pub fn begin(&mut self, alloc: Global, cycle: u32) -> Result<(), OutOfMemory>
         requires at { (s : SetupData) × (m : Moment) × IsAt s self.old m }
-        ensures begun { OnOk result ((s : SetupData) (m : Moment) → IsAt s self.old m → IsAt s self.new (begins (composition_of s) cycle m)) }
+        ensures begun { OnOk result ((s : SetupData) (m : Moment) → IsAt s self.old m
+            → IsAt s self.new (begins (composition_of s) cycle m)) }
     {
         self.life
             .begin_cycle(alloc, cycle, &mut self.voices, &mut self.desk)
@@ -93,7 +96,8 @@ impl<'t> Stand<'t> {
         requires at { (s : SetupData) × (m : Moment) × IsAt s self m }
         requires ready { IsReady self }
         requires tally { (tally.old.cycles ≤ 2 ^ 63) × (tally.old.notes ≤ 2 ^ 63) }
-        ensures performed { (s : SetupData) (m : Moment) → IsAt s self.entry m → IsAt s result (performed (composition_of s) m) }
+        ensures performed { (s : SetupData) (m : Moment) → IsAt s self.entry m
+            → IsAt s result (performed (composition_of s) m) }
         ensures cycles { tally.new.cycles ≡ tally.old.cycles + 1 }
         ensures notes { tally.new.notes ≡ tally.old.notes + length self.entry.voices.items }
     {
@@ -118,7 +122,8 @@ impl<'t> Stand<'t> {
         requires at { (s : SetupData) × (m : Moment) × IsAt s self.now m × (s.orchestra.head ≡ head.now) }
         requires block { length block.old ≡ head.now.ksmps * head.now.nchnls }
         ensures { (s : SetupData) (n : ℕ)
-            → IsAt s self.now (performed (composition_of s) (begins (composition_of s) n (moment_at (composition_of s) n)))
+            → IsAt s self.now (performed (composition_of s)
+            (begins (composition_of s) n (moment_at (composition_of s) n)))
             → s.orchestra.head ≡ head.now → block.new ≡ mix_in (composition_of s) n }
     {
         voices_are_heard();
@@ -145,6 +150,5 @@ fn first_desk<'t>(alloc: Global, layout: &Layout) -> Result<Desk<Voice<'t>>, Out
     ensures cells { IfOk result (λ d. cells d ≡ replicate (word_count layout.now) (pos 0)) }
 {
     let words = vec![in alloc; 0u64; layout.words() as usize]?;
-    let (notes, edges) = FIRST_ROOM;
-    Desk::new(alloc, layout, &words, notes, edges)
+    Desk::new(alloc, layout, &words, FIRST_NOTES, FIRST_EDGES)
 }

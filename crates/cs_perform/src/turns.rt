@@ -6,6 +6,7 @@ ghost use Rattle.cs_perform.specs.inner.Stands.{IsAt, IsReady};
 ghost use Rattle.cs_piece.specs.Setups.{composition_of};
 ghost use Rattle.cs_turns.specs.Turns.{line_of, turns_in};
 
+use crate::order::TurnLines;
 use crate::stand::Stand;
 use cs_base::OutOfMemory;
 use cs_piece::Setup;
@@ -16,7 +17,7 @@ use std::alloc::Global;
 pub(crate) fn tell_turns(
     alloc: Global,
     setup: &Setup,
-    told: bool,
+    lines: TurnLines,
     cycle: u32,
     stand: &Stand<'_>,
     turns: &mut Vec<u8>,
@@ -24,12 +25,13 @@ pub(crate) fn tell_turns(
     requires at { (m : Moment) × IsAt setup.now stand.now m }
     requires ready { IsReady stand.now }
     ensures { OnOk result ((m : Moment) → IsAt setup.now stand.now m
-        → turns.new.items ≡ turns.old.items ++ if_told told (line_of cycle (turns_in (composition_of setup.now) m.active))) }
+        → turns.new.items ≡ turns.old.items ++ if_told lines
+        (line_of cycle (turns_in (composition_of setup.now) m.active))) }
 {
-    if !told {
-        return Ok(());
+    match lines {
+        TurnLines::Told => add_line(alloc, setup, cycle, stand, turns),
+        TurnLines::Untold => Ok(()),
     }
-    add_line(alloc, setup, cycle, stand, turns)
 }
 
 fn add_line(

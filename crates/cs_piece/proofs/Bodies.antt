@@ -10,9 +10,9 @@ use Rattle.std.proofs.lemmas.List.Kept.{AllPairs-from_increasing}
 use Rattle.std.proofs.lemmas.List.Sorted.{All-permutation, IsPermutation-sym}
 use Rattle.std.proofs.lemmas.Option.{slice_get-get_or}
 use Rattle.cs_base.proofs.Tests.{by_test, some_is}
-use Rattle.cs_code.specs.Lowered.{AreInstrumentsOf, IsCodeOf, IsNumberedCode, bodies, numbered_with, spaces_in}
+use Rattle.cs_code.specs.Lowered.{AreInstrumentsOf, IsCodeOf, IsNumberedCode, bodies, numbered_with}
 use Rattle.cs_ir.specs.Instruments.{Numbered, numbers_of}
-use Rattle.cs_ir.specs.Resources.{Spaces}
+use Rattle.cs_base.specs.declared.spaces.Spaces.{Spaces}
 use Rattle.cs_typed.specs.TypedTree as typed
 use Rattle.cs_piece.specs.Compositions.{body_of}
 
@@ -127,7 +127,7 @@ one_of_number l up k m i j a b same =
 pub record HasBody (o : typed.Orchestra) (i : Numbered) (z : ℤ) : Type 0 where
   pub body : typed.Block
   pub here : body_of (bodies o.instrs) z ≡ Some body
-  pub code : IsCodeOf (spaces_in o) o.head.nchnls body i.init i.perf
+  pub code : IsCodeOf o.spaces o.head.nchnls body i.init i.perf
 
 pos_is : (m n : ℕ) → pos m ≡ pos n → m ≡ n
 pos_is m n e = cc
@@ -135,15 +135,15 @@ pos_is m n e = cc
 pub body_for : (o : typed.Orchestra) (l : List Numbered) (k : ℕ) (i : Numbered) (z : ℤ) → AreInstrumentsOf o l → slice_get l k ≡ Some i → pos i.number ≡ z → HasBody o i z
 body_for o l k i z are at n =
     let text = moved l are.in_text (IsPermutation-sym are.in_text l are.same) k i at in
-    let r = first_of (spaces_in o) o.head.nchnls z (bodies o.instrs) are.in_text are.each text.0 i text.1 n in
+    let r = first_of o.spaces o.head.nchnls z (bodies o.instrs) are.in_text are.each text.0 i text.1 n in
     let back = moved are.in_text l are.same r.among.0 r.j r.among.1 in
     let one : r.j ≡ i = one_of_number l are.ascending back.0 k r.j i back.1 at (pos_is r.j.number i.number (r.number ∙ sym n)) in
-    record { body = r.body; here = r.here; code = subst (λ (x : Numbered). IsCodeOf (spaces_in o) o.head.nchnls r.body x.init x.perf) one r.code }
+    record { body = r.body; here = r.here; code = subst (λ (x : Numbered). IsCodeOf o.spaces o.head.nchnls r.body x.init x.perf) one r.code }
 
 pub no_body : (o : typed.Orchestra) (l : List Numbered) (z : ℤ) → AreInstrumentsOf o l → ((k : ℕ) (i : Numbered) → slice_get l k ≡ Some i → pos i.number ≡ z → ⊥)
     → body_of (bodies o.instrs) z ≡ None
 no_body o l z are fails =
-    none_of (spaces_in o) o.head.nchnls z (bodies o.instrs) are.in_text are.each
+    none_of o.spaces o.head.nchnls z (bodies o.instrs) are.in_text are.each
     (λ k i at n. let there = moved are.in_text l are.same k i at in fails there.0 i there.1 n)
 
 -- what holds of the body of each instrument holds of the body of each number

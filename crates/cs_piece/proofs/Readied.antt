@@ -10,11 +10,12 @@ use Rattle.cs_base.specs.declared.resource.Res.{Res}
 use Rattle.cs_base.specs.declared.resource.Res.TheVariants as res
 use Rattle.cs_cells.specs.declared.footprint.Area.{Area}
 use Rattle.cs_cells.specs.declared.footprint.Footprint.{Footprint}
-use Rattle.cs_code.specs.Lowered.{IsCodeOf, spaces_in}
+use Rattle.cs_code.specs.Lowered.{IsCodeOf}
 use Rattle.cs_code.specs.Means.{Plan}
 use Rattle.cs_code.specs.Names.{block_units}
 use Rattle.cs_ir.specs.Instruments.{Numbered}
-use Rattle.cs_ir.specs.Resources.{Spaces, Stock, ops_use, ops_write}
+use Rattle.cs_base.specs.declared.spaces.Spaces.{Spaces}
+use Rattle.cs_ir.specs.Resources.{Stock, ops_use, ops_write}
 use Rattle.cs_layout.proofs.Complete.{there}
 use Rattle.cs_layout.proofs.Counted.{spaces_are}
 use Rattle.cs_layout.specs.Layouts.{areas_of}
@@ -137,7 +138,7 @@ module _ (c : SetupData) (stage : Stage) (is_stage : IsStageOf (composition_of c
   all_named : (spaces : Spaces) → AreNamed (HasArea stage.layout.now) (block_uses (stock_of stage.layout.now) (core spaces body) ++ block_begins (stock_of stage.layout.now) (core spaces body))
   all_named spaces = all_there (HasArea stage.layout.now) (block_uses (stock_of stage.layout.now) (core spaces body) ++ block_begins (stock_of stage.layout.now) (core spaces body)) (λ g. named g spaces)
 
-  sheet_of : IsCodeOf (record { control = stage.zak_k; audio = stage.zak_a }) stage.head.now.nchnls body i.init i.perf → (age : ℕ) (flags : List Bool) (fields : List ℤ)
+  sheet_of : IsCodeOf stage.spaces stage.head.now.nchnls body i.init i.perf → (age : ℕ) (flags : List Bool) (fields : List ℤ)
       → length flags ≡ length stage.tables.now → IsSheetOf (sheet_at i age foot stage flags fields) body i.init i.perf
   sheet_of code age flags fields long = record {
     code = code;
@@ -146,17 +147,17 @@ module _ (c : SetupData) (stage : Stage) (is_stage : IsStageOf (composition_of c
     generators = refl;
     placed = is_stage.placed flags fields long;
     init_areas = subst (AreNamed (HasArea stage.layout.now)) (sym (code.begins (stock_of stage.layout.now)))
-        (named_back (HasArea stage.layout.now) (block_uses (stock_of stage.layout.now) (core (record { control = stage.zak_k; audio = stage.zak_a }) body))
-        (block_begins (stock_of stage.layout.now) (core (record { control = stage.zak_k; audio = stage.zak_a }) body)) (all_named (record { control = stage.zak_k; audio = stage.zak_a })));
+        (named_back (HasArea stage.layout.now) (block_uses (stock_of stage.layout.now) (core stage.spaces body))
+        (block_begins (stock_of stage.layout.now) (core stage.spaces body)) (all_named stage.spaces));
     perf_areas = subst (AreNamed (HasArea stage.layout.now)) (sym (code.uses (stock_of stage.layout.now)))
-        (named_front (HasArea stage.layout.now) (block_uses (stock_of stage.layout.now) (core (record { control = stage.zak_k; audio = stage.zak_a }) body))
-        (block_begins (stock_of stage.layout.now) (core (record { control = stage.zak_k; audio = stage.zak_a }) body)) (all_named (record { control = stage.zak_k; audio = stage.zak_a })));
+        (named_front (HasArea stage.layout.now) (block_uses (stock_of stage.layout.now) (core stage.spaces body))
+        (block_begins (stock_of stage.layout.now) (core stage.spaces body)) (all_named stage.spaces));
     uses = feet.uses;
     writes = feet.writes;
   }
 
-  ready_here : IsCodeOf (record { control = stage.zak_k; audio = stage.zak_a }) stage.head.now.nchnls body i.init i.perf
-      → IsReady stage i foot (record { control = stage.zak_k; audio = stage.zak_a }) body
+  ready_here : IsCodeOf stage.spaces stage.head.now.nchnls body i.init i.perf
+      → IsReady stage i foot stage.spaces body
   unfolding sheet_of
   ready_here code = record {
     plan = code.means.plan;
@@ -165,7 +166,7 @@ module _ (c : SetupData) (stage : Stage) (is_stage : IsStageOf (composition_of c
   }
 
   -- the same for the spaces and channels of the composition
-  ready_as : (spaces : Spaces) (channels : ℕ) → record { control = stage.zak_k; audio = stage.zak_a } ≡ spaces → stage.head.now.nchnls ≡ channels
+  ready_as : (spaces : Spaces) (channels : ℕ) → stage.spaces ≡ spaces → stage.head.now.nchnls ≡ channels
       → IsCodeOf spaces channels body i.init i.perf → IsReady stage i foot spaces body
   ready_as spaces channels e f =
       subst (λ ch. IsCodeOf spaces ch body i.init i.perf → IsReady stage i foot spaces body) f
@@ -185,18 +186,18 @@ module _ (c : SetupData) (stage : Stage) (is_stage : IsStageOf (composition_of c
             (places_of_more areas written used r (ops_written_is_used stock i.perf.ops.items) (subst (λ l. Contains l r) feet.writes h));
       }
 
-  pub instrument_is : IsCodeOf (spaces_in (typed.orchestra c.orchestra)) c.orchestra.head.nchnls body i.init i.perf
-      → IsInstrumentOf stage i foot (core (spaces_in (typed.orchestra c.orchestra)) body)
+  pub instrument_is : IsCodeOf (typed.orchestra c.orchestra).spaces c.orchestra.head.nchnls body i.init i.perf
+      → IsInstrumentOf stage i foot (core (typed.orchestra c.orchestra).spaces body)
   instrument_is code =
-      let r = ready_as (spaces_in (typed.orchestra c.orchestra)) c.orchestra.head.nchnls is_stage.spaces (ap (λ (h : Header). h.nchnls) is_stage.head) code in
+      let r = ready_as (typed.orchestra c.orchestra).spaces c.orchestra.head.nchnls is_stage.spaces (ap (λ (h : Header). h.nchnls) is_stage.head) code in
       record {
         plan = r.plan;
-        kinds = kinds_of (block_units (core (spaces_in (typed.orchestra c.orchestra)) body));
+        kinds = kinds_of (block_units (core (typed.orchestra c.orchestra).spaces body));
         playable = r.playable;
         performs = r.performs;
         footprint = footprint_is;
-        there = named_front (HasArea stage.layout.now) (block_uses (stock_of stage.layout.now) (core (spaces_in (typed.orchestra c.orchestra)) body))
-            (block_begins (stock_of stage.layout.now) (core (spaces_in (typed.orchestra c.orchestra)) body)) (all_named (spaces_in (typed.orchestra c.orchestra)));
+        there = named_front (HasArea stage.layout.now) (block_uses (stock_of stage.layout.now) (core (typed.orchestra c.orchestra).spaces body))
+            (block_begins (stock_of stage.layout.now) (core (typed.orchestra c.orchestra).spaces body)) (all_named (typed.orchestra c.orchestra).spaces);
         uses = feet.uses ∙ ap (places_holding stage.layout.now) (code.uses (stock_of stage.layout.now));
         writes = feet.writes ∙ ap (places_holding stage.layout.now) (code.writes (stock_of stage.layout.now));
       }
@@ -209,13 +210,13 @@ module _ (touched : TouchWhatIsThere) (c : SetupData) (h : IsSetup c) (stage : S
   touches g spaces k =
       let here = laid ∙ h.areas_are in
       subst (λ areas. HasArea areas g) (sym here)
-      (has_area c.orchestra.head.ksmps (typed.shared_names c.orchestra.globals) (spaces_in (typed.orchestra c.orchestra))
+      (has_area c.orchestra.head.ksmps (typed.shared_names c.orchestra.globals) (typed.orchestra c.orchestra).spaces
       (live_in (tables_in (typed.orchestra c.orchestra) c.plot.events)) g
       (subst (λ areas. is_there (typed.shared_names c.orchestra.globals) (stock_of areas) g ≡ true) here
       (touched (typed.shared_names c.orchestra.globals) body names spaces (stock_of stage.layout.now) g k)))
 
-  pub ready_for : IsFootOf c.layout i.perf foot → IsCodeOf (spaces_in (typed.orchestra c.orchestra)) c.orchestra.head.nchnls body i.init i.perf
-      → IsInstrumentOf stage i foot (core (spaces_in (typed.orchestra c.orchestra)) body)
+  pub ready_for : IsFootOf c.layout i.perf foot → IsCodeOf (typed.orchestra c.orchestra).spaces c.orchestra.head.nchnls body i.init i.perf
+      → IsInstrumentOf stage i foot (core (typed.orchestra c.orchestra).spaces body)
   ready_for feet code = instrument_is c stage is_stage i foot body (subst (λ areas. IsFootOf areas i.perf foot) (sym laid) feet) touches code
 
 -- footprints stand at their instruments' places
@@ -240,8 +241,8 @@ module _ (touched : TouchWhatIsThere) (s : SetupData) (h : IsSetup s) where
       × ((stage : Stage) → IsStageOf (composition_of s) stage → stage.layout.now ≡ s.layout → IsInstrumentOf stage i foot body)
   handed_out place i foot at feet z n =
       let b = body_for (typed.orchestra s.orchestra) s.lowered.instruments place i z h.instruments at n in (
-        core (spaces_in (typed.orchestra s.orchestra)) b.body,
-        ap (option_map (core (spaces_in (typed.orchestra s.orchestra)))) b.here,
+        core (typed.orchestra s.orchestra).spaces b.body,
+        ap (option_map (core (typed.orchestra s.orchestra).spaces)) b.here,
         n,
         λ stage is_stage laid. ready_for touched s h stage is_stage laid i foot b.body
             (holds_of_body (IsNamedBlock (typed.shared_names s.orchestra.globals)) (typed.orchestra s.orchestra).instrs z b.body h.named.instruments b.here)
@@ -249,7 +250,7 @@ module _ (touched : TouchWhatIsThere) (s : SetupData) (h : IsSetup s) where
       )
 
   pub not_there : (z : ℤ) → ((k : ℕ) (i : Numbered) → slice_get s.lowered.instruments k ≡ Some i → pos i.number ≡ z → ⊥) → (composition_of s).instrument z ≡ None
-  not_there z none = ap (option_map (core (spaces_in (typed.orchestra s.orchestra)))) (no_body (typed.orchestra s.orchestra) s.lowered.instruments z h.instruments none)
+  not_there z none = ap (option_map (core (typed.orchestra s.orchestra).spaces)) (no_body (typed.orchestra s.orchestra) s.lowered.instruments z h.instruments none)
 
   pub outside_is : (stage : Stage) → IsStageOf (composition_of s) stage → stage.layout.now ≡ s.layout
       → IsInstrumentOf stage s.lowered.zero s.zero_foot (composition_of s).outside

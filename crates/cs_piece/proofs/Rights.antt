@@ -7,9 +7,10 @@ use Rattle.std.proofs.lemmas.List.Folds.{list_any-append}
 use Rattle.std.proofs.lemmas.List.Sorted.{list_any-IsPermutation}
 use Rattle.cs_base.specs.Rates.{same_res}
 use Rattle.cs_base.specs.declared.resource.Res.TheVariants as res
-use Rattle.cs_code.specs.Lowered.{AreInstrumentsOf, IsNumberedCode, bodies, spaces_in}
+use Rattle.cs_code.specs.Lowered.{AreInstrumentsOf, IsNumberedCode, bodies}
 use Rattle.cs_ir.specs.Instruments.{Numbered}
-use Rattle.cs_ir.specs.Resources.{Spaces, act_writes, ops_write}
+use Rattle.cs_base.specs.declared.spaces.Spaces.{Spaces}
+use Rattle.cs_ir.specs.Resources.{act_writes, ops_write}
 use Rattle.cs_ir.specs.declared.op.Op.{Op}
 use Rattle.cs_meaning.specs.Beginning.{block_begin_writes}
 use Rattle.cs_meaning.specs.Core.{core}
@@ -81,7 +82,7 @@ any_alike n spaces channels (p ∷ ps) (i ∷ is) h =
 pub written_as : (o : typed.Orchestra) (l : List Numbered) (n : ℕ) → AreInstrumentsOf o l → list_any (codes_store n) l ≡ may_be_written o n
 written_as o l n are =
     sym (list_any-IsPermutation (codes_store n) are.in_text l are.same)
-    ∙ any_alike n (spaces_in o) o.head.nchnls (bodies o.instrs) are.in_text are.each
+    ∙ any_alike n o.spaces o.head.nchnls (bodies o.instrs) are.in_text are.each
 
 -- tables by what was found
 once_as : (m : ℕ) → is_once (as_times m) ≡ (m == 1)

@@ -10,11 +10,10 @@ use Rattle.cs_base.specs.declared.resource.Res.TheVariants as res
 use Rattle.cs_machine.specs.Access.{AreSpaces, spaces_of}
 use Rattle.cs_cells.specs.Areas.{IsLaid, limit_passed}
 use Rattle.cs_cells.specs.declared.footprint.Area.{Area}
-use Rattle.cs_code.specs.Lowered.{spaces_in}
 use Rattle.cs_gen.proofs.Places.{accepted, is_made}
 use Rattle.cs_gen.specs.Points.{len_of, points_of}
 use Rattle.cs_gen.specs.Tables.{IsMade}
-use Rattle.cs_ir.specs.Resources.{Spaces}
+use Rattle.cs_base.specs.declared.spaces.Spaces.{Spaces}
 use Rattle.cs_layout.proofs.Complete.{is_laid, is_placed, there}
 use Rattle.cs_layout.proofs.Counted.{spaces_are}
 use Rattle.cs_layout.proofs.ZakSpaces.{are_spaces}
@@ -196,14 +195,11 @@ module _ (ksmps : ℕ) (names : SharedNames) (spaces : Spaces) (cs : List Table)
 
 -- What a setup hands out as its stage.
 module _ (s : SetupData) (h : IsSetup s) (stage : Stage) (head : stage.head.now ≡ s.orchestra.head) (laid : stage.layout.now ≡ s.layout)
-    (zk : stage.zak_k ≡ s.orchestra.zak_k) (za : stage.zak_a ≡ s.orchestra.zak_a) (same : map table_of stage.tables.now ≡ map made (composition_of s).tables) where
+    (spaces_so : stage.spaces ≡ s.orchestra.spaces) (same : map table_of stage.tables.now ≡ map made (composition_of s).tables) where
   sound : AllByRecursion IsSound (tables_in (typed.orchestra s.orchestra) s.plot.events)
   sound = sound_in (typed.orchestra s.orchestra) s.plot.events (right_in s.plot.events h.performable.each)
 
-  spaces_so : record { control = stage.zak_k; audio = stage.zak_a } ≡ spaces_in (typed.orchestra s.orchestra)
-  spaces_so = λ i. record { control = zk i; audio = za i }
-
-  here : stage.layout.now ≡ areas_of stage.head.now.ksmps (typed.shared_names s.orchestra.globals) (record { control = stage.zak_k; audio = stage.zak_a })
+  here : stage.layout.now ≡ areas_of stage.head.now.ksmps (typed.shared_names s.orchestra.globals) stage.spaces
       (live_in (tables_in (typed.orchestra s.orchestra) s.plot.events))
   here = laid ∙ h.areas_are
       ∙ λ i. areas_of (sym head i).ksmps (typed.shared_names s.orchestra.globals) (sym spaces_so i) (live_in (tables_in (typed.orchestra s.orchestra) s.plot.events))
@@ -216,26 +212,26 @@ module _ (s : SetupData) (h : IsSetup s) (stage : Stage) (head : stage.head.now 
 
   places : AreSpaces stage.layout.now
   places = subst AreSpaces (sym here)
-      (are_spaces stage.head.now.ksmps (typed.shared_names s.orchestra.globals) (record { control = stage.zak_k; audio = stage.zak_a })
+      (are_spaces stage.head.now.ksmps (typed.shared_names s.orchestra.globals) stage.spaces
       (live_in (tables_in (typed.orchestra s.orchestra) s.plot.events)))
 
-  zak : spaces_of stage.layout.now ≡ record { control = stage.zak_k; audio = stage.zak_a }
+  zak : spaces_of stage.layout.now ≡ stage.spaces
   zak = ap spaces_of here
-      ∙ spaces_are stage.head.now.ksmps (typed.shared_names s.orchestra.globals) (record { control = stage.zak_k; audio = stage.zak_a })
+      ∙ spaces_are stage.head.now.ksmps (typed.shared_names s.orchestra.globals) stage.spaces
       (live_in (tables_in (typed.orchestra s.orchestra) s.plot.events))
 
   placed : (flags : List Bool) (fields : List ℤ) → IsPlaced stage.layout.now (stock_of stage.layout.now) (piece_at stage flags fields)
   placed flags fields =
       subst (λ areas. IsPlaced areas (stock_of areas) (piece_at stage flags fields)) (sym here)
       (is_placed (typed.shared_names s.orchestra.globals) (live_in (tables_in (typed.orchestra s.orchestra) s.plot.events)) (piece_at stage flags fields) apart frames
-      (are_live stage.head.now.ksmps (typed.shared_names s.orchestra.globals) (record { control = stage.zak_k; audio = stage.zak_a })
+      (are_live stage.head.now.ksmps (typed.shared_names s.orchestra.globals) stage.spaces
       (tables_in (typed.orchestra s.orchestra) s.plot.events) sound stage.tables.now same flags)
       (some_points (tables_in (typed.orchestra s.orchestra) s.plot.events) sound))
 
   can_be_played : (flags : List Bool) → CanAllBePlayed stage.layout.now (tables_of stage.tables.now flags)
   can_be_played flags =
       subst (λ areas. CanAllBePlayed areas (tables_of stage.tables.now flags)) (sym here)
-      (can_all stage.head.now.ksmps (typed.shared_names s.orchestra.globals) (record { control = stage.zak_k; audio = stage.zak_a })
+      (can_all stage.head.now.ksmps (typed.shared_names s.orchestra.globals) stage.spaces
       (tables_in (typed.orchestra s.orchestra) s.plot.events) sound stage.tables.now same flags)
 
   pub is_stage : IsStageOf (composition_of s) stage
@@ -244,7 +240,7 @@ module _ (s : SetupData) (h : IsSetup s) (stage : Stage) (head : stage.head.now 
     spaces = spaces_so;
     tables = same;
     laid = subst IsLaid (sym here)
-        (is_laid stage.head.now.ksmps (typed.shared_names s.orchestra.globals) (record { control = stage.zak_k; audio = stage.zak_a })
+        (is_laid stage.head.now.ksmps (typed.shared_names s.orchestra.globals) stage.spaces
         (live_in (tables_in (typed.orchestra s.orchestra) s.plot.events)) apart);
     within = ap limit_passed laid ∙ h.within;
     places = places;
@@ -256,5 +252,5 @@ module _ (s : SetupData) (h : IsSetup s) (stage : Stage) (head : stage.head.now 
 -- the areas of a setup follow one another
 pub laid_is : (s : SetupData) → IsSetup s → IsLaid s.layout
 laid_is s h = subst IsLaid (sym h.areas_are)
-    (is_laid s.orchestra.head.ksmps (typed.shared_names s.orchestra.globals) (spaces_in (typed.orchestra s.orchestra))
+    (is_laid s.orchestra.head.ksmps (typed.shared_names s.orchestra.globals) (typed.orchestra s.orchestra).spaces
     (live_in (tables_in (typed.orchestra s.orchestra) s.plot.events)) (apart_in (typed.orchestra s.orchestra) s.plot.events))

@@ -3,7 +3,7 @@ use Rattle.std.specs.Prelude.{ℕ, ℤ, pos, not, List, [], ◌∷◌, filter, m
 use Rattle.std.specs.Option.{is_some, option_map}
 use Rattle.std.specs.Ordering.{int_eq}
 use Rattle.cs_cells.specs.declared.footprint.Area.{Area}
-use Rattle.cs_code.specs.Lowered.{bodies, spaces_in}
+use Rattle.cs_code.specs.Lowered.{bodies}
 use Rattle.cs_piece_meaning.specs.Moments.{Composition}
 use Rattle.cs_layout.specs.Layouts.{areas_of}
 use Rattle.cs_layout.specs.declared.areas.LiveTable.{LiveTable}
@@ -21,7 +21,7 @@ live_in tables = map (λ (t : Table). record { number = t.number; size = t.size 
 
 -- where the cells of a piece are
 abbrev pub areas_in : typed.Orchestra → List Event → List Area
-areas_in o events = areas_of o.head.ksmps o.globals (spaces_in o) (live_in (tables_in o events))
+areas_in o events = areas_of o.head.ksmps o.globals o.spaces (live_in (tables_in o events))
 
 -- the body of a number
 abbrev pub body_of : List (ℕ × typed.Block) → ℤ → Option typed.Block
@@ -32,9 +32,9 @@ body_of (p ∷ rest) z = if int_eq z (pos p.0) then Some p.1 else body_of rest z
 abbrev pub composition : typed.Orchestra → Plot → Composition
 composition o plot = record {
   head = o.head;
-  spaces = spaces_in o;
-  outside = core (spaces_in o) o.zero;
-  instrument = λ z. option_map (core (spaces_in o)) (body_of (bodies o.instrs) z);
+  spaces = o.spaces;
+  outside = core o.spaces o.zero;
+  instrument = λ z. option_map (core o.spaces) (body_of (bodies o.instrs) z);
   tables = tables_in o plot.events;
   events = plot.events;
   cycles = plot.cycles;

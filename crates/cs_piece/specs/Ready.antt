@@ -20,24 +20,24 @@ use Rattle.cs_voice.specs.Memory.{table_of}
 use Rattle.cs_voice.specs.VoiceData.{made}
 use Rattle.cs_voice.specs.declared.stage.Stage.{Stage}
 
--- A stage is that of a composition: its header, zak spaces and tables, and a layout in which all that notes share is placed,
--- whichever of the tables have been made.
+-- A stage is that of a composition: its header, zak spaces and tables, and a layout in which all that notes share is
+-- placed, whichever of the tables have been made.
 pub record IsStageOf (c : Composition) (stage : Stage) : Type 0 where
   pub head : header_of stage.head.now ≡ c.head
-  pub spaces : record { control = stage.zak_k; audio = stage.zak_a } ≡ c.spaces
+  pub spaces : stage.spaces ≡ c.spaces
   pub tables : map table_of stage.tables.now ≡ map made c.tables
   pub laid : IsLaid stage.layout.now
   pub within : limit_passed stage.layout.now ≡ None
   pub places : AreSpaces stage.layout.now
-  pub zak : spaces_of stage.layout.now ≡ record { control = stage.zak_k; audio = stage.zak_a }
+  pub zak : spaces_of stage.layout.now ≡ stage.spaces
   pub placed : (flags : List Bool) (fields : List ℤ) → length flags ≡ length stage.tables.now
       → IsPlaced stage.layout.now (stock_of stage.layout.now) (piece_at stage flags fields)
   pub can_be_played : (flags : List Bool) → length flags ≡ length stage.tables.now
       → CanAllBePlayed stage.layout.now (tables_of stage.tables.now flags)
 
--- An instrument of the stage, with its footprint, has these statements: its notes can begin, whichever tables have been made, and
--- do what the statements say, as they begin and in every cycle. The footprint is what the statements may use and write in a cycle,
--- and all of that has its area.
+-- An instrument of the stage, with its footprint, has these statements: its notes can begin, whichever tables have
+-- been made, and do what the statements say, as they begin and in every cycle. The footprint is what the statements
+-- may use and write in a cycle, and all of that has its area.
 pub record IsInstrumentOf (stage : Stage) (i : Numbered) (foot : Footprint) (body : Block) : Type 0 where
   pub plan : Plan
   pub kinds : Kinds

@@ -4,7 +4,7 @@ use Rattle.std.specs.List.{AllZip, Contains}
 use Rattle.cs_cells.specs.Areas.{limit_passed}
 use Rattle.cs_cells.specs.declared.footprint.Area.{Area}
 use Rattle.cs_cells.specs.declared.footprint.Footprint.{Footprint}
-use Rattle.cs_code.specs.Lowered.{AreInstrumentsOf, IsCodeOf, spaces_in}
+use Rattle.cs_code.specs.Lowered.{AreInstrumentsOf, IsCodeOf}
 use Rattle.cs_code.specs.declared.orchestra.Lowered.{Lowered}
 use Rattle.cs_piece_meaning.specs.Moments.{Composition}
 use Rattle.cs_ir.specs.Instruments.{Numbered}
@@ -30,8 +30,8 @@ pub record IsFootOf (areas : List Area) (perf : Code) (foot : Footprint) : Type 
   pub uses : foot.uses ≡ places_holding areas (ops_use (stock_of areas) perf.ops.items)
   pub writes : foot.writes ≡ places_holding areas (ops_write (stock_of areas) perf.ops.items)
 
--- What contracts see of a setup: the typed orchestra, the plot, its tables, where the cells of what notes share are, the codes, and
--- the footprints of what stands outside of instruments and of these, in their order.
+-- What contracts see of a setup: the typed orchestra, the plot, its tables, where the cells of what notes share are,
+-- the codes, and the footprints of what stands outside of instruments and of these, in their order.
 pub record SetupData : Type 0 where
   pub orchestra : TypedOrc
   pub plot : Plot
@@ -41,8 +41,8 @@ pub record SetupData : Type 0 where
   pub zero_foot : Footprint
   pub feet : List Footprint
 
--- A setup: the tables are those of the plot, the areas those of the piece and within the limits, the codes are those of the
--- orchestra, and the footprints those of the codes.
+-- A setup: the tables are those of the plot, the areas those of the piece and within the limits, the codes are those
+-- of the orchestra, and the footprints those of the codes.
 pub record IsSetup (s : SetupData) : Type 0 where
   pub performable : IsPerformable s.orchestra.head s.plot
   pub sizes : AreOfOneSize s.plot.events
@@ -50,7 +50,7 @@ pub record IsSetup (s : SetupData) : Type 0 where
   pub tables_are : map table_of s.tables ≡ tables_in (typed.orchestra s.orchestra) s.plot.events
   pub areas_are : s.layout ≡ areas_in (typed.orchestra s.orchestra) s.plot.events
   pub within : limit_passed s.layout ≡ None
-  pub zero_code : IsCodeOf (spaces_in (typed.orchestra s.orchestra)) s.orchestra.head.nchnls (typed.orchestra s.orchestra).zero
+  pub zero_code : IsCodeOf (typed.orchestra s.orchestra).spaces s.orchestra.head.nchnls (typed.orchestra s.orchestra).zero
       s.lowered.zero.init s.lowered.zero.perf
   pub instruments : AreInstrumentsOf (typed.orchestra s.orchestra) s.lowered.instruments
   pub zero_touches : IsFootOf s.layout s.lowered.zero.perf s.zero_foot

@@ -23,8 +23,8 @@ kind_of None = (op.Oscili, rate.Init)
 abbrev pub kinds_of : List UnitKind → Kinds
 kinds_of units u = kind_of (slice_get units u)
 
--- A sheet of an instrument's body: its codes are two of the body in the piece, each resource that they may use has its area, and
--- the footprint is that of the second code.
+-- A sheet of an instrument's body: its codes are two of the body in the piece, each resource that they may use has
+-- its area, and the footprint is that of the second code.
 pub record IsSheetOf (s : Sheet) (body : typed.Block) (init perf : Code) : Type 0 where
   pub code : IsCodeOf s.piece.spaces s.piece.head.nchnls body init perf
   pub init_ops : s.init ≡ init.ops.items

@@ -3,7 +3,7 @@ use Rattle.std.specs.Prelude.{ℕ, ℤ, Bool, false, not, ◌&&◌, ◌||◌, �
 use Rattle.std.specs.List.{flat_map, list_any}
 use Rattle.cs_base.specs.Rates.{same_res}
 use Rattle.cs_base.specs.declared.resource.Res.TheVariants as res
-use Rattle.cs_code.specs.Lowered.{bodies, spaces_in}
+use Rattle.cs_code.specs.Lowered.{bodies}
 use Rattle.cs_gen.specs.Points.{points_of}
 use Rattle.cs_ir.specs.Resources.{Stock}
 use Rattle.cs_meaning.specs.Beginning.{block_begin_writes}
@@ -51,7 +51,7 @@ stores_into n b =
 
 -- an instrument of some number may write a table
 abbrev pub may_be_written : typed.Orchestra → ℕ → Bool
-may_be_written o n = list_any (λ (p : ℕ × typed.Block). stores_into n (core (spaces_in o) p.1)) (bodies o.instrs)
+may_be_written o n = list_any (λ (p : ℕ × typed.Block). stores_into n (core o.spaces p.1)) (bodies o.instrs)
 
 -- A table is frozen where one event alone gives it and no instrument may write it.
 abbrev pub is_frozen : typed.Orchestra → List Given → ℕ → Bool

@@ -30,8 +30,8 @@ next_note piece body shared t = perf_block (plain piece) start body (moved_to (n
 abbrev pub Hold : List Area → (ℕ → ℤ) → (Res → Wave) → Type 0
 Hold areas cells shared = (g : Res) → HasArea areas g → wave_of (area_of areas g) (res_rate g) cells ≡ shared g
 
--- A voice stands for a note that plays: the same local variables and kept values, each unit where all its inputs so far bring
--- it, and the same output.
+-- A voice stands for a note that plays: the same local variables and kept values, each unit where all its inputs so
+-- far bring it, and the same output.
 pub record IsVoiceOf (s : Sheet) (plan : Plan) (kinds : Kinds) (v : Sounding) (t : Note Plain) : Type 0 where
   pub sheet : v.sheet ≡ s
   pub locals : (q : Reg) → q.index < plan.locals q.rate → v.regs q ≡ t.locals q
@@ -42,8 +42,9 @@ pub record IsVoiceOf (s : Sheet) (plan : Plan) (kinds : Kinds) (v : Sounding) (t
   pub ended : v.ended ≡ t.world.ended
   pub plays : t.world.cause ≡ None
 
--- The code that begins a voice, over cells that hold what notes share, does what the statements do as the note begins: it is
--- refused for the same cause or leaves a voice of the note, asks for the same notes, and leaves in the cells what they share then.
+-- The code that begins a voice, over cells that hold what notes share, does what the statements do as the note
+-- begins: it is refused for the same cause or leaves a voice of the note, asks for the same notes, and leaves in the
+-- cells what they share then.
 pub record Begins (s : Sheet) (body : Block) (plan : Plan) (kinds : Kinds) (before : ℕ → ℤ) (shared : Res → Wave) : Type 0 where
   pub cause : (initialised s before).world.cause ≡ (begun_note s.piece body shared).world.cause
   pub asks : (initialised s before).world.asks ≡ (begun_note s.piece body shared).world.asks
@@ -51,15 +52,16 @@ pub record Begins (s : Sheet) (body : Block) (plan : Plan) (kinds : Kinds) (befo
   pub voice : (begun_note s.piece body shared).world.cause ≡ None
       → IsVoiceOf s plan kinds (voice_of s (initialised s before)) (begun_note s.piece body shared)
 
--- A cycle of a voice of the note, over cells that hold what notes share, leaves a voice of the note after its next cycle, and in
--- the cells what notes share then.
+-- A cycle of a voice of the note, over cells that hold what notes share, leaves a voice of the note after its next
+-- cycle, and in the cells what notes share then.
 pub record GoesOn (s : Sheet) (body : Block) (plan : Plan) (kinds : Kinds) (v : Sounding) (t : Note Plain) (c : Cells)
     (shared : Res → Wave) : Type 0 where
   pub voice : IsVoiceOf s plan kinds (performed v c) (next_note s.piece body shared t)
   pub cells : Hold s.areas (cell (left_by v c)) (next_note s.piece body shared t).world.shared
 
--- Voices that play from a sheet perform notes of these statements, from their beginning through every cycle, whatever other
--- notes do in between to what they share. Where the values of a note stand and what its units are, plan and kinds say.
+-- Voices that play from a sheet perform notes of these statements, from their beginning through every cycle, whatever
+-- other notes do in between to what they share. Where the values of a note stand and what its units are, plan and
+-- kinds say.
 pub record Perform (plan : Plan) (kinds : Kinds) (s : Sheet) (body : Block) : Type 0 where
   pub begins : (cells : ℕ → ℤ) (shared : Res → Wave) → Hold s.areas cells shared → Begins s body plan kinds cells shared
   pub goes_on : (v : Sounding) (t : Note Plain) (c : Cells) (shared : Res → Wave) → word_count s.areas ≤ length c

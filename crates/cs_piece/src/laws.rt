@@ -10,7 +10,8 @@ ghost use Rattle.cs_code.specs.Names.{block_units};
 ghost use Rattle.cs_piece.specs.Sheets.{IsSheetOf, kinds_of};
 ghost use Rattle.cs_piece.specs.VoicesOfNotes.{Perform};
 
-/// Voices that play codes which mean the statements of a note perform the note: as it begins, and in every control cycle.
+/// Voices that play codes which mean the statements of a note perform the note: as it begins, and in every control
+/// cycle.
 pub fn voices_perform_their_notes()
     ensures { (s : Sheet) (body : Block) (means : Means body s.init s.perf) (playable : IsPlayable s)
         → s.piece.generators ≡ the_generators (pace_of s.piece.head) → Perform means.plan playable.kinds s body }
@@ -18,7 +19,8 @@ pub fn voices_perform_their_notes()
 
 /// An instrument's sheet can be played, and the voices that play from it perform the notes that the instrument means.
 pub fn instruments_are_performed()
-    ensures playable { (s : Sheet) (body : typed.Block) (init perf : Code) → IsSheetOf s body init perf → IsPlayable s }
+    ensures playable { (s : Sheet) (body : typed.Block) (init perf : Code) → IsSheetOf s body init perf
+        → IsPlayable s }
     ensures performed { (s : Sheet) (body : typed.Block) (init perf : Code) (h : IsSheetOf s body init perf)
         → Perform h.code.means.plan (kinds_of (block_units (core s.piece.spaces body))) s (core s.piece.spaces body) }
 {}

@@ -1,15 +1,15 @@
 //! What is performed: all that a piece needs, made from its typed orchestra and its plot before the first note.
 //!
-//! The one contract: `Setup::new` answers a setup of what it was given, or the limit on resources or cells that its layout
-//! passes. A setup stands for a composition (specs/Setups, `composition_of`), and gives whoever performs it the stage of the
-//! piece and each instrument with its footprint, from which its notes can begin and perform what the composition says
-//! (`IsStageOf`, `IsInstrumentOf` of specs/Ready). By the law `instruments_are_performed` voices that play from an instrument's
-//! sheet do, as they begin and in every control cycle, what the definitions say of its notes (specs/Sheets, specs/VoicesOfNotes).
-//! How tables are found, kept and told from one another, and which of them are cells, may be changed without anyone above
-//! noticing, but for the definition of `tables_in`.
+//! The one contract: `Setup::new` returns a setup of what it was given, or the limit on resources or cells that its
+//! layout passes. A setup stands for a composition (specs/Setups, `composition_of`), and gives whoever performs it
+//! the stage of the piece and each instrument with its footprint, from which its notes can begin and perform what the
+//! composition says (`IsStageOf`, `IsInstrumentOf` of specs/Ready). By the law `instruments_are_performed` voices
+//! that play from an instrument's sheet do, as they begin and in every control cycle, what the definitions say of its
+//! notes (specs/Sheets, specs/VoicesOfNotes). How tables are found, kept and told from one another, and which of them
+//! are cells, may be changed without anyone above noticing, but for the definition of `tables_in`.
 //!
-//! Modules in reading order: `laws` (a voice performs its note), `written` (tables that codes may write), `tables` (those of a
-//! plot), `setup`, `stage` (what is handed out).
+//! Modules in reading order: `laws` (a voice performs its note), `written` (tables that codes may write), `tables`
+//! (those of a plot), `setup`, `stage` (what is handed out).
 #![tactic(auto)]
 
 mod laws;
@@ -20,4 +20,5 @@ mod written;
 
 pub use laws::{instruments_are_performed, voices_perform_their_notes};
 pub use setup::Setup;
+pub use stage::Playable;
 pub use tables::PieceTable;

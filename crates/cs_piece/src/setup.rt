@@ -5,7 +5,7 @@ ghost use Rattle.cs_base.specs.declared.fault.Or.TheVariants as or;
 ghost use Rattle.cs_base.specs.declared.limit.LimitHit.{LimitHit};
 ghost use Rattle.cs_cells.specs.Areas.{limit_passed};
 ghost use Rattle.cs_cells.specs.declared.footprint.Footprint.{Footprint};
-ghost use Rattle.cs_code.specs.Lowered.{AreInstrumentsOf, IsCodeOf, all_numbers, spaces_in};
+ghost use Rattle.cs_code.specs.Lowered.{AreInstrumentsOf, IsCodeOf, all_numbers};
 ghost use Rattle.cs_ir.specs.Instruments.{Numbered};
 ghost use Rattle.cs_layout.specs.Layouts.{AreApart, areas_of};
 ghost use Rattle.cs_name_laws.specs.Names.{NamesWhatThereIs};
@@ -72,17 +72,23 @@ struct Feet {
     instruments: Vec<Footprint>,
 }
 
-/// All that is made of an orchestra and a plot.
+/// Tables and layout of a piece, and the footprints of its codes.
 #[derive(Drop)]
-struct Made {
-    lowered: Lowered,
+struct Laid {
     ground: Ground,
     feet: Feet,
 }
 
+/// All that is made of an orchestra and a plot.
+#[derive(Drop)]
+struct Made {
+    lowered: Lowered,
+    laid: Laid,
+}
+
 impl Setup {
-    /// The setup of an orchestra that breaks no rule, and of a plot that passes no limit. More resources than 4,096 pass the limit
-    /// on them, and then more cells than 65,536 that on words, at line 0.
+    /// The setup of an orchestra that breaks no rule, and of a plot that passes no limit. More resources than 4,096
+    /// pass the limit on them, and then more cells than 65,536 that on words, at line 0.
     pub fn new(alloc: Global, orchestra: TypedOrc, plot: Plot) -> Result<Setup, Or<LimitHit>>
         requires rated { IsWellRated (typed.orchestra orchestra) }
         requires distinct { IsDistinct eqb (all_numbers (typed.orchestra orchestra).instrs) }
@@ -96,14 +102,15 @@ impl Setup {
             → limit_passed (areas_in (typed.orchestra orchestra) plot.events) ≡ Some hit }
     {
         let made = made_of(alloc, &orchestra, &plot)?;
+        let laid = made.laid;
         Ok(Setup {
             orchestra,
             plot,
-            tables: made.ground.tables,
-            layout: made.ground.layout,
+            tables: laid.ground.tables,
+            layout: laid.ground.layout,
             lowered: made.lowered,
-            zero_foot: made.feet.zero,
-            feet: made.feet.instruments,
+            zero_foot: laid.feet.zero,
+            feet: laid.feet.instruments,
         })
     }
 
@@ -134,25 +141,24 @@ fn made_of(alloc: Global, orchestra: &TypedOrc, plot: &Plot) -> Result<Made, Or<
     requires rated { IsWellRated (typed.orchestra orchestra.now) }
     requires distinct { IsDistinct eqb (all_numbers (typed.orchestra orchestra.now).instrs) }
     requires performable { IsPerformable orchestra.now.head plot.now }
-    ensures outside { IfOk result (λ m. IsCodeOf (spaces_in (typed.orchestra orchestra.now)) orchestra.now.head.nchnls
+    ensures outside { IfOk result (λ m. IsCodeOf (typed.orchestra orchestra.now).spaces orchestra.now.head.nchnls
         (typed.block orchestra.now.zero.items) m.lowered.zero.init m.lowered.zero.perf) }
     ensures instruments { IfOk result (λ m. AreInstrumentsOf (typed.orchestra orchestra.now) m.lowered.instruments) }
-    ensures tables { IfOk result (λ m. map table_of m.ground.tables.items ≡ tables_in (typed.orchestra orchestra.now) plot.now.events) }
-    ensures layout { IfOk result (λ m. m.ground.layout ≡ areas_in (typed.orchestra orchestra.now) plot.now.events) }
+    ensures tables { IfOk result (λ m. map table_of m.laid.ground.tables.items
+        ≡ tables_in (typed.orchestra orchestra.now) plot.now.events) }
+    ensures layout { IfOk result (λ m. m.laid.ground.layout
+        ≡ areas_in (typed.orchestra orchestra.now) plot.now.events) }
     ensures within { OnOk result (limit_passed (areas_in (typed.orchestra orchestra.now) plot.now.events) ≡ None) }
     ensures limit { (hit : LimitHit) → result ≡ Err (or.Fault hit)
         → limit_passed (areas_in (typed.orchestra orchestra.now) plot.now.events) ≡ Some hit }
-    ensures zero_foot { IfOk result (λ m. IsFootOf m.ground.layout m.lowered.zero.perf m.feet.zero) }
-    ensures feet { IfOk result (λ m. AllZip (λ (i : Numbered) (foot : Footprint). IsFootOf m.ground.layout i.perf foot)
-        m.lowered.instruments m.feet.instruments.items) }
+    ensures zero_foot { IfOk result (λ m. IsFootOf m.laid.ground.layout m.lowered.zero.perf m.laid.feet.zero) }
+    ensures feet { IfOk result (λ m. AllZip (λ (i : Numbered)
+        (foot : Footprint). IsFootOf m.laid.ground.layout i.perf foot)
+        m.lowered.instruments m.laid.feet.instruments.items) }
 {
     let lowered = lower(alloc, orchestra)?;
-    let (ground, feet) = laid_out(alloc, orchestra, plot, &lowered)?;
-    Ok(Made {
-        lowered,
-        ground,
-        feet,
-    })
+    let laid = laid_out(alloc, orchestra, plot, &lowered)?;
+    Ok(Made { lowered, laid })
 }
 
 /// Tables and layout of a piece with these codes, and the footprints of the codes in it.
@@ -161,21 +167,22 @@ fn laid_out(
     orchestra: &TypedOrc,
     plot: &Plot,
     lowered: &Lowered,
-) -> Result<(Ground, Feet), Or<LimitHit>>
+) -> Result<Laid, Or<LimitHit>>
     requires performable { IsPerformable orchestra.now.head plot.now }
     requires instruments { AreInstrumentsOf (typed.orchestra orchestra.now) lowered.now.instruments }
-    ensures tables { IfOk result (λ p. map table_of p.0.tables.items ≡ tables_in (typed.orchestra orchestra.now) plot.now.events) }
-    ensures layout { IfOk result (λ p. p.0.layout ≡ areas_in (typed.orchestra orchestra.now) plot.now.events) }
+    ensures tables { IfOk result (λ l. map table_of l.ground.tables.items
+        ≡ tables_in (typed.orchestra orchestra.now) plot.now.events) }
+    ensures layout { IfOk result (λ l. l.ground.layout ≡ areas_in (typed.orchestra orchestra.now) plot.now.events) }
     ensures within { OnOk result (limit_passed (areas_in (typed.orchestra orchestra.now) plot.now.events) ≡ None) }
     ensures limit { (hit : LimitHit) → result ≡ Err (or.Fault hit)
         → limit_passed (areas_in (typed.orchestra orchestra.now) plot.now.events) ≡ Some hit }
-    ensures zero { IfOk result (λ p. IsFootOf p.0.layout lowered.now.zero.perf p.1.zero) }
-    ensures feet { IfOk result (λ p. AllZip (λ (i : Numbered) (foot : Footprint). IsFootOf p.0.layout i.perf foot)
-        lowered.now.instruments p.1.instruments.items) }
+    ensures zero { IfOk result (λ l. IsFootOf l.ground.layout lowered.now.zero.perf l.feet.zero) }
+    ensures feet { IfOk result (λ l. AllZip (λ (i : Numbered) (foot : Footprint). IsFootOf l.ground.layout i.perf foot)
+        lowered.now.instruments l.feet.instruments.items) }
 {
     let ground = ground_of(alloc, orchestra, plot, lowered)?;
     let feet = feet_of(alloc, lowered, &ground.layout)?;
-    Ok((ground, feet))
+    Ok(Laid { ground, feet })
 }
 
 /// The tables of a plot, and the layout of a piece with those of them that notes may change.
@@ -187,7 +194,8 @@ fn ground_of(
 ) -> Result<Ground, Or<LimitHit>>
     requires performable { IsPerformable orchestra.now.head plot.now }
     requires instruments { AreInstrumentsOf (typed.orchestra orchestra.now) lowered.now.instruments }
-    ensures tables { IfOk result (λ g. map table_of g.tables.items ≡ tables_in (typed.orchestra orchestra.now) plot.now.events) }
+    ensures tables { IfOk result (λ g. map table_of g.tables.items
+        ≡ tables_in (typed.orchestra orchestra.now) plot.now.events) }
     ensures layout { IfOk result (λ g. g.layout ≡ areas_in (typed.orchestra orchestra.now) plot.now.events) }
     ensures within { OnOk result (limit_passed (areas_in (typed.orchestra orchestra.now) plot.now.events) ≡ None) }
     ensures limit { (hit : LimitHit) → result ≡ Err (or.Fault hit)
@@ -205,11 +213,14 @@ fn layout_of(
     tables: &[PieceTable],
 ) -> Result<Layout, Or<LimitHit>>
     requires { AreApart (live_in (map table_of tables.now)) }
-    ensures layout { let areas = areas_of orchestra.now.head.ksmps (typed.shared_names orchestra.now.globals) (spaces_in (typed.orchestra orchestra.now)) (live_in (map table_of tables.now)) in
+    ensures layout { let areas = areas_of orchestra.now.head.ksmps (typed.shared_names orchestra.now.globals)
+        (typed.orchestra orchestra.now).spaces (live_in (map table_of tables.now)) in
         IfOk result (λ l. l ≡ areas) }
-    ensures within { let areas = areas_of orchestra.now.head.ksmps (typed.shared_names orchestra.now.globals) (spaces_in (typed.orchestra orchestra.now)) (live_in (map table_of tables.now)) in
+    ensures within { let areas = areas_of orchestra.now.head.ksmps (typed.shared_names orchestra.now.globals)
+        (typed.orchestra orchestra.now).spaces (live_in (map table_of tables.now)) in
         OnOk result (limit_passed areas ≡ None) }
-    ensures limit { let areas = areas_of orchestra.now.head.ksmps (typed.shared_names orchestra.now.globals) (spaces_in (typed.orchestra orchestra.now)) (live_in (map table_of tables.now)) in
+    ensures limit { let areas = areas_of orchestra.now.head.ksmps (typed.shared_names orchestra.now.globals)
+        (typed.orchestra orchestra.now).spaces (live_in (map table_of tables.now)) in
         (hit : LimitHit) → result ≡ Err (or.Fault hit) → limit_passed areas ≡ Some hit }
 {
     let live = live_of(alloc, tables)?;
@@ -218,8 +229,7 @@ fn layout_of(
         alloc,
         head.ksmps,
         &orchestra.globals,
-        orchestra.zak_k,
-        orchestra.zak_a,
+        orchestra.spaces,
         &live,
     )
 }
@@ -243,7 +253,8 @@ fn live_of(alloc: Global, tables: &[PieceTable]) -> Result<Vec<LiveTable>, OutOf
 /// The footprints of what is performed.
 fn feet_of(alloc: Global, lowered: &Lowered, layout: &Layout) -> Result<Feet, OutOfMemory>
     ensures zero { IfOk result (λ f. IsFootOf layout.now lowered.now.zero.perf f.zero) }
-    ensures instruments { IfOk result (λ f. AllZip (λ (i : Numbered) (foot : Footprint). IsFootOf layout.now i.perf foot)
+    ensures instruments { IfOk result (λ f. AllZip
+        (λ (i : Numbered) (foot : Footprint). IsFootOf layout.now i.perf foot)
         lowered.now.instruments f.instruments.items) }
 {
     Ok(Feet {
@@ -257,7 +268,8 @@ fn feet_of_all(
     instruments: &[Instrument],
     layout: &Layout,
 ) -> Result<Vec<Footprint>, OutOfMemory>
-    ensures { IfOk result (λ v. AllZip (λ (i : Numbered) (foot : Footprint). IsFootOf layout.now i.perf foot) instruments.now v.items) }
+    ensures { IfOk result (λ v. AllZip (λ (i : Numbered)
+        (foot : Footprint). IsFootOf layout.now i.perf foot) instruments.now v.items) }
 {
     let mut feet = Vec::new(alloc);
     for instrument in instruments {

@@ -15,13 +15,21 @@ ghost use Rattle.cs_voice.specs.declared.stage.Stage.{Stage};
 
 use crate::setup::Setup;
 use crate::tables::PieceTable;
-use cs_base::{Num, OutOfMemory};
+use cs_base::OutOfMemory;
 use cs_cells::Footprint;
 use cs_gen::Points;
 use cs_ir::Instrument;
 use cs_name_laws::notes_touch_what_there_is;
+use cs_ugen::FrozenTable;
 use cs_voice::{Stage, TableAt};
 use std::alloc::Global;
+
+/// What notes are played from: an instrument, or what stands outside of instruments, and the footprint of its cycle.
+#[derive(Clone, Copy)]
+pub struct Playable<'s> {
+    pub instrument: &'s Instrument,
+    pub foot: &'s Footprint,
+}
 
 impl Setup {
     /// What is so of each setup. It does nothing.
@@ -52,41 +60,49 @@ impl Setup {
         Stage {
             head: &self.orchestra.head,
             layout: &self.layout,
-            zak_k: self.orchestra.zak_k,
-            zak_a: self.orchestra.zak_a,
+            spaces: self.orchestra.spaces,
             tables,
         }
     }
 
     /// The instrument of a number, with its footprint. It takes as long as there are instruments, at most 200.
-    pub fn instrument(&self, number: i64) -> Option<(&Instrument, &Footprint)>
+    pub fn instrument(&self, number: i64) -> Option<Playable<'_>>
         ensures { MatchOption result ((composition_of self.now).instrument number ≡ None)
-            (λ p. (body : Block) × ((composition_of self.now).instrument number ≡ Some body) × (pos p.0.now.number ≡ number)
+            (λ p. (body : Block) × ((composition_of self.now).instrument number ≡ Some body)
+            × (pos p.instrument.now.number ≡ number)
             × ((stage : Stage) → IsStageOf (composition_of self.now) stage → stage.layout.now ≡ self.now.layout
-            → IsInstrumentOf stage p.0.now p.1.now body)) }
+            → IsInstrumentOf stage p.instrument.now p.foot.now body)) }
     {
         notes_touch_what_there_is();
         let instruments = self.lowered.instruments.as_slice();
         match place_of(instruments, number) {
-            Some(place) => Some((&instruments[place], &self.feet[place])),
+            Some(place) => Some(Playable {
+                instrument: &instruments[place],
+                foot: &self.feet[place],
+            }),
             None => None,
         }
     }
 
     /// What stands outside of instruments, with its footprint.
-    pub fn outside(&self) -> (&Instrument, &Footprint)
+    pub fn outside(&self) -> Playable<'_>
         ensures { (stage : Stage) → IsStageOf (composition_of self.now) stage → stage.layout.now ≡ self.now.layout
-            → IsInstrumentOf stage result.0.now result.1.now (composition_of self.now).outside }
+            → IsInstrumentOf stage result.instrument.now result.foot.now (composition_of self.now).outside }
     {
         notes_touch_what_there_is();
-        (&self.lowered.zero, &self.zero_foot)
+        Playable {
+            instrument: &self.lowered.zero,
+            foot: &self.zero_foot,
+        }
     }
 }
 
 /// The place of the instrument of a number.
 fn place_of(instruments: &[Instrument], number: i64) -> Option<usize>
-    ensures some { IfSome result (λ place. (place < length instruments.now) × (i : Numbered) × (slice_get instruments.now place ≡ Some i) × (pos i.number ≡ number)) }
-    ensures none { IfNone result ((k : ℕ) (i : Numbered) → slice_get instruments.now k ≡ Some i → pos i.number ≡ number → ⊥) }
+    ensures some { IfSome result (λ place. (place < length instruments.now) × (i : Numbered)
+        × (slice_get instruments.now place ≡ Some i) × (pos i.number ≡ number)) }
+    ensures none { IfNone result ((k : ℕ) (i : Numbered) → slice_get instruments.now k ≡ Some i
+        → pos i.number ≡ number → ⊥) }
 {
     for place in 0..instruments.len() {
         if has_number(&instruments[place], number) {
@@ -117,11 +133,11 @@ fn all_at(alloc: Global, tables: &[PieceTable]) -> Result<Vec<TableAt<'_>>, OutO
     Ok(list)
 }
 
-fn points_of(points: &Option<Points>) -> Option<&[Num]>
+fn points_of(points: &Option<Points>) -> Option<FrozenTable<'_>>
     ensures { frozen_in result ≡ points.now }
 {
     match points {
-        Some(points) => Some(points.as_slice()),
+        Some(points) => Some(FrozenTable::new(points.as_slice())),
         None => None,
     }
 }

@@ -56,15 +56,17 @@ struct Firsts<'p> {
     times: Vec<Times>,
 }
 
-/// The tables that events give, each number once, as it is given first; one has its points where it is given once alone and no
-/// code of an instrument may write it. It takes as long as there are events, ops of instruments and points.
+/// The tables that events give, each number once, as it is given first; one has its points where it is given once
+/// alone and no code of an instrument may write it. It takes as long as there are events, ops of instruments and
+/// points.
 pub(crate) fn tables_of(
     alloc: Global,
     lowered: &Lowered,
     events: &[Event],
 ) -> Result<Vec<PieceTable>, OutOfMemory>
     requires { All (λ e. IsActInRange e.act) events.now }
-    ensures { IfOk result (λ v. (o : typed.Orchestra) → AreInstrumentsOf o lowered.now.instruments → map table_of v.items ≡ tables_in o events.now) }
+    ensures { IfOk result (λ v. (o : typed.Orchestra) → AreInstrumentsOf o lowered.now.instruments
+        → map table_of v.items ≡ tables_in o events.now) }
 {
     let given = firsts_of(alloc, events)?;
     let written = written_by(alloc, lowered.instruments.as_slice())?;
@@ -102,7 +104,7 @@ fn firsts_of<'p>(alloc: Global, events: &'p [Event]) -> Result<Firsts<'p>, OutOf
     Ok(given)
 }
 
-/// So many numbers that aren't given.
+/// `count` numbers that aren't given.
 fn never(alloc: Global, count: usize) -> Result<Vec<Times>, OutOfMemory>
     ensures long { IfOk result (λ v. length v.items ≡ count) }
     ensures none { IfOk result (λ v. (n : ℕ) → times_at v.items n ≡ often.Never) }
@@ -116,7 +118,8 @@ impl<'p> Firsts<'p> {
         requires right { IsRight (given_of table) }
         requires long { length self.old.times.items ≡ numbers_end }
         requires all { All (λ x. IsRight (given_of x)) self.old.items.items }
-        ensures stand { OnOk result ((gs : List Given) → StandFor gs self.old → StandFor (gs ++ given_of table.entry ∷ []) self.new) }
+        ensures stand { OnOk result ((gs : List Given) → StandFor gs self.old
+            → StandFor (gs ++ given_of table.entry ∷ []) self.new) }
         ensures long { OnOk result (length self.new.times.items ≡ numbers_end) }
         ensures all { OnOk result (All (λ x. IsRight (given_of x)) self.new.items.items) }
     {
@@ -154,7 +157,8 @@ fn made_tables(
 ) -> Result<Vec<PieceTable>, OutOfMemory>
     requires right { All (λ x. IsRight (given_of x)) given.now }
     requires long { length times.now ≡ numbers_end }
-    ensures { IfOk result (λ v. map table_of v.items ≡ map (λ x. table_by times.now written.now (given_of x)) given.now) }
+    ensures { IfOk result (λ v. map table_of v.items
+        ≡ map (λ x. table_by times.now written.now (given_of x)) given.now) }
 {
     let mut tables = Vec::new(alloc);
     for first in given {
@@ -194,7 +198,8 @@ fn table_for(alloc: Global, first: &First<'_>, frozen: bool) -> Result<PieceTabl
 
 fn points_for(alloc: Global, first: &First<'_>, frozen: bool) -> Result<Option<Points>, OutOfMemory>
     requires { table_fault first.now.size first.now.gen_ first.now.args.now ≡ None }
-    ensures { IfOk result (λ p. p ≡ (if frozen then Some (points_of first.now.size first.now.gen_ first.now.args.now) else None)) }
+    ensures { IfOk result (λ p. p ≡ (if frozen then Some
+        (points_of first.now.size first.now.gen_ first.now.args.now) else None)) }
 {
     if !frozen {
         return Ok(None);

@@ -64,7 +64,8 @@ impl Written {
 
     /// Marks what the codes of an instrument may write.
     fn mark_codes(&mut self, instrument: &Instrument)
-        ensures { (n : ℕ) → n < numbers_end → is_marked self.new n ≡ (is_marked self.old n || codes_store n instrument.now) }
+        ensures { (n : ℕ) → n < numbers_end → is_marked self.new n
+            ≡ (is_marked self.old n || codes_store n instrument.now) }
     {
         self.mark_ops(&instrument.init().ops);
         self.mark_ops(&instrument.perf().ops);
@@ -96,7 +97,8 @@ fn mark_span(numbers: &mut [bool], first: usize, last: usize)
     requires { length numbers.old ≡ numbers_end }
     ensures long { length numbers.new ≡ numbers_end }
     ensures marked { (n : ℕ) → n < numbers_end
-        → slice_index_or numbers.new n false ≡ (slice_index_or numbers.old n false || (nat_le first n && nat_le n last)) }
+        → slice_index_or numbers.new n false ≡ (slice_index_or numbers.old n false ||
+        (nat_le first n && nat_le n last)) }
 {
     let end = last.min(NUMBERS_END - 1) + 1;
     for number in first..end {

@@ -6,7 +6,8 @@ use Rattle.cs_base.specs.declared.resource.Res.{Res}
 use Rattle.cs_base.specs.declared.resource.Res.TheVariants as res
 use Rattle.cs_cells.specs.declared.footprint.Area.{Area}
 use Rattle.cs_piece_meaning.specs.Moments.{Composition}
-use Rattle.cs_ir.specs.Resources.{Spaces, Stock}
+use Rattle.cs_base.specs.declared.spaces.Spaces.{Spaces}
+use Rattle.cs_ir.specs.Resources.{Stock}
 use Rattle.cs_layout.specs.Layouts.{Shared, areas_of, laid_from, numbered, of_tables, shared_by}
 use Rattle.cs_layout.specs.declared.areas.LiveTable.{LiveTable}
 use Rattle.cs_meaning.specs.Plain.{Table}

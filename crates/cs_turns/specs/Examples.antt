@@ -5,7 +5,8 @@ use Rattle.cs_base.specs.declared.resource.Rate.TheVariants as rate
 use Rattle.cs_base.specs.declared.resource.Res.TheVariants as res
 use Rattle.cs_piece_meaning.specs.Examples.{note}
 use Rattle.cs_piece_meaning.specs.Moments.{Composition}
-use Rattle.cs_ir.specs.Resources.{Spaces, Stock}
+use Rattle.cs_base.specs.declared.spaces.Spaces.{Spaces}
+use Rattle.cs_ir.specs.Resources.{Stock}
 use Rattle.cs_meaning.specs.Core.{Block, core}
 use Rattle.cs_meaning.specs.Examples.{no_code, reading_any, reading_first, whole, writing_first}
 use Rattle.cs_typed.specs.TypedTree.{number, var, set, call, value, Block as Statements, no_stmt, andthen}

@@ -44,8 +44,8 @@ share rs ss = list_any (is_among ss) rs
 abbrev pub conflict : Touched → Touched → Bool
 conflict p t = share p.writes t.uses || share t.writes p.uses
 
--- The turn of a note behind others, each with its turn: 0 where it conflicts with none of them, else one more than the greatest turn
--- of those with which it does.
+-- The turn of a note behind others, each with its turn: 0 where it conflicts with none of them, else one more than
+-- the greatest turn of those with which it does.
 abbrev pub turn_behind : List (Touched × ℕ) → Touched → ℕ
 turn_behind [] t = 0
 turn_behind (p ∷ earlier) t = max (if conflict p.0 t then p.1 + 1 else 0) (turn_behind earlier t)

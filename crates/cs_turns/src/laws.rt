@@ -13,8 +13,8 @@ ghost use Rattle.cs_typed.specs.TypedTree.{SharedNames};
 
 use cs_layout::layouts_are_complete;
 
-/// The levels of notes by their footprints are their turns, in areas with the stock of the piece: whatever way the levels were
-/// found.
+/// The levels of notes by their footprints are their turns, in areas with the stock of the piece: whatever way the
+/// levels were found.
 pub fn turns_are_levels()
     ensures { (c : Composition) (areas : List Area) (notes : List Active) (feet : List Footprint) (levels : List ℕ)
         → stock_of areas ≡ stock_in c → AllZip (λ (a : Active) (f : Footprint). IsFootOf areas a.body f) notes feet

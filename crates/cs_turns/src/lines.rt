@@ -10,7 +10,8 @@ use std::alloc::Global;
 /// Cycles from this one on have no line.
 const LINES_END: u32 = 1_000;
 
-/// Adds the line of a cycle whose notes have this graph, or nothing from cycle 1,000 on. Without memory nothing is added.
+/// Adds the line of a cycle whose notes have this graph, or nothing from cycle 1,000 on. Without memory nothing is
+/// added.
 pub fn add_turns(
     alloc: Global,
     turns: &mut Vec<u8>,
@@ -42,7 +43,8 @@ fn turn_line(alloc: Global, cycle: u32, graph: &Graph) -> Result<Vec<u8>, OutOfM
 
 // Adds each level after one blank.
 fn add_levels(line: &mut Vec<u8>, graph: &Graph) -> Result<(), OutOfMemory>
-    ensures { OnOk result (line.new.items ≡ line.old.items ++ flat_map (λ turn. codes " " ++ decimal turn) graph.now.levels) }
+    ensures { OnOk result (line.new.items ≡ line.old.items ++ flat_map
+        (λ turn. codes " " ++ decimal turn) graph.now.levels) }
 {
     for note in 0..graph.len() {
         add_level(line, graph.level(note))?;

@@ -1,7 +1,9 @@
 -- How all that is kept of a performance stands.
-use Rattle.std.specs.Prelude.{ℕ, Bool, ◌≡◌, ◌+◌, ◌*◌, ◌≤◌, List, length, map}
+use Rattle.std.specs.Prelude.{ℕ, ◌≡◌, ◌+◌, ◌*◌, ◌≤◌, List, length, map}
 use Rattle.cs_base.specs.Limits.{most_notes}
+use Rattle.cs_base.specs.Widths.{bytes_of}
 use Rattle.cs_base.specs.declared.head.Head.{Head}
+use Rattle.cs_base.specs.declared.width.SampleWidth.{SampleWidth}
 use Rattle.cs_piece_meaning.specs.Course.{opening, played_in}
 use Rattle.cs_piece_meaning.specs.Moments.{Composition, Moment}
 use Rattle.cs_desk.specs.Desk.{areas, cells, HasRoom}
@@ -9,7 +11,6 @@ use Rattle.cs_desk.specs.declared.receipt.Tally.{Tally}
 use Rattle.cs_life.specs.Standing.{Stands}
 use Rattle.cs_piece.specs.Setups.{SetupData, composition_of}
 use Rattle.cs_voice.specs.VoiceData.{VoiceData}
-use Rattle.cs_wav.specs.Wav.{bytes_of}
 use Rattle.cs_perform.specs.declared.blocks.Blocks.{Blocks}
 use Rattle.cs_perform.specs.declared.stand.Stand.{Stand}
 use Rattle.cs_perform.specs.declared.start.Start.{Start}
@@ -39,6 +40,6 @@ pub record AreBlocksOf (head : Head) (bytes : ℕ) (b : Blocks) : Type 0 where
   pub out : length b.out.items ≡ head.ksmps * head.nchnls * bytes
 
 -- what a performance begins with: all that is kept stands at the opening, and the blocks have place
-pub record IsStart (s : SetupData) (wide : Bool) (start : Start) : Type 0 where
+pub record IsStart (s : SetupData) (width : SampleWidth) (start : Start) : Type 0 where
   pub at : IsAt s start.stand (opening (composition_of s))
-  pub place : AreBlocksOf s.orchestra.head (bytes_of wide) start.blocks
+  pub place : AreBlocksOf s.orchestra.head (bytes_of width) start.blocks

@@ -19,8 +19,8 @@ start-requires-clause-tables g c =
 pub returns-clause-hold : goal.returns-clause-hold
 returns-clause-hold g c =
     subst (λ areas. Hold areas (cell (g.B.Bank.cells c.start.new.bank)) (outside_done (composition_of c.args.setup.now)).world.shared) c.requires.layout
-    (outside_holds (composition_of c.args.setup.now) c.args.stage c.outside.result.0.now c.outside.result.1.now c.args.made.now (g.B.Bank.cells c.args.bank.now)
+    (outside_holds (composition_of c.args.setup.now) c.args.stage c.outside.result.instrument.now c.outside.result.foot.now c.args.made.now (g.B.Bank.cells c.args.bank.now)
     (g.B.Bank.cells c.start.new.bank) (word_count c.args.setup.now.layout) c.requires.stage (c.outside.ensures c.args.stage c.requires.stage c.requires.layout)
     c.requires.made (same_piece (composition_of c.args.setup.now) c.args.stage c.args.made.now [] [] c.requires.stage c.requires.made) c.requires.cells
-    (c.in_ok-start.ensures.cells ∙ ap (λ fields. (initialised (sheet_at c.outside.result.0.now 0 c.outside.result.1.now c.args.stage c.args.made.now fields)
+    (c.in_ok-start.ensures.cells ∙ ap (λ fields. (initialised (sheet_at c.outside.result.instrument.now 0 c.outside.result.foot.now c.args.stage c.args.made.now fields)
     (cell (g.B.Bank.cells c.args.bank.now))).world.cells) c.new-fields.ensures.items))

@@ -6,10 +6,13 @@ use Rattle.cs_perform.specs.Performances.{if_told}
 use Rattle.cs_piece.specs.Setups.{composition_of}
 use Rattle.cs_turns.specs.Turns.{turn_lines_of}
 use Rattle.cs_tempo.specs.declared.plot.Plot.{Plot}
-use Rattle.cs_perform.specs.declared.order.PlayFault.TheVariants.{OutOfMemory}
+use Rattle.cs_perform.specs.declared.order.PlayFault.TheVariants.{OutOfMemory, Sink}
 use Rattle.cs_perform.proofs.Files.{error_as, faults_after, faults_begun, rose_later}
 use Rattle.cs_perform.proofs.Wholes.{all_written, part_begun, part_played, part_unclosed, part_unfinished, paused_between, paused_unclosed, whole}
 use Rattle.cs_perform.proofs.performance.play.Goals as goal
+
+pub frames_in-frames-requires : goal.frames_in-frames-requires
+frames_in-frames-requires g c = (c.args.order.width, c.requires.bytes)
 
 pub returns-in_default-clause-part : goal.returns-in_default-clause-part
 returns-in_default-clause-part g c =
@@ -40,12 +43,19 @@ returns-in_default-finish-clause-part g c =
     c.in-Ok.ensures.begun c.in-Ok-play_all.ensures.played.written)
     c.in_default-finish.ensures.stopped
 
+pub returns-in-Err-clause-sink : goal.returns-in-Err-clause-sink
+returns-in-Err-clause-sink g c e =
+    let a : (g.K.Sink.tells c.args.wav.now).faults ≤ (g.K.Sink.tells c.begin.new.wav).faults =
+    faults_begun g.K.Sink.tells c.args.order.output c.args.wav.now c.begin.new.wav c.args.name.now c.first_bytes-first.result c.in-Ok.ensures.begun in
+    let told = c.in-Err.ensures.sink (error_as c.in-Err.fault Sink e) in
+    (told.0, rose_later _ _ _ a told.1)
+
 pub returns-in_default-finish-clause-sink : goal.returns-in_default-finish-clause-sink
 returns-in_default-finish-clause-sink g c e =
     let a : (g.K.Sink.tells c.args.wav.now).faults ≤ (g.K.Sink.tells c.begin.new.wav).faults =
-    faults_begun g.K.Sink.tells c.args.order.write c.args.wav.now c.begin.new.wav c.args.name.now c.first_bytes-first.result c.in-Ok.ensures.begun in
+    faults_begun g.K.Sink.tells c.args.order.output c.args.wav.now c.begin.new.wav c.args.name.now c.first_bytes-first.result c.in-Ok.ensures.begun in
     let b : (g.K.Sink.tells c.begin.new.wav).faults ≤ (g.K.Sink.tells c.play_all.new.wav).faults =
-    faults_after g.K.Sink.tells c.args.order.write c.begin.new.wav c.play_all.new.wav _ c.in-Ok-play_all.ensures.played.written in
+    faults_after g.K.Sink.tells c.args.order.output c.begin.new.wav c.play_all.new.wav _ c.in-Ok-play_all.ensures.played.written in
     (c.in_default-finish.ensures.told, rose_later _ _ _ (omega (arith, a, b)) (c.in_default-finish.ensures.cause.rose refl))
 
 pub returns-clause-whole : goal.returns-clause-whole

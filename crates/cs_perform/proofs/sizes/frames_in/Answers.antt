@@ -2,7 +2,6 @@ use Rattle.std.proofs.Common.{◌≡◌, ◌≤◌, ◌*◌, ℕ, ap, ◌∙◌,
 use Rattle.cs_base.specs.Limits.{most_wav_bytes}
 use Rattle.cs_tempo.specs.declared.plot.Plot.{Plot}
 use Rattle.cs_typed.specs.declared.tree.TypedOrc.{TypedOrc}
-use Rattle.cs_wav.specs.Wav.{bytes_of}
 use Rattle.cs_perform.proofs.Cycles.{frames_fit, some_width}
 use Rattle.cs_perform.proofs.sizes.frames_in.Goals as goal
 
@@ -12,5 +11,5 @@ overflow_mul-result c =
     ap (λ (p : Plot). p.cycles * c.orchestra.result.now.head.ksmps) c.plot.ensures
     ∙ ap (λ (o : TypedOrc). c.args.setup.now.plot.cycles * o.head.ksmps) c.orchestra.ensures in
     let fits : c.args.setup.now.plot.cycles * c.args.setup.now.orchestra.head.ksmps ≤ most_wav_bytes =
-    frames_fit _ _ _ _ c.requires (some_width c.args._wide) c.args.setup.now.orchestra.head.nchnls_in_range.0 in
+    frames_fit _ _ _ _ c.requires.1 (some_width c.requires.0) c.args.setup.now.orchestra.head.nchnls_in_range.0 in
     omega (arith, is, fits)

@@ -16,20 +16,20 @@ returns-in-None-clause-started g c = λ m st.
 
 pub returns-then-not-has_room-clause-started : goal.returns-then-not-has_room-clause-started
 returns-then-not-has_room-clause-started g c = λ m st.
-    let there : IsThere (composition_of c.args.self.now.setup.now) c.args.self.now.setup.now.layout c.args.number c.in-Some.instrument.now c.in-Some.foot.now = search rules in
+    let there : IsThere (composition_of c.args.self.now.setup.now) c.args.self.now.setup.now.layout c.args.number c.in-Some.playable.instrument.now c.in-Some.playable.foot.now = search rules in
     let full : (c.args.cycles == 0 || nat_lt (length c.args.voices.now.items) most_notes) ≡ false = search rules in
     let s : Start = record { number = c.args.number; cycles = c.args.cycles; fields = c.args.fields.items } in
     too_many (composition_of c.args.self.now.setup.now) c.args.now m c.args.self.now c.start_nothing-then-not-has_room.new.self c.args.voices.now.items c.args.voices.now.items
-    (g.B.Bank.cells c.args.bank.now) (g.B.Bank.cells c.args.bank.now) s c.in-Some.instrument.now c.in-Some.foot.now c.args.self.now.setup.now.layout there st full
+    (g.B.Bank.cells c.args.bank.now) (g.B.Bank.cells c.args.bank.now) s c.in-Some.playable.instrument.now c.in-Some.playable.foot.now c.args.self.now.setup.now.layout there st full
     (c.start_nothing-then-not-has_room.ensures.counted _ _ _ m st)
 
 pub returns-else-not-has_room-clause-started : goal.returns-else-not-has_room-clause-started
 returns-else-not-has_room-clause-started g c =
     on_ok_weaker c.begin.result
     (λ f m st.
-    let there : IsThere (composition_of c.args.self.now.setup.now) c.args.self.now.setup.now.layout c.args.number c.in-Some.instrument.now c.in-Some.foot.now = search rules in
+    let there : IsThere (composition_of c.args.self.now.setup.now) c.args.self.now.setup.now.layout c.args.number c.in-Some.playable.instrument.now c.in-Some.playable.foot.now = search rules in
     let any : (c.args.cycles == 0 || nat_lt (length c.args.voices.now.items) most_notes) ≡ true = search rules in
     let s : Start = record { number = c.args.number; cycles = c.args.cycles; fields = c.args.fields.items } in
     there_is_room (composition_of c.args.self.now.setup.now) c.args.now m c.args.self.now c.begin.new.self c.args.voices.now.items c.begin.new.voices.items
-    (g.B.Bank.cells c.args.bank.now) (g.B.Bank.cells c.begin.new.bank) s c.in-Some.instrument.now c.in-Some.foot.now there st any f)
+    (g.B.Bank.cells c.args.bank.now) (g.B.Bank.cells c.begin.new.bank) s c.in-Some.playable.instrument.now c.in-Some.playable.foot.now there st any f)
     c.begin.ensures.begun

@@ -6,5 +6,5 @@ use Rattle.cs_piece.proofs.setup.Setup.stage.Goals as goal
 pub returns-clause-stage : goal.returns-clause-stage
 returns-clause-stage c =
     is_stage c.args.self.now (subst IsSetup c.self.view_is c.self.invariant) _ (ap (λ (s : SetupData). s.orchestra.head) c.self.view_is)
-    (ap (λ (s : SetupData). s.layout) c.self.view_is) (ap (λ (s : SetupData). s.orchestra.zak_k) c.self.view_is) (ap (λ (s : SetupData). s.orchestra.zak_a) c.self.view_is)
+    (ap (λ (s : SetupData). s.layout) c.self.view_is) (ap (λ (s : SetupData). s.orchestra.spaces) c.self.view_is)
     c.requires
