@@ -6,7 +6,7 @@ use Rattle.std.proofs.lemmas.Slice.Eq.{bytes_eq-Decides}
 use Rattle.clap.specs.ValueTests.{is_signed_in, is_numeral, fits_i64}
 use Rattle.clap.specs.Walk.{arg_by_short, arg_by_long}
 use Rattle.cs_arguments.specs.Reading.{Text, is_number, is_flag_letter, is_value_letter, is_flag_name, is_value_name}
-use Rattle.cs_arguments.specs.Workers.{most_workers, most_notes}
+use Rattle.cs_arguments.specs.Ranges.{most_workers, most_demo_notes}
 use Rattle.cs_arguments.specs.Command.{flag_rule, option_rule, the_rules}
 use Rattle.cs_arguments.proofs.Chars.{each_flag, each_value}
 use Rattle.cs_arguments.proofs.Walking.{IsFlagKey, IsKey, Judges}
@@ -51,7 +51,7 @@ workers_judged : Judges (codes "j")
 workers_judged v = judged most_workers (omega arith) v
 
 notes_judged : Judges (codes "demo")
-notes_judged v = judged most_notes (omega arith) v
+notes_judged v = judged most_demo_notes (omega arith) v
 
 -- ---- names
 

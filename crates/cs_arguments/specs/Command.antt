@@ -6,7 +6,7 @@ use Rattle.clap.specs.declared.builder.action.ArgAction.TheVariants.{Set, SetTru
 use Rattle.clap.specs.declared.builder.value_parser.ValueParser.{ValueParser}
 use Rattle.clap.specs.declared.builder.value_parser.ValueParser.TheVariants as vp
 use Rattle.cs_arguments.specs.Reading.{Text}
-use Rattle.cs_arguments.specs.Workers.{most_workers, most_notes}
+use Rattle.cs_arguments.specs.Ranges.{most_workers, most_demo_notes}
 
 -- ---- as it is made
 
@@ -17,7 +17,7 @@ made_flag key long short = record (new_rule key) { long = long; short = short; a
 abbrev pub parser_of : Text → ValueParser
 parser_of key =
     if bytes_eq key (codes "j") then vp.Signed (pos 1) (pos most_workers)
-    else (if bytes_eq key (codes "demo") then vp.Signed (pos 1) (pos most_notes) else vp.NonEmptyString)
+    else (if bytes_eq key (codes "demo") then vp.Signed (pos 1) (pos most_demo_notes) else vp.NonEmptyString)
 
 abbrev pub made_option : Text → Option Text → Option ℕ → Rule
 made_option key long short =

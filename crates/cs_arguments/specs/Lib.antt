@@ -1,6 +1,7 @@
 pub mod Orders
 pub mod Reading
 pub mod Usage
-pub mod Workers
+pub mod Ranges
 pub mod Command
 pub mod Taken
+pub mod Worked

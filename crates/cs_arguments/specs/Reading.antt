@@ -4,9 +4,9 @@ use Rattle.std.specs.Prelude.{ℕ, Bool, true, false, not, ◌&&◌, ◌||◌, �
 use Rattle.std.specs.List.{list_all, list_any, before_first, after_first, ends_with}
 use Rattle.std.specs.Char.{digit_value}
 use Rattle.std.specs.Str.Parse.{digits_value, without_leading_plus}
-use Rattle.cs_arguments.specs.Workers.{most_workers, most_notes}
-use Rattle.cs_arguments.specs.declared.order.SampleWidth.{SampleWidth}
-use Rattle.cs_arguments.specs.declared.order.SampleWidth.TheVariants as width
+use Rattle.cs_arguments.specs.Ranges.{most_workers, most_demo_notes}
+use Rattle.cs_base.specs.declared.width.SampleWidth.{SampleWidth}
+use Rattle.cs_base.specs.declared.width.SampleWidth.TheVariants as width
 
 -- the bytes of a word
 abbrev pub Text : Type 0
@@ -148,7 +148,7 @@ number_of text = digits_value 10 (without_leading_plus text)
 abbrev pub is_value : Use → Bool
 is_value u =
     if bytes_eq u.0 (codes "j") then is_number most_workers u.1
-    else (if bytes_eq u.0 (codes "demo") then is_number most_notes u.1
+    else (if bytes_eq u.0 (codes "demo") then is_number most_demo_notes u.1
     else (if bytes_eq u.0 (codes "o") || (bytes_eq u.0 (codes "ORC") || bytes_eq u.0 (codes "SCO"))
     then nat_lt 0 (length u.1)
     else bytes_eq u.1 (codes "true")))

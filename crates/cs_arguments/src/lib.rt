@@ -5,12 +5,14 @@
 //! definition; they may be changed without anyone above noticing, the definition may not.
 //!
 //! To be read in this order: specs/Reading.antt (the definition), `order` (what comes out), `usage` (the line that says how
-//! the program is called); then the proofs, each on those before it: Chars, Walking, Rules, Letters, Forms, Turns, Whole,
+//! the program is called), `worked` (words read by hand); then the proofs, each on those before it: Chars, Walking, Rules, Letters, Forms, Turns, Whole,
 //! Command, Ends, Values.
 #![tactic(auto)]
 
 mod order;
 mod usage;
+mod worked;
 
-pub use order::{DemoNotes, Order, SampleWidth, Source, Workers};
+pub use order::{DemoNotes, Order, Source, Workers};
 pub use usage::usage_line;
+pub use worked::{words_with_a_reading, words_without_a_reading};

@@ -1,7 +1,8 @@
 // What the words ask for, as the program takes it.
 ghost use Rattle.std.specs.Prelude.{◌≡◌};
-ghost use Rattle.cs_arguments.specs.Workers.{IsFromOneTo, most_workers, most_notes};
+ghost use Rattle.cs_arguments.specs.Ranges.{IsFromOneTo, most_workers, most_demo_notes};
 
+use cs_base::SampleWidth;
 use std::marker::Model;
 
 /// How many workers share the notes of a cycle: 1 to 32. Contracts see the number.
@@ -12,7 +13,7 @@ pub struct Workers {
 
 impl Model for Workers {
     ghost use Rattle.std.specs.Prelude.{ℕ};
-    ghost use Rattle.cs_arguments.specs.Workers.{IsFromOneTo, most_workers};
+    ghost use Rattle.cs_arguments.specs.Ranges.{IsFromOneTo, most_workers};
 
     ghost Value = { ℕ };
 
@@ -24,7 +25,7 @@ impl Model for Workers {
 }
 
 impl Workers {
-    /// So many workers, from 1 to 32.
+    /// `number` workers, from 1 to 32.
     pub fn new(number: u32) -> Workers
         requires { IsFromOneTo most_workers number }
         ensures { result ≡ number }
@@ -32,7 +33,7 @@ impl Workers {
         Workers { number }
     }
 
-    /// How many they are, from 1 to 32.
+    /// The number of workers, from 1 to 32.
     pub fn number(self) -> u32
         ensures value { result ≡ self }
         ensures range { IsFromOneTo most_workers result }
@@ -49,42 +50,33 @@ pub struct DemoNotes {
 
 impl Model for DemoNotes {
     ghost use Rattle.std.specs.Prelude.{ℕ};
-    ghost use Rattle.cs_arguments.specs.Workers.{IsFromOneTo, most_notes};
+    ghost use Rattle.cs_arguments.specs.Ranges.{IsFromOneTo, most_demo_notes};
 
     ghost Value = { ℕ };
 
     ghost view = { λ w. w.number };
 
-    ghost invariant = { λ w. IsFromOneTo most_notes w.number };
+    ghost invariant = { λ w. IsFromOneTo most_demo_notes w.number };
 
     ghost inverse = { λ n. record { number = n } };
 }
 
 impl DemoNotes {
-    /// So many notes, from 1 to 10,000.
+    /// `number` notes, from 1 to 10,000.
     pub fn new(number: u32) -> DemoNotes
-        requires { IsFromOneTo most_notes number }
+        requires { IsFromOneTo most_demo_notes number }
         ensures { result ≡ number }
     {
         DemoNotes { number }
     }
 
-    /// How many they are, from 1 to 10,000.
+    /// The number of notes, from 1 to 10,000.
     pub fn number(self) -> u32
         ensures value { result ≡ self }
-        ensures range { IsFromOneTo most_notes result }
+        ensures range { IsFromOneTo most_demo_notes result }
     {
         self.number
     }
-}
-
-/// How many bytes a sample takes in the sound file.
-#[derive(Clone, Copy)]
-pub enum SampleWidth {
-    /// 16 bits.
-    TwoBytes,
-    /// 24 bits.
-    ThreeBytes,
 }
 
 /// Where orchestra and score come from. No name is empty.
@@ -94,7 +86,7 @@ pub enum Source<'w> {
     TwoFiles { orchestra: &'w str, score: &'w str },
     /// One file with both, whose name ends in `.csd`.
     OneFile { csd: &'w str },
-    /// The program's own piece, of so many notes.
+    /// The program's own piece, of this number of notes.
     Demo { notes: DemoNotes },
 }
 

@@ -6,8 +6,8 @@ use Rattle.std.proofs.lemmas.Slice.Eq.{bytes_eq-Decides}
 use Rattle.clap.specs.Matches.{ReadsOne, found_of, one_text}
 use Rattle.clap.specs.declared.parser.matches.ArgMatches.{ArgMatches}
 use Rattle.cs_arguments.specs.Reading.{Piece, Text, Use, asked_by, asked_of, has_use, number_of, piece_of, value_of, width_of}
-use Rattle.cs_arguments.specs.Workers.{most_workers, most_notes}
-use Rattle.cs_arguments.specs.declared.order.SampleWidth.{SampleWidth}
+use Rattle.cs_arguments.specs.Ranges.{most_workers, most_demo_notes}
+use Rattle.cs_base.specs.declared.width.SampleWidth.{SampleWidth}
 use Rattle.cs_arguments.proofs.Values.{IsCounted, IsFlag, flag_is, number_for, number_in, number_is}
 use Rattle.cs_command.specs.inner.Matched.{Holds}
 
@@ -19,7 +19,7 @@ IsU32 {E} G = (u : Text) (x : Result ℕ E) → G u x → ParsesUnsigned 32 10 u
 pub workers_counted : IsCounted most_workers (codes "j")
 workers_counted = (refl, refl, λ v. refl)
 
-pub notes_counted : IsCounted most_notes (codes "demo")
+pub notes_counted : IsCounted most_demo_notes (codes "demo")
 notes_counted = (refl, refl, λ v. refl)
 
 pub number_given : (E : Type 0) (G : Text → Result ℕ E → Type 0) (most : ℕ) (key : Text) → IsCounted most key → most < 4294967296 → IsU32 G → (m : ArgMatches) (uses : List Use) → Holds uses m

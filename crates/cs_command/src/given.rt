@@ -5,7 +5,8 @@ ghost use Rattle.cs_arguments.specs.Reading.{Use, asked_by, has_use, number_of, 
 ghost use Rattle.cs_command.specs.inner.Matched.{Holds};
 
 use clap::ArgMatches;
-use cs_arguments::{DemoNotes, Order, SampleWidth, Source, Workers};
+use cs_arguments::{DemoNotes, Order, Source, Workers};
+use cs_base::SampleWidth;
 
 /// The order that the matches hold; None where names and `--demo` don't fit each other.
 pub fn order_of<'w>(matches: &ArgMatches<'w>) -> Option<Order<'w>>

@@ -7,7 +7,7 @@ use Rattle.cs_edge.specs.Moves.{Finished, Held, SinkTold}
 use Rattle.cs_edge.specs.Told.{Follows, Rose}
 use Rattle.cs_perform.specs.Hearing.{IfWritten}
 use Rattle.cs_play.specs.Alike.{AreTexts, AskAlike, HoldAlike, SoundAlike, TellAlike}
-use Rattle.cs_play.specs.Endings.{EndsBy, IsLoaded, IsOk, Reads, WasPerformed, is_wide}
+use Rattle.cs_play.specs.Endings.{EndsBy, IsLoaded, IsOk, Reads, WasPerformed, output_of}
 use Rattle.cs_play.specs.Runs.{IsRun}
 use Rattle.cs_play.specs.Scene.{Scene, Sight}
 use Rattle.cs_report.specs.Status.{refusal}
@@ -17,6 +17,8 @@ use Rattle.cs_arguments.specs.Reading.{Asked, Piece, Text, reading}
 use Rattle.cs_source.specs.Loaded.{SourceMeans}
 use Rattle.cs_source.specs.Meaning.{Mean}
 use Rattle.cs_source.specs.Texts.{LackWhereTold, Texts}
+use Rattle.cs_base.specs.declared.width.SampleWidth.{SampleWidth}
+use Rattle.cs_base.specs.declared.refusal.Refusal.TheVariants as why
 use Rattle.cs_csd.specs.declared.refused.Refused.{Refused}
 use Rattle.cs_csd.specs.declared.refused.Refused.TheVariants as refused
 use Rattle.cs_typed.specs.Places.{Header}
@@ -39,7 +41,7 @@ module _ {F K T B : Type 0} (see : Sight F K T B) where
   not_loaded : NoneLacking → (asked : Asked) (before now : Scene F K T B) (r : Result Composition Refused) (name : List ℕ)
       → LackWhereTold (see.shelf before.shelf).files asked.piece name → IsLoaded see asked before now r → ⊥
   not_loaded none asked before now r name lack loaded =
-      source_lacks none (see.shelf before.shelf) (is_wide asked.width) asked.piece r name loaded.means lack
+      source_lacks none (see.shelf before.shelf) asked.width asked.piece r name loaded.means lack
 
   lack_is : (words : List Text) (before : Scene F K T B) (a b : Asked) (name : List ℕ) → reading words ≡ Some a → reading words ≡ Some b
       → LackWhereTold (see.shelf before.shelf).files a.piece name → LackWhereTold (see.shelf before.shelf).files b.piece name
@@ -58,11 +60,11 @@ module _ {F K T B : Type 0} (see : Sight F K T B) where
   lacking_ends none words status.SinkFault before now a name e lack ended =
       absurd (not_loaded none ended.0 before now (Ok ended.2.c) name (lack_is words before a ended.0 name e ended.1 lack) ended.2.loaded)
   lacking_ends none words (status.OrcRefused f) before now a name e lack ended =
-      absurd (not_loaded none ended.0 before now (Err (refused.Orc f)) name (lack_is words before a ended.0 name e ended.1 lack) ended.2.loaded)
+      absurd (not_loaded none ended.0 before now (Err (refused.Texts (why.Orc f))) name (lack_is words before a ended.0 name e ended.1 lack) ended.2.loaded)
   lacking_ends none words (status.ScoreRefused f) before now a name e lack ended =
-      absurd (not_loaded none ended.0 before now (Err (refused.Score f)) name (lack_is words before a ended.0 name e ended.1 lack) ended.2.loaded)
+      absurd (not_loaded none ended.0 before now (Err (refused.Texts (why.Score f))) name (lack_is words before a ended.0 name e ended.1 lack) ended.2.loaded)
   lacking_ends none words (status.Limit h) before now a name e lack ended =
-      absurd (not_loaded none ended.0 before now (Err (refused.Limit h)) name (lack_is words before a ended.0 name e ended.1 lack) ended.2.loaded)
+      absurd (not_loaded none ended.0 before now (Err (refused.Texts (why.Limit h))) name (lack_is words before a ended.0 name e ended.1 lack) ended.2.loaded)
   lacking_ends none words (status.CsdRefused f) before now a name e lack ended =
       absurd (not_loaded none ended.0 before now (Err (refused.Csd f)) name (lack_is words before a ended.0 name e ended.1 lack) ended.2.loaded)
 
@@ -72,11 +74,11 @@ module _ {F K T B : Type 0} (see : Sight F K T B) where
 
   -- TEXTS that are known: what was loaded is what they mean
   means : OneMeaning → OnePair → (words : List Text) (before now : Scene F K T B) (asked a : Asked) (t : Texts) (r q : Result Composition Refused)
-      → reading words ≡ Some asked → AreTexts (see.shelf before.shelf).files asked.piece t → Mean (is_wide asked.width) t r
+      → reading words ≡ Some asked → AreTexts (see.shelf before.shelf).files asked.piece t → Mean asked.width t r
       → reading words ≡ Some a → IsLoaded see a before now q → r ≡ q
   means meaning pair words before now asked a t r q e known mean h loaded =
       let P : Asked → Type 0 = λ x. IsLoaded see x before now q in
-      source_means meaning pair (see.shelf before.shelf) (is_wide asked.width) asked.piece t r q known mean
+      source_means meaning pair (see.shelf before.shelf) asked.width asked.piece t r q known mean
       (let l : IsLoaded see asked before now q = subst P (one_asked (reading words) a asked h e) loaded in l.means)
 
   -- and the shelf can't read only where it failed
@@ -90,7 +92,7 @@ module _ {F K T B : Type 0} (see : Sight F K T B) where
 
   refusal_ends : OneMeaning → OnePair → NoneLacking → (words : List Text) (s : Status) (before now : Scene F K T B) (asked : Asked) (t : Texts) (r : Refused)
       → EndsBy see s words before now → reading words ≡ Some asked → AreTexts (see.shelf before.shelf).files asked.piece t
-      → Mean (is_wide asked.width) t (Err r) → ¬ (Rose (see.shelf before.shelf).faults (see.shelf now.shelf).faults)
+      → Mean asked.width t (Err r) → ¬ (Rose (see.shelf before.shelf).faults (see.shelf now.shelf).faults)
       → (s ≡ refusal r) ⊎ (s ≡ status.OutOfMemory)
   refusal_ends m p none words status.OutOfMemory before now asked t r ended e known mean calm = inr refl
   refusal_ends m p none words status.Usage before now asked t r ended e known mean calm = absurd (no_asked (reading words) asked ended.unread e)
@@ -103,24 +105,24 @@ module _ {F K T B : Type 0} (see : Sight F K T B) where
   refusal_ends m p none words status.SinkFault before now asked t r ended e known mean calm =
       absurd (refused_composition ended.2.c r (sym (means m p words before now asked ended.0 t (Err r) (Ok ended.2.c) e known mean ended.1 ended.2.loaded)))
   refusal_ends m p none words (status.OrcRefused f) before now asked t r ended e known mean calm =
-      inl (ap refusal (sym (same_refusal r (refused.Orc f) (means m p words before now asked ended.0 t (Err r) (Err (refused.Orc f)) e known mean ended.1 ended.2.loaded))))
+      inl (ap refusal (sym (same_refusal r (refused.Texts (why.Orc f)) (means m p words before now asked ended.0 t (Err r) (Err (refused.Texts (why.Orc f))) e known mean ended.1 ended.2.loaded))))
   refusal_ends m p none words (status.ScoreRefused f) before now asked t r ended e known mean calm =
-      inl (ap refusal (sym (same_refusal r (refused.Score f) (means m p words before now asked ended.0 t (Err r) (Err (refused.Score f)) e known mean ended.1 ended.2.loaded))))
+      inl (ap refusal (sym (same_refusal r (refused.Texts (why.Score f)) (means m p words before now asked ended.0 t (Err r) (Err (refused.Texts (why.Score f))) e known mean ended.1 ended.2.loaded))))
   refusal_ends m p none words (status.Limit h) before now asked t r ended e known mean calm =
-      inl (ap refusal (sym (same_refusal r (refused.Limit h) (means m p words before now asked ended.0 t (Err r) (Err (refused.Limit h)) e known mean ended.1 ended.2.loaded))))
+      inl (ap refusal (sym (same_refusal r (refused.Texts (why.Limit h)) (means m p words before now asked ended.0 t (Err r) (Err (refused.Texts (why.Limit h))) e known mean ended.1 ended.2.loaded))))
   refusal_ends m p none words (status.CsdRefused f) before now asked t r ended e known mean calm =
       inl (ap refusal (sym (same_refusal r (refused.Csd f) (means m p words before now asked ended.0 t (Err r) (Err (refused.Csd f)) e known mean ended.1 ended.2.loaded))))
 
   pub refusals : OneMeaning → OnePair → NoneLacking → (words : List Text) (s : Status) (before now : Scene F K T B) (asked : Asked) (t : Texts) (r : Refused)
       → IsRun see words s before now → reading words ≡ Some asked → AreTexts (see.shelf before.shelf).files asked.piece t
-      → Mean (is_wide asked.width) t (Err r) → ¬ (Rose (see.shelf before.shelf).faults (see.shelf now.shelf).faults)
+      → Mean asked.width t (Err r) → ¬ (Rose (see.shelf before.shelf).faults (see.shelf now.shelf).faults)
       → (s ≡ refusal r) ⊎ (s ≡ status.OutOfMemory)
   refusals m p none words s before now asked t r run e known mean calm =
       refusal_ends m p none words s before now asked t r run.ended e known mean calm
 
   sound_ends : OneMeaning → OnePair → NoneLacking → (words : List Text) (s : Status) (before now : Scene F K T B) (asked : Asked) (t : Texts) (c : Composition)
       → EndsBy see s words before now → reading words ≡ Some asked → AreTexts (see.shelf before.shelf).files asked.piece t
-      → Mean (is_wide asked.width) t (Ok c) → ¬ (Rose (see.shelf before.shelf).faults (see.shelf now.shelf).faults)
+      → Mean asked.width t (Ok c) → ¬ (Rose (see.shelf before.shelf).faults (see.shelf now.shelf).faults)
       → ¬ (Rose (see.wav before.wav).faults (see.wav now.wav).faults) → ¬ (Rose (see.talk before.talk).faults (see.talk now.talk).faults)
       → (s ≡ status.Ok) ⊎ (s ≡ status.OutOfMemory)
   sound_ends m p none words status.Ok before now asked t c ended e known mean calm still silent = inl refl
@@ -131,17 +133,17 @@ module _ {F K T B : Type 0} (see : Sight F K T B) where
   sound_ends m p none words status.TalkFault before now asked t c ended e known mean calm still silent = absurd (silent ended.2.report.rose)
   sound_ends m p none words status.SinkFault before now asked t c ended e known mean calm still silent = absurd (still ended.2.rose)
   sound_ends m p none words (status.OrcRefused f) before now asked t c ended e known mean calm still silent =
-      absurd (refused_composition c (refused.Orc f) (means m p words before now asked ended.0 t (Ok c) (Err (refused.Orc f)) e known mean ended.1 ended.2.loaded))
+      absurd (refused_composition c (refused.Texts (why.Orc f)) (means m p words before now asked ended.0 t (Ok c) (Err (refused.Texts (why.Orc f))) e known mean ended.1 ended.2.loaded))
   sound_ends m p none words (status.ScoreRefused f) before now asked t c ended e known mean calm still silent =
-      absurd (refused_composition c (refused.Score f) (means m p words before now asked ended.0 t (Ok c) (Err (refused.Score f)) e known mean ended.1 ended.2.loaded))
+      absurd (refused_composition c (refused.Texts (why.Score f)) (means m p words before now asked ended.0 t (Ok c) (Err (refused.Texts (why.Score f))) e known mean ended.1 ended.2.loaded))
   sound_ends m p none words (status.Limit h) before now asked t c ended e known mean calm still silent =
-      absurd (refused_composition c (refused.Limit h) (means m p words before now asked ended.0 t (Ok c) (Err (refused.Limit h)) e known mean ended.1 ended.2.loaded))
+      absurd (refused_composition c (refused.Texts (why.Limit h)) (means m p words before now asked ended.0 t (Ok c) (Err (refused.Texts (why.Limit h))) e known mean ended.1 ended.2.loaded))
   sound_ends m p none words (status.CsdRefused f) before now asked t c ended e known mean calm still silent =
       absurd (refused_composition c (refused.Csd f) (means m p words before now asked ended.0 t (Ok c) (Err (refused.Csd f)) e known mean ended.1 ended.2.loaded))
 
   pub sounds : OneMeaning → OnePair → NoneLacking → (words : List Text) (s : Status) (before now : Scene F K T B) (asked : Asked) (t : Texts) (c : Composition)
       → IsRun see words s before now → reading words ≡ Some asked → AreTexts (see.shelf before.shelf).files asked.piece t
-      → Mean (is_wide asked.width) t (Ok c) → ¬ (Rose (see.shelf before.shelf).faults (see.shelf now.shelf).faults)
+      → Mean asked.width t (Ok c) → ¬ (Rose (see.shelf before.shelf).faults (see.shelf now.shelf).faults)
       → ¬ (Rose (see.wav before.wav).faults (see.wav now.wav).faults) → ¬ (Rose (see.talk before.talk).faults (see.talk now.talk).faults)
       → (s ≡ status.Ok) ⊎ (s ≡ status.OutOfMemory)
   sounds m p none words s before now asked t c run e known mean calm still silent =
@@ -170,18 +172,18 @@ file_held before now name bytes f = held_is before.held now.held (record { name 
 
 -- the sound file of a run that isn't silent
 written_is : {W : Type 0} (tells : W → SinkTold) (silent : Bool) (before now : W) (P : SinkTold → SinkTold → Type 0) → silent ≡ false
-    → IfWritten tells (not silent) before now P → P (tells before) (tells now)
+    → IfWritten tells (output_of silent) before now P → P (tells before) (tells now)
 written_is tells true before now P e w = absurd (let h : true ≡ false = e in cc)
 written_is tells false before now P e w = w
 
 -- a file is known by its frames and by the numbers of its header
-same_numbers : (frames : List ℤ) (wide : Bool) (a b : Head) → a.sr ≡ b.sr → a.nchnls ≡ b.nchnls → a.dbfs ≡ b.dbfs → wav_of frames a wide ≡ wav_of frames b wide
+same_numbers : (frames : List ℤ) (width : SampleWidth) (a b : Head) → a.sr ≡ b.sr → a.nchnls ≡ b.nchnls → a.dbfs ≡ b.dbfs → wav_of frames a width ≡ wav_of frames b width
 unfolding wav_of header_bytes
-same_numbers frames wide a b e f g = cc
+same_numbers frames width a b e f g = cc
 
-same_wav : (frames : List ℤ) (wide : Bool) (a b : Head) → header_of_head a ≡ header_of_head b → wav_of frames a wide ≡ wav_of frames b wide
-same_wav frames wide a b e =
-    same_numbers frames wide a b (ap (λ (h : Header). h.sr) e) (ap (λ (h : Header). h.nchnls) e) (ap (λ (h : Header). h.dbfs) e)
+same_wav : (frames : List ℤ) (width : SampleWidth) (a b : Head) → header_of_head a ≡ header_of_head b → wav_of frames a width ≡ wav_of frames b width
+same_wav frames width a b e =
+    same_numbers frames width a b (ap (λ (h : Header). h.sr) e) (ap (λ (h : Header). h.nchnls) e) (ap (λ (h : Header). h.dbfs) e)
 
 held_same : (name name' : List ℕ) (bytes bytes' : List ℕ) → name ≡ name' → bytes ≡ bytes'
     → (let h : Held = record { name = Some name; bytes = bytes } in h) ≡ record { name = Some name'; bytes = bytes' }
@@ -192,29 +194,29 @@ module _ {F K T B F' K' T' B' : Type 0} (see : Sight F K T B) (see' : Sight F' K
       → WasPerformed see a c before now → WasPerformed see' b c before' now' → a.silent ≡ false
       → HoldAlike (see.wav now.wav).held (see'.wav now'.wav).held
   one_file a b c before now before' now' alike p q loud =
-      let first : HoldsWhereTold (see.wav now.wav).held (record { name = Some a.sound_file; bytes = wav_of (frames_of c) p.head (is_wide a.width) }) =
-      file_held (see.wav before.wav) (see.wav now.wav) a.sound_file (wav_of (frames_of c) p.head (is_wide a.width))
-      (written_is see.wav a.silent before.wav now.wav (λ x y. Finished x y a.sound_file (wav_of (frames_of c) p.head (is_wide a.width))) loud p.whole.written) in
-      let second : HoldsWhereTold (see'.wav now'.wav).held (record { name = Some b.sound_file; bytes = wav_of (frames_of c) q.head (is_wide b.width) }) =
-      file_held (see'.wav before'.wav) (see'.wav now'.wav) b.sound_file (wav_of (frames_of c) q.head (is_wide b.width))
-      (written_is see'.wav b.silent before'.wav now'.wav (λ x y. Finished x y b.sound_file (wav_of (frames_of c) q.head (is_wide b.width))) (sym alike.silent ∙ loud) q.whole.written) in
-      let W : Bool → Type 0 = λ w. wav_of (frames_of c) q.head w ≡ wav_of (frames_of c) p.head (is_wide a.width) in
-      let same : wav_of (frames_of c) q.head (is_wide b.width) ≡ wav_of (frames_of c) p.head (is_wide a.width) =
-      subst W (ap is_wide alike.width) (same_wav (frames_of c) (is_wide a.width) q.head p.head (q.head_is ∙ sym p.head_is)) in
+      let first : HoldsWhereTold (see.wav now.wav).held (record { name = Some a.sound_file; bytes = wav_of (frames_of c) p.head a.width }) =
+      file_held (see.wav before.wav) (see.wav now.wav) a.sound_file (wav_of (frames_of c) p.head a.width)
+      (written_is see.wav a.silent before.wav now.wav (λ x y. Finished x y a.sound_file (wav_of (frames_of c) p.head a.width)) loud p.whole.written) in
+      let second : HoldsWhereTold (see'.wav now'.wav).held (record { name = Some b.sound_file; bytes = wav_of (frames_of c) q.head b.width }) =
+      file_held (see'.wav before'.wav) (see'.wav now'.wav) b.sound_file (wav_of (frames_of c) q.head b.width)
+      (written_is see'.wav b.silent before'.wav now'.wav (λ x y. Finished x y b.sound_file (wav_of (frames_of c) q.head b.width)) (sym alike.silent ∙ loud) q.whole.written) in
+      let W : SampleWidth → Type 0 = λ w. wav_of (frames_of c) q.head w ≡ wav_of (frames_of c) p.head a.width in
+      let same : wav_of (frames_of c) q.head b.width ≡ wav_of (frames_of c) p.head a.width =
+      subst W alike.width (same_wav (frames_of c) a.width q.head p.head (q.head_is ∙ sym p.head_is)) in
       let P : Held → Type 0 = λ h. HoldsWhereTold (see'.wav now'.wav).held h in
-      held_alike (see.wav now.wav).held (see'.wav now'.wav).held (record { name = Some a.sound_file; bytes = wav_of (frames_of c) p.head (is_wide a.width) }) first
-      (subst P (held_same b.sound_file a.sound_file (wav_of (frames_of c) q.head (is_wide b.width)) (wav_of (frames_of c) p.head (is_wide a.width)) (sym alike.sound_file) same) second)
+      held_alike (see.wav now.wav).held (see'.wav now'.wav).held (record { name = Some a.sound_file; bytes = wav_of (frames_of c) p.head a.width }) first
+      (subst P (held_same b.sound_file a.sound_file (wav_of (frames_of c) q.head b.width) (wav_of (frames_of c) p.head a.width) (sym alike.sound_file) same) second)
 
   both_ok : OneMeaning → OnePair → (a b : Asked) (before now : Scene F K T B) (before' now' : Scene F' K' T' B') → AskAlike a b
       → TellAlike a.piece (see.shelf before.shelf).files (see'.shelf before'.shelf).files → IsOk see a before now → IsOk see' b before' now'
       → SoundAlike see see' a b before now before' now'
   both_ok m p a b before now before' now' alike told x y =
-      let Q : Piece → Type 0 = λ l. SourceMeans (see'.shelf before'.shelf) (is_wide b.width) l (Ok y.c) in
-      let W : Bool → Type 0 = λ w. SourceMeans (see'.shelf before'.shelf) w a.piece (Ok y.c) in
-      let means' : SourceMeans (see'.shelf before'.shelf) (is_wide a.width) a.piece (Ok y.c) =
-      subst W (ap is_wide (sym alike.width)) (subst Q (sym alike.piece) y.loaded.means) in
+      let Q : Piece → Type 0 = λ l. SourceMeans (see'.shelf before'.shelf) b.width l (Ok y.c) in
+      let W : SampleWidth → Type 0 = λ w. SourceMeans (see'.shelf before'.shelf) w a.piece (Ok y.c) in
+      let means' : SourceMeans (see'.shelf before'.shelf) a.width a.piece (Ok y.c) =
+      subst W (sym alike.width) (subst Q (sym alike.piece) y.loaded.means) in
       let same : x.c ≡ y.c = same_composition x.c y.c
-      (alike_means m p (see.shelf before.shelf) (see'.shelf before'.shelf) (is_wide a.width) a.piece (Ok x.c) (Ok y.c) told x.loaded.means means') in
+      (alike_means m p (see.shelf before.shelf) (see'.shelf before'.shelf) a.width a.piece (Ok x.c) (Ok y.c) told x.loaded.means means') in
       let C : Composition → Type 0 = λ c. WasPerformed see' b c before' now' in
       let second : WasPerformed see' b x.c before' now' = subst C (sym same) y.performed in
       record {

@@ -1,5 +1,5 @@
 -- What the texts of a run mean, where they are known.
-use Rattle.std.proofs.Common.{◌≡◌, ℕ, Bool, List, Option, Some, None, Result, Ok, Err, ap, sym, subst, ◌∙◌, ⊎_elim}
+use Rattle.std.proofs.Common.{◌≡◌, ℕ, List, Option, Some, None, Result, Ok, Err, ap, sym, subst, ◌∙◌, ⊎_elim}
 use Rattle.cs_piece_meaning.specs.Moments.{Composition}
 use Rattle.cs_edge.specs.Files.{ShelfTold}
 use Rattle.cs_edge.specs.Told.{Rose}
@@ -9,11 +9,12 @@ use Rattle.cs_arguments.specs.Reading.{Piece, two_files, one_file, demo}
 use Rattle.cs_source.specs.Loaded.{CannotRead, SourceMeans}
 use Rattle.cs_source.specs.Meaning.{Mean}
 use Rattle.cs_source.specs.Texts.{Texts, both, csd, demo_notes, Fit, Have, HaveWhereTold, Lack, LackWhereTold}
+use Rattle.cs_base.specs.declared.width.SampleWidth.{SampleWidth}
 use Rattle.cs_csd.specs.declared.refused.Refused.{Refused}
 
 -- texts have one meaning; files have one pair of texts; and what files lack they don't have
 abbrev pub OneMeaning : Type 0
-OneMeaning = (wide : Bool) (t : Texts) (r s : Result Composition Refused) → Mean wide t r → Mean wide t s → r ≡ s
+OneMeaning = (width : SampleWidth) (t : Texts) (r s : Result Composition Refused) → Mean width t r → Mean width t s → r ≡ s
 
 abbrev pub OnePair : Type 0
 OnePair = (files : List NamedBytes) (piece : Piece) (t u : Texts) → Have files piece t → Have files piece u → t ≡ u
@@ -36,11 +37,11 @@ same_texts one (Some files) (two_files orc sco) t u known fit have = one files (
 same_texts one (Some files) (one_file name) t u known fit have = one files (one_file name) t u known have
 
 -- so what they mean is what the source means
-pub source_means : OneMeaning → OnePair → (told : ShelfTold) (wide : Bool) (piece : Piece) (t : Texts) (r s : Result Composition Refused)
-    → AreTexts told.files piece t → Mean wide t r → SourceMeans told wide piece s → r ≡ s
-source_means meaning pair told wide piece t r s known mean source =
-    let P : Texts → Type 0 = λ u. Mean wide u r in
-    meaning wide source.texts r s (subst P (same_texts pair told.files piece t source.texts known source.fit source.have) mean) source.mean
+pub source_means : OneMeaning → OnePair → (told : ShelfTold) (width : SampleWidth) (piece : Piece) (t : Texts) (r s : Result Composition Refused)
+    → AreTexts told.files piece t → Mean width t r → SourceMeans told width piece s → r ≡ s
+source_means meaning pair told width piece t r s known mean source =
+    let P : Texts → Type 0 = λ u. Mean width u r in
+    meaning width source.texts r s (subst P (same_texts pair told.files piece t source.texts known source.fit source.have) mean) source.mean
 
 -- and none of them is lacking
 known_lack : NoneLacking → (files : Option (List NamedBytes)) (piece : Piece) (t : Texts) (name : List ℕ) → AreTexts files piece t
@@ -62,9 +63,9 @@ have_lack none None piece t name have lack = lack
 have_lack none (Some files) piece t name have lack = none files piece t name lack have
 
 -- texts of a source aren't lacking
-pub source_lacks : NoneLacking → (told : ShelfTold) (wide : Bool) (piece : Piece) (r : Result Composition Refused) (name : List ℕ)
-    → SourceMeans told wide piece r → LackWhereTold told.files piece name → ⊥
-source_lacks none told wide piece r name source lack = have_lack none told.files piece source.texts name source.have lack
+pub source_lacks : NoneLacking → (told : ShelfTold) (width : SampleWidth) (piece : Piece) (r : Result Composition Refused) (name : List ℕ)
+    → SourceMeans told width piece r → LackWhereTold told.files piece name → ⊥
+source_lacks none told width piece r name source lack = have_lack none told.files piece source.texts name source.have lack
 
 -- two sources that tell alike have the same texts
 alike_texts : OnePair → (a b : Option (List NamedBytes)) (piece : Piece) (t u : Texts) → TellAlike piece a b → Fit piece t → Fit piece u
@@ -75,11 +76,11 @@ alike_texts one a b (two_files orc sco) t u told fit fit' have have' =
 alike_texts one a b (one_file name) t u told fit fit' have have' =
     one told.0 (one_file name) t u (rw told.1 at have) (rw told.2 at have')
 
-pub alike_means : OneMeaning → OnePair → (told told' : ShelfTold) (wide : Bool) (piece : Piece) (r s : Result Composition Refused)
-    → TellAlike piece told.files told'.files → SourceMeans told wide piece r → SourceMeans told' wide piece s → r ≡ s
-alike_means meaning pair told told' wide piece r s alike source source' =
-    let P : Texts → Type 0 = λ u. Mean wide u r in
-    meaning wide source'.texts r s
+pub alike_means : OneMeaning → OnePair → (told told' : ShelfTold) (width : SampleWidth) (piece : Piece) (r s : Result Composition Refused)
+    → TellAlike piece told.files told'.files → SourceMeans told width piece r → SourceMeans told' width piece s → r ≡ s
+alike_means meaning pair told told' width piece r s alike source source' =
+    let P : Texts → Type 0 = λ u. Mean width u r in
+    meaning width source'.texts r s
     (subst P (alike_texts pair told.files told'.files piece source.texts source'.texts alike source.fit source'.fit source.have source'.have) source.mean)
     source'.mean
 

@@ -16,9 +16,11 @@ use Rattle.cs_perform.specs.Performances.{IsOutcomeOf, IsPart, IsPaused, IsWhole
 use Rattle.cs_command.specs.declared.reading.Unread.{Unread}
 use Rattle.cs_command.specs.declared.reading.Unread.TheVariants as unasked
 use Rattle.cs_perform.specs.declared.order.Outcome.{Outcome}
+use Rattle.cs_perform.specs.declared.order.Output.TheVariants.{SoundFile}
+use Rattle.cs_perform.specs.declared.order.TurnLines.{TurnLines}
 use Rattle.cs_perform.specs.declared.order.PlayFault.{PlayFault}
 use Rattle.cs_perform.specs.declared.order.PlayFault.TheVariants as fault
-use Rattle.cs_play.specs.Endings.{EndsBy, IsLoaded, IsRefusal, IsUntouched, is_wide, order_of}
+use Rattle.cs_play.specs.Endings.{EndsBy, IsLoaded, IsRefusal, IsUntouched, lines_of, order_of, output_of}
 use Rattle.cs_play.specs.Report.{counts_of, report_of}
 use Rattle.cs_play.specs.Runs.{IsRun}
 use Rattle.cs_play.specs.Scene.{Scene, Sight, scene, sight}
@@ -33,25 +35,27 @@ use Rattle.cs_arguments.specs.Reading.{Asked, Text, reading}
 use Rattle.cs_source.specs.Loaded.{CannotRead, LeavesUnread, SourceMeans, WasRead}
 use Rattle.cs_source.specs.declared.loading.Stop.{Stop}
 use Rattle.cs_source.specs.declared.loading.Stop.TheVariants as stop
+use Rattle.cs_base.specs.declared.width.SampleWidth.{SampleWidth}
+use Rattle.cs_base.specs.declared.refusal.Refusal.TheVariants as why
 use Rattle.cs_csd.specs.declared.refused.Refused.{Refused}
 use Rattle.cs_csd.specs.declared.refused.Refused.TheVariants as refused
 use Rattle.cs_turns.specs.Turns.{turn_lines_of}
 use Rattle.cs_typed.specs.TypedTree.{header_of_head}
-use Rattle.cs_wav.specs.Wav.{bytes_of, is_out_of_range}
+use Rattle.cs_wav.specs.Wav.{is_out_of_range}
 
 same_lines : (a b c d e a' b' c' d' e' : ℕ) → a ≡ a' → b ≡ b' → c ≡ c' → d ≡ d' → e ≡ e' → count_lines a b c d e ≡ count_lines a' b' c' d' e'
 same_lines a b c d e a' b' c' d' e' p q r s t = cc
 
 -- the counts that the performer answered are those of the composition
-same_counts : (c : Composition) (wide : Bool) (o : Outcome) → IsOutcomeOf c wide o → counts_in (counts_told o) ≡ counts_of c wide
+same_counts : (c : Composition) (width : SampleWidth) (o : Outcome) → IsOutcomeOf c width o → counts_in (counts_told o) ≡ counts_of c width
 unfolding counts_of
-same_counts c wide o is =
+same_counts c width o is =
     same_lines o.frames o.cycles o.started o.not_started o.out_of_range (c.cycles * c.head.ksmps) c.cycles (kept_count (closing c).started)
-    (kept_count (closing c).not_started) (count_by (is_out_of_range (bytes_of wide) c.head.dbfs) (frames_of c))
+    (kept_count (closing c).not_started) (count_by (is_out_of_range width c.head.dbfs) (frames_of c))
     is.frames is.cycles is.started is.not_started is.out_of_range
 
-not_silent : (silent : Bool) → not silent ≡ true → silent ≡ false
-not_silent true e = sym e
+not_silent : (silent : Bool) → output_of silent ≡ SoundFile → silent ≡ false
+not_silent true e = absurd (cc)
 not_silent false e = refl
 
 said_as : (a b : SinkTold) (s t : Status) (name : List ℕ) → t ≡ s → Says a b (message_of t name) → Says a b (message_of s name)
@@ -114,70 +118,68 @@ module _ {F K T B : Type 0} (see : Sight F K T B) where
     shelf = inr (asked, e, was);
   }
 
-  loaded : (asked : Asked) (wide : Bool) (r : Result Composition Refused) (before now : Scene F K T B) → wide ≡ is_wide asked.width
-      → SourceMeans (see.shelf before.shelf) wide asked.piece r → LeavesUnread (see.shelf before.shelf) (see.shelf now.shelf) asked.piece
+  loaded : (asked : Asked) (r : Result Composition Refused) (before now : Scene F K T B)
+      → SourceMeans (see.shelf before.shelf) asked.width asked.piece r → LeavesUnread (see.shelf before.shelf) (see.shelf now.shelf) asked.piece
       → IsLoaded see asked before now r
-  loaded asked wide r before now w means rest =
-      let P : Bool → Type 0 = λ x. SourceMeans (see.shelf before.shelf) x asked.piece r in
-      record { means = subst P w means; rest = rest }
+  loaded asked r before now means rest = record { means = means; rest = rest }
 
   -- each refusal ends as its status says
   ends_refused : (words : List Text) (asked : Asked) (r : Refused) (before now : Scene F K T B) → reading words ≡ Some asked → IsRefusal see r asked before now
       → EndsBy see (refusal r) words before now
   ends_refused words asked (refused.Csd f) before now e is = (asked, e, is)
-  ends_refused words asked (refused.Orc f) before now e is = (asked, e, is)
-  ends_refused words asked (refused.Score f) before now e is = (asked, e, is)
-  ends_refused words asked (refused.Limit h) before now e is = (asked, e, is)
+  ends_refused words asked (refused.Texts (why.Orc f)) before now e is = (asked, e, is)
+  ends_refused words asked (refused.Texts (why.Score f)) before now e is = (asked, e, is)
+  ends_refused words asked (refused.Texts (why.Limit h)) before now e is = (asked, e, is)
 
-  refused_run : (words : List Text) (asked : Asked) (wide : Bool) (r : Refused) (shelf shelf' : F) (wav : K) (talk talk' : T) (taps : List B) (tally : Tally)
-      → wide ≡ is_wide asked.width → reading words ≡ Some asked → WasRead (see.shelf shelf) (see.shelf shelf') asked.piece
-      → SourceMeans (see.shelf shelf) wide asked.piece (Err r) → LeavesUnread (see.shelf shelf) (see.shelf shelf') asked.piece
+  refused_run : (words : List Text) (asked : Asked) (r : Refused) (shelf shelf' : F) (wav : K) (talk talk' : T) (taps : List B) (tally : Tally)
+      → reading words ≡ Some asked → WasRead (see.shelf shelf) (see.shelf shelf') asked.piece
+      → SourceMeans (see.shelf shelf) asked.width asked.piece (Err r) → LeavesUnread (see.shelf shelf) (see.shelf shelf') asked.piece
       → Says (see.talk talk) (see.talk talk') (message_of (refusal r) [])
       → IsRun see words (refusal r) (scene shelf wav talk taps tally) (scene shelf' wav talk' taps tally)
-  refused_run words asked wide r shelf shelf' wav talk talk' taps tally w e was means rest says = record {
+  refused_run words asked r shelf shelf' wav talk talk' taps tally e was means rest says = record {
     ended = ends_refused words asked r (scene shelf wav talk taps tally) (scene shelf' wav talk' taps tally) e
-        (record { loaded = loaded asked wide (Err r) (scene shelf wav talk taps tally) (scene shelf' wav talk' taps tally) w means rest; untouched = untouched shelf shelf' wav talk talk' taps tally; line = says });
+        (record { loaded = loaded asked (Err r) (scene shelf wav talk taps tally) (scene shelf' wav talk' taps tally) means rest; untouched = untouched shelf shelf' wav talk talk' taps tally; line = says });
     shelf = inr (asked, e, was);
   }
 
   -- a source of which there is no piece
-  stopped : (words : List Text) (asked : Asked) (wide : Bool) (s : Stop) (shelf shelf' : F) (wav : K) (talk talk' : T) (taps : List B) (tally : Tally)
-      → wide ≡ is_wide asked.width → reading words ≡ Some asked → WasRead (see.shelf shelf) (see.shelf shelf') asked.piece
-      → ((r : Refused) → s ≡ stop.Refused r → SourceMeans (see.shelf shelf) wide asked.piece (Err r))
+  stopped : (words : List Text) (asked : Asked) (s : Stop) (shelf shelf' : F) (wav : K) (talk talk' : T) (taps : List B) (tally : Tally)
+      → reading words ≡ Some asked → WasRead (see.shelf shelf) (see.shelf shelf') asked.piece
+      → ((r : Refused) → s ≡ stop.Refused r → SourceMeans (see.shelf shelf) asked.width asked.piece (Err r))
       → ((r : Refused) → s ≡ stop.Refused r → LeavesUnread (see.shelf shelf) (see.shelf shelf') asked.piece)
       → ((name : _) → s ≡ stop.Unread name → CannotRead (see.shelf shelf) (see.shelf shelf') asked.piece name.now)
       → Says (see.talk talk) (see.talk talk') (message_of (stop_status s) (name_in s))
       → IsRun see words (stop_status s) (scene shelf wav talk taps tally) (scene shelf' wav talk' taps tally)
-  stopped words asked wide (stop.Unread name) shelf shelf' wav talk talk' taps tally w e was means rest unread says =
+  stopped words asked (stop.Unread name) shelf shelf' wav talk talk' taps tally e was means rest unread says =
       unread_run words asked name.now shelf shelf' wav talk talk' taps tally e was (unread name refl) says
-  stopped words asked wide (stop.Refused r) shelf shelf' wav talk talk' taps tally w e was means rest unread says =
-      refused_run words asked wide r shelf shelf' wav talk talk' taps tally w e was (means r refl) (rest r refl) says
-  stopped words asked wide stop.OutOfMemory shelf shelf' wav talk talk' taps tally w e was means rest unread says =
+  stopped words asked (stop.Refused r) shelf shelf' wav talk talk' taps tally e was means rest unread says =
+      refused_run words asked r shelf shelf' wav talk talk' taps tally e was (means r refl) (rest r refl) says
+  stopped words asked stop.OutOfMemory shelf shelf' wav talk talk' taps tally e was means rest unread says =
       unloaded_run words asked shelf shelf' wav talk talk' taps tally e was says
 
   -- A COMPOSITION, which was performed
 
   -- the report as it was written
-  report_is : (c : Composition) (wide turns : Bool) (o : Outcome) (taps : List B) → IsOutcomeOf c wide o → o.turns ≡ if_told turns (turn_lines_of c)
-      → counts_in (counts_told o) ++ flat_map (λ tap. see.line tap line_room) taps ++ o.turns ≡ report_of see.line c wide turns taps
-  report_is c wide turns o taps is lines =
-      ap (λ (l : List ℕ). l ++ flat_map (λ tap. see.line tap line_room) taps ++ o.turns) (same_counts c wide o is)
-      ∙ ap (λ (l : List ℕ). counts_of c wide ++ flat_map (λ tap. see.line tap line_room) taps ++ l) lines
+  report_is : (c : Composition) (width : SampleWidth) (turns : TurnLines) (o : Outcome) (taps : List B) → IsOutcomeOf c width o → o.turns ≡ if_told turns (turn_lines_of c)
+      → counts_in (counts_told o) ++ flat_map (λ tap. see.line tap line_room) taps ++ o.turns ≡ report_of see.line c width turns taps
+  report_is c width turns o taps is lines =
+      ap (λ (l : List ℕ). l ++ flat_map (λ tap. see.line tap line_room) taps ++ o.turns) (same_counts c width o is)
+      ∙ ap (λ (l : List ℕ). counts_of c width ++ flat_map (λ tap. see.line tap line_room) taps ++ l) lines
 
   -- whole, and then reported
   pub whole_sounded : (asked : Asked) (c : Composition) (head : Head) (o : Outcome) (s : Status) (shelf : F) (wav wav' : K) (talk talk' : T)
       (taps taps' : List B) (tally tally' : Tally)
       → header_of_head head ≡ c.head
       → IsWhole see.stands see.wav c head (order_of asked) asked.sound_file taps taps' tally tally' wav wav'
-      → IsOutcomeOf c (is_wide asked.width) o → o.turns ≡ if_told asked.turns (turn_lines_of c)
+      → IsOutcomeOf c asked.width o → o.turns ≡ if_told (lines_of asked.turns) (turn_lines_of c)
       → HasReported (see.talk talk) (see.talk talk') (counts_in (counts_told o) ++ flat_map (λ tap. see.line tap line_room) taps' ++ o.turns) s
       → HasSounded see asked c s (scene shelf wav talk taps tally) (scene shelf wav' talk' taps' tally')
   whole_sounded asked c head o status.Ok shelf wav wav' talk talk' taps taps' tally tally' same whole is lines wrote =
       let P : List ℕ → Type 0 = λ l. WroteMore (see.talk talk) (see.talk talk') l in
-      (record { head = head; head_is = same; whole = whole }, subst P (report_is c (is_wide asked.width) asked.turns o taps' is lines) wrote)
+      (record { head = head; head_is = same; whole = whole }, subst P (report_is c asked.width (lines_of asked.turns) o taps' is lines) wrote)
   whole_sounded asked c head o status.TalkFault shelf wav wav' talk talk' taps taps' tally tally' same whole is lines part =
       let P : List ℕ → Type 0 = λ l. SaysPart (see.talk talk) (see.talk talk') l in
-      (record { head = head; head_is = same; whole = whole }, subst P (report_is c (is_wide asked.width) asked.turns o taps' is lines) part)
+      (record { head = head; head_is = same; whole = whole }, subst P (report_is c asked.width (lines_of asked.turns) o taps' is lines) part)
   whole_sounded asked c head o status.Usage shelf wav wav' talk talk' taps taps' tally tally' same whole is lines never = absurd never
   whole_sounded asked c head o status.ShelfFault shelf wav wav' talk talk' taps taps' tally tally' same whole is lines never = absurd never
   whole_sounded asked c head o status.SinkFault shelf wav wav' talk talk' taps taps' tally tally' same whole is lines never = absurd never
@@ -193,7 +195,7 @@ module _ {F K T B : Type 0} (see : Sight F K T B) where
       → t ≡ fault_status f → header_of_head head ≡ c.head
       → IsPart see.stands see.wav c head (order_of asked) asked.sound_file taps taps' tally tally' wav wav'
       → (f ≡ fault.OutOfMemory → IsPaused see.stands see.wav c head (order_of asked) asked.sound_file taps taps' tally tally' wav wav')
-      → (f ≡ fault.Sink → (not asked.silent ≡ true) × Rose (see.wav wav).faults (see.wav wav').faults)
+      → (f ≡ fault.Sink → (output_of asked.silent ≡ SoundFile) × Rose (see.wav wav).faults (see.wav wav').faults)
       → Says (see.talk talk) (see.talk talk') (message_of t [])
       → HasSounded see asked c (fault_status f) (scene shelf wav talk taps tally) (scene shelf wav' talk' taps' tally')
   in_part asked c head fault.Sink t shelf wav wav' talk talk' taps taps' tally tally' e same part paused cause says = (
@@ -212,7 +214,7 @@ module _ {F K T B : Type 0} (see : Sight F K T B) where
       → r ≡ t → t ≡ fault_status f → header_of_head head ≡ c.head
       → IsPart see.stands see.wav c head (order_of asked) asked.sound_file taps taps' tally tally' wav wav'
       → (f ≡ fault.OutOfMemory → IsPaused see.stands see.wav c head (order_of asked) asked.sound_file taps taps' tally tally' wav wav')
-      → (f ≡ fault.Sink → (not asked.silent ≡ true) × Rose (see.wav wav).faults (see.wav wav').faults)
+      → (f ≡ fault.Sink → (output_of asked.silent ≡ SoundFile) × Rose (see.wav wav).faults (see.wav wav').faults)
       → Says (see.talk talk) (see.talk talk') (message_of t [])
       → HasSounded see asked c r (scene shelf wav talk taps tally) (scene shelf wav' talk' taps' tally')
   part_sounded asked c head f r t shelf wav wav' talk talk' taps taps' tally tally' is e same part paused cause says =
@@ -220,46 +222,46 @@ module _ {F K T B : Type 0} (see : Sight F K T B) where
       subst P (sym (is ∙ e)) (in_part asked c head f t shelf wav wav' talk talk' taps taps' tally tally' e same part paused cause says)
 
   -- The piece of a source that was performed. The shelf has no part in its performance.
-  pub sounded_run : (words : List Text) (asked : Asked) (wide : Bool) (c : Composition) (s : Status) (shelf shelf' : F) (wav wav' : K) (talk talk' : T)
+  pub sounded_run : (words : List Text) (asked : Asked) (c : Composition) (s : Status) (shelf shelf' : F) (wav wav' : K) (talk talk' : T)
       (taps taps' : List B) (tally tally' : Tally)
-      → wide ≡ is_wide asked.width → reading words ≡ Some asked → WasRead (see.shelf shelf) (see.shelf shelf') asked.piece
-      → SourceMeans (see.shelf shelf) wide asked.piece (Ok c) → LeavesUnread (see.shelf shelf) (see.shelf shelf') asked.piece
+      → reading words ≡ Some asked → WasRead (see.shelf shelf) (see.shelf shelf') asked.piece
+      → SourceMeans (see.shelf shelf) asked.width asked.piece (Ok c) → LeavesUnread (see.shelf shelf) (see.shelf shelf') asked.piece
       → HasSounded (sight (λ (_ : Unit {0}). see.shelf shelf) see.wav see.talk see.stands see.line) asked c s
       (scene tt wav talk taps tally) (scene tt wav' talk' taps' tally')
       → IsRun see words s (scene shelf wav talk taps tally) (scene shelf' wav' talk' taps' tally')
-  sounded_run words asked wide c status.Ok shelf shelf' wav wav' talk talk' taps taps' tally tally' w e was means rest h = record {
+  sounded_run words asked c status.Ok shelf shelf' wav wav' talk talk' taps taps' tally tally' e was means rest h = record {
     ended = (
       asked,
       e,
       record {
         c = c;
-        loaded = loaded asked wide (Ok c) (scene shelf wav talk taps tally) (scene shelf' wav' talk' taps' tally') w means rest;
+        loaded = loaded asked (Ok c) (scene shelf wav talk taps tally) (scene shelf' wav' talk' taps' tally') means rest;
         performed = record { head = h.0.head; head_is = h.0.head_is; whole = h.0.whole };
         report = h.1;
       },
     );
     shelf = inr (asked, e, was);
   }
-  sounded_run words asked wide c status.TalkFault shelf shelf' wav wav' talk talk' taps taps' tally tally' w e was means rest h = record {
+  sounded_run words asked c status.TalkFault shelf shelf' wav wav' talk talk' taps taps' tally tally' e was means rest h = record {
     ended = (
       asked,
       e,
       record {
         c = c;
-        loaded = loaded asked wide (Ok c) (scene shelf wav talk taps tally) (scene shelf' wav' talk' taps' tally') w means rest;
+        loaded = loaded asked (Ok c) (scene shelf wav talk taps tally) (scene shelf' wav' talk' taps' tally') means rest;
         performed = record { head = h.0.head; head_is = h.0.head_is; whole = h.0.whole };
         report = h.1;
       },
     );
     shelf = inr (asked, e, was);
   }
-  sounded_run words asked wide c status.SinkFault shelf shelf' wav wav' talk talk' taps taps' tally tally' w e was means rest h = record {
+  sounded_run words asked c status.SinkFault shelf shelf' wav wav' talk talk' taps taps' tally tally' e was means rest h = record {
     ended = (
       asked,
       e,
       record {
         c = c;
-        loaded = loaded asked wide (Ok c) (scene shelf wav talk taps tally) (scene shelf' wav' talk' taps' tally') w means rest;
+        loaded = loaded asked (Ok c) (scene shelf wav talk taps tally) (scene shelf' wav' talk' taps' tally') means rest;
         performed = record { head = h.0.head; head_is = h.0.head_is; part = h.0.part };
         written = h.1;
         rose = h.2;
@@ -268,14 +270,14 @@ module _ {F K T B : Type 0} (see : Sight F K T B) where
     );
     shelf = inr (asked, e, was);
   }
-  sounded_run words asked wide c status.OutOfMemory shelf shelf' wav wav' talk talk' taps taps' tally tally' w e was means rest h = record {
+  sounded_run words asked c status.OutOfMemory shelf shelf' wav wav' talk talk' taps taps' tally tally' e was means rest h = record {
     ended = record {
       performed = inr (
         asked,
         e,
         record {
           c = c;
-          loaded = loaded asked wide (Ok c) (scene shelf wav talk taps tally) (scene shelf' wav' talk' taps' tally') w means rest;
+          loaded = loaded asked (Ok c) (scene shelf wav talk taps tally) (scene shelf' wav' talk' taps' tally') means rest;
           performed = record { head = h.0.head; head_is = h.0.head_is; paused = h.0.paused };
         },
       );
@@ -283,20 +285,20 @@ module _ {F K T B : Type 0} (see : Sight F K T B) where
     };
     shelf = inr (asked, e, was);
   }
-  sounded_run words asked wide c status.Usage shelf shelf' wav wav' talk talk' taps taps' tally tally' w e was means rest h = absurd h
-  sounded_run words asked wide c status.ShelfFault shelf shelf' wav wav' talk talk' taps taps' tally tally' w e was means rest h = absurd h
-  sounded_run words asked wide c (status.OrcRefused f) shelf shelf' wav wav' talk talk' taps taps' tally tally' w e was means rest h = absurd h
-  sounded_run words asked wide c (status.ScoreRefused f) shelf shelf' wav wav' talk talk' taps taps' tally tally' w e was means rest h = absurd h
-  sounded_run words asked wide c (status.Limit l) shelf shelf' wav wav' talk talk' taps taps' tally tally' w e was means rest h = absurd h
-  sounded_run words asked wide c (status.CsdRefused f) shelf shelf' wav wav' talk talk' taps taps' tally tally' w e was means rest h = absurd h
+  sounded_run words asked c status.Usage shelf shelf' wav wav' talk talk' taps taps' tally tally' e was means rest h = absurd h
+  sounded_run words asked c status.ShelfFault shelf shelf' wav wav' talk talk' taps taps' tally tally' e was means rest h = absurd h
+  sounded_run words asked c (status.OrcRefused f) shelf shelf' wav wav' talk talk' taps taps' tally tally' e was means rest h = absurd h
+  sounded_run words asked c (status.ScoreRefused f) shelf shelf' wav wav' talk talk' taps taps' tally tally' e was means rest h = absurd h
+  sounded_run words asked c (status.Limit l) shelf shelf' wav wav' talk talk' taps taps' tally tally' e was means rest h = absurd h
+  sounded_run words asked c (status.CsdRefused f) shelf shelf' wav wav' talk talk' taps taps' tally tally' e was means rest h = absurd h
 
   -- What was loaded, a piece or what keeps it from its sound.
-  pub loaded_run : (words : List Text) (asked : Asked) (wide : Bool) (l : Result SetupData Stop) (r : Status) (shelf shelf' : F) (wav wav' : K)
+  pub loaded_run : (words : List Text) (asked : Asked) (l : Result SetupData Stop) (r : Status) (shelf shelf' : F) (wav wav' : K)
       (talk talk' : T) (taps taps' : List B) (tally tally' : Tally)
-      → wide ≡ is_wide asked.width → reading words ≡ Some asked → WasRead (see.shelf shelf) (see.shelf shelf') asked.piece
-      → IfOk l (λ s. SourceMeans (see.shelf shelf) wide asked.piece (Ok (composition_of s)))
+      → reading words ≡ Some asked → WasRead (see.shelf shelf) (see.shelf shelf') asked.piece
+      → IfOk l (λ s. SourceMeans (see.shelf shelf) asked.width asked.piece (Ok (composition_of s)))
       → OnOk l (LeavesUnread (see.shelf shelf) (see.shelf shelf') asked.piece)
-      → ((q : Refused) → l ≡ Err (stop.Refused q) → SourceMeans (see.shelf shelf) wide asked.piece (Err q))
+      → ((q : Refused) → l ≡ Err (stop.Refused q) → SourceMeans (see.shelf shelf) asked.width asked.piece (Err q))
       → ((q : Refused) → l ≡ Err (stop.Refused q) → LeavesUnread (see.shelf shelf) (see.shelf shelf') asked.piece)
       → ((name : _) → l ≡ Err (stop.Unread name) → CannotRead (see.shelf shelf) (see.shelf shelf') asked.piece name.now)
       → IfOk l (λ s. (told : ShelfTold) → HasSounded (sight (λ (_ : Unit {0}). told) see.wav see.talk see.stands see.line) asked (composition_of s) r
@@ -304,11 +306,11 @@ module _ {F K T B : Type 0} (see : Sight F K T B) where
       → IfErr l (λ s. HasStopped s r (see.talk talk) (see.talk talk'))
       → (IsErr l → (wav' ≡ wav) × (taps' ≡ taps) × (tally' ≡ tally))
       → IsRun see words r (scene shelf wav talk taps tally) (scene shelf' wav' talk' taps' tally')
-  loaded_run words asked wide (Ok s) r shelf shelf' wav wav' talk talk' taps taps' tally tally' w e was means rest refused left unread sounds ends still =
-      sounded_run words asked wide (composition_of s) r shelf shelf' wav wav' talk talk' taps taps' tally tally' w e was means rest (sounds (see.shelf shelf))
-  loaded_run words asked wide (Err s) r shelf shelf' wav wav' talk talk' taps taps' tally tally' w e was means rest refused left unread sounds ends still =
+  loaded_run words asked (Ok s) r shelf shelf' wav wav' talk talk' taps taps' tally tally' e was means rest refused left unread sounds ends still =
+      sounded_run words asked (composition_of s) r shelf shelf' wav wav' talk talk' taps taps' tally tally' e was means rest (sounds (see.shelf shelf))
+  loaded_run words asked (Err s) r shelf shelf' wav wav' talk talk' taps taps' tally tally' e was means rest refused left unread sounds ends still =
       let same = still refl in
       rw (same.0, same.1, same.2)
       (is_status words r (stop_status s) (scene shelf wav talk taps tally) (scene shelf' wav talk' taps tally) ends.status_is
-      (stopped words asked wide s shelf shelf' wav talk talk' taps tally w e was (λ q h. refused q (ap (λ (x : Stop). Err x) h))
+      (stopped words asked s shelf shelf' wav talk talk' taps tally e was (λ q h. refused q (ap (λ (x : Stop). Err x) h))
       (λ q h. left q (ap (λ (x : Stop). Err x) h)) (λ name h. unread name (ap (λ (x : Stop). Err x) h)) ends.line))

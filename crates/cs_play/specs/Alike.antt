@@ -31,8 +31,8 @@ abbrev pub HoldAlike : Option Held → Option Held → Type 0
 HoldAlike (Some a) (Some b) = a ≡ b
 HoldAlike _ _ = ⊤
 
--- Two runs performed one composition, so that their meters were told the same frames and their tallies count the same; and where
--- they wrote sound files, the two are the same byte for byte.
+-- Two runs performed one composition, so that their meters were told the same frames and their tallies count the
+-- same; and where they wrote sound files, the two are the same byte for byte.
 pub record SoundAlike {F K T B F' K' T' B' : Type 0} (see : Sight F K T B) (see' : Sight F' K' T' B') (a b : Asked)
     (before now : Scene F K T B) (before' now' : Scene F' K' T' B') : Type 0 where
   pub c : Composition

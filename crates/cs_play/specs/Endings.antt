@@ -6,6 +6,10 @@ use Rattle.cs_edge.specs.Moves.{WroteMore}
 use Rattle.cs_edge.specs.Told.{Rose}
 use Rattle.cs_perform.specs.Performances.{IsPart, IsPaused, IsWhole}
 use Rattle.cs_perform.specs.declared.order.Order.{Order}
+use Rattle.cs_perform.specs.declared.order.Output.{Output}
+use Rattle.cs_perform.specs.declared.order.Output.TheVariants.{SoundFile, Nothing}
+use Rattle.cs_perform.specs.declared.order.TurnLines.{TurnLines}
+use Rattle.cs_perform.specs.declared.order.TurnLines.TheVariants.{Told, Untold}
 use Rattle.cs_play.specs.Report.{report_of}
 use Rattle.cs_play.specs.Scene.{Scene, Sight}
 use Rattle.cs_report.specs.Status.{refusal}
@@ -13,9 +17,8 @@ use Rattle.cs_report.specs.Talk.{Says, SaysPart, message_of}
 use Rattle.cs_report.specs.declared.status.Status.{Status}
 use Rattle.cs_report.specs.declared.status.Status.TheVariants as status
 use Rattle.cs_arguments.specs.Reading.{Asked, Text, reading}
-use Rattle.cs_arguments.specs.declared.order.SampleWidth.{SampleWidth}
-use Rattle.cs_arguments.specs.declared.order.SampleWidth.TheVariants as width
 use Rattle.cs_source.specs.Loaded.{CannotRead, LeavesUnread, SourceMeans}
+use Rattle.cs_base.specs.declared.refusal.Refusal.TheVariants as why
 use Rattle.cs_csd.specs.declared.refused.Refused.{Refused}
 use Rattle.cs_csd.specs.declared.refused.Refused.TheVariants as refused
 use Rattle.cs_typed.specs.TypedTree.{header_of_head}
@@ -24,13 +27,18 @@ use Rattle.cs_typed.specs.TypedTree.{header_of_head}
 abbrev pub Reads : List Text → (Asked → Type 0) → Type 0
 Reads words P = (asked : Asked) × (reading words ≡ Some asked) × P asked
 
-abbrev pub is_wide : SampleWidth → Bool
-is_wide width.TwoBytes = false
-is_wide width.ThreeBytes = true
+-- the sound file is written, unless silence is asked for
+abbrev pub output_of : Bool → Output
+output_of true = Nothing
+output_of false = SoundFile
+
+abbrev pub lines_of : Bool → TurnLines
+lines_of true = Told
+lines_of false = Untold
 
 -- what the performer is asked for
 abbrev pub order_of : Asked → Order
-order_of asked = record { write = not asked.silent; wide = is_wide asked.width; turns = asked.turns }
+order_of asked = record { output = output_of asked.silent; width = asked.width; turns = lines_of asked.turns }
 
 module _ {F K T B : Type 0} (see : Sight F K T B) where
   -- The sound file, the meters and the tally are as before.
@@ -39,14 +47,14 @@ module _ {F K T B : Type 0} (see : Sight F K T B) where
     pub taps : now.taps ≡ before.taps
     pub tally : now.tally ≡ before.tally
 
-  -- The source of the piece was read and means this: texts mean it which, where the shelf tells its files, are theirs. What
-  -- the shelf has left of them is what is over one byte more than a text may have.
+  -- The source of the piece was read and means this: texts mean it which, where the shelf tells its files, are
+  -- theirs. What the shelf has left of them is what is over one byte more than a text may have.
   pub record IsLoaded (asked : Asked) (before now : Scene F K T B) (r : Result Composition Refused) : Type 0 where
-    pub means : SourceMeans (see.shelf before.shelf) (is_wide asked.width) asked.piece r
+    pub means : SourceMeans (see.shelf before.shelf) asked.width asked.piece r
     pub rest : LeavesUnread (see.shelf before.shelf) (see.shelf now.shelf) asked.piece
 
-  -- A composition was performed whole: each meter was told all its frames, the tally counts its cycles and their notes, and
-  -- the sound file has its header and samples, or with `-n` had no call.
+  -- A composition was performed whole: each meter was told all its frames, the tally counts its cycles and their
+  -- notes, and the sound file has its header and samples, or with `-n` had no call.
   pub record WasPerformed (asked : Asked) (c : Composition) (before now : Scene F K T B) : Type 0 where
     pub head : Head
     pub head_is : header_of_head head ≡ c.head
@@ -60,7 +68,8 @@ module _ {F K T B : Type 0} (see : Sight F K T B) where
     pub part : IsPart see.stands see.wav c head (order_of asked) asked.sound_file before.taps now.taps before.tally now.tally
         before.wav now.wav
 
-  -- Some number of its first cycles were, and the sound file, where it was begun, has its header and the samples of just these.
+  -- Some number of its first cycles were, and the sound file, where it was begun, has its header and the samples of
+  -- just these.
   pub record WasPaused (asked : Asked) (c : Composition) (before now : Scene F K T B) : Type 0 where
     pub head : Head
     pub head_is : header_of_head head ≡ c.head
@@ -69,7 +78,7 @@ module _ {F K T B : Type 0} (see : Sight F K T B) where
 
   -- the report, with the lines of the meters as they are now
   abbrev pub report_in : Asked → Composition → Scene F K T B → List ℕ
-  report_in asked c now = report_of see.line c (is_wide asked.width) asked.turns now.taps
+  report_in asked c now = report_of see.line c asked.width (lines_of asked.turns) now.taps
 
   -- Talk has the line of a status, where this is the name that can't be read; or the front of it where its count rose.
   abbrev pub HasLine : Status → List ℕ → Scene F K T B → Scene F K T B → Type 0
@@ -136,7 +145,7 @@ module _ {F K T B : Type 0} (see : Sight F K T B) where
   EndsBy status.OutOfMemory words before now = IsStarved words before now
   EndsBy status.ShelfFault words before now = Reads words (λ asked. IsShelfFault asked before now)
   EndsBy status.Usage words before now = IsUsage words before now
-  EndsBy (status.OrcRefused f) words before now = Reads words (λ asked. IsRefusal (refused.Orc f) asked before now)
-  EndsBy (status.ScoreRefused f) words before now = Reads words (λ asked. IsRefusal (refused.Score f) asked before now)
-  EndsBy (status.Limit h) words before now = Reads words (λ asked. IsRefusal (refused.Limit h) asked before now)
+  EndsBy (status.OrcRefused f) words before now = Reads words (λ asked. IsRefusal (refused.Texts (why.Orc f)) asked before now)
+  EndsBy (status.ScoreRefused f) words before now = Reads words (λ asked. IsRefusal (refused.Texts (why.Score f)) asked before now)
+  EndsBy (status.Limit h) words before now = Reads words (λ asked. IsRefusal (refused.Texts (why.Limit h)) asked before now)
   EndsBy (status.CsdRefused f) words before now = Reads words (λ asked. IsRefusal (refused.Csd f) asked before now)

@@ -1,21 +1,24 @@
--- The report of a composition: its counts, the line of each meter, and the turns of its notes where they are asked for.
-use Rattle.std.specs.Prelude.{ℕ, Bool, List, ◌++◌, ◌*◌, count_by, flat_map}
+-- The report of a composition: its counts, the line of each meter, and the turns of its notes where they are asked
+-- for.
+use Rattle.std.specs.Prelude.{ℕ, List, ◌++◌, ◌*◌, count_by, flat_map}
+use Rattle.cs_base.specs.declared.width.SampleWidth.{SampleWidth}
 use Rattle.cs_piece_meaning.specs.Course.{closing}
 use Rattle.cs_piece_meaning.specs.Heard.{frames_of}
 use Rattle.cs_piece_meaning.specs.Moments.{Composition}
 use Rattle.cs_life.specs.Standing.{kept_count}
 use Rattle.cs_perform.specs.Performances.{if_told}
+use Rattle.cs_perform.specs.declared.order.TurnLines.{TurnLines}
 use Rattle.cs_report.specs.Report.{count_lines, line_room}
 use Rattle.cs_turns.specs.Turns.{turn_lines_of}
-use Rattle.cs_wav.specs.Wav.{bytes_of, is_out_of_range}
+use Rattle.cs_wav.specs.Wav.{is_out_of_range}
 
 -- the counts of a composition; those of starts, the ones at the very end among them, stay at 2^64 - 1
-unfoldable pub counts_of : Composition → Bool → List ℕ
-counts_of c wide =
+unfoldable pub counts_of : Composition → SampleWidth → List ℕ
+counts_of c width =
     count_lines (c.cycles * c.head.ksmps) c.cycles (kept_count (closing c).started) (kept_count (closing c).not_started)
-    (count_by (is_out_of_range (bytes_of wide) c.head.dbfs) (frames_of c))
+    (count_by (is_out_of_range width c.head.dbfs) (frames_of c))
 
 -- the whole report, with the lines of these meters, and with the lines of turns where they are asked for
-abbrev pub report_of : {B : Type 0} → (B → ℕ → List ℕ) → Composition → Bool → Bool → List B → List ℕ
-report_of line c wide turns taps =
-    counts_of c wide ++ flat_map (λ tap. line tap line_room) taps ++ if_told turns (turn_lines_of c)
+abbrev pub report_of : {B : Type 0} → (B → ℕ → List ℕ) → Composition → SampleWidth → TurnLines → List B → List ℕ
+report_of line c width turns taps =
+    counts_of c width ++ flat_map (λ tap. line tap line_room) taps ++ if_told turns (turn_lines_of c)

@@ -1,10 +1,10 @@
-// What holds of every two runs, and of every run whose texts are known: calls that do nothing, whose contracts are the laws.
-// The meters that they take stand for those of the runs.
+// What holds of every two runs, and of every run whose texts are known: calls that do nothing, whose contracts are
+// the laws. The meters that they take stand for those of the runs.
 ghost use Rattle.std.specs.Prelude.{◌≡◌, ◌⊎◌, ℕ, List, Some, None, Ok, Err};
 ghost use Rattle.cs_piece_meaning.specs.Moments.{Composition};
 ghost use Rattle.cs_edge.specs.Told.{Rose};
 ghost use Rattle.cs_play.specs.Alike.{AreTexts, AskAlike, SoundAlike, TellAlike};
-ghost use Rattle.cs_play.specs.Endings.{Reads, is_wide};
+ghost use Rattle.cs_play.specs.Endings.{Reads};
 ghost use Rattle.cs_play.specs.Runs.{IsRun};
 ghost use Rattle.cs_play.specs.Scene.{Scene, sight};
 ghost use Rattle.cs_report.specs.Status.{refusal};
@@ -20,17 +20,20 @@ use cs_source::{
     files_have_one_pair_of_texts, texts_of_a_source_mean_one, told_files_have_texts_or_lack_a_name,
 };
 
-/// THE HEADLINE. Two runs end Ok; their words ask for one piece, one sound file and one width, whatever `-j`, `--pool` and
-/// `--turns` say; and their shelves tell the same files, or the piece is the demo. Then they performed one composition, and
-/// their sound files are the same byte for byte.
+/// THE HEADLINE. Two runs end Ok; their words ask for one piece, one sound file and one width, whatever `-j`,
+/// `--pool` and `--turns` say; and their shelves tell the same files, or the piece is the demo. Then they performed
+/// one composition, and their sound files are the same byte for byte.
 pub fn same_bytes<F: Shelf, K: Sink, T: Sink, F2: Shelf, K2: Sink, T2: Sink>(_taps: &[Box<dyn Tap>])
     ensures { (words others : List Text) (a b : Asked) (before now : Scene F K T _) (before_2 now_2 : Scene F2 K2 T2 _)
         → reading words ≡ Some a → reading others ≡ Some b → AskAlike a b
         → TellAlike a.piece (F.tells before.shelf).files (F2.tells before_2.shelf).files
-        → IsRun (sight F.tells K.tells T.tells (λ t h. stands_for t h) (λ t room. text t room)) words status.Ok before now
-        → IsRun (sight F2.tells K2.tells T2.tells (λ t h. stands_for t h) (λ t room. text t room)) others status.Ok before_2 now_2
+        → IsRun (sight F.tells K.tells T.tells (λ t h. stands_for t h)
+        (λ t room. text t room)) words status.Ok before now
+        → IsRun (sight F2.tells K2.tells T2.tells (λ t h. stands_for t h)
+        (λ t room. text t room)) others status.Ok before_2 now_2
         → SoundAlike (sight F.tells K.tells T.tells (λ t h. stands_for t h) (λ t room. text t room))
-        (sight F2.tells K2.tells T2.tells (λ t h. stands_for t h) (λ t room. text t room)) a b before now before_2 now_2 }
+        (sight F2.tells K2.tells T2.tells (λ t h. stands_for t h)
+        (λ t room. text t room)) a b before now before_2 now_2 }
 {
     texts_of_a_source_mean_one();
     files_have_one_pair_of_texts();
@@ -57,7 +60,7 @@ pub fn lacking_decides<F: Shelf, K: Sink, T: Sink>(_taps: &[Box<dyn Tap>])
 pub fn refusals_decide<F: Shelf, K: Sink, T: Sink>(_taps: &[Box<dyn Tap>])
     ensures { (words : List Text) (s : Status) (before now : Scene F K T _) (asked : Asked) (t : Texts) (r : Refused)
         → IsRun (sight F.tells K.tells T.tells (λ t h. stands_for t h) (λ t room. text t room)) words s before now
-        → reading words ≡ Some asked → AreTexts (F.tells before.shelf).files asked.piece t → Mean (is_wide asked.width) t (Err r)
+        → reading words ≡ Some asked → AreTexts (F.tells before.shelf).files asked.piece t → Mean asked.width t (Err r)
         → ¬ (Rose (F.tells before.shelf).faults (F.tells now.shelf).faults)
         → (s ≡ refusal r) ⊎ (s ≡ status.OutOfMemory) }
 {
@@ -66,12 +69,13 @@ pub fn refusals_decide<F: Shelf, K: Sink, T: Sink>(_taps: &[Box<dyn Tap>])
     told_files_have_texts_or_lack_a_name();
 }
 
-/// Where the texts are known and mean a composition, and neither the shelf nor a sink failed, it is performed whole and
-/// reported, want of memory aside.
+/// Where the texts are known and mean a composition, and neither the shelf nor a sink failed, it is performed whole
+/// and reported, want of memory aside.
 pub fn sounds_decide<F: Shelf, K: Sink, T: Sink>(_taps: &[Box<dyn Tap>])
-    ensures { (words : List Text) (s : Status) (before now : Scene F K T _) (asked : Asked) (t : Texts) (c : Composition)
+    ensures { (words : List Text) (s : Status) (before now : Scene F K T _) (asked : Asked) (t : Texts)
+        (c : Composition)
         → IsRun (sight F.tells K.tells T.tells (λ t h. stands_for t h) (λ t room. text t room)) words s before now
-        → reading words ≡ Some asked → AreTexts (F.tells before.shelf).files asked.piece t → Mean (is_wide asked.width) t (Ok c)
+        → reading words ≡ Some asked → AreTexts (F.tells before.shelf).files asked.piece t → Mean asked.width t (Ok c)
         → ¬ (Rose (F.tells before.shelf).faults (F.tells now.shelf).faults)
         → ¬ (Rose (K.tells before.wav).faults (K.tells now.wav).faults)
         → ¬ (Rose (T.tells before.talk).faults (T.tells now.talk).faults)

@@ -1,9 +1,10 @@
 //! The program as one call: the words behind its name in, a sound file and a report out.
 //!
-//! The one contract: `csplay` ends as `IsRun` says (specs/Runs): each status by what has come about (`EndsBy`, specs/Endings), over
-//! what shelf, sound file, talk and meters tell before and after; and the shelf was read by the source that the words ask for, or
-//! not at all. What follows for every two runs and for every run are calls of `laws`: the same bytes for every number of workers,
-//! and that words, a lacking name, a refusal and a sound decide the status, want of memory aside.
+//! The one contract: `csplay` ends as `IsRun` says (specs/Runs): each status by what has come about (`EndsBy`,
+//! specs/Endings), over what shelf, sound file, talk and meters tell before and after; and the shelf was read by the
+//! source that the words ask for, or not at all. What follows for every two runs and for every run are calls of
+//! `laws`: the same bytes for every number of workers, and that words, a lacking name, a refusal and a sound decide
+//! the status, want of memory aside.
 //!
 //! How many workers there are may be changed without anyone noticing; so may whatever `perform` leaves open.
 //!

@@ -1,10 +1,12 @@
 // A piece is performed and reported on.
-ghost use Rattle.std.specs.Prelude.{◌≡◌, ◌≤◌, ◌*◌, ◌^◌, ◌++◌, true, ⊤, IfOk, IsErrOf, OnErr, OnOk, flat_map};
+ghost use Rattle.std.specs.Prelude.{◌≡◌, ◌≤◌, ◌*◌, ◌^◌, ◌++◌, ⊤, IfOk, IsErrOf, OnErr, OnOk, flat_map};
 ghost use Rattle.cs_base.specs.Limits.{most_wav_bytes};
+ghost use Rattle.cs_base.specs.Widths.{bytes_of};
 ghost use Rattle.cs_edge.specs.Files.{ShelfTold};
 ghost use Rattle.cs_edge.specs.Told.{Rose};
 ghost use Rattle.cs_perform.specs.Performances.{IsOutcomeOf, IsPart, IsPaused, IsWhole, if_told};
-ghost use Rattle.cs_play.specs.Endings.{is_wide, order_of};
+ghost use Rattle.cs_perform.specs.declared.order.Output.TheVariants.{SoundFile};
+ghost use Rattle.cs_play.specs.Endings.{lines_of, order_of, output_of};
 ghost use Rattle.cs_play.specs.Scene.{scene, sight};
 ghost use Rattle.cs_play.specs.inner.Sounding.{HasReported, HasSounded, counts_told};
 ghost use Rattle.cs_play.specs.inner.Stopping.{fault_status};
@@ -12,21 +14,20 @@ ghost use Rattle.cs_arguments.specs.Orders.{asked_in};
 ghost use Rattle.cs_piece.specs.Setups.{composition_of};
 ghost use Rattle.cs_report.specs.Report.{counts_in, line_room};
 ghost use Rattle.cs_turns.specs.Turns.{turn_lines_of};
-ghost use Rattle.cs_wav.specs.Wav.{bytes_of};
 
-use cs_arguments::{Order, SampleWidth};
+use cs_arguments::Order;
 use cs_crew::crew_size;
 use cs_desk::Tally;
 use cs_edge::{Gate, Sink, Tap};
-use cs_perform::{Crew, Outcome, PlayFault, perform};
+use cs_perform::{Crew, Outcome, Output, PlayFault, TurnLines, perform};
 use cs_piece::Setup;
 use cs_report::{Counts, Status, report, say_end};
 use std::alloc::Global;
 use std::sync::Wait;
 use std::thread::Threads;
 
-/// Performs a piece as the words ask for it, and writes its report, or the line that says why there is none. The shelf has no part
-/// in it.
+/// Performs a piece as the words ask for it, and writes its report, or the line that says why there is none. The
+/// shelf has no part in it.
 pub(crate) fn sound<R: Threads + Wait + Sync, K: Sink, T: Sink, G: Gate + Sync>(
     rt: &R,
     alloc: Global,
@@ -40,9 +41,10 @@ pub(crate) fn sound<R: Threads + Wait + Sync, K: Sink, T: Sink, G: Gate + Sync>(
 ) -> Status
     requires tally { (tally.old.cycles ≤ 2 ^ 62) × (tally.old.notes ≤ 2 ^ 62) }
     requires bytes { setup.now.plot.cycles * setup.now.orchestra.head.ksmps * setup.now.orchestra.head.nchnls
-        * bytes_of (is_wide order.now.width) ≤ most_wav_bytes }
+        * bytes_of order.now.width ≤ most_wav_bytes }
     ensures { (told : ShelfTold)
-        → HasSounded (sight (λ (_ : ⊤). told) K.tells T.tells (λ t h. stands_for t h) (λ t room. text t room)) (asked_in order.now)
+        → HasSounded (sight (λ (_ : ⊤). told) K.tells T.tells (λ t h. stands_for t h) (λ t room. text t room))
+        (asked_in order.now)
         (composition_of setup.now) result (scene tt wav.old talk.old taps.old.items tally.old)
         (scene tt wav.new talk.new taps.new.items tally.new) }
 {
@@ -55,7 +57,8 @@ pub(crate) fn sound<R: Threads + Wait + Sync, K: Sink, T: Sink, G: Gate + Sync>(
 /// Writes the report of a performance.
 fn reported<T: Sink>(talk: &mut T, outcome: &Outcome, taps: &[Box<dyn Tap>]) -> Status
     ensures { HasReported (T.tells talk.old) (T.tells talk.new)
-        (counts_in (counts_told outcome.now) ++ flat_map (λ t. text t line_room) taps.now ++ outcome.now.turns) result }
+        (counts_in (counts_told outcome.now) ++ flat_map
+        (λ t. text t line_room) taps.now ++ outcome.now.turns) result }
 {
     match report(talk, &counts_of(outcome), taps, outcome.turns.as_slice()) {
         Ok(()) => Status::Ok,
@@ -84,7 +87,8 @@ fn status_of(fault: PlayFault) -> Status
     }
 }
 
-/// Performs a piece as the words ask for it: with `--pool` by a crew that is started once, else by one that is started in each cycle.
+/// Performs a piece as the words ask for it: with `--pool` by a crew that is started once, else by one that is
+/// started in each cycle.
 fn play<R: Threads + Wait + Sync, K: Sink, G: Gate + Sync>(
     rt: &R,
     alloc: Global,
@@ -97,17 +101,21 @@ fn play<R: Threads + Wait + Sync, K: Sink, G: Gate + Sync>(
 ) -> Result<Outcome, PlayFault>
     requires tally { (tally.old.cycles ≤ 2 ^ 62) × (tally.old.notes ≤ 2 ^ 62) }
     requires bytes { setup.now.plot.cycles * setup.now.orchestra.head.ksmps * setup.now.orchestra.head.nchnls
-        * bytes_of (is_wide order.now.width) ≤ most_wav_bytes }
-    ensures whole { OnOk result (IsWhole (λ t h. stands_for t h) K.tells (composition_of setup.now) setup.now.orchestra.head
+        * bytes_of order.now.width ≤ most_wav_bytes }
+    ensures whole { OnOk result (IsWhole (λ t h. stands_for t h) K.tells
+        (composition_of setup.now) setup.now.orchestra.head
         (order_of (asked_in order.now)) order.now.sound_file.now taps.old.items taps.new.items tally.old tally.new wav.old wav.new) }
-    ensures outcome { IfOk result (IsOutcomeOf (composition_of setup.now) (is_wide order.now.width)) }
-    ensures turns { IfOk result (λ o. o.turns ≡ if_told order.now.turns (turn_lines_of (composition_of setup.now))) }
-    ensures part { OnErr result (IsPart (λ t h. stands_for t h) K.tells (composition_of setup.now) setup.now.orchestra.head
+    ensures outcome { IfOk result (IsOutcomeOf (composition_of setup.now) order.now.width) }
+    ensures turns { IfOk result (λ o. o.turns ≡ if_told (lines_of order.now.turns)
+        (turn_lines_of (composition_of setup.now))) }
+    ensures part { OnErr result (IsPart (λ t h. stands_for t h) K.tells
+        (composition_of setup.now) setup.now.orchestra.head
         (order_of (asked_in order.now)) order.now.sound_file.now taps.old.items taps.new.items tally.old tally.new wav.old wav.new) }
-    ensures memory { IsErrOf result PlayFault.OutOfMemory → IsPaused (λ t h. stands_for t h) K.tells (composition_of setup.now)
+    ensures memory { IsErrOf result PlayFault.OutOfMemory
+        → IsPaused (λ t h. stands_for t h) K.tells (composition_of setup.now)
         setup.now.orchestra.head (order_of (asked_in order.now)) order.now.sound_file.now taps.old.items taps.new.items
         tally.old tally.new wav.old wav.new }
-    ensures sink { IsErrOf result PlayFault.Sink → ((order_of (asked_in order.now)).write ≡ true)
+    ensures sink { IsErrOf result PlayFault.Sink → ((order_of (asked_in order.now)).output ≡ SoundFile)
         × Rose (K.tells wav.old).faults (K.tells wav.new).faults }
 {
     let crew = Crew::new(rt, workers_of(rt, order.workers.number()), order.pool, gate);
@@ -136,17 +144,28 @@ fn performing(order: &Order<'_>) -> cs_perform::Order
     ensures { result ≡ order_of (asked_in order.now) }
 {
     cs_perform::Order {
-        write: !order.silent,
-        wide: is_wide(order.width),
-        turns: order.turns,
+        output: output_of(order.silent),
+        width: order.width,
+        turns: lines_of(order.turns),
     }
 }
 
-pub(crate) fn is_wide(width: SampleWidth) -> bool
-    ensures { result ≡ is_wide width }
+fn output_of(silent: bool) -> Output
+    ensures { result ≡ output_of silent }
 {
-    match width {
-        SampleWidth::TwoBytes => false,
-        SampleWidth::ThreeBytes => true,
+    if silent {
+        Output::Nothing
+    } else {
+        Output::SoundFile
+    }
+}
+
+fn lines_of(turns: bool) -> TurnLines
+    ensures { result ≡ lines_of turns }
+{
+    if turns {
+        TurnLines::Told
+    } else {
+        TurnLines::Untold
     }
 }

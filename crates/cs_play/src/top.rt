@@ -3,7 +3,6 @@ ghost use Rattle.std.specs.Prelude.{◌≡◌, ◌≤◌, ◌*◌, ◌^◌, List
 ghost use Rattle.cs_base.specs.Limits.{most_wav_bytes};
 ghost use Rattle.cs_command.specs.Words.{texts};
 ghost use Rattle.cs_edge.specs.Files.{ShelfTold};
-ghost use Rattle.cs_play.specs.Endings.{is_wide};
 ghost use Rattle.cs_play.specs.Runs.{IsRun};
 ghost use Rattle.cs_play.specs.Scene.{scene, sight};
 ghost use Rattle.cs_play.specs.inner.Sounding.{HasSounded};
@@ -11,9 +10,9 @@ ghost use Rattle.cs_play.specs.inner.Stopping.{HasStopped, unread_status};
 ghost use Rattle.cs_arguments.specs.Orders.{asked_in};
 ghost use Rattle.cs_arguments.specs.Reading.{Text, reading};
 ghost use Rattle.cs_piece.specs.Setups.{composition_of};
-ghost use Rattle.cs_wav.specs.Wav.{bytes_of, size_of};
+ghost use Rattle.cs_wav.specs.Wav.{size_of};
 
-use crate::sounding::{is_wide, sound};
+use crate::sounding::sound;
 use cs_arguments::Order;
 use cs_command::{Unread, read};
 use cs_desk::Tally;
@@ -25,11 +24,12 @@ use std::alloc::Global;
 use std::sync::Wait;
 use std::thread::Threads;
 
-/// All that the program does: reads the words behind its name, takes the piece that they ask for from the shelf or makes the
-/// demo, performs it, writes the sound file into `wav`, tells the mix to each of `taps`, counts cycles and notes in `tally`, and
-/// says on `talk` the report, or why there is none. `IsRun` says what each status means. The tally has counted at most 2^62
-/// cycles and notes before. As many workers perform as the words ask for, though no more than there are processors, or two where
-/// there is one; `gate` is handed to them, to be called before each note.
+/// All that the program does: reads the words behind its name, takes the piece that they ask for from the shelf or
+/// makes the demo, performs it, writes the sound file into `wav`, tells the mix to each of `taps`, counts cycles and
+/// notes in `tally`, and says on `talk` the report, or why there is none. `IsRun` says what each status means. The
+/// tally has counted at most 2^62 cycles and notes before. As many workers perform as the words ask for, though no
+/// more than there are processors, or two where there is one; `gate` is handed to them, to be called before each
+/// note.
 pub fn csplay<R: Threads + Wait + Sync, F: Shelf, K: Sink, T: Sink, G: Gate + Sync>(
     rt: &R,
     alloc: Global,
@@ -42,8 +42,10 @@ pub fn csplay<R: Threads + Wait + Sync, F: Shelf, K: Sink, T: Sink, G: Gate + Sy
     tally: &mut Tally,
 ) -> Status
     requires { (tally.old.cycles ≤ 2 ^ 62) × (tally.old.notes ≤ 2 ^ 62) }
-    ensures { IsRun (sight F.tells K.tells T.tells (λ t h. stands_for t h) (λ t room. text t room)) (texts words.now) result
-        (scene shelf.old wav.old talk.old taps.old.items tally.old) (scene shelf.new wav.new talk.new taps.new.items tally.new) }
+    ensures { IsRun (sight F.tells K.tells T.tells (λ t h. stands_for t h) (λ t room. text t room))
+        (texts words.now) result
+        (scene shelf.old wav.old talk.old taps.old.items tally.old)
+        (scene shelf.new wav.new talk.new taps.new.items tally.new) }
 {
     match read(alloc, words) {
         Ok(order) => follow(rt, alloc, &order, shelf, wav, talk, taps, gate, tally),
@@ -75,9 +77,10 @@ fn follow<R: Threads + Wait + Sync, F: Shelf, K: Sink, T: Sink, G: Gate + Sync>(
     requires { (tally.old.cycles ≤ 2 ^ 62) × (tally.old.notes ≤ 2 ^ 62) }
     ensures { (words : List Text) → reading words ≡ Some (asked_in order.now)
         → IsRun (sight F.tells K.tells T.tells (λ t h. stands_for t h) (λ t room. text t room)) words result
-        (scene shelf.old wav.old talk.old taps.old.items tally.old) (scene shelf.new wav.new talk.new taps.new.items tally.new) }
+        (scene shelf.old wav.old talk.old taps.old.items tally.old)
+        (scene shelf.new wav.new talk.new taps.new.items tally.new) }
 {
-    let loaded = load(alloc, shelf, &order.source, is_wide(order.width));
+    let loaded = load(alloc, shelf, &order.source, order.width);
     let status = perform_loaded(rt, alloc, order, &loaded, wav, talk, taps, gate, tally);
     drop(loaded);
     status
@@ -96,14 +99,16 @@ fn perform_loaded<R: Threads + Wait + Sync, K: Sink, T: Sink, G: Gate + Sync>(
     tally: &mut Tally,
 ) -> Status
     requires tally { (tally.old.cycles ≤ 2 ^ 62) × (tally.old.notes ≤ 2 ^ 62) }
-    requires within { IfOk loaded.now (λ s. size_of (bytes_of (is_wide order.now.width)) (s.plot.cycles * s.orchestra.head.ksmps)
+    requires within { IfOk loaded.now (λ s. size_of order.now.width (s.plot.cycles * s.orchestra.head.ksmps)
         s.orchestra.head ≤ most_wav_bytes) }
     ensures sounded { IfOk loaded.now (λ s. (told : ShelfTold)
-        → HasSounded (sight (λ (_ : ⊤). told) K.tells T.tells (λ t h. stands_for t h) (λ t room. text t room)) (asked_in order.now)
+        → HasSounded (sight (λ (_ : ⊤). told) K.tells T.tells (λ t h. stands_for t h) (λ t room. text t room))
+        (asked_in order.now)
         (composition_of s) result (scene tt wav.old talk.old taps.old.items tally.old)
         (scene tt wav.new talk.new taps.new.items tally.new)) }
     ensures stopped { IfErr loaded.now (λ e. HasStopped e result (T.tells talk.old) (T.tells talk.new)) }
-    ensures untouched { IsErr loaded.now → (wav.new ≡ wav.old) × (taps.new.items ≡ taps.old.items) × (tally.new ≡ tally.old) }
+    ensures untouched { IsErr loaded.now → (wav.new ≡ wav.old) × (taps.new.items ≡ taps.old.items)
+        × (tally.new ≡ tally.old) }
 {
     match loaded {
         Ok(setup) => sound(rt, alloc, order, setup, wav, talk, taps, gate, tally),

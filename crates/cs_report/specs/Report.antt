@@ -9,7 +9,8 @@ line_room = 64
 abbrev pub count_line : List ℕ → ℕ → List ℕ
 count_line name n = name ++ codes " " ++ decimal n ++ codes "\n"
 
--- frames, control cycles, starts that started a note and that started none, and samples out of the range of their width
+-- frames, control cycles, starts that started a note and that started none, and samples out of the range of their
+-- width
 unfoldable pub count_lines : ℕ → ℕ → ℕ → ℕ → ℕ → List ℕ
 count_lines frames cycles started not_started out_of_range =
     count_line (codes "frames") frames

@@ -2,6 +2,7 @@
 use Rattle.std.specs.Prelude.{ℕ}
 use Rattle.cs_report.specs.declared.status.Status.{Status}
 use Rattle.cs_report.specs.declared.status.Status.TheVariants.{Ok, Usage, ShelfFault, OrcRefused, ScoreRefused, Limit, SinkFault, OutOfMemory, TalkFault, CsdRefused}
+use Rattle.cs_base.specs.declared.refusal.Refusal.TheVariants as why
 use Rattle.cs_csd.specs.declared.refused.Refused.{Refused}
 use Rattle.cs_csd.specs.declared.refused.Refused.TheVariants as refused
 
@@ -20,6 +21,6 @@ status_number (CsdRefused fault) = 11
 -- the status of a refusal
 abbrev pub refusal : Refused → Status
 refusal (refused.Csd f) = CsdRefused f
-refusal (refused.Orc f) = OrcRefused f
-refusal (refused.Score f) = ScoreRefused f
-refusal (refused.Limit h) = Limit h
+refusal (refused.Texts (why.Orc f)) = OrcRefused f
+refusal (refused.Texts (why.Score f)) = ScoreRefused f
+refusal (refused.Texts (why.Limit h)) = Limit h

@@ -75,8 +75,10 @@ fn report_turns<T: Sink>(talk: &mut T, turns: &[u8]) -> Result<(), Failed>
 }
 
 fn report_meters<T: Sink>(talk: &mut T, taps: &[Box<dyn Tap>]) -> Result<(), Failed>
-    ensures whole { OnOk result (WroteMore (T.tells talk.old) (T.tells talk.new) (flat_map (λ t. text t line_room) taps.now)) }
-    ensures part { OnErr result (SaysPart (T.tells talk.old) (T.tells talk.new) (flat_map (λ t. text t line_room) taps.now)) }
+    ensures whole { OnOk result (WroteMore (T.tells talk.old) (T.tells talk.new)
+        (flat_map (λ t. text t line_room) taps.now)) }
+    ensures part { OnErr result (SaysPart (T.tells talk.old) (T.tells talk.new)
+        (flat_map (λ t. text t line_room) taps.now)) }
 {
     for tap in taps {
         if let Err(failed) = report_meter(talk, tap) {

@@ -2,7 +2,7 @@
 ghost use Rattle.std.specs.Prelude.{◌≡◌};
 ghost use Rattle.cs_report.specs.Status.{refusal, status_number};
 
-use cs_base::{LimitHit, OrcFault, ScoreFault};
+use cs_base::{LimitHit, OrcFault, Refusal, ScoreFault};
 use cs_csd::{CsdFault, Refused};
 
 /// How a run ended.
@@ -55,9 +55,9 @@ impl Status {
     {
         match refused {
             Refused::Csd(fault) => Status::CsdRefused(fault),
-            Refused::Orc(fault) => Status::OrcRefused(fault),
-            Refused::Score(fault) => Status::ScoreRefused(fault),
-            Refused::Limit(hit) => Status::Limit(hit),
+            Refused::Texts(Refusal::Orc(fault)) => Status::OrcRefused(fault),
+            Refused::Texts(Refusal::Score(fault)) => Status::ScoreRefused(fault),
+            Refused::Texts(Refusal::Limit(hit)) => Status::Limit(hit),
         }
     }
 }

@@ -9,8 +9,8 @@ use cs_base::LimitHit;
 use cs_edge::{Failed, Sink, write_all};
 use itoa::Buffer;
 
-/// Writes the line of a status, where `name` is the text that can't be read, and gives the status back. A line that fails
-/// changes nothing else.
+/// Writes the line of a status, where `name` is the text that can't be read, and gives the status back. A line that
+/// fails changes nothing else.
 pub fn say_end<T: Sink>(talk: &mut T, status: Status, name: &str) -> Status
     ensures status { result ≡ status }
     ensures line { Says (T.tells talk.old) (T.tells talk.new) (message_of status name.now) }
@@ -92,8 +92,10 @@ fn say_line<T: Sink>(talk: &mut T, pieces: &[&str])
 
 /// Writes pieces of text one after another, until one fails.
 pub fn say<T: Sink>(talk: &mut T, pieces: &[&str]) -> Result<(), Failed>
-    ensures whole { OnOk result (WroteMore (T.tells talk.old) (T.tells talk.new) (flat_map (λ piece. piece.now) pieces.now)) }
-    ensures part { OnErr result (SaysPart (T.tells talk.old) (T.tells talk.new) (flat_map (λ piece. piece.now) pieces.now)) }
+    ensures whole { OnOk result (WroteMore (T.tells talk.old) (T.tells talk.new)
+        (flat_map (λ piece. piece.now) pieces.now)) }
+    ensures part { OnErr result (SaysPart (T.tells talk.old) (T.tells talk.new)
+        (flat_map (λ piece. piece.now) pieces.now)) }
 {
     for piece in pieces {
         if let Err(failed) = write_all(talk, piece.as_bytes()) {

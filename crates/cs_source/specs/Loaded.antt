@@ -1,6 +1,7 @@
 -- What a shelf tells of a source that was read.
 use Rattle.std.specs.Prelude.{ℕ, ◌≡◌, ◌≤◌, ◌+◌, ◌⊎◌, Bool, true, false, List, [], ◌++◌, drop, if◌then◌else◌, Option, Some, None, Result, ⊤}
 use Rattle.cs_base.specs.Limits.{most_csd_bytes, most_orchestra_bytes, most_score_bytes}
+use Rattle.cs_base.specs.declared.width.SampleWidth.{SampleWidth}
 use Rattle.cs_piece_meaning.specs.Moments.{Composition}
 use Rattle.cs_edge.specs.Files.{ShelfTold, file_named}
 use Rattle.cs_edge.specs.Moves.{Grown, IsFrontOf, IsRun}
@@ -14,11 +15,11 @@ use Rattle.cs_source.specs.Texts.{Texts, both, csd, demo_notes, Fit, Have, HaveW
 use Rattle.cs_csd.specs.declared.refused.Refused.{Refused}
 
 -- Texts of a source mean this, and where the shelf tells its files it has them.
-pub record SourceMeans (before : ShelfTold) (wide : Bool) (piece : Piece) (r : Result Composition Refused) : Type 0 where
+pub record SourceMeans (before : ShelfTold) (width : SampleWidth) (piece : Piece) (r : Result Composition Refused) : Type 0 where
   pub texts : Texts
   pub fit : Fit piece texts
   pub have : HaveWhereTold before.files piece texts
-  pub mean : Mean wide texts r
+  pub mean : Mean width texts r
 
 -- a text that is there, and is an orchestra that is too long
 abbrev pub is_there_too_long : Option (List ℕ) → Bool

@@ -40,8 +40,8 @@ abbrev pub HaveWhereTold : Option (List NamedBytes) → Piece → Texts → Type
 HaveWhereTold None piece texts = ⊤
 HaveWhereTold (Some files) piece texts = Have files piece texts
 
--- The files are told, and lack this name, which is begun: the orchestra's, the score's behind an orchestra that isn't too long,
--- or that of the one file.
+-- The files are told, and lack this name, which is begun: the orchestra's, the score's behind an orchestra that isn't
+-- too long, or that of the one file.
 abbrev pub Lack : List NamedBytes → Piece → List ℕ → Type 0
 Lack files (two_files orc sco) name =
     ((name ≡ orc) × (file_named orc files ≡ None))

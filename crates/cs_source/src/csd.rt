@@ -2,9 +2,8 @@
 ghost use Rattle.std.specs.Prelude.{◌≡◌};
 ghost use Rattle.cs_source.specs.Meaning.{is_of_orchestra, limit_in, line_in, part_of, told_in};
 
-use cs_base::{Limit, LimitHit, OrcFault, ScoreFault};
-use cs_compile::Refusal;
-use cs_csd::{Part, Refused};
+use cs_base::{Limit, LimitHit, OrcFault, Refusal, ScoreFault};
+use cs_csd::Part;
 
 /// The lines of a file in which its orchestra and its score begin. A text that is a file of its own begins in line 1.
 #[derive(Clone, Copy)]
@@ -23,19 +22,19 @@ pub fn part_of(text: &[u8], part: Part) -> &[u8]
 }
 
 /// A refusal with its line in the file.
-pub fn told_in(first: FirstLines, refusal: Refusal) -> Refused
+pub fn told_in(first: FirstLines, refusal: Refusal) -> Refusal
     ensures { result ≡ told_in first.orc first.sco refusal }
 {
     match refusal {
-        Refusal::Orc(fault) => Refused::Orc(OrcFault {
+        Refusal::Orc(fault) => Refusal::Orc(OrcFault {
             line: line_in(first.orc, fault.line),
             kind: fault.kind,
         }),
-        Refusal::Score(fault) => Refused::Score(ScoreFault {
+        Refusal::Score(fault) => Refusal::Score(ScoreFault {
             line: line_in(first.sco, fault.line),
             kind: fault.kind,
         }),
-        Refusal::Limit(hit) => Refused::Limit(limit_in(first, hit)),
+        Refusal::Limit(hit) => Refusal::Limit(limit_in(first, hit)),
     }
 }
 

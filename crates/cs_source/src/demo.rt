@@ -16,7 +16,7 @@ pub fn demo_orchestra(alloc: Global) -> Result<Vec<u8>, AllocError>
     Vec::from_slice(alloc, ORCHESTRA)
 }
 
-/// The demo's score for so many notes, which last a second each; 64 of them begin with each second.
+/// The demo's score for `notes` notes, which last a second each; 64 of them begin with each second.
 pub fn demo_score(alloc: Global, notes: u32) -> Result<Vec<u8>, AllocError>
     ensures { IfOk result (λ text. text.items ≡ score notes) }
 {

@@ -1,5 +1,6 @@
 // What holds of the texts of every source: calls that do nothing, whose contracts are the laws.
-ghost use Rattle.std.specs.Prelude.{◌≡◌, ◌⊎◌, ℕ, Bool, List, Result};
+ghost use Rattle.std.specs.Prelude.{◌≡◌, ◌⊎◌, ℕ, List, Result};
+ghost use Rattle.cs_base.specs.declared.width.SampleWidth.{SampleWidth};
 ghost use Rattle.cs_piece_meaning.specs.Moments.{Composition};
 ghost use Rattle.cs_edge.specs.declared.files.NamedBytes.{NamedBytes};
 ghost use Rattle.cs_arguments.specs.Reading.{Piece};
@@ -12,7 +13,8 @@ use cs_csd::one_reading;
 
 /// The texts of a source mean one thing.
 pub fn texts_of_a_source_mean_one()
-    ensures { (wide : Bool) (t : Texts) (r s : Result Composition Refused) → Mean wide t r → Mean wide t s → r ≡ s }
+    ensures { (width : SampleWidth) (t : Texts) (r s : Result Composition Refused) → Mean width t r → Mean width t s
+        → r ≡ s }
 {
     texts_have_one_meaning();
     one_reading();
@@ -20,11 +22,14 @@ pub fn texts_of_a_source_mean_one()
 
 /// Files have no two pairs of texts for a source.
 pub fn files_have_one_pair_of_texts()
-    ensures { (files : List NamedBytes) (piece : Piece) (t u : Texts) → Have files piece t → Have files piece u → t ≡ u }
+    ensures { (files : List NamedBytes) (piece : Piece) (t u : Texts) → Have files piece t → Have files piece u
+        → t ≡ u }
 {}
 
 /// Files have texts for a source, or lack a name that is begun, and never both.
 pub fn told_files_have_texts_or_lack_a_name()
-    ensures some { (files : List NamedBytes) (piece : Piece) → ((t : Texts) × Have files piece t) ⊎ ((name : List ℕ) × Lack files piece name) }
-    ensures none { (files : List NamedBytes) (piece : Piece) (t : Texts) (name : List ℕ) → Lack files piece name → Have files piece t → ⊥ }
+    ensures some { (files : List NamedBytes) (piece : Piece)
+        → ((t : Texts) × Have files piece t) ⊎ ((name : List ℕ) × Lack files piece name) }
+    ensures none { (files : List NamedBytes) (piece : Piece) (t : Texts) (name : List ℕ) → Lack files piece name
+        → Have files piece t → ⊥ }
 {}

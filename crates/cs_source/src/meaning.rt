@@ -6,53 +6,71 @@ ghost use Rattle.cs_piece.specs.Setups.{composition_of};
 ghost use Rattle.cs_source.specs.Meaning.{FileMeans, MeanAt, PartsMean};
 ghost use Rattle.cs_csd.specs.declared.refused.Refused.{Refused};
 ghost use Rattle.cs_source.specs.inner.Read.{MeansAsRead};
-ghost use Rattle.cs_wav.specs.Wav.{bytes_of, size_of};
+ghost use Rattle.cs_wav.specs.Wav.{size_of};
 
 use crate::csd::{FirstLines, part_of, told_in};
 use crate::source::SourceText;
-use cs_base::{Limit, LimitHit, MOST_CSD_BYTES, Or};
+use cs_base::{Limit, MOST_CSD_BYTES, Or, Refusal, SampleWidth};
 use cs_compile::compile;
 use cs_csd::{Parts, Refused, split_csd};
 use cs_piece::Setup;
 use std::alloc::Global;
 
-/// What the piece of the texts needs to be performed, in samples of two bytes or, where `wide`, of three; or their first refusal.
-pub fn compile_source(alloc: Global, source: &SourceText, wide: bool) -> Result<Setup, Or<Refused>>
-    ensures piece { IfOk result (λ s. MeansAsRead wide source.now (Ok (composition_of s))) }
-    ensures within { IfOk result (λ s. size_of (bytes_of wide) (s.plot.cycles * s.orchestra.head.ksmps) s.orchestra.head ≤ most_wav_bytes) }
-    ensures refused { (r : Refused) → result ≡ Err (or.Fault r) → MeansAsRead wide source.now (Err r) }
+/// What the piece of the texts needs to be performed, in samples of this width; or their first refusal.
+pub fn compile_source(
+    alloc: Global,
+    source: &SourceText,
+    width: SampleWidth,
+) -> Result<Setup, Or<Refused>>
+    ensures piece { IfOk result (λ s. MeansAsRead width source.now (Ok (composition_of s))) }
+    ensures within { IfOk result (λ s. size_of width
+        (s.plot.cycles * s.orchestra.head.ksmps) s.orchestra.head ≤ most_wav_bytes) }
+    ensures refused { (r : Refused) → result ≡ Err (or.Fault r) → MeansAsRead width source.now (Err r) }
 {
     match source {
         SourceText::Pair { orchestra, score } => {
-            compile_at(alloc, orchestra, score, FirstLines { orc: 1, sco: 1 }, wide)
+            compile_at(
+                alloc,
+                orchestra,
+                score,
+                FirstLines { orc: 1, sco: 1 },
+                width,
+            )
         }
-        SourceText::Csd { text } => compile_file(alloc, text, wide),
+        SourceText::Csd { text } => compile_file(alloc, text, width),
     }
 }
 
 // The same of one file with both texts.
-fn compile_file(alloc: Global, text: &[u8], wide: bool) -> Result<Setup, Or<Refused>>
-    ensures piece { IfOk result (λ s. FileMeans (nat_lt most_csd_bytes (length text.now)) wide text.now (Ok (composition_of s))) }
-    ensures within { IfOk result (λ s. size_of (bytes_of wide) (s.plot.cycles * s.orchestra.head.ksmps) s.orchestra.head ≤ most_wav_bytes) }
-    ensures refused { (r : Refused) → result ≡ Err (or.Fault r) → FileMeans (nat_lt most_csd_bytes (length text.now)) wide text.now (Err r) }
+fn compile_file(alloc: Global, text: &[u8], width: SampleWidth) -> Result<Setup, Or<Refused>>
+    ensures piece { IfOk result (λ s. FileMeans (nat_lt most_csd_bytes (length text.now)) width text.now
+        (Ok (composition_of s))) }
+    ensures within { IfOk result (λ s. size_of width
+        (s.plot.cycles * s.orchestra.head.ksmps) s.orchestra.head ≤ most_wav_bytes) }
+    ensures refused { (r : Refused) → result ≡ Err (or.Fault r)
+        → FileMeans (nat_lt most_csd_bytes (length text.now)) width text.now (Err r) }
 {
     if text.len() > MOST_CSD_BYTES {
-        return Err(Or::Fault(Refused::Limit(LimitHit {
-            limit: Limit::CsdBytes,
-            line: 0,
-        })));
+        let refusal = Refusal::passed(Limit::CsdBytes);
+        return Err(Or::Fault(Refused::Texts(refusal)));
     }
     match split_csd(text) {
-        Ok(parts) => compile_parts(alloc, text, parts, wide),
+        Ok(parts) => compile_parts(alloc, text, parts, width),
         Err(fault) => Err(Or::Fault(Refused::Csd(fault))),
     }
 }
 
 // The same of a file whose tags were read.
-fn compile_parts(alloc: Global, text: &[u8], parts: Parts, wide: bool) -> Result<Setup, Or<Refused>>
-    ensures piece { IfOk result (λ s. PartsMean wide text.now (Ok parts) (Ok (composition_of s))) }
-    ensures within { IfOk result (λ s. size_of (bytes_of wide) (s.plot.cycles * s.orchestra.head.ksmps) s.orchestra.head ≤ most_wav_bytes) }
-    ensures refused { (r : Refused) → result ≡ Err (or.Fault r) → PartsMean wide text.now (Ok parts) (Err r) }
+fn compile_parts(
+    alloc: Global,
+    text: &[u8],
+    parts: Parts,
+    width: SampleWidth,
+) -> Result<Setup, Or<Refused>>
+    ensures piece { IfOk result (λ s. PartsMean width text.now (Ok parts) (Ok (composition_of s))) }
+    ensures within { IfOk result (λ s. size_of width
+        (s.plot.cycles * s.orchestra.head.ksmps) s.orchestra.head ≤ most_wav_bytes) }
+    ensures refused { (r : Refused) → result ≡ Err (or.Fault r) → PartsMean width text.now (Ok parts) (Err r) }
 {
     let first = FirstLines {
         orc: parts.orc.line,
@@ -60,7 +78,7 @@ fn compile_parts(alloc: Global, text: &[u8], parts: Parts, wide: bool) -> Result
     };
     let orchestra = part_of(text, parts.orc);
     let score = part_of(text, parts.sco);
-    compile_at(alloc, orchestra, score, first, wide)
+    compile_at(alloc, orchestra, score, first, width)
 }
 
 // The same of two texts that begin at these lines of a file.
@@ -69,15 +87,18 @@ fn compile_at(
     orchestra: &[u8],
     score: &[u8],
     first: FirstLines,
-    wide: bool,
+    width: SampleWidth,
 ) -> Result<Setup, Or<Refused>>
-    ensures piece { IfOk result (λ s. MeanAt wide first.orc first.sco orchestra.now score.now (Ok (composition_of s))) }
-    ensures within { IfOk result (λ s. size_of (bytes_of wide) (s.plot.cycles * s.orchestra.head.ksmps) s.orchestra.head ≤ most_wav_bytes) }
-    ensures refused { (r : Refused) → result ≡ Err (or.Fault r) → MeanAt wide first.orc first.sco orchestra.now score.now (Err r) }
+    ensures piece { IfOk result (λ s. MeanAt width first.orc first.sco orchestra.now score.now
+        (Ok (composition_of s))) }
+    ensures within { IfOk result (λ s. size_of width
+        (s.plot.cycles * s.orchestra.head.ksmps) s.orchestra.head ≤ most_wav_bytes) }
+    ensures refused { (r : Refused) → result ≡ Err (or.Fault r)
+        → MeanAt width first.orc first.sco orchestra.now score.now (Err r) }
 {
-    match compile(alloc, orchestra, score, wide) {
+    match compile(alloc, orchestra, score, width) {
         Ok(setup) => Ok(setup),
-        Err(Or::Fault(refusal)) => Err(Or::Fault(told_in(first, refusal))),
+        Err(Or::Fault(refusal)) => Err(Or::Fault(Refused::Texts(told_in(first, refusal)))),
         Err(Or::OutOfMemory) => Err(Or::OutOfMemory),
     }
 }

@@ -17,7 +17,7 @@ pub enum ReadFault {
     OutOfMemory,
 }
 
-/// The first bytes of the file of that name, so many at most.
+/// The first bytes of the file of that name, `most` at most.
 pub fn read_text<F: Shelf>(
     alloc: Global,
     shelf: &mut F,
@@ -41,7 +41,7 @@ pub fn read_text<F: Shelf>(
     }
 }
 
-/// The first bytes of what is left of the file begun, so many at most.
+/// The first bytes of what is left of the file begun, `most` at most.
 fn read_begun<F: Shelf>(alloc: Global, shelf: &mut F, most: usize) -> Result<Vec<u8>, ReadFault>
     ensures text { IfOk result (λ text. IsFrontOf most (F.tells shelf.old).left text.items (F.tells shelf.new).left) }
     ensures most { IfOk result (λ text. length text.items ≤ most) }
@@ -81,10 +81,11 @@ fn fill<F: Shelf>(shelf: &mut F, text: &mut Vec<u8>, most: usize) -> Result<(), 
 /// The most bytes that are asked for at once.
 const BLOCK: usize = 4_096;
 
-/// One read: adds what it gives behind the text, so many bytes at most, and answers whether it gave any.
+/// One read: adds what it gives behind the text, `most` bytes at most, and returns whether it gave any.
 fn read_block<F: Shelf>(shelf: &mut F, text: &mut Vec<u8>, most: usize) -> Result<bool, ReadFault>
     requires { 0 < most }
-    ensures read { IfOk result (λ more. ReadOnce (F.tells shelf.old) (F.tells shelf.new) most text.old.items text.new.items more) }
+    ensures read { IfOk result (λ more. ReadOnce (F.tells shelf.old)
+        (F.tells shelf.new) most text.old.items text.new.items more) }
     ensures fault { IsErrOf result ReadFault.Shelf → Rose (F.tells shelf.old).faults (F.tells shelf.new).faults }
     ensures later { (F.tells shelf.old).faults ≤ (F.tells shelf.new).faults }
     ensures moves { Follows (F.tells shelf.old).moves (F.tells shelf.new).moves (GrownBy Read) }

@@ -22,7 +22,7 @@ pub enum SourceText {
     Csd { text: Vec<u8> },
 }
 
-/// Reads what the words ask for, or answers the name that can't be read.
+/// Reads what the words ask for, or returns the name that can't be read.
 pub fn read_source<'a, F: Shelf>(
     alloc: Global,
     shelf: &mut F,
@@ -30,7 +30,8 @@ pub fn read_source<'a, F: Shelf>(
 ) -> Result<SourceText, Or<&'a str>>
     ensures read { IfOk result (λ text. AreRead (F.tells shelf.old).files (piece_in source.now) text) }
     ensures rest { OnOk result (LeavesUnread (F.tells shelf.old) (F.tells shelf.new) (piece_in source.now)) }
-    ensures unread { IfErr result (λ e. IfFault e (λ name. CannotRead (F.tells shelf.old) (F.tells shelf.new) (piece_in source.now) name.now)) }
+    ensures unread { IfErr result (λ e. IfFault e (λ name. CannotRead (F.tells shelf.old) (F.tells shelf.new)
+        (piece_in source.now) name.now)) }
     ensures shelf { WasRead (F.tells shelf.old) (F.tells shelf.new) (piece_in source.now) }
     ensures files { (F.tells shelf.new).files ≡ (F.tells shelf.old).files }
 {
@@ -53,7 +54,8 @@ fn read_files<'a, F: Shelf>(
 ) -> Result<SourceText, Or<&'a str>>
     ensures read { IfOk result (λ text. AreRead (F.tells shelf.old).files (two_files orc.now sco.now) text) }
     ensures rest { OnOk result (LeavesUnread (F.tells shelf.old) (F.tells shelf.new) (two_files orc.now sco.now)) }
-    ensures unread { IfErr result (λ e. IfFault e (λ name. CannotRead (F.tells shelf.old) (F.tells shelf.new) (two_files orc.now sco.now) name.now)) }
+    ensures unread { IfErr result (λ e. IfFault e (λ name. CannotRead (F.tells shelf.old) (F.tells shelf.new)
+        (two_files orc.now sco.now) name.now)) }
     ensures shelf { WasRead (F.tells shelf.old) (F.tells shelf.new) (two_files orc.now sco.now) }
     ensures files { (F.tells shelf.new).files ≡ (F.tells shelf.old).files }
 {
@@ -81,7 +83,8 @@ fn read_file<'a, F: Shelf>(
 ) -> Result<SourceText, Or<&'a str>>
     ensures read { IfOk result (λ text. AreRead (F.tells shelf.old).files (one_file csd.now) text) }
     ensures rest { OnOk result (LeavesUnread (F.tells shelf.old) (F.tells shelf.new) (one_file csd.now)) }
-    ensures unread { IfErr result (λ e. IfFault e (λ name. CannotRead (F.tells shelf.old) (F.tells shelf.new) (one_file csd.now) name.now)) }
+    ensures unread { IfErr result (λ e. IfFault e (λ name. CannotRead (F.tells shelf.old) (F.tells shelf.new)
+        (one_file csd.now) name.now)) }
     ensures shelf { WasRead (F.tells shelf.old) (F.tells shelf.new) (one_file csd.now) }
     ensures files { (F.tells shelf.new).files ≡ (F.tells shelf.old).files }
 {

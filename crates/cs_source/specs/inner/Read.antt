@@ -1,8 +1,9 @@
 -- What was read of a source, and what it means.
-use Rattle.std.specs.Prelude.{◌≡◌, ◌+◌, Bool, List, length, nat_lt, take, Option, Result, ⊤}
+use Rattle.std.specs.Prelude.{◌≡◌, ◌+◌, List, length, nat_lt, take, Option, Result, ⊤}
 use Rattle.cs_base.specs.Limits.{most_csd_bytes, most_orchestra_bytes, most_score_bytes}
 use Rattle.cs_base.specs.declared.fault.Or.{Or}
 use Rattle.cs_base.specs.declared.fault.Or.TheVariants as or
+use Rattle.cs_base.specs.declared.width.SampleWidth.{SampleWidth}
 use Rattle.cs_piece_meaning.specs.Moments.{Composition}
 use Rattle.cs_source.specs.DemoTexts as demo_texts
 use Rattle.cs_edge.specs.declared.files.NamedBytes.{NamedBytes}
@@ -34,6 +35,6 @@ pub record AreRead (files : Option (List NamedBytes)) (piece : Piece) (text : So
   pub read_of : IsReadOf texts text
 
 -- what was read means this
-abbrev pub MeansAsRead : Bool → SourceText → Result Composition Refused → Type 0
-MeansAsRead wide (read.Pair x y) r = MeanAt wide 1 1 x.items y.items r
-MeansAsRead wide (read.Csd x) r = FileMeans (nat_lt most_csd_bytes (length x.items)) wide x.items r
+abbrev pub MeansAsRead : SampleWidth → SourceText → Result Composition Refused → Type 0
+MeansAsRead width (read.Pair x y) r = MeanAt width 1 1 x.items y.items r
+MeansAsRead width (read.Csd x) r = FileMeans (nat_lt most_csd_bytes (length x.items)) width x.items r

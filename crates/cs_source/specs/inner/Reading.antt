@@ -30,7 +30,8 @@ pub record ReadOnce (before now : ShelfTold) (most : ℕ) (text longer : List �
   pub same : now.files ≡ before.files
   pub any_is : any ≡ nat_lt 0 count
 
--- The first bytes of what was left, so many at most, have been read, and what follows them is left; where that is told.
+-- The first bytes of what was left, so many at most, have been read, and what follows them is left; where that is
+-- told.
 abbrev pub IsFrontOf : ℕ → Option (List ℕ) → List ℕ → Option (List ℕ) → Type 0
 IsFrontOf most None text now = ⊤
 IsFrontOf most (Some left) text now = (text ≡ take most left) × (now ≡ Some (drop most left))

@@ -4,6 +4,6 @@ use Rattle.cs_play.proofs.top.follow.Goals as goal
 
 pub returns : goal.returns
 returns g c words read =
-    loaded_run _ words (asked_in c.args.order.now) c.is_wide.result c.load-loaded.result _ _ _ _ _ _ _ _ _ _ _ c.is_wide.ensures read c.load-loaded.ensures.shelf
+    loaded_run _ words (asked_in c.args.order.now) c.load-loaded.result _ _ _ _ _ _ _ _ _ _ _ read c.load-loaded.ensures.shelf
     c.load-loaded.ensures.piece c.load-loaded.ensures.rest c.load-loaded.ensures.refused c.load-loaded.ensures.rest_refused c.load-loaded.ensures.unread
     c.perform_loaded-status.ensures.sounded c.perform_loaded-status.ensures.stopped c.perform_loaded-status.ensures.untouched

@@ -6,8 +6,8 @@ abbrev pub most_workers : ℕ
 most_workers = 32
 
 -- the most notes of the demo
-abbrev pub most_notes : ℕ
-most_notes = 10000
+abbrev pub most_demo_notes : ℕ
+most_demo_notes = 10000
 
 -- a number from 1 to this one
 abbrev pub IsFromOneTo : ℕ → ℕ → Type 0
