@@ -30,7 +30,8 @@ begins_comment text = begins_line_comment text || begins_block_comment text
 abbrev pub is_open_comment : List ℕ → Bool
 is_open_comment text = begins_block_comment text && not (list_any closes (tails (drop 2 text)))
 
--- how many bytes at the front of a text are a comment: none, the rest of the line, all up to and with the next `*/`, or the whole text
+-- how many bytes at the front of a text are a comment: none, the rest of the line, all up to and with the next `*/`,
+-- or the whole text
 abbrev pub comment_len : List ℕ → ℕ
 comment_len text =
     if begins_line_comment text then prefix_len is_line_byte text

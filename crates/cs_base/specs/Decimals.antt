@@ -19,7 +19,8 @@ after_point text = after_first is_point text
 -- the form of a decimal: digits, a point among or beside them at most, and at least one digit
 abbrev pub is_numeral : List ℕ → Bool
 is_numeral text =
-    nat_lt 0 (length (before_point text) + length (after_point text)) && list_all is_ascii_digit (before_point text) && list_all is_ascii_digit (after_point text)
+    nat_lt 0 (length (before_point text) + length (after_point text)) && list_all is_ascii_digit (before_point text)
+    && list_all is_ascii_digit (after_point text)
 
 -- its whole part
 abbrev pub whole_part : List ℕ → ℕ

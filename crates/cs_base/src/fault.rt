@@ -53,7 +53,7 @@ impl<F> From<OutOfMemory> for Or<F> {
     }
 }
 
-/// The kinds of fault of an orchestra: 1 to 4 are found by tokens, 5 to 11 and 20 to 23 by grammar, 12 to 19 by rates and names.
+/// The kinds of fault of an orchestra: tokens find 1 to 4, grammar 5 to 11 and 20 to 23, rates and names 12 to 19.
 #[derive(Clone, Copy, Debug, PartialEq, Eq)]
 pub enum OrcKind {
     BadByte = 1,

@@ -13,7 +13,7 @@ pub struct Head {
     pub ksmps: u32,
     /// Channels, from 1 to 16.
     pub nchnls: u32,
-    /// The value that stands for full scale, above 0.
+    /// The value of full scale, above 0.
     pub dbfs: Num,
     ghost sr_in_range: { (1 ≤ sr) × (sr ≤ greatest_sr) },
     ghost ksmps_in_range: { (1 ≤ ksmps) × (ksmps ≤ greatest_ksmps) },

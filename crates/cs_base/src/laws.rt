@@ -1,4 +1,4 @@
-// What holds of the arithmetic for all numbers, said once for every caller: calls that do nothing, whose contracts are the laws.
+// What holds of the arithmetic for all numbers, said once: calls that do nothing, whose contracts are the laws.
 ghost use Rattle.std.specs.Prelude.{◌≡◌, ◌↔◌, ◌⊎◌, true, ℤ, pos, neg_ℤ, ◌+ℤ◌, ◌-ℤ◌, ◌*ℤ◌, ◌≤ℤ◌, ◌<ℤ◌, ℕ, List, Some, None, codes};
 ghost use Rattle.std.specs.List.{list_all};
 ghost use Rattle.std.specs.Cmp.{IsTotalOrder};
@@ -38,7 +38,8 @@ pub fn division_rounds_down()
         → (y <ℤ remainder_of x y) × (remainder_of x y ≤ℤ pos 0) }
 {}
 
-/// A number is its floor and a part from 0 below one; it is also its `int`, which lies between 0 and it, and its `frac`.
+/// A number is its floor and a part from 0 below one; it is also its `int`, which lies between 0 and it, and its
+/// `frac`.
 pub fn parts_of_a_number()
     ensures floor { (x : ℤ) → (floor_of x ≤ℤ x) × (x <ℤ (floor_of x +ℤ one)) }
     ensures whole { (x : ℤ) → (n : ℤ) × (floor_of x ≡ n *ℤ one) }

@@ -14,6 +14,9 @@ const GREATEST: i64 = 140_737_488_355_327;
 /// One as a raw value: a number is a count of 65,536ths.
 pub const ONE: i64 = 65_536;
 
+/// The bits of a number's fraction: a shift by them divides by `ONE` and rounds down.
+const FRACTION_BITS: u32 = 16;
+
 /// A number of the profile: `raw` whole 65,536ths, from -2^47 to 2^47 - 1. Contracts see `raw`.
 #[derive(Clone, Copy, Debug, PartialEq, Eq)]
 pub struct Num {
@@ -119,7 +122,7 @@ impl Num {
         }
     }
 
-    /// What the quotient, rounded down to a whole number, leaves of `self`. It has the divisor's sign, and by 0 it is 0.
+    /// What the quotient, rounded down to a whole number, leaves of `self`. It has the divisor's sign; by 0 it is 0.
     pub fn rem(self, other: Num) -> Num
         ensures { result ≡ remainder_of self other }
     {
@@ -138,7 +141,7 @@ impl Num {
         ensures low { neg_ℤ (pos (2 ^ 31)) ≤ℤ result }
         ensures high { result <ℤ pos (2 ^ 31) }
     {
-        self.raw.div_euclid(ONE)
+        self.raw >> FRACTION_BITS
     }
 
     /// The greatest whole number that is at most `self`.
@@ -197,7 +200,7 @@ fn is_short(x: i64) -> bool
 fn scaled(x: Num, y: Num) -> i128
     ensures { result ≡ floor_div (x *ℤ y) one }
 {
-    floored(times(x.raw, y.raw), ONE)
+    times(x.raw, y.raw) >> FRACTION_BITS
 }
 
 // The exact product.
@@ -261,5 +264,5 @@ fn floored_raw(x: i64) -> i64
     requires high { x ≤ℤ pos (2 ^ 47) }
     ensures { result ≡ floor_of x }
 {
-    x.div_euclid(ONE) * ONE
+    (x >> FRACTION_BITS) * ONE
 }

@@ -75,8 +75,8 @@ impl Rate {
     }
 }
 
-/// What notes share. The number of a variable or a channel is its place in first-seen order, that of a zak
-/// resource the place in its space, that of a table the table's number.
+/// What notes share. A variable or a channel is numbered in the order in which the text first has it, a zak place by
+/// its index in its space, and a table by its own number.
 #[derive(Clone, Copy, PartialEq, Eq)]
 pub enum Res {
     Gi(usize),

@@ -19,7 +19,8 @@ fault k line = record { line = line; kind = k }
 
 -- what is between the line that opens a section and the line that closes it
 abbrev pub part_between : Line → Line → Part
-part_between opener closer = record { from = opener.at + length opener.bytes + 1; to = closer.at; line = opener.number + 1 }
+part_between opener closer =
+    record { from = opener.at + length opener.bytes + 1; to = closer.at; line = opener.number + 1 }
 
 -- a score that isn't there
 abbrev pub no_text : Part
@@ -39,21 +40,25 @@ with_section section.Options p f = record f { options = true }
 with_section section.Instruments p f = record f { orc = Some p }
 with_section section.Score p f = record f { sco = Some p }
 
--- What lines after the first tag come to, where these sections stood before them and the file's last line has this number.
+-- What lines after the first tag come to, where these sections stood before them and the file's last line has this
+-- number.
 pub data Between (last : ℕ) : SectionsFound → List Line → Result Parts CsdFault → Type 0 where
   idle : (f : SectionsFound) (l : Line) (ls : List Line) (r : Result Parts CsdFault)
       → mark_of l.bytes ≡ mark.Idle → Between last f ls r → Between last f (l ∷ ls) r
-  whole : (s : Section) (f : SectionsFound) (opener : Line) (inside : List Line) (closer : Line) (ls : List Line) (r : Result Parts CsdFault)
+  whole : (s : Section) (f : SectionsFound) (opener : Line) (inside : List Line) (closer : Line) (ls : List Line)
+      (r : Result Parts CsdFault)
       → mark_of opener.bytes ≡ mark.Opens s → stood s f ≡ false
       → All (λ l. closes s l.bytes ≡ false) inside → closes s closer.bytes ≡ true
-      → Between last (with_section s (part_between opener closer) f) ls r → Between last f (opener ∷ inside ++ closer ∷ ls) r
+      → Between last (with_section s (part_between opener closer) f) ls r
+      → Between last f (opener ∷ inside ++ closer ∷ ls) r
   stop : (f : SectionsFound) (orc : Part) (l : Line) (ls : List Line)
       → mark_of l.bytes ≡ mark.Stop → f.orc ≡ Some orc
       → Between last f (l ∷ ls) (Ok (record { orc = orc; sco = unwrap_or f.sco no_text }))
   no_orchestra : (f : SectionsFound) (l : Line) (ls : List Line)
       → mark_of l.bytes ≡ mark.Stop → f.orc ≡ None → Between last f (l ∷ ls) (Err (fault kind.MissingTag l.number))
   twice : (s : Section) (f : SectionsFound) (l : Line) (ls : List Line)
-      → mark_of l.bytes ≡ mark.Opens s → stood s f ≡ true → Between last f (l ∷ ls) (Err (fault kind.SectionTwice l.number))
+      → mark_of l.bytes ≡ mark.Opens s → stood s f ≡ true
+      → Between last f (l ∷ ls) (Err (fault kind.SectionTwice l.number))
   stray : (f : SectionsFound) (l : Line) (ls : List Line)
       → mark_of l.bytes ≡ mark.Other → Between last f (l ∷ ls) (Err (fault kind.NotInProfile l.number))
   unclosed : (s : Section) (f : SectionsFound) (opener : Line) (inside : List Line)
@@ -64,6 +69,8 @@ pub data Between (last : ℕ) : SectionsFound → List Line → Result Parts Csd
 -- What a file comes to: whatever stands before its first tag doesn't count.
 pub data Reading (text : List ℕ) : Result Parts CsdFault → Type 0 where
   begun : (before : List Line) (start : Line) (rest : List Line) (r : Result Parts CsdFault)
-      → lines_of text ≡ before ++ start ∷ rest → All (λ l. is_start l.bytes ≡ false) before → is_start start.bytes ≡ true
+      → lines_of text ≡ before ++ start ∷ rest → All (λ l. is_start l.bytes ≡ false) before
+      → is_start start.bytes ≡ true
       → Between (last_line text) nothing_found rest r → Reading text r
-  never : All (λ l. is_start l.bytes ≡ false) (lines_of text) → Reading text (Err (fault kind.MissingTag (last_line text)))
+  never : All (λ l. is_start l.bytes ≡ false) (lines_of text)
+      → Reading text (Err (fault kind.MissingTag (last_line text)))

@@ -2,7 +2,7 @@
 ghost use Rattle.std.specs.List.{list_all};
 ghost use Rattle.std.specs.Prelude.{◌≡◌};
 ghost use Rattle.cs_base.specs.Lines.{is_blank};
-ghost use Rattle.cs_csd.specs.Lines.{after_blanks, closes, closing, is_idle, is_start, is_stop, is_tag, mark_of, opening};
+ghost use Rattle.cs_csd.specs.Lines.{after_blanks, closes, closing, is_idle, is_start, is_tag, mark_of, opening};
 
 use cs_base::{blanks_len, is_blank};
 

@@ -1,5 +1,5 @@
 // GEN10: a point is the sum of all harmonics at its place.
-ghost use Rattle.std.specs.Prelude.{◌≡◌, ◌<◌, ◌≤◌, ◌+◌, ◌*◌, ◌/◌, ◌%◌, ◌^◌, ◌*ℤ◌, ◌+ℤ◌, unsigned_abs};
+ghost use Rattle.std.specs.Prelude.{◌≡◌, ◌<◌, ◌≤◌, ◌+◌, ◌*◌, ◌/◌, ◌%◌, ◌^◌, ◌*ℤ◌, unsigned_abs};
 ghost use Rattle.cs_base.specs.Numbers.{clamp, floor_div};
 ghost use Rattle.cs_gen.specs.Points.{full_scale, harmonics, wave};
 

@@ -37,7 +37,8 @@ is_short_sign b = list_any (λ sign. b == sign) (codes "(),=+-*/%<>?:[]{}#$^!~&|
 -- a sign of two bytes: += <= >= == != && ||
 abbrev pub is_long_sign : ℕ → ℕ → Bool
 is_long_sign a b =
-    (b == byte "=" && list_any (λ sign. a == sign) (codes "+<>=!")) || (a == b && list_any (λ sign. a == sign) (codes "&|"))
+    (b == byte "=" && list_any (λ sign. a == sign) (codes "+<>=!"))
+    || (a == b && list_any (λ sign. a == sign) (codes "&|"))
 
 -- the signs of the language, and those outside the profile
 abbrev pub is_sign : List ℕ → Bool

@@ -65,12 +65,14 @@ end_of source = record {
 -- the tokens of a text
 abbrev pub Lexed : List ℕ → List Token → Type 0
 Lexed source tokens =
-    (pieces : List Piece) × IsCut source pieces [] × (tokens ≡ merged true (tokens_after [] pieces) ++ end_of source ∷ [])
+    (pieces : List Piece) × IsCut source pieces []
+    × (tokens ≡ merged true (tokens_after [] pieces) ++ end_of source ∷ [])
 
 -- the first fault of a text: the text before it falls into pieces
 abbrev pub LexFault : List ℕ → ℕ → OrcKind → Type 0
 LexFault source line kind =
-    (pieces : List Piece) × (rest : List ℕ) × IsCut source pieces rest × IsFault rest kind × (line ≡ line_after (text_of pieces))
+    (pieces : List Piece) × (rest : List ℕ) × IsCut source pieces rest × IsFault rest kind
+    × (line ≡ line_after (text_of pieces))
 
 -- a token that stands before another: it ends where the other begins or before, and on no later line
 abbrev pub Precedes : Token → Token → Type 0

@@ -106,7 +106,9 @@ pub record IsLoneBackslash (text : List ℕ) : Type 0 where
 -- a byte that begins no token, comment or blank: of the allowed ones these are ' and @ and `
 abbrev pub is_stray : ℕ → Bool
 is_stray b =
-    is_allowed b && not (is_letter b || is_ascii_digit b || is_blank b || is_feed b || is_quote b || b == char "." || b == char ";" || b == char "\\" || is_short_sign b)
+    is_allowed b
+    && not (is_letter b || is_ascii_digit b || is_blank b || is_feed b || is_quote b || b == char "." || b == char ";"
+    || b == char "\\" || is_short_sign b)
 
 -- such a byte, or a point without a digit after it
 pub record IsStray (text : List ℕ) : Type 0 where

@@ -1,4 +1,4 @@
-// What holds of the definition of tokens and first faults, for every text: calls that do nothing, whose contracts are the laws.
+// What holds of tokens and first faults, for every text: calls that do nothing, whose contracts are the laws.
 ghost use Rattle.std.specs.Prelude.{◌≡◌, ◌≢◌, ◌⊎◌, ◌≤◌, ◌++◌, ◌∷◌, [], ℕ, pos, List, length, codes};
 ghost use Rattle.std.specs.List.{All, AllPairs};
 ghost use Rattle.cs_base.specs.declared.fault.OrcKind.{OrcKind};

@@ -1,5 +1,5 @@
 // One pass over the text: piece after piece, each where the one before it ends.
-ghost use Rattle.std.specs.Prelude.{◌≡◌, ◌≤◌, ◌<◌, ◌+◌, ◌^◌, length, IfOk, OnOk, ◌++◌, ◌∷◌, [], List, count_by};
+ghost use Rattle.std.specs.Prelude.{◌≡◌, ◌≤◌, ◌<◌, ◌+◌, ◌^◌, length, IfOk, OnOk, ◌++◌, count_by};
 ghost use Rattle.cs_base.specs.declared.fault.OrcFault.{OrcFault};
 ghost use Rattle.cs_base.specs.declared.fault.Or.TheVariants as or;
 ghost use Rattle.cs_base.specs.Limits.{most_orchestra_bytes};
@@ -38,7 +38,8 @@ pub fn lex(alloc: Global, source: &[u8]) -> Result<Tokens, Or<OrcFault>>
     Ok(tokens)
 }
 
-// Adds the token of a piece, but no NewLine where a line feed, or nothing, stands before. Returns whether one does afterwards.
+// Adds the token of a piece, but no NewLine where a line feed, or nothing, stands before. Returns whether one does
+// afterwards.
 fn keep(
     tokens: &mut Tokens,
     fed: bool,

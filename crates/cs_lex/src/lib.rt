@@ -6,7 +6,8 @@
 //! reader finds the pieces (`class`, `front`, and specs/inner) may be changed without anyone above noticing.
 //!
 //! To be read in this order: `token` (what comes out), `lexer` (the one pass), `laws` (every text has either one list
-//! of tokens or one first fault; where tokens stand; worked examples), `front` (the piece at the front of a text, row by row), `class` (bytes).
+//! of tokens or one first fault; where tokens stand; worked examples), `front` (the piece at the front of a text, row
+//! by row), `class` (bytes).
 #![tactic(auto)]
 
 mod class;

@@ -1,11 +1,11 @@
 -- The lines of a text, one by one.
-use Rattle.std.proofs.Common.{◌≡◌, ℕ, suc, ◌+◌, ◌-◌, ◌<◌, Bool, true, false, List, [], ◌∷◌, ◌++◌, length, drop, take, map, arith, ap, sym, ◌∙◌, refl, subst, if◌then◌else◌}
+use Rattle.std.proofs.Common.{◌≡◌, ℕ, ◌+◌, ◌-◌, ◌<◌, Bool, true, false, List, [], ◌∷◌, ◌++◌, length, drop, take, map, arith, ap, sym, ◌∙◌, refl, subst, if◌then◌else◌}
 use Rattle.std.specs.List.{prefix_len}
 use Rattle.std.proofs.lemmas.List.{drop-drop, length-drop}
 use Rattle.cs_score.specs.declared.row.Row.{Row}
 use Rattle.cs_base.specs.Lines.{Line, is_blank, is_feed, line, line_after, lines_from, next_len, with_byte}
 use Rattle.cs_base.proofs.LineCuts.{Cut, cut_at, line_len}
-use Rattle.cs_score.specs.Rows.{row_at, row_of, rows_in, hidden_here, plain_from, plain_of}
+use Rattle.cs_score.specs.Rows.{row_at, row_of, rows_in}
 
 -- a line without its number, which is none of the text with comments
 abbrev unnumbered : Line → ℕ × List ℕ
@@ -65,11 +65,3 @@ row_read text plain at n indent m line row l is_n is_indent is_m is_line is_row 
     ap (rows_in text) cut ∙ ap (λ r. r ++ rows_in text (lines_from 2 (at + m) (drop m rest))) here
     ∙ ap (λ t. row ++ rows_in text (lines_from 2 (at + m) t)) (drop-drop m at plain)
     ∙ ap (λ rows. row ++ rows) (rows_renumbered text 2 1 (at + m) (drop (at + m) plain))
-
-length-plain_from : (hidden : ℕ) (text : List ℕ) → length (plain_from hidden text) ≡ length text
-length-plain_from hidden [] = refl
-length-plain_from hidden (b ∷ rest) = ap suc (length-plain_from (hidden_here hidden (b ∷ rest) - 1) rest)
-
--- the text without its comments is as long
-pub length-plain : (text : List ℕ) → length (plain_of text) ≡ length text
-length-plain text = length-plain_from 0 text

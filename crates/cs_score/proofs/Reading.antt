@@ -12,7 +12,8 @@ use Rattle.cs_score.specs.Carry.{and_then}
 use Rattle.cs_score.specs.inner.Counts.{Holds, IsWhole}
 use Rattle.cs_score.specs.inner.Past.{IsFaultOf, Keeps, LineTaken, RowRead, asked_after}
 use Rattle.cs_base.specs.Lines.{lines_from}
-use Rattle.cs_score.specs.Rows.{plain_of, rows_in, rows_of}
+use Rattle.cs_score.specs.Plain.{plain_of}
+use Rattle.cs_score.specs.Rows.{rows_in, rows_of}
 use Rattle.cs_score.specs.Statements.{asked, at_line, is_end, score_of, stated, statements_of, up_to_end}
 use Rattle.cs_score.proofs.History.{asked_is, row_more}
 

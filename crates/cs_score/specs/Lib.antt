@@ -2,6 +2,7 @@ pub mod Carry
 pub mod Fields
 pub mod Limits
 pub mod Notes
+pub mod Plain
 pub mod Ranges
 pub mod Rows
 pub mod Sizes

@@ -1,28 +1,14 @@
 -- The lines of a text that have a statement: its letter, its line number and its fields.
-use Rattle.std.specs.Prelude.{ℕ, Bool, List, [], ◌∷◌, ◌++◌, ◌+◌, ◌-◌, ◌==◌, not, map, take, drop, if◌then◌else◌}
+use Rattle.std.specs.Prelude.{ℕ, Bool, List, [], ◌∷◌, ◌++◌, ◌+◌, ◌==◌, not, map, take, drop, if◌then◌else◌}
 use Rattle.std.specs.Char.{is_ascii_alphabetic}
 use Rattle.std.specs.List.{prefix_len}
 use Rattle.std.specs.Str.{byte}
-use Rattle.cs_base.specs.Comments.{comment_len}
-use Rattle.cs_base.specs.Lines.{Line, begins, is_blank, line_after, lines_of, space}
+use Rattle.cs_base.specs.Lines.{Line, begins, is_blank, line_after, lines_of}
 use Rattle.cs_score.specs.declared.row.StatementLetter.{StatementLetter}
 use Rattle.cs_score.specs.declared.row.StatementLetter.TheVariants as letter
 use Rattle.cs_score.specs.declared.row.Row.{Row}
 use Rattle.cs_score.specs.Fields.{field_of}
-
--- how many bytes from here on are a comment, where `hidden` of them are of one that began before
-abbrev pub hidden_here : ℕ → List ℕ → ℕ
-hidden_here hidden text = if hidden == 0 then comment_len text else hidden
-
--- a text with a space in place of each byte of a comment, where its first bytes are hidden already
-abbrev pub plain_from : ℕ → List ℕ → List ℕ
-plain_from hidden [] = []
-plain_from hidden (b ∷ rest) =
-    let here = hidden_here hidden (b ∷ rest) in
-    (if here == 0 then b else space) ∷ plain_from (here - 1) rest
-
-abbrev pub plain_of : List ℕ → List ℕ
-plain_of text = plain_from 0 text
+use Rattle.cs_score.specs.Plain.{plain_of}
 
 abbrev pub with_first : ℕ → List (List ℕ) → List (List ℕ)
 with_first b [] = (b ∷ []) ∷ []

@@ -1,5 +1,6 @@
 -- What private clauses alone cite.
 pub mod Counts
+pub mod Hidden
 pub mod Past
 pub mod State
 pub mod Values

@@ -1,8 +1,8 @@
 // What an `i` statement takes from the one before: the code keeps the row of that one, filled.
-ghost use Rattle.std.specs.Prelude.{◌≡◌, ◌<◌, ◌^◌, Some, Ok, IfOk, IfSome, slice_get};
+ghost use Rattle.std.specs.Prelude.{◌≡◌, ◌<◌, ◌^◌, Some, Ok, IfOk, IfSome};
 ghost use Rattle.std.proofs.Props.{props};
 ghost use Rattle.cs_score.specs.Carry.{is_same};
-ghost use Rattle.cs_score.specs.Notes.{gap_by, note_of, valued_note};
+ghost use Rattle.cs_score.specs.Notes.{note_of, valued_note};
 ghost use Rattle.cs_score.specs.Ranges.{HasRange, IsInstrument, beats_end};
 ghost use Rattle.cs_score.specs.inner.State.{Ends, IsKept, IsLast, NoteAnswers, completed, filled, filled_one, instr_read, note_read, note_with, p1_before};
 ghost use Rattle.cs_score.specs.inner.Values.{AreValues};

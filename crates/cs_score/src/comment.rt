@@ -1,7 +1,8 @@
 // The text without its comments.
 ghost use Rattle.std.specs.Prelude.{◌≡◌, ◌==◌, IfOk, if◌then◌else◌};
 ghost use Rattle.cs_base.specs.Lines.{space};
-ghost use Rattle.cs_score.specs.Rows.{hidden_here, plain_of};
+ghost use Rattle.cs_score.specs.Plain.{plain_of};
+ghost use Rattle.cs_score.specs.inner.Hidden.{hidden_here};
 
 use cs_base::comment_len;
 use std::alloc::{AllocError, Global};

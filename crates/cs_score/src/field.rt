@@ -1,8 +1,6 @@
 // What a field says: a number, a mark, or neither.
-ghost use Rattle.std.specs.Prelude.{◌≡◌, true, ◌==◌, ◌≤ℤ◌, pos, neg_ℤ, drop, length, codes};
+ghost use Rattle.std.specs.Prelude.{◌≡◌, true, ◌==◌, ◌≤ℤ◌, pos, neg_ℤ, codes};
 ghost use Rattle.std.specs.List.{list_any};
-ghost use Rattle.std.specs.Option.{option_map};
-ghost use Rattle.cs_base.specs.Decimals.{decimal_of, millionths_of};
 ghost use Rattle.cs_base.specs.Lines.{begins};
 ghost use Rattle.cs_base.specs.declared.decimal.Decimal.{Decimal};
 ghost use Rattle.cs_score.specs.Fields.{field_of, is_foreign, is_only, number_field, signed, signed_of, caret_field, raw_of, whole_of, size_of, is_whole, is_below_zero, is_negative_time};

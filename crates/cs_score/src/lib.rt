@@ -31,7 +31,7 @@ mod table;
 mod tempo;
 mod worked;
 
-pub use laws::tables_keep_one_size;
+pub use laws::{comments_are_spaces, tables_keep_one_size};
 pub use read::read_score;
 pub use statement::{ScoreStmt, ScoreStmts, ScoreWhat, TempoPoint, TempoPoints};
 pub use worked::{

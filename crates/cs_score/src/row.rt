@@ -1,5 +1,5 @@
 // The line of a statement: its letter and its fields.
-ghost use Rattle.std.specs.Prelude.{◌≡◌, ◌<◌, ◌≤◌, drop, length, map, IfOk};
+ghost use Rattle.std.specs.Prelude.{◌≡◌, ◌<◌, ◌≤◌, length, map, IfOk};
 ghost use Rattle.std.specs.List.{prefix_len};
 ghost use Rattle.cs_score.specs.Fields.{field_of};
 ghost use Rattle.cs_score.specs.Rows.{letter_of, is_word_byte, words};

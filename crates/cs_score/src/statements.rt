@@ -1,9 +1,8 @@
 // Each statement after those that were read before it.
-ghost use Rattle.std.specs.Prelude.{ℕ, ◌≡◌, ◌==◌, Some, None, Ok, if◌then◌else◌, OnOk, IfOk, IfSome, nat_eq};
+ghost use Rattle.std.specs.Prelude.{ℕ, ◌≡◌, ◌==◌, Some, None, Ok, if◌then◌else◌, OnOk, IfOk, nat_eq};
 ghost use Rattle.std.specs.HashMap.{get};
 ghost use Rattle.std.specs.Option.{option_or};
 ghost use Rattle.cs_score.specs.declared.row.StatementLetter.TheVariants as letter;
-ghost use Rattle.cs_score.specs.Ranges.{HasRange};
 ghost use Rattle.cs_score.specs.Statements.{size_for};
 ghost use Rattle.cs_score.specs.inner.Past.{AskedAnswers, Follows, HasRangeOrNothing, asked_after};
 

@@ -7,7 +7,7 @@ use Rattle.cs_base.specs.declared.resource.Rate.TheVariants as rate
 abbrev pub is_rate_letter : ℕ → Bool
 is_rate_letter b = b == byte "i" || b == byte "k" || b == byte "a"
 
--- the rate that a letter stands for: any other than i and k is audio
+-- the rate of a letter: any other than i and k is audio
 abbrev pub letter_rate : ℕ → Rate
 letter_rate b = if b == byte "i" then rate.Init else (if b == byte "k" then rate.Control else rate.Audio)
 
@@ -22,7 +22,7 @@ abbrev pub is_global : List ℕ → Bool
 is_global [] = false
 is_global (b ∷ rest) = b == byte "g"
 
--- the rate of a variable: that of its name's first letter, or of the second where all notes share it
+-- the rate of a variable: its name's first letter's, or the second's where all notes share it
 abbrev pub name_rate : List ℕ → Rate
 name_rate [] = rate.Audio
 name_rate (b ∷ []) = letter_rate b

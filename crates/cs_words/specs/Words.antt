@@ -79,7 +79,7 @@ is_foreign bytes = list_any (bytes_eq bytes) foreign_words
 abbrev pub is_leading : ℕ → Bool
 is_leading b = nat_le (byte "1") b && nat_le b (byte "9")
 
--- the number that a digit stands for
+-- the number of a digit
 abbrev pub digit : ℕ → ℕ
 digit b = b - byte "0"
 

@@ -126,7 +126,7 @@ pub enum More {
     Pairs(Letter, Letter),
 }
 
-/// Which zak space: that of control values, or that of sounds.
+/// A zak space: of control values, or of sounds.
 #[derive(Clone, Copy)]
 pub enum Space {
     Control,
@@ -185,7 +185,13 @@ impl Model for Signature {
 
     ghost Value = { Row };
 
-    ghost view = { λ s. record { name = s.name.now; results = s.results.now; fixed = s.fixed.now; more = s.more; shape = s.shape } };
+    ghost view = { λ s. record {
+      name = s.name.now;
+      results = s.results.now;
+      fixed = s.fixed.now;
+      more = s.more;
+      shape = s.shape;
+    } };
 }
 
 /// Every opcode, once.

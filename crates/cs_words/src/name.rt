@@ -11,7 +11,7 @@ pub fn is_rate_letter(byte: u8) -> bool
     byte == b'i' || byte == b'k' || byte == b'a'
 }
 
-/// The rate that a letter stands for: i is once a note, k once a control cycle, any other once a frame.
+/// The rate of a letter: i is once a note, k once a control cycle, any other once a frame.
 pub fn letter_rate(byte: u8) -> Rate
     ensures { result ≡ letter_rate byte }
 {
@@ -35,7 +35,7 @@ pub fn is_name(word: &[u8]) -> bool
     }
 }
 
-/// Whether a name is that of a variable that all notes share: it begins with g.
+/// Whether all notes share the variable of this name: it begins with g.
 pub fn is_global(name: &[u8]) -> bool
     ensures { result ≡ is_global name.now }
 {

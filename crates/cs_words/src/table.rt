@@ -3,7 +3,7 @@ ghost use Rattle.std.specs.Prelude.{◌≡◌};
 ghost use Rattle.cs_words.specs.Tables.{looked_up};
 ghost use Rattle.cs_words.specs.inner.Tables.{rows};
 
-/// What the first row with this spelling stands for.
+/// The value of the first row with this spelling.
 pub fn looked_up<T: Copy>(table: &[(&str, T)], bytes: &[u8]) -> Option<T>
     ensures { result ≡ looked_up (rows table.now) bytes.now }
 {

@@ -1,5 +1,5 @@
 // Which word is what.
-ghost use Rattle.std.specs.Prelude.{◌≡◌, List, ℕ};
+ghost use Rattle.std.specs.Prelude.{◌≡◌, List};
 ghost use Rattle.std.specs.List.{list_any};
 ghost use Rattle.std.specs.Str.{bytes_eq};
 ghost use Rattle.cs_words.specs.Words.{keyword_of, header_of, func_of, is_foreign, is_leading, field_of, word_of, plain_word};
@@ -35,7 +35,7 @@ pub enum HeadName {
     Ksmps,
     /// Channels.
     Nchnls,
-    /// The value that stands for full scale.
+    /// The value of full scale.
     Dbfs,
 }
 

@@ -1,4 +1,5 @@
--- How the reader finds the piece at the front of a text, row by row. What a text reads as is said without this, in Rows and Lexed.
+-- How the reader finds the piece at the front of a text, row by row. Rows and Lexed say without this what a text
+-- reads as.
 use Rattle.std.specs.Prelude.{ℕ, Bool, List, [], ◌∷◌, ◌+◌, ◌&&◌, ◌==◌, not, length, take, drop, slice_index, nat_lt, codes, Option, Some, None, Result, Ok, Err, if◌then◌else◌}
 use Rattle.std.specs.List.{list_all, prefix_len}
 use Rattle.std.specs.Char.{is_ascii_digit}
@@ -45,7 +46,8 @@ comment_front text = if is_open_comment text then Err orc.OpenComment else gap (
 
 abbrev pub sign_front : List ℕ → Result Front OrcKind
 sign_front text =
-    if nat_lt 1 (length text) && is_long_sign (slice_index text 0) (slice_index text 1) then token mark.Sign 2 else token mark.Sign 1
+    if nat_lt 1 (length text) && is_long_sign (slice_index text 0) (slice_index text 1) then token mark.Sign 2
+    else token mark.Sign 1
 
 abbrev pub slash_front : List ℕ → Result Front OrcKind
 slash_front text = if begins_comment text then comment_front text else sign_front text
@@ -64,13 +66,15 @@ quoted_len rest = run is_quotable rest
 abbrev pub text_front : List ℕ → Result Front OrcKind
 text_front rest =
     if not (list_all is_allowed (take (quoted_len rest) rest)) then Err orc.BadByte
-    else (if begins is_quote (drop (quoted_len rest) rest) then token mark.Text (quoted_len rest + 2) else Err orc.BadToken)
+    else (if begins is_quote (drop (quoted_len rest) rest) then token mark.Text (quoted_len rest + 2)
+    else Err orc.BadToken)
 
 -- the digits of a decimal, a point and the digits after it
 abbrev pub numeral_len : List ℕ → ℕ
 numeral_len text =
     let whole = run is_ascii_digit text in
-    if begins (λ b. b == byte ".") (drop whole text) then whole + 1 + run is_ascii_digit (drop (whole + 1) text) else whole
+    if begins (λ b. b == byte ".") (drop whole text) then whole + 1 + run is_ascii_digit (drop (whole + 1) text)
+    else whole
 
 abbrev pub number_of : Option Decimal → ℕ → Result Front OrcKind
 number_of None n = Err orc.BadNumber
@@ -83,7 +87,8 @@ number_front text =
 
 abbrev pub digit_front : List ℕ → Result Front OrcKind
 digit_front text =
-    if begins_with (codes "0dbfs") text && not (begins is_word_byte (drop 5 text)) then token mark.Word 5 else number_front text
+    if begins_with (codes "0dbfs") text && not (begins is_word_byte (drop 5 text)) then token mark.Word 5
+    else number_front text
 
 abbrev pub point_front : List ℕ → Result Front OrcKind
 point_front text =

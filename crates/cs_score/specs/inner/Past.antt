@@ -70,7 +70,8 @@ pub record Keeps (above : List Row) (past : Past) : Type 0 where
   pub fields : is_note above ≡ true → past.last.fields ≡ fields above
 
 -- one row more was read: what it asks for stands at the end, with its line
-pub record RowRead (past : Past) (before : KeptStatements) (row : Row) (next : Past) (after : KeptStatements) : Type 0 where
+pub record RowRead (past : Past) (before : KeptStatements) (row : Row) (next : Past) (after : KeptStatements)
+    : Type 0 where
   pub these : List ScoreWhat
   pub asked : asked_after past row row.letter ≡ Ok these
   pub grown : (all : List ScoreStmt) → Holds all before → Holds (all ++ at_line row.line these) after

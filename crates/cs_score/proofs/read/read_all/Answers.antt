@@ -1,6 +1,6 @@
 use Rattle.std.proofs.Common.{◌≡◌, ◌++◌, length, arith, ap, sym, ◌∙◌, refl, subst, Err}
 use Rattle.std.specs.Option.{option_to_list}
-use Rattle.cs_score.proofs.Lines.{length-plain}
+use Rattle.cs_score.proofs.Comments.{length-plain}
 use Rattle.cs_score.proofs.History.{nothing_kept}
 use Rattle.cs_score.proofs.Reading.{all_read, rows_from, nothing_read, line_read, line_fault_read}
 use Rattle.cs_score.proofs.read.read_all.Goals as goal
