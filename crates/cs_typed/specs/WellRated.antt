@@ -1,11 +1,11 @@
 -- The rules of rates that a typed tree keeps.
-use Rattle.std.specs.Prelude.{ℕ, Bool, true, false, not, List, [], ◌∷◌, ◌≡◌, ◌≢◌, ◌+◌, ◌&&◌, ◌||◌, length, nat_lt, if◌then◌else◌}
-use Rattle.std.specs.List.{All, list_any, list_all}
-use Rattle.cs_base.specs.Rates.{is_init, is_control, is_audio, same_rate, within, faster, res_rate}
+use Rattle.std.specs.Prelude.{ℕ, Bool, true, false, not, List, [], ◌∷◌, ◌≡◌, ◌≢◌, ◌+◌, ◌&&◌, ◌||◌, length, Option, Some, None, if◌then◌else◌}
+use Rattle.std.specs.List.{All, list_all}
+use Rattle.cs_base.specs.Rates.{is_init, is_control, is_audio, within, faster, res_rate}
 use Rattle.cs_base.specs.declared.resource.Rate.{Rate}
 use Rattle.cs_base.specs.declared.resource.Rate.TheVariants as rate
 use Rattle.cs_base.specs.declared.resource.Res.TheVariants as res
-use Rattle.cs_words.specs.Catalogue.{Row, row_of, letter_at, takes, is_text, takes_count, result_count}
+use Rattle.cs_words.specs.Catalogue.{Row, row_of, letter_at, takes_count, result_count}
 use Rattle.cs_words.specs.Signs.{is_arithmetic}
 use Rattle.cs_words.specs.declared.catalogue.Letter.{Letter}
 use Rattle.cs_words.specs.declared.catalogue.Opcode.{Opcode}
@@ -16,7 +16,8 @@ use Rattle.cs_words.specs.declared.word.Func.TheVariants as func
 use Rattle.cs_typed.specs.declared.setting.Setting.{Setting}
 use Rattle.cs_typed.specs.declared.tree.Var.{Var}
 use Rattle.cs_typed.specs.declared.tree.Var.TheVariants as var
-use Rattle.cs_typed.specs.Places.{outside, inside, stands_outside, is_starting, is_writing}
+use Rattle.cs_typed.specs.Calls.{sounds, stands_still, accepts, bound_from, may_have, are_even, exceeds, rate_of_call, rate_of_choice}
+use Rattle.cs_typed.specs.Places.{outside, inside, stands_outside}
 use Rattle.cs_typed.specs.TypedTree as typed
 use Rattle.cs_typed.specs.Variables.{IsCounted, EachInBlock}
 
@@ -83,50 +84,41 @@ abbrev pub row_left : Opcode → Row
 row_left op.EventI = row_of op.Schedule
 row_left opcode = row_of opcode
 
+-- the rate of an argument: a channel has none
+abbrev pub rate_in : typed.Argument → Option Rate
+rate_in (typed.value e) = Some (node_rate e)
+rate_in (typed.text v) = None
+
 -- each argument from a place on fits its letter
 abbrev pub fits_letter : Letter → Rate → typed.Argument → Bool
-fits_letter l bound (typed.value e) = takes l bound (node_rate e)
-fits_letter l bound (typed.text v) = is_text l
+fits_letter l bound a = accepts l bound (rate_in a)
 
 abbrev pub fit_letters : Row → Rate → ℕ → List typed.Argument → Bool
 fit_letters row bound n [] = true
 fit_letters row bound n (a ∷ rest) = fits_letter (letter_at row n) bound a && fit_letters row bound (n + 1) rest
 
--- the rate of the result, which bounds arguments; no result bounds nothing
 abbrev pub bound_by : List Var → Rate
-bound_by [] = rate.Audio
-bound_by (v ∷ vs) = var_rate v
+bound_by vs = bound_from var_rate vs
 
 -- a variable may take the result of a row
 abbrev pub may_give : Row → Var → Bool
-may_give row v = is_variable v && list_any (same_rate (var_rate v)) row.results
+may_give row v = is_variable v && may_have row (var_rate v)
 
--- more sounds go out than the piece has channels
 abbrev pub goes_beyond : Setting → Shape → List typed.Argument → Bool
-goes_beyond s shape.Out args = nat_lt s.channels (length args)
-goes_beyond s _ args = false
+goes_beyond s sh args = exceeds s sh args
 
 -- an argument that is known when the note begins, and one that is a sound
 abbrev pub keeps_still : typed.Argument → Bool
-keeps_still (typed.value e) = is_init (node_rate e)
-keeps_still (typed.text v) = true
+keeps_still a = stands_still (rate_in a)
 
 abbrev pub is_of_sound : typed.Argument → Bool
-is_of_sound (typed.value e) = is_audio (node_rate e)
-is_of_sound (typed.text v) = false
+is_of_sound a = sounds (rate_in a)
 
--- a table is stored to sample by sample, or else at values that are held
 abbrev pub stores_evenly : Shape → List typed.Argument → Bool
-stores_evenly shape.Store (a ∷ b ∷ rest) = if is_of_sound a then is_of_sound b else not (is_of_sound b)
-stores_evenly _ args = true
+stores_evenly sh args = are_even rate_in sh args
 
--- how often a call is done: once, as often as its result changes, or as its arguments do
 abbrev pub done_at : Shape → List Var → List typed.Argument → Rate
-done_at sh [] args =
-    if is_starting sh then rate.Init
-    else (if is_writing sh && list_all keeps_still args then rate.Init
-    else (if list_any is_of_sound args then rate.Audio else rate.Control))
-done_at sh (v ∷ vs) args = if is_starting sh then rate.Init else var_rate v
+done_at sh vs args = rate_of_call var_rate rate_in sh vs args
 
 -- whether both are sounds, or neither
 abbrev pub both_sound : Rate → Rate → Bool
@@ -164,7 +156,7 @@ abbrev mutual
   IsRatedStatement s (typed.set line r v e) = IsRatedSet s r v e
   IsRatedStatement s (typed.call line r vs opcode args) = IsRatedCall s r vs opcode args
   IsRatedStatement s (typed.choose line r list) =
-      (r ≡ (if all_still list then rate.Init else rate.Control)) × IsRatedArms s list
+      (r ≡ rate_of_choice (all_still list)) × IsRatedArms s list
 
   pub IsRatedBlock : Setting → typed.Block → Type 0
   IsRatedBlock s typed.no_stmt = Unit {0}

@@ -10,7 +10,7 @@ use Rattle.cs_grammar.specs.declared.tree.StmtWhat.{StmtWhat}
 use Rattle.cs_grammar.specs.declared.tree.StmtWhat.TheVariants.{Set, Call, Choose'}
 use Rattle.cs_grammar.specs.Tree as tree
 use Rattle.cs_typed.specs.declared.tree.TypedStmt.{TypedStmt}
-use Rattle.cs_typing.specs.Known.{Table, Shared, Known, known_with}
+use Rattle.cs_typing.specs.Known.{Known}
 use Rattle.cs_typing.specs.Typing.{line_of, before, from, Item, alone, body, items, item_fault, items_fault, known_item, typed_outside, typed_instrument, typed_instruments}
 use Rattle.cs_typing.specs.Statements.{known_block, typed_block}
 use Rattle.cs_typed.specs.TypedTree as typed
@@ -69,10 +69,6 @@ last stmts list e = ap (λ xs. items (tree.block stmts) (map tree.instrument xs)
 pub joined_blocks : (a b : List TypedStmt) → typed.block (a ++ b) ≡ typed.then_block (typed.block a) (typed.block b)
 joined_blocks [] b = refl
 joined_blocks (x ∷ a) b = ap (λ r. typed.andthen (typed.statement x) r) (joined_blocks a b)
-
--- what is known, by its parts
-pub met : (n : Known) (s : Shared) (l : Table) → s ≡ n.shared → l ≡ n.locals → known_with s l ≡ n
-met n s l e f = ap (λ x. known_with x l) e ∙ ap (λ y. known_with n.shared y) f
 
 -- two parts more: the rest says what the whole says
 pub rest_fault : (ch : ℕ) (n m : Known) (a b : Item) (xs : List Item) → item_fault ch n a ≡ None → item_fault ch (known_item n a) b ≡ None → m ≡ known_item (known_item n a) b → items_fault ch m xs ≡ items_fault ch n (a ∷ b ∷ xs)

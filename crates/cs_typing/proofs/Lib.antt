@@ -1,6 +1,7 @@
 pub mod Answers
 pub mod Counted
 pub mod Cut
+pub mod Given
 pub mod Joined
 pub mod Naming
 pub mod NoZakinit

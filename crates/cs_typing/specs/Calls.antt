@@ -1,12 +1,12 @@
 -- Calls of opcodes: what may be called with what, and the typed form of a call.
 use Rattle.std.specs.Prelude.{ℕ, Bool, true, false, not, List, [], ◌∷◌, ◌++◌, ◌&&◌, ◌||◌, ◌+◌, ◌==◌, length, map, nat_lt, Option, Some, None, if◌then◌else◌}
 use Rattle.std.specs.List.{list_any, list_all}
-use Rattle.cs_base.specs.Rates.{is_init, is_audio, same_rate}
+use Rattle.cs_base.specs.Rates.{is_audio}
 use Rattle.cs_base.specs.declared.fault.OrcKind.{OrcKind}
 use Rattle.cs_base.specs.declared.fault.OrcKind.TheVariants as orc
 use Rattle.cs_base.specs.declared.resource.Rate.{Rate}
 use Rattle.cs_base.specs.declared.resource.Rate.TheVariants as rate
-use Rattle.cs_words.specs.Catalogue.{Row, row_of, letter_at, takes, is_text, takes_count, result_count}
+use Rattle.cs_words.specs.Catalogue.{Row, row_of, letter_at, takes_count, result_count}
 use Rattle.cs_words.specs.Names.{name_rate}
 use Rattle.cs_words.specs.declared.catalogue.Letter.{Letter}
 use Rattle.cs_words.specs.declared.catalogue.Opcode.{Opcode}
@@ -15,7 +15,8 @@ use Rattle.cs_words.specs.declared.catalogue.Shape.TheVariants as shape
 use Rattle.cs_grammar.specs.Tree.{Argument, value, text}
 use Rattle.cs_grammar.specs.declared.tree.Callee.{Callee}
 use Rattle.cs_grammar.specs.declared.tree.Callee.TheVariants as callee
-use Rattle.cs_typed.specs.Places.{is_writing, is_starting, stands_outside}
+use Rattle.cs_typed.specs.Calls.{sounds, stands_still, accepts, bound_from, may_have, are_even, exceeds, rate_without_result, rate_of_call}
+use Rattle.cs_typed.specs.Places.{stands_outside}
 use Rattle.cs_typed.specs.declared.setting.Setting.{Setting}
 use Rattle.cs_typing.specs.Expressions.{is_value, rate_of, reads_known, typed_expression}
 use Rattle.cs_typing.specs.Known.{Known, known_with, given_all, use_channel, clashes, channel_of, variable}
@@ -23,39 +24,40 @@ use Rattle.cs_typed.specs.TypedTree as typed
 use Rattle.cs_typing.specs.declared.known.Channel.{Channel}
 use Rattle.cs_typing.specs.declared.known.Channel.TheVariants as channel
 
--- a letter takes an argument
+-- the rate of an argument: a text has none
+abbrev pub rate_in : Argument → Option Rate
+rate_in (value e) = Some (rate_of e)
+rate_in (text name) = None
+
+-- a letter takes an argument: a value, or a text
+abbrev pub is_argument : Argument → Bool
+is_argument (value e) = is_value e
+is_argument (text name) = true
+
 abbrev pub fits : Letter → Rate → Argument → Bool
-fits l bound (value e) = is_value e && takes l bound (rate_of e)
-fits l bound (text name) = is_text l
+fits l bound a = is_argument a && accepts l bound (rate_in a)
 
 -- each argument from a place on fits its letter
 abbrev pub all_fit : Row → Rate → ℕ → List Argument → Bool
 all_fit row bound n [] = true
 all_fit row bound n (a ∷ rest) = fits (letter_at row n) bound a && all_fit row bound (n + 1) rest
 
--- the rate of the result, which bounds arguments; no result bounds nothing
 abbrev pub bound_of : List (List ℕ) → Rate
-bound_of [] = rate.Audio
-bound_of (name ∷ names) = name_rate name
+bound_of results = bound_from name_rate results
 
 -- the result may have this name's rate
 abbrev pub may_result : Row → List ℕ → Bool
-may_result row name = list_any (same_rate (name_rate name)) row.results
+may_result row name = may_have row (name_rate name)
 
 -- a value of the audio rate
 abbrev pub is_sound : Argument → Bool
-is_sound (value e) = is_audio (rate_of e)
-is_sound (text name) = false
+is_sound a = sounds (rate_in a)
 
 abbrev pub any_sound : List Argument → Bool
 any_sound args = list_any is_sound args
 
--- a table is stored to sample by sample, or else at values that are held
 abbrev pub is_even : Shape → List Argument → Bool
-is_even shape.Store [] = true
-is_even shape.Store (a ∷ []) = true
-is_even shape.Store (a ∷ b ∷ rest) = if is_sound a then is_sound b else not (is_sound b)
-is_even _ args = true
+is_even sh args = are_even rate_in sh args
 
 -- a channel of sounds, or else of control values
 abbrev pub kind_of : Bool → Channel
@@ -75,10 +77,8 @@ text_of [] = []
 text_of (value e ∷ rest) = text_of rest
 text_of (text name ∷ rest) = name
 
--- more sounds than the piece has channels
 abbrev pub is_too_wide : Setting → Shape → List Argument → Bool
-is_too_wide s shape.Out args = nat_lt s.channels (length args)
-is_too_wide s _ args = false
+is_too_wide s sh args = exceeds s sh args
 
 -- an argument reads what is known
 abbrev pub argument_known : Known → Argument → Bool
@@ -125,19 +125,15 @@ call_known n (callee.Name name) results args = given_all n results
 
 -- a text, or a value that is known when the note begins
 abbrev pub is_still : Argument → Bool
-is_still (value e) = is_init (rate_of e)
-is_still (text name) = true
+is_still a = stands_still (rate_in a)
 
 -- the rate of a call without a result
 abbrev pub plain_rate : Shape → List Argument → Rate
-plain_rate sh args =
-    if is_writing sh && list_all is_still args then rate.Init
-    else (if any_sound args then rate.Audio else rate.Control)
+plain_rate sh args = rate_without_result rate_in sh args
 
 -- how often a call is done
 abbrev pub call_rate : Shape → List (List ℕ) → List Argument → Rate
-call_rate sh [] args = if is_starting sh then rate.Init else plain_rate sh args
-call_rate sh (name ∷ names) args = if is_starting sh then rate.Init else name_rate name
+call_rate sh results args = rate_of_call name_rate rate_in sh results args
 
 -- the typed form of an argument: a text is the channel that it names, and is left out where it names none
 abbrev pub typed_argument : Known → Option Channel → Argument → List typed.Argument

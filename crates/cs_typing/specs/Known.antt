@@ -1,6 +1,7 @@
 -- What is known at a place of the text: names of variables and of channels, each with its number.
 use Rattle.std.specs.Prelude.{ℕ, Bool, false, List, [], ◌∷◌, length, Option, Some, None, if◌then◌else◌}
 use Rattle.cs_base.specs.declared.per_rate.PerRate.{PerRate}
+use Rattle.cs_base.specs.Rates.{at_rate}
 use Rattle.cs_base.specs.declared.resource.Rate.{Rate}
 use Rattle.cs_base.specs.declared.resource.Rate.TheVariants as rate
 use Rattle.cs_base.specs.declared.resource.Res.{Res}
@@ -13,10 +14,8 @@ use Rattle.cs_typed.specs.declared.tree.Var.{Var}
 use Rattle.cs_typed.specs.declared.tree.Var.TheVariants as var
 
 -- names of variables by their rates, each list in the order in which they were first given
-pub record Table : Type 0 where
-  pub init : List (List ℕ)
-  pub control : List (List ℕ)
-  pub audio : List (List ℕ)
+abbrev pub Table : Type 0
+Table = PerRate (List (List ℕ))
 
 abbrev pub no_names : Table
 no_names = record { init = []; control = []; audio = [] }
@@ -27,9 +26,7 @@ counts_of t = record { init = length t.init; control = length t.control; audio =
 
 -- the names of a rate
 abbrev pub of_rate : Rate → Table → List (List ℕ)
-of_rate rate.Init t = t.init
-of_rate rate.Control t = t.control
-of_rate rate.Audio t = t.audio
+of_rate r t = at_rate t r
 
 -- a table with one more name of a rate, unless it is there
 abbrev pub with_name : Rate → Table → List ℕ → Table
@@ -61,6 +58,10 @@ pub record Known : Type 0 where
 abbrev pub known_with : Shared → Table → Known
 known_with shared locals = record { shared = shared; locals = locals }
 
+-- what is known before the first statement, where these are the global variables
+abbrev pub first_with : Table → Known
+first_with globals = known_with (record { globals = globals; control = []; sound = [] }) no_names
+
 -- a variable may be read
 abbrev pub knows : Known → List ℕ → Bool
 knows n name = if is_global name then in_table n.shared.globals name else in_table n.locals name
@@ -84,6 +85,9 @@ used s channel.Sound name = record { globals = s.globals; control = s.control; s
 abbrev pub use_channel : Shared → Option Channel → List ℕ → Shared
 use_channel s None name = s
 use_channel s (Some kind) name = used s kind name
+
+abbrev pub with_channel : Known → Option Channel → List ℕ → Known
+with_channel n role name = known_with (use_channel n.shared role name) n.locals
 
 -- a channel was used before as one of the other kind
 abbrev pub clashes : Shared → Option Channel → List ℕ → Bool

@@ -6,9 +6,9 @@ use Rattle.cs_base.specs.declared.fault.OrcFault.{OrcFault}
 use Rattle.cs_base.specs.declared.fault.OrcKind.{OrcKind}
 use Rattle.cs_base.specs.declared.fault.OrcKind.TheVariants as orc
 use Rattle.cs_base.specs.declared.resource.Rate.{Rate}
-use Rattle.cs_base.specs.declared.resource.Rate.TheVariants as rate
 use Rattle.cs_words.specs.Names.{name_rate}
 use Rattle.cs_grammar.specs.Tree.{Expression, Statement, set, call, choose, Block, no_stmt, andthen, Arms, otherwise, arm}
+use Rattle.cs_typed.specs.Calls.{rate_of_choice}
 use Rattle.cs_typed.specs.declared.setting.Setting.{Setting}
 use Rattle.cs_typing.specs.Calls.{call_fault, call_known, typed_call}
 use Rattle.cs_typing.specs.Expressions.{is_value, is_condition, rate_of, reads_known, typed_expression}
@@ -72,7 +72,7 @@ all_init (arm c b rest) = is_init (rate_of c) && all_init rest
 
 -- the rate of an `if`
 abbrev pub choice_rate : Arms → Rate
-choice_rate list = if all_init list then rate.Init else rate.Control
+choice_rate list = rate_of_choice (all_init list)
 
 -- the typed form of statements
 abbrev mutual

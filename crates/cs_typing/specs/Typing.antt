@@ -5,7 +5,7 @@ use Rattle.cs_base.specs.declared.fault.OrcFault.{OrcFault}
 use Rattle.cs_words.specs.Names.{is_global}
 use Rattle.cs_grammar.specs.Tree.{Statement, set, call, choose, Block, no_stmt, andthen, Arms, otherwise, arm, Instrument, Orchestra}
 use Rattle.cs_typed.specs.Places.{outside, inside}
-use Rattle.cs_typing.specs.Known.{Table, no_names, counts_of, added, Shared, Known, known_with}
+use Rattle.cs_typing.specs.Known.{Table, no_names, counts_of, added, Shared, Known, known_with, first_with}
 use Rattle.cs_typing.specs.Settings.{header, settings_fault, zaks_of_block, zak_spaces}
 use Rattle.cs_typing.specs.Statements.{block_fault, known_block, typed_block}
 use Rattle.cs_typed.specs.TypedTree as typed
@@ -89,7 +89,7 @@ items_fault channels n (x ∷ rest) = option_or (item_fault channels n x) (items
 
 -- what is known at the beginning: every global variable
 abbrev pub first_known : Orchestra → Known
-first_known o = known_with (record { globals = all_globals o; control = []; sound = [] }) no_names
+first_known o = first_with (all_globals o)
 
 -- the first rule of rates, names and types that an orchestra breaks
 abbrev pub type_fault : Orchestra → Option OrcFault

@@ -11,13 +11,12 @@ ghost use Rattle.cs_typed.specs.TypedTree as typed;
 ghost use Rattle.cs_typing.specs.inner.Answers.{Gives};
 
 use crate::expr::{is_value, rate_of, reads_known, typed_expression};
-use crate::known::{Channel, Shared, Table, give};
+use crate::known::{Channel, KnownNames};
 use crate::making::add;
 use cs_base::{Name, Or, OrcFault, OrcKind, OutOfMemory, Rate};
 use cs_grammar::{Arg, Callee};
 use cs_typed::{Setting, TypedArg, TypedArgs, TypedStmt, TypedWhat, Vars};
 use cs_words::{Letter, Opcode, Shape, Signature, name_rate, signature_of};
-use std::alloc::Global;
 
 // Whether a letter takes an argument.
 fn fits(letter: Letter, bound: Rate, arg: &Arg) -> bool
@@ -161,20 +160,20 @@ fn is_too_wide(setting: Setting, shape: Shape, args: &[Arg]) -> bool
 }
 
 // Whether an argument reads what is known.
-fn argument_known<'t>(shared: &Shared<'t>, locals: &Table<'t>, arg: &Arg) -> bool
-    ensures { result ≡ argument_known (known_with shared.now locals.now) (argument arg.now) }
+fn argument_known<'t>(names: &KnownNames<'t>, arg: &Arg) -> bool
+    ensures { result ≡ argument_known names.now (argument arg.now) }
 {
     match arg {
-        Arg::Value(e) => reads_known(shared, locals, e),
+        Arg::Value(e) => reads_known(names, e),
         Arg::Text(_) => true,
     }
 }
 
-fn all_known<'t>(shared: &Shared<'t>, locals: &Table<'t>, args: &[Arg]) -> bool
-    ensures { result ≡ all_known (known_with shared.now locals.now) (map argument args.now) }
+fn all_known<'t>(names: &KnownNames<'t>, args: &[Arg]) -> bool
+    ensures { result ≡ all_known names.now (map argument args.now) }
 {
     for arg in args {
-        if !argument_known(shared, locals, arg) {
+        if !argument_known(names, arg) {
             return false;
         }
     }
@@ -201,21 +200,20 @@ fn counts_agree(row: &Signature, results: &[Name], args: &[Arg]) -> bool
 /// The first rule that a call of an opcode breaks.
 pub fn row_fault<'t>(
     setting: Setting,
-    shared: &Shared<'t>,
-    locals: &Table<'t>,
+    names: &KnownNames<'t>,
     row: &Signature,
     results: &[Name],
     args: &[Arg],
 ) -> Option<OrcKind>
-    ensures { result ≡ row_fault setting (known_with shared.now locals.now) row.now results.now (map argument args.now) }
+    ensures { result ≡ row_fault setting names.now row.now results.now (map argument args.now) }
 {
     if !counts_agree(row, results, args) {
         Some(OrcKind::ArgCount)
-    } else if !all_known(shared, locals, args) {
+    } else if !all_known(names, args) {
         Some(OrcKind::Undefined)
     } else if !rates_agree(setting, row, results, args) {
         Some(OrcKind::RateMismatch)
-    } else if shared.clashes(channel_use(row.shape(), results, args), text_of(args)) {
+    } else if names.clashes(channel_use(row.shape(), results, args), text_of(args)) {
         Some(OrcKind::ChannelRate)
     } else if is_too_wide(setting, row.shape(), args) {
         Some(OrcKind::OutCount)
@@ -284,40 +282,33 @@ pub fn call_rate(shape: Shape, results: &[Name], args: &[Arg]) -> Rate
 }
 
 // The variables of results.
-fn variables<'t>(
-    alloc: Global,
-    shared: &Shared<'t>,
-    locals: &Table<'t>,
-    results: &[Name],
-) -> Result<Vars, OutOfMemory>
-    ensures { IfOk result (λ made. made ≡ map (variable (known_with shared.now locals.now)) results.now) }
+fn variables<'t>(names: &KnownNames<'t>, results: &[Name]) -> Result<Vars, OutOfMemory>
+    ensures { IfOk result (λ made. made ≡ map (variable names.now) results.now) }
 {
-    let mut made = Vars::new(alloc);
+    let mut made = Vars::new(names.alloc());
     for name in results {
-        made.push(shared.variable(locals, name.as_slice()))?;
+        made.push(names.variable(name.as_slice()))?;
     }
     Ok(made)
 }
 
 // Adds the typed form of an argument, if it has one.
 fn add_argument<'t>(
-    alloc: Global,
-    shared: &Shared<'t>,
-    locals: &Table<'t>,
+    names: &KnownNames<'t>,
     role: Option<Channel>,
     arg: &Arg,
     made: &mut TypedArgs,
 ) -> Result<(), OutOfMemory>
     ensures { OnOk result (map typed.argument made.new.items ≡ map typed.argument made.old.items
-        ++ typed_argument (known_with shared.now locals.now) role (argument arg.now)) }
+        ++ typed_argument names.now role (argument arg.now)) }
 {
     match (arg, role) {
         (Arg::Value(e), _) => {
-            let e = typed_expression(alloc, shared, locals, e)?;
+            let e = typed_expression(names, e)?;
             add(made, TypedArg::Value(e))
         }
         (Arg::Text(name), Some(kind)) => {
-            add(made, TypedArg::Text(shared.channel(kind, name.as_slice())))
+            add(made, TypedArg::Text(names.channel(kind, name.as_slice())))
         }
         (Arg::Text(_), None) => Ok(()),
     }
@@ -325,39 +316,35 @@ fn add_argument<'t>(
 
 // The typed forms of arguments.
 fn typed_arguments<'t>(
-    alloc: Global,
-    shared: &Shared<'t>,
-    locals: &Table<'t>,
+    names: &KnownNames<'t>,
     role: Option<Channel>,
     args: &[Arg],
 ) -> Result<TypedArgs, OutOfMemory>
     ensures { IfOk result (λ made. map typed.argument made.items
-        ≡ typed_arguments (known_with shared.now locals.now) role (map argument args.now)) }
+        ≡ typed_arguments names.now role (map argument args.now)) }
 {
-    let mut made = Vec::new(alloc);
+    let mut made = Vec::new(names.alloc());
     for arg in args {
-        add_argument(alloc, shared, locals, role, arg, &mut made)?;
+        add_argument(names, role, arg, &mut made)?;
     }
     Ok(made)
 }
 
 // The typed form of a call of an opcode.
 fn typed_row<'t>(
-    alloc: Global,
+    names: &KnownNames<'t>,
     line: u32,
-    shared: &Shared<'t>,
-    locals: &Table<'t>,
     opcode: Opcode,
     row: &Signature,
     results: &[Name],
     args: &[Arg],
 ) -> Result<TypedStmt, OutOfMemory>
     ensures { IfOk result (λ made. typed.statement made
-        ≡ typed_row line (known_with shared.now locals.now) opcode row.now results.now (map argument args.now)) }
+        ≡ typed_row line names.now opcode row.now results.now (map argument args.now)) }
 {
     let role = channel_use(row.shape(), results, args);
-    let vars = variables(alloc, shared, locals, results)?;
-    let typed = typed_arguments(alloc, shared, locals, role, args)?;
+    let vars = variables(names, results)?;
+    let typed = typed_arguments(names, role, args)?;
     Ok(TypedStmt {
         line,
         rate: call_rate(row.shape(), results, args),
@@ -366,66 +353,57 @@ fn typed_row<'t>(
 }
 
 // Notes that results are given.
-fn give_all<'t>(locals: &mut Table<'t>, results: &'t [Name]) -> Result<(), OutOfMemory>
-    ensures { OnOk result ((s : _) → known_with s locals.new ≡ given_all (known_with s locals.old) results.now) }
+fn give_all<'t>(names: &mut KnownNames<'t>, results: &'t [Name]) -> Result<(), OutOfMemory>
+    ensures { OnOk result (names.new ≡ given_all names.old results.now) }
 {
     for name in results {
-        give(locals, name.as_slice())?;
+        names.give(name.as_slice())?;
     }
     Ok(())
 }
 
 /// Judges a call, and gives its typed form; results and the channel are known from then on.
 pub fn call<'t>(
-    alloc: Global,
     setting: Setting,
-    shared: &mut Shared<'t>,
-    locals: &mut Table<'t>,
+    names: &mut KnownNames<'t>,
     line: u32,
     results: &'t [Name],
     callee: &Callee,
     args: &'t [Arg],
 ) -> Result<TypedStmt, Or<OrcFault>>
     ensures gives { Gives typed.statement result
-        (at line (call_fault setting (known_with shared.old locals.old) callee.now results.now (map argument args.now)))
-        (typed_call line (known_with shared.old locals.old) callee.now results.now (map argument args.now)) }
-    ensures known { OnOk result (known_with shared.new locals.new
-        ≡ call_known (known_with shared.old locals.old) callee.now results.now (map argument args.now)) }
+        (at line (call_fault setting names.old callee.now results.now (map argument args.now)))
+        (typed_call line names.old callee.now results.now (map argument args.now)) }
+    ensures known { OnOk result (names.new
+        ≡ call_known names.old callee.now results.now (map argument args.now)) }
 {
     let Callee::Opcode(opcode) = callee else {
         return Err(broken(line, OrcKind::UnknownOpcode));
     };
     let row = signature_of(*opcode);
-    if let Some(kind) = row_fault(setting, shared, locals, &row, results, args) {
+    if let Some(kind) = row_fault(setting, names, &row, results, args) {
         return Err(broken(line, kind));
     }
-    let made = typed_row(alloc, line, shared, locals, *opcode, &row, results, args)?;
-    Ok(noted(
-        shared,
-        locals,
-        results,
-        channel_use(row.shape(), results, args),
-        text_of(args),
-        made,
-    )?)
+    let made = typed_row(names, line, *opcode, &row, results, args)?;
+    let role = channel_use(row.shape(), results, args);
+    Ok(noted(names, results, role, text_of(args), made)?)
 }
 
 // Notes what a call gives: its results, and the channel that it uses. What was made of it is handed on.
+#[tactic(auto, using(crate::proofs::Given::given_shared))]
 fn noted<'t, T: Drop>(
-    shared: &mut Shared<'t>,
-    locals: &mut Table<'t>,
+    names: &mut KnownNames<'t>,
     results: &'t [Name],
     role: Option<Channel>,
     channel: &'t [u8],
     made: T,
 ) -> Result<T, OutOfMemory>
     ensures made { IfOk result (λ m. m ≡ made) }
-    ensures known { OnOk result (known_with shared.new locals.new
-        ≡ known_with (use_channel shared.old role channel.now)
-        (given_all (known_with shared.old locals.old) results.now).locals) }
+    ensures known { OnOk result (names.new
+        ≡ known_with (use_channel names.old.shared role channel.now) (given_all names.old results.now).locals) }
 {
-    give_all(locals, results)?;
-    shared.use_channel(role, channel)?;
+    give_all(names, results)?;
+    names.use_channel(role, channel)?;
     Ok(made)
 }
 

@@ -4,16 +4,14 @@ ghost use Rattle.cs_grammar.specs.Tree.{expression};
 ghost use Rattle.std.specs.Box.{box_value};
 ghost use Rattle.cs_base.specs.declared.resource.Rate.TheVariants as rate;
 ghost use Rattle.cs_typing.specs.Expressions.{rate_of, applied_rate, is_control_name, is_value, is_condition, reads_known, typed_expression};
-ghost use Rattle.cs_typing.specs.Known.{known_with};
 ghost use Rattle.cs_typed.specs.TypedTree as typed;
 
-use crate::known::{Shared, Table};
+use crate::known::KnownNames;
 use crate::making::in_box;
 use cs_base::{OutOfMemory, Rate};
 use cs_grammar::Expr;
 use cs_typed::{TypedExpr, TypedPart};
 use cs_words::{Func, name_rate};
-use std::alloc::Global;
 
 /// The rate of an expression: the fastest of its parts.
 pub fn rate_of(e: &Expr) -> Rate
@@ -75,32 +73,25 @@ pub fn is_condition(e: &Expr) -> bool
 }
 
 /// Whether every variable that is read is known.
-pub fn reads_known<'t>(shared: &Shared<'t>, locals: &Table<'t>, e: &Expr) -> bool
-    ensures { result ≡ reads_known (known_with shared.now locals.now) (expression e.now) }
+pub fn reads_known<'t>(names: &KnownNames<'t>, e: &Expr) -> bool
+    ensures { result ≡ reads_known names.now (expression e.now) }
 {
     match e {
         Expr::Number(_) | Expr::Field(_) | Expr::Head(_) => true,
-        Expr::Var(name) => shared.knows(locals, name.as_slice()),
-        Expr::Neg(a) | Expr::Call(_, a) => reads_known(shared, locals, a),
-        Expr::Pair(_, a, b) => { reads_known(shared, locals, a) && reads_known(shared, locals, b) }
+        Expr::Var(name) => names.knows(name.as_slice()),
+        Expr::Neg(a) | Expr::Call(_, a) => reads_known(names, a),
+        Expr::Pair(_, a, b) => { reads_known(names, a) && reads_known(names, b) }
         Expr::Pick(c, a, b) => {
-            reads_known(shared, locals, c)
-                && reads_known(shared, locals, a)
-                && reads_known(shared, locals, b)
+            reads_known(names, c) && reads_known(names, a) && reads_known(names, b)
         }
     }
 }
 
 /// The typed form of an expression, with its rate beside each part.
 #[cycle(typed)]
-pub fn typed_expression<'t>(
-    alloc: Global,
-    shared: &Shared<'t>,
-    locals: &Table<'t>,
-    e: &Expr,
-) -> Result<TypedExpr, OutOfMemory>
+pub fn typed_expression<'t>(names: &KnownNames<'t>, e: &Expr) -> Result<TypedExpr, OutOfMemory>
     ensures form { IfOk result (λ made. typed.expression made
-        ≡ typed_expression (known_with shared.now locals.now) (expression e.now)) }
+        ≡ typed_expression names.now (expression e.now)) }
     ensures rate { IfOk result (λ made. made.rate ≡ rate_of (expression e.now)) }
 {
     match e {
@@ -109,34 +100,34 @@ pub fn typed_expression<'t>(
         Expr::Head(name) => Ok(still(TypedPart::Head(*name))),
         Expr::Var(name) => Ok(TypedExpr {
             rate: name_rate(name.as_slice()),
-            what: TypedPart::Var(shared.variable(locals, name.as_slice())),
+            what: TypedPart::Var(names.variable(name.as_slice())),
         }),
         Expr::Neg(a) => {
-            let a = boxed(alloc, shared, locals, a)?;
+            let a = boxed(names, a)?;
             Ok(TypedExpr {
                 rate: a.rate,
                 what: TypedPart::Neg(a),
             })
         }
         Expr::Pair(op, a, b) => {
-            let a = boxed(alloc, shared, locals, a)?;
-            let b = boxed(alloc, shared, locals, b)?;
+            let a = boxed(names, a)?;
+            let b = boxed(names, b)?;
             Ok(TypedExpr {
                 rate: a.rate.faster(b.rate),
                 what: TypedPart::Pair(*op, a, b),
             })
         }
         Expr::Pick(c, a, b) => {
-            let c = boxed(alloc, shared, locals, c)?;
-            let a = boxed(alloc, shared, locals, a)?;
-            let b = boxed(alloc, shared, locals, b)?;
+            let c = boxed(names, c)?;
+            let a = boxed(names, a)?;
+            let b = boxed(names, b)?;
             Ok(TypedExpr {
                 rate: c.rate.faster(a.rate.faster(b.rate)),
                 what: TypedPart::Pick(c, a, b),
             })
         }
         Expr::Call(func, a) => {
-            let a = boxed(alloc, shared, locals, a)?;
+            let a = boxed(names, a)?;
             Ok(TypedExpr {
                 rate: applied_rate(*func, a.rate),
                 what: TypedPart::Call(*func, a),
@@ -157,18 +148,13 @@ fn still(what: TypedPart) -> TypedExpr
 
 // The typed form of a part, which stands in a box.
 #[cycle(typed)]
-fn boxed<'t>(
-    alloc: Global,
-    shared: &Shared<'t>,
-    locals: &Table<'t>,
-    e: &Expr,
-) -> Result<Box<TypedExpr>, OutOfMemory>
+fn boxed<'t>(names: &KnownNames<'t>, e: &Expr) -> Result<Box<TypedExpr>, OutOfMemory>
     ensures form { IfOk result (λ made. typed.expression (box_value made)
-        ≡ typed_expression (known_with shared.now locals.now) (expression e.now)) }
+        ≡ typed_expression names.now (expression e.now)) }
     ensures rate { IfOk result (λ made. (box_value made).rate ≡ rate_of (expression e.now)) }
 {
-    let made = typed_expression(alloc, shared, locals, e)?;
-    in_box(alloc, made)
+    let made = typed_expression(names, e)?;
+    in_box(names.alloc(), made)
 }
 
 // The rate of a function's value.

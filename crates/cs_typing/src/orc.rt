@@ -1,39 +1,37 @@
 // An orchestra: its parts in the order of the text, each instrument with its own variables.
-ghost use Rattle.std.specs.Prelude.{◌≡◌, ◌≤◌, OnOk, IfOk, length, map, Some, None, Err};
+ghost use Rattle.std.specs.Prelude.{◌≡◌, ◌≤◌, ◌++◌, ◌∷◌, [], OnOk, IfOk, length, map, None, Err, nat_lt};
 ghost use Rattle.std.specs.List.{prefix_len};
-ghost use Rattle.std.specs.Prelude.{nat_lt};
 ghost use Rattle.cs_base.specs.declared.fault.Or.TheVariants as or;
 ghost use Rattle.cs_base.specs.declared.fault.OrcFault.{OrcFault};
 ghost use Rattle.cs_grammar.specs.Tree as tree;
-ghost use Rattle.cs_typed.specs.Places.{inside};
-ghost use Rattle.cs_typing.specs.Known.{known_with, no_names, counts_of};
-ghost use Rattle.cs_typing.specs.Statements.{block_fault, known_block, typed_block};
 ghost use Rattle.cs_typed.specs.TypedTree as typed;
-ghost use Rattle.cs_typing.specs.Typing.{items, items_fault, item_fault, known_item, known_items, alone, body, typed_outside, typed_instruments, first_known, shared_names, type_fault, typed_of};
+ghost use Rattle.cs_typing.specs.Known.{first_with, no_names};
+ghost use Rattle.cs_typing.specs.Typing.{items, items_fault, item_fault, known_item, known_items, alone, body};
+ghost use Rattle.cs_typing.specs.Typing.{typed_instrument, typed_outside, typed_instruments, type_fault, typed_of};
 ghost use Rattle.cs_typing.specs.inner.Answers.{Gives};
-ghost use Rattle.cs_typing.specs.inner.Walk.{Judged, GivesOrc, parts_fault, typed_by, made_from, made_of, nothing, after_item, after_items};
-ghost use Rattle.cs_typing.specs.inner.Settled.{setup as setup_of};
+ghost use Rattle.cs_typing.specs.inner.Walk.{Judged, GivesOrc, parts_fault, typed_by, made_from, made_of, made_with, nothing, after_item, after_items};
+ghost use Rattle.cs_typing.specs.inner.Settled.{settings_of};
 
-use crate::globals::all_globals;
-use crate::known::{Shared, Table};
+use crate::known::{KnownNames, NamesByRate};
 use crate::making::add;
-use crate::settle::{Setup, settings};
+use crate::settle::{Settings, judge_settings};
 use crate::stmt::block;
-use cs_base::{Or, OrcFault, OutOfMemory, PerRate};
+use cs_base::{Or, OrcFault, OutOfMemory};
 use cs_grammar::{Instr, Orc, OrcStmt};
 use cs_typed::{Setting, TypedInstr, TypedOrc, TypedStmts};
 use std::alloc::Global;
+use std::mem::replace;
 
 /// What is made of the parts so far: typed statements of the code outside instruments, and typed instruments.
 #[derive(Drop)]
-struct Done {
+pub struct Done {
     zero: TypedStmts,
     instrs: Vec<TypedInstr>,
 }
 
 impl Done {
     fn new(alloc: Global) -> Done
-        ensures { made_of no_names result ≡ nothing }
+        ensures { made_of result ≡ nothing }
     {
         Done {
             zero: Vec::new(alloc),
@@ -41,79 +39,165 @@ impl Done {
         }
     }
 
+    // Adds statements outside instruments.
+    fn add_outside(&mut self, mut more: TypedStmts) -> Result<(), OutOfMemory>
+        ensures { OnOk result (made_of self.new
+            ≡ made_with (typed.then_block (made_of self.old).zero (typed.block more.items)) (made_of self.old).instrs) }
+    {
+        self.zero.append(&mut more)?;
+        Ok(())
+    }
+
+    // Adds an instrument.
+    fn add_instrument(&mut self, i: TypedInstr) -> Result<(), OutOfMemory>
+        ensures { OnOk result (made_of self.new
+            ≡ made_with (made_of self.old).zero ((made_of self.old).instrs ++ typed.instrument i ∷ [])) }
+    {
+        add(&mut self.instrs, i)
+    }
+}
+
+/// An orchestra that is judged part by part: what is known, a place for the names of the body around, what is made.
+#[derive(Drop)]
+pub struct Typing<'t> {
+    names: KnownNames<'t>,
+    around: NamesByRate<'t>,
+    made: Done,
+}
+
+impl<'t> Typing<'t> {
+    fn new(alloc: Global) -> Typing<'t>
+        ensures names { result.names ≡ first_with no_names }
+        ensures made { made_of result.made ≡ nothing }
+    {
+        Typing {
+            names: KnownNames::new(alloc),
+            around: NamesByRate::new(alloc),
+            made: Done::new(alloc),
+        }
+    }
+
     // Judges statements outside instruments, and adds their typed forms.
-    fn add_outside<'t>(
-        &mut self,
-        alloc: Global,
-        channels: u32,
-        shared: &mut Shared<'t>,
-        locals: &mut Table<'t>,
-        stmts: &'t [OrcStmt],
-    ) -> Result<(), Or<OrcFault>>
-        ensures fault { Judged result
-            (item_fault channels (known_with shared.old locals.old) (alone (tree.block stmts.now))) }
-        ensures made { OnOk result (made_of locals.new self.new
-            ≡ after_item (known_with shared.old locals.old) (made_of locals.old self.old) (alone (tree.block stmts.now))) }
-        ensures known { OnOk result (shared.new
-            ≡ (known_item (known_with shared.old locals.old) (alone (tree.block stmts.now))).shared) }
+    fn add_outside(&mut self, channels: u32, stmts: &'t [OrcStmt]) -> Result<(), Or<OrcFault>>
+        ensures fault { Judged result (item_fault channels self.old.names (alone (tree.block stmts.now))) }
+        ensures made { OnOk result (made_of self.new.made
+            ≡ after_item self.old.names (made_of self.old.made) (alone (tree.block stmts.now))) }
+        ensures known { OnOk result (self.new.names ≡ known_item self.old.names (alone (tree.block stmts.now))) }
     {
         let setting = Setting {
             inside: false,
             channels,
         };
-        let mut more = block(alloc, setting, shared, locals, stmts)?;
-        self.zero.append(&mut more)?;
-        Ok(())
+        let more = block(setting, &mut self.names, stmts)?;
+        Ok(self.made.add_outside(more)?)
     }
 
     // Judges an instrument, and adds its typed form.
-    fn add_instrument<'t>(
-        &mut self,
-        alloc: Global,
-        channels: u32,
-        shared: &mut Shared<'t>,
-        locals: &mut Table<'t>,
-        i: &'t Instr,
-    ) -> Result<(), Or<OrcFault>>
-        ensures fault { Judged result
-            (item_fault channels (known_with shared.old locals.old) (body (tree.instrument i.now))) }
-        ensures made { OnOk result (made_of locals.new self.new
-            ≡ after_item (known_with shared.old locals.old) (made_of locals.old self.old) (body (tree.instrument i.now))) }
-        ensures known { OnOk result (shared.new
-            ≡ (known_item (known_with shared.old locals.old) (body (tree.instrument i.now))).shared) }
+    fn add_instrument(&mut self, channels: u32, i: &'t Instr) -> Result<(), Or<OrcFault>>
+        ensures fault { Judged result (item_fault channels self.old.names (body (tree.instrument i.now))) }
+        ensures made { OnOk result (made_of self.new.made
+            ≡ after_item self.old.names (made_of self.old.made) (body (tree.instrument i.now))) }
+        ensures known { OnOk result (self.new.names ≡ known_item self.old.names (body (tree.instrument i.now))) }
     {
-        Ok(add(&mut self.instrs, instrument(alloc, channels, shared, i)?)?)
+        let made = instrument(channels, &mut self.names, &mut self.around, i)?;
+        Ok(self.made.add_instrument(made)?)
+    }
+
+    // Judges the parts of an orchestra in the order of the text, and adds their typed forms.
+    fn add_parts(
+        &mut self,
+        channels: u32,
+        zero: &'t [OrcStmt],
+        instrs: &'t [Instr],
+    ) -> Result<(), Or<OrcFault>>
+        ensures fault { Judged result (items_fault channels self.old.names
+            (items (tree.block zero.now) (map tree.instrument instrs.now))) }
+        ensures made { OnOk result (made_of self.new.made ≡ after_items self.old.names (made_of self.old.made)
+            (items (tree.block zero.now) (map tree.instrument instrs.now))) }
+        ensures known { OnOk result (self.new.names ≡ known_items self.old.names
+            (items (tree.block zero.now) (map tree.instrument instrs.now))) }
+    {
+        let mut rest = zero;
+        for i in instrs {
+            let (front, back) = rest.split_at(before_line(rest, i.line));
+            self.add_outside(channels, front)?;
+            self.add_instrument(channels, i)?;
+            rest = back;
+        }
+        self.add_outside(channels, rest)?;
+        Ok(())
+    }
+
+    // Judges all parts of an orchestra, where nothing is made yet.
+    fn add_all(&mut self, channels: u32, orc: &'t Orc) -> Result<(), Or<OrcFault>>
+        requires { made_of self.old.made ≡ nothing }
+        ensures fault { Judged result (items_fault channels self.old.names
+            (items (tree.orchestra orc.now).zero (tree.orchestra orc.now).instrs)) }
+        ensures zero { OnOk result ((made_of self.new.made).zero ≡ typed_outside self.old.names
+            (items (tree.orchestra orc.now).zero (tree.orchestra orc.now).instrs)) }
+        ensures instrs { OnOk result ((made_of self.new.made).instrs ≡ typed_instruments self.old.names
+            (items (tree.orchestra orc.now).zero (tree.orchestra orc.now).instrs)) }
+        ensures known { OnOk result (self.new.names ≡ known_items self.old.names
+            (items (tree.orchestra orc.now).zero (tree.orchestra orc.now).instrs)) }
+    {
+        self.add_parts(channels, &orc.zero, &orc.instrs)
+    }
+
+    // What is made, with the names that its notes share.
+    fn finished(&mut self, settings: Settings) -> Result<TypedOrc, OutOfMemory>
+        ensures { IfOk result (λ t. typed.orchestra t
+            ≡ made_from (settings_of settings) self.old.names (made_of self.old.made).zero (made_of self.old.made).instrs) }
+    {
+        let globals = self.names.shared_names()?;
+        let made = replace(&mut self.made, Done::new(self.names.alloc()));
+        let Done { zero, instrs } = made;
+        Ok(TypedOrc {
+            head: settings.head,
+            spaces: settings.spaces,
+            zero_locals: self.names.local_counts(),
+            zero,
+            instrs,
+            globals,
+        })
+    }
+
+    // Judges an orchestra whose settings have no fault.
+    fn typed(&mut self, settings: Settings, orc: &'t Orc) -> Result<TypedOrc, Or<OrcFault>>
+        requires names { self.old.names ≡ first_with no_names }
+        requires made { made_of self.old.made ≡ nothing }
+        ensures { GivesOrc result (parts_fault settings.head.nchnls (tree.orchestra orc.now))
+            (typed_by (settings_of settings) (tree.orchestra orc.now)) }
+    {
+        self.names.add_globals(orc)?;
+        self.add_all(settings.head.nchnls, orc)?;
+        Ok(self.finished(settings)?)
     }
 }
 
 // An instrument, which has its own variables.
 fn instrument<'t>(
-    alloc: Global,
     channels: u32,
-    shared: &mut Shared<'t>,
+    names: &mut KnownNames<'t>,
+    around: &mut NamesByRate<'t>,
     i: &'t Instr,
 ) -> Result<TypedInstr, Or<OrcFault>>
     ensures gives { Gives typed.instrument result
-        (block_fault (inside channels) (known_with shared.old no_names) (tree.block i.now.body.items))
-        (record {
-          line = i.now.line;
-          numbers = i.now.numbers;
-          locals = counts_of (known_block (known_with shared.old no_names) (tree.block i.now.body.items)).locals;
-          body = typed_block (known_with shared.old no_names) (tree.block i.now.body.items);
-        }) }
-    ensures known { OnOk result (shared.new
-        ≡ (known_block (known_with shared.old no_names) (tree.block i.now.body.items)).shared) }
+        (item_fault channels names.old (body (tree.instrument i.now)))
+        (typed_instrument names.old (tree.instrument i.now)) }
+    ensures known { OnOk result (names.new ≡ known_item names.old (body (tree.instrument i.now))) }
 {
     let setting = Setting {
         inside: true,
         channels,
     };
-    let mut locals = Table::new(alloc);
-    let body = block(alloc, setting, shared, &mut locals, &i.body)?;
+    let numbers = i.numbers.to_items(names.alloc())?;
+    names.enter(around);
+    let body = block(setting, names, &i.body)?;
+    names.leave(around);
     Ok(TypedInstr {
         line: i.line,
-        numbers: i.numbers.to_items(alloc)?,
-        locals: locals.counts(),
+        numbers,
+        locals: around.counts(),
         body,
     })
 }
@@ -133,104 +217,13 @@ fn before_line(stmts: &[OrcStmt], line: u32) -> usize
     count
 }
 
-// Judges the parts of an orchestra in the order of the text, and gives their typed forms.
-fn parts<'t>(
-    alloc: Global,
-    channels: u32,
-    shared: &mut Shared<'t>,
-    locals: &mut Table<'t>,
-    zero: &'t [OrcStmt],
-    instrs: &'t [Instr],
-) -> Result<Done, Or<OrcFault>>
-    requires { locals.old ≡ no_names }
-    ensures fault { Judged result (items_fault channels (known_with shared.old no_names)
-        (items (tree.block zero.now) (map tree.instrument instrs.now))) }
-    ensures made { IfOk result (λ m. made_of locals.new m ≡ after_items (known_with shared.old no_names) nothing
-        (items (tree.block zero.now) (map tree.instrument instrs.now))) }
-    ensures known { OnOk result (known_with shared.new locals.new ≡ known_items (known_with shared.old no_names)
-        (items (tree.block zero.now) (map tree.instrument instrs.now))) }
-{
-    let mut made = Done::new(alloc);
-    let mut rest = zero;
-    for i in instrs {
-        let (front, back) = rest.split_at(before_line(rest, i.line));
-        made.add_outside(alloc, channels, shared, locals, front)?;
-        made.add_instrument(alloc, channels, shared, locals, i)?;
-        rest = back;
-    }
-    made.add_outside(alloc, channels, shared, locals, rest)?;
-    Ok(made)
-}
-
-// All parts of an orchestra: the code outside instruments has its own variables too.
-fn all_parts<'t>(
-    alloc: Global,
-    channels: u32,
-    shared: &mut Shared<'t>,
-    locals: &mut Table<'t>,
-    orc: &'t Orc,
-) -> Result<Done, Or<OrcFault>>
-    requires { locals.old ≡ no_names }
-    ensures fault { Judged result (items_fault channels (known_with shared.old no_names)
-        (items (tree.orchestra orc.now).zero (tree.orchestra orc.now).instrs)) }
-    ensures zero { IfOk result (λ m. typed.block m.zero.items ≡ typed_outside (known_with shared.old no_names)
-        (items (tree.orchestra orc.now).zero (tree.orchestra orc.now).instrs)) }
-    ensures instrs { IfOk result (λ m. map typed.instrument m.instrs.items
-        ≡ typed_instruments (known_with shared.old no_names)
-        (items (tree.orchestra orc.now).zero (tree.orchestra orc.now).instrs)) }
-    ensures known { IfOk result (λ m. known_with shared.new locals.new
-        ≡ known_items (known_with shared.old no_names)
-        (items (tree.orchestra orc.now).zero (tree.orchestra orc.now).instrs)) }
-{
-    parts(alloc, channels, shared, locals, &orc.zero, &orc.instrs)
-}
-
-// What is made of an orchestra, with the names that its notes share.
-fn with_names<'t>(
-    alloc: Global,
-    shared: &Shared<'t>,
-    setup: Setup,
-    zero_locals: PerRate<usize>,
-    made: Done,
-) -> Result<TypedOrc, OutOfMemory>
-    ensures { IfOk result (λ t. typed.orchestra t ≡ made_from (setup_of setup) zero_locals
-        (typed.block made.zero.items) (map typed.instrument made.instrs.items) (shared_names shared.now)) }
-{
-    let globals = shared.names(alloc)?;
-    let Done { zero, instrs } = made;
-    Ok(TypedOrc {
-        head: setup.head,
-        spaces: setup.spaces,
-        zero_locals,
-        zero,
-        instrs,
-        globals,
-    })
-}
-
-// An orchestra whose settings have no fault, over the names that it gives.
-fn typed_with<'t>(
-    alloc: Global,
-    shared: &mut Shared<'t>,
-    setup: Setup,
-    orc: &'t Orc,
-) -> Result<TypedOrc, Or<OrcFault>>
-    requires { shared.old ≡ (first_known (tree.orchestra orc.now)).shared }
-    ensures { GivesOrc result (parts_fault setup.head.nchnls (tree.orchestra orc.now))
-        (typed_by (setup_of setup) (tree.orchestra orc.now)) }
-{
-    let mut locals = Table::new(alloc);
-    let made = all_parts(alloc, setup.head.nchnls, shared, &mut locals, orc)?;
-    Ok(with_names(alloc, shared, setup, locals.counts(), made)?)
-}
-
 // An orchestra whose settings have no fault.
-fn settled<'t>(alloc: Global, setup: Setup, orc: &'t Orc) -> Result<TypedOrc, Or<OrcFault>>
-    ensures { GivesOrc result (parts_fault setup.head.nchnls (tree.orchestra orc.now))
-        (typed_by (setup_of setup) (tree.orchestra orc.now)) }
+fn settled(alloc: Global, settings: Settings, orc: &Orc) -> Result<TypedOrc, Or<OrcFault>>
+    ensures { GivesOrc result (parts_fault settings.head.nchnls (tree.orchestra orc.now))
+        (typed_by (settings_of settings) (tree.orchestra orc.now)) }
 {
-    let mut shared = Shared::new(alloc, all_globals(alloc, orc)?);
-    typed_with(alloc, &mut shared, setup, orc)
+    let mut typing = Typing::new(alloc);
+    typing.typed(settings, orc)
 }
 
 /// Judges rates, names and types of an orchestra, and gives its typed form; or its first fault, which is of the kinds 12 to 19.
@@ -243,6 +236,6 @@ pub fn type_orc(alloc: Global, orc: &Orc) -> Result<TypedOrc, Or<OrcFault>>
     ensures fault { (f : OrcFault) → result ≡ Err (or.Fault f)
         → type_fault (tree.orchestra orc.now) ≡ Some f }
 {
-    let setup = settings(&orc.head, &orc.zero)?;
-    settled(alloc, setup, orc)
+    let settings = judge_settings(&orc.head, &orc.zero)?;
+    settled(alloc, settings, orc)
 }

@@ -4,7 +4,7 @@ ghost use Rattle.cs_words.specs.declared.word.HeadName.TheVariants as head;
 ghost use Rattle.cs_grammar.specs.Tree.{block};
 ghost use Rattle.cs_typing.specs.Settings.{earlier, settings_fault, headers_fault, header_of, header, kr_fault, zaks_of_block, zak_spaces};
 ghost use Rattle.cs_typing.specs.inner.Answers.{Gives};
-ghost use Rattle.cs_typing.specs.inner.Settled.{setup, told};
+ghost use Rattle.cs_typing.specs.inner.Settled.{settings_of, told};
 
 use crate::headers::{head_of, headers_fault, kr_fault};
 use crate::zak::zaks_of;
@@ -13,7 +13,7 @@ use cs_grammar::{HeadLine, OrcStmt};
 
 /// What holds for a whole piece: its header and its zak spaces.
 #[derive(Clone, Copy)]
-pub struct Setup {
+pub struct Settings {
     pub head: Head,
     pub spaces: Spaces,
 }
@@ -31,14 +31,14 @@ fn earlier(f: Option<OrcFault>, g: Option<OrcFault>) -> Option<OrcFault>
 }
 
 // Judges `kr` after the other settings.
-fn with_kr(lines: &[HeadLine], spaces: Spaces) -> Result<Setup, Or<OrcFault>>
+fn with_kr(lines: &[HeadLine], spaces: Spaces) -> Result<Settings, Or<OrcFault>>
     requires { headers_fault [] lines.now ≡ None }
-    ensures { Gives setup result (kr_fault (header lines.now) (header_of head.Kr lines.now))
+    ensures { Gives settings_of result (kr_fault (header lines.now) (header_of head.Kr lines.now))
         (told (header lines.now) spaces) }
 {
     match kr_fault(lines) {
         Some(fault) => Err(Or::Fault(fault)),
-        None => Ok(Setup {
+        None => Ok(Settings {
             head: head_of(lines),
             spaces,
         }),
@@ -46,8 +46,8 @@ fn with_kr(lines: &[HeadLine], spaces: Spaces) -> Result<Setup, Or<OrcFault>>
 }
 
 /// Judges header lines, the `zakinit`s of statements outside instruments, and `kr`; and gives what they say.
-pub fn settings(lines: &[HeadLine], outside: &[OrcStmt]) -> Result<Setup, Or<OrcFault>>
-    ensures { Gives setup result (settings_fault lines.now (block outside.now))
+pub fn judge_settings(lines: &[HeadLine], outside: &[OrcStmt]) -> Result<Settings, Or<OrcFault>>
+    ensures { Gives settings_of result (settings_fault lines.now (block outside.now))
         (told (header lines.now) (zak_spaces (zaks_of_block (block outside.now)))) }
 {
     let zaks = zaks_of(outside);

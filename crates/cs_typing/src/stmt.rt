@@ -4,7 +4,7 @@ ghost use Rattle.cs_words.specs.Names.{name_rate};
 ghost use Rattle.cs_grammar.specs.Tree as tree;
 ghost use Rattle.cs_grammar.specs.declared.tree.Arm.{out-Arm};
 ghost use Rattle.cs_typing.specs.Expressions.{typed_expression};
-ghost use Rattle.cs_typing.specs.Known.{known_with, variable, after_giving};
+ghost use Rattle.cs_typing.specs.Known.{variable, given};
 ghost use Rattle.cs_typing.specs.Settings.{at};
 ghost use Rattle.cs_typing.specs.Statements.{may_set, set_fault, condition_fault, fault, block_fault, arms_fault, known, known_block, known_arms, typed_statement, typed_block, typed_arms, choice_rate, all_init};
 ghost use Rattle.cs_typed.specs.TypedTree as typed;
@@ -12,13 +12,12 @@ ghost use Rattle.cs_typing.specs.inner.Answers.{Gives, GivesArm, GivesArms};
 
 use crate::call::{broken, call};
 use crate::expr::{is_condition, is_value, rate_of, reads_known, typed_expression};
-use crate::known::{Shared, Table, given};
+use crate::known::KnownNames;
 use crate::making::add;
 use cs_base::{Or, OrcFault, OrcKind, Rate};
 use cs_grammar::{Arm, Expr, OrcStmt, StmtWhat};
 use cs_typed::{Setting, TypedArm, TypedArms, TypedExpr, TypedStmt, TypedStmts, TypedWhat};
 use cs_words::name_rate;
-use std::alloc::Global;
 
 // Whether a variable may take a value.
 fn may_set(setting: Setting, name: &[u8], e: &Expr) -> bool
@@ -30,16 +29,10 @@ fn may_set(setting: Setting, name: &[u8], e: &Expr) -> bool
 }
 
 // The first rule that an assignment breaks.
-fn set_fault<'t>(
-    setting: Setting,
-    shared: &Shared<'t>,
-    locals: &Table<'t>,
-    name: &[u8],
-    e: &Expr,
-) -> Option<OrcKind>
-    ensures { result ≡ set_fault setting (known_with shared.now locals.now) name.now (tree.expression e.now) }
+fn set_fault<'t>(setting: Setting, names: &KnownNames<'t>, name: &[u8], e: &Expr) -> Option<OrcKind>
+    ensures { result ≡ set_fault setting names.now name.now (tree.expression e.now) }
 {
-    if !reads_known(shared, locals, e) {
+    if !reads_known(names, e) {
         Some(OrcKind::Undefined)
     } else if !may_set(setting, name, e) {
         Some(OrcKind::RateMismatch)
@@ -49,15 +42,10 @@ fn set_fault<'t>(
 }
 
 // The first rule that the condition of an `if` breaks.
-fn condition_fault<'t>(
-    setting: Setting,
-    shared: &Shared<'t>,
-    locals: &Table<'t>,
-    e: &Expr,
-) -> Option<OrcKind>
-    ensures { result ≡ condition_fault setting (known_with shared.now locals.now) (tree.expression e.now) }
+fn condition_fault<'t>(setting: Setting, names: &KnownNames<'t>, e: &Expr) -> Option<OrcKind>
+    ensures { result ≡ condition_fault setting names.now (tree.expression e.now) }
 {
-    if !reads_known(shared, locals, e) {
+    if !reads_known(names, e) {
         Some(OrcKind::Undefined)
     } else if !(is_condition(e) && (setting.inside || rate_of(e).is_init())) {
         Some(OrcKind::RateMismatch)
@@ -68,32 +56,30 @@ fn condition_fault<'t>(
 
 // `name = e`
 fn set<'t>(
-    alloc: Global,
     setting: Setting,
-    shared: &Shared<'t>,
-    locals: &mut Table<'t>,
+    names: &mut KnownNames<'t>,
     line: u32,
     name: &'t [u8],
     e: &Expr,
 ) -> Result<TypedStmt, Or<OrcFault>>
     ensures gives { Gives typed.statement result
-        (at line (set_fault setting (known_with shared.now locals.old) name.now
+        (at line (set_fault setting names.old name.now
         (tree.expression e.now)))
-        (typed.set line (name_rate name.now) (variable (known_with shared.now locals.old) name.now)
-        (typed_expression (known_with shared.now locals.old) (tree.expression e.now))) }
-    ensures known { OnOk result (locals.new ≡ after_giving locals.old name.now) }
+        (typed.set line (name_rate name.now) (variable names.old name.now)
+        (typed_expression names.old (tree.expression e.now))) }
+    ensures known { OnOk result (names.new ≡ given names.old name.now) }
 {
-    if let Some(kind) = set_fault(setting, shared, locals, name, e) {
+    if let Some(kind) = set_fault(setting, names, name, e) {
         return Err(broken(line, kind));
     }
-    let var = shared.variable(locals, name);
-    let value = typed_expression(alloc, shared, locals, e)?;
+    let var = names.variable(name);
+    let value = typed_expression(names, e)?;
     let made = TypedStmt {
         line,
         rate: name_rate(name),
         what: TypedWhat::Set(var, value),
     };
-    Ok(given(locals, name, made)?)
+    Ok(names.given(name, made)?)
 }
 
 // Whether all conditions are known when the note begins.
@@ -121,53 +107,42 @@ fn choice_rate(list: &[Arm]) -> Rate
 
 // The condition of an arm.
 fn condition<'t>(
-    alloc: Global,
     setting: Setting,
-    shared: &Shared<'t>,
-    locals: &Table<'t>,
+    names: &KnownNames<'t>,
     line: u32,
     e: &Expr,
 ) -> Result<TypedExpr, Or<OrcFault>>
     ensures { Gives typed.expression result
-        (at line (condition_fault setting (known_with shared.now locals.now) (tree.expression e.now)))
-        (typed_expression (known_with shared.now locals.now) (tree.expression e.now)) }
+        (at line (condition_fault setting names.now (tree.expression e.now)))
+        (typed_expression names.now (tree.expression e.now)) }
 {
-    if let Some(kind) = condition_fault(setting, shared, locals, e) {
+    if let Some(kind) = condition_fault(setting, names, e) {
         return Err(broken(line, kind));
     }
-    Ok(typed_expression(alloc, shared, locals, e)?)
+    Ok(typed_expression(names, e)?)
 }
 
 /// Judges a statement, and gives its typed form; what it gives is known from then on.
 #[cycle(typing)]
 pub fn stmt<'t>(
-    alloc: Global,
     setting: Setting,
-    shared: &mut Shared<'t>,
-    locals: &mut Table<'t>,
+    names: &mut KnownNames<'t>,
     s: &'t OrcStmt,
 ) -> Result<TypedStmt, Or<OrcFault>>
     ensures gives { Gives typed.statement result
-        (fault setting (known_with shared.old locals.old) (tree.statement s.now))
-        (typed_statement (known_with shared.old locals.old) (tree.statement s.now)) }
-    ensures known { OnOk result (known_with shared.new locals.new
-        ≡ known (known_with shared.old locals.old) (tree.statement s.now)) }
+        (fault setting names.old (tree.statement s.now))
+        (typed_statement names.old (tree.statement s.now)) }
+    ensures known { OnOk result (names.new
+        ≡ known names.old (tree.statement s.now)) }
 {
     match &s.what {
-        StmtWhat::Set(name, e) => set(alloc, setting, shared, locals, s.line, name.as_slice(), e),
-        StmtWhat::Call(results, callee, args) => call(
-            alloc,
-            setting,
-            shared,
-            locals,
-            s.line,
-            results.as_slice(),
-            callee,
-            args,
-        ),
+        StmtWhat::Set(name, e) => set(setting, names, s.line, name.as_slice(), e),
+        StmtWhat::Call(results, callee, args) => {
+            call(setting, names, s.line, results.as_slice(), callee, args)
+        }
         StmtWhat::Choose(list, els) => {
-            let typed = arms(alloc, setting, shared, locals, s.line, list)?;
-            let typed_els = block(alloc, setting, shared, locals, els)?;
+            let typed = arms(setting, names, s.line, list)?;
+            let typed_els = block(setting, names, els)?;
             Ok(TypedStmt {
                 line: s.line,
                 rate: choice_rate(list),
@@ -180,21 +155,19 @@ pub fn stmt<'t>(
 /// Judges statements, and gives their typed forms.
 #[cycle(typing)]
 pub fn block<'t>(
-    alloc: Global,
     setting: Setting,
-    shared: &mut Shared<'t>,
-    locals: &mut Table<'t>,
+    names: &mut KnownNames<'t>,
     stmts: &'t [OrcStmt],
 ) -> Result<TypedStmts, Or<OrcFault>>
     ensures gives { Gives (λ v. typed.block v.items) result
-        (block_fault setting (known_with shared.old locals.old) (tree.block stmts.now))
-        (typed_block (known_with shared.old locals.old) (tree.block stmts.now)) }
-    ensures known { OnOk result (known_with shared.new locals.new
-        ≡ known_block (known_with shared.old locals.old) (tree.block stmts.now)) }
+        (block_fault setting names.old (tree.block stmts.now))
+        (typed_block names.old (tree.block stmts.now)) }
+    ensures known { OnOk result (names.new
+        ≡ known_block names.old (tree.block stmts.now)) }
 {
-    let mut done = Vec::new(alloc);
+    let mut done = Vec::new(names.alloc());
     for s in stmts {
-        add(&mut done, stmt(alloc, setting, shared, locals, s)?)?;
+        add(&mut done, stmt(setting, names, s)?)?;
     }
     Ok(done)
 }
@@ -202,19 +175,17 @@ pub fn block<'t>(
 // The arms of an `if`, whose line is given.
 #[cycle(typing)]
 fn arms<'t>(
-    alloc: Global,
     setting: Setting,
-    shared: &mut Shared<'t>,
-    locals: &mut Table<'t>,
+    names: &mut KnownNames<'t>,
     line: u32,
     list: &'t [Arm],
 ) -> Result<TypedArms, Or<OrcFault>>
-    ensures { GivesArms (λ v. v.items) setting (known_with shared.old locals.old) line list.now result
-        (known_with shared.new locals.new) }
+    ensures { GivesArms (λ v. v.items) setting names.old line list.now result
+        (names.new) }
 {
-    let mut done = Vec::new(alloc);
+    let mut done = Vec::new(names.alloc());
     for a in list {
-        add(&mut done, arm(alloc, setting, shared, locals, line, a)?)?;
+        add(&mut done, arm(setting, names, line, a)?)?;
     }
     Ok(done)
 }
@@ -222,34 +193,30 @@ fn arms<'t>(
 // An arm of an `if`, whose line is given.
 #[cycle(typing)]
 fn arm<'t>(
-    alloc: Global,
     setting: Setting,
-    shared: &mut Shared<'t>,
-    locals: &mut Table<'t>,
+    names: &mut KnownNames<'t>,
     line: u32,
     a: &'t Arm,
 ) -> Result<TypedArm, Or<OrcFault>>
-    ensures { GivesArm setting (known_with shared.old locals.old) line a.now result (known_with shared.new locals.new) }
+    ensures { GivesArm setting names.old line a.now result (names.new) }
 {
-    let cond = condition(alloc, setting, shared, locals, line, &a.cond)?;
-    let body = arm_body(alloc, setting, shared, locals, a)?;
+    let cond = condition(setting, names, line, &a.cond)?;
+    let body = arm_body(setting, names, a)?;
     Ok(TypedArm { cond, body })
 }
 
 // The statements of an arm.
 #[cycle(typing)]
 fn arm_body<'t>(
-    alloc: Global,
     setting: Setting,
-    shared: &mut Shared<'t>,
-    locals: &mut Table<'t>,
+    names: &mut KnownNames<'t>,
     a: &'t Arm,
 ) -> Result<TypedStmts, Or<OrcFault>>
     ensures gives { Gives (λ v. typed.block v.items) result
-        (block_fault setting (known_with shared.old locals.old) (tree.block (out-Arm a.now).body.items))
-        (typed_block (known_with shared.old locals.old) (tree.block (out-Arm a.now).body.items)) }
-    ensures known { OnOk result (known_with shared.new locals.new
-        ≡ known_block (known_with shared.old locals.old) (tree.block (out-Arm a.now).body.items)) }
+        (block_fault setting names.old (tree.block (out-Arm a.now).body.items))
+        (typed_block names.old (tree.block (out-Arm a.now).body.items)) }
+    ensures known { OnOk result (names.new
+        ≡ known_block names.old (tree.block (out-Arm a.now).body.items)) }
 {
-    block(alloc, setting, shared, locals, &a.body)
+    block(setting, names, &a.body)
 }

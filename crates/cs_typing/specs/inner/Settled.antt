@@ -7,7 +7,7 @@ use Rattle.cs_words.specs.declared.word.HeadName.{HeadName}
 use Rattle.cs_grammar.specs.declared.tree.HeadLine.{HeadLine}
 use Rattle.cs_grammar.specs.Tree.{Argument}
 use Rattle.cs_typed.specs.Places.{Header}
-use Rattle.cs_typing.specs.declared.settle.Setup.{Setup}
+use Rattle.cs_typing.specs.declared.settle.Settings.{Settings}
 use Rattle.cs_typing.specs.declared.zak.Zaks.{Zaks}
 use Rattle.cs_typed.specs.TypedTree.{header_of_head}
 use Rattle.cs_typing.specs.Settings.{same_head, at, Zak, zak_fault, sizes}
@@ -39,5 +39,5 @@ pub record Told : Type 0 where
 abbrev pub told : Header → Spaces → Told
 told h spaces = record { head = h; spaces = spaces }
 
-abbrev pub setup : Setup → Told
-setup s = told (header_of_head s.head) s.spaces
+abbrev pub settings_of : Settings → Told
+settings_of s = told (header_of_head s.head) s.spaces

@@ -3,8 +3,7 @@ use Rattle.std.specs.Prelude.{ℕ, List, [], ◌∷◌, ◌++◌, ◌≡◌, map
 use Rattle.cs_base.specs.declared.fault.Or.{Or}
 use Rattle.cs_base.specs.declared.fault.Or.TheVariants as or
 use Rattle.cs_base.specs.declared.fault.OrcFault.{OrcFault}
-use Rattle.cs_base.specs.declared.per_rate.PerRate.{PerRate}
-use Rattle.cs_typing.specs.Known.{Table, no_names, counts_of, Known}
+use Rattle.cs_typing.specs.Known.{counts_of, Known}
 use Rattle.cs_typing.specs.Statements.{known_block, typed_block}
 use Rattle.cs_typing.specs.Typing.{Item, alone, body, items, items_fault, known_item, known_items, first_known, shared_names, typed_instrument, typed_outside, typed_instruments}
 use Rattle.cs_grammar.specs.Tree.{Orchestra}
@@ -13,28 +12,24 @@ use Rattle.cs_typed.specs.TypedTree as typed
 use Rattle.cs_typing.specs.declared.orc.Done.{Done}
 use Rattle.cs_typing.specs.inner.Settled.{Told}
 
--- what is made of the parts of an orchestra so far: the variables and the typed statements of the code outside instruments, and
--- the typed instruments
+-- what is made of the parts of an orchestra so far: the typed statements of the code outside instruments, and the instruments
 pub record Made : Type 0 where
-  pub locals : Table
   pub zero : typed.Block
   pub instrs : List typed.Instrument
 
-abbrev pub made_is : Table → typed.Block → List typed.Instrument → Made
-made_is locals zero instrs = record { locals = locals; zero = zero; instrs = instrs }
+abbrev pub made_with : typed.Block → List typed.Instrument → Made
+made_with zero instrs = record { zero = zero; instrs = instrs }
 
-abbrev pub made_of : Table → Done → Made
-made_of locals d =
-    record { locals = locals; zero = typed.block d.zero.items; instrs = map typed.instrument d.instrs.items }
+abbrev pub made_of : Done → Made
+made_of d = made_with (typed.block d.zero.items) (map typed.instrument d.instrs.items)
 
 abbrev pub nothing : Made
-nothing = record { locals = no_names; zero = typed.no_stmt; instrs = [] }
+nothing = made_with typed.no_stmt []
 
 -- what is made after one more part
 abbrev pub after_item : Known → Made → Item → Made
-after_item n m (alone b) =
-    record { locals = (known_block n b).locals; zero = typed.then_block m.zero (typed_block n b); instrs = m.instrs }
-after_item n m (body i) = record { locals = m.locals; zero = m.zero; instrs = m.instrs ++ typed_instrument n i ∷ [] }
+after_item n m (alone b) = made_with (typed.then_block m.zero (typed_block n b)) m.instrs
+after_item n m (body i) = made_with m.zero (m.instrs ++ typed_instrument n i ∷ [])
 
 abbrev pub after_items : Known → Made → List Item → Made
 after_items n m [] = m
@@ -50,25 +45,23 @@ Judged (Err or.OutOfMemory) fault = Unit {0}
 abbrev pub parts_fault : ℕ → Orchestra → Option OrcFault
 parts_fault channels o = items_fault channels (first_known o) (items o.zero o.instrs)
 
--- the typed form of an orchestra, from its settings, the numbers of local variables outside instruments, the statements there, the
--- instruments and the names that they share
-abbrev pub made_from : Told → PerRate ℕ → typed.Block → List typed.Instrument → typed.SharedNames → typed.Orchestra
-made_from t counts zero instrs names = record {
+-- the typed form of an orchestra, from its settings, what is known at its end, the statements outside instruments, the instruments
+abbrev pub made_from : Told → Known → typed.Block → List typed.Instrument → typed.Orchestra
+made_from t n zero instrs = record {
   head = t.head;
   spaces = t.spaces;
-  zero_locals = counts;
+  zero_locals = counts_of n.locals;
   zero = zero;
   instrs = instrs;
-  globals = names;
+  globals = shared_names n.shared;
 }
 
 -- that of an orchestra whose settings are these
 abbrev pub typed_by : Told → Orchestra → typed.Orchestra
 typed_by t o =
     let parts = items o.zero o.instrs in
-    let last = known_items (first_known o) parts in
-    made_from t (counts_of last.locals) (typed_outside (first_known o) parts) (typed_instruments (first_known o) parts)
-    (shared_names last.shared)
+    made_from t (known_items (first_known o) parts) (typed_outside (first_known o) parts)
+    (typed_instruments (first_known o) parts)
 
 -- An answer: the typed orchestra, where there is no fault, or else the fault. Out of memory says nothing.
 abbrev pub GivesOrc : Result TypedOrc (Or OrcFault) → Option OrcFault → typed.Orchestra → Type 0

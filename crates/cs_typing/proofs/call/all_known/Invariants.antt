@@ -1,9 +1,8 @@
 use Rattle.std.proofs.Common.{◌≡◌, drop, map}
 use Rattle.cs_grammar.specs.Tree.{argument}
 use Rattle.cs_typing.specs.Calls.{all_known}
-use Rattle.cs_typing.specs.Known.{known_with}
 use Rattle.cs_typing.proofs.call.all_known.Given as goal
 
 abbrev pub invariant-loop-arg : goal.invariant-loop-arg
 invariant-loop-arg l =
-    all_known (known_with l.shared l.locals) (map argument (drop l.arg-index l.args)) ≡ all_known (known_with l.shared l.locals) (map argument l.args)
+    all_known l.names (map argument (drop l.arg-index l.args)) ≡ all_known l.names (map argument l.args)

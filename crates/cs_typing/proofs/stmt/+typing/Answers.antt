@@ -6,7 +6,6 @@ use Rattle.cs_grammar.proofs.Rows.{block_is, arms_is}
 use Rattle.cs_typed.specs.declared.tree.TypedWhat.TheViews.{the_lemmas as typed_lemmas}
 use Rattle.cs_typed.specs.declared.tree.TypedWhat.TheBlock.{hidden-the_row-TypedStmt-1, hidden-the_row-TypedArm-0}
 use Rattle.cs_typed.proofs.Trees.{typed_block_is, typed_arms_is}
-use Rattle.cs_typing.specs.Known.{known_with}
 use Rattle.cs_typing.specs.Statements.{block_fault, arms_fault, known_block, known_arms, typed_block, typed_arms, fault, known, typed_statement, choice_rate}
 use Rattle.cs_typed.specs.TypedTree as typed
 use Rattle.cs_typing.specs.inner.Answers.{Gives, GivesArm, GivesArms}
@@ -17,8 +16,8 @@ use Rattle.cs_typing.proofs.stmt.+typing.Goals as goal
 pub block-loop-s-preserved : goal.block-loop-s-preserved
 block-loop-s-preserved t c =
     let was = c.loop-s.invariant in
-    let k = known_with c.loop-s.shared c.loop-s.locals in
-    let m = known_with c.stmt.new.shared c.stmt.new.locals in
+    let k = c.loop-s.names in
+    let m = c.stmt.new.names in
     let whole = drop c.loop-s.s-index c.args.stmts.now in
     let rest = drop (c.loop-s.s-index + 1) c.args.stmts.now in
     let x = c.s-item.result in
@@ -32,7 +31,7 @@ block-loop-s-preserved t c =
 pub block-returns-clause-gives : goal.block-returns-clause-gives
 block-returns-clause-gives t c =
     let was = c.loop-s.invariant in
-    let k = known_with c.loop-s.shared c.loop-s.locals in
+    let k = c.loop-s.names in
     let done = c.loop-s.done.items in
     let none = drop_all c.loop-s.s-index c.args.stmts.now (omega arith) in (
       sym was.0 ∙ ap (λ xs. block_fault c.args.setting k (tree.block xs)) none,
@@ -42,8 +41,8 @@ block-returns-clause-gives t c =
 pub arms-loop-a-preserved : goal.arms-loop-a-preserved
 arms-loop-a-preserved t c els =
     let was = c.loop-a.invariant els in
-    let k = known_with c.loop-a.shared c.loop-a.locals in
-    let m = known_with c.arm.new.shared c.arm.new.locals in
+    let k = c.loop-a.names in
+    let m = c.arm.new.names in
     let whole = drop c.loop-a.a-index c.args.list.now in
     let rest = drop (c.loop-a.a-index + 1) c.args.list.now in
     let x = c.a-item.result in
@@ -57,7 +56,7 @@ arms-loop-a-preserved t c els =
 pub arms-returns : goal.arms-returns
 arms-returns t c els =
     let was = c.loop-a.invariant els in
-    let k = known_with c.loop-a.shared c.loop-a.locals in
+    let k = c.loop-a.names in
     let done = c.loop-a.done.items in
     let none = drop_all c.loop-a.a-index c.args.list.now (omega arith) in (
       sym was.0 ∙ ap (λ xs. arms_fault c.args.setting k c.args.line (tree.arms els xs)) none,
@@ -67,13 +66,13 @@ arms-returns t c els =
 
 pub arms-returns-in_err-arm : goal.arms-returns-in_err-arm
 arms-returns-in_err-arm t c =
-    let k = known_with c.loop-a.shared c.loop-a.locals in
+    let k = c.loop-a.names in
     let whole = drop c.loop-a.a-index c.args.list.now in
     let rest = drop (c.loop-a.a-index + 1) c.args.list.now in
     let x = c.a-item.result in
     let split = dropped c.args.list.now c.loop-a.a-index x (omega arith) c.a-item.is in
-    let m = known_with c.arm.new.shared c.arm.new.locals in
-    failed (λ r. GivesArms arms_of c.args.setting (known_with c.args.shared.now c.args.locals.now) c.args.line c.args.list.now r m)
+    let m = c.arm.new.names in
+    failed (λ r. GivesArms arms_of c.args.setting c.args.names.now c.args.line c.args.list.now r m)
     (λ e. GivesArm c.args.setting k c.args.line x (Err e) m)
     c.from_residual.result _ c.from_residual.ensures.1 c.in_err-arm.ensures
     (λ f h els. sym (c.loop-a.invariant els).0 ∙ first_arm_fault c.args.setting k c.args.line els whole rest x f split h)
@@ -83,11 +82,11 @@ pub stmt-returns-in_err-typed-in-Choose-clause-gives : goal.stmt-returns-in_err-
 stmt-returns-in_err-typed-in-Choose-clause-gives t c =
     let list = c.in-Choose.list.items in
     let els = tree.block c.in-Choose.els.items in
-    let n = known_with c.args.shared.now c.args.locals.now in
+    let n = c.args.names.now in
     let is : tree.statement c.args.s.now ≡ tree.choose c.args.s.now.line (tree.arms els list) = search (rules, the_lemmas, block_is, arms_is, c.in-Choose.is) in
     let lent = c.deref-in-Choose.ensures.value in
     failed (λ r. Gives typed.statement r (fault c.args.setting n (tree.statement c.args.s.now)) (typed_statement n (tree.statement c.args.s.now)))
-    (λ e. GivesArms arms_of c.args.setting n c.args.s.now.line c.deref-in-Choose.result.now (Err e) (known_with c.arms.new.shared c.arms.new.locals))
+    (λ e. GivesArms arms_of c.args.setting n c.args.s.now.line c.deref-in-Choose.result.now (Err e) c.arms.new.names)
     c.from_residual.result _ c.from_residual.ensures.1 c.in_err-typed-in-Choose.ensures
     (λ f h. ap (fault c.args.setting n) is ∙ sym (ap (λ xs. arms_fault c.args.setting n c.args.s.now.line (tree.arms els xs)) lent) ∙ h els)
     tt
@@ -96,8 +95,8 @@ pub stmt-returns-in_err-typed_els-in-Choose-clause-gives : goal.stmt-returns-in_
 stmt-returns-in_err-typed_els-in-Choose-clause-gives t c =
     let list = c.in-Choose.list.items in
     let els = tree.block c.in-Choose.els.items in
-    let n = known_with c.args.shared.now c.args.locals.now in
-    let m = known_with c.arms.new.shared c.arms.new.locals in
+    let n = c.args.names.now in
+    let m = c.arms.new.names in
     let is : tree.statement c.args.s.now ≡ tree.choose c.args.s.now.line (tree.arms els list) = search (rules, the_lemmas, block_is, arms_is, c.in-Choose.is) in
     let lent = c.deref-in-Choose.ensures.value in
     let lent_els = c.deref-in-Choose-2.ensures.value in
@@ -115,8 +114,8 @@ pub stmt-returns-in_ok-typed_els-in-Choose-clause-gives : goal.stmt-returns-in_o
 stmt-returns-in_ok-typed_els-in-Choose-clause-gives t c =
     let list = c.in-Choose.list.items in
     let els = tree.block c.in-Choose.els.items in
-    let n = known_with c.args.shared.now c.args.locals.now in
-    let m = known_with c.arms.new.shared c.arms.new.locals in
+    let n = c.args.names.now in
+    let m = c.arms.new.names in
     let line = c.args.s.now.line in
     let is : tree.statement c.args.s.now ≡ tree.choose line (tree.arms els list) = search (rules, the_lemmas, block_is, arms_is, c.in-Choose.is) in
     let lent = c.deref-in-Choose.ensures.value in
@@ -140,8 +139,8 @@ pub stmt-returns-in_ok-typed_els-in-Choose-clause-known : goal.stmt-returns-in_o
 stmt-returns-in_ok-typed_els-in-Choose-clause-known t c =
     let list = c.in-Choose.list.items in
     let els = tree.block c.in-Choose.els.items in
-    let n = known_with c.args.shared.now c.args.locals.now in
-    let m = known_with c.arms.new.shared c.arms.new.locals in
+    let n = c.args.names.now in
+    let m = c.arms.new.names in
     let line = c.args.s.now.line in
     let is : tree.statement c.args.s.now ≡ tree.choose line (tree.arms els list) = search (rules, the_lemmas, block_is, arms_is, c.in-Choose.is) in
     let lent = c.deref-in-Choose.ensures.value in

@@ -1,0 +1,64 @@
+-- What the rules of rates ask of a call, said once for the tree of the grammar and for the typed tree: of an argument its rate alone,
+-- which a text has none of, and of a result its rate.
+use Rattle.std.specs.Prelude.{Bool, true, false, not, List, [], ◌∷◌, ◌&&◌, length, nat_lt, Option, Some, None, if◌then◌else◌}
+use Rattle.std.specs.List.{list_any, list_all}
+use Rattle.cs_base.specs.Rates.{is_init, is_audio, same_rate}
+use Rattle.cs_base.specs.declared.resource.Rate.{Rate}
+use Rattle.cs_base.specs.declared.resource.Rate.TheVariants as rate
+use Rattle.cs_words.specs.Catalogue.{Row, takes, is_text}
+use Rattle.cs_words.specs.declared.catalogue.Letter.{Letter}
+use Rattle.cs_words.specs.declared.catalogue.Shape.{Shape}
+use Rattle.cs_words.specs.declared.catalogue.Shape.TheVariants as shape
+use Rattle.cs_typed.specs.Places.{is_starting, is_writing}
+use Rattle.cs_typed.specs.declared.setting.Setting.{Setting}
+
+-- a value of the audio rate
+abbrev pub sounds : Option Rate → Bool
+sounds (Some r) = is_audio r
+sounds None = false
+
+-- a text, or a value that is known when the note begins
+abbrev pub stands_still : Option Rate → Bool
+stands_still (Some r) = is_init r
+stands_still None = true
+
+-- a letter takes an argument
+abbrev pub accepts : Letter → Rate → Option Rate → Bool
+accepts l bound (Some r) = takes l bound r
+accepts l bound None = is_text l
+
+-- the rate of the result, which bounds arguments; no result bounds nothing
+abbrev pub bound_from : {V : Type 0} → (V → Rate) → List V → Rate
+bound_from rated [] = rate.Audio
+bound_from rated (v ∷ vs) = rated v
+
+-- the result of a row may have this rate
+abbrev pub may_have : Row → Rate → Bool
+may_have row r = list_any (same_rate r) row.results
+
+-- a table is stored to sample by sample, or else at values that are held
+abbrev pub are_even : {A : Type 0} → (A → Option Rate) → Shape → List A → Bool
+are_even seen shape.Store [] = true
+are_even seen shape.Store (a ∷ []) = true
+are_even seen shape.Store (a ∷ b ∷ rest) = if sounds (seen a) then sounds (seen b) else not (sounds (seen b))
+are_even seen _ args = true
+
+-- more sounds go out than the piece has channels
+abbrev pub exceeds : {A : Type 0} → Setting → Shape → List A → Bool
+exceeds s shape.Out args = nat_lt s.channels (length args)
+exceeds s _ args = false
+
+-- How often a call is done: once where its opcode works as the note begins, or as often as its result changes; and without a result
+-- once where it writes what is known when the note begins, or else as often as its arguments change.
+abbrev pub rate_without_result : {A : Type 0} → (A → Option Rate) → Shape → List A → Rate
+rate_without_result seen sh args =
+    if is_writing sh && list_all (λ a. stands_still (seen a)) args then rate.Init
+    else (if list_any (λ a. sounds (seen a)) args then rate.Audio else rate.Control)
+
+abbrev pub rate_of_call : {V A : Type 0} → (V → Rate) → (A → Option Rate) → Shape → List V → List A → Rate
+rate_of_call rated seen sh [] args = if is_starting sh then rate.Init else rate_without_result seen sh args
+rate_of_call rated seen sh (v ∷ vs) args = if is_starting sh then rate.Init else rated v
+
+-- the rate of an `if`: it is done once where all its conditions are known when the note begins
+abbrev pub rate_of_choice : Bool → Rate
+rate_of_choice all_known = if all_known then rate.Init else rate.Control
