@@ -28,10 +28,10 @@ HasFilled_all f count j out h p q =
     let e : j ≡ count = omega arith in
     sym (take_all j out (omega arith)) ∙ h.done ∙ ap (λ n. map f (range_with_len 0 n)) e
 
-risen : (rise n : ℕ) → rise ≤ n → nat_le rise n ≡ true
+pub risen : (rise n : ℕ) → rise ≤ n → nat_le rise n ≡ true
 risen rise n h = grind (arith, nat_tests)
 
-not_falling : (duration decay n : ℕ) → (decay ≡ 0) ⊎ (n + decay < duration) → (decay == 0 || nat_lt (n + decay) duration) ≡ true
+pub not_falling : (duration decay n : ℕ) → (decay ≡ 0) ⊎ (n + decay < duration) → (decay == 0 || nat_lt (n + decay) duration) ≡ true
 not_falling duration decay n (inl e) = grind (arith, nat_tests)
 not_falling duration decay n (inr h) = grind (arith, nat_tests)
 

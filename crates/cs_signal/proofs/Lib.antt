@@ -7,3 +7,5 @@ pub mod Pieces
 pub mod Ramps
 pub mod Rings
 pub mod Walks
+pub mod Ways
+pub mod Slopes

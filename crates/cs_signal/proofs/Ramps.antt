@@ -1,7 +1,7 @@
 -- A straight line by sums alone: the parts of a number, of a sum, and the quotient that they give.
-use Rattle.std.proofs.Common.{◌≡◌, ℕ, zero, suc, ◌+◌, ◌-◌, ◌*◌, ◌<◌, ◌≤◌, inl, inr, List, [], ◌∷◌, ◌++◌, length, map, ℤ, pos, negsuc, ◌+ℤ◌, ◌-ℤ◌, ◌*ℤ◌, refl, set, unsigned_abs, ◌^◌, ap, sym, ◌∙◌, subst, arith}
-use Rattle.std.proofs.lemmas.Int.{ints}
-use Rattle.std.proofs.lemmas.Nat.{div-mul-add}
+use Rattle.std.proofs.Common.{◌≡◌, ℕ, zero, suc, ◌+◌, ◌-◌, ◌*◌, ◌<◌, ◌≤◌, inl, inr, List, [], ◌∷◌, ◌++◌, length, map, ℤ, pos, negsuc, ◌+ℤ◌, ◌-ℤ◌, ◌*ℤ◌, ◌≤ℤ◌, ◌<ℤ◌, refl, set, unsigned_abs, ◌^◌, ap, sym, ◌∙◌, subst, arith}
+use Rattle.std.proofs.lemmas.Int.{ints, unsigned_abs-mul}
+use Rattle.std.proofs.lemmas.Nat.{div-mul-add, mul-le}
 use Rattle.std.proofs.Math.IntN.{*ℤ_comm, suc_ℤ-*ℤ}
 use Rattle.cs_base.specs.Numbers.{clamp, floor_div}
 use Rattle.cs_signal.specs.inner.Ramp.{IsParted, IsAdvanced, HasRamped, ramp_of}
@@ -31,8 +31,21 @@ floor_is z (negsuc e) d r h =
 pub once_more : (z : ℤ) (d : ℕ) → z *ℤ pos (suc d) ≡ (z *ℤ pos d) +ℤ z
 once_more z d = *ℤ_comm z (pos (suc d)) ∙ suc_ℤ-*ℤ (pos d) z ∙ ap (λ w. w +ℤ z) (*ℤ_comm (pos d) z)
 
+-- what leaves a rest from 0 below the divisor is the quotient
+pub quotient_is : (n q d r : ℤ) → r ≡ n -ℤ (q *ℤ d) → pos 0 ≤ℤ r → r <ℤ d → q ≡ floor_div n d
+quotient_is n q (pos m) (pos k) e low high = sym (floor_is n q m k (record { sum = omega (arith, ints, e); below = omega (arith, ints, high) }))
+quotient_is n q (negsuc m) (pos k) e low high = absurd (omega (arith, ints, high))
+quotient_is n q d (negsuc k) e low high = absurd (omega (arith, ints, low))
+
+-- a product of a number within m and one within n is within m * n
+pub product_within : (x y : ℤ) (m n : ℕ) → unsigned_abs x ≤ m → unsigned_abs y ≤ n → unsigned_abs (x *ℤ y) ≤ m * n
+product_within x y m n p q =
+    let e = unsigned_abs-mul x y in
+    let h : unsigned_abs x * unsigned_abs y ≤ m * n = mul-le (unsigned_abs x) (unsigned_abs y) m n p q in
+    omega (arith, e, h)
+
 -- a sum times a number
-spread : (x y : ℤ) (d : ℕ) → (x +ℤ y) *ℤ pos d ≡ (x *ℤ pos d) +ℤ (y *ℤ pos d)
+pub spread : (x y : ℤ) (d : ℕ) → (x +ℤ y) *ℤ pos d ≡ (x *ℤ pos d) +ℤ (y *ℤ pos d)
 spread x y zero = omega (arith, ints)
 spread x y (suc d) = let ih = spread x y d in let ex = once_more x d in let ey = once_more y d in let es = once_more (x +ℤ y) d in omega (arith, ints)
 

@@ -1,12 +1,12 @@
 // `biquad`: a filter of two zeros and two poles, by whole numbers.
-ghost use Rattle.std.specs.Prelude.{ℕ, ◌≡◌, ◌≢◌, ◌<◌, ◌≤◌, ◌+◌, ◌^◌, ◌∷◌, [], length, pos, ◌≤ℤ◌, ◌+ℤ◌, ◌-ℤ◌, ◌*ℤ◌, unsigned_abs};
+ghost use Rattle.std.specs.Prelude.{ℕ, IfSome, true, ◌≡◌, ◌≢◌, ◌<◌, ◌≤◌, ◌+◌, ◌^◌, ◌∷◌, [], length, pos, ◌≤ℤ◌, ◌+ℤ◌, ◌-ℤ◌, ◌*ℤ◌, unsigned_abs};
 ghost use Rattle.std.specs.Int.{int_div_euclid};
 ghost use Rattle.cs_base.specs.Numbers.{IsRaw, floor_div, quotient_by_zero};
 ghost use Rattle.cs_signal.specs.Biquad.{biquad_start, biquad_step, filtered, ratio};
 ghost use Rattle.cs_signal.specs.Operands.{operand_at, Lasts};
 ghost use Rattle.cs_signal.specs.Steps.{run};
 
-use crate::Operand;
+use crate::{Divisor, Operand};
 use cs_base::Num;
 use std::marker::Model;
 
@@ -46,9 +46,26 @@ impl Biquad {
     pub fn step(&mut self, x: Num, b0: Num, b1: Num, b2: Num, a0: Num, a1: Num, a2: Num) -> Num
         ensures { (self.new, result) ≡ biquad_step self.old (x ∷ b0 ∷ b1 ∷ b2 ∷ a0 ∷ a1 ∷ a2 ∷ []) }
     {
-        let forward = forward(b0, x, b1, self.x1, b2, self.x2);
-        let back = back(a1, self.y1, a2, self.y2);
-        let y = ratio(less(forward, back), a0.raw());
+        self.step_by(x, b0, b1, b2, a0, a1, a2, None)
+    }
+
+    // A step, where `a0` may be known as a divisor.
+    #[inline(always)]
+    fn step_by(
+        &mut self,
+        x: Num,
+        b0: Num,
+        b1: Num,
+        b2: Num,
+        a0: Num,
+        a1: Num,
+        a2: Num,
+        divisor: Option<Divisor>,
+    ) -> Num
+        requires { IfSome divisor (λ d. d.value ≡ a0) }
+        ensures { (self.new, result) ≡ biquad_step self.old (x ∷ b0 ∷ b1 ∷ b2 ∷ a0 ∷ a1 ∷ a2 ∷ []) }
+    {
+        let y = self.answer(x, b0, b1, b2, a0, a1, a2, divisor);
         self.x2 = self.x1;
         self.x1 = x;
         self.y2 = self.y1;
@@ -75,8 +92,10 @@ impl Biquad {
             ∷ operand_at a0.now j ∷ operand_at a1.now j ∷ operand_at a2.now j ∷ [] in
             (self.new, out.new) ≡ run biquad_step at self.old 0 (length out.old) }
     {
+        let divisor = divisor_of(a0);
+        let mut unit = self.copied();
         for j in 0..out.len() {
-            out[j] = self.step(
+            out[j] = unit.step_by(
                 x.at(j),
                 b0.at(j),
                 b1.at(j),
@@ -84,8 +103,136 @@ impl Biquad {
                 a0.at(j),
                 a1.at(j),
                 a2.at(j),
+                divisor,
             );
         }
+        *self = unit;
+    }
+
+    // The result of a step.
+    #[inline(always)]
+    fn answer(
+        &self,
+        x: Num,
+        b0: Num,
+        b1: Num,
+        b2: Num,
+        a0: Num,
+        a1: Num,
+        a2: Num,
+        divisor: Option<Divisor>,
+    ) -> Num
+        requires { IfSome divisor (λ d. d.value ≡ a0) }
+        ensures { let s = self.now in
+            result ≡ filtered (x ∷ b0 ∷ b1 ∷ b2 ∷ a0 ∷ a1 ∷ a2 ∷ []) s.x1 s.x2 s.y1 s.y2 }
+    {
+        match self.near_sum(x, b0, b1, b2, a1, a2) {
+            Some(sum) => near_ratio(sum, a0, divisor),
+            None => ratio_by(self.wide_sum(x, b0, b1, b2, a1, a2), a0, divisor),
+        }
+    }
+
+    // What is divided.
+    #[inline(always)]
+    fn wide_sum(&self, x: Num, b0: Num, b1: Num, b2: Num, a1: Num, a2: Num) -> i128
+        ensures value { let s = self.now in
+            result ≡ ((b0 *ℤ x +ℤ b1 *ℤ s.x1) +ℤ b2 *ℤ s.x2) -ℤ (a1 *ℤ s.y1 +ℤ a2 *ℤ s.y2) }
+        ensures bounded { unsigned_abs result < 2 ^ 97 }
+    {
+        less(
+            forward(b0, x, b1, self.x1, b2, self.x2),
+            back(a1, self.y1, a2, self.y2),
+        )
+    }
+
+    // The same, where all coefficients are below 2,048 and all signals below 32,768, so that no sum has more than 61 bits.
+    #[inline(always)]
+    fn near_sum(&self, x: Num, b0: Num, b1: Num, b2: Num, a1: Num, a2: Num) -> Option<i64>
+        ensures value { let s = self.now in IfSome result (λ sum.
+            sum ≡ ((b0 *ℤ x +ℤ b1 *ℤ s.x1) +ℤ b2 *ℤ s.x2) -ℤ (a1 *ℤ s.y1 +ℤ a2 *ℤ s.y2)) }
+        ensures bounded { IfSome result (λ sum. unsigned_abs sum < 2 ^ 61) }
+    {
+        if are_small(b0, b1, b2, a1, a2) && are_short(x, self.x1, self.x2, self.y1, self.y2) {
+            Some(self.short_sum(x, b0, b1, b2, a1, a2))
+        } else {
+            None
+        }
+    }
+
+    #[inline(always)]
+    fn short_sum(&self, x: Num, b0: Num, b1: Num, b2: Num, a1: Num, a2: Num) -> i64
+        requires zeros { (unsigned_abs b0 ≤ 2 ^ 27) × (unsigned_abs b1 ≤ 2 ^ 27) × (unsigned_abs b2 ≤ 2 ^ 27) }
+        requires poles { (unsigned_abs a1 ≤ 2 ^ 27) × (unsigned_abs a2 ≤ 2 ^ 27) }
+        requires inputs { let s = self.now in
+            (unsigned_abs x ≤ 2 ^ 31) × (unsigned_abs s.x1 ≤ 2 ^ 31) × (unsigned_abs s.x2 ≤ 2 ^ 31) }
+        requires results { (unsigned_abs self.now.y1 ≤ 2 ^ 31) × (unsigned_abs self.now.y2 ≤ 2 ^ 31) }
+        ensures value { let s = self.now in
+            result ≡ ((b0 *ℤ x +ℤ b1 *ℤ s.x1) +ℤ b2 *ℤ s.x2) -ℤ (a1 *ℤ s.y1 +ℤ a2 *ℤ s.y2) }
+        ensures bounded { unsigned_abs result < 2 ^ 61 }
+    {
+        near_less(
+            near_forward(b0, x, b1, self.x1, b2, self.x2),
+            near_back(a1, self.y1, a2, self.y2),
+        )
+    }
+
+    #[inline(always)]
+    fn copied(&self) -> Biquad
+        ensures { result ≡ self.now }
+    {
+        Biquad {
+            x1: self.x1,
+            x2: self.x2,
+            y1: self.y1,
+            y2: self.y2,
+        }
+    }
+}
+
+// A divisor that is held and above 0.
+fn divisor_of(a0: &Operand) -> Option<Divisor>
+    ensures { IfSome result (λ d. (j : ℕ) → d.value ≡ operand_at a0.now j) }
+{
+    match a0 {
+        Operand::Held(value) => above_zero(*value),
+        Operand::Row(_) => None,
+    }
+}
+
+fn above_zero(value: Num) -> Option<Divisor>
+    ensures { IfSome result (λ d. d.value ≡ value) }
+{
+    if value.raw() > 0 {
+        Some(Divisor::of(value.raw()))
+    } else {
+        None
+    }
+}
+
+// The quotient, rounded down and brought into range; where the divisor is known and the number fits into 62 bits, without
+// a division.
+#[inline(always)]
+fn ratio_by(n: i128, a0: Num, divisor: Option<Divisor>) -> Num
+    requires bounded { unsigned_abs n < 2 ^ 97 }
+    requires known { IfSome divisor (λ d. d.value ≡ a0) }
+    ensures { result ≡ ratio n a0 }
+{
+    match divisor {
+        Some(divisor) => known_ratio(n, a0, divisor),
+        None => ratio(n, a0.raw()),
+    }
+}
+
+#[inline(always)]
+fn known_ratio(n: i128, a0: Num, divisor: Divisor) -> Num
+    requires bounded { unsigned_abs n < 2 ^ 97 }
+    requires known { divisor.value ≡ a0 }
+    ensures { result ≡ ratio n a0 }
+{
+    if -(1 << 61) < n && n < 1 << 61 {
+        divided(n as i64, a0, divisor)
+    } else {
+        ratio(n, a0.raw())
     }
 }
 
@@ -104,6 +251,122 @@ fn back(a1: Num, y1: Num, a2: Num, y2: Num) -> i128
     ensures bounded { unsigned_abs result < 2 ^ 96 }
 {
     plus(times(a1, y1), times(a2, y2))
+}
+
+// Whether coefficients are below 2,048.
+#[inline(always)]
+fn are_small(b0: Num, b1: Num, b2: Num, a1: Num, a2: Num) -> bool
+    ensures zeros { result ≡ true → (unsigned_abs b0 ≤ 2 ^ 27) × (unsigned_abs b1 ≤ 2 ^ 27) × (unsigned_abs b2 ≤ 2 ^ 27) }
+    ensures poles { result ≡ true → (unsigned_abs a1 ≤ 2 ^ 27) × (unsigned_abs a2 ≤ 2 ^ 27) }
+{
+    is_small(b0) && is_small(b1) && is_small(b2) && is_small(a1) && is_small(a2)
+}
+
+#[inline(always)]
+fn is_small(c: Num) -> bool
+    ensures { result ≡ true → unsigned_abs c ≤ 2 ^ 27 }
+{
+    -(1 << 27) <= c.raw() && c.raw() <= 1 << 27
+}
+
+// Whether signals are below 32,768.
+#[inline(always)]
+fn are_short(x: Num, x1: Num, x2: Num, y1: Num, y2: Num) -> bool
+    ensures inputs { result ≡ true → (unsigned_abs x ≤ 2 ^ 31) × (unsigned_abs x1 ≤ 2 ^ 31) × (unsigned_abs x2 ≤ 2 ^ 31) }
+    ensures results { result ≡ true → (unsigned_abs y1 ≤ 2 ^ 31) × (unsigned_abs y2 ≤ 2 ^ 31) }
+{
+    is_short(x) && is_short(x1) && is_short(x2) && is_short(y1) && is_short(y2)
+}
+
+#[inline(always)]
+fn is_short(x: Num) -> bool
+    ensures { result ≡ true → unsigned_abs x ≤ 2 ^ 31 }
+{
+    -(1 << 31) <= x.raw() && x.raw() <= 1 << 31
+}
+
+#[inline(always)]
+fn near_forward(b0: Num, x: Num, b1: Num, x1: Num, b2: Num, x2: Num) -> i64
+    requires coefficients { (unsigned_abs b0 ≤ 2 ^ 27) × (unsigned_abs b1 ≤ 2 ^ 27) × (unsigned_abs b2 ≤ 2 ^ 27) }
+    requires signals { (unsigned_abs x ≤ 2 ^ 31) × (unsigned_abs x1 ≤ 2 ^ 31) × (unsigned_abs x2 ≤ 2 ^ 31) }
+    ensures value { result ≡ (b0 *ℤ x +ℤ b1 *ℤ x1) +ℤ b2 *ℤ x2 }
+    ensures bounded { unsigned_abs result ≤ 2 ^ 60 }
+{
+    near_plus(
+        near_plus(near_times(b0, x), near_times(b1, x1)),
+        near_times(b2, x2),
+    )
+}
+
+#[inline(always)]
+fn near_back(a1: Num, y1: Num, a2: Num, y2: Num) -> i64
+    requires coefficients { (unsigned_abs a1 ≤ 2 ^ 27) × (unsigned_abs a2 ≤ 2 ^ 27) }
+    requires signals { (unsigned_abs y1 ≤ 2 ^ 31) × (unsigned_abs y2 ≤ 2 ^ 31) }
+    ensures value { result ≡ a1 *ℤ y1 +ℤ a2 *ℤ y2 }
+    ensures bounded { unsigned_abs result ≤ 2 ^ 59 }
+{
+    near_plus(near_times(a1, y1), near_times(a2, y2))
+}
+
+#[inline(always)]
+fn near_times(c: Num, x: Num) -> i64
+    requires coefficient { unsigned_abs c ≤ 2 ^ 27 }
+    requires signal { unsigned_abs x ≤ 2 ^ 31 }
+    ensures value { result ≡ c *ℤ x }
+    ensures bounded { unsigned_abs result ≤ 2 ^ 58 }
+{
+    near_product(c.raw(), x.raw())
+}
+
+#[inline(always)]
+fn near_product(c: i64, x: i64) -> i64
+    requires coefficient { unsigned_abs c ≤ 2 ^ 27 }
+    requires signal { unsigned_abs x ≤ 2 ^ 31 }
+    ensures value { result ≡ c *ℤ x }
+    ensures bounded { unsigned_abs result ≤ 2 ^ 58 }
+{
+    c * x
+}
+
+#[inline(always)]
+fn near_plus(x: i64, y: i64) -> i64
+    requires x { unsigned_abs x < 2 ^ 61 }
+    requires y { unsigned_abs y < 2 ^ 61 }
+    ensures value { result ≡ x +ℤ y }
+    ensures bounded { unsigned_abs result ≤ unsigned_abs x + unsigned_abs y }
+{
+    x + y
+}
+
+#[inline(always)]
+fn near_less(x: i64, y: i64) -> i64
+    requires x { unsigned_abs x ≤ 2 ^ 60 }
+    requires y { unsigned_abs y ≤ 2 ^ 59 }
+    ensures value { result ≡ x -ℤ y }
+    ensures bounded { unsigned_abs result < 2 ^ 61 }
+{
+    x - y
+}
+
+#[inline(always)]
+fn near_ratio(n: i64, a0: Num, divisor: Option<Divisor>) -> Num
+    requires bounded { unsigned_abs n < 2 ^ 61 }
+    requires known { IfSome divisor (λ d. d.value ≡ a0) }
+    ensures { result ≡ ratio n a0 }
+{
+    match divisor {
+        Some(divisor) => divided(n, a0, divisor),
+        None => ratio(i128::from(n), a0.raw()),
+    }
+}
+
+#[inline(always)]
+fn divided(n: i64, a0: Num, divisor: Divisor) -> Num
+    requires bounded { unsigned_abs n < 2 ^ 61 }
+    requires known { divisor.value ≡ a0 }
+    ensures { result ≡ ratio n a0 }
+{
+    Num::of_raw(divisor.divide(n))
 }
 
 // The exact sum.

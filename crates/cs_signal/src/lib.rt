@@ -7,12 +7,13 @@
 //!
 //! Modules in reading order: `pace` (times in steps), `operand` (inputs over a control cycle), `laws`; then a module an
 //! opcode: `line`, `linseg`, `linen`, `delay`, `biquad`, `integ`, `diff`, `samphold`, `limit`, `interp`, `downsamp`;
-//! and `ramp` (many steps of a straight line by sums alone).
+//! `ramp` (many steps of a straight line by sums alone) and `divisor` (many quotients by one number).
 #![tactic(auto)]
 
 mod biquad;
 mod delay;
 mod diff;
+mod divisor;
 mod downsamp;
 mod integ;
 mod interp;
@@ -29,6 +30,7 @@ mod samphold;
 pub use biquad::Biquad;
 pub use delay::Delay;
 pub use diff::Diff;
+pub use divisor::Divisor;
 pub use downsamp::Downsamp;
 pub use integ::Integ;
 pub use interp::Interp;

@@ -1,6 +1,6 @@
 // `line`: a straight line through two values, without end.
 ghost use Rattle.std.specs.Prelude.{◌≡◌, ◌<◌, ◌≤◌, ◌+◌, ◌^◌, ◌∷◌, [], length, map, pos, ◌+ℤ◌, ◌-ℤ◌, ◌*ℤ◌, unsigned_abs};
-ghost use Rattle.cs_base.specs.Numbers.{clamp, floor_div};
+ghost use Rattle.cs_base.specs.Numbers.{IsRaw, clamp, floor_div};
 ghost use Rattle.cs_signal.specs.Line.{LineState, line_start, line_step, part_way};
 ghost use Rattle.cs_signal.specs.Pace.{pace_of, last_number};
 ghost use Rattle.cs_signal.specs.Steps.{run};
@@ -98,6 +98,7 @@ pub(crate) fn raised(from: i64, by: i128) -> Num
 pub(crate) fn rise(from: Num, to: Num) -> i64
     ensures value { result ≡ to -ℤ from }
     ensures bounded { unsigned_abs result < 2 ^ 48 }
+    ensures ends { IsRaw from × IsRaw to }
 {
     to.raw() - from.raw()
 }

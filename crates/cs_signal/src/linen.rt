@@ -3,14 +3,16 @@ ghost use Rattle.std.specs.Prelude.{ℕ, ◌≡◌, ◌<◌, ◌≤◌, ◌*◌,
 ghost use Rattle.std.specs.List.{range_with_len};
 ghost use Rattle.cs_base.specs.Numbers.{clamp, floor_div, one, product_of};
 ghost use Rattle.cs_signal.specs.Linen.{linen_start, linen_step, up_at, down_at};
-ghost use Rattle.cs_signal.specs.Operands.{operand_at, Lasts};
+ghost use Rattle.cs_signal.specs.Operands.{argument, operand_at, Lasts};
 ghost use Rattle.cs_signal.specs.Pace.{pace_of, last_number};
 ghost use Rattle.cs_signal.specs.Steps.{run};
-ghost use Rattle.cs_signal.specs.inner.Level.{IsLevel};
+ghost use Rattle.cs_signal.specs.inner.Ramp.{ramp_of};
+ghost use Rattle.cs_signal.specs.inner.Level.{IsFalling, IsLevel, IsRising};
 
 use crate::Operand;
 use crate::operand::argument;
 use crate::pace::{next_number, steps};
+use crate::ramp::ramp;
 use cs_base::{Head, Num, Rate};
 use std::marker::Model;
 
@@ -67,9 +69,35 @@ impl Linen {
         if self.is_level(count) {
             level(x, out);
             self.number += count;
+        } else if self.rises(count) {
+            rising(x, self.number, self.rise, out);
+            self.number += count;
+        } else if self.falls(count) {
+            falling_on(x, self.number + self.decay - self.duration, self.decay, out);
+            self.number += count;
         } else {
             self.frames(x, out);
         }
+    }
+
+    // Whether so many steps to come lie in the rise, and before the decay.
+    fn rises(&self, count: u64) -> bool
+        ensures { result ≡ true → IsRising self.now count }
+    {
+        self.number < self.rise
+            && count <= self.rise - self.number
+            && (self.decay == 0 || self.number + count + self.decay <= self.duration)
+    }
+
+    // Whether so many steps to come lie in the decay, and after the rise.
+    fn falls(&self, count: u64) -> bool
+        ensures { result ≡ true → IsFalling self.now count }
+    {
+        count <= i64::MAX as u64 - self.number
+            && self.rise <= self.number
+            && 0 < self.decay
+            && self.duration <= self.number + self.decay
+            && self.number <= self.duration
     }
 
     // Whether so many steps to come lie after the rise and before the decay.
@@ -96,6 +124,38 @@ fn level(x: &Operand, out: &mut [Num])
 {
     for j in 0..out.len() {
         out[j] = x.at(j).mul(Num::of_raw(65_536));
+    }
+}
+
+// The amplitude under so many steps of the rise.
+fn rising(x: &Operand, number: u64, rise: u64, out: &mut [Num])
+    requires some { number < rise }
+    requires wide { rise < 2 ^ 49 }
+    ensures { let ramp = ramp_of (pos 0) one number rise (length out.old) in
+        out.new ≡ map (λ j. product_of (operand_at x.now j) (argument ramp j)) (range_with_len 0 (length out.old)) }
+{
+    ramp(Num::exact(0), Num::exact(65_536), number, rise, out);
+    shape(x, out);
+}
+
+// The amplitude under so many steps of the decay.
+fn falling_on(x: &Operand, number: u64, decay: u64, out: &mut [Num])
+    requires some { 0 < decay }
+    requires wide { decay < 2 ^ 49 }
+    requires near { number ≤ decay }
+    ensures { let ramp = ramp_of one (pos 0) number decay (length out.old) in
+        out.new ≡ map (λ j. product_of (operand_at x.now j) (argument ramp j)) (range_with_len 0 (length out.old)) }
+{
+    ramp(Num::exact(65_536), Num::exact(0), number, decay, out);
+    shape(x, out);
+}
+
+// The amplitude by factors, which `out` has.
+fn shape(x: &Operand, out: &mut [Num])
+    ensures { out.new ≡ map (λ j. product_of (operand_at x.now j) (argument out.old j)) (range_with_len 0 (length out.old)) }
+{
+    for j in 0..out.len() {
+        out[j] = x.at(j).mul(out[j]);
     }
 }
 

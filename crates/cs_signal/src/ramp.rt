@@ -1,6 +1,6 @@
 // A straight line through many steps, by sums alone.
 ghost use Rattle.std.specs.Prelude.{◌≡◌, ◌<◌, ◌≤◌, ◌+◌, ◌^◌, length, pos, ◌+ℤ◌, ◌-ℤ◌, ◌*ℤ◌, unsigned_abs};
-ghost use Rattle.cs_base.specs.Numbers.{clamp};
+ghost use Rattle.cs_base.specs.Numbers.{IsRaw, clamp};
 ghost use Rattle.cs_signal.specs.Pace.{last_number};
 ghost use Rattle.cs_signal.specs.inner.Ramp.{IsAdvanced, IsParted, ramp_of};
 
@@ -21,6 +21,101 @@ pub(crate) fn ramp(from: Num, to: Num, n: u64, d: u64, out: &mut [Num])
     requires number { n ≤ last_number }
     ensures { out.new ≡ ramp_of from to n d (length out.old) }
 {
+    if n < d && (out.len() as u64) < d - n {
+        before_end(from, to, n, d, out);
+    } else {
+        anywhere(from, to, n, d, out);
+    }
+}
+
+// The same before the end of the way: each value lies between the two, so that nothing is brought into range.
+fn before_end(from: Num, to: Num, n: u64, d: u64, out: &mut [Num])
+    requires wide { d ≤ 2 ^ 63 }
+    requires before { n + length out.old < d }
+    ensures { out.new ≡ ramp_of from to n d (length out.old) }
+{
+    let step = near_rise(from, to, d);
+    let mut at = risen(from, part_of(from, to, n, d));
+    for j in 0..out.len() {
+        out[j] = Num::exact(at.whole);
+        at = next(at, step, d);
+    }
+}
+
+// A number within 64 bits as so many times a divisor and a rest below it.
+#[derive(Clone, Copy)]
+struct Near {
+    whole: i64,
+    rest: u64,
+}
+
+// The parts of a way.
+fn near_rise(from: Num, to: Num, d: u64) -> Near
+    requires some { 1 ≤ d }
+    ensures parts { IsParted (to -ℤ from) d result.whole result.rest }
+    ensures bounded { unsigned_abs result.whole < 2 ^ 48 }
+    ensures ends { IsRaw from × IsRaw to }
+{
+    let rise = rise_of(from, to, d);
+    Near {
+        whole: rise.whole as i64,
+        rest: rise.rest,
+    }
+}
+
+// The value above another, and the rest that is left.
+fn risen(from: Num, part: Parts) -> Near
+    requires range { IsRaw (from +ℤ part.whole) }
+    requires far { unsigned_abs part.whole < 2 ^ 111 }
+    ensures value { result.whole ≡ from +ℤ part.whole }
+    ensures rest { result.rest ≡ part.rest }
+{
+    Near {
+        whole: sum(from.raw(), part.whole),
+        rest: part.rest,
+    }
+}
+
+// The exact sum.
+fn sum(from: i64, whole: i128) -> i64
+    requires range { IsRaw (from +ℤ whole) }
+    requires far { unsigned_abs whole < 2 ^ 111 }
+    ensures { result ≡ from +ℤ whole }
+{
+    (i128::from(from) + whole) as i64
+}
+
+// A value of a ramp one step on.
+#[inline(always)]
+fn next(at: Near, by: Near, d: u64) -> Near
+    requires at { at.rest < d }
+    requires by { by.rest < d }
+    requires wide { d ≤ 2 ^ 63 }
+    requires range { IsRaw at.whole }
+    requires near { unsigned_abs by.whole < 2 ^ 48 }
+    ensures { IsAdvanced d at.whole at.rest by.whole by.rest result.whole result.rest }
+{
+    let rest = at.rest + by.rest;
+    if rest < d {
+        Near {
+            whole: at.whole + by.whole,
+            rest,
+        }
+    } else {
+        Near {
+            whole: at.whole + by.whole + 1,
+            rest: rest - d,
+        }
+    }
+}
+
+// The same wherever the parts lie.
+fn anywhere(from: Num, to: Num, n: u64, d: u64, out: &mut [Num])
+    requires some { 1 ≤ d }
+    requires wide { d ≤ 2 ^ 63 }
+    requires number { n ≤ last_number }
+    ensures { out.new ≡ ramp_of from to n d (length out.old) }
+{
     let step = rise_of(from, to, d);
     let mut at = part_of(from, to, n, d);
     for j in 0..out.len() {
@@ -34,6 +129,7 @@ fn rise_of(from: Num, to: Num, d: u64) -> Parts
     requires some { 1 ≤ d }
     ensures parts { IsParted (to -ℤ from) d result.whole result.rest }
     ensures bounded { unsigned_abs result.whole < 2 ^ 48 }
+    ensures ends { IsRaw from × IsRaw to }
 {
     parted(i128::from(rise(from, to)), d)
 }

@@ -1,6 +1,8 @@
+pub mod Angles
 pub mod Curves
 pub mod Inputs
 pub mod Loops
+pub mod Masks
 pub mod Oscillators
 pub mod Phases
 pub mod Quotients

@@ -7,3 +7,4 @@ pub mod Points
 pub mod Table
 pub mod Tablei
 pub mod Units
+pub mod inner

@@ -184,7 +184,7 @@ fn upper(difference: i64, fraction: u32) -> i64
     ensures value { result ≡ floor_div difference (pos 65536) *ℤ pos fraction }
     ensures bounded { unsigned_abs result < 2 ^ 49 }
 {
-    difference.div_euclid(65536) * i64::from(fraction)
+    floored(difference) * i64::from(fraction)
 }
 
 #[inline(always)]
@@ -193,5 +193,5 @@ fn lower(difference: i64, fraction: u32) -> i64
     ensures value { result ≡ floor_div (int_rem_euclid difference (pos 65536) *ℤ pos fraction) (pos 65536) }
     ensures bounded { unsigned_abs result < 65536 }
 {
-    (difference.rem_euclid(65536) * i64::from(fraction)).div_euclid(65536)
+    floored(difference.rem_euclid(65536) * i64::from(fraction))
 }

@@ -4,6 +4,7 @@ ghost use Rattle.std.proofs.Common.{◌∙◌};
 ghost use Rattle.cs_gen.specs.Points.{len_of};
 ghost use Rattle.cs_gen.specs.Tables.{curve_of};
 ghost use Rattle.cs_ugen.specs.Points.{AreShort, IsCurve, IsShort, curve_len, is_len};
+ghost use Rattle.cs_ugen.specs.inner.Masks.{IsMask};
 ghost use Rattle.cs_signal.specs.Operands.{argument};
 
 use crate::curve::Curve;
@@ -54,9 +55,11 @@ pub(crate) fn is_short(x: Num) -> bool
 pub struct Frozen<'p> {
     points: &'p [Num],
     len: u32,
+    mask: u32,
     short: bool,
     ghost len_is: { len ≡ len_of (length points.now) },
     ghost power: { is_len len ≡ true },
+    ghost mask_is: { IsMask (length points.now) mask },
     ghost short_is: { short ≡ true → AreShort points.now },
 }
 
@@ -78,6 +81,7 @@ impl<'p> Frozen<'p> {
         Frozen {
             points: table.points,
             len,
+            mask: mask_of(table.points.len(), len),
             short: table.short,
         }
     }
@@ -85,22 +89,34 @@ impl<'p> Frozen<'p> {
 
 // The power of two of a size.
 fn power_below(size: usize) -> u32
-    requires { len_of size ≤ 65536 }
-    ensures { result ≡ len_of size }
+    requires { is_len (len_of size) ≡ true }
+    ensures value { result ≡ len_of size }
+    ensures least { 2 ≤ result }
+    ensures most { result ≤ 65536 }
 {
     (size - size % 2) as u32
 }
 
-// The point at a place of the curve of some points: behind the last of them stands the first.
+// A table's mask for places of its curve: behind the last point stands the first, unless the guard point is a point.
+fn mask_of(size: usize, len: u32) -> u32
+    requires len { len ≡ len_of size }
+    requires power { is_len len ≡ true }
+    requires least { 2 ≤ len }
+    requires most { len ≤ 65536 }
+    ensures { IsMask size result }
+{
+    if size % 2 == 0 { len - 1 } else { 2 * len - 1 }
+}
+
+// The point at a place of the curve of some points.
 #[inline(always)]
-fn point_at(points: &[Num], place: u32) -> Num
+fn point_at(points: &[Num], mask: u32, place: u32) -> Num
     requires power { is_len (len_of (length points.now)) ≡ true }
+    requires mask { IsMask (length points.now) mask }
     requires place { place ≤ len_of (length points.now) }
     ensures { result ≡ argument (curve_of points.now) place }
 {
-    let place = place as usize;
-    let held = if place < points.len() { place } else { 0 };
-    points[held]
+    points[(place & mask) as usize]
 }
 
 // The same before the guard point.
@@ -124,7 +140,7 @@ impl Curve for Frozen<'_> {
 
     #[inline(always)]
     fn at(&mut self, place: u32) -> Num {
-        point_at(self.points, place)
+        point_at(self.points, self.mask, place)
     }
 
     #[inline(always)]
@@ -138,6 +154,7 @@ impl Curve for Frozen<'_> {
             Some(ShortCurve {
                 points: self.points,
                 len: self.len,
+                mask: self.mask,
             })
         } else {
             None
@@ -154,8 +171,10 @@ impl Curve for Frozen<'_> {
 pub struct ShortCurve<'p> {
     points: &'p [Num],
     len: u32,
+    mask: u32,
     ghost len_is: { len ≡ len_of (length points.now) },
     ghost power: { is_len len ≡ true },
+    ghost mask_is: { IsMask (length points.now) mask },
     ghost short_is: { AreShort points.now },
 }
 
@@ -171,7 +190,7 @@ impl Curve for ShortCurve<'_> {
 
     #[inline(always)]
     fn at(&mut self, place: u32) -> Num {
-        point_at(self.points, place)
+        point_at(self.points, self.mask, place)
     }
 
     #[inline(always)]

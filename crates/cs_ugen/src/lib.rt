@@ -6,11 +6,13 @@
 //! states lie in one type, and which loop runs a block, may be changed without anyone above noticing; `gen`, the formulas and
 //! `Stands` may not.
 //!
-//! Modules in reading order: `phase` (what turns), `curve` (what is read), `frozen` (a table that stays as it was made), `reading`
-//! (points held, or lines between them); `phasor`, `oscillator` (`oscil`, `oscili`), `table` (`table`, `tablei`);
-//! `oscillator_laws`; `unit` (the type, and its start), `step` (one step), `block` (a whole vector of steps in one call), `laws`.
+//! Modules in reading order: `angle` (a part of a turn), `phase` (what turns), `curve` (what is read), `frozen` (a table that
+//! stays as it was made), `reading` (points held, or lines between them); `phasor`, `oscillator` (`oscil`, `oscili`), `table`
+//! (`table`, `tablei`); `oscillator_laws`; `unit` (the type, and its start), `step` (one step), `block` (a whole vector of steps
+//! in one call), `laws`.
 #![tactic(auto)]
 
+mod angle;
 mod block;
 mod curve;
 mod frozen;

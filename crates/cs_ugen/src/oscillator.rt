@@ -8,9 +8,10 @@ ghost use Rattle.cs_signal.specs.Operands.{argument, operand_at, Lasts};
 ghost use Rattle.cs_signal.specs.Pace.{pace_of};
 ghost use Rattle.cs_signal.specs.Steps.{run};
 
+use crate::angle::{Angle, moved};
 use crate::curve::{Curve, floored};
 use crate::frozen::is_short;
-use crate::phase::{Phase, moved};
+use crate::phase::Phase;
 use crate::reading::Reading;
 use cs_base::{Head, Num, Rate};
 use cs_signal::{Operand, argument};
@@ -175,7 +176,7 @@ fn along<R: Reading, C: Curve>(
 
 // The amplitude times the curve at a phase.
 #[inline(always)]
-fn wave<R: Reading, C: Curve>(amp: Num, curve: &mut C, phase: u32) -> Num
+fn wave<R: Reading, C: Curve>(amp: Num, curve: &mut C, phase: Angle) -> Num
     requires { phase < turn }
     ensures value { result ≡ product_of amp (R.on_turn (C.points curve.old) phase) }
     ensures same { C.points curve.new ≡ C.points curve.old }

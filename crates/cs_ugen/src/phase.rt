@@ -5,11 +5,10 @@ ghost use Rattle.cs_base.specs.Numbers.{IsRaw, floor_div};
 ghost use Rattle.cs_signal.specs.Pace.{pace_of};
 ghost use Rattle.cs_ugen.specs.Phases.{at_phase, begun, increment, turn, turned, within_turn};
 
+use crate::angle::{Angle, TURN, moved};
 use cs_base::{Head, Num, Rate};
+use cs_signal::Divisor;
 use std::marker::Model;
-
-/// The parts of a turn.
-pub(crate) const TURN: u32 = 16_777_216;
 
 /// The phase of a unit's next step. A frequency that stays is turned into parts once.
 #[derive(Drop)]
@@ -17,13 +16,14 @@ pub(crate) struct Phase {
     rate: Rate,
     sr: u32,
     ksmps: u32,
-    phase: u32,
+    phase: Angle,
     cps: Num,
-    parts: u32,
+    parts: Angle,
+    divisor: Divisor,
 }
 
 impl Model for Phase {
-    ghost use Rattle.std.specs.Prelude.{◌≡◌, ◌<◌, ◌≤◌};
+    ghost use Rattle.std.specs.Prelude.{◌≡◌, ◌<◌, ◌≤◌, pos};
     ghost use Rattle.cs_ugen.specs.Phases.{Turning, increment, turn, within_turn};
 
     ghost Value = { Turning };
@@ -31,7 +31,7 @@ impl Model for Phase {
     ghost view = { λ p. record { rate = p.rate; pace = record { sr = p.sr; ksmps = p.ksmps }; phase = p.phase } };
 
     ghost invariant = { λ p. (p.phase < turn) × (p.parts < turn)
-        × ((1 ≤ p.sr) × (p.sr ≤ 192000)) × (p.ksmps ≤ 4096)
+        × ((1 ≤ p.sr) × (p.sr ≤ 192000)) × (p.ksmps ≤ 4096) × (p.divisor.value ≡ pos p.sr)
         × (p.parts ≡ within_turn (increment p.rate (record { sr = p.sr; ksmps = p.ksmps }) p.cps)) };
 }
 
@@ -41,19 +41,21 @@ impl Phase {
         ensures { result ≡ begun rate (pace_of head.now) turns }
     {
         let cps = Num::of_raw(0);
+        let divisor = Divisor::of(i64::from(head.sr));
         Phase {
             rate,
             sr: head.sr,
             ksmps: head.ksmps,
             phase: within_turn(i128::from(turns.raw() * 256)),
             cps,
-            parts: parts_of(rate, head.sr, head.ksmps, cps),
+            parts: parts_of(rate, head.sr, head.ksmps, cps, divisor),
+            divisor,
         }
     }
 
     /// The phase of this step, from 0 below 2^24; the next step's is further by the frequency.
     #[inline(always)]
-    pub(crate) fn turn(&mut self, cps: Num) -> u32
+    pub(crate) fn turn(&mut self, cps: Num) -> Angle
         ensures phase { result ≡ self.old.phase }
         ensures small { result < turn }
         ensures state { self.new ≡ turned self.old cps }
@@ -66,13 +68,13 @@ impl Phase {
 
     /// How many parts of a turn a step at this frequency moves the phase.
     #[inline(always)]
-    pub(crate) fn hold(&mut self, cps: Num) -> u32
+    pub(crate) fn hold(&mut self, cps: Num) -> Angle
         ensures value { result ≡ within_turn (increment self.old.rate self.old.pace cps) }
         ensures small { result < turn }
         ensures same { self.new ≡ self.old }
     {
         if cps.raw() != self.cps.raw() {
-            self.parts = parts_of(self.rate, self.sr, self.ksmps, cps);
+            self.parts = parts_of(self.rate, self.sr, self.ksmps, cps, self.divisor);
             self.cps = cps;
         }
         self.parts
@@ -80,17 +82,16 @@ impl Phase {
 
     /// The phase of the next step.
     #[inline(always)]
-    pub(crate) fn get(&self) -> u32
+    pub(crate) fn get(&self) -> Angle
         ensures value { result ≡ self.now.phase }
         ensures small { result < turn }
     {
-        // It is below already; the compiler is told so.
-        self.phase % TURN
+        self.phase
     }
 
     /// Goes on from this phase.
     #[inline(always)]
-    pub(crate) fn set(&mut self, phase: u32)
+    pub(crate) fn set(&mut self, phase: Angle)
         requires { phase < turn }
         ensures { self.new ≡ at_phase self.old phase }
     {
@@ -98,38 +99,29 @@ impl Phase {
     }
 }
 
-/// A phase that is moved by so many parts.
-#[inline(always)]
-pub(crate) fn moved(phase: u32, parts: u32) -> u32
-    requires phase { phase < turn }
-    requires parts { parts < turn }
-    ensures value { result ≡ (phase + parts) % turn }
-    ensures small { result < turn }
-{
-    (phase + parts) % TURN
-}
-
 // How far a frequency turns in a step.
 #[tactic(auto, unfolding(crate::specs::Phases::increment))]
-fn parts_of(rate: Rate, sr: u32, ksmps: u32, cps: Num) -> u32
+fn parts_of(rate: Rate, sr: u32, ksmps: u32, cps: Num, divisor: Divisor) -> Angle
     requires some { 1 ≤ sr }
+    requires divisor { divisor.value ≡ pos sr }
     requires few { ksmps ≤ 4096 }
     ensures value { result ≡ within_turn (increment rate (record { sr = sr; ksmps = ksmps }) cps) }
     ensures small { result < turn }
 {
     match rate {
-        Rate::Audio => parts(cps, 256, sr),
-        Rate::Init | Rate::Control => parts(cps, 256 * ksmps, sr),
+        Rate::Audio => parts(cps, 256, sr, divisor),
+        Rate::Init | Rate::Control => parts(cps, 256 * ksmps, sr, divisor),
     }
 }
 
-fn parts(cps: Num, factor: u32, sr: u32) -> u32
+fn parts(cps: Num, factor: u32, sr: u32, divisor: Divisor) -> Angle
     requires some { 1 ≤ sr }
+    requires divisor { divisor.value ≡ pos sr }
     requires few { factor ≤ 2 ^ 20 }
     ensures value { result ≡ within_turn (floor_div (cps *ℤ pos factor) (pos sr)) }
     ensures small { result < turn }
 {
-    within_turn(floored(times(cps, factor), sr))
+    within_turn(floored(times(cps, factor), sr, divisor))
 }
 
 // The exact product.
@@ -141,32 +133,26 @@ fn times(cps: Num, factor: u32) -> i128
     i128::from(cps.raw()) * i128::from(factor)
 }
 
-// The exact quotient, rounded down.
-fn floored(n: i128, d: u32) -> i128
+// The exact quotient, rounded down; where the number fits into 62 bits, without a division.
+#[inline(always)]
+fn floored(n: i128, d: u32, divisor: Divisor) -> i128
     requires some { 1 ≤ d }
+    requires divisor { divisor.value ≡ pos d }
     requires bounded { unsigned_abs n < 2 ^ 68 }
     ensures { result ≡ floor_div n (pos d) }
 {
-    n.div_euclid(i128::from(d))
+    if -(1 << 61) < n && n < 1 << 61 {
+        i128::from(divisor.divide(n as i64))
+    } else {
+        n.div_euclid(i128::from(d))
+    }
 }
 
 // Where so many parts stand within one turn.
 #[tactic(auto, unfolding(crate::specs::Phases::within_turn))]
-fn within_turn(parts: i128) -> u32
+fn within_turn(parts: i128) -> Angle
     ensures value { result ≡ within_turn parts }
     ensures small { result < turn }
 {
-    parts.rem_euclid(i128::from(TURN)) as u32
-}
-
-/// The place of a phase in a curve, rounded down.
-#[inline(always)]
-pub(crate) fn place_at(phase: u32, len: u32) -> u32
-    requires phase { phase < turn }
-    requires some { 1 ≤ len }
-    requires few { len ≤ 65536 }
-    ensures value { result ≡ phase * len / turn }
-    ensures inside { result < len }
-{
-    (u64::from(phase) * u64::from(len) / u64::from(TURN)) as u32
+    Angle::of(parts.rem_euclid(i128::from(TURN)) as u32)
 }

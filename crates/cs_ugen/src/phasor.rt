@@ -6,7 +6,8 @@ ghost use Rattle.cs_signal.specs.Operands.{argument, operand_at, Lasts};
 ghost use Rattle.cs_signal.specs.Pace.{pace_of};
 ghost use Rattle.cs_signal.specs.Steps.{run};
 
-use crate::phase::{Phase, moved};
+use crate::angle::{Angle, moved};
+use crate::phase::Phase;
 use cs_base::{Head, Num, Rate};
 use cs_signal::{Operand, argument};
 use std::marker::Model;
@@ -79,9 +80,9 @@ fn along(unit: &mut Phasor, cps: &[Num], out: &mut [Num])
 
 // A phase in 65,536ths of a turn.
 #[inline(always)]
-fn ramp(phase: u32) -> Num
+fn ramp(phase: Angle) -> Num
     requires { phase < turn }
     ensures { result ≡ ramp phase }
 {
-    Num::exact(i64::from(phase / 256))
+    Num::exact(i64::from(phase.parts() / 256))
 }

@@ -2,14 +2,14 @@
 ghost use Rattle.std.specs.Prelude.{◌≡◌, ◌<◌, ◌≤◌, ◌-◌, ◌*◌, ◌/◌, ◌%◌, ℕ, ℤ, List};
 ghost use Rattle.cs_gen.specs.Places.{from_zero_to};
 ghost use Rattle.cs_ugen.specs.Oscil.{point_at};
-ghost use Rattle.cs_ugen.specs.Oscili.{fraction_at, line_at};
+ghost use Rattle.cs_ugen.specs.Oscili.{line_at};
 ghost use Rattle.cs_ugen.specs.Phases.{turn};
 ghost use Rattle.cs_ugen.specs.Points.{AreShort, IsShort};
 ghost use Rattle.cs_ugen.specs.Table.{point_of};
 ghost use Rattle.cs_ugen.specs.Tablei.{line_of};
 
+use crate::angle::Angle;
 use crate::curve::{Curve, between_points, len_of};
-use crate::phase::{TURN, place_at};
 use cs_base::Num;
 use cs_gen::place_of_index;
 
@@ -22,7 +22,7 @@ pub(crate) trait Reading {
     ghost on_index: { List ℤ → ℤ → ℤ };
 
     /// The curve at a phase.
-    fn turned<C: Curve>(curve: &mut C, phase: u32) -> Num
+    fn turned<C: Curve>(curve: &mut C, phase: Angle) -> Num
         requires { phase < turn }
         ensures value { result ≡ on_turn (C.points curve.old) phase }
         ensures short { AreShort (C.points curve.old) → IsShort result }
@@ -45,9 +45,9 @@ impl Reading for Truncating {
     ghost on_index = { point_of };
 
     #[inline(always)]
-    fn turned<C: Curve>(curve: &mut C, phase: u32) -> Num {
+    fn turned<C: Curve>(curve: &mut C, phase: Angle) -> Num {
         let len = len_of(curve);
-        curve.inner(place_at(phase, len))
+        curve.inner(phase.place(len))
     }
 
     #[inline(always)]
@@ -66,9 +66,9 @@ impl Reading for Interpolating {
     ghost on_index = { line_of };
 
     #[inline(always)]
-    fn turned<C: Curve>(curve: &mut C, phase: u32) -> Num {
+    fn turned<C: Curve>(curve: &mut C, phase: Angle) -> Num {
         let len = len_of(curve);
-        between_points(curve, place_at(phase, len), fraction_at(phase, len))
+        between_points(curve, phase.place(len), phase.fraction(len))
     }
 
     #[inline(always)]
@@ -77,17 +77,6 @@ impl Reading for Interpolating {
         let index = index_of(ndx, len);
         between_points(curve, index / 65536, index % 65536)
     }
-}
-
-// How far a phase lies behind its place, in 65,536ths of the way to the next.
-#[inline(always)]
-fn fraction_at(phase: u32, len: u32) -> u32
-    requires phase { phase < turn }
-    requires len { len ≤ 65536 }
-    ensures value { result ≡ phase * len % turn / 256 }
-    ensures small { result < 65536 }
-{
-    (u64::from(phase) * u64::from(len) % u64::from(TURN) / 256) as u32
 }
 
 // An index brought into 0 .. len * 65536 - 1, in 65,536ths of a place.

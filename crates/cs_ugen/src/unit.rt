@@ -61,56 +61,40 @@ impl Unit {
         ensures unit { IfOk result (λ u. u ≡ unit_start opcode rate (pace_of head.now) settled.now) }
         ensures memory { OnErr result (takes_memory opcode ≡ true) }
     {
-        match opcode {
-            Opcode::Oscil => Ok(Unit {
-                kind: Kind::Oscil(Oscillator::start(rate, head, settled)),
-            }),
-            Opcode::Oscili => Ok(Unit {
-                kind: Kind::Oscili(Oscillator::start(rate, head, settled)),
-            }),
-            Opcode::Phasor => Ok(Unit {
-                kind: Kind::Phasor(Phasor::start(rate, head, settled)),
-            }),
-            Opcode::Line => Ok(Unit {
-                kind: Kind::Line(Line::start(rate, head, settled)),
-            }),
-            Opcode::Linseg => Ok(Unit {
-                kind: Kind::Linseg(Linseg::start(alloc, rate, head, settled)?),
-            }),
-            Opcode::Linen => Ok(Unit {
-                kind: Kind::Linen(Linen::start(rate, head, settled)),
-            }),
-            Opcode::Delay => Ok(Unit {
-                kind: Kind::Delay(Delay::start(alloc, head, settled)?),
-            }),
-            Opcode::Biquad => Ok(Unit {
-                kind: Kind::Biquad(Biquad::start()),
-            }),
-            Opcode::Table => Ok(Unit {
-                kind: Kind::Table(Table::start()),
-            }),
-            Opcode::Tablei => Ok(Unit {
-                kind: Kind::Tablei(Table::start()),
-            }),
-            Opcode::Integ => Ok(Unit {
-                kind: Kind::Integ(Integ::start()),
-            }),
-            Opcode::Diff => Ok(Unit {
-                kind: Kind::Diff(Diff::start()),
-            }),
-            Opcode::Samphold => Ok(Unit {
-                kind: Kind::Samphold(Samphold::start()),
-            }),
-            Opcode::Limit => Ok(Unit {
-                kind: Kind::Limit(Limit::start()),
-            }),
-            Opcode::Interp => Ok(Unit {
-                kind: Kind::Interp(Interp::start(head)),
-            }),
-            Opcode::Downsamp => Ok(Unit {
-                kind: Kind::Downsamp(Downsamp::start()),
-            }),
-            _ => unreachable!(),
-        }
+        Ok(Unit {
+            kind: kind_of(alloc, opcode, rate, head, settled)?,
+        })
+    }
+}
+
+fn kind_of(
+    alloc: Global,
+    opcode: Opcode,
+    rate: Rate,
+    head: &Head,
+    settled: &[Num],
+) -> Result<Kind, OutOfMemory>
+    requires { IsUnitOpcode opcode }
+    ensures kind { IfOk result (λ k. k ≡ unit_start opcode rate (pace_of head.now) settled.now) }
+    ensures memory { OnErr result (takes_memory opcode ≡ true) }
+{
+    match opcode {
+        Opcode::Oscil => Ok(Kind::Oscil(Oscillator::start(rate, head, settled))),
+        Opcode::Oscili => Ok(Kind::Oscili(Oscillator::start(rate, head, settled))),
+        Opcode::Phasor => Ok(Kind::Phasor(Phasor::start(rate, head, settled))),
+        Opcode::Line => Ok(Kind::Line(Line::start(rate, head, settled))),
+        Opcode::Linseg => Ok(Kind::Linseg(Linseg::start(alloc, rate, head, settled)?)),
+        Opcode::Linen => Ok(Kind::Linen(Linen::start(rate, head, settled))),
+        Opcode::Delay => Ok(Kind::Delay(Delay::start(alloc, head, settled)?)),
+        Opcode::Biquad => Ok(Kind::Biquad(Biquad::start())),
+        Opcode::Table => Ok(Kind::Table(Table::start())),
+        Opcode::Tablei => Ok(Kind::Tablei(Table::start())),
+        Opcode::Integ => Ok(Kind::Integ(Integ::start())),
+        Opcode::Diff => Ok(Kind::Diff(Diff::start())),
+        Opcode::Samphold => Ok(Kind::Samphold(Samphold::start())),
+        Opcode::Limit => Ok(Kind::Limit(Limit::start())),
+        Opcode::Interp => Ok(Kind::Interp(Interp::start(head))),
+        Opcode::Downsamp => Ok(Kind::Downsamp(Downsamp::start())),
+        _ => unreachable!(),
     }
 }

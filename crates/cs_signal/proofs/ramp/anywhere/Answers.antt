@@ -1,6 +1,6 @@
 use Rattle.std.proofs.Common.{length, refl, arith}
 use Rattle.cs_signal.proofs.Ramps.{HasRamped_none, HasRamped_more, HasRamped_all}
-use Rattle.cs_signal.proofs.ramp.ramp.Goals as goal
+use Rattle.cs_signal.proofs.ramp.anywhere.Goals as goal
 
 pub loop-j-init : goal.loop-j-init
 loop-j-init c =

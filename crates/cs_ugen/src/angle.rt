@@ -1,0 +1,112 @@
+// An angle, kept so that it turns by itself.
+ghost use Rattle.std.specs.Prelude.{◌≡◌, ◌+◌, ◌*◌, ◌/◌, ◌%◌, ◌<◌, ◌≤◌, ◌^◌};
+ghost use Rattle.cs_ugen.specs.Phases.{turn};
+
+use std::marker::Model;
+
+/// The parts of a turn.
+pub(crate) const TURN: u32 = 16_777_216;
+
+// One part of a turn in an angle's word.
+const PART: u64 = 1_099_511_627_776;
+
+/// An angle from 0 below a turn, in parts of 2^24 a turn. It lies in the upper bits of a word, the rest of which is 0: so
+/// a sum of two that passes a turn wraps by itself.
+#[derive(Clone, Copy)]
+pub(crate) struct Angle {
+    word: u64,
+}
+
+impl Model for Angle {
+    ghost use Rattle.std.specs.Prelude.{ℕ, ◌≡◌, ◌*◌, ◌/◌};
+    ghost use Rattle.std.proofs.Common.{ap};
+
+    ghost Value = { ℕ };
+
+    ghost view = { λ a. a.word / 1099511627776 };
+
+    ghost invariant = { λ a. a.word / 1099511627776 * 1099511627776 ≡ a.word };
+
+    ghost inverse = { λ parts. record { word = parts * 1099511627776 } };
+
+    ghost inverse_ok = { λ a h. ap (λ w. record { word = w }) h };
+}
+
+impl Angle {
+    /// The angle of so many parts.
+    pub(crate) fn of(parts: u32) -> Angle
+        requires { parts < turn }
+        ensures { result ≡ parts }
+    {
+        Angle {
+            word: u64::from(parts) * PART,
+        }
+    }
+
+    /// How many parts it has.
+    #[inline(always)]
+    pub(crate) fn parts(self) -> u32
+        ensures value { result ≡ self }
+        ensures small { result < turn }
+    {
+        (self.word / PART) as u32
+    }
+
+    /// Its place in a curve of so many points a turn, rounded down.
+    #[inline(always)]
+    pub(crate) fn place(self, len: u32) -> u32
+        requires some { 1 ≤ len }
+        requires few { len ≤ 65536 }
+        ensures value { result ≡ self * len / turn }
+        ensures inside { result < len }
+    {
+        upper(self.times(len))
+    }
+
+    /// How far it lies behind that place, in 65,536ths of the way to the next.
+    #[inline(always)]
+    pub(crate) fn fraction(self, len: u32) -> u32
+        requires { len ≤ 65536 }
+        ensures value { result ≡ self * len % turn / 256 }
+        ensures small { result < 65536 }
+    {
+        lower(self.times(len))
+    }
+
+    // The word times a number.
+    #[inline(always)]
+    fn times(self, len: u32) -> u128
+        ensures value { result ≡ self * len * 1099511627776 }
+        ensures small { self < turn }
+    {
+        u128::from(self.word) * u128::from(len)
+    }
+}
+
+/// An angle that is turned by another.
+#[inline(always)]
+pub(crate) fn moved(phase: Angle, by: Angle) -> Angle
+    ensures value { result ≡ (phase + by) % turn }
+    ensures small { result < turn }
+{
+    Angle {
+        word: phase.word.wrapping_add(by.word),
+    }
+}
+
+// How often a turn's word goes into a number.
+#[inline(always)]
+fn upper(n: u128) -> u32
+    requires { n < 2 ^ 96 }
+    ensures { result ≡ n / 2 ^ 64 }
+{
+    (n / 18_446_744_073_709_551_616) as u32
+}
+
+// What is left then, in 2^48ths.
+#[inline(always)]
+fn lower(n: u128) -> u32
+    ensures { result ≡ n % 2 ^ 64 / 2 ^ 48 }
+{
+    (n % 18_446_744_073_709_551_616 / 281_474_976_710_656) as u32
+}
