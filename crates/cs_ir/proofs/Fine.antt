@@ -14,7 +14,8 @@ unfolding or_else
 first x y k = ap (or_else x) k
 
 -- an op at a place of a code that is fine from some place on
-pub fine_at : (c : Counts) (end place : ℕ) (ops : List Op) (n : ℕ) (o : Op) → fine_from c end place ops ≡ true → slice_get ops n ≡ Some o
+pub fine_at : (c : Counts) (end place : ℕ) (ops : List Op) (n : ℕ) (o : Op) → fine_from c end place ops ≡ true
+    → slice_get ops n ≡ Some o
     → is_fine c end (place + n) o ≡ true
 fine_at c end place [] n o h e = absurd (cc)
 fine_at c end place (x ∷ ops) zero o h e =
@@ -26,7 +27,8 @@ fine_at c end place (x ∷ ops) (suc n) o h e =
     let p : (place + 1) + n ≡ place + suc n = omega arith in
     subst (λ k. is_fine c end k o ≡ true) p (fine_at c end (place + 1) ops n o b.1 e)
 
-pub all_fine : (c : Counts) (end place : ℕ) (ops : List Op) → ((n : ℕ) (o : Op) → slice_get ops n ≡ Some o → is_fine c end (place + n) o ≡ true)
+pub all_fine : (c : Counts) (end place : ℕ) (ops : List Op)
+    → ((n : ℕ) (o : Op) → slice_get ops n ≡ Some o → is_fine c end (place + n) o ≡ true)
     → fine_from c end place ops ≡ true
 all_fine c end place [] h = refl
 all_fine c end place (x ∷ ops) h =

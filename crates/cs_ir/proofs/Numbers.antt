@@ -11,7 +11,8 @@ flips : (a b : ℕ) → eqb a b ≡ eqb b a
 flips a b = grind (arith, nat_tests)
 
 -- a sort by number brings distinct numbers into rising order
-pub rising : (xs ys : List Numbered) → IsPermutation xs ys → IsNonDecreasing (numbers_of ys) → IsDistinct eqb (numbers_of xs) → IsStrictlyIncreasing (numbers_of ys)
+pub rising : (xs ys : List Numbered) → IsPermutation xs ys → IsNonDecreasing (numbers_of ys)
+    → IsDistinct eqb (numbers_of xs) → IsStrictlyIncreasing (numbers_of ys)
 rising xs ys p up d =
     IsStrictlyIncreasing-from_distinct (numbers_of ys) up
     (IsDistinct-IsPermutation eqb flips (numbers_of xs) (numbers_of ys) (IsPermutation-map (λ i. i.number) xs ys p) d)
@@ -20,7 +21,8 @@ lengths : (xs : List Numbered) → length (numbers_of xs) ≡ length xs
 lengths [] = refl
 lengths (x ∷ xs) = ap suc (lengths xs)
 
-at_map : (xs : List Numbered) (k d : ℕ) (e : Numbered) → k < length (numbers_of xs) → get_or (numbers_of xs) k d ≡ (get_or xs k e).number
+at_map : (xs : List Numbered) (k d : ℕ) (e : Numbered) → k < length (numbers_of xs)
+    → get_or (numbers_of xs) k d ≡ (get_or xs k e).number
 at_map [] k d e l = let no : ⊥ = omega arith in absurd no
 at_map (x ∷ xs) zero d e l = refl
 at_map (x ∷ xs) (suc k) d e l = at_map xs k d e (omega arith)

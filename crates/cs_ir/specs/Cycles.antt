@@ -5,9 +5,10 @@ use Rattle.cs_ir.specs.declared.op.Act.{Act}
 use Rattle.cs_ir.specs.declared.op.Act.TheVariants as act
 use Rattle.cs_ir.specs.declared.op.Op.{Op}
 
--- whether an act can be done in a control cycle: it starts no unit and asks for no note
+-- whether an act can be done in a control cycle: it starts no unit, looks for no table and asks for no note
 abbrev pub is_of_cycle : Act → Bool
 is_of_cycle (act.Start opcode u) = false
+is_of_cycle act.Seek = false
 is_of_cycle act.Ask = false
 is_of_cycle _ = true
 

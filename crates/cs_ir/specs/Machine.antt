@@ -39,7 +39,7 @@ in_world x m = record m { world = x }
 abbrev pub write : {W : Type 0} → ℕ → Reg → Wave → Machine W → Machine W
 write ksmps into w m = record m { regs = put m.regs into (held ksmps into.rate w) }
 
--- what a unit gives goes into a register where its opcode has a result
+-- what an opcode gives goes into a register where it has a result
 abbrev pub gives : Opcode → Bool
 gives opcode = not (result_count (row_of opcode) == 0)
 
@@ -62,6 +62,9 @@ acts o (act.Save g) into ws m = in_world (o.save g (held o.ksmps (res_rate g) (o
 acts o (act.Start opcode u) into ws m = in_world (o.start opcode into.rate u (first_values ws) m.world) m
 acts o (act.Unit opcode u reach) into ws m =
     written o.ksmps opcode into (o.does opcode into.rate u reach ws m.world) m
+acts o act.Seek into ws m = in_world (o.seek (first_values ws) m.world) m
+acts o (act.Store opcode reach) into ws m = in_world (o.store opcode into.rate reach ws m.world) m
+acts o (act.Zak opcode reach) into ws m = written o.ksmps opcode into (o.zak opcode reach ws m.world) m
 acts o (act.Jump to) into ws m = record m { next = to }
 acts o (act.Unless to) into ws m = record m { next = if holds (operand 0 ws 0) then m.next else to }
 acts o (act.Out c) into ws m = in_world (o.out c (operand 0 ws) m.world) m

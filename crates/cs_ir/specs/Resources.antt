@@ -10,6 +10,7 @@ use Rattle.cs_words.specs.declared.catalogue.Shape.{Shape}
 use Rattle.cs_words.specs.declared.catalogue.Shape.TheVariants as shape
 use Rattle.cs_words.specs.declared.catalogue.Space.{Space}
 use Rattle.cs_words.specs.declared.catalogue.Space.TheVariants as space
+use Rattle.cs_ir.specs.Units.{is_zak}
 use Rattle.cs_ir.specs.declared.op.Act.{Act}
 use Rattle.cs_ir.specs.declared.op.Act.TheVariants as act
 use Rattle.cs_ir.specs.declared.op.Op.{Op}
@@ -43,39 +44,41 @@ tables_within stock r = map res.Table (filter (reaches r) stock.live)
 abbrev pub places_within : Stock → Space → Reach → List Res
 places_within stock s r = map (zak_place s) (filter (reaches r) (range_with_len 0 (places_of stock.spaces s)))
 
--- What a unit may touch, by its shape, and what of it it may write. A unit that writes may also read.
-abbrev pub shape_uses : Stock → Shape → Bool → Reach → List Res
-shape_uses stock shape.Unit table r = if table then tables_within stock r else []
-shape_uses stock shape.Store table r = tables_within stock r
-shape_uses stock (shape.ZakGet s) table r = places_within stock s r
-shape_uses stock (shape.ZakPut s) table r = places_within stock s r
-shape_uses stock shape.ZakMix table r = places_within stock space.Audio r
-shape_uses stock (shape.ZakClear s) table r = places_within stock s r
-shape_uses stock _ table r = []
-
-abbrev pub is_store : Shape → Bool
-is_store shape.Store = true
-is_store (shape.ZakPut s) = true
-is_store shape.ZakMix = true
-is_store (shape.ZakClear s) = true
-is_store _ = false
-
+-- the tables that a unit may read: none where it takes no table
 abbrev pub unit_uses : Stock → Opcode → Reach → List Res
-unit_uses stock opcode r = shape_uses stock (row_of opcode).shape (takes_table opcode) r
+unit_uses stock opcode r = if takes_table opcode then tables_within stock r else []
 
-abbrev pub unit_writes : Stock → Opcode → Reach → List Res
-unit_writes stock opcode r = if is_store (row_of opcode).shape then unit_uses stock opcode r else []
+-- the zak places that an opcode may touch, by its shape; and those that it may write, which it may also read
+abbrev pub shape_uses : Stock → Shape → Reach → List Res
+shape_uses stock (shape.ZakGet s) r = places_within stock s r
+shape_uses stock (shape.ZakPut s) r = places_within stock s r
+shape_uses stock shape.ZakMix r = places_within stock space.Audio r
+shape_uses stock (shape.ZakClear s) r = places_within stock s r
+shape_uses stock _ r = []
+
+abbrev pub writes_places : Shape → Bool
+writes_places (shape.ZakGet s) = false
+writes_places s = is_zak s
+
+abbrev pub zak_uses : Stock → Opcode → Reach → List Res
+zak_uses stock opcode r = shape_uses stock (row_of opcode).shape r
+
+abbrev pub zak_writes : Stock → Opcode → Reach → List Res
+zak_writes stock opcode r = if writes_places (row_of opcode).shape then zak_uses stock opcode r else []
 
 -- what an op may read or write, and what it may write
 abbrev pub act_uses : Stock → Act → List Res
 act_uses stock (act.Load g) = g ∷ []
 act_uses stock (act.Save g) = g ∷ []
 act_uses stock (act.Unit opcode u r) = unit_uses stock opcode r
+act_uses stock (act.Store opcode r) = tables_within stock r
+act_uses stock (act.Zak opcode r) = zak_uses stock opcode r
 act_uses stock _ = []
 
 abbrev pub act_writes : Stock → Act → List Res
 act_writes stock (act.Save g) = g ∷ []
-act_writes stock (act.Unit opcode u r) = unit_writes stock opcode r
+act_writes stock (act.Store opcode r) = tables_within stock r
+act_writes stock (act.Zak opcode r) = zak_writes stock opcode r
 act_writes stock _ = []
 
 abbrev pub ops_use : Stock → List Op → List Res

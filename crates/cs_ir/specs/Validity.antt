@@ -9,13 +9,11 @@ use Rattle.cs_base.specs.declared.resource.Res.TheVariants as res
 use Rattle.cs_words.specs.Catalogue.{Row, row_of, result_count, takes, moving_letters, unit_takes}
 use Rattle.cs_words.specs.Signs.{is_arithmetic}
 use Rattle.cs_words.specs.declared.catalogue.Letter.{Letter}
-use Rattle.cs_words.specs.declared.catalogue.Shape.{Shape}
-use Rattle.cs_words.specs.declared.catalogue.Shape.TheVariants as shape
 use Rattle.cs_words.specs.declared.sign.BinOp.{BinOp}
 use Rattle.cs_words.specs.declared.word.Func.{Func}
 use Rattle.cs_words.specs.declared.word.Func.TheVariants as func
 use Rattle.cs_ir.specs.Machine.{gives}
-use Rattle.cs_ir.specs.Units.{is_started, is_unit}
+use Rattle.cs_ir.specs.Units.{is_store, is_unit, is_zak}
 use Rattle.cs_ir.specs.declared.op.Act.{Act}
 use Rattle.cs_ir.specs.declared.op.Act.TheVariants as act
 use Rattle.cs_ir.specs.declared.op.Code.{Code}
@@ -32,11 +30,14 @@ count_of counts rate.Audio = counts.a
 abbrev pub has_register : Counts → Reg → Bool
 has_register counts q = nat_lt q.index (count_of counts q.rate)
 
--- whether an act writes its op's register; of `Start` and of a unit without a result the register tells the rate alone
+-- whether an act writes its op's register; of `Start`, of a store and of an opcode without a result it tells the rate alone
 abbrev pub writes : Act → Bool
 writes (act.Save g) = false
 writes (act.Start opcode u) = false
 writes (act.Unit opcode u reach) = gives opcode
+writes act.Seek = false
+writes (act.Store opcode reach) = false
+writes (act.Zak opcode reach) = gives opcode
 writes (act.Jump to) = false
 writes (act.Unless to) = false
 writes (act.Out c) = false
@@ -63,11 +64,11 @@ suits_function func.I r x = is_init r && is_control x
 suits_function func.Cpspch r x = within x r && not (is_audio r)
 suits_function _ r x = within x r
 
--- a unit's rate is one that its opcode's result may have; without a result it has any
+-- an opcode runs at a rate that its result may have; without a result at any
 abbrev pub may_run_at : Row → Rate → Bool
 may_run_at row r = result_count row == 0 || list_any (same_rate r) row.results
 
--- the rate that bounds what a unit takes: its own, or none where it has no result
+-- the rate that bounds what an opcode takes: its own, or none where it has no result
 abbrev pub bound_at : Row → Rate → Rate
 bound_at row r = if result_count row == 0 then rate.Audio else r
 
@@ -77,29 +78,30 @@ take_all [] bound [] = true
 take_all (l ∷ ls) bound (x ∷ xs) = takes l bound x.rate && take_all ls bound xs
 take_all _ bound _ = false
 
--- a table is stored to sample by sample where the unit and all that it takes are sounds, or else at values that are held
-abbrev pub as_sounds : Rate → Reg → Bool
-as_sounds r x = if is_audio r then is_audio x.rate else not (is_audio x.rate)
-
-abbrev pub stores_at : Shape → Rate → List Reg → Bool
-stores_at shape.Store r xs = list_all (as_sounds r) xs
-stores_at _ r xs = true
-
 -- what doesn't change after the note has begun
 abbrev pub is_still : Reg → Bool
 is_still x = is_init x.rate
 
--- a unit is started with settled values, and run with those that move
+-- a unit is started with settled values
 abbrev pub starts_with : Row → Rate → List Reg → Bool
 starts_with row r xs =
-    is_started row.shape && unit_takes row (length xs) && list_all is_still xs && may_run_at row r
+    is_unit row.shape && unit_takes row (length xs) && list_all is_still xs && may_run_at row r
 
+-- a unit, and what reads or writes zak places, runs with values that move
 abbrev pub runs_with : Row → Rate → List Reg → Bool
-runs_with row r xs =
-    is_unit row.shape && take_all (moving_letters row) (bound_at row r) xs && stores_at row.shape r xs && may_run_at row r
+runs_with row r xs = take_all (moving_letters row) (bound_at row r) xs && may_run_at row r
+
+-- a table is stored to sample by sample where the store and all that it takes are sounds, or else at values that are held
+abbrev pub as_sounds : Rate → Reg → Bool
+as_sounds r x = if is_audio r then is_audio x.rate else not (is_audio x.rate)
+
+-- a store takes a value, an index, and the number of a table, which doesn't change
+abbrev pub stores_with : Rate → List Reg → Bool
+stores_with r (x ∷ y ∷ n ∷ []) = as_sounds r x && as_sounds r y && is_still n
+stores_with r _ = false
 
 -- What an op may read and write whole: a variable, a zak place or a channel has one value or one sound a cycle. A table has
--- points of its own number, which units alone read and store.
+-- points of its own number, which units read and stores write.
 abbrev pub has_value : Res → Bool
 has_value (res.Table n) = false
 has_value _ = true
@@ -118,7 +120,10 @@ takes_from (act.Call f) r (x ∷ []) = suits_function f r x.rate
 takes_from (act.Load g) r [] = has_value g && within r (res_rate g)
 takes_from (act.Save g) r (x ∷ []) = has_value g && within x.rate (res_rate g)
 takes_from (act.Start opcode u) r xs = starts_with (row_of opcode) r xs
-takes_from (act.Unit opcode u reach) r xs = runs_with (row_of opcode) r xs
+takes_from (act.Unit opcode u reach) r xs = is_unit (row_of opcode).shape && runs_with (row_of opcode) r xs
+takes_from act.Seek r (x ∷ []) = is_still x
+takes_from (act.Store opcode reach) r xs = is_store (row_of opcode).shape && stores_with r xs
+takes_from (act.Zak opcode reach) r xs = is_zak (row_of opcode).shape && runs_with (row_of opcode) r xs
 takes_from (act.Jump to) r [] = true
 takes_from (act.Unless to) r (x ∷ []) = not (is_audio x.rate)
 takes_from (act.Out c) r (x ∷ []) = is_audio x.rate

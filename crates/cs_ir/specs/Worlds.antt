@@ -8,7 +8,8 @@ use Rattle.cs_ir.specs.Waves.{Wave}
 use Rattle.cs_ir.specs.declared.op.Reach.{Reach}
 
 -- A world, by what a note can do in it. Its states W hold what notes share, the note's units, its output, whether it was turned
--- off, what it asked for, and whether its initialisation was refused. A unit has a number, the place in the text of its opcode.
+-- off, what it asked for, and whether its initialisation was refused. A unit has a number, the place in the text of its opcode;
+-- what looks for a table, stores into one, or reads or writes zak places has none.
 pub record World (W : Type 0) : Type 0 where
   pub ksmps : ℕ
   pub field : ℕ → ℤ
@@ -17,6 +18,9 @@ pub record World (W : Type 0) : Type 0 where
   pub save : Res → Wave → W → W
   pub start : Opcode → Rate → ℕ → List ℤ → W → W
   pub does : Opcode → Rate → ℕ → Reach → List Wave → W → W × Wave
+  pub seek : List ℤ → W → W
+  pub store : Opcode → Rate → Reach → List Wave → W → W
+  pub zak : Opcode → Reach → List Wave → W → W × Wave
   pub out : ℕ → Wave → W → W
   pub out_at : Wave → Wave → W → W
   pub turnoff : W → W

@@ -28,5 +28,5 @@ pub use op::{Act, Code, Op, Reach};
 pub use operands::Operands;
 pub use register::{Counts, Reg};
 pub use resources::{places_of, zak_place};
-pub use validity::{ValidCode, is_started, is_unit};
+pub use validity::ValidCode;
 pub use value::{apply, combine, holds, negate, truth};

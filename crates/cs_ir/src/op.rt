@@ -3,7 +3,7 @@ use crate::{Counts, Operands, Reg};
 use cs_base::{Num, Res};
 use cs_words::{BinOp, Func, HeadName, Opcode};
 
-/// Which tables, or which places of a zak space, a unit may touch, by their numbers.
+/// Which tables, or which places of a zak space, an op may touch, by their numbers.
 #[derive(Clone, Copy, PartialEq, Eq)]
 pub enum Reach {
     Nothing,
@@ -39,6 +39,12 @@ pub enum Act {
     Start(Opcode, usize),
     /// Runs the unit of this number over a cycle.
     Unit(Opcode, usize, Reach),
+    /// Refuses the note where there is no table of the number that its operand has when the note begins.
+    Seek,
+    /// Stores its first operand at the index that its second one gives into the table whose number its third one has.
+    Store(Opcode, Reach),
+    /// Reads, writes, mixes or clears zak places.
+    Zak(Opcode, Reach),
     /// Goes on at a later op.
     Jump(usize),
     /// Goes on at a later op where its operand doesn't hold.
@@ -53,7 +59,7 @@ pub enum Act {
     Ask,
 }
 
-/// An op. `into` is the register that it writes, where its act writes one; of a unit it tells the rate too.
+/// An op. `into` is the register that it writes, where its act writes one; of a unit and of a store it tells the rate too.
 #[derive(Drop)]
 pub struct Op {
     pub act: Act,

@@ -3,9 +3,9 @@ ghost use Rattle.std.specs.Prelude.{◌≡◌, true, false, IfOk, IfErr, ◌&&�
 ghost use Rattle.std.specs.List.{list_all, list_any};
 ghost use Rattle.cs_words.specs.Catalogue.{is_moving, row_of};
 ghost use Rattle.cs_base.specs.Rates.{same_rate};
-ghost use Rattle.cs_ir.specs.Units.{is_started, is_unit};
+ghost use Rattle.cs_ir.specs.Units.{is_store, is_unit, is_zak};
 ghost use Rattle.cs_ir.specs.Validity.{count_of, has_register, writes, finds, suits_operator, suits_function};
-ghost use Rattle.cs_ir.specs.Validity.{may_run_at, bound_at, take_all, as_sounds, stores_at, starts_with, runs_with, is_still};
+ghost use Rattle.cs_ir.specs.Validity.{may_run_at, bound_at, take_all, as_sounds, stores_with, starts_with, runs_with, is_still};
 ghost use Rattle.cs_ir.specs.Validity.{has_value, takes_from, is_fine, valid};
 ghost use Rattle.cs_ir.specs.declared.register.Reg.{Reg};
 
@@ -123,8 +123,11 @@ impl Act {
         ensures { result ≡ writes self }
     {
         match self {
-            Act::Unit(opcode, _, _) => signature_of(opcode).result_count() != 0,
+            Act::Unit(opcode, _, _) | Act::Zak(opcode, _) => {
+                signature_of(opcode).result_count() != 0
+            }
             Act::Save(_) | Act::Start(_, _) | Act::Jump(_) | Act::Unless(_) => false,
+            Act::Seek | Act::Store(_, _) => false,
             Act::Out(_) | Act::OutAt | Act::Turnoff | Act::Ask => false,
             _ => true,
         }
@@ -163,7 +166,16 @@ impl Act {
                     && y.rate.within(rate)
             }
             (Act::Start(opcode, _), _) => starts_with(opcode, rate, from),
-            (Act::Unit(opcode, _, _), _) => runs_with(opcode, rate, from),
+            (Act::Unit(opcode, _, _), _) => {
+                is_unit(signature_of(opcode).shape()) && runs_with(opcode, rate, from)
+            }
+            (Act::Seek, [x]) => x.rate.is_init(),
+            (Act::Store(opcode, _), _) => {
+                is_store(signature_of(opcode).shape()) && stores_with(rate, from)
+            }
+            (Act::Zak(opcode, _), _) => {
+                is_zak(signature_of(opcode).shape()) && runs_with(opcode, rate, from)
+            }
             (Act::Ask, _) => from.len() >= 3 && are_init(from),
             _ => false,
         }
@@ -203,7 +215,7 @@ fn starts_with(opcode: Opcode, rate: Rate, from: &[Reg]) -> bool
     ensures { result ≡ starts_with (row_of opcode) rate from.now }
 {
     let row = signature_of(opcode);
-    is_started(row.shape())
+    is_unit(row.shape())
         && row.takes_settled(from.len())
         && are_init(from)
         && may_run_at(&row, rate)
@@ -213,27 +225,42 @@ fn runs_with(opcode: Opcode, rate: Rate, from: &[Reg]) -> bool
     ensures { result ≡ runs_with (row_of opcode) rate from.now }
 {
     let row = signature_of(opcode);
-    is_unit(row.shape())
-        && take_all(row.fixed(), bound_at(&row, rate), from)
-        && stores_at(row.shape(), rate, from)
-        && may_run_at(&row, rate)
+    take_all(row.fixed(), bound_at(&row, rate), from) && may_run_at(&row, rate)
 }
 
-/// Whether a note starts it as it begins: it has a state, or stores into a table.
-pub fn is_started(shape: Shape) -> bool
-    ensures { result ≡ is_started shape }
+fn stores_with(rate: Rate, from: &[Reg]) -> bool
+    ensures { result ≡ stores_with rate from.now }
 {
-    matches!(shape, Shape::Unit | Shape::Store)
+    match from {
+        [value, index, table] => {
+            is_as_sound(rate, *value) && is_as_sound(rate, *index) && table.rate.is_init()
+        }
+        _ => false,
+    }
 }
 
-/// Whether code runs it as a unit.
-pub fn is_unit(shape: Shape) -> bool
+// Whether it makes its result from a state of its own.
+fn is_unit(shape: Shape) -> bool
     ensures { result ≡ is_unit shape }
 {
-    match shape {
-        Shape::ZakGet(_) | Shape::ZakPut(_) | Shape::ZakMix | Shape::ZakClear(_) => true,
-        _ => is_started(shape),
-    }
+    matches!(shape, Shape::Unit)
+}
+
+// Whether it stores into a table.
+fn is_store(shape: Shape) -> bool
+    ensures { result ≡ is_store shape }
+{
+    matches!(shape, Shape::Store)
+}
+
+// Whether it reads or writes zak places.
+fn is_zak(shape: Shape) -> bool
+    ensures { result ≡ is_zak shape }
+{
+    matches!(
+        shape,
+        Shape::ZakGet(_) | Shape::ZakPut(_) | Shape::ZakMix | Shape::ZakClear(_)
+    )
 }
 
 fn may_run_at(row: &Signature, rate: Rate) -> bool
@@ -274,21 +301,6 @@ fn take_all(letters: &[Letter], bound: Rate, from: &[Reg]) -> bool
         }
     }
     place == from.len()
-}
-
-fn stores_at(shape: Shape, rate: Rate, from: &[Reg]) -> bool
-    ensures { result ≡ stores_at shape rate from.now }
-{
-    match shape {
-        Shape::Store => are_as_sounds(rate, from),
-        _ => true,
-    }
-}
-
-fn are_as_sounds(rate: Rate, from: &[Reg]) -> bool
-    ensures { result ≡ list_all (as_sounds rate) from.now }
-{
-    from.iter().all(|register| is_as_sound(rate, *register))
 }
 
 fn is_as_sound(rate: Rate, register: Reg) -> bool

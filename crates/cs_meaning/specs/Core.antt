@@ -1,6 +1,6 @@
 -- What each statement of the typed tree is short for.
-use Rattle.std.specs.Prelude.{ℕ, ℤ, pos, Bool, ◌&&◌, ◌+◌, ◌-◌, List, [], ◌∷◌, nat_lt, nat_le, min, unsigned_abs, if◌then◌else◌}
-use Rattle.cs_base.specs.Numbers.{floor_div, one}
+use Rattle.std.specs.Prelude.{ℕ, ℤ, pos, ◌&&◌, ◌+◌, ◌-◌, List, [], ◌∷◌, nat_lt, nat_le, min, unsigned_abs, if◌then◌else◌}
+use Rattle.cs_base.specs.Numbers.{whole_below}
 use Rattle.cs_base.specs.declared.resource.Rate.{Rate}
 use Rattle.cs_base.specs.declared.resource.Rate.TheVariants as rate
 use Rattle.cs_words.specs.Catalogue.{Row, row_of, letter_at, is_settled, takes_table}
@@ -24,6 +24,10 @@ mutual
     set : Rate → Variable → Expression → Stmt
     -- a unit: its result if it has one, what it may touch, the arguments that move, and those that are settled as the note begins
     unit : Rate → List Variable → Opcode → Reach → List Expression → List Expression → Stmt
+    -- zak places are read or written: the result if there is one, the places that may be touched, and the arguments
+    zak : Rate → List Variable → Opcode → Reach → List Expression → Stmt
+    -- a store: the tables that it may touch, its arguments, and of them the one that is settled, the number of its table
+    store : Rate → Opcode → Reach → List Expression → List Expression → Stmt
     -- values for the output channels from the first on; and pairs of a channel's number and a value for it
     out : Rate → List Expression → Stmt
     out_at : Rate → List Expression → Stmt
@@ -59,57 +63,76 @@ moving row n (typed.value e ∷ rest) =
     if is_settled (letter_at row n) then moving row (n + 1) rest else e ∷ moving row (n + 1) rest
 moving row n (typed.text v ∷ rest) = moving row (n + 1) rest
 
--- the whole number below a literal
-abbrev pub whole_below : ℤ → ℕ
-whole_below v = unsigned_abs (floor_div v one)
+-- a literal's whole part
+abbrev pub whole_part : ℤ → ℕ
+whole_part v = unsigned_abs (whole_below v)
 
 -- A literal table number names its table, the first of the settled arguments; another may name any.
 abbrev pub table_reach : List Expression → Reach
-table_reach (number r v ∷ rest) = reach.Span (whole_below v) (whole_below v)
+table_reach (number r v ∷ rest) = reach.Span (whole_part v) (whole_part v)
 table_reach _ = reach.Any
 
 -- A literal index names its place, where the space has it; another may name any.
 abbrev pub place_reach : ℕ → Expression → Reach
 place_reach places (number r v) =
-    if nat_lt (whole_below v) places then reach.Span (whole_below v) (whole_below v) else reach.Nothing
+    if nat_lt (whole_part v) places then reach.Span (whole_part v) (whole_part v) else reach.Nothing
 place_reach places _ = reach.Any
 
 -- Two literal bounds name the places of the space between them; others may name any.
 abbrev pub span_reach : ℕ → Expression → Expression → Reach
 span_reach places (number r v) (number q w) =
-    if nat_lt (whole_below v) places && nat_le (whole_below v) (whole_below w)
-    then reach.Span (whole_below v) (min (whole_below w) (places - 1)) else reach.Nothing
+    if nat_lt (whole_part v) places && nat_le (whole_part v) (whole_part w)
+    then reach.Span (whole_part v) (min (whole_part w) (places - 1)) else reach.Nothing
 span_reach places _ _ = reach.Any
 
--- what a unit may touch, by its shape, whether it takes a table, and its arguments
-abbrev pub reach_of : Spaces → Shape → Bool → List Expression → List Expression → Reach
-reach_of spaces shape.Unit table xs is = if table then table_reach is else reach.Nothing
-reach_of spaces shape.Store table xs is = table_reach is
-reach_of spaces (shape.ZakGet s) table (x ∷ xs) is = place_reach (places_of spaces s) x
-reach_of spaces (shape.ZakPut s) table (v ∷ x ∷ xs) is = place_reach (places_of spaces s) x
-reach_of spaces shape.ZakMix table (v ∷ x ∷ xs) is = place_reach (places_of spaces space.Audio) x
-reach_of spaces (shape.ZakClear s) table (x ∷ y ∷ xs) is = span_reach (places_of spaces s) x y
-reach_of spaces _ table xs is = reach.Nothing
+-- what a unit may touch: no table where it takes none
+abbrev pub unit_reach : Opcode → List Expression → Reach
+unit_reach opcode is = if takes_table opcode then table_reach is else reach.Nothing
+
+-- the zak places that an opcode may touch, by its shape and its arguments
+abbrev pub zak_reach : Spaces → Shape → List Expression → Reach
+zak_reach spaces (shape.ZakGet s) (x ∷ xs) = place_reach (places_of spaces s) x
+zak_reach spaces (shape.ZakPut s) (v ∷ x ∷ xs) = place_reach (places_of spaces s) x
+zak_reach spaces shape.ZakMix (v ∷ x ∷ xs) = place_reach (places_of spaces space.Audio) x
+zak_reach spaces (shape.ZakClear s) (x ∷ y ∷ xs) = span_reach (places_of spaces s) x y
+zak_reach spaces _ xs = reach.Nothing
 
 -- what a channel has with something added
 abbrev pub plus : Rate → Variable → Expression → Expression
 plus r v e = pair r op.Add (var r v) e
 
--- what a call is short for, by its shape
+-- calls of what has a state, of a store, and of what reads or writes zak places
+abbrev pub unit_call : Rate → List Variable → Opcode → List typed.Argument → Stmt
+unit_call r vs opcode args =
+    let is = settled (row_of opcode) 0 args in unit r vs opcode (unit_reach opcode is) (moving (row_of opcode) 0 args) is
+
+abbrev pub store_call : Rate → Opcode → List typed.Argument → Stmt
+store_call r opcode args =
+    let is = settled (row_of opcode) 0 args in store r opcode (table_reach is) (values_of args) is
+
+abbrev pub zak_call : Spaces → Rate → List Variable → Opcode → Shape → List typed.Argument → Stmt
+zak_call spaces r vs opcode sh args =
+    let xs = moving (row_of opcode) 0 args in zak r vs opcode (zak_reach spaces sh xs) xs
+
+-- What a call is short for, by its shape. Typing lets no call through that has another form than these.
 abbrev pub core_call : Spaces → Rate → List Variable → Opcode → Shape → List typed.Argument → Stmt
 core_call spaces r (v ∷ vs) opcode shape.Init (typed.value e ∷ args) = set rate.Init v e
+core_call spaces r vs opcode shape.Unit args = unit_call r vs opcode args
+core_call spaces r vs opcode shape.Store args = store_call r opcode args
 core_call spaces r vs opcode shape.Out args = out r (values_of args)
 core_call spaces r vs opcode shape.OutAt args = out_at r (values_of args)
 core_call spaces r vs opcode shape.Turnoff args = turnoff r
 core_call spaces r vs opcode shape.ZakInit args = nothing
+core_call spaces r vs opcode (shape.ZakGet s) args = zak_call spaces r vs opcode (shape.ZakGet s) args
+core_call spaces r vs opcode (shape.ZakPut s) args = zak_call spaces r vs opcode (shape.ZakPut s) args
+core_call spaces r vs opcode shape.ZakMix args = zak_call spaces r vs opcode shape.ZakMix args
+core_call spaces r vs opcode (shape.ZakClear s) args = zak_call spaces r vs opcode (shape.ZakClear s) args
 core_call spaces r (v ∷ vs) opcode shape.ChannelGet (typed.text c ∷ args) = set r v (var r c)
 core_call spaces r vs opcode shape.ChannelPut (typed.value e ∷ typed.text c ∷ args) = set r c e
 core_call spaces r vs opcode shape.ChannelMix (typed.value e ∷ typed.text c ∷ args) = set r c (plus rate.Audio c e)
 core_call spaces r vs opcode shape.ChannelClear (typed.text c ∷ args) = set r c (number rate.Init (pos 0))
 core_call spaces r vs opcode shape.Ask args = ask (values_of args)
-core_call spaces r vs opcode sh args =
-    let xs = moving (row_of opcode) 0 args in let is = settled (row_of opcode) 0 args in
-    unit r vs opcode (reach_of spaces sh (takes_table opcode) xs is) xs is
+core_call spaces r vs opcode _ args = nothing
 
 -- A statement, the statements of a block, and the arms of an `if`.
 abbrev mutual

@@ -1,16 +1,14 @@
 -- What a note does as it begins.
 use Rattle.std.specs.Prelude.{ℕ, ℤ, true, ◌==◌, List, [], ◌∷◌, if◌then◌else◌}
 use Rattle.cs_base.specs.declared.resource.Rate.{Rate}
-use Rattle.cs_words.specs.Catalogue.{row_of}
 use Rattle.cs_words.specs.declared.catalogue.Opcode.{Opcode}
 use Rattle.cs_typed.specs.TypedTree.{Expression, number, var, field, head, neg, pair, pick, apply}
 use Rattle.cs_typed.specs.declared.tree.Var.{Var as Variable}
-use Rattle.cs_ir.specs.Units.{is_started}
 use Rattle.cs_ir.specs.Values.{holds}
 use Rattle.cs_ir.specs.Waves.{if_init, first_values}
 use Rattle.cs_ir.specs.Worlds.{World}
 use Rattle.cs_ir.specs.declared.op.Reach.{Reach}
-use Rattle.cs_meaning.specs.Core.{Stmt, Block, Arms, set, unit, out, out_at, ask, turnoff, nothing, choose, no_stmt, andthen, otherwise, arm}
+use Rattle.cs_meaning.specs.Core.{Stmt, Block, Arms, set, unit, zak, store, out, out_at, ask, turnoff, nothing, choose, no_stmt, andthen, otherwise, arm}
 use Rattle.cs_meaning.specs.Notes.{Note, Place, moved_to, past, past_parts, past_stmt, past_block, assign, value, values, first_value, done}
 
 -- once something was refused nothing more is done
@@ -38,17 +36,28 @@ abbrev pub keep_all : {W : Type 0} → World W → ℕ → List Expression → N
 keep_all o at [] t = t
 keep_all o at (e ∷ es) t = keep_all o (past at e) es (keep o at e t)
 
--- A unit is started with its settled arguments. What only reads or writes zak places has no state.
+-- a unit is started with its settled arguments
 abbrev pub started : {W : Type 0} → World W → Rate → Opcode → ℕ → List Expression → Note W → Note W
-started o r opcode u is t =
-    if is_started (row_of opcode).shape
-    then moved_to (o.start opcode r u (first_values (values o t true 0 is)) t.world) t else t
+started o r opcode u is t = moved_to (o.start opcode r u (first_values (values o t true 0 is)) t.world) t
 
 -- a unit runs once, as the note begins
-abbrev pub run_once : {W : Type 0} → World W → Rate → List Variable → Opcode → ℕ → Reach → List Expression → Note W → Note W
+abbrev pub run_once : {W : Type 0} → World W → Rate → List Variable → Opcode → ℕ → Reach → List Expression → Note W
+    → Note W
 run_once o r vs opcode u reach xs t = done o r vs (o.does opcode r u reach (values o t true 0 xs) t.world) t
 
--- Initialisation: every statement of rate Init, the starting of every unit, and the parts that are kept, in the order of the text.
+-- a store looks for its table, and stores once
+abbrev pub sought : {W : Type 0} → World W → List Expression → Note W → Note W
+sought o is t = moved_to (o.seek (first_values (values o t true 0 is)) t.world) t
+
+abbrev pub stored_once : {W : Type 0} → World W → Rate → Opcode → Reach → List Expression → Note W → Note W
+stored_once o r opcode reach es t = moved_to (o.store opcode r reach (values o t true 0 es) t.world) t
+
+-- zak places are read or written once
+abbrev pub zak_once : {W : Type 0} → World W → Rate → List Variable → Opcode → Reach → List Expression → Note W → Note W
+zak_once o r vs opcode reach xs t = done o r vs (o.zak opcode reach (values o t true 0 xs) t.world) t
+
+-- Initialisation: every statement of rate Init, the start of every unit, the search for the table of every store, and the parts
+-- that are kept, in the order of the text.
 abbrev mutual
   pub init_stmt : {W : Type 0} → World W → Place → Stmt → Note W → Note W
   init_stmt o p (set r v e) t = going o t (if_init r (assign o v (value o t true 0 e) t) (keep o p.part e t))
@@ -56,6 +65,11 @@ abbrev mutual
       going o t (if_init r
       (let s = started o r opcode p.unit is t in going o s (run_once o r vs opcode p.unit reach xs s))
       (started o r opcode p.unit is (keep_all o p.part xs t)))
+  init_stmt o p (zak r vs opcode reach xs) t = going o t (if_init r (zak_once o r vs opcode reach xs t) (keep_all o p.part xs t))
+  init_stmt o p (store r opcode reach es is) t =
+      going o t (if_init r
+      (let s = sought o is t in going o s (stored_once o r opcode reach es s))
+      (sought o is (keep_all o p.part es t)))
   init_stmt o p (out r es) t = going o t (keep_all o p.part es t)
   init_stmt o p (out_at r es) t = going o t (keep_all o p.part es t)
   init_stmt o p (ask es) t = going o t (moved_to (o.ask (first_values (values o t true 0 es)) t.world) t)

@@ -1,9 +1,10 @@
-pub mod Beginning
 pub mod Core
 pub mod Examples
 pub mod Initialising
 pub mod Kinds
+pub mod Model
 pub mod Notes
 pub mod Performing
+pub mod Pieces
 pub mod Plain
 pub mod Uses

@@ -10,7 +10,7 @@ use Rattle.cs_ir.specs.Values.{negated, applied}
 use Rattle.cs_ir.specs.Waves.{Wave, held, constant, both, chosen, if_init, silence}
 use Rattle.cs_ir.specs.Worlds.{World}
 use Rattle.cs_ir.specs.declared.register.Reg.{Reg}
-use Rattle.cs_meaning.specs.Core.{Stmt, Block, Arms, set, unit, out, out_at, ask, turnoff, nothing, choose, no_stmt, andthen, otherwise, arm}
+use Rattle.cs_meaning.specs.Core.{Stmt, Block, Arms, set, unit, zak, store, out, out_at, ask, turnoff, nothing, choose, no_stmt, andthen, otherwise, arm}
 
 -- A note: its local variables by rate and number, the values that it keeps from its initialisation by their number in the text,
 -- and the state of the world that it sounds in.
@@ -59,6 +59,8 @@ abbrev mutual
   pub past_stmt : Place → Stmt → Place
   past_stmt p (set r v e) = past_parts (if_init r p.part (past p.part e)) p
   past_stmt p (unit r vs opcode reach xs is) = record { part = if_init r p.part (past_all p.part xs); unit = p.unit + 1 }
+  past_stmt p (zak r vs opcode reach xs) = past_parts (if_init r p.part (past_all p.part xs)) p
+  past_stmt p (store r opcode reach es is) = past_parts (if_init r p.part (past_all p.part es)) p
   past_stmt p (out r es) = past_parts (past_all p.part es) p
   past_stmt p (out_at r es) = past_parts (past_all p.part es) p
   past_stmt p (ask es) = p
@@ -113,7 +115,7 @@ values o t whole at (e ∷ es) = value o t whole at e ∷ values o t whole (past
 abbrev pub first_value : {W : Type 0} → World W → Note W → Expression → ℤ
 first_value o t e = value o t true 0 e 0
 
--- a unit has run: its result goes into the variable, if it has one
+-- an opcode has run: its result goes into the variable, if it has one
 abbrev pub given : {W : Type 0} → World W → List Variable → Wave → Note W → Note W
 given o [] w t = t
 given o (v ∷ vs) w t = assign o v w t

@@ -3,7 +3,7 @@ use Rattle.std.specs.Prelude.{false, if◌then◌else◌}
 use Rattle.cs_ir.specs.Values.{holds}
 use Rattle.cs_ir.specs.Waves.{if_init}
 use Rattle.cs_ir.specs.Worlds.{World}
-use Rattle.cs_meaning.specs.Core.{Stmt, Block, Arms, set, unit, out, out_at, ask, turnoff, nothing, choose, no_stmt, andthen, otherwise, arm}
+use Rattle.cs_meaning.specs.Core.{Stmt, Block, Arms, set, unit, zak, store, out, out_at, ask, turnoff, nothing, choose, no_stmt, andthen, otherwise, arm}
 use Rattle.cs_meaning.specs.Notes.{Note, Place, moved_to, past, past_parts, past_stmt, past_block, assign, value, values, done, sent, sent_at}
 
 -- Performance: every statement of another rate than Init, in the order of the text. An `if` takes the first arm whose condition
@@ -13,6 +13,10 @@ abbrev mutual
   perf_stmt o p (set r v e) t = if_init r t (assign o v (value o t false p.part e) t)
   perf_stmt o p (unit r vs opcode reach xs is) t =
       if_init r t (done o r vs (o.does opcode r p.unit reach (values o t false p.part xs) t.world) t)
+  perf_stmt o p (zak r vs opcode reach xs) t =
+      if_init r t (done o r vs (o.zak opcode reach (values o t false p.part xs) t.world) t)
+  perf_stmt o p (store r opcode reach es is) t =
+      if_init r t (moved_to (o.store opcode r reach (values o t false p.part es) t.world) t)
   perf_stmt o p (out r es) t = moved_to (sent o 0 (values o t false p.part es) t.world) t
   perf_stmt o p (out_at r es) t = moved_to (sent_at o (values o t false p.part es) t.world) t
   perf_stmt o p (ask es) t = t

@@ -1,73 +1,127 @@
--- Which of what notes share a note may read or write in a control cycle, in the order of the text.
+-- Which of what notes share a note may read or write, as it begins and in a control cycle, in the order of the text.
 use Rattle.std.specs.Prelude.{List, [], ◌∷◌, ◌++◌}
 use Rattle.std.specs.List.{flat_map}
+use Rattle.cs_base.specs.declared.resource.Rate.{Rate}
+use Rattle.cs_base.specs.declared.resource.Rate.TheVariants as rate
 use Rattle.cs_base.specs.declared.resource.Res.{Res}
 use Rattle.cs_typed.specs.TypedTree.{Expression, number, var, field, head, neg, pair, pick, apply}
 use Rattle.cs_typed.specs.declared.tree.Var.{Var as Variable}
 use Rattle.cs_typed.specs.declared.tree.Var.TheVariants.{Local, Global}
-use Rattle.cs_ir.specs.Resources.{Stock, unit_uses, unit_writes}
+use Rattle.cs_ir.specs.Resources.{Stock, tables_within, unit_uses, zak_uses, zak_writes}
 use Rattle.cs_ir.specs.Waves.{if_init}
-use Rattle.cs_meaning.specs.Core.{Stmt, Block, Arms, set, unit, out, out_at, ask, turnoff, nothing, choose, no_stmt, andthen, otherwise, arm}
+use Rattle.cs_meaning.specs.Core.{Stmt, Block, Arms, set, unit, zak, store, out, out_at, ask, turnoff, nothing, choose, no_stmt, andthen, otherwise, arm}
+
+-- as a note begins, or in a control cycle
+pub data When : Type 0 where
+  beginning : When
+  cycle : When
+
+-- Of what is done at a rate: as the note begins all of it where it is done once, else what is kept of it; and in a cycle what is
+-- done anew in each.
+abbrev pub done_at : When → Rate → List Res → List Res → List Res → List Res
+done_at beginning r once kept each = if_init r once kept
+done_at cycle r once kept each = if_init r [] each
 
 abbrev pub var_uses : Variable → List Res
 var_uses (Local r n) = []
 var_uses (Global g) = g ∷ []
 
--- what an expression reads: its parts that don't change read nothing any more
-abbrev pub expr_uses : Expression → List Res
-expr_uses (number r n) = []
-expr_uses (var r v) = if_init r [] (var_uses v)
-expr_uses (field r k) = []
-expr_uses (head r h) = []
-expr_uses (neg r a) = if_init r [] (expr_uses a)
-expr_uses (pair r o a b) = if_init r [] (expr_uses a ++ expr_uses b)
-expr_uses (pick r c a b) = if_init r [] (expr_uses c ++ (expr_uses a ++ expr_uses b))
-expr_uses (apply r f a) = if_init r [] (expr_uses a)
-
-abbrev pub exprs_use : List Expression → List Res
-exprs_use es = flat_map expr_uses es
-
 abbrev pub vars_use : List Variable → List Res
 vars_use [] = []
 vars_use (v ∷ vs) = var_uses v
 
+-- all variables of an expression
+abbrev pub expr_reads : Expression → List Res
+expr_reads (number r n) = []
+expr_reads (var r v) = var_uses v
+expr_reads (field r k) = []
+expr_reads (head r h) = []
+expr_reads (neg r a) = expr_reads a
+expr_reads (pair r o a b) = expr_reads a ++ expr_reads b
+expr_reads (pick r c a b) = expr_reads c ++ (expr_reads a ++ expr_reads b)
+expr_reads (apply r f a) = expr_reads a
+
+abbrev pub exprs_read : List Expression → List Res
+exprs_read es = flat_map expr_reads es
+
+-- What an expression reads: as the note begins its outermost parts that don't change are worked out, in a cycle the others.
+abbrev pub expr_used : When → Expression → List Res
+expr_used w (number r n) = []
+expr_used w (var r v) = done_at w r (var_uses v) [] (var_uses v)
+expr_used w (field r k) = []
+expr_used w (head r h) = []
+expr_used w (neg r a) = done_at w r (expr_reads a) (expr_used w a) (expr_used w a)
+expr_used w (pair r o a b) =
+    let parts = expr_used w a ++ expr_used w b in done_at w r (expr_reads a ++ expr_reads b) parts parts
+expr_used w (pick r c a b) =
+    let parts = expr_used w c ++ (expr_used w a ++ expr_used w b) in
+    done_at w r (expr_reads c ++ (expr_reads a ++ expr_reads b)) parts parts
+expr_used w (apply r f a) = done_at w r (expr_reads a) (expr_used w a) (expr_used w a)
+
+abbrev pub exprs_used : When → List Expression → List Res
+exprs_used w es = flat_map (expr_used w) es
+
 -- What statements may read or write, in any branch. Whatever is written counts as used.
 abbrev mutual
-  pub stmt_uses : Stock → Stmt → List Res
-  stmt_uses stock (set r v e) = if_init r [] (expr_uses e ++ var_uses v)
-  stmt_uses stock (unit r vs opcode reach xs is) =
-      if_init r [] (exprs_use xs ++ (unit_uses stock opcode reach ++ vars_use vs))
-  stmt_uses stock (out r es) = exprs_use es
-  stmt_uses stock (out_at r es) = exprs_use es
-  stmt_uses stock (ask es) = []
-  stmt_uses stock (turnoff r) = []
-  stmt_uses stock nothing = []
-  stmt_uses stock (choose r arms) = arms_use stock arms
+  pub stmt_used : When → Stock → Stmt → List Res
+  stmt_used w stock (set r v e) =
+      done_at w r (expr_reads e ++ var_uses v) (expr_used w e) (expr_used w e ++ var_uses v)
+  stmt_used w stock (unit r vs opcode reach xs is) =
+      let touched = unit_uses stock opcode reach ++ vars_use vs in
+      done_at w r (exprs_read is ++ (exprs_read xs ++ touched)) (exprs_used w xs ++ exprs_read is) (exprs_used w xs ++ touched)
+  stmt_used w stock (zak r vs opcode reach xs) =
+      let touched = zak_uses stock opcode reach ++ vars_use vs in
+      done_at w r (exprs_read xs ++ touched) (exprs_used w xs) (exprs_used w xs ++ touched)
+  stmt_used w stock (store r opcode reach es is) =
+      let touched = tables_within stock reach in
+      done_at w r (exprs_read is ++ (exprs_read es ++ touched)) (exprs_used w es ++ exprs_read is) (exprs_used w es ++ touched)
+  stmt_used w stock (out r es) = exprs_used w es
+  stmt_used w stock (out_at r es) = exprs_used w es
+  stmt_used w stock (ask es) = done_at w rate.Init (exprs_read es) [] []
+  stmt_used w stock (turnoff r) = []
+  stmt_used w stock nothing = []
+  stmt_used w stock (choose r arms) = arms_used w stock arms
 
-  pub block_uses : Stock → Block → List Res
-  block_uses stock no_stmt = []
-  block_uses stock (andthen s b) = stmt_uses stock s ++ block_uses stock b
+  pub block_used : When → Stock → Block → List Res
+  block_used w stock no_stmt = []
+  block_used w stock (andthen s b) = stmt_used w stock s ++ block_used w stock b
 
-  pub arms_use : Stock → Arms → List Res
-  arms_use stock (otherwise b) = block_uses stock b
-  arms_use stock (arm c b rest) = expr_uses c ++ (block_uses stock b ++ arms_use stock rest)
+  pub arms_used : When → Stock → Arms → List Res
+  arms_used w stock (otherwise b) = block_used w stock b
+  arms_used w stock (arm c b rest) = expr_used w c ++ (block_used w stock b ++ arms_used w stock rest)
 
 -- what statements may write
 abbrev mutual
-  pub stmt_writes : Stock → Stmt → List Res
-  stmt_writes stock (set r v e) = if_init r [] (var_uses v)
-  stmt_writes stock (unit r vs opcode reach xs is) = if_init r [] (unit_writes stock opcode reach ++ vars_use vs)
-  stmt_writes stock (out r es) = []
-  stmt_writes stock (out_at r es) = []
-  stmt_writes stock (ask es) = []
-  stmt_writes stock (turnoff r) = []
-  stmt_writes stock nothing = []
-  stmt_writes stock (choose r arms) = arms_write stock arms
+  pub stmt_written : When → Stock → Stmt → List Res
+  stmt_written w stock (set r v e) = done_at w r (var_uses v) [] (var_uses v)
+  stmt_written w stock (unit r vs opcode reach xs is) = done_at w r (vars_use vs) [] (vars_use vs)
+  stmt_written w stock (zak r vs opcode reach xs) =
+      let written = zak_writes stock opcode reach ++ vars_use vs in done_at w r written [] written
+  stmt_written w stock (store r opcode reach es is) = done_at w r (tables_within stock reach) [] (tables_within stock reach)
+  stmt_written w stock (out r es) = []
+  stmt_written w stock (out_at r es) = []
+  stmt_written w stock (ask es) = []
+  stmt_written w stock (turnoff r) = []
+  stmt_written w stock nothing = []
+  stmt_written w stock (choose r arms) = arms_written w stock arms
 
-  pub block_writes : Stock → Block → List Res
-  block_writes stock no_stmt = []
-  block_writes stock (andthen s b) = stmt_writes stock s ++ block_writes stock b
+  pub block_written : When → Stock → Block → List Res
+  block_written w stock no_stmt = []
+  block_written w stock (andthen s b) = stmt_written w stock s ++ block_written w stock b
 
-  pub arms_write : Stock → Arms → List Res
-  arms_write stock (otherwise b) = block_writes stock b
-  arms_write stock (arm c b rest) = block_writes stock b ++ arms_write stock rest
+  pub arms_written : When → Stock → Arms → List Res
+  arms_written w stock (otherwise b) = block_written w stock b
+  arms_written w stock (arm c b rest) = block_written w stock b ++ arms_written w stock rest
+
+-- what a note may read or write, and may write, in a control cycle and as it begins
+abbrev pub block_uses : Stock → Block → List Res
+block_uses = block_used cycle
+
+abbrev pub block_writes : Stock → Block → List Res
+block_writes = block_written cycle
+
+abbrev pub block_begins : Stock → Block → List Res
+block_begins = block_used beginning
+
+abbrev pub block_begin_writes : Stock → Block → List Res
+block_begin_writes = block_written beginning

@@ -1,12 +1,13 @@
 // Each kind of statement, and each operator and function, once: calls that do nothing, whose contracts are the laws.
-ghost use Rattle.std.specs.Prelude.{◌≡◌, ◌∷◌, [], pos, negsuc};
+ghost use Rattle.std.specs.Prelude.{◌≡◌, ◌∷◌, [], pos, negsuc, Some};
 ghost use Rattle.cs_base.specs.declared.resource.Rate.TheVariants as rate;
 ghost use Rattle.cs_words.specs.declared.sign.BinOp.TheVariants as sign;
 ghost use Rattle.cs_words.specs.declared.word.Func.TheVariants as func;
 ghost use Rattle.cs_words.specs.declared.word.HeadName.TheVariants as name;
 ghost use Rattle.cs_typed.specs.TypedTree.{head, neg};
-ghost use Rattle.cs_meaning.specs.Examples.{small_piece, heard, each, whole, no_code, lit};
+ghost use Rattle.cs_meaning.specs.Examples.{small_piece, heard, cause_of, each, whole, no_code, lit};
 ghost use Rattle.cs_meaning.specs.Kinds.{initialising_both, deciding_inside, reading_once, storing, mixing_places, writing_sounds, mixing_channel, clearing_channel, setting_channel, sending_to_numbers, choosing, sizing, worth, made_of, of_number, points_after};
+ghost use Rattle.cs_meaning.specs.Model.{no_table};
 
 /// Notes of one kind of statement each, worked out from the definitions: what is heard in two cycles of four frames.
 pub fn kinds_worked_by_hand()
@@ -18,8 +19,9 @@ pub fn kinds_worked_by_hand()
     // A choice, and a `zakinit`, which does nothing here.
     ensures chosen { heard (small_piece 0 0) no_code (choosing ∷ []) ≡ each (whole 2) ∷ each (whole 2) ∷ [] }
     ensures sized { heard (small_piece 3 3) no_code (sizing ∷ []) ≡ each (whole 1) ∷ each (whole 1) ∷ [] }
-    // `tablew` stores at its index.
+    // `tablew` stores at its index; a note whose table isn't there is refused.
     ensures stored { points_after storing ≡ whole 0 ∷ whole 0 ∷ whole 9 ∷ whole 0 ∷ [] }
+    ensures refused { cause_of (small_piece 0 0) storing ≡ Some (no_table (pos 1)) }
     // `zawm` adds and `zaw` stores; `zacl` sets places to 0.
     ensures mixed_places { heard (small_piece 3 3) no_code (mixing_places ∷ []) ≡ each (whole 60) ∷ each (whole 60) ∷ [] }
     ensures written_places { heard (small_piece 3 3) no_code (writing_sounds ∷ []) ≡ each (whole 3) ∷ each (whole 3) ∷ [] }

@@ -2,7 +2,7 @@
 ghost use Rattle.std.specs.Prelude.{◌≡◌, ◌∷◌, [], ℕ, ℤ, pos, true, false, Some};
 ghost use Rattle.cs_base.specs.declared.resource.Res.TheVariants as res;
 ghost use Rattle.cs_meaning.specs.Examples.{small_piece, heard, endings, cause_of, asked_by, each, whole, no_code, zeros, counting, telling, ending, writing_place, reading_places, five, sounding_gi, setting_nine, deciding, two_outside, followed, kept_by, missing_table, long_delay, asking, setting_one, reading, writing_first, reading_first, reading_any, uses_of, writes_of};
-ghost use Rattle.cs_meaning.specs.Plain.{no_table, delay_too_long};
+ghost use Rattle.cs_meaning.specs.Model.{no_table, delay_too_long};
 
 /// Small pieces worked out from the definitions: eight frames a second, four a control cycle, two cycles.
 pub fn notes_worked_by_hand()

@@ -38,7 +38,8 @@ has_new rate.Init t name = seen_is_there t.init name
 has_new rate.Control t name = seen_is_there t.control name
 has_new rate.Audio t name = seen_is_there t.audio name
 
-keeps : (r q : Rate) (t : Table) (m name : List ℕ) → has (of_rate r t) m ≡ true → has (of_rate r (with_name q t name)) m ≡ true
+keeps : (r q : Rate) (t : Table) (m name : List ℕ) → has (of_rate r t) m ≡ true
+    → has (of_rate r (with_name q t name)) m ≡ true
 keeps rate.Init rate.Init t m name h = stays_there t.init m name h
 keeps rate.Init rate.Control t m name h = h
 keeps rate.Init rate.Audio t m name h = h
@@ -109,7 +110,8 @@ mutual
   arms_give t (arm c b rest) g w =
       (block_gives t b g (λ m h. w m (arms_keep (globals_of_block t b) rest m h)), arms_give (globals_of_block t b) rest g w)
 
-instruments_give : (t : Table) (list : List Instrument) (g : Table) → IsWithin (globals_of_instruments t list) g → InstrumentsGive g list
+instruments_give : (t : Table) (list : List Instrument) (g : Table) → IsWithin (globals_of_instruments t list) g
+    → InstrumentsGive g list
 instruments_give t [] g w = tt
 instruments_give t (i ∷ rest) g w = (
   block_gives t i.body g (λ m h. w m (instruments_keep (globals_of_block t i.body) rest m h)),
@@ -122,7 +124,8 @@ before_gives : (g : Table) (line : ℕ) (b : Block) → BlockGives (IsGiven g) b
 before_gives g line no_stmt h = tt
 before_gives g line (andthen x rest) h = by (nat_lt (line_of x) line) (before_gives g line rest h.1)
   where
-    by : (b : Bool) → BlockGives (IsGiven g) (before line rest) → BlockGives (IsGiven g) (if b then andthen x (before line rest) else no_stmt)
+    by : (b : Bool) → BlockGives (IsGiven g) (before line rest)
+        → BlockGives (IsGiven g) (if b then andthen x (before line rest) else no_stmt)
     by true more = (h.0, more)
     by false more = tt
 
@@ -130,11 +133,13 @@ from_gives : (g : Table) (line : ℕ) (b : Block) → BlockGives (IsGiven g) b �
 from_gives g line no_stmt h = tt
 from_gives g line (andthen x rest) h = by (nat_lt (line_of x) line) (from_gives g line rest h.1)
   where
-    by : (b : Bool) → BlockGives (IsGiven g) (from line rest) → BlockGives (IsGiven g) (if b then from line rest else andthen x rest)
+    by : (b : Bool) → BlockGives (IsGiven g) (from line rest)
+        → BlockGives (IsGiven g) (if b then from line rest else andthen x rest)
     by true more = more
     by false more = h
 
-items_give : (g : Table) (outside : Block) (list : List Instrument) → BlockGives (IsGiven g) outside → InstrumentsGive g list → ItemsGive g (items outside list)
+items_give : (g : Table) (outside : Block) (list : List Instrument) → BlockGives (IsGiven g) outside
+    → InstrumentsGive g list → ItemsGive g (items outside list)
 items_give g outside [] h k = (h, tt)
 items_give g outside (i ∷ rest) h k =
     (before_gives g i.line outside h, (k.0, items_give g (from i.line outside) rest (from_gives g i.line outside h) k.1))

@@ -51,7 +51,8 @@ then_part false x y h e = absurd (cc e)
 below : (k m n : ℕ) → k < m → m ≤ n → nat_lt k n ≡ true
 below k m n h l = grind (arith, nat_tests)
 
-channel_named : (s t : Shared) (kind : Channel) (name : List ℕ) → Grown (used s kind name) t → IsNamed (shared_names t) (channel_of s kind name)
+channel_named : (s t : Shared) (kind : Channel) (name : List ℕ) → Grown (used s kind name) t
+    → IsNamed (shared_names t) (channel_of s kind name)
 channel_named s t channel.Control name grown =
     below (place_of s.control name) (length (seen s.control name)) (length t.control) (seen_low s.control name) grown.control
 channel_named s t channel.Sound name grown =

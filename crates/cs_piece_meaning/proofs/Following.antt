@@ -26,7 +26,8 @@ module _ {A : Type 0} where
   either x xs a (suc k, lt, e) = inr (k, omega (arith, lt), e)
 
   -- what passes a test is among what passes it
-  among : (p : A → Bool) (x : A) (xs : List A) (a : A) (b : Bool) → p x ≡ b → p a ≡ true → (x ≡ a) ⊎ Contains (filter p xs) a
+  among : (p : A → Bool) (x : A) (xs : List A) (a : A) (b : Bool) → p x ≡ b → p a ≡ true
+      → (x ≡ a) ⊎ Contains (filter p xs) a
       → Contains (cond b (x ∷ filter p xs) (filter p xs)) a
   among p x xs a true e is (inl same) = subst (λ y. Contains (x ∷ filter p xs) y) same (here x (filter p xs))
   among p x xs a true e is (inr rest) = behind x (filter p xs) a rest
@@ -56,7 +57,8 @@ still_among n active a h = by (low a) refl
         (behind n (filter (λ (x : Active). not (at_most x.number n.number)) active) a
         (passes (λ (x : Active). not (at_most x.number n.number)) active a (ap not e) h))
 
-new_or_old : (n : Active) (active : List Active) (a : Active) → Contains (placed n active) a → (n ≡ a) ⊎ Contains active a
+new_or_old : (n : Active) (active : List Active) (a : Active) → Contains (placed n active) a
+    → (n ≡ a) ⊎ Contains active a
 new_or_old n active a h =
     ⊎_elim (λ l. inr (passed (λ (x : Active). at_most x.number n.number) active a l))
     (λ r. ⊎_elim (λ e. inl e) (λ q. inr (passed (λ (x : Active). not (at_most x.number n.number)) active a q))
@@ -70,7 +72,8 @@ record Grown (old : List Active) (base : ℕ) (active : List Active) (count : �
   pub come : (a : Active) → Contains active a → Contains old a ⊎ (base ≤ a.age)
 
 module _ (old : List Active) (base : ℕ) where
-  joined_grows : (now : ℕ) (s : Start) (body : Block) (t : Note Plain) (active : List Active) (age : ℕ) → Grown old base active age
+  joined_grows : (now : ℕ) (s : Start) (body : Block) (t : Note Plain) (active : List Active) (age : ℕ)
+      → Grown old base active age
       → Grown old base (joined now s body t active age) (age + 1)
   joined_grows now s body t active age h = by (s.cycles == 0)
     where
@@ -107,13 +110,15 @@ module _ (c : Composition) where
       (begins_keeps c now (Growing (still now m).active m.started) (growing now (still now m).active m.started) m
       (record { low = omega arith; stay = λ a h. h; come = λ a h. inl h })).1
 
-  pub stays : (n : ℕ) (a : Active) → Contains (played_in c n) a → a.note.world.ended ≡ false → suc n < a.ends → Contains (notes_in c (suc n)) a
+  pub stays : (n : ℕ) (a : Active) → Contains (played_in c n) a → a.note.world.ended ≡ false → suc n < a.ends
+      → Contains (notes_in c (suc n)) a
   stays n a played on before =
       let m : Moment = moment_at c (suc n) in
       let left : Contains m.active a = passes (λ (x : Active). not x.note.world.ended) (played_in c n) a (ap not on) played in
       (grows (suc n) m).stay a (passes (λ (x : Active). nat_lt (suc n) x.ends) m.active a (later (suc n) a.ends before) left)
 
-  pub comes : (n : ℕ) (a : Active) → Contains (notes_in c (suc n)) a → Contains (played_in c n) a ⊎ ((moment_at c (suc n)).started ≤ a.age)
+  pub comes : (n : ℕ) (a : Active) → Contains (notes_in c (suc n)) a
+      → Contains (played_in c n) a ⊎ ((moment_at c (suc n)).started ≤ a.age)
   comes n a h =
       let m : Moment = moment_at c (suc n) in
       ⊎_elim (λ k. inl (passed (λ (x : Active). not x.note.world.ended) (played_in c n) a
@@ -131,7 +136,8 @@ same_trans a b d e f = record {
 }
 
 -- of an element of the second of two lists, that of the first at its place
-partner : (xs ys : List Active) (b : Active) → AllZip IsSameNote xs ys → Contains ys b → (d : Active) × Contains xs d × IsSameNote d b
+partner : (xs ys : List Active) (b : Active) → AllZip IsSameNote xs ys → Contains ys b
+    → (d : Active) × Contains xs d × IsSameNote d b
 partner xs [] b same (k, lt, e) = absurd (omega (arith, lt))
 partner [] (y ∷ ys) b same h = absurd same
 partner (x ∷ xs) (y ∷ ys) b same h =
@@ -175,7 +181,8 @@ module _ (c : Composition) where
   down k b h early =
       ⊎_elim (λ p. partner (notes_in c k) (played_in c k) b (same_notes c k) p) (λ l. absurd (omega (arith, l, early))) (comes c k b h)
 
-  pub one_stretch : (i j k : ℕ) (a b : Active) → i ≤ j → j ≤ k → Contains (notes_in c i) a → Contains (notes_in c k) b → b.age ≡ a.age
+  pub one_stretch : (i j k : ℕ) (a b : Active) → i ≤ j → j ≤ k → Contains (notes_in c i) a → Contains (notes_in c k) b
+      → b.age ≡ a.age
       → (d : Active) × Contains (notes_in c j) d × IsSameNote d b
   one_stretch i j k a b low high first last age =
       let old : a.age < (moment_at c (suc i)).started =

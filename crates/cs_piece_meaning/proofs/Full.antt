@@ -15,10 +15,12 @@ filled n h = grind (arith, nat_tests)
 no_room : (s : Start) (m : Moment) → length m.active ≡ most_notes → s.cycles ≢ 0 → has_room s m ≡ false
 no_room s m full some = rw (lasts s.cycles some) (filled (length m.active) full)
 
-starts_none : (c : Composition) (now : ℕ) (s : Start) (m : Moment) (o : Option Block) → has_room s m ≡ false → started c now s o m ≡ in_vain m
+starts_none : (c : Composition) (now : ℕ) (s : Start) (m : Moment) (o : Option Block) → has_room s m ≡ false
+    → started c now s o m ≡ in_vain m
 starts_none c now s m None e = refl
 starts_none c now s m (Some body) e = ap (λ b. if b then initialised c now s body (begun c m.made s body m) m else in_vain m) e
 
-pub full_starts_none : (c : Composition) (now : ℕ) (s : Start) (m : Moment) → length m.active ≡ most_notes → s.cycles ≢ 0
+pub full_starts_none : (c : Composition) (now : ℕ) (s : Start) (m : Moment) → length m.active ≡ most_notes
+    → s.cycles ≢ 0
     → start_in c now s m ≡ in_vain m
 full_starts_none c now s m full some = starts_none c now s m (c.instrument s.number) (no_room s m full some)

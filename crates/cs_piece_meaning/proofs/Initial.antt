@@ -7,16 +7,14 @@ use Rattle.cs_base.specs.declared.resource.Res.{Res}
 use Rattle.cs_typed.specs.TypedTree.{Expression, number, var, field, head, neg, pair, pick, apply}
 use Rattle.cs_typed.specs.declared.tree.Var.{Var as Variable}
 use Rattle.cs_typed.specs.declared.tree.Var.TheVariants.{Local, Global}
-use Rattle.cs_words.specs.Catalogue.{row_of}
 use Rattle.cs_words.specs.declared.catalogue.Opcode.{Opcode}
-use Rattle.cs_ir.specs.Units.{is_started}
 use Rattle.cs_ir.specs.Values.{holds}
 use Rattle.cs_ir.specs.Waves.{Wave, held, if_init, first_values}
 use Rattle.cs_ir.specs.Worlds.{World}
 use Rattle.cs_ir.specs.declared.op.Reach.{Reach}
-use Rattle.cs_meaning.specs.Core.{Stmt, Block, Arms, set, unit, out, out_at, ask, turnoff, nothing, choose, no_stmt, andthen, otherwise, arm}
+use Rattle.cs_meaning.specs.Core.{Stmt, Block, Arms, set, unit, zak, store, out, out_at, ask, turnoff, nothing, choose, no_stmt, andthen, otherwise, arm}
 use Rattle.cs_meaning.specs.Initialising as initial
-use Rattle.cs_meaning.specs.Initialising.{going, keep, keep_all, init_stmt, init_block, init_first, init_all, run_once, started}
+use Rattle.cs_meaning.specs.Initialising.{going, keep, keep_all, init_stmt, init_block, init_first, init_all, run_once, sought, started, stored_once, zak_once}
 use Rattle.cs_meaning.specs.Notes.{Note, Place, assign, first_value, given, moved_to, past, past_block, past_parts, past_stmt, value, values}
 
 pub chosen_is : {A B : Type 0} (f : A → B) (b : Bool) (x y : A) (z : B) → f x ≡ z → f y ≡ z → f (if b then x else y) ≡ z
@@ -32,14 +30,19 @@ rate_is f rate.Audio x y z e g = g
 pub record Leaves {W B : Type 0} (o : World W) (f : W → B) : Type 0 where
   pub save : (g : Res) (w : Wave) (x : W) → f (o.save g w x) ≡ f x
   pub start : (q : Opcode) (r : Rate) (u : ℕ) (is : List ℤ) (x : W) → f (o.start q r u is x) ≡ f x
-  pub does : (q : Opcode) (r : Rate) (u : ℕ) (reach : Reach) (ws : List Wave) (x : W) → f (o.does q r u reach ws x).0 ≡ f x
+  pub does : (q : Opcode) (r : Rate) (u : ℕ) (reach : Reach) (ws : List Wave) (x : W)
+      → f (o.does q r u reach ws x).0 ≡ f x
+  pub seek : (is : List ℤ) (x : W) → f (o.seek is x) ≡ f x
+  pub store : (q : Opcode) (r : Rate) (reach : Reach) (ws : List Wave) (x : W) → f (o.store q r reach ws x) ≡ f x
+  pub zak : (q : Opcode) (reach : Reach) (ws : List Wave) (x : W) → f (o.zak q reach ws x).0 ≡ f x
   pub ask : (is : List ℤ) (x : W) → f (o.ask is x) ≡ f x
 
 module _ {W B : Type 0} (o : World W) (f : W → B) (leaves : Leaves o f) where
   abbrev pub of : Note W → B
   of t = f t.world
 
-  kept_number : (at : ℕ) (r : Rate) (z : ℤ) (t s : Note W) → of s ≡ of t → of (if_init r (initial.put_kept at z t) s) ≡ of t
+  kept_number : (at : ℕ) (r : Rate) (z : ℤ) (t s : Note W) → of s ≡ of t
+      → of (if_init r (initial.put_kept at z t) s) ≡ of t
   kept_number at r z t s e = rate_is of r (initial.put_kept at z t) s (of t) refl e
 
   keep_leaves : (at : ℕ) (e : Expression) (t : Note W) → of (keep o at e t) ≡ of t
@@ -72,16 +75,24 @@ module _ {W B : Type 0} (o : World W) (f : W → B) (leaves : Leaves o f) where
   going_leaves : (t next : Note W) → of next ≡ of t → of (going o t next) ≡ of t
   going_leaves t next e = chosen_is of (o.refused t.world) t next (of t) refl e
 
-  started_leaves : (r : Rate) (q : Opcode) (u : ℕ) (is : List Expression) (t : Note W) → of (started o r q u is t) ≡ of t
-  started_leaves r q u is t =
-      chosen_is of (is_started (row_of q).shape) (moved_to (o.start q r u (first_values (values o t true 0 is)) t.world) t) t (of t)
-      (leaves.start q r u (first_values (values o t true 0 is)) t.world) refl
+  started_leaves : (r : Rate) (q : Opcode) (u : ℕ) (is : List Expression) (t : Note W)
+      → of (started o r q u is t) ≡ of t
+  started_leaves r q u is t = leaves.start q r u (first_values (values o t true 0 is)) t.world
+
+  sought_leaves : (is : List Expression) (t : Note W) → of (sought o is t) ≡ of t
+  sought_leaves is t = leaves.seek (first_values (values o t true 0 is)) t.world
 
   run_leaves : (r : Rate) (vs : List Variable) (q : Opcode) (u : ℕ) (reach : Reach) (xs : List Expression) (t : Note W)
       → of (run_once o r vs q u reach xs t) ≡ of t
   run_leaves r vs q u reach xs t =
       let d : W × Wave = o.does q r u reach (values o t true 0 xs) t.world in
       given_leaves vs (held o.ksmps r d.1) (moved_to d.0 t) ∙ leaves.does q r u reach (values o t true 0 xs) t.world
+
+  zak_leaves : (r : Rate) (vs : List Variable) (q : Opcode) (reach : Reach) (xs : List Expression) (t : Note W)
+      → of (zak_once o r vs q reach xs t) ≡ of t
+  zak_leaves r vs q reach xs t =
+      let d : W × Wave = o.zak q reach (values o t true 0 xs) t.world in
+      given_leaves vs (held o.ksmps r d.1) (moved_to d.0 t) ∙ leaves.zak q reach (values o t true 0 xs) t.world
 
   mutual
     pub stmt_leaves : (s : Stmt) (p : Place) (t : Note W) → of (init_stmt o p s t) ≡ of t
@@ -96,6 +107,18 @@ module _ {W B : Type 0} (o : World W) (f : W → B) (leaves : Leaves o f) where
         (rate_is of r a b (of t)
         (going_leaves s (run_once o r vs q p.unit reach xs s) (run_leaves r vs q p.unit reach xs s) ∙ started_leaves r q p.unit is t)
         (started_leaves r q p.unit is (keep_all o p.part xs t) ∙ keep_all_leaves p.part xs t))
+    stmt_leaves (zak r vs q reach xs) p t =
+        let a : Note W = zak_once o r vs q reach xs t in
+        let b : Note W = keep_all o p.part xs t in
+        going_leaves t (if_init r a b) (rate_is of r a b (of t) (zak_leaves r vs q reach xs t) (keep_all_leaves p.part xs t))
+    stmt_leaves (store r q reach es is) p t =
+        let s : Note W = sought o is t in
+        let a : Note W = going o s (stored_once o r q reach es s) in
+        let b : Note W = sought o is (keep_all o p.part es t) in
+        going_leaves t (if_init r a b)
+        (rate_is of r a b (of t)
+        (going_leaves s (stored_once o r q reach es s) (leaves.store q r reach (values o s true 0 es) s.world) ∙ sought_leaves is t)
+        (sought_leaves is (keep_all o p.part es t) ∙ keep_all_leaves p.part es t))
     stmt_leaves (out r es) p t = going_leaves t (keep_all o p.part es t) (keep_all_leaves p.part es t)
     stmt_leaves (out_at r es) p t = going_leaves t (keep_all o p.part es t) (keep_all_leaves p.part es t)
     stmt_leaves (ask es) p t =

@@ -13,7 +13,8 @@ module _ {A : Type 0} (R : A → A → Type 0) where
   tail_pairs x xs h i j d lt within = h (suc i) (suc j) d (omega arith) (omega arith)
 
   -- two lists whose elements are each related to all of the other
-  pub AllPairs-append : (xs ys : List A) → AllPairs R xs → AllPairs R ys → All (λ x. All (R x) ys) xs → AllPairs R (xs ++ ys)
+  pub AllPairs-append : (xs ys : List A) → AllPairs R xs → AllPairs R ys → All (λ x. All (R x) ys) xs
+      → AllPairs R (xs ++ ys)
   AllPairs-append [] ys first last cross = last
   AllPairs-append (x ∷ xs) ys first last cross =
       AllPairs-cons R x (xs ++ ys)
@@ -22,7 +23,8 @@ module _ {A : Type 0} (R : A → A → Type 0) where
 
   -- Where the relation goes both ways, what passes a test is related to what doesn't.
   module _ (p : A → Bool) (back : (x y : A) → R x y → R y x) where
-    all_of : (x : A) (xs : List A) → All (R x) xs → (b : Bool) → All (λ y. All (R y) (filter (λ z. not (p z)) xs)) (filter p xs)
+    all_of : (x : A) (xs : List A) → All (R x) xs → (b : Bool)
+        → All (λ y. All (R y) (filter (λ z. not (p z)) xs)) (filter p xs)
         → All (λ y. All (R y) (cond (not b) (x ∷ filter (λ z. not (p z)) xs) (filter (λ z. not (p z)) xs))) (cond b (x ∷ filter p xs) (filter p xs))
     all_of x xs head true rest =
         All-cons (λ y. All (R y) (filter (λ z. not (p z)) xs)) x (filter p xs) (All-filter (λ z. not (p z)) (R x) xs head) rest

@@ -63,7 +63,8 @@ module _ (n : Active) where
   other_ages a b h e = h (sym e)
 
   -- a note that was started after all others takes its place
-  pub placed_stands : (P : Active → Type 0) (active : List Active) → InOrder P active n.age → P n → length active < most_notes
+  pub placed_stands : (P : Active → Type 0) (active : List Active) → InOrder P active n.age → P n
+      → length active < most_notes
       → InOrder P (placed n active) (n.age + 1)
   placed_stands P active h this room =
       let older : All (λ (a : Active). a.age < n.age) (filter low active) = All-filter low (λ (a : Active). a.age < n.age) active h.started in
@@ -89,7 +90,8 @@ module _ (n : Active) where
 
 -- FEWER NOTES
 
-pub filtered_stands : (P : Active → Type 0) (p : Active → Bool) (active : List Active) (count : ℕ) → InOrder P active count
+pub filtered_stands : (P : Active → Type 0) (p : Active → Bool) (active : List Active) (count : ℕ)
+    → InOrder P active count
     → InOrder P (filter p active) count
 filtered_stands P p active count h = record {
   order = AllPairs-filter StandsBefore p active h.order;
@@ -100,7 +102,8 @@ filtered_stands P p active count h = record {
 }
 
 -- the notes are of another kind
-pub other_kind : (P Q : Active → Type 0) (active : List Active) (count : ℕ) → All Q active → InOrder P active count → InOrder Q active count
+pub other_kind : (P Q : Active → Type 0) (active : List Active) (count : ℕ) → All Q active → InOrder P active count
+    → InOrder Q active count
 other_kind P Q active count all h = record { order = h.order; ages = h.ages; started = h.started; each = all; few = h.few }
 
 -- A START
@@ -109,7 +112,8 @@ module _ (c : Composition) (now : ℕ) where
   abbrev pub Stand : Moment → Type 0
   Stand m = InOrder (PlaysIn c now) m.active m.started
 
-  joined_stands : (s : Start) (body : Block) (t : Note Plain) (active : List Active) (age : ℕ) → c.instrument s.number ≡ Some body
+  joined_stands : (s : Start) (body : Block) (t : Note Plain) (active : List Active) (age : ℕ)
+      → c.instrument s.number ≡ Some body
       → t.world.ended ≡ false → Roomy s active → InOrder (PlaysIn c now) active age
       → InOrder (PlaysIn c now) (joined now s body t active age) (age + 1)
   joined_stands s body t active age there on room h = by (s.cycles == 0) refl
@@ -168,7 +172,8 @@ module _ (c : Composition) (now : ℕ) where
 
 -- THE NOTES ARE PERFORMED
 
-pub zip_at : {A B : Type 0} (R : A → B → Type 0) (xs : List A) (ys : List B) (k : ℕ) (d : A) (e : B) → AllZip R xs ys → k < length ys
+pub zip_at : {A B : Type 0} (R : A → B → Type 0) (xs : List A) (ys : List B) (k : ℕ) (d : A) (e : B) → AllZip R xs ys
+    → k < length ys
     → R (get_or xs k d) (get_or ys k e)
 zip_at R xs [] k d e all lt = absurd (omega arith)
 zip_at R [] (y ∷ ys) k d e all lt = absurd all
@@ -184,7 +189,8 @@ zip_long R (x ∷ xs) (y ∷ ys) all = ap suc (zip_long R xs ys all.1)
 before_too : (a b x y : Active) → IsSameNote a x → IsSameNote b y → StandsBefore a b → StandsBefore x y
 before_too a b x y e f h = rw (e.number, f.number, e.age, f.age) h
 
-pub serial_same : (c : Composition) (made : List ℕ) (shared : Res → Wave) (notes : List Active) → AllZip IsSameNote notes (serial c made shared notes).0
+pub serial_same : (c : Composition) (made : List ℕ) (shared : Res → Wave) (notes : List Active)
+    → AllZip IsSameNote notes (serial c made shared notes).0
 serial_same c made shared [] = tt
 serial_same c made shared (a ∷ rest) =
     let now : Active = next c made shared a in

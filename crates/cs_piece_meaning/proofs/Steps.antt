@@ -52,11 +52,13 @@ At S x m = S x m.active m.started m.waiting
 
 -- It is kept where a note joins, where one is asked for, and where one is taken out.
 pub record Keeps (c : Composition) (now : ℕ) (S : Fact) : Type 0 where
-  pub join : (x : ℕ) (s : Start) (body : Block) (t : Note Plain) (active : List Active) (age : ℕ) (w : Waiting) → c.instrument s.number ≡ Some body
+  pub join : (x : ℕ) (s : Start) (body : Block) (t : Note Plain) (active : List Active) (age : ℕ) (w : Waiting)
+      → c.instrument s.number ≡ Some body
       → t.world.ended ≡ false → Roomy s active → S x active age w → S x (joined now s body t active age) (age + 1) w
   pub add : (x : ℕ) (active : List Active) (count : ℕ) (w : Waiting) (time : ℤ) (a : Ask) → S x active count w
       → S x active count (with_answer (answer_to (clock_of c) now a w.kept) (due_of (clock_of c) now time a) w)
-  pub take : (x : ℕ) (active : List Active) (count : ℕ) (w : Waiting) (d : Due) (rest : List Due) → w.due now ≡ d ∷ rest → S x active count w
+  pub take : (x : ℕ) (active : List Active) (count : ℕ) (w : Waiting) (d : Due) (rest : List Due) → w.due now ≡ d ∷ rest
+      → S x active count w
       → S (x + 1) active count (taken now rest w)
 
 module _ (c : Composition) (now : ℕ) (S : Fact) (keeps : Keeps c now S) where
@@ -76,12 +78,14 @@ module _ (c : Composition) (now : ℕ) (S : Fact) (keeps : Keeps c now S) where
   all_keep x time [] m h = h
   all_keep x time (a ∷ asks) m h = all_keep x time asks (asked c now time (ask_of a) m) (asked_keeps x time (ask_of a) m h)
 
-  entered_keeps : (x : ℕ) (s : Start) (body : Block) (t : Note Plain) (cause : Option Cause) (m : Moment) → c.instrument s.number ≡ Some body
+  entered_keeps : (x : ℕ) (s : Start) (body : Block) (t : Note Plain) (cause : Option Cause) (m : Moment)
+      → c.instrument s.number ≡ Some body
       → t.world.ended ≡ false → Roomy s m.active → At S x m → At S x (entered now s body t cause m)
   entered_keeps x s body t None m there on room h = keeps.join x s body t m.active m.started m.waiting there on room h
   entered_keeps x s body t (Some cause) m there on room h = h
 
-  initialised_keeps : (x : ℕ) (s : Start) (body : Block) (t : Note Plain) (m : Moment) → c.instrument s.number ≡ Some body
+  initialised_keeps : (x : ℕ) (s : Start) (body : Block) (t : Note Plain) (m : Moment)
+      → c.instrument s.number ≡ Some body
       → t.world.ended ≡ false → Roomy s m.active → At S x m → At S x (initialised c now s body t m)
   initialised_keeps x s body t m there on room h =
       let before : Moment = record m { shared = t.world.shared } in
@@ -96,11 +100,13 @@ module _ (c : Composition) (now : ℕ) (S : Fact) (keeps : Keeps c now S) where
       by true e k = inl (grind (arith, nat_tests))
       by false e k = inr (grind (arith, nat_tests))
 
-  started_keeps : (x : ℕ) (s : Start) (o : Option Block) (m : Moment) → c.instrument s.number ≡ o → At S x m → At S x (started c now s o m)
+  started_keeps : (x : ℕ) (s : Start) (o : Option Block) (m : Moment) → c.instrument s.number ≡ o → At S x m
+      → At S x (started c now s o m)
   started_keeps x s None m there h = h
   started_keeps x s (Some body) m there h = by (has_room s m) refl
     where
-      by : (b : Bool) → has_room s m ≡ b → At S x (if b then initialised c now s body (begun c m.made s body m) m else in_vain m)
+      by : (b : Bool) → has_room s m ≡ b
+          → At S x (if b then initialised c now s body (begun c m.made s body m) m else in_vain m)
       by false e = h
       by true e =
           initialised_keeps x s body (begun c m.made s body m) m there (begins_unended (piece_with c m.made s.fields) body m.shared) (roomy s m e) h
@@ -109,7 +115,8 @@ module _ (c : Composition) (now : ℕ) (S : Fact) (keeps : Keeps c now S) where
   start_keeps x s m h = started_keeps x s (c.instrument s.number) m refl h
 
   -- the events of the cycle
-  points_keep : (x : ℕ) (t : Option Table) (number : ℕ) (points : List ℤ) (m : Moment) → At S x m → At S x (with_points t number points m)
+  points_keep : (x : ℕ) (t : Option Table) (number : ℕ) (points : List ℤ) (m : Moment) → At S x m
+      → At S x (with_points t number points m)
   points_keep x None number points m h = h
   points_keep x (Some t) number points m h = by (is_some t.frozen)
     where

@@ -45,15 +45,18 @@ module _ (now x : ℕ) (w : Waiting) (d : Due) (h : Waits now x w) where
       old k lt true e = absurd (let same : k ≡ d.cycle = grind (arith, nat_tests) in omega (arith, same, lt, late))
       old k lt false e = h.past k lt
 
-      longer : (ds : List Due) (b : Bool) (y : ℕ) → length ds + y ≤ w.kept → length (if b then ds ++ d ∷ [] else ds) + y ≤ w.kept + 1
+      longer : (ds : List Due) (b : Bool) (y : ℕ) → length ds + y ≤ w.kept
+          → length (if b then ds ++ d ∷ [] else ds) + y ≤ w.kept + 1
       longer ds true y l = let long = length-append ds (d ∷ []) in omega (arith, long, l)
       longer ds false y l = omega (arith, l)
 
-      plain_longer : (ds : List Due) (b : Bool) → length ds ≤ w.kept → length (if b then ds ++ d ∷ [] else ds) ≤ w.kept + 1
+      plain_longer : (ds : List Due) (b : Bool) → length ds ≤ w.kept
+          → length (if b then ds ++ d ∷ [] else ds) ≤ w.kept + 1
       plain_longer ds true l = let long = length-append ds (d ∷ []) in omega (arith, long, l)
       plain_longer ds false l = omega (arith, l)
 
-  answered_waits : (answer : Added) → now ≤ d.cycle → (answer ≡ added.Kept → w.kept < most_asks) → Waits now x (with_answer answer d w)
+  answered_waits : (answer : Added) → now ≤ d.cycle → (answer ≡ added.Kept → w.kept < most_asks)
+      → Waits now x (with_answer answer d w)
   answered_waits added.Kept late room = kept_waits late (room refl)
   answered_waits added.Negative late room = h
   answered_waits added.PastEnd late room = h

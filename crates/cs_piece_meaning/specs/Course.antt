@@ -1,5 +1,5 @@
 -- The course of a performance, cycle by cycle.
-use Rattle.std.specs.Prelude.{ℕ, zero, suc, Bool, not, ◌==◌, List, [], ◌∷◌, filter, nat_lt, map}
+use Rattle.std.specs.Prelude.{ℕ, zero, suc, not, ◌==◌, List, [], ◌∷◌, filter, nat_lt}
 use Rattle.cs_base.specs.declared.resource.Res.{Res}
 use Rattle.cs_ir.specs.Waves.{Wave, silence}
 use Rattle.cs_meaning.specs.Initialising.{init_block}

@@ -7,7 +7,7 @@ use Rattle.cs_typed.specs.TypedTree.{number, var, field, value, set, call, Block
 use Rattle.cs_typed.specs.declared.tree.Var.TheVariants.{Local}
 use Rattle.cs_base.specs.declared.spaces.Spaces.{Spaces}
 use Rattle.cs_meaning.specs.Core.{Block, core}
-use Rattle.cs_meaning.specs.Examples.{counting, ending, missing_table, telling, whole, zeros, no_code}
+use Rattle.cs_meaning.specs.Examples.{whole}
 use Rattle.cs_tempo.specs.declared.plot.Event.{Event}
 use Rattle.cs_tempo.specs.declared.plot.EventAct.TheVariants as act
 use Rattle.cs_piece_meaning.specs.Moments.{Composition}

@@ -1,5 +1,5 @@
 -- What is performed, and how it stands between two steps of a control cycle.
-use Rattle.std.specs.Prelude.{ℕ, ℤ, pos, ◌-◌, ◌==◌, Bool, not, List, [], ◌∷◌, ◌++◌, filter, int_lt, map, slice_index_or, Option}
+use Rattle.std.specs.Prelude.{ℕ, ℤ, pos, ◌-◌, ◌==◌, Bool, not, List, ◌∷◌, ◌++◌, filter, int_lt, map, slice_index_or, Option}
 use Rattle.std.specs.List.{list_any}
 use Rattle.cs_base.specs.declared.resource.Res.{Res}
 use Rattle.cs_typed.specs.Places.{Header}

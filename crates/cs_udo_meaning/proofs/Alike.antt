@@ -16,14 +16,13 @@ use Rattle.cs_typed.specs.TypedTree.{Expression, number, var, field, head, neg, 
 use Rattle.cs_typed.specs.declared.tree.Var.{Var as Variable}
 use Rattle.cs_base.specs.declared.spaces.Spaces.{Spaces}
 use Rattle.cs_ir.specs.Resources.{places_of}
-use Rattle.cs_ir.specs.Units.{is_started}
 use Rattle.cs_ir.specs.Values.{negated, applied}
 use Rattle.cs_ir.specs.Waves.{Wave, held, constant, both, chosen, if_init, first_values}
 use Rattle.cs_ir.specs.Worlds.{World}
 use Rattle.cs_ir.specs.declared.op.Reach.{Reach}
 use Rattle.cs_ir.specs.declared.op.Reach.TheVariants as reach
-use Rattle.cs_meaning.specs.Core.{Stmt, set, unit, out, out_at, ask, turnoff, nothing, choose, no_stmt, otherwise, values_of, settled, moving, table_reach, place_reach, span_reach, reach_of, plus, core_call}
-use Rattle.cs_meaning.specs.Initialising.{going, put_kept, keep, keep_all, started, init_stmt}
+use Rattle.cs_meaning.specs.Core.{Stmt, set, unit, zak, store, out, out_at, ask, turnoff, nothing, choose, no_stmt, otherwise, values_of, settled, moving, table_reach, place_reach, span_reach, unit_reach, zak_reach, plus, unit_call, store_call, zak_call, core_call}
+use Rattle.cs_meaning.specs.Initialising.{going, put_kept, keep, keep_all, started, sought, init_stmt}
 use Rattle.cs_meaning.specs.Notes.{Note, Place, moved_to, past, past_all, past_parts, past_stmt, look, assign, part, value, values, first_value, given, done, sent, sent_at}
 use Rattle.cs_meaning.specs.Performing.{perf_stmt}
 
@@ -35,29 +34,40 @@ pub data Alike (V : Variable → Variable → Type 0) : Expression → Expressio
   alike_field : (r : Rate) (k : ℕ) → Alike V (field r k) (field r k)
   alike_head : (r : Rate) (h : HeadName) → Alike V (head r h) (head r h)
   alike_neg : (r : Rate) (a b : Expression) → Alike V a b → Alike V (neg r a) (neg r b)
-  alike_pair : (r : Rate) (o : BinOp) (a b c d : Expression) → Alike V a b → Alike V c d → Alike V (pair r o a c) (pair r o b d)
-  alike_pick : (r : Rate) (a b c d e f : Expression) → Alike V a b → Alike V c d → Alike V e f → Alike V (pick r a c e) (pick r b d f)
+  alike_pair : (r : Rate) (o : BinOp) (a b c d : Expression) → Alike V a b → Alike V c d
+      → Alike V (pair r o a c) (pair r o b d)
+  alike_pick : (r : Rate) (a b c d e f : Expression) → Alike V a b → Alike V c d → Alike V e f
+      → Alike V (pick r a c e) (pick r b d f)
   alike_apply : (r : Rate) (f : Func) (a b : Expression) → Alike V a b → Alike V (apply r f a) (apply r f b)
 
 pub data AlikeAll (V : Variable → Variable → Type 0) : List Expression → List Expression → Type 0 where
   alike_none : AlikeAll V [] []
-  alike_more : (a b : Expression) (xs ys : List Expression) → Alike V a b → AlikeAll V xs ys → AlikeAll V (a ∷ xs) (b ∷ ys)
+  alike_more : (a b : Expression) (xs ys : List Expression) → Alike V a b → AlikeAll V xs ys
+      → AlikeAll V (a ∷ xs) (b ∷ ys)
 
 pub data AlikeVariables (V : Variable → Variable → Type 0) : List Variable → List Variable → Type 0 where
   no_variable : AlikeVariables V [] []
-  more_variables : (v w : Variable) (vs ws : List Variable) → V v w → AlikeVariables V vs ws → AlikeVariables V (v ∷ vs) (w ∷ ws)
+  more_variables : (v w : Variable) (vs ws : List Variable) → V v w → AlikeVariables V vs ws
+      → AlikeVariables V (v ∷ vs) (w ∷ ws)
 
 pub data AlikeArguments (V : Variable → Variable → Type 0) : List typed.Argument → List typed.Argument → Type 0 where
   no_argument : AlikeArguments V [] []
   more_values : (a b : Expression) (xs ys : List typed.Argument) → Alike V a b → AlikeArguments V xs ys
       → AlikeArguments V (typed.value a ∷ xs) (typed.value b ∷ ys)
-  more_texts : (v w : Variable) (xs ys : List typed.Argument) → V v w → AlikeArguments V xs ys → AlikeArguments V (typed.text v ∷ xs) (typed.text w ∷ ys)
+  more_texts : (v w : Variable) (xs ys : List typed.Argument) → V v w → AlikeArguments V xs ys
+      → AlikeArguments V (typed.text v ∷ xs) (typed.text w ∷ ys)
 
 -- statements without statements in them
 pub data AlikeStmt (V : Variable → Variable → Type 0) : Stmt → Stmt → Type 0 where
   alike_set : (r : Rate) (v w : Variable) (a b : Expression) → V v w → Alike V a b → AlikeStmt V (set r v a) (set r w b)
   alike_unit : (r : Rate) (vs ws : List Variable) (o : Opcode) (k : Reach) (xs ys is js : List Expression)
-      → AlikeVariables V vs ws → AlikeAll V xs ys → AlikeAll V is js → AlikeStmt V (unit r vs o k xs is) (unit r ws o k ys js)
+      → AlikeVariables V vs ws → AlikeAll V xs ys → AlikeAll V is js
+      → AlikeStmt V (unit r vs o k xs is) (unit r ws o k ys js)
+  alike_zak : (r : Rate) (vs ws : List Variable) (o : Opcode) (k : Reach) (xs ys : List Expression)
+      → AlikeVariables V vs ws → AlikeAll V xs ys → AlikeStmt V (zak r vs o k xs) (zak r ws o k ys)
+  alike_store : (r : Rate) (o : Opcode) (k : Reach) (xs ys is js : List Expression) → AlikeAll V xs ys
+      → AlikeAll V is js
+      → AlikeStmt V (store r o k xs is) (store r o k ys js)
   alike_out : (r : Rate) (xs ys : List Expression) → AlikeAll V xs ys → AlikeStmt V (out r xs) (out r ys)
   alike_out_at : (r : Rate) (xs ys : List Expression) → AlikeAll V xs ys → AlikeStmt V (out_at r xs) (out_at r ys)
   alike_ask : (xs ys : List Expression) → AlikeAll V xs ys → AlikeStmt V (ask xs) (ask ys)
@@ -67,12 +77,14 @@ pub data AlikeStmt (V : Variable → Variable → Type 0) : Stmt → Stmt → Ty
 
 -- ---- what a call is short for
 
-values_alike : {V : Variable → Variable → Type 0} {xs ys : List typed.Argument} → AlikeArguments V xs ys → AlikeAll V (values_of xs) (values_of ys)
+values_alike : {V : Variable → Variable → Type 0} {xs ys : List typed.Argument} → AlikeArguments V xs ys
+    → AlikeAll V (values_of xs) (values_of ys)
 values_alike no_argument = alike_none
 values_alike (more_values a b xs ys h more) = alike_more a b (values_of xs) (values_of ys) h (values_alike more)
 values_alike (more_texts v w xs ys h more) = values_alike more
 
-settled_alike : {V : Variable → Variable → Type 0} {xs ys : List typed.Argument} → (row : Row) (n : ℕ) → AlikeArguments V xs ys
+settled_alike : {V : Variable → Variable → Type 0} {xs ys : List typed.Argument} → (row : Row) (n : ℕ)
+    → AlikeArguments V xs ys
     → AlikeAll V (settled row n xs) (settled row n ys)
 settled_alike row n no_argument = alike_none
 settled_alike {V} row n (more_values a b xs ys h more) = by (is_settled (letter_at row n)) (settled_alike row (n + 1) more)
@@ -83,7 +95,8 @@ settled_alike {V} row n (more_values a b xs ys h more) = by (is_settled (letter_
     by false g = g
 settled_alike row n (more_texts v w xs ys h more) = settled_alike row (n + 1) more
 
-moving_alike : {V : Variable → Variable → Type 0} {xs ys : List typed.Argument} → (row : Row) (n : ℕ) → AlikeArguments V xs ys
+moving_alike : {V : Variable → Variable → Type 0} {xs ys : List typed.Argument} → (row : Row) (n : ℕ)
+    → AlikeArguments V xs ys
     → AlikeAll V (moving row n xs) (moving row n ys)
 moving_alike row n no_argument = alike_none
 moving_alike {V} row n (more_values a b xs ys h more) = by (is_settled (letter_at row n)) (moving_alike row (n + 1) more)
@@ -94,7 +107,8 @@ moving_alike {V} row n (more_values a b xs ys h more) = by (is_settled (letter_a
     by false g = alike_more a b (moving row (n + 1) xs) (moving row (n + 1) ys) h g
 moving_alike row n (more_texts v w xs ys h more) = moving_alike row (n + 1) more
 
-table_alike : {V : Variable → Variable → Type 0} {xs ys : List Expression} → AlikeAll V xs ys → table_reach xs ≡ table_reach ys
+table_alike : {V : Variable → Variable → Type 0} {xs ys : List Expression} → AlikeAll V xs ys
+    → table_reach xs ≡ table_reach ys
 table_alike alike_none = refl
 table_alike (alike_more _ _ xs ys (alike_number r z) more) = refl
 table_alike (alike_more _ _ xs ys (alike_var r v w h) more) = refl
@@ -105,7 +119,8 @@ table_alike (alike_more _ _ xs ys (alike_pair r o a b c d h j) more) = refl
 table_alike (alike_more _ _ xs ys (alike_pick r a b c d e f h j k) more) = refl
 table_alike (alike_more _ _ xs ys (alike_apply r f a b h) more) = refl
 
-place_alike : {V : Variable → Variable → Type 0} {a b : Expression} → (n : ℕ) → Alike V a b → place_reach n a ≡ place_reach n b
+place_alike : {V : Variable → Variable → Type 0} {a b : Expression} → (n : ℕ) → Alike V a b
+    → place_reach n a ≡ place_reach n b
 place_alike n (alike_number r z) = refl
 place_alike n (alike_var r v w h) = refl
 place_alike n (alike_field r k) = refl
@@ -126,7 +141,8 @@ after_number n q y (alike_pair r o a b c d h j) = refl
 after_number n q y (alike_pick r a b c d e f h j k) = refl
 after_number n q y (alike_apply r f a b h) = refl
 
-span_alike : {V : Variable → Variable → Type 0} {a b x y : Expression} → (n : ℕ) → Alike V a b → Alike V x y → span_reach n a x ≡ span_reach n b y
+span_alike : {V : Variable → Variable → Type 0} {a b x y : Expression} → (n : ℕ) → Alike V a b → Alike V x y
+    → span_reach n a x ≡ span_reach n b y
 span_alike n (alike_number r z) s = after_number n r z s
 span_alike n (alike_var r v w h) s = refl
 span_alike n (alike_field r k) s = refl
@@ -136,118 +152,111 @@ span_alike n (alike_pair r o a b c d h j) s = refl
 span_alike n (alike_pick r a b c d e f h j k) s = refl
 span_alike n (alike_apply r f a b h) s = refl
 
-reach_alike : {V : Variable → Variable → Type 0} {xs ys is js : List Expression} → (spaces : Spaces) (sh : Shape) (table : Bool) → AlikeAll V xs ys
-    → AlikeAll V is js
-    → reach_of spaces sh table xs is ≡ reach_of spaces sh table ys js
-reach_alike spaces shape.Unit table p q = ap (λ k. if table then k else reach.Nothing) (table_alike q)
-reach_alike spaces shape.Store table p q = table_alike q
-reach_alike spaces (shape.ZakGet s) table alike_none q = refl
-reach_alike spaces (shape.ZakGet s) table (alike_more a b xs ys h more) q = place_alike (places_of spaces s) h
-reach_alike spaces (shape.ZakPut s) table alike_none q = refl
-reach_alike spaces (shape.ZakPut s) table (alike_more a b _ _ h alike_none) q = refl
-reach_alike spaces (shape.ZakPut s) table (alike_more a b _ _ h (alike_more c d xs ys j more)) q = place_alike (places_of spaces s) j
-reach_alike spaces shape.ZakMix table alike_none q = refl
-reach_alike spaces shape.ZakMix table (alike_more a b _ _ h alike_none) q = refl
-reach_alike spaces shape.ZakMix table (alike_more a b _ _ h (alike_more c d xs ys j more)) q = place_alike (places_of spaces space.Audio) j
-reach_alike spaces (shape.ZakClear s) table alike_none q = refl
-reach_alike spaces (shape.ZakClear s) table (alike_more a b _ _ h alike_none) q = refl
-reach_alike spaces (shape.ZakClear s) table (alike_more a b _ _ h (alike_more c d xs ys j more)) q = span_alike (places_of spaces s) h j
-reach_alike spaces shape.Init table p q = refl
-reach_alike spaces shape.Out table p q = refl
-reach_alike spaces shape.OutAt table p q = refl
-reach_alike spaces shape.Turnoff table p q = refl
-reach_alike spaces shape.ZakInit table p q = refl
-reach_alike spaces shape.ChannelGet table p q = refl
-reach_alike spaces shape.ChannelPut table p q = refl
-reach_alike spaces shape.ChannelMix table p q = refl
-reach_alike spaces shape.ChannelClear table p q = refl
-reach_alike spaces shape.Ask table p q = refl
+zak_reach_alike : {V : Variable → Variable → Type 0} {xs ys : List Expression} → (spaces : Spaces) (sh : Shape)
+    → AlikeAll V xs ys
+    → zak_reach spaces sh xs ≡ zak_reach spaces sh ys
+zak_reach_alike spaces (shape.ZakGet s) alike_none = refl
+zak_reach_alike spaces (shape.ZakGet s) (alike_more a b xs ys h more) = place_alike (places_of spaces s) h
+zak_reach_alike spaces (shape.ZakPut s) alike_none = refl
+zak_reach_alike spaces (shape.ZakPut s) (alike_more a b _ _ h alike_none) = refl
+zak_reach_alike spaces (shape.ZakPut s) (alike_more a b _ _ h (alike_more c d xs ys j more)) = place_alike (places_of spaces s) j
+zak_reach_alike spaces shape.ZakMix alike_none = refl
+zak_reach_alike spaces shape.ZakMix (alike_more a b _ _ h alike_none) = refl
+zak_reach_alike spaces shape.ZakMix (alike_more a b _ _ h (alike_more c d xs ys j more)) = place_alike (places_of spaces space.Audio) j
+zak_reach_alike spaces (shape.ZakClear s) alike_none = refl
+zak_reach_alike spaces (shape.ZakClear s) (alike_more a b _ _ h alike_none) = refl
+zak_reach_alike spaces (shape.ZakClear s) (alike_more a b _ _ h (alike_more c d xs ys j more)) = span_alike (places_of spaces s) h j
+zak_reach_alike spaces shape.Unit p = refl
+zak_reach_alike spaces shape.Store p = refl
+zak_reach_alike spaces shape.Init p = refl
+zak_reach_alike spaces shape.Out p = refl
+zak_reach_alike spaces shape.OutAt p = refl
+zak_reach_alike spaces shape.Turnoff p = refl
+zak_reach_alike spaces shape.ZakInit p = refl
+zak_reach_alike spaces shape.ChannelGet p = refl
+zak_reach_alike spaces shape.ChannelPut p = refl
+zak_reach_alike spaces shape.ChannelMix p = refl
+zak_reach_alike spaces shape.ChannelClear p = refl
+zak_reach_alike spaces shape.Ask p = refl
 
-abbrev pub unit_of : Spaces → Rate → List Variable → Opcode → Shape → List typed.Argument → Stmt
-unit_of spaces r vs o sh args =
-    unit r vs o (reach_of spaces sh (takes_table o) (moving (row_of o) 0 args) (settled (row_of o) 0 args)) (moving (row_of o) 0 args)
-    (settled (row_of o) 0 args)
-
-unit_alike : {V : Variable → Variable → Type 0} {vs ws : List Variable} {xs ys : List typed.Argument} → (spaces : Spaces) (r : Rate) (o : Opcode) (sh : Shape)
-    → AlikeVariables V vs ws → AlikeArguments V xs ys → AlikeStmt V (unit_of spaces r vs o sh xs) (unit_of spaces r ws o sh ys)
-unit_alike {V} {vs} {ws} {xs} {ys} spaces r o sh given args =
+unit_alike : {V : Variable → Variable → Type 0} {vs ws : List Variable} {xs ys : List typed.Argument}
+    → (r : Rate) (o : Opcode)
+    → AlikeVariables V vs ws → AlikeArguments V xs ys → AlikeStmt V (unit_call r vs o xs) (unit_call r ws o ys)
+unit_alike {V} {vs} {ws} {xs} {ys} r o given args =
     let row = row_of o in
     let m = moving_alike row 0 args in
     let s = settled_alike row 0 args in
-    let made = reach_of spaces sh (takes_table o) (moving row 0 xs) (settled row 0 xs) in
+    let made = unit_reach o (settled row 0 xs) in
     subst (λ k. AlikeStmt V (unit r vs o made (moving row 0 xs) (settled row 0 xs)) (unit r ws o k (moving row 0 ys) (settled row 0 ys)))
-    (reach_alike spaces sh (takes_table o) m s)
+    (ap (λ k. if takes_table o then k else reach.Nothing) (table_alike s))
     (alike_unit r vs ws o made (moving row 0 xs) (moving row 0 ys) (settled row 0 xs) (settled row 0 ys) given m s)
+
+store_alike : {V : Variable → Variable → Type 0} {xs ys : List typed.Argument} → (r : Rate) (o : Opcode)
+    → AlikeArguments V xs ys
+    → AlikeStmt V (store_call r o xs) (store_call r o ys)
+store_alike {V} {xs} {ys} r o args =
+    let row = row_of o in
+    let s = settled_alike row 0 args in
+    let made = table_reach (settled row 0 xs) in
+    subst (λ k. AlikeStmt V (store r o made (values_of xs) (settled row 0 xs)) (store r o k (values_of ys) (settled row 0 ys))) (table_alike s)
+    (alike_store r o made (values_of xs) (values_of ys) (settled row 0 xs) (settled row 0 ys) (values_alike args) s)
+
+zak_alike : {V : Variable → Variable → Type 0} {vs ws : List Variable} {xs ys : List typed.Argument}
+    → (spaces : Spaces) (r : Rate) (o : Opcode) (sh : Shape)
+    → AlikeVariables V vs ws → AlikeArguments V xs ys
+    → AlikeStmt V (zak_call spaces r vs o sh xs) (zak_call spaces r ws o sh ys)
+zak_alike {V} {vs} {ws} {xs} {ys} spaces r o sh given args =
+    let row = row_of o in
+    let m = moving_alike row 0 args in
+    let made = zak_reach spaces sh (moving row 0 xs) in
+    subst (λ k. AlikeStmt V (zak r vs o made (moving row 0 xs)) (zak r ws o k (moving row 0 ys))) (zak_reach_alike spaces sh m)
+    (alike_zak r vs ws o made (moving row 0 xs) (moving row 0 ys) given m)
 
 pub core_alike : {V : Variable → Variable → Type 0} {vs ws : List Variable} {xs ys : List typed.Argument}
     → (spaces : Spaces) (r : Rate) (o : Opcode) (sh : Shape)
-    → AlikeVariables V vs ws → AlikeArguments V xs ys → AlikeStmt V (core_call spaces r vs o sh xs) (core_call spaces r ws o sh ys)
-core_alike spaces r o shape.Init no_variable no_argument = unit_alike spaces r o shape.Init no_variable no_argument
-core_alike spaces r o shape.Init no_variable (more_values a b xs ys h more) = unit_alike spaces r o shape.Init no_variable (more_values a b xs ys h more)
-core_alike spaces r o shape.Init no_variable (more_texts v w xs ys h more) = unit_alike spaces r o shape.Init no_variable (more_texts v w xs ys h more)
-core_alike spaces r o shape.Init (more_variables x y vs ws g rest) no_argument = unit_alike spaces r o shape.Init
-    (more_variables x y vs ws g rest) no_argument
+    → AlikeVariables V vs ws → AlikeArguments V xs ys
+    → AlikeStmt V (core_call spaces r vs o sh xs) (core_call spaces r ws o sh ys)
+core_alike spaces r o shape.Init no_variable no_argument = alike_nothing
+core_alike spaces r o shape.Init no_variable (more_values a b xs ys h more) = alike_nothing
+core_alike spaces r o shape.Init no_variable (more_texts v w xs ys h more) = alike_nothing
+core_alike spaces r o shape.Init (more_variables x y vs ws g rest) no_argument = alike_nothing
 core_alike spaces r o shape.Init (more_variables x y vs ws g rest) (more_values a b xs ys h more) = alike_set rate.Init x y a b g h
-core_alike spaces r o shape.Init (more_variables x y vs ws g rest) (more_texts v w xs ys h more) =
-    unit_alike spaces r o shape.Init (more_variables x y vs ws g rest) (more_texts v w xs ys h more)
-core_alike spaces r o shape.ChannelGet no_variable no_argument = unit_alike spaces r o shape.ChannelGet no_variable no_argument
-core_alike spaces r o shape.ChannelGet no_variable (more_values a b xs ys h more) = unit_alike spaces r o shape.ChannelGet no_variable
-    (more_values a b xs ys h more)
-core_alike spaces r o shape.ChannelGet no_variable (more_texts v w xs ys h more) = unit_alike spaces r o shape.ChannelGet no_variable
-    (more_texts v w xs ys h more)
-core_alike spaces r o shape.ChannelGet (more_variables x y vs ws g rest) no_argument = unit_alike spaces r o shape.ChannelGet
-    (more_variables x y vs ws g rest) no_argument
-core_alike spaces r o shape.ChannelGet (more_variables x y vs ws g rest) (more_values a b xs ys h more) =
-    unit_alike spaces r o shape.ChannelGet (more_variables x y vs ws g rest) (more_values a b xs ys h more)
+core_alike spaces r o shape.Init (more_variables x y vs ws g rest) (more_texts v w xs ys h more) = alike_nothing
+core_alike spaces r o shape.ChannelGet no_variable no_argument = alike_nothing
+core_alike spaces r o shape.ChannelGet no_variable (more_values a b xs ys h more) = alike_nothing
+core_alike spaces r o shape.ChannelGet no_variable (more_texts v w xs ys h more) = alike_nothing
+core_alike spaces r o shape.ChannelGet (more_variables x y vs ws g rest) no_argument = alike_nothing
+core_alike spaces r o shape.ChannelGet (more_variables x y vs ws g rest) (more_values a b xs ys h more) = alike_nothing
 core_alike spaces r o shape.ChannelGet (more_variables x y vs ws g rest) (more_texts v w xs ys h more) = alike_set r x y (var r v) (var r w) g
     (alike_var r v w h)
-core_alike spaces r o shape.ChannelPut no_variable no_argument = unit_alike spaces r o shape.ChannelPut no_variable no_argument
-core_alike spaces r o shape.ChannelPut (more_variables x y vs ws g rest) no_argument = unit_alike spaces r o shape.ChannelPut
-    (more_variables x y vs ws g rest) no_argument
-core_alike spaces r o shape.ChannelPut no_variable (more_texts v w xs ys h more) = unit_alike spaces r o shape.ChannelPut no_variable
-    (more_texts v w xs ys h more)
-core_alike spaces r o shape.ChannelPut (more_variables x y vs ws g rest) (more_texts v w xs ys h more) = unit_alike spaces r o shape.ChannelPut
-    (more_variables x y vs ws g rest) (more_texts v w xs ys h more)
-core_alike spaces r o shape.ChannelPut no_variable (more_values a b _ _ h no_argument) = unit_alike spaces r o shape.ChannelPut no_variable
-    (more_values a b [] [] h no_argument)
-core_alike spaces r o shape.ChannelPut (more_variables x y vs ws g rest) (more_values a b _ _ h no_argument) = unit_alike spaces r o shape.ChannelPut
-    (more_variables x y vs ws g rest) (more_values a b [] [] h no_argument)
-core_alike spaces r o shape.ChannelPut no_variable (more_values a b _ _ h (more_values c d xs ys j more)) =
-    unit_alike spaces r o shape.ChannelPut no_variable (more_values a b (typed.value c ∷ xs) (typed.value d ∷ ys) h (more_values c d xs ys j more))
-core_alike spaces r o shape.ChannelPut (more_variables x y vs ws g rest) (more_values a b _ _ h (more_values c d xs ys j more)) =
-    unit_alike spaces r o shape.ChannelPut (more_variables x y vs ws g rest)
-    (more_values a b (typed.value c ∷ xs) (typed.value d ∷ ys) h (more_values c d xs ys j more))
+core_alike spaces r o shape.ChannelPut no_variable no_argument = alike_nothing
+core_alike spaces r o shape.ChannelPut (more_variables x y vs ws g rest) no_argument = alike_nothing
+core_alike spaces r o shape.ChannelPut no_variable (more_texts v w xs ys h more) = alike_nothing
+core_alike spaces r o shape.ChannelPut (more_variables x y vs ws g rest) (more_texts v w xs ys h more) = alike_nothing
+core_alike spaces r o shape.ChannelPut no_variable (more_values a b _ _ h no_argument) = alike_nothing
+core_alike spaces r o shape.ChannelPut (more_variables x y vs ws g rest) (more_values a b _ _ h no_argument) = alike_nothing
+core_alike spaces r o shape.ChannelPut no_variable (more_values a b _ _ h (more_values c d xs ys j more)) = alike_nothing
+core_alike spaces r o shape.ChannelPut (more_variables x y vs ws g rest) (more_values a b _ _ h (more_values c d xs ys j more)) = alike_nothing
 core_alike spaces r o shape.ChannelPut no_variable (more_values a b _ _ h (more_texts v w xs ys j more)) = alike_set r v w a b j h
 core_alike spaces r o shape.ChannelPut (more_variables x y vs ws g rest) (more_values a b _ _ h (more_texts v w xs ys j more)) = alike_set r v w a b j h
-core_alike spaces r o shape.ChannelMix no_variable no_argument = unit_alike spaces r o shape.ChannelMix no_variable no_argument
-core_alike spaces r o shape.ChannelMix (more_variables x y vs ws g rest) no_argument = unit_alike spaces r o shape.ChannelMix
-    (more_variables x y vs ws g rest) no_argument
-core_alike spaces r o shape.ChannelMix no_variable (more_texts v w xs ys h more) = unit_alike spaces r o shape.ChannelMix no_variable
-    (more_texts v w xs ys h more)
-core_alike spaces r o shape.ChannelMix (more_variables x y vs ws g rest) (more_texts v w xs ys h more) = unit_alike spaces r o shape.ChannelMix
-    (more_variables x y vs ws g rest) (more_texts v w xs ys h more)
-core_alike spaces r o shape.ChannelMix no_variable (more_values a b _ _ h no_argument) = unit_alike spaces r o shape.ChannelMix no_variable
-    (more_values a b [] [] h no_argument)
-core_alike spaces r o shape.ChannelMix (more_variables x y vs ws g rest) (more_values a b _ _ h no_argument) = unit_alike spaces r o shape.ChannelMix
-    (more_variables x y vs ws g rest) (more_values a b [] [] h no_argument)
-core_alike spaces r o shape.ChannelMix no_variable (more_values a b _ _ h (more_values c d xs ys j more)) =
-    unit_alike spaces r o shape.ChannelMix no_variable (more_values a b (typed.value c ∷ xs) (typed.value d ∷ ys) h (more_values c d xs ys j more))
-core_alike spaces r o shape.ChannelMix (more_variables x y vs ws g rest) (more_values a b _ _ h (more_values c d xs ys j more)) =
-    unit_alike spaces r o shape.ChannelMix (more_variables x y vs ws g rest)
-    (more_values a b (typed.value c ∷ xs) (typed.value d ∷ ys) h (more_values c d xs ys j more))
+core_alike spaces r o shape.ChannelMix no_variable no_argument = alike_nothing
+core_alike spaces r o shape.ChannelMix (more_variables x y vs ws g rest) no_argument = alike_nothing
+core_alike spaces r o shape.ChannelMix no_variable (more_texts v w xs ys h more) = alike_nothing
+core_alike spaces r o shape.ChannelMix (more_variables x y vs ws g rest) (more_texts v w xs ys h more) = alike_nothing
+core_alike spaces r o shape.ChannelMix no_variable (more_values a b _ _ h no_argument) = alike_nothing
+core_alike spaces r o shape.ChannelMix (more_variables x y vs ws g rest) (more_values a b _ _ h no_argument) = alike_nothing
+core_alike spaces r o shape.ChannelMix no_variable (more_values a b _ _ h (more_values c d xs ys j more)) = alike_nothing
+core_alike spaces r o shape.ChannelMix (more_variables x y vs ws g rest) (more_values a b _ _ h (more_values c d xs ys j more)) = alike_nothing
 core_alike spaces r o shape.ChannelMix no_variable (more_values a b _ _ h (more_texts v w xs ys j more)) =
     alike_set r v w (plus rate.Audio v a) (plus rate.Audio w b) j
     (alike_pair rate.Audio op.Add (var rate.Audio v) (var rate.Audio w) a b (alike_var rate.Audio v w j) h)
 core_alike spaces r o shape.ChannelMix (more_variables x y vs ws g rest) (more_values a b _ _ h (more_texts v w xs ys j more)) =
     alike_set r v w (plus rate.Audio v a) (plus rate.Audio w b) j
     (alike_pair rate.Audio op.Add (var rate.Audio v) (var rate.Audio w) a b (alike_var rate.Audio v w j) h)
-core_alike spaces r o shape.ChannelClear no_variable no_argument = unit_alike spaces r o shape.ChannelClear no_variable no_argument
-core_alike spaces r o shape.ChannelClear (more_variables x y vs ws g rest) no_argument = unit_alike spaces r o shape.ChannelClear
-    (more_variables x y vs ws g rest) no_argument
-core_alike spaces r o shape.ChannelClear no_variable (more_values a b xs ys h more) = unit_alike spaces r o shape.ChannelClear no_variable
-    (more_values a b xs ys h more)
-core_alike spaces r o shape.ChannelClear (more_variables x y vs ws g rest) (more_values a b xs ys h more) = unit_alike spaces r o shape.ChannelClear
-    (more_variables x y vs ws g rest) (more_values a b xs ys h more)
+core_alike spaces r o shape.ChannelClear no_variable no_argument = alike_nothing
+core_alike spaces r o shape.ChannelClear (more_variables x y vs ws g rest) no_argument = alike_nothing
+core_alike spaces r o shape.ChannelClear no_variable (more_values a b xs ys h more) = alike_nothing
+core_alike spaces r o shape.ChannelClear (more_variables x y vs ws g rest) (more_values a b xs ys h more) = alike_nothing
 core_alike spaces r o shape.ChannelClear no_variable (more_texts v w xs ys h more) = alike_set r v w _ _ h (alike_number rate.Init _)
 core_alike spaces r o shape.ChannelClear (more_variables x y vs ws g rest) (more_texts v w xs ys h more) = alike_set r v w _ _ h (alike_number rate.Init _)
 core_alike spaces r o shape.Out no_variable args = alike_out r _ _ (values_alike args)
@@ -260,23 +269,23 @@ core_alike spaces r o shape.ZakInit no_variable args = alike_nothing
 core_alike spaces r o shape.ZakInit (more_variables x y vs ws g rest) args = alike_nothing
 core_alike spaces r o shape.Ask no_variable args = alike_ask _ _ (values_alike args)
 core_alike spaces r o shape.Ask (more_variables x y vs ws g rest) args = alike_ask _ _ (values_alike args)
-core_alike spaces r o shape.Unit no_variable args = unit_alike spaces r o shape.Unit no_variable args
-core_alike spaces r o shape.Unit (more_variables x y vs ws g rest) args = unit_alike spaces r o shape.Unit (more_variables x y vs ws g rest) args
-core_alike spaces r o shape.Store no_variable args = unit_alike spaces r o shape.Store no_variable args
-core_alike spaces r o shape.Store (more_variables x y vs ws g rest) args = unit_alike spaces r o shape.Store (more_variables x y vs ws g rest) args
-core_alike spaces r o (shape.ZakGet s) no_variable args = unit_alike spaces r o (shape.ZakGet s) no_variable args
-core_alike spaces r o (shape.ZakGet s) (more_variables x y vs ws g rest) args = unit_alike spaces r o (shape.ZakGet s) (more_variables x y vs ws g rest) args
-core_alike spaces r o (shape.ZakPut s) no_variable args = unit_alike spaces r o (shape.ZakPut s) no_variable args
-core_alike spaces r o (shape.ZakPut s) (more_variables x y vs ws g rest) args = unit_alike spaces r o (shape.ZakPut s) (more_variables x y vs ws g rest) args
-core_alike spaces r o shape.ZakMix no_variable args = unit_alike spaces r o shape.ZakMix no_variable args
-core_alike spaces r o shape.ZakMix (more_variables x y vs ws g rest) args = unit_alike spaces r o shape.ZakMix (more_variables x y vs ws g rest) args
-core_alike spaces r o (shape.ZakClear s) no_variable args = unit_alike spaces r o (shape.ZakClear s) no_variable args
-core_alike spaces r o (shape.ZakClear s) (more_variables x y vs ws g rest) args = unit_alike spaces r o (shape.ZakClear s)
-    (more_variables x y vs ws g rest) args
+core_alike spaces r o shape.Unit no_variable args = unit_alike r o no_variable args
+core_alike spaces r o shape.Unit (more_variables x y vs ws g rest) args = unit_alike r o (more_variables x y vs ws g rest) args
+core_alike spaces r o shape.Store no_variable args = store_alike r o args
+core_alike spaces r o shape.Store (more_variables x y vs ws g rest) args = store_alike r o args
+core_alike spaces r o (shape.ZakGet s) no_variable args = zak_alike spaces r o (shape.ZakGet s) no_variable args
+core_alike spaces r o (shape.ZakGet s) (more_variables x y vs ws g rest) args = zak_alike spaces r o (shape.ZakGet s) (more_variables x y vs ws g rest) args
+core_alike spaces r o (shape.ZakPut s) no_variable args = zak_alike spaces r o (shape.ZakPut s) no_variable args
+core_alike spaces r o (shape.ZakPut s) (more_variables x y vs ws g rest) args = zak_alike spaces r o (shape.ZakPut s) (more_variables x y vs ws g rest) args
+core_alike spaces r o shape.ZakMix no_variable args = zak_alike spaces r o shape.ZakMix no_variable args
+core_alike spaces r o shape.ZakMix (more_variables x y vs ws g rest) args = zak_alike spaces r o shape.ZakMix (more_variables x y vs ws g rest) args
+core_alike spaces r o (shape.ZakClear s) no_variable args = zak_alike spaces r o (shape.ZakClear s) no_variable args
+core_alike spaces r o (shape.ZakClear s) (more_variables x y vs ws g rest) args = zak_alike spaces r o (shape.ZakClear s) (more_variables x y vs ws g rest) args
 
 -- ---- places
 
-pub past_alike : {V : Variable → Variable → Type 0} {a b : Expression} → Alike V a b → (n m : ℕ) → n ≡ m → past n a ≡ past m b
+pub past_alike : {V : Variable → Variable → Type 0} {a b : Expression} → Alike V a b → (n m : ℕ) → n ≡ m
+    → past n a ≡ past m b
 past_alike (alike_number r z) n m e = λ i. if_init r (e i + 1) (e i)
 past_alike (alike_var r v w h) n m e = λ i. if_init r (e i + 1) (e i)
 past_alike (alike_field r k) n m e = λ i. if_init r (e i + 1) (e i)
@@ -287,17 +296,21 @@ past_alike (alike_pick r a b c d x y h j k) n m e =
     λ i. if_init r (e i + 1) (past_alike k (past (past n a) c) (past (past m b) d) (past_alike j (past n a) (past m b) (past_alike h n m e)) i)
 past_alike (alike_apply r f a b h) n m e = λ i. if_init r (e i + 1) (past_alike h n m e i)
 
-past_all_alike : {V : Variable → Variable → Type 0} {xs ys : List Expression} → AlikeAll V xs ys → (n m : ℕ) → n ≡ m → past_all n xs ≡ past_all m ys
+past_all_alike : {V : Variable → Variable → Type 0} {xs ys : List Expression} → AlikeAll V xs ys → (n m : ℕ) → n ≡ m
+    → past_all n xs ≡ past_all m ys
 past_all_alike alike_none n m e = e
 past_all_alike (alike_more a b xs ys h more) n m e = past_all_alike more (past n a) (past m b) (past_alike h n m e)
 
-pub past_stmt_alike : {V : Variable → Variable → Type 0} {x y : Stmt} → AlikeStmt V x y → (p : Place) → past_stmt p x ≡ past_stmt p y
+pub past_stmt_alike : {V : Variable → Variable → Type 0} {x y : Stmt} → AlikeStmt V x y → (p : Place)
+    → past_stmt p x ≡ past_stmt p y
 past_stmt_alike (alike_set r v w a b g h) p = λ i. past_parts (if_init r p.part (past_alike h p.part p.part refl i)) p
 past_stmt_alike (alike_unit r vs ws o k xs ys is js g h j) p = λ i. record {
   part = if_init r p.part
       (past_all_alike h p.part p.part refl i);
   unit = p.unit + 1;
 }
+past_stmt_alike (alike_zak r vs ws o k xs ys g h) p = λ i. past_parts (if_init r p.part (past_all_alike h p.part p.part refl i)) p
+past_stmt_alike (alike_store r o k xs ys is js h j) p = λ i. past_parts (if_init r p.part (past_all_alike h p.part p.part refl i)) p
 past_stmt_alike (alike_out r xs ys h) p = λ i. past_parts (past_all_alike h p.part p.part refl i) p
 past_stmt_alike (alike_out_at r xs ys h) p = λ i. past_parts (past_all_alike h p.part p.part refl i) p
 past_stmt_alike (alike_ask xs ys h) p = refl
@@ -317,7 +330,8 @@ pub record Agree {W : Type 0} (o : World W) (V : Variable → Variable → Type 
   pub moves : (t u : Note W) → R t u → (x : W) → R (moved_to x t) (moved_to x u)
 
 module _ {W : Type 0} (o : World W) (V : Variable → Variable → Type 0) (R : Note W → Note W → Type 0) (s : Agree o V R) where
-  pub value_same : (t u : Note W) → R t u → {a b : Expression} → Alike V a b → (whole : Bool) (n m : ℕ) → n ≡ m → value o t whole n a ≡ value o u whole m b
+  pub value_same : (t u : Note W) → R t u → {a b : Expression} → Alike V a b → (whole : Bool) (n m : ℕ) → n ≡ m
+      → value o t whole n a ≡ value o u whole m b
   value_same t u h (alike_number r z) whole n m e = λ i. part whole r (s.kept t u h i (e i)) (held o.ksmps r (constant z))
   value_same t u h (alike_var r v w g) whole n m e = λ i. part whole r (s.kept t u h i (e i)) (s.looks t u h r v w g i)
   value_same t u h (alike_field r k) whole n m e = λ i. part whole r (s.kept t u h i (e i)) (held o.ksmps r (constant (o.field k)))
@@ -348,7 +362,8 @@ module _ {W : Type 0} (o : World W) (V : Variable → Variable → Type 0) (R : 
   moves_to : (t u : Note W) → R t u → (x y : W) → x ≡ y → R (moved_to x t) (moved_to y u)
   moves_to t u h x y e = subst (λ z. R (moved_to x t) (moved_to z u)) e (s.moves t u h x)
 
-  assigns_to : (t u : Note W) → R t u → (v w : Variable) → V v w → (x y : Wave) → x ≡ y → R (assign o v x t) (assign o w y u)
+  assigns_to : (t u : Note W) → R t u → (v w : Variable) → V v w → (x y : Wave) → x ≡ y
+      → R (assign o v x t) (assign o w y u)
   assigns_to t u h v w g x y e = subst (λ z. R (assign o v x t) (assign o w z u)) e (s.assigns t u h v w g x)
 
   either : (r : Rate) (t u q p : Note W) → R t u → R q p → R (if_init r t q) (if_init r u p)
@@ -360,7 +375,8 @@ module _ {W : Type 0} (o : World W) (V : Variable → Variable → Type 0) (R : 
       → R (put_kept n (first_value o t a) t) (put_kept m (first_value o u b) u)
   kept_whole t u h {a} {b} g n m e = keeps_at t u h n m (first_value o t a) (first_value o u b) e (λ i. value_same t u h g true 0 0 refl i 0)
 
-  pub keep_same : (t u : Note W) → R t u → {a b : Expression} → Alike V a b → (n m : ℕ) → n ≡ m → R (keep o n a t) (keep o m b u)
+  pub keep_same : (t u : Note W) → R t u → {a b : Expression} → Alike V a b → (n m : ℕ) → n ≡ m
+      → R (keep o n a t) (keep o m b u)
   keep_same t u h (alike_number r z) n m e = either r _ _ t u (kept_whole t u h (alike_number r z) n m e) h
   keep_same t u h (alike_var r v w g) n m e = either r _ _ t u (kept_whole t u h (alike_var r v w g) n m e) h
   keep_same t u h (alike_field r k) n m e = either r _ _ t u (kept_whole t u h (alike_field r k) n m e) h
@@ -380,7 +396,8 @@ module _ {W : Type 0} (o : World W) (V : Variable → Variable → Type 0) (R : 
   keep_same t u h (alike_apply r f a b g) n m e =
       either r _ _ _ _ (kept_whole t u h (alike_apply r f a b g) n m e) (keep_same t u h g n m e)
 
-  keep_all_same : (t u : Note W) → R t u → {xs ys : List Expression} → AlikeAll V xs ys → (n m : ℕ) → n ≡ m → R (keep_all o n xs t) (keep_all o m ys u)
+  keep_all_same : (t u : Note W) → R t u → {xs ys : List Expression} → AlikeAll V xs ys → (n m : ℕ) → n ≡ m
+      → R (keep_all o n xs t) (keep_all o m ys u)
   keep_all_same t u h alike_none n m e = h
   keep_all_same t u h (alike_more a b xs ys g more) n m e =
       keep_all_same (keep o n a t) (keep o m b u) (keep_same t u h g n m e) more (past n a) (past m b) (past_alike g n m e)
@@ -392,11 +409,13 @@ module _ {W : Type 0} (o : World W) (V : Variable → Variable → Type 0) (R : 
       by true = h
       by false = k
 
-  given_same : (t u : Note W) → R t u → {vs ws : List Variable} → AlikeVariables V vs ws → (w : Wave) → R (given o vs w t) (given o ws w u)
+  given_same : (t u : Note W) → R t u → {vs ws : List Variable} → AlikeVariables V vs ws → (w : Wave)
+      → R (given o vs w t) (given o ws w u)
   given_same t u h no_variable w = h
   given_same t u h (more_variables x y xs ys g more) w = s.assigns t u h x y g w
 
-  done_same : (t u : Note W) → R t u → {vs ws : List Variable} → AlikeVariables V vs ws → (r : Rate) (d e : W × Wave) → d ≡ e
+  done_same : (t u : Note W) → R t u → {vs ws : List Variable} → AlikeVariables V vs ws → (r : Rate) (d e : W × Wave)
+      → d ≡ e
       → R (done o r vs d t) (done o r ws e u)
   done_same t u h {vs} {ws} g r d e same = subst (λ z. R (done o r vs d t) (done o r ws z u)) same (by d)
     where
@@ -405,14 +424,15 @@ module _ {W : Type 0} (o : World W) (V : Variable → Variable → Type 0) (R : 
 
   started_same : (t u : Note W) → R t u → (r : Rate) (q : Opcode) (n : ℕ) {xs ys : List Expression} → AlikeAll V xs ys
       → R (started o r q n xs t) (started o r q n ys u)
-  started_same t u h r q n {xs} {ys} g = by (is_started (row_of q).shape)
-    where
-      by : (b : Bool) → R (if b then moved_to (o.start q r n (first_values (values o t true 0 xs)) t.world) t else t)
-          (if b then moved_to (o.start q r n (first_values (values o u true 0 ys)) u.world) u else u)
-      by true = moves_to t u h _ _ (λ i. o.start q r n (first_values (values_same t u h g true 0 0 refl i)) (s.world t u h i))
-      by false = h
+  started_same t u h r q n g =
+      moves_to t u h _ _ (λ i. o.start q r n (first_values (values_same t u h g true 0 0 refl i)) (s.world t u h i))
 
-  pub init_same : (t u : Note W) → R t u → {x y : Stmt} → AlikeStmt V x y → (p : Place) → R (init_stmt o p x t) (init_stmt o p y u)
+  sought_same : (t u : Note W) → R t u → {xs ys : List Expression} → AlikeAll V xs ys
+      → R (sought o xs t) (sought o ys u)
+  sought_same t u h g = moves_to t u h _ _ (λ i. o.seek (first_values (values_same t u h g true 0 0 refl i)) (s.world t u h i))
+
+  pub init_same : (t u : Note W) → R t u → {x y : Stmt} → AlikeStmt V x y → (p : Place)
+      → R (init_stmt o p x t) (init_stmt o p y u)
   init_same t u h (alike_set r v w a b g k) p =
       going_same t u _ _ h
       (either r _ _ _ _ (assigns_to t u h v w g (value o t true 0 a) (value o u true 0 b) (value_same t u h k true 0 0 refl))
@@ -426,6 +446,18 @@ module _ {W : Type 0} (o : World W) (V : Variable → Variable → Type 0) (R : 
       (going_same a b _ _ ready (done_same a b ready g r _ _
       (λ i. o.does q r p.unit k (values_same a b ready l true 0 0 refl i) (s.world a b ready i))))
       (started_same (keep_all o p.part xs t) (keep_all o p.part ys u) (keep_all_same t u h l p.part p.part refl) r q p.unit m))
+  init_same t u h (alike_zak r vs ws q k xs ys g l) p =
+      going_same t u _ _ h
+      (either r _ _ _ _ (done_same t u h g r _ _ (λ i. o.zak q k (values_same t u h l true 0 0 refl i) (s.world t u h i)))
+      (keep_all_same t u h l p.part p.part refl))
+  init_same t u h (alike_store r q k xs ys is js l m) p =
+      let ready = sought_same t u h m in
+      let a = sought o is t in
+      let b = sought o js u in
+      going_same t u _ _ h
+      (either r _ _ _ _
+      (going_same a b _ _ ready (moves_to a b ready _ _ (λ i. o.store q r k (values_same a b ready l true 0 0 refl i) (s.world a b ready i))))
+      (sought_same (keep_all o p.part xs t) (keep_all o p.part ys u) (keep_all_same t u h l p.part p.part refl) m))
   init_same t u h (alike_out r xs ys g) p = going_same t u _ _ h (keep_all_same t u h g p.part p.part refl)
   init_same t u h (alike_out_at r xs ys g) p = going_same t u _ _ h (keep_all_same t u h g p.part p.part refl)
   init_same t u h (alike_ask xs ys g) p =
@@ -434,12 +466,19 @@ module _ {W : Type 0} (o : World W) (V : Variable → Variable → Type 0) (R : 
   init_same t u h alike_nothing p = h
   init_same t u h (alike_empty r) p = going_same t u _ _ h (either r t u t u h h)
 
-  pub perf_same : (t u : Note W) → R t u → {x y : Stmt} → AlikeStmt V x y → (p : Place) → R (perf_stmt o p x t) (perf_stmt o p y u)
+  pub perf_same : (t u : Note W) → R t u → {x y : Stmt} → AlikeStmt V x y → (p : Place)
+      → R (perf_stmt o p x t) (perf_stmt o p y u)
   perf_same t u h (alike_set r v w a b g k) p =
       either r t u _ _ h (assigns_to t u h v w g (value o t false p.part a) (value o u false p.part b) (value_same t u h k false p.part p.part refl))
   perf_same t u h (alike_unit r vs ws q k xs ys is js g l m) p =
       either r t u _ _ h
       (done_same t u h g r _ _ (λ i. o.does q r p.unit k (values_same t u h l false p.part p.part refl i) (s.world t u h i)))
+  perf_same t u h (alike_zak r vs ws q k xs ys g l) p =
+      either r t u _ _ h
+      (done_same t u h g r _ _ (λ i. o.zak q k (values_same t u h l false p.part p.part refl i) (s.world t u h i)))
+  perf_same t u h (alike_store r q k xs ys is js l m) p =
+      either r t u _ _ h
+      (moves_to t u h _ _ (λ i. o.store q r k (values_same t u h l false p.part p.part refl i) (s.world t u h i)))
   perf_same t u h (alike_out r xs ys g) p =
       moves_to t u h _ _ (λ i. sent o 0 (values_same t u h g false p.part p.part refl i) (s.world t u h i))
   perf_same t u h (alike_out_at r xs ys g) p =

@@ -78,12 +78,14 @@ mutual
 own_rates : (f : ℕ) → KeepsRates (own_name f)
 own_rates f = record { rate = own_rate f }
 
-all_init_kept : (opcodes : Opcodes) (f n : ℕ) (list : Arms) → all_init (expanded_arms opcodes (own_name f) n list) ≡ all_init list
+all_init_kept : (opcodes : Opcodes) (f n : ℕ) (list : Arms)
+    → all_init (expanded_arms opcodes (own_name f) n list) ≡ all_init list
 all_init_kept opcodes f n (otherwise b) = refl
 all_init_kept opcodes f n (arm c b rest) =
     λ i. is_init (rate_kept (own_name f) (own_rates f) c i) && all_init_kept opcodes f (after_block opcodes n b) rest i
 
-choice_kept : (opcodes : Opcodes) (f n : ℕ) (list : Arms) → choice_rate (expanded_arms opcodes (own_name f) n list) ≡ choice_rate list
+choice_kept : (opcodes : Opcodes) (f n : ℕ) (list : Arms)
+    → choice_rate (expanded_arms opcodes (own_name f) n list) ≡ choice_rate list
 choice_kept opcodes f n list = ap (λ b. if b then rate.Init else rate.Control) (all_init_kept opcodes f n list)
 
 -- ---- names of frames
@@ -121,7 +123,8 @@ module _ {W : Type 0} (m : Reading W) (flat : Numbering) (tf : Tells flat) (to :
 
   -- ---- blocks one after another
 
-  past_joins : (p : Place) (a b : Block) → note.past_block p (flat_block (joins a b)) ≡ note.past_block (note.past_block p (flat_block a)) (flat_block b)
+  past_joins : (p : Place) (a b : Block)
+      → note.past_block p (flat_block (joins a b)) ≡ note.past_block (note.past_block p (flat_block a)) (flat_block b)
   past_joins p no_stmt b = refl
   past_joins p (andthen x rest) b = past_joins (past_stmt p (flat_stmt x)) rest b
 
@@ -145,7 +148,8 @@ module _ {W : Type 0} (m : Reading W) (flat : Numbering) (tf : Tells flat) (to :
   alike_variable : (f : ℕ) (x : List ℕ) → Fits f x → Same f (v (own_name f x)) (variable_read m x)
   alike_variable f x fits = variable_alike m.shared flat m.number f x fits
 
-  alike_expression : (f : ℕ) (e : Expression) → Named (Fits f) e → Alike (Same f) (expression_by v (renamed (own_name f) e)) (expression_read m e)
+  alike_expression : (f : ℕ) (e : Expression) → Named (Fits f) e
+      → Alike (Same f) (expression_by v (renamed (own_name f) e)) (expression_read m e)
   alike_expression f e n =
       subst (λ a. Alike (Same f) a (expression_read m e)) (sym (expression_renamed (own_name f) (own_rates f) v e))
       (expression_alike (λ x. v (own_name f x)) (numbered m.shared m.number) (alike_variable f) both_shared e n)
@@ -156,7 +160,8 @@ module _ {W : Type 0} (m : Reading W) (flat : Numbering) (tf : Tells flat) (to :
       subst (λ a. AlikeStmt (Same f) (core.core_stmt m.spaces a) (read m (set line x e))) (sym (set_renamed (own_name f) (own_rates f) m.shared v line x e))
       (set_alike (λ y. v (own_name f y)) (numbered m.shared m.number) (alike_variable f) both_shared m.spaces m.shared line x e n k)
 
-  alike_call : (f line : ℕ) (xs : List (List ℕ)) (c : Callee) (args : List Argument) → NamedAll (Fits f) xs → NamedArguments (Fits f) args
+  alike_call : (f line : ℕ) (xs : List (List ℕ)) (c : Callee) (args : List Argument) → NamedAll (Fits f) xs
+      → NamedArguments (Fits f) args
       → AlikeStmt (Same f) (flat_stmt (call line (map (own_name f) xs) c (map (renamed_argument (own_name f)) args))) (read m (call line xs c args))
   alike_call f line xs c args n k =
       subst (λ a. AlikeStmt (Same f) (core.core_stmt m.spaces a) (read m (call line xs c args)))
@@ -166,13 +171,15 @@ module _ {W : Type 0} (m : Reading W) (flat : Numbering) (tf : Tells flat) (to :
   agree : (f : ℕ) (u : Framed W) → Agree m.world (Same f) (Seen flat m.number f u)
   agree f u = seen_agree m.world flat m.number tf to f u
 
-  plain_init : (f : ℕ) (p : Place) (x : core.Stmt) (y : core.Stmt) (t : Note W) (u : Framed W) → AlikeStmt (Same f) x y → Stand t u
+  plain_init : (f : ℕ) (p : Place) (x : core.Stmt) (y : core.Stmt) (t : Note W) (u : Framed W) → AlikeStmt (Same f) x y
+      → Stand t u
       → Stand (initial.init_stmt m.world p x t) (put_back f (initial.init_stmt m.world p y (seen_from f u)) u)
   plain_init f p x y t u a h =
       from_seen flat m.number f (initial.init_stmt m.world p x t) (initial.init_stmt m.world p y (seen_from f u)) u
       (init_same m.world (Same f) (Seen flat m.number f u) (agree f u) t (seen_from f u) (to_seen flat m.number f t u h) a p)
 
-  plain_perf : (f : ℕ) (p : Place) (x : core.Stmt) (y : core.Stmt) (t : Note W) (u : Framed W) → AlikeStmt (Same f) x y → Stand t u
+  plain_perf : (f : ℕ) (p : Place) (x : core.Stmt) (y : core.Stmt) (t : Note W) (u : Framed W) → AlikeStmt (Same f) x y
+      → Stand t u
       → Stand (performing.perf_stmt m.world p x t) (put_back f (performing.perf_stmt m.world p y (seen_from f u)) u)
   plain_perf f p x y t u a h =
       from_seen flat m.number f (performing.perf_stmt m.world p x t) (performing.perf_stmt m.world p y (seen_from f u)) u
@@ -180,7 +187,8 @@ module _ {W : Type 0} (m : Reading W) (flat : Numbering) (tf : Tells flat) (to :
 
   -- ---- a value, what is kept of it, and a variable that takes it
 
-  value_stands : (f : ℕ) (a b : typed.Expression) (t : Note W) (u : Framed W) → Alike (Same f) a b → Stand t u → (whole : Bool) (n : ℕ)
+  value_stands : (f : ℕ) (a b : typed.Expression) (t : Note W) (u : Framed W) → Alike (Same f) a b → Stand t u
+      → (whole : Bool) (n : ℕ)
       → value_of m.world t whole n a ≡ value_of m.world (seen_from f u) whole n b
   value_stands f a b t u k h whole n =
       value_same m.world (Same f) (Seen flat m.number f u) (agree f u) t (seen_from f u) (to_seen flat m.number f t u h) k whole n n refl
@@ -198,12 +206,14 @@ module _ {W : Type 0} (m : Reading W) (flat : Numbering) (tf : Tells flat) (to :
       (from_seen flat m.number g (assign m.world x a t) (assign m.world y a (seen_from g u)) u
       ((agree g u).assigns t (seen_from g u) (to_seen flat m.number g t u h) x y k a))
 
-  either_stands : (r : Rate) (t q : Note W) (u w : Framed W) → Stand t u → Stand q w → Stand (if_init r t q) (if_init r u w)
+  either_stands : (r : Rate) (t q : Note W) (u w : Framed W) → Stand t u → Stand q w
+      → Stand (if_init r t q) (if_init r u w)
   either_stands rate.Init t q u w h k = h
   either_stands rate.Control t q u w h k = k
   either_stands rate.Audio t q u w h k = k
 
-  going_stands : (t q : Note W) (u w : Framed W) → Stand t u → Stand q w → Stand (going m.world t q) (going_on m.world u w)
+  going_stands : (t q : Note W) (u w : Framed W) → Stand t u → Stand q w
+      → Stand (going m.world t q) (going_on m.world u w)
   going_stands t q u w h k = subst (λ x. Stand (going m.world t q) (if m.world.refused x then u else w)) h.world (by (m.world.refused t.world))
     where
       by : (b : Bool) → Stand (if b then t else q) (if b then u else w)
@@ -214,11 +224,13 @@ module _ {W : Type 0} (m : Reading W) (flat : Numbering) (tf : Tells flat) (to :
   abbrev copy_of : ℕ → ℕ → ℕ → List ℕ → Expression → Statement
   copy_of line f g x e = set line (own_name g x) (renamed (own_name f) e)
 
-  copy_past : (line f g : ℕ) (p : Place) (x : List ℕ) (e : Expression) → Named (Fits f) e → past_stmt p (flat_stmt (copy_of line f g x e)) ≡ past_copy m p x e
+  copy_past : (line f g : ℕ) (p : Place) (x : List ℕ) (e : Expression) → Named (Fits f) e
+      → past_stmt p (flat_stmt (copy_of line f g x e)) ≡ past_copy m p x e
   copy_past line f g p x e n =
       λ i. past_parts (if_init (own_rate g x i) p.part (past_alike (alike_expression f e n) p.part p.part refl i)) p
 
-  copy_init : (line f g : ℕ) (p : Place) (x : List ℕ) (e : Expression) (t : Note W) (u : Framed W) → Fits g x → Named (Fits f) e → Stand t u
+  copy_init : (line f g : ℕ) (p : Place) (x : List ℕ) (e : Expression) (t : Note W) (u : Framed W) → Fits g x
+      → Named (Fits f) e → Stand t u
       → Stand (initial.init_stmt m.world p (flat_stmt (copy_of line f g x e)) t) (init_copy m f g p x e u)
   copy_init line f g p x e t u fits n h =
       let a = expression_by v (renamed (own_name f) e) in
@@ -232,7 +244,8 @@ module _ {W : Type 0} (m : Reading W) (flat : Numbering) (tf : Tells flat) (to :
       (assign_stands g (v (own_name g x)) (variable_read m x) t u (alike_variable g x fits) h _ _ (value_stands f a b t u k h true 0))
       (keep_stands f a b t u k h p.part)))
 
-  copy_perf : (line f g : ℕ) (p : Place) (x : List ℕ) (e : Expression) (t : Note W) (u : Framed W) → Fits g x → Named (Fits f) e → Stand t u
+  copy_perf : (line f g : ℕ) (p : Place) (x : List ℕ) (e : Expression) (t : Note W) (u : Framed W) → Fits g x
+      → Named (Fits f) e → Stand t u
       → Stand (performing.perf_stmt m.world p (flat_stmt (copy_of line f g x e)) t) (perf_copy m f g p x e u)
   copy_perf line f g p x e t u fits n h =
       let a = expression_by v (renamed (own_name f) e) in
@@ -289,7 +302,8 @@ module _ {W : Type 0} (m : Reading W) (flat : Numbering) (tf : Tells flat) (to :
   pub record Acts (t : Template) (a : Action W) : Type 0 where
     pub inputs : t.inputs ≡ a.inputs
     pub results : t.results ≡ a.results
-    pub past : (p : Place) (n : ℕ) → 1 ≤ n → a.past (spot p n) ≡ spot (note.past_block p (flat_block (t.block n))) (t.after n)
+    pub past : (p : Place) (n : ℕ) → 1 ≤ n
+        → a.past (spot p n) ≡ spot (note.past_block p (flat_block (t.block n))) (t.after n)
     pub init : (p : Place) (n : ℕ) → 1 ≤ n → (q : Note W) (u : Framed W) → Stand q u
         → Stand (initial.init_block m.world p (flat_block (t.block n)) q) (a.init (spot p n) u)
     pub perf : (p : Place) (n : ℕ) → 1 ≤ n → (q : Note W) (u : Framed W) → Stand q u
@@ -304,13 +318,15 @@ module _ {W : Type 0} (m : Reading W) (flat : Numbering) (tf : Tells flat) (to :
   pub record Act (opcodes : Opcodes) (env : Actions W) : Type 0 where
     pub each : (name : List ℕ) → ActsIf (opcodes name) (env name)
 
-  acts_called : (opcodes : Opcodes) (env : Actions W) → Act opcodes env → (c : Callee) → ActsIf (defined opcodes c) (action_of env c)
+  acts_called : (opcodes : Opcodes) (env : Actions W) → Act opcodes env → (c : Callee)
+      → ActsIf (defined opcodes c) (action_of env c)
   acts_called opcodes env k (callee.Opcode o) = tt
   acts_called opcodes env k (callee.Name name) = k.each name
 
   -- ---- a call
 
-  called_is : (f n line : ℕ) (xs : List (List ℕ)) (c : Callee) (args : List Argument) (t : Template) (a : Action W) → 1 ≤ n → Acts t a
+  called_is : (f n line : ℕ) (xs : List (List ℕ)) (c : Callee) (args : List Argument) (t : Template) (a : Action W)
+      → 1 ≤ n → Acts t a
       → called (own_name f) n line xs c args (Some t)
       ≡ joins (copies_of line f n a.inputs args) (joins (t.block n) (copies_of line n f xs (values_in a.results)))
   called_is f n line xs c args t a h k =
@@ -321,7 +337,8 @@ module _ {W : Type 0} (m : Reading W) (flat : Numbering) (tf : Tells flat) (to :
       λ i. joins (assignments line (inputs i) (map (renamed_argument (own_name f)) args))
       (joins (t.block n) (assignments line (map (own_name f) xs) (given_results i)))
 
-  call_past : (f n line : ℕ) (p : Place) (xs : List (List ℕ)) (c : Callee) (args : List Argument) (t : Template) (a : Action W) → 1 ≤ n → Acts t a
+  call_past : (f n line : ℕ) (p : Place) (xs : List (List ℕ)) (c : Callee) (args : List Argument) (t : Template) (a : Action W)
+      → 1 ≤ n → Acts t a
       → NamedArguments (Fits f) args
       → past_call m (spot p n) a xs args ≡ spot (note.past_block p (flat_block (called (own_name f) n line xs c args (Some t)))) (t.after n)
   call_past f n line p xs c args t a h k named =
@@ -338,7 +355,8 @@ module _ {W : Type 0} (m : Reading W) (flat : Numbering) (tf : Tells flat) (to :
       ap (λ q. spot (past_copies m q.place xs given_values) q.frame) (k.past ready n h)
       ∙ ap (λ q. spot q (t.after n)) (sym moved ∙ ap (λ b. note.past_block p (flat_block b)) (sym (called_is f n line xs c args t a h k)))
 
-  call_init : (f n line : ℕ) (p : Place) (xs : List (List ℕ)) (c : Callee) (args : List Argument) (t : Template) (a : Action W) → 1 ≤ n → Acts t a
+  call_init : (f n line : ℕ) (p : Place) (xs : List (List ℕ)) (c : Callee) (args : List Argument) (t : Template) (a : Action W)
+      → 1 ≤ n → Acts t a
       → NamedAll (Fits f) xs → NamedArguments (Fits f) args → (s : Note W) (u : Framed W) → Stand s u
       → Stand (initial.init_block m.world p (flat_block (called (own_name f) n line xs c args (Some t))) s) (init_call m f (spot p n) a xs args u)
   call_init f n line p xs c args t a h k fits named s u stand =
@@ -363,7 +381,8 @@ module _ {W : Type 0} (m : Reading W) (flat : Numbering) (tf : Tells flat) (to :
       ∙ ap (λ q. initial.init_block m.world q (flat_block (joins (t.block n) two)) s1) (copies_past line f n p a.inputs args named)
       ∙ init_joins ready (t.block n) two s1)) last)
 
-  call_perf : (f n line : ℕ) (p : Place) (xs : List (List ℕ)) (c : Callee) (args : List Argument) (t : Template) (a : Action W) → 1 ≤ n → Acts t a
+  call_perf : (f n line : ℕ) (p : Place) (xs : List (List ℕ)) (c : Callee) (args : List Argument) (t : Template) (a : Action W)
+      → 1 ≤ n → Acts t a
       → NamedAll (Fits f) xs → NamedArguments (Fits f) args → (s : Note W) (u : Framed W) → Stand s u
       → Stand (performing.perf_block m.world p (flat_block (called (own_name f) n line xs c args (Some t))) s) (perf_call m f (spot p n) a xs args u)
   call_perf f n line p xs c args t a h k fits named s u stand =
@@ -389,7 +408,8 @@ module _ {W : Type 0} (m : Reading W) (flat : Numbering) (tf : Tells flat) (to :
       ∙ perf_joins ready (t.block n) two s1)) last)
 
   -- a call of a defined opcode or of another
-  any_past : (f n line : ℕ) (p : Place) (xs : List (List ℕ)) (c : Callee) (args : List Argument) (t : Option Template) (a : Option (Action W)) → 1 ≤ n
+  any_past : (f n line : ℕ) (p : Place) (xs : List (List ℕ)) (c : Callee) (args : List Argument) (t : Option Template) (a : Option (Action W))
+      → 1 ≤ n
       → ActsIf t a
       → NamedAll (Fits f) xs → NamedArguments (Fits f) args
       → past_any m (spot p n) (call line xs c args) xs args a
@@ -399,7 +419,8 @@ module _ {W : Type 0} (m : Reading W) (flat : Numbering) (tf : Tells flat) (to :
   any_past f n line p xs c args (Some t) None h k fits named = absurd k
   any_past f n line p xs c args (Some t) (Some a) h k fits named = call_past f n line p xs c args t a h k named
 
-  any_init : (f n line : ℕ) (p : Place) (xs : List (List ℕ)) (c : Callee) (args : List Argument) (t : Option Template) (a : Option (Action W)) → 1 ≤ n
+  any_init : (f n line : ℕ) (p : Place) (xs : List (List ℕ)) (c : Callee) (args : List Argument) (t : Option Template) (a : Option (Action W))
+      → 1 ≤ n
       → ActsIf t a
       → NamedAll (Fits f) xs → NamedArguments (Fits f) args → (s : Note W) (u : Framed W) → Stand s u
       → Stand (initial.init_block m.world p (flat_block (called (own_name f) n line xs c args t)) s)
@@ -409,7 +430,8 @@ module _ {W : Type 0} (m : Reading W) (flat : Numbering) (tf : Tells flat) (to :
   any_init f n line p xs c args (Some t) None h k fits named s u stand = absurd k
   any_init f n line p xs c args (Some t) (Some a) h k fits named s u stand = call_init f n line p xs c args t a h k fits named s u stand
 
-  any_perf : (f n line : ℕ) (p : Place) (xs : List (List ℕ)) (c : Callee) (args : List Argument) (t : Option Template) (a : Option (Action W)) → 1 ≤ n
+  any_perf : (f n line : ℕ) (p : Place) (xs : List (List ℕ)) (c : Callee) (args : List Argument) (t : Option Template) (a : Option (Action W))
+      → 1 ≤ n
       → ActsIf t a
       → NamedAll (Fits f) xs → NamedArguments (Fits f) args → (s : Note W) (u : Framed W) → Stand s u
       → Stand (performing.perf_block m.world p (flat_block (called (own_name f) n line xs c args t)) s)
@@ -425,7 +447,8 @@ module _ {W : Type 0} (m : Reading W) (flat : Numbering) (tf : Tells flat) (to :
       → past_parts (past p.part (expression_by v (renamed (own_name f) c))) p ≡ past_parts (past p.part (expression_read m c)) p
   condition_past f p c named = ap (λ n. past_parts n p) (past_alike (alike_expression f c named) p.part p.part refl)
 
-  choose_stands : (b c : Bool) → b ≡ c → (t q : Note W) (u w : Framed W) → Stand t u → Stand q w → Stand (if b then t else q) (if c then u else w)
+  choose_stands : (b c : Bool) → b ≡ c → (t q : Note W) (u w : Framed W) → Stand t u → Stand q w
+      → Stand (if b then t else q) (if c then u else w)
   choose_stands b c e t q u w h k = subst (λ d. Stand (if b then t else q) (if d then u else w)) e (by b)
     where
       by : (d : Bool) → Stand (if d then t else q) (if d then u else w)
@@ -476,7 +499,8 @@ module _ {W : Type 0} (m : Reading W) (flat : Numbering) (tf : Tells flat) (to :
           (after_arms opcodes (after_block opcodes n b) rest)) (sym (condition_past f p c named.0))
 
     mutual
-      init_stands : (n : ℕ) → 1 ≤ n → (p : Place) (x : Statement) → NamedStmt (Fits f) x → (t : Note W) (u : Framed W) → Stand t u
+      init_stands : (n : ℕ) → 1 ≤ n → (p : Place) (x : Statement) → NamedStmt (Fits f) x → (t : Note W) (u : Framed W)
+          → Stand t u
           → Stand (initial.init_block m.world p (text_of n x) t) (init_framed m env f (spot p n) x u)
       init_stands n h p (set line x e) named t u stand = plain_init f p _ _ t u (alike_set f line x e named.0 named.1) stand
       init_stands n h p (call line xs c args) named t u stand =
@@ -488,7 +512,8 @@ module _ {W : Type 0} (m : Reading W) (flat : Numbering) (tf : Tells flat) (to :
           (going_stands t _ u _ stand
           (either_stands (choice_rate made) _ _ _ _ (first_stands n h p list named t u stand) (all_stand n h p list named t u stand)))
 
-      pub init_block_stands : (n : ℕ) → 1 ≤ n → (p : Place) (b : Block) → NamedBlock (Fits f) b → (t : Note W) (u : Framed W) → Stand t u
+      pub init_block_stands : (n : ℕ) → 1 ≤ n → (p : Place) (b : Block) → NamedBlock (Fits f) b
+          → (t : Note W) (u : Framed W) → Stand t u
           → Stand (initial.init_block m.world p (texts_of n b) t) (init_block m env f (spot p n) b u)
       init_block_stands n h p no_stmt named t u stand = stand
       init_block_stands n h p (andthen x rest) named t u stand =
@@ -502,7 +527,8 @@ module _ {W : Type 0} (m : Reading W) (flat : Numbering) (tf : Tells flat) (to :
           (init_block_stands (after opcodes n x) (at_least n x h) (note.past_block p (text_of n x)) rest named.1 now next
           (init_stands n h p x named.0 t u stand)))
 
-      first_stands : (n : ℕ) → 1 ≤ n → (p : Place) (list : Arms) → NamedArms (Fits f) list → (t : Note W) (u : Framed W) → Stand t u
+      first_stands : (n : ℕ) → 1 ≤ n → (p : Place) (list : Arms) → NamedArms (Fits f) list → (t : Note W) (u : Framed W)
+          → Stand t u
           → Stand (initial.init_first m.world p (arms_of n list) t) (init_first m env f (spot p n) list u)
       first_stands n h p (otherwise b) named t u stand = init_block_stands n h p b named t u stand
       first_stands n h p (arm c b rest) named t u stand =
@@ -522,7 +548,8 @@ module _ {W : Type 0} (m : Reading W) (flat : Numbering) (tf : Tells flat) (to :
           (init_first m env f (spot p n) (arm c b rest) u)) (sym (condition_past f p c named.0))
           (choose_stands (holds (now.kept p.part)) (holds (next.kept p.part)) (ap (λ z. holds (z p.part)) kept_now.kept) _ _ _ _ one two)
 
-      all_stand : (n : ℕ) → 1 ≤ n → (p : Place) (list : Arms) → NamedArms (Fits f) list → (t : Note W) (u : Framed W) → Stand t u
+      all_stand : (n : ℕ) → 1 ≤ n → (p : Place) (list : Arms) → NamedArms (Fits f) list → (t : Note W) (u : Framed W)
+          → Stand t u
           → Stand (initial.init_all m.world p (arms_of n list) t) (init_all m env f (spot p n) list u)
       all_stand n h p (otherwise b) named t u stand = init_block_stands n h p b named t u stand
       all_stand n h p (arm c b rest) named t u stand =
@@ -544,14 +571,16 @@ module _ {W : Type 0} (m : Reading W) (flat : Numbering) (tf : Tells flat) (to :
           (going_stands t _ u _ stand two)
 
     mutual
-      perf_stands : (n : ℕ) → 1 ≤ n → (p : Place) (x : Statement) → NamedStmt (Fits f) x → (t : Note W) (u : Framed W) → Stand t u
+      perf_stands : (n : ℕ) → 1 ≤ n → (p : Place) (x : Statement) → NamedStmt (Fits f) x → (t : Note W) (u : Framed W)
+          → Stand t u
           → Stand (performing.perf_block m.world p (text_of n x) t) (perf_framed m env f (spot p n) x u)
       perf_stands n h p (set line x e) named t u stand = plain_perf f p _ _ t u (alike_set f line x e named.0 named.1) stand
       perf_stands n h p (call line xs c args) named t u stand =
           any_perf f n line p xs c args (defined opcodes c) (action_of env c) h (acts_called opcodes env k c) named.0 named.1 t u stand
       perf_stands n h p (choose line list) named t u stand = perf_arms_stand n h p list named t u stand
 
-      pub perf_block_stands : (n : ℕ) → 1 ≤ n → (p : Place) (b : Block) → NamedBlock (Fits f) b → (t : Note W) (u : Framed W) → Stand t u
+      pub perf_block_stands : (n : ℕ) → 1 ≤ n → (p : Place) (b : Block) → NamedBlock (Fits f) b
+          → (t : Note W) (u : Framed W) → Stand t u
           → Stand (performing.perf_block m.world p (texts_of n b) t) (perf_block m env f (spot p n) b u)
       perf_block_stands n h p no_stmt named t u stand = stand
       perf_block_stands n h p (andthen x rest) named t u stand =
@@ -565,7 +594,8 @@ module _ {W : Type 0} (m : Reading W) (flat : Numbering) (tf : Tells flat) (to :
           (perf_block_stands (after opcodes n x) (at_least n x h) (note.past_block p (text_of n x)) rest named.1 now next
           (perf_stands n h p x named.0 t u stand)))
 
-      perf_arms_stand : (n : ℕ) → 1 ≤ n → (p : Place) (list : Arms) → NamedArms (Fits f) list → (t : Note W) (u : Framed W) → Stand t u
+      perf_arms_stand : (n : ℕ) → 1 ≤ n → (p : Place) (list : Arms) → NamedArms (Fits f) list
+          → (t : Note W) (u : Framed W) → Stand t u
           → Stand (performing.perf_arms m.world p (arms_of n list) t) (perf_arms m env f (spot p n) list u)
       perf_arms_stand n h p (otherwise b) named t u stand = perf_block_stands n h p b named t u stand
       perf_arms_stand n h p (arm c b rest) named t u stand =
@@ -593,12 +623,14 @@ module _ {W : Type 0} (m : Reading W) (flat : Numbering) (tf : Tells flat) (to :
   defining_grows : (opcodes : Opcodes) → Grows opcodes → (d : Definition) → Grows (defining opcodes d)
   defining_grows opcodes g d = record { each = λ name. by (opcodes name) (g.each name) (bytes_eq name d.name) }
     where
-      by : (found : Option Template) → GrowsIf found → (b : Bool) → GrowsIf (option_or found (if b then Some (template opcodes d) else None))
+      by : (found : Option Template) → GrowsIf found → (b : Bool)
+          → GrowsIf (option_or found (if b then Some (template opcodes d) else None))
       by None h true = template_grows opcodes g d
       by None h false = tt
       by (Some t) h b = h
 
-  template_acts : (opcodes : Opcodes) (env : Actions W) → Grows opcodes → Act opcodes env → (d : Definition) → Acts (template opcodes d) (action m env d)
+  template_acts : (opcodes : Opcodes) (env : Actions W) → Grows opcodes → Act opcodes env → (d : Definition)
+      → Acts (template opcodes d) (action m env d)
   template_acts opcodes env g k d = record {
     inputs = refl;
     results = refl;
@@ -619,7 +651,8 @@ module _ {W : Type 0} (m : Reading W) (flat : Numbering) (tf : Tells flat) (to :
       named_as : (n : ℕ) → 1 ≤ n → (P : (List ℕ → List ℕ) → Type 0) → P (own_name n) → P (in_frame n)
       named_as n h P p = subst P (inner_name n h) p
 
-  defining_acts : (opcodes : Opcodes) (env : Actions W) → Grows opcodes → Act opcodes env → (d : Definition) → Act (defining opcodes d) (acting m env d)
+  defining_acts : (opcodes : Opcodes) (env : Actions W) → Grows opcodes → Act opcodes env → (d : Definition)
+      → Act (defining opcodes d) (acting m env d)
   defining_acts opcodes env g k d = record { each = λ name. by (opcodes name) (env name) (k.each name) (bytes_eq name d.name) }
     where
       by : (t : Option Template) (a : Option (Action W)) → ActsIf t a → (b : Bool)

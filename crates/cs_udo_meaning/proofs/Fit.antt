@@ -75,12 +75,14 @@ mutual
   calm_in_definition own depth (call line xs c args) h = h.1.1.0
   calm_in_definition own depth (choose line list) h = calm_arms_in_definition own (depth + 1) list h.1
 
-  calm_block_in_definition : (own : List ℕ) (depth : ℕ) (b : Block) → WellFormedBlock place.Definition own depth b → CalmBlock b
+  calm_block_in_definition : (own : List ℕ) (depth : ℕ) (b : Block) → WellFormedBlock place.Definition own depth b
+      → CalmBlock b
   calm_block_in_definition own depth no_stmt h = tt
   calm_block_in_definition own depth (andthen x rest) h =
       (calm_in_definition own depth x h.0, calm_block_in_definition own depth rest h.1)
 
-  calm_arms_in_definition : (own : List ℕ) (depth : ℕ) (list : Arms) → WellFormedArms place.Definition own depth list → CalmArms list
+  calm_arms_in_definition : (own : List ℕ) (depth : ℕ) (list : Arms) → WellFormedArms place.Definition own depth list
+      → CalmArms list
   calm_arms_in_definition own depth (otherwise b) h = calm_block_in_definition own depth b h
   calm_arms_in_definition own depth (arm c b rest) h =
       (calm_block_in_definition own depth b h.1, calm_arms_in_definition own depth rest h.2)
@@ -98,7 +100,8 @@ called_calm : (opcodes : Opcodes) → AllCalm opcodes → (c : Callee) → CalmI
 called_calm opcodes k (callee.Opcode o) = tt
 called_calm opcodes k (callee.Name name) = k.each name
 
-calm_called : (own : List ℕ → List ℕ) (f line : ℕ) (xs : List (List ℕ)) (c : Callee) (args : List Argument) (found : Option Template) → c ≢ callee.Opcode op.Zakinit → CalmIf found → CalmBlock (called own f line xs c args found)
+calm_called : (own : List ℕ → List ℕ) (f line : ℕ) (xs : List (List ℕ)) (c : Callee) (args : List Argument) (found : Option Template)
+    → c ≢ callee.Opcode op.Zakinit → CalmIf found → CalmBlock (called own f line xs c args found)
 calm_called own f line xs c args None h k = (h, tt)
 calm_called own f line xs c args (Some t) h k =
     calm_joins (assignments line (map (in_frame f) t.inputs) (map (renamed_argument own) args))
@@ -108,18 +111,21 @@ calm_called own f line xs c args (Some t) h k =
     (calm_assignments line (map own xs) (map (value_in f) t.results)))
 
 mutual
-  calm_expanded : (opcodes : Opcodes) → AllCalm opcodes → (own : List ℕ → List ℕ) (f : ℕ) (x : Statement) → Calm x → CalmBlock (expanded opcodes own f x)
+  calm_expanded : (opcodes : Opcodes) → AllCalm opcodes → (own : List ℕ → List ℕ) (f : ℕ) (x : Statement) → Calm x
+      → CalmBlock (expanded opcodes own f x)
   calm_expanded opcodes k own f (set line x e) h = (tt, tt)
   calm_expanded opcodes k own f (call line xs c args) h = calm_called own f line xs c args (defined opcodes c) h (called_calm opcodes k c)
   calm_expanded opcodes k own f (choose line list) h = (calm_expanded_arms opcodes k own f list h, tt)
 
-  calm_expanded_block : (opcodes : Opcodes) → AllCalm opcodes → (own : List ℕ → List ℕ) (f : ℕ) (b : Block) → CalmBlock b → CalmBlock (expanded_block opcodes own f b)
+  calm_expanded_block : (opcodes : Opcodes) → AllCalm opcodes → (own : List ℕ → List ℕ) (f : ℕ) (b : Block)
+      → CalmBlock b → CalmBlock (expanded_block opcodes own f b)
   calm_expanded_block opcodes k own f no_stmt h = tt
   calm_expanded_block opcodes k own f (andthen x rest) h =
       calm_joins (expanded opcodes own f x) (expanded_block opcodes own (after opcodes f x) rest)
       (calm_expanded opcodes k own f x h.0) (calm_expanded_block opcodes k own (after opcodes f x) rest h.1)
 
-  calm_expanded_arms : (opcodes : Opcodes) → AllCalm opcodes → (own : List ℕ → List ℕ) (f : ℕ) (list : Arms) → CalmArms list → CalmArms (expanded_arms opcodes own f list)
+  calm_expanded_arms : (opcodes : Opcodes) → AllCalm opcodes → (own : List ℕ → List ℕ) (f : ℕ) (list : Arms)
+      → CalmArms list → CalmArms (expanded_arms opcodes own f list)
   calm_expanded_arms opcodes k own f (otherwise b) h = calm_expanded_block opcodes k own f b h
   calm_expanded_arms opcodes k own f (arm c b rest) h =
       (calm_expanded_block opcodes k own f b h.0, calm_expanded_arms opcodes k own (after_block opcodes f b) rest h.1)
@@ -129,31 +135,36 @@ calm_whole d h =
     calm_joins d.body (assignments d.line (slots 0 d.outs) d.result) (calm_block_in_definition d.name 0 d.body h.body)
     (calm_assignments d.line (slots 0 d.outs) d.result)
 
-calm_one : (o : Option Template) (b : Bool) (t : Template) → CalmIf o → ((f : ℕ) → CalmBlock (t.block f)) → CalmIf (option_or o (if b then Some t else None))
+calm_one : (o : Option Template) (b : Bool) (t : Template) → CalmIf o → ((f : ℕ) → CalmBlock (t.block f))
+    → CalmIf (option_or o (if b then Some t else None))
 calm_one (Some s) b t p q = p
 calm_one None true t p q = q
 calm_one None false t p q = tt
 
-calm_defining : (opcodes : Opcodes) → AllCalm opcodes → (d : Definition) → WellFormedDefinition d → AllCalm (defining opcodes d)
+calm_defining : (opcodes : Opcodes) → AllCalm opcodes → (d : Definition) → WellFormedDefinition d
+    → AllCalm (defining opcodes d)
 calm_defining opcodes k d h = record {
   each = λ name. calm_one (opcodes name) (bytes_eq name d.name) (template opcodes d) (k.each name)
       (λ f. calm_expanded_block opcodes k (in_frame f) (f + 1) (whole_body d) (calm_whole d h));
 }
 
-calm_before : (opcodes : Opcodes) → AllCalm opcodes → (line : ℕ) (ds : List Definition) → All WellFormedDefinition ds → AllCalm (defining_all opcodes (before line ds))
+calm_before : (opcodes : Opcodes) → AllCalm opcodes → (line : ℕ) (ds : List Definition) → All WellFormedDefinition ds
+    → AllCalm (defining_all opcodes (before line ds))
 calm_before opcodes k line [] h = k
 calm_before opcodes k line (d ∷ ds) h =
     by (nat_lt d.line line)
     (calm_before (defining opcodes d) (calm_defining opcodes k d (All-head WellFormedDefinition d ds h)) line ds (All-tail WellFormedDefinition d ds h))
   where
-    by : (b : Bool) → AllCalm (defining_all (defining opcodes d) (before line ds)) → AllCalm (defining_all opcodes (if b then d ∷ before line ds else []))
+    by : (b : Bool) → AllCalm (defining_all (defining opcodes d) (before line ds))
+        → AllCalm (defining_all opcodes (if b then d ∷ before line ds else []))
     by true rest = rest
     by false rest = k
 
 calm_none : AllCalm no_opcodes
 calm_none = record { each = λ name. tt }
 
-calm_instruments : (ds : List Definition) → All WellFormedDefinition ds → (list : List Instrument) → All WellFormedInstrument list → All (λ (i : Instrument). CalmBlock i.body) (map (expanded_instrument ds) list)
+calm_instruments : (ds : List Definition) → All WellFormedDefinition ds → (list : List Instrument)
+    → All WellFormedInstrument list → All (λ (i : Instrument). CalmBlock i.body) (map (expanded_instrument ds) list)
 calm_instruments ds k [] h = All-nil (λ (i : Instrument). CalmBlock i.body)
 calm_instruments ds k (i ∷ rest) h =
     All-cons (λ (x : Instrument). CalmBlock x.body) (expanded_instrument ds i) (map (expanded_instrument ds) rest)
@@ -163,7 +174,8 @@ calm_instruments ds k (i ∷ rest) h =
 
 -- ---- their typed form
 
-call_lacks : (line : ℕ) (n : Known) (c : Callee) (results : List (List ℕ)) (args : List Argument) → c ≢ callee.Opcode op.Zakinit → HasNoZakinit (typed_call line n c results args)
+call_lacks : (line : ℕ) (n : Known) (c : Callee) (results : List (List ℕ)) (args : List Argument)
+    → c ≢ callee.Opcode op.Zakinit → HasNoZakinit (typed_call line n c results args)
 call_lacks line n (callee.Name name) results args h = tt
 call_lacks line n (callee.Opcode o) results args h = λ e. h (ap callee.Opcode e)
 
@@ -181,7 +193,9 @@ mutual
   arms_lack n (otherwise b) h = block_lacks n b h
   arms_lack n (arm c b rest) h = (block_lacks n b h.0, arms_lack (known_block n b) rest h.1)
 
-instruments_lack : (n : Known) (outside : Block) (list : List Instrument) → All (λ (i : Instrument). CalmBlock i.body) list → All (λ (i : typed.Instrument). BlockHasNoZakinit i.body) (typed_instruments n (items outside list))
+instruments_lack : (n : Known) (outside : Block) (list : List Instrument)
+    → All (λ (i : Instrument). CalmBlock i.body) list
+    → All (λ (i : typed.Instrument). BlockHasNoZakinit i.body) (typed_instruments n (items outside list))
 instruments_lack n outside [] h = All-nil (λ (i : typed.Instrument). BlockHasNoZakinit i.body)
 instruments_lack n outside (i ∷ rest) h =
     let m = known_item n (alone (before_line i.line outside)) in
@@ -191,13 +205,15 @@ instruments_lack n outside (i ∷ rest) h =
 
 -- ---- numbers
 
-numbers_kept : (n : Known) (outside : Block) (list : List Instrument) → flat_map (λ (i : typed.Instrument). i.numbers) (typed_instruments n (items outside list)) ≡ all_numbers list
+numbers_kept : (n : Known) (outside : Block) (list : List Instrument)
+    → flat_map (λ (i : typed.Instrument). i.numbers) (typed_instruments n (items outside list)) ≡ all_numbers list
 numbers_kept n outside [] = refl
 numbers_kept n outside (i ∷ rest) =
     ap (λ ns. i.numbers ++ ns)
     (numbers_kept (known_item (known_item n (alone (before_line i.line outside))) (body i)) (from i.line outside) rest)
 
-expanded_numbers : (ds : List Definition) (list : List Instrument) → all_numbers (map (expanded_instrument ds) list) ≡ all_numbers list
+expanded_numbers : (ds : List Definition) (list : List Instrument)
+    → all_numbers (map (expanded_instrument ds) list) ≡ all_numbers list
 expanded_numbers ds [] = refl
 expanded_numbers ds (i ∷ rest) = ap (λ ns. i.numbers ++ ns) (expanded_numbers ds rest)
 
@@ -211,14 +227,16 @@ made_unless : (f : Option OrcFault) (h : Option LimitHit) (o p : Orchestra) → 
 made_unless None h o p e = made_within h o p e
 made_unless (Some f) h o p e = absurd (cc)
 
-pub expansion_lacks : (o p : Orchestra) → IsWellFormed o → expanding o ≡ Ok p → All (λ (i : typed.Instrument). BlockHasNoZakinit i.body) (typed_of p).instrs
+pub expansion_lacks : (o p : Orchestra) → IsWellFormed o → expanding o ≡ Ok p
+    → All (λ (i : typed.Instrument). BlockHasNoZakinit i.body) (typed_of p).instrs
 expansion_lacks o p h e =
     subst (λ (x : Orchestra). All (λ (i : typed.Instrument). BlockHasNoZakinit i.body) (typed_of x).instrs)
     (made_unless (first_fault o) (first_limit o) (expanded_orchestra o) p e)
     (instruments_lack (first_known (expanded_orchestra o)) o.zero (map (expanded_instrument o.opcodes) o.instrs)
     (calm_instruments o.opcodes h.definitions o.instrs h.instruments))
 
-pub expansion_once : (o p : Orchestra) → IsWellFormed o → expanding o ≡ Ok p → IsDistinct eqb (flat_map (λ (i : typed.Instrument). i.numbers) (typed_of p).instrs)
+pub expansion_once : (o p : Orchestra) → IsWellFormed o → expanding o ≡ Ok p
+    → IsDistinct eqb (flat_map (λ (i : typed.Instrument). i.numbers) (typed_of p).instrs)
 expansion_once o p h e =
     subst (λ (x : Orchestra). IsDistinct eqb (flat_map (λ (i : typed.Instrument). i.numbers) (typed_of x).instrs))
     (made_unless (first_fault o) (first_limit o) (expanded_orchestra o) p e)

@@ -42,7 +42,8 @@ no_digit : {A : Type 0} (b : Bool) → digit b ≡ 46 → A
 no_digit true e = absurd (omega (arith, e))
 no_digit false e = absurd (omega (arith, e))
 
-digits_apart : (bs cs : List Bool) (x y : List ℕ) → map digit bs ++ 46 ∷ x ≡ map digit cs ++ 46 ∷ y → (bs ≡ cs) × (x ≡ y)
+digits_apart : (bs cs : List Bool) (x y : List ℕ) → map digit bs ++ 46 ∷ x ≡ map digit cs ++ 46 ∷ y
+    → (bs ≡ cs) × (x ≡ y)
 digits_apart [] [] x y e = (refl, ap rest e)
 digits_apart [] (c ∷ cs) x y e = no_digit c (sym (ap first e))
 digits_apart (b ∷ bs) [] x y e = no_digit b (ap first e)
@@ -95,7 +96,8 @@ stopped f x y h e = absurd (by (fresh f y) refl (subst HasNoStop e h))
     by : (l : List ℕ) → l ≡ fresh f y → HasNoStop (fresh f y) → ⊥
     by l same k = k 1 0 (omega arith) refl
 
-pub own_apart : (f g : ℕ) (x y : List ℕ) → is_global x ≡ false → is_global y ≡ false → Fits f x → Fits g y → own_name f x ≡ own_name g y
+pub own_apart : (f g : ℕ) (x y : List ℕ) → is_global x ≡ false → is_global y ≡ false → Fits f x → Fits g y
+    → own_name f x ≡ own_name g y
     → (f ≡ g) × (x ≡ y)
 own_apart zero zero x y a b p q e = (refl, e)
 own_apart zero (suc g) x y a b p q e = stopped (suc g) x y (p refl) (e ∙ own_fresh g y b)

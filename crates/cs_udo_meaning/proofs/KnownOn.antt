@@ -81,13 +81,15 @@ used_on s None x = shared_stays s
 used_on s (Some channel.Control) x = record { globals = refl; control = seen_on s.control x; sound = stays s.sound }
 used_on s (Some channel.Sound) x = record { globals = refl; control = stays s.control; sound = seen_on s.sound x }
 
-row_later : (n : Known) (row : Row) (results : List (List ℕ)) (args : List Argument) → Later n (row_known n row results args)
+row_later : (n : Known) (row : Row) (results : List (List ℕ)) (args : List Argument)
+    → Later n (row_known n row results args)
 row_later n row results args = record {
   shared = used_on n.shared (channel_use row.shape results args) (text_of args);
   locals = (given_all_later n results).locals;
 }
 
-call_later : (n : Known) (c : Callee) (results : List (List ℕ)) (args : List Argument) → Later n (call_known n c results args)
+call_later : (n : Known) (c : Callee) (results : List (List ℕ)) (args : List Argument)
+    → Later n (call_known n c results args)
 call_later n (callee.Name name) results args = given_all_later n results
 call_later n (callee.Opcode o) results args = row_later n (row_of o) results args
 
@@ -120,7 +122,8 @@ shared_variable : (g h : Table) (x : List ℕ) → h ≡ g
     → variant.Global (global (name_rate x) (place_in g x)) ≡ variant.Global (global (name_rate x) (place_in h x))
 shared_variable g h x e = ap (λ t. variant.Global (global (name_rate x) (place_in t x))) (sym e)
 
-pub variable_known : (n m : Known) (s : Numbering) (x : List ℕ) → Later n m → HasPlaces s m.locals → knows n x ≡ true → variable n x ≡ numbered m.shared s x
+pub variable_known : (n m : Known) (s : Numbering) (x : List ℕ) → Later n m → HasPlaces s m.locals → knows n x ≡ true
+    → variable n x ≡ numbered m.shared s x
 variable_known n m s x l p h = by (is_global x) h
   where
     by : (b : Bool) → (if b then in_table n.shared.globals x else in_table n.locals x) ≡ true
@@ -129,7 +132,8 @@ variable_known n m s x l p h = by (is_global x) h
     by true k = shared_variable n.shared.globals m.shared.globals x l.shared.globals
     by false k = ap (variant.Local (name_rate x)) (sym (p.each x (in_on n.locals m.locals x l.locals k) ∙ place_in_on n.locals m.locals x l.locals k))
 
-pub variable_given : (n m : Known) (s : Numbering) (x : List ℕ) → m.shared.globals ≡ n.shared.globals → TableGoesOn (after_giving n.locals x) m.locals
+pub variable_given : (n m : Known) (s : Numbering) (x : List ℕ) → m.shared.globals ≡ n.shared.globals
+    → TableGoesOn (after_giving n.locals x) m.locals
     → HasPlaces s m.locals
     → variable n x ≡ numbered m.shared s x
 variable_given n m s x e l p = by (is_global x) l
@@ -143,7 +147,8 @@ variable_given n m s x e l p = by (is_global x) l
         ap (variant.Local (name_rate x))
         (sym (p.each x (in_on (added n.locals x) m.locals x k there) ∙ place_in_on (added n.locals x) m.locals x k there ∙ added_place n.locals x))
 
-pub expression_same : (n m : Known) (s : Numbering) (e : Expression) → Later n m → HasPlaces s m.locals → reads_known n e ≡ true
+pub expression_same : (n m : Known) (s : Numbering) (e : Expression) → Later n m → HasPlaces s m.locals
+    → reads_known n e ≡ true
     → typed_expression n e ≡ expression_by (numbered m.shared s) e
 expression_same n m s (number z) l p h = refl
 expression_same n m s (var x) l p h = ap (typed.var (name_rate x)) (variable_known n m s x l p h)
@@ -161,7 +166,8 @@ expression_same n m s (apply f a) l p h = ap (typed.apply (rate_of (apply f a)) 
 
 -- ---- arguments
 
-plain_same : (n m : Known) (s : Numbering) (args : List Argument) → Later n m → HasPlaces s m.locals → all_known n args ≡ true
+plain_same : (n m : Known) (s : Numbering) (args : List Argument) → Later n m → HasPlaces s m.locals
+    → all_known n args ≡ true
     → typed_arguments n None args ≡ arguments_by m.shared (numbered m.shared s) None args
 plain_same n m s [] l p h = refl
 plain_same n m s (value e ∷ rest) l p h =
@@ -169,7 +175,8 @@ plain_same n m s (value e ∷ rest) l p h =
     λ i. typed.value (expression_same n m s e l p k.0 i) ∷ plain_same n m s rest l p k.1 i
 plain_same n m s (text t ∷ rest) l p h = plain_same n m s rest l p h
 
-channel_same : (s r : Shared) (kind : Channel) (t : List ℕ) → SharedGoesOn (used s kind t) r → channel_of s kind t ≡ channel_of r kind t
+channel_same : (s r : Shared) (kind : Channel) (t : List ℕ) → SharedGoesOn (used s kind t) r
+    → channel_of s kind t ≡ channel_of r kind t
 channel_same s r channel.Control t l =
     ap (λ k. variant.Global (res.Control k)) (sym (seen_place s.control t) ∙ sym (place_on (seen s.control t) r.control t l.control (seen_has s.control t)))
 channel_same s r channel.Sound t l =
@@ -180,7 +187,8 @@ text_alone : (n m : Known) (s : Numbering) (kind : Channel) (t : List ℕ) → S
     → typed_arguments n (Some kind) (text t ∷ []) ≡ arguments_by m.shared (numbered m.shared s) (Some kind) (text t ∷ [])
 text_alone n m s kind t l = ap (λ c. typed.text c ∷ []) (channel_same n.shared m.shared kind t l)
 
-value_text : (n m : Known) (s : Numbering) (kind : Channel) (e : Expression) (t : List ℕ) → Later n m → HasPlaces s m.locals → reads_known n e ≡ true
+value_text : (n m : Known) (s : Numbering) (kind : Channel) (e : Expression) (t : List ℕ) → Later n m
+    → HasPlaces s m.locals → reads_known n e ≡ true
     → SharedGoesOn (used n.shared kind t) m.shared
     → typed_arguments n (Some kind) (value e ∷ text t ∷ []) ≡ arguments_by m.shared (numbered m.shared s) (Some kind) (value e ∷ text t ∷ [])
 value_text n m s kind e t l p h on =
@@ -212,7 +220,8 @@ first_known_of : (a b : Bool) → (a && (true && b)) ≡ true → a ≡ true
 first_known_of true b h = refl
 first_known_of false b h = absurd (cc h)
 
-arguments_same : (n m : Known) (s : Numbering) (o : Opcode) (b : Rate) (results : List (List ℕ)) (args : List Argument) → Later n m → HasPlaces s m.locals
+arguments_same : (n m : Known) (s : Numbering) (o : Opcode) (b : Rate) (results : List (List ℕ)) (args : List Argument)
+    → Later n m → HasPlaces s m.locals
     → takes_count (row_of o) (length args) ≡ true → all_fit (row_of o) b 0 args ≡ true → all_known n args ≡ true
     → SharedGoesOn (use_channel n.shared (channel_use (row_of o).shape results args) (text_of args)) m.shared
     → typed_arguments n (channel_use (row_of o).shape results args) args
@@ -271,7 +280,8 @@ no_rule_broken true false c d e h = absurd (cc h)
 no_rule_broken false b c d e h = absurd (cc h)
 
 row_same : (q : Setting) (n m : Known) (s : Numbering) (line : ℕ) (o : Opcode) (results : List (List ℕ)) (args : List Argument)
-    → row_fault q n (row_of o) results args ≡ None → Later (row_known n (row_of o) results args) m → HasPlaces s m.locals
+    → row_fault q n (row_of o) results args ≡ None → Later (row_known n (row_of o) results args) m
+    → HasPlaces s m.locals
     → typed_row line n o (row_of o) results args ≡ row_by line m.shared (numbered m.shared s) o (row_of o) results args
 row_same q n m s line o results args h l p =
     let row = row_of o in
@@ -303,21 +313,25 @@ pub both_none : (f g : Option OrcFault) → option_or f g ≡ None → (f ≡ No
 both_none None g h = (refl, h)
 both_none (Some f) g h = absurd (cc h)
 
-nothing_unknown : (b c : Bool) → (if not b then Some orc.Undefined else (if not c then Some orc.RateMismatch else None)) ≡ None → b ≡ true
+nothing_unknown : (b c : Bool)
+    → (if not b then Some orc.Undefined else (if not c then Some orc.RateMismatch else None)) ≡ None → b ≡ true
 nothing_unknown true c h = refl
 nothing_unknown false c h = absurd (cc h)
 
-set_known : (q : Setting) (n : Known) (line : ℕ) (x : List ℕ) (e : Expression) → at line (set_fault q n x e) ≡ None → reads_known n e ≡ true
+set_known : (q : Setting) (n : Known) (line : ℕ) (x : List ℕ) (e : Expression) → at line (set_fault q n x e) ≡ None
+    → reads_known n e ≡ true
 set_known q n line x e h =
     nothing_unknown (reads_known n e) (is_value e && within (rate_of e) (name_rate x) && (q.inside || is_init (name_rate x)))
     (at_none line (set_fault q n x e) h)
 
-condition_known : (q : Setting) (n : Known) (line : ℕ) (e : Expression) → at line (condition_fault q n e) ≡ None → reads_known n e ≡ true
+condition_known : (q : Setting) (n : Known) (line : ℕ) (e : Expression) → at line (condition_fault q n e) ≡ None
+    → reads_known n e ≡ true
 condition_known q n line e h =
     nothing_unknown (reads_known n e) (is_condition e && (q.inside || is_init (rate_of e))) (at_none line (condition_fault q n e) h)
 
 mutual
-  pub statement_same : (q : Setting) (n m : Known) (s : Numbering) (x : Statement) → fault q n x ≡ None → Later (known n x) m → HasPlaces s m.locals
+  pub statement_same : (q : Setting) (n m : Known) (s : Numbering) (x : Statement) → fault q n x ≡ None
+      → Later (known n x) m → HasPlaces s m.locals
       → typed_statement n x ≡ statement_by m.shared (numbered m.shared s) x
   statement_same q n m s (set line x e) h l p =
       let whole : Later n m = later_further n (given n x) m (given_later n x) l in
@@ -327,7 +341,8 @@ mutual
       call_same q n m s line c results args (at_none line (call_fault q n c results args) h) l p
   statement_same q n m s (choose line list) h l p = ap (typed.choose line (choice_rate list)) (arms_same q n m s line list h l p)
 
-  pub block_same : (q : Setting) (n m : Known) (s : Numbering) (b : Block) → block_fault q n b ≡ None → Later (known_block n b) m → HasPlaces s m.locals
+  pub block_same : (q : Setting) (n m : Known) (s : Numbering) (b : Block) → block_fault q n b ≡ None
+      → Later (known_block n b) m → HasPlaces s m.locals
       → typed_block n b ≡ block_by m.shared (numbered m.shared s) b
   block_same q n m s no_stmt h l p = refl
   block_same q n m s (andthen x rest) h l p =
@@ -335,7 +350,8 @@ mutual
       let after : Later (known n x) m = later_further (known n x) (known_block (known n x) rest) m (known_block_later (known n x) rest) l in
       λ i. typed.andthen (statement_same q n m s x parts.0 after p i) (block_same q (known n x) m s rest parts.1 l p i)
 
-  pub arms_same : (q : Setting) (n m : Known) (s : Numbering) (line : ℕ) (list : Arms) → arms_fault q n line list ≡ None → Later (known_arms n list) m
+  pub arms_same : (q : Setting) (n m : Known) (s : Numbering) (line : ℕ) (list : Arms) → arms_fault q n line list ≡ None
+      → Later (known_arms n list) m
       → HasPlaces s m.locals → typed_arms n list ≡ arms_by m.shared (numbered m.shared s) list
   arms_same q n m s line (otherwise b) h l p = ap typed.otherwise (block_same q n m s b h l p)
   arms_same q n m s line (arm c b rest) h l p =

@@ -27,7 +27,8 @@ has_before : (xs rest : List (List ℕ)) (x : List ℕ) → has xs x ≡ true �
 has_before [] rest x h = absurd (cc h)
 has_before (y ∷ xs) rest x h = by (bytes_eq x y) h (has_before xs rest x)
   where
-    by : (b : Bool) → (b || has xs x) ≡ true → (has xs x ≡ true → has (xs ++ rest) x ≡ true) → (b || has (xs ++ rest) x) ≡ true
+    by : (b : Bool) → (b || has xs x) ≡ true → (has xs x ≡ true → has (xs ++ rest) x ≡ true)
+        → (b || has (xs ++ rest) x) ≡ true
     by true k f = refl
     by false k f = f k
 
@@ -114,7 +115,8 @@ with_name_has rate.Init t x = seen_has t.init x
 with_name_has rate.Control t x = seen_has t.control x
 with_name_has rate.Audio t x = seen_has t.audio x
 
-with_name_place : (q : Rate) (t : Table) (x : List ℕ) → place_of (of_rate q (with_name q t x)) x ≡ place_of (of_rate q t) x
+with_name_place : (q : Rate) (t : Table) (x : List ℕ)
+    → place_of (of_rate q (with_name q t x)) x ≡ place_of (of_rate q t) x
 with_name_place rate.Init t x = seen_place t.init x
 with_name_place rate.Control t x = seen_place t.control x
 with_name_place rate.Audio t x = seen_place t.audio x

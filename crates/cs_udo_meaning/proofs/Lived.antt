@@ -66,14 +66,16 @@ new_stands flat own x = record { locals = λ f y e fits. refl; kept = refl; worl
 
 cycles_alike : {W : Type 0} (m : Reading W) (ds : List Definition) (i : Instrument) (flat : Numbering) (body : core.Block)
     → ((t : Note W) (u : Framed W) → Stands flat m.number t u → Stands flat m.number (performing.perf_block m.world start body t) (performs m ds i u))
-    → (others : List (W → W)) (t : Note W) (u : Framed W) → Stands flat m.number t u → goes_on m.world body others t ≡ goes_on_framed m ds i others u
+    → (others : List (W → W)) (t : Note W) (u : Framed W) → Stands flat m.number t u
+    → goes_on m.world body others t ≡ goes_on_framed m ds i others u
 cycles_alike m ds i flat body step [] t u stand = ap (λ x. x ∷ []) stand.world
 cycles_alike m ds i flat body step (act ∷ more) t u stand =
     let moved = moved_stands flat m.number t u (act t.world) (act u.world) stand (ap act stand.world) in
     λ j. stand.world j ∷ cycles_alike m ds i flat body step more (performing.perf_block m.world start body (moved_to (act t.world) t))
     (performs m ds i (framed_in (act u.world) u)) (step (moved_to (act t.world) t) (framed_in (act u.world) u) moved) j
 
-instrument_means : (W : Type 0) (ds : List Definition) (g : Shared) (i : Instrument) (made : typed.Instrument) → WellFormedInstrument i
+instrument_means : (W : Type 0) (ds : List Definition) (g : Shared) (i : Instrument) (made : typed.Instrument)
+    → WellFormedInstrument i
     → IsNumberedInstrument g (expanded_instrument ds i) made → MeansFrames W ds g i made
 instrument_means W ds g i made well h = record {
   line = h.line;
@@ -91,13 +93,15 @@ instrument_means W ds g i made well h = record {
     flat : Numbering
     flat = h.body.number
 
-    starts : (o : World W) (spaces : Spaces) (own : Numbering) → Tells own → (t : Note W) (u : Framed W) → Stands flat own t u
+    starts : (o : World W) (spaces : Spaces) (own : Numbering) → Tells own → (t : Note W) (u : Framed W)
+        → Stands flat own t u
         → Stands flat own (initial.init_block o start (core.core spaces made.body) t) (begins (reading o spaces g own) ds i u)
     starts o spaces own to t u stand =
         subst (λ b. Stands flat own (initial.init_block o start (core.core spaces b) t) (begins (reading o spaces g own) ds i u)) (sym h.body.is)
         (expanded_begins ds i well flat h.body.apart (reading o spaces g own) to t u stand)
 
-    goes : (o : World W) (spaces : Spaces) (own : Numbering) → Tells own → (t : Note W) (u : Framed W) → Stands flat own t u
+    goes : (o : World W) (spaces : Spaces) (own : Numbering) → Tells own → (t : Note W) (u : Framed W)
+        → Stands flat own t u
         → Stands flat own (performing.perf_block o start (core.core spaces made.body) t) (performs (reading o spaces g own) ds i u)
     goes o spaces own to t u stand =
         subst (λ b. Stands flat own (performing.perf_block o start (core.core spaces b) t) (performs (reading o spaces g own) ds i u)) (sym h.body.is)
@@ -106,10 +110,12 @@ instrument_means W ds g i made well h = record {
 first_of : (i : Instrument) (list : List Instrument) → All WellFormedInstrument (i ∷ list) → WellFormedInstrument i
 first_of i list h = h 0 i (omega arith)
 
-others_of : (i : Instrument) (list : List Instrument) → All WellFormedInstrument (i ∷ list) → All WellFormedInstrument list
+others_of : (i : Instrument) (list : List Instrument) → All WellFormedInstrument (i ∷ list)
+    → All WellFormedInstrument list
 others_of i list h = λ k d below. h (suc k) d (omega (arith, below))
 
-each_means : (W : Type 0) (ds : List Definition) (g : Shared) (list : List Instrument) (made : List typed.Instrument) → All WellFormedInstrument list
+each_means : (W : Type 0) (ds : List Definition) (g : Shared) (list : List Instrument) (made : List typed.Instrument)
+    → All WellFormedInstrument list
     → AllZip (IsNumberedInstrument g) (map (expanded_instrument ds) list) made → AllZip (MeansFrames W ds g) list made
 each_means W ds g [] [] well h = h
 each_means W ds g [] (t ∷ made) well h = h
@@ -120,12 +126,14 @@ each_means W ds g (i ∷ list) (t ∷ made) well h =
 pub expanded_is : (o made : Orchestra) → expanding o ≡ Ok made → made ≡ expanded_orchestra o
 expanded_is o made h = by (first_fault o) (first_limit o) h
   where
-    by : (f : Option OrcFault) (l : Option LimitHit) → unless f (within l (expanded_orchestra o)) ≡ Ok made → made ≡ expanded_orchestra o
+    by : (f : Option OrcFault) (l : Option LimitHit) → unless f (within l (expanded_orchestra o)) ≡ Ok made
+        → made ≡ expanded_orchestra o
     by None None e = cc e
     by None (Some l) e = absurd (cc e)
     by (Some f) l e = absurd (cc e)
 
-pub calls_mean_frames : (W : Type 0) (o made : Orchestra) → IsWellFormed o → expanding o ≡ Ok made → type_fault made ≡ None
+pub calls_mean_frames : (W : Type 0) (o made : Orchestra) → IsWellFormed o → expanding o ≡ Ok made
+    → type_fault made ≡ None
     → AllZip (MeansFrames W o.opcodes (shared_of made)) o.instrs (typed_of made).instrs
 calls_mean_frames W o made well h right =
     each_means W o.opcodes (shared_of made) o.instrs (typed_of made).instrs well.instruments

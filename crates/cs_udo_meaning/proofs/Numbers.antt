@@ -47,11 +47,13 @@ place_low : (xs : List (List ℕ)) (x : List ℕ) → has xs x ≡ true → plac
 place_low [] x h = absurd (cc h)
 place_low (y ∷ xs) x h = by (bytes_eq x y) h (place_low xs x)
   where
-    by : (b : Bool) → (b || has xs x) ≡ true → (has xs x ≡ true → place_of xs x < length xs) → cond (not b) (1 + place_of xs x) 0 < suc (length xs)
+    by : (b : Bool) → (b || has xs x) ≡ true → (has xs x ≡ true → place_of xs x < length xs)
+        → cond (not b) (1 + place_of xs x) 0 < suc (length xs)
     by true k f = omega arith
     by false k f = omega (arith, f k)
 
-place_apart : (xs : List (List ℕ)) (x y : List ℕ) → has xs x ≡ true → has xs y ≡ true → place_of xs x ≡ place_of xs y → x ≡ y
+place_apart : (xs : List (List ℕ)) (x y : List ℕ) → has xs x ≡ true → has xs y ≡ true → place_of xs x ≡ place_of xs y
+    → x ≡ y
 place_apart [] x y h k e = absurd (cc h)
 place_apart (z ∷ xs) x y h k e = by (bytes_eq x z) (bytes_eq y z) refl refl h k e (place_apart xs x y)
   where
@@ -70,11 +72,13 @@ pub number_places : (t : Table) → HasPlaces (number_in t) t
 number_places t = record { each = λ x h. ap (λ b. if b then place_in t x else length (of_rate (name_rate x) t) + spelled x) h }
 
 numbers_apart : (names : List (List ℕ)) (x y : List ℕ)
-    → (if has names x then place_of names x else length names + spelled x) ≡ (if has names y then place_of names y else length names + spelled y) → x ≡ y
+    → (if has names x then place_of names x else length names + spelled x) ≡ (if has names y then place_of names y else length names + spelled y)
+    → x ≡ y
 numbers_apart names x y e = by (has names x) (has names y) refl refl e
   where
     by : (b c : Bool) → has names x ≡ b → has names y ≡ c
-        → (if b then place_of names x else length names + spelled x) ≡ (if c then place_of names y else length names + spelled y) → x ≡ y
+        → (if b then place_of names x else length names + spelled x) ≡ (if c then place_of names y else length names + spelled y)
+        → x ≡ y
     by true true p q e = place_apart names x y p q e
     by true false p q e = absurd (omega (arith, e, place_low names x p))
     by false true p q e = absurd (omega (arith, e, place_low names y q))

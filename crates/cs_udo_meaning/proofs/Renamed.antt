@@ -47,12 +47,14 @@ expression_renamed own k v (pick c a b) =
     λ i. typed.pick (rate_kept own k (pick c a b) i) (expression_renamed own k v c i) (expression_renamed own k v a i) (expression_renamed own k v b i)
 expression_renamed own k v (apply f a) = λ i. typed.apply (rate_kept own k (apply f a) i) f (expression_renamed own k v a i)
 
-sound_kept : (own : List ℕ → List ℕ) → KeepsRates own → (args : List Argument) → any_sound (map (renamed_argument own) args) ≡ any_sound args
+sound_kept : (own : List ℕ → List ℕ) → KeepsRates own → (args : List Argument)
+    → any_sound (map (renamed_argument own) args) ≡ any_sound args
 sound_kept own k [] = refl
 sound_kept own k (value e ∷ args) = λ i. is_audio (rate_kept own k e i) || sound_kept own k args i
 sound_kept own k (text t ∷ args) = λ i. false || sound_kept own k args i
 
-still_kept : (own : List ℕ → List ℕ) → KeepsRates own → (args : List Argument) → list_all is_still (map (renamed_argument own) args) ≡ list_all is_still args
+still_kept : (own : List ℕ → List ℕ) → KeepsRates own → (args : List Argument)
+    → list_all is_still (map (renamed_argument own) args) ≡ list_all is_still args
 still_kept own k [] = refl
 still_kept own k (value e ∷ args) = λ i. is_init (rate_kept own k e i) && still_kept own k args i
 still_kept own k (text t ∷ args) = λ i. true && still_kept own k args i
@@ -87,18 +89,21 @@ call_rate_kept own k sh [] args =
     (if is_writing sh && still_kept own k args i then rate.Init else (if sound_kept own k args i then rate.Audio else rate.Control))
 call_rate_kept own k sh (x ∷ xs) args = ap (λ q. if is_starting sh then rate.Init else q) (k.rate x)
 
-argument_renamed : (own : List ℕ → List ℕ) → KeepsRates own → (g : Shared) (v : Variables) (role : Option Channel) (a : Argument)
+argument_renamed : (own : List ℕ → List ℕ) → KeepsRates own
+    → (g : Shared) (v : Variables) (role : Option Channel) (a : Argument)
     → argument_by g v role (renamed_argument own a) ≡ argument_by g (λ x. v (own x)) role a
 argument_renamed own k g v role (value e) = ap (λ x. typed.value x ∷ []) (expression_renamed own k v e)
 argument_renamed own k g v None (text t) = refl
 argument_renamed own k g v (Some kind) (text t) = refl
 
-arguments_renamed : (own : List ℕ → List ℕ) → KeepsRates own → (g : Shared) (v : Variables) (role : Option Channel) (args : List Argument)
+arguments_renamed : (own : List ℕ → List ℕ) → KeepsRates own
+    → (g : Shared) (v : Variables) (role : Option Channel) (args : List Argument)
     → arguments_by g v role (map (renamed_argument own) args) ≡ arguments_by g (λ x. v (own x)) role args
 arguments_renamed own k g v role [] = refl
 arguments_renamed own k g v role (a ∷ args) = λ i. argument_renamed own k g v role a i ++ arguments_renamed own k g v role args i
 
-results_renamed : (own : List ℕ → List ℕ) (v : Variables) (xs : List (List ℕ)) → map v (map own xs) ≡ map (λ x. v (own x)) xs
+results_renamed : (own : List ℕ → List ℕ) (v : Variables) (xs : List (List ℕ))
+    → map v (map own xs) ≡ map (λ x. v (own x)) xs
 results_renamed own v [] = refl
 results_renamed own v (x ∷ xs) = ap (λ l. v (own x) ∷ l) (results_renamed own v xs)
 
@@ -111,7 +116,8 @@ row_renamed own k g v line o row xs args =
     ∙ λ i. typed.call line (call_rate_kept own k row.shape xs args i) (results_renamed own v xs i) o
     (arguments_renamed own k g v (channel_use row.shape xs args) args i)
 
-pub set_renamed : (own : List ℕ → List ℕ) → KeepsRates own → (g : Shared) (v : Variables) (line : ℕ) (x : List ℕ) (e : Expression)
+pub set_renamed : (own : List ℕ → List ℕ) → KeepsRates own
+    → (g : Shared) (v : Variables) (line : ℕ) (x : List ℕ) (e : Expression)
     → statement_by g v (set line (own x) (renamed own e)) ≡ statement_by g (λ y. v (own y)) (set line x e)
 set_renamed own k g v line x e = λ i. typed.set line (k.rate x i) (v (own x)) (expression_renamed own k v e i)
 

@@ -58,12 +58,15 @@ same_reg_here r s n m e f = ap (λ q. same_reg (reg q n) (reg s m)) e ∙ ap (λ
 
 pub data SameVariable (flat own : Numbering) (f : ℕ) : Variable → Variable → Type 0 where
   both_shared : (g : Res) → SameVariable flat own f (Global g) (Global g)
-  both_own : (x : List ℕ) → is_global x ≡ false → Fits f x → SameVariable flat own f (Local (name_rate x) (flat (own_name f x))) (Local (name_rate x) (own x))
+  both_own : (x : List ℕ) → is_global x ≡ false → Fits f x
+      → SameVariable flat own f (Local (name_rate x) (flat (own_name f x))) (Local (name_rate x) (own x))
 
-numbered_shared : (g : Shared) (s : Numbering) (x : List ℕ) → is_global x ≡ true → numbered g s x ≡ Global (global (name_rate x) (place_in g.globals x))
+numbered_shared : (g : Shared) (s : Numbering) (x : List ℕ) → is_global x ≡ true
+    → numbered g s x ≡ Global (global (name_rate x) (place_in g.globals x))
 numbered_shared g s x e = ap (λ b. if b then Global (global (name_rate x) (place_in g.globals x)) else Local (name_rate x) (s x)) e
 
-numbered_own : (g : Shared) (s : Numbering) (x : List ℕ) → is_global x ≡ false → numbered g s x ≡ Local (name_rate x) (s x)
+numbered_own : (g : Shared) (s : Numbering) (x : List ℕ) → is_global x ≡ false
+    → numbered g s x ≡ Local (name_rate x) (s x)
 numbered_own g s x e = ap (λ b. if b then Global (global (name_rate x) (place_in g.globals x)) else Local (name_rate x) (s x)) e
 
 pub variable_alike : (g : Shared) (flat own : Numbering) (f : ℕ) (x : List ℕ) → Fits f x
@@ -84,7 +87,8 @@ variable_alike g flat own f x fits = by (is_global x) refl
 
 -- ---- what is typed with them
 
-channel_alike : (V : Variable → Variable → Type 0) → ((g : Res) → V (Global g) (Global g)) → (g : Shared) (kind : Channel) (t : List ℕ)
+channel_alike : (V : Variable → Variable → Type 0) → ((g : Res) → V (Global g) (Global g))
+    → (g : Shared) (kind : Channel) (t : List ℕ)
     → V (channel_of g kind t) (channel_of g kind t)
 channel_alike V k g channel.Control t = k _
 channel_alike V k g channel.Sound t = k _
@@ -117,7 +121,8 @@ module _ {V : Variable → Variable → Type 0} {P : List ℕ → Type 0} (v w :
       → AlikeStmt V (core_stmt spaces (statement_by g v (set line x e))) (core_stmt spaces (statement_by g w (set line x e)))
   set_alike spaces g line x e n m = alike_set (name_rate x) (v x) (w x) _ _ (h x n) (expression_alike e m)
 
-  pub call_alike : (spaces : _) (g : Shared) (line : ℕ) (xs : List (List ℕ)) (c : Callee) (args : List Argument) → NamedAll P xs → NamedArguments P args
+  pub call_alike : (spaces : _) (g : Shared) (line : ℕ) (xs : List (List ℕ)) (c : Callee) (args : List Argument)
+      → NamedAll P xs → NamedArguments P args
       → AlikeStmt V (core_stmt spaces (statement_by g v (call line xs c args))) (core_stmt spaces (statement_by g w (call line xs c args)))
   call_alike spaces g line xs (callee.Name name) args n m = alike_empty rate.Init
   call_alike spaces g line xs (callee.Opcode o) args n m =
@@ -127,16 +132,19 @@ module _ {V : Variable → Variable → Type 0} {P : List ℕ → Type 0} (v w :
 -- ---- a note, and the note that a frame sees
 
 pub record Seen {W : Type 0} (flat own : Numbering) (f : ℕ) (u : Framed W) (t s : Note W) : Type 0 where
-  pub mine : (x : List ℕ) → is_global x ≡ false → Fits f x → t.locals (reg (name_rate x) (flat (own_name f x))) ≡ s.locals (reg (name_rate x) (own x))
+  pub mine : (x : List ℕ) → is_global x ≡ false → Fits f x
+      → t.locals (reg (name_rate x) (flat (own_name f x))) ≡ s.locals (reg (name_rate x) (own x))
   pub others : (g : ℕ) (x : List ℕ) → (g == f) ≡ false → is_global x ≡ false → Fits g x
       → t.locals (reg (name_rate x) (flat (own_name g x))) ≡ u.frames g (reg (name_rate x) (own x))
   pub kept : t.kept ≡ s.kept
   pub world : t.world ≡ s.world
 
-pub to_seen : {W : Type 0} (flat own : Numbering) (f : ℕ) (t : Note W) (u : Framed W) → Stands flat own t u → Seen flat own f u t (seen_from f u)
+pub to_seen : {W : Type 0} (flat own : Numbering) (f : ℕ) (t : Note W) (u : Framed W) → Stands flat own t u
+    → Seen flat own f u t (seen_from f u)
 to_seen flat own f t u h = record { mine = h.locals f; others = λ g x apart. h.locals g x; kept = h.kept; world = h.world }
 
-pub from_seen : {W : Type 0} (flat own : Numbering) (f : ℕ) (t s : Note W) (u : Framed W) → Seen flat own f u t s → Stands flat own t (put_back f s u)
+pub from_seen : {W : Type 0} (flat own : Numbering) (f : ℕ) (t s : Note W) (u : Framed W) → Seen flat own f u t s
+    → Stands flat own t (put_back f s u)
 from_seen {W} flat own f t s u h = record { locals = each; kept = h.kept; world = h.world }
   where
     each : (g : ℕ) (x : List ℕ) → is_global x ≡ false → Fits g x
@@ -150,7 +158,8 @@ from_seen {W} flat own f t s u h = record { locals = each; kept = h.kept; world 
         by false other = h.others g x other e fits
 
 module _ {W : Type 0} (o : World W) (flat own : Numbering) (tf : Tells flat) (to : Tells own) (f : ℕ) (u : Framed W) where
-  mine_put : (t s : Note W) → Seen flat own f u t s → (x y : List ℕ) → is_global x ≡ false → is_global y ≡ false → Fits f x → Fits f y → (a : Wave)
+  mine_put : (t s : Note W) → Seen flat own f u t s → (x y : List ℕ) → is_global x ≡ false → is_global y ≡ false
+      → Fits f x → Fits f y → (a : Wave)
       → put t.locals (reg (name_rate x) (flat (own_name f x))) a (reg (name_rate y) (flat (own_name f y)))
       ≡ put s.locals (reg (name_rate x) (own x)) a (reg (name_rate y) (own y))
   mine_put t s h x y ex ey fx fy a =
@@ -173,7 +182,8 @@ module _ {W : Type 0} (o : World W) (flat own : Numbering) (tf : Tells flat) (to
           let one = to y x k.0 k.1 in
           same_reg_here (name_rate y) (name_rate x) (flat (own_name f y)) (flat (own_name f x)) k.0 (ap (λ z. flat (own_name f z)) one)
 
-  others_put : (t s : Note W) → Seen flat own f u t s → (x : List ℕ) → is_global x ≡ false → Fits f x → (a : Wave) (g : ℕ) (y : List ℕ)
+  others_put : (t s : Note W) → Seen flat own f u t s → (x : List ℕ) → is_global x ≡ false → Fits f x
+      → (a : Wave) (g : ℕ) (y : List ℕ)
       → (g == f) ≡ false → is_global y ≡ false → Fits g y
       → put t.locals (reg (name_rate x) (flat (own_name f x))) a (reg (name_rate y) (flat (own_name g y))) ≡ u.frames g (reg (name_rate y) (own y))
   others_put t s h x ex fx a g y apart ey fy = by p refl
@@ -181,7 +191,8 @@ module _ {W : Type 0} (o : World W) (flat own : Numbering) (tf : Tells flat) (to
       p : Bool
       p = same_reg (reg (name_rate y) (flat (own_name g y))) (reg (name_rate x) (flat (own_name f x)))
 
-      by : (b : Bool) → p ≡ b → (if b then a else t.locals (reg (name_rate y) (flat (own_name g y)))) ≡ u.frames g (reg (name_rate y) (own y))
+      by : (b : Bool) → p ≡ b
+          → (if b then a else t.locals (reg (name_rate y) (flat (own_name g y)))) ≡ u.frames g (reg (name_rate y) (own y))
       by true e =
           let k = same_reg_is (name_rate y) (name_rate x) (flat (own_name g y)) (flat (own_name f x)) e in
           let names = tf (own_name g y) (own_name f x) (own_rate g y ∙ k.0 ∙ sym (own_rate f x)) k.1 in
@@ -204,7 +215,8 @@ module _ {W : Type 0} (o : World W) (flat own : Numbering) (tf : Tells flat) (to
     world = h.world;
   }
 
-  looked : (t s : Note W) → Seen flat own f u t s → (r : Rate) (v w : Variable) → SameVariable flat own f v w → look o t r v ≡ look o s r w
+  looked : (t s : Note W) → Seen flat own f u t s → (r : Rate) (v w : Variable) → SameVariable flat own f v w
+      → look o t r v ≡ look o s r w
   looked t s h r _ _ (both_shared g) = ap (λ x. held o.ksmps r (o.load g x)) h.world
   looked t s h r _ _ (both_own x e fits) = h.mine x e fits
 

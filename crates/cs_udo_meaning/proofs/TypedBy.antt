@@ -25,7 +25,8 @@ items_later n (x ∷ rest) =
 
 -- ---- instruments
 
-instrument_numbered : (channels : ℕ) (n : Known) (i : Instrument) (g : Shared) → block_fault (inside channels) (entered n) i.body ≡ None
+instrument_numbered : (channels : ℕ) (n : Known) (i : Instrument) (g : Shared)
+    → block_fault (inside channels) (entered n) i.body ≡ None
     → SharedGoesOn (known_block (entered n) i.body).shared g → IsNumberedInstrument g i (typed_instrument n i)
 instrument_numbered channels n i g h l = record {
   line = refl;
@@ -41,8 +42,10 @@ instrument_numbered channels n i g h l = record {
     known : Known
     known = known_block (entered n) i.body
 
-pub instruments_numbered : (channels : ℕ) (n : Known) (b : Block) (list : List Instrument) (g : Shared) → items_fault channels n (items b list) ≡ None
-    → SharedGoesOn (known_items n (items b list)).shared g → AllZip (IsNumberedInstrument g) list (typed_instruments n (items b list))
+pub instruments_numbered : (channels : ℕ) (n : Known) (b : Block) (list : List Instrument) (g : Shared)
+    → items_fault channels n (items b list) ≡ None
+    → SharedGoesOn (known_items n (items b list)).shared g
+    → AllZip (IsNumberedInstrument g) list (typed_instruments n (items b list))
 instruments_numbered channels n b [] g h l = tt
 instruments_numbered channels n b (i ∷ rest) g h l =
     let first = before i.line b in
@@ -62,18 +65,22 @@ then_nothing : (b : typed.Block) → typed.then_block b typed.no_stmt ≡ b
 then_nothing typed.no_stmt = refl
 then_nothing (typed.andthen x rest) = ap (typed.andthen x) (then_nothing rest)
 
-cut : (g : Shared) (v : Variables) (line : ℕ) (b : Block) → typed.then_block (block_by g v (before line b)) (block_by g v (from line b)) ≡ block_by g v b
+cut : (g : Shared) (v : Variables) (line : ℕ) (b : Block)
+    → typed.then_block (block_by g v (before line b)) (block_by g v (from line b)) ≡ block_by g v b
 cut g v line no_stmt = refl
 cut g v line (andthen x rest) = by (nat_lt (line_of x) line) (cut g v line rest)
   where
-    by : (c : Bool) → typed.then_block (block_by g v (before line rest)) (block_by g v (from line rest)) ≡ block_by g v rest
+    by : (c : Bool)
+        → typed.then_block (block_by g v (before line rest)) (block_by g v (from line rest)) ≡ block_by g v rest
         → typed.then_block (block_by g v (if c then andthen x (before line rest) else no_stmt)) (block_by g v (if c then from line rest else andthen x rest))
         ≡ typed.andthen (statement_by g v x) (block_by g v rest)
     by true h = ap (typed.andthen (statement_by g v x)) h
     by false h = refl
 
-outside_same : (channels : ℕ) (n : Known) (b : Block) (list : List Instrument) (m : Known) (s : Numbering) → items_fault channels n (items b list) ≡ None
-    → Later (known_items n (items b list)) m → HasPlaces s m.locals → typed_outside n (items b list) ≡ block_by m.shared (numbered m.shared s) b
+outside_same : (channels : ℕ) (n : Known) (b : Block) (list : List Instrument) (m : Known) (s : Numbering)
+    → items_fault channels n (items b list) ≡ None
+    → Later (known_items n (items b list)) m → HasPlaces s m.locals
+    → typed_outside n (items b list) ≡ block_by m.shared (numbered m.shared s) b
 outside_same channels n b [] m s h l p =
     let parts = both_none (item_fault channels n (alone b)) None h in
     then_nothing (typed_block n b) ∙ block_same (outside channels) n m s b parts.0 l p
@@ -89,7 +96,8 @@ outside_same channels n b (i ∷ rest) m s h l p =
     (λ j. typed.then_block (block_same (outside channels) n m s first parts.0 here p j) (outside_same channels next other rest m s halves.1 l p j))
     ∙ cut m.shared (numbered m.shared s) i.line b
 
-no_fault : (o : Orchestra) → type_fault o ≡ None → items_fault (header o.head).nchnls (first_known o) (items o.zero o.instrs) ≡ None
+no_fault : (o : Orchestra) → type_fault o ≡ None
+    → items_fault (header o.head).nchnls (first_known o) (items o.zero o.instrs) ≡ None
 no_fault o h = (both_none (settings_fault o.head o.zero) (items_fault (header o.head).nchnls (first_known o) (items o.zero o.instrs)) h).1
 
 pub outside_numbered : (o : Orchestra) → type_fault o ≡ None → IsNumbered (shared_of o) o.zero (typed_of o).zero
@@ -102,6 +110,7 @@ outside_numbered o h =
           (number_places known.locals);
     }
 
-pub all_numbered : (o : Orchestra) → type_fault o ≡ None → AllZip (IsNumberedInstrument (shared_of o)) o.instrs (typed_of o).instrs
+pub all_numbered : (o : Orchestra) → type_fault o ≡ None
+    → AllZip (IsNumberedInstrument (shared_of o)) o.instrs (typed_of o).instrs
 all_numbered o h =
     instruments_numbered (header o.head).nchnls (first_known o) o.zero o.instrs (shared_of o) (no_fault o h) (shared_stays (shared_of o))

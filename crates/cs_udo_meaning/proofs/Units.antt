@@ -20,6 +20,8 @@ mutual
   stmt_grows : (p : Place) (s : core.Stmt) → p.unit ≤ (past_stmt p s).unit
   stmt_grows p (core.set r v e) = omega arith
   stmt_grows p (core.unit r vs o k xs is) = omega arith
+  stmt_grows p (core.zak r vs o k xs) = omega arith
+  stmt_grows p (core.store r o k es is) = omega arith
   stmt_grows p (core.out r es) = omega arith
   stmt_grows p (core.out_at r es) = omega arith
   stmt_grows p (core.ask es) = omega arith
@@ -41,6 +43,8 @@ mutual
 stmt_ascends : (p : Place) (s : core.Stmt) → Ascend p.unit (past_stmt p s).unit (unit_of p s)
 stmt_ascends p (core.set r v e) = omega arith
 stmt_ascends p (core.unit r vs o k xs is) = (omega arith, omega arith)
+stmt_ascends p (core.zak r vs o k xs) = omega arith
+stmt_ascends p (core.store r o k es is) = omega arith
 stmt_ascends p (core.out r es) = omega arith
 stmt_ascends p (core.out_at r es) = omega arith
 stmt_ascends p (core.ask es) = omega arith
@@ -67,7 +71,8 @@ module _ {W : Type 0} (m : Reading W) where
   called_rising env k (callee.Opcode o) = tt
   called_rising env k (callee.Name name) = k.each name
 
-  called_rises : (p : Spot) (x : Statement) (xs : List (List ℕ)) (args : List Argument) (a : Option (Action W)) → Rising a
+  called_rises : (p : Spot) (x : Statement) (xs : List (List ℕ)) (args : List Argument) (a : Option (Action W))
+      → Rising a
       → Ascend p.place.unit (past_any m p x xs args a).place.unit (units_of_call m p x args a)
   called_rises p x xs args None h = stmt_ascends p.place (read m x)
   called_rises p x xs args (Some a) h =
@@ -82,14 +87,16 @@ module _ {W : Type 0} (m : Reading W) where
       rises p (call line xs c args) = called_rises p (call line xs c args) xs args (action_of env c) (called_rising env k c)
       rises p (choose line list) = arms_rise p list
 
-      block_rises : (p : Spot) (b : Block) → Ascend p.place.unit (past_block m env p b).place.unit (units_of_block m env p b)
+      block_rises : (p : Spot) (b : Block)
+          → Ascend p.place.unit (past_block m env p b).place.unit (units_of_block m env p b)
       block_rises p no_stmt = omega arith
       block_rises p (andthen x rest) =
           let q = past_framed m env p x in
           joined p.place.unit q.place.unit (past_block m env q rest).place.unit (units_of m env p x) (units_of_block m env q rest) (rises p x)
           (block_rises q rest)
 
-      arms_rise : (p : Spot) (list : Arms) → Ascend p.place.unit (past_arms m env p list).place.unit (units_of_arms m env p list)
+      arms_rise : (p : Spot) (list : Arms)
+          → Ascend p.place.unit (past_arms m env p list).place.unit (units_of_arms m env p list)
       arms_rise p (otherwise b) = block_rises p b
       arms_rise p (arm c b rest) =
           let q = past_condition m p c in
@@ -103,7 +110,8 @@ module _ {W : Type 0} (m : Reading W) where
   acting_rises : (env : Actions W) → AllRising env → (d : Definition) → AllRising (acting m env d)
   acting_rises env k d = record { each = λ name. by (env name) (k.each name) (bytes_eq name d.name) }
     where
-      by : (a : Option (Action W)) → Rising a → (b : Bool) → Rising (option_or a (if b then Some (action m env d) else None))
+      by : (a : Option (Action W)) → Rising a → (b : Bool)
+          → Rising (option_or a (if b then Some (action m env d) else None))
       by None h true = λ p. block_rises env k (inner p) (whole_body d)
       by None h false = tt
       by (Some a) h b = h

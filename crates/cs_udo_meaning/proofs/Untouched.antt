@@ -87,19 +87,22 @@ module _ {W : Type 0} (m : Reading W) where
   elsewhere : (f g : ℕ) → (g == f) ≡ false → (t : Note W) (u : Framed W) → (put_back f t u).frames g ≡ u.frames g
   elsewhere f g e t u = ap (λ b. if b then t.locals else u.frames g) e
 
-  going_kept : (g : ℕ) (u next : Framed W) → next.frames g ≡ u.frames g → (going_on m.world u next).frames g ≡ u.frames g
+  going_kept : (g : ℕ) (u next : Framed W) → next.frames g ≡ u.frames g
+      → (going_on m.world u next).frames g ≡ u.frames g
   going_kept g u next h = by (m.world.refused u.world)
     where
       by : (b : Bool) → (if b then u else next).frames g ≡ u.frames g
       by true = refl
       by false = h
 
-  either_kept : (r : Rate) (g : ℕ) (a b u : Framed W) → a.frames g ≡ u.frames g → b.frames g ≡ u.frames g → (if_init r a b).frames g ≡ u.frames g
+  either_kept : (r : Rate) (g : ℕ) (a b u : Framed W) → a.frames g ≡ u.frames g → b.frames g ≡ u.frames g
+      → (if_init r a b).frames g ≡ u.frames g
   either_kept rate.Init g a b u h k = h
   either_kept rate.Control g a b u h k = k
   either_kept rate.Audio g a b u h k = k
 
-  chosen : (b : Bool) (g : ℕ) (x y u : Framed W) → x.frames g ≡ u.frames g → y.frames g ≡ u.frames g → (if b then x else y).frames g ≡ u.frames g
+  chosen : (b : Bool) (g : ℕ) (x y u : Framed W) → x.frames g ≡ u.frames g → y.frames g ≡ u.frames g
+      → (if b then x else y).frames g ≡ u.frames g
   chosen true g x y u h k = h
   chosen false g x y u h k = k
 
@@ -140,8 +143,10 @@ module _ {W : Type 0} (m : Reading W) where
   pub record Alone (a : Action W) : Type 0 where
     pub grows : (p : Spot) → p.frame + 1 ≤ (a.past p).frame
     pub calls : (p : Spot) → Ascend (p.frame + 1) (a.past p).frame (a.calls p)
-    pub init : (p : Spot) (u : Framed W) (g : ℕ) → IsOutside g p.frame (a.past p).frame → (a.init p u).frames g ≡ u.frames g
-    pub perf : (p : Spot) (u : Framed W) (g : ℕ) → IsOutside g p.frame (a.past p).frame → (a.perf p u).frames g ≡ u.frames g
+    pub init : (p : Spot) (u : Framed W) (g : ℕ) → IsOutside g p.frame (a.past p).frame
+        → (a.init p u).frames g ≡ u.frames g
+    pub perf : (p : Spot) (u : Framed W) (g : ℕ) → IsOutside g p.frame (a.past p).frame
+        → (a.perf p u).frames g ≡ u.frames g
 
   abbrev pub AloneIf : Option (Action W) → Type 0
   AloneIf None = Unit {0}
@@ -287,7 +292,8 @@ module _ {W : Type 0} (m : Reading W) where
 
     -- ---- the frames of calls
 
-    called_ascends : (p : Spot) (x : Statement) (xs : List (List ℕ)) (args : List Argument) (a : Option (Action W)) → AloneIf a
+    called_ascends : (p : Spot) (x : Statement) (xs : List (List ℕ)) (args : List Argument) (a : Option (Action W))
+        → AloneIf a
         → Ascend p.frame (past_any m p x xs args a).frame (frames_of_call m p args a)
     called_ascends p x xs args None h = omega arith
     called_ascends p x xs args (Some a) h = (omega arith, h.calls (past_inputs m p a args))
@@ -305,7 +311,8 @@ module _ {W : Type 0} (m : Reading W) where
           joined p.frame q.frame (past_block m env q rest).frame (frames_of m env p x) (frames_of_block m env q rest) (frames_ascend p x)
           (block_ascends q rest)
 
-      arms_ascend : (p : Spot) (list : Arms) → Ascend p.frame (past_arms m env p list).frame (frames_of_arms m env p list)
+      arms_ascend : (p : Spot) (list : Arms)
+          → Ascend p.frame (past_arms m env p list).frame (frames_of_arms m env p list)
       arms_ascend p (otherwise b) = block_ascends p b
       arms_ascend p (arm c b rest) =
           let q = past_condition m p c in
@@ -335,7 +342,8 @@ module _ {W : Type 0} (m : Reading W) where
   acting_alone : (env : Actions W) → AllAlone env → (d : Definition) → AllAlone (acting m env d)
   acting_alone env k d = record { each = λ name. by (env name) (k.each name) (bytes_eq name d.name) }
     where
-      by : (a : Option (Action W)) → AloneIf a → (b : Bool) → AloneIf (option_or a (if b then Some (action m env d) else None))
+      by : (a : Option (Action W)) → AloneIf a → (b : Bool)
+          → AloneIf (option_or a (if b then Some (action m env d) else None))
       by None h true = action_alone env k d
       by None h false = tt
       by (Some a) h b = h

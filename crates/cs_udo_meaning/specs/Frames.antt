@@ -148,29 +148,34 @@ abbrev pub past_call : {W : Type 0} → Reading W → Spot → Action W → List
 past_call m p a xs args =
     let q = a.past (past_inputs m p a args) in spot (past_copies m q.place xs (values_in a.results)) q.frame
 
-abbrev pub init_call : {W : Type 0} → Reading W → ℕ → Spot → Action W → List (List ℕ) → List Argument → Framed W → Framed W
+abbrev pub init_call : {W : Type 0} → Reading W → ℕ → Spot → Action W → List (List ℕ) → List Argument → Framed W
+    → Framed W
 init_call m f p a xs args u =
     let q = past_inputs m p a args in
     init_copies m p.frame f (a.past q).place xs (values_in a.results)
     (a.init q (init_copies m f p.frame p.place a.inputs args u))
 
-abbrev pub perf_call : {W : Type 0} → Reading W → ℕ → Spot → Action W → List (List ℕ) → List Argument → Framed W → Framed W
+abbrev pub perf_call : {W : Type 0} → Reading W → ℕ → Spot → Action W → List (List ℕ) → List Argument → Framed W
+    → Framed W
 perf_call m f p a xs args u =
     let q = past_inputs m p a args in
     perf_copies m p.frame f (a.past q).place xs (values_in a.results)
     (a.perf q (perf_copies m f p.frame p.place a.inputs args u))
 
 -- a call of a defined opcode, or else of one of the catalogue
-abbrev pub past_any : {W : Type 0} → Reading W → Spot → Statement → List (List ℕ) → List Argument → Option (Action W) → Spot
+abbrev pub past_any : {W : Type 0} → Reading W → Spot → Statement → List (List ℕ) → List Argument → Option (Action W)
+    → Spot
 past_any m p x xs args None = past_plain m p x
 past_any m p x xs args (Some a) = past_call m p a xs args
 
-abbrev pub init_any : {W : Type 0} → Reading W → ℕ → Spot → Statement → List (List ℕ) → List Argument → Option (Action W)
+abbrev pub init_any : {W : Type 0} → Reading W → ℕ → Spot → Statement → List (List ℕ) → List Argument
+    → Option (Action W)
     → Framed W → Framed W
 init_any m f p x xs args None u = init_plain m f p x u
 init_any m f p x xs args (Some a) u = init_call m f p a xs args u
 
-abbrev pub perf_any : {W : Type 0} → Reading W → ℕ → Spot → Statement → List (List ℕ) → List Argument → Option (Action W)
+abbrev pub perf_any : {W : Type 0} → Reading W → ℕ → Spot → Statement → List (List ℕ) → List Argument
+    → Option (Action W)
     → Framed W → Framed W
 perf_any m f p x xs args None u = perf_plain m f p x u
 perf_any m f p x xs args (Some a) u = perf_call m f p a xs args u

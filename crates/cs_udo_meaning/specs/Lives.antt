@@ -48,9 +48,11 @@ pub record MeansFrames (W : Type 0) (ds : List Definition) (shared : Shared) (i 
   pub numbers : made.numbers ≡ i.numbers
   pub register : Numbering
   pub apart : Tells register
-  pub begun : (o : World W) (spaces : Spaces) (own : Numbering) → Tells own → (t : Note W) (u : Framed W) → Stands register own t u
+  pub begun : (o : World W) (spaces : Spaces) (own : Numbering) → Tells own → (t : Note W) (u : Framed W)
+      → Stands register own t u
       → Stands register own (initial.init_block o start (core.core spaces made.body) t) (begins (reading o spaces shared own) ds i u)
-  pub performed : (o : World W) (spaces : Spaces) (own : Numbering) → Tells own → (t : Note W) (u : Framed W) → Stands register own t u
+  pub performed : (o : World W) (spaces : Spaces) (own : Numbering) → Tells own → (t : Note W) (u : Framed W)
+      → Stands register own t u
       → Stands register own (performing.perf_block o start (core.core spaces made.body) t) (performs (reading o spaces shared own) ds i u)
   pub lived : (o : World W) (spaces : Spaces) (own : Numbering) → Tells own → (others : List (W → W)) (x : W)
       → life o (core.core spaces made.body) others x ≡ life_with_frames (reading o spaces shared own) ds i others x

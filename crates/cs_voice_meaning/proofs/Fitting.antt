@@ -18,6 +18,7 @@ use Rattle.cs_words.specs.declared.catalogue.Space.TheVariants as space
 use Rattle.cs_signal.specs.Delay.{delay_length}
 use Rattle.cs_ir.specs.Machine.{Machine, same_reg, write, acts, is_done, step, run, gives, new_machine}
 use Rattle.cs_ir.specs.Validity.{has_register, writes, finds, takes_from, is_fine, fine_from}
+use Rattle.cs_ir.specs.Resources.{reaches}
 use Rattle.cs_ir.specs.Waves.{Wave, held, silence, operand, first_values}
 use Rattle.cs_ir.specs.declared.op.Act.{Act}
 use Rattle.cs_ir.specs.declared.op.Act.TheVariants as act
@@ -27,8 +28,9 @@ use Rattle.cs_ir.specs.declared.register.Counts.{Counts}
 use Rattle.cs_ir.specs.declared.register.Reg.{Reg}
 use Rattle.cs_cells.specs.Cells.{Cells, cell}
 use Rattle.cs_cells.specs.declared.footprint.Area.{Area}
-use Rattle.cs_meaning.specs.Plain.{Piece, Table, find_table, table_number, is_there, is_delay, is_live, index, at_place, has_place, added}
-use Rattle.cs_voice_meaning.specs.VoiceWorld.{Playing, VoiceState, save, unit_plays, may_touch, points_read, played, has_played, table_stored, store_plays, does, starts, begun, delayed, put_unit, out_to, out_to_numbered, voice_world, pace_of, fresh_voice}
+use Rattle.cs_meaning.specs.Model.{Model, with_value, put_unit, unit_points, has_run, unit_does, store_into, store_at, zak_does, lacks_table, begun, delayed, starts, out_to, out_to_numbered}
+use Rattle.cs_meaning.specs.Pieces.{Piece, Table, find_table, table_number, is_there, is_delay, is_live, index, may_touch, at_place, has_place, added}
+use Rattle.cs_voice_meaning.specs.VoiceWorld.{Playing, VoiceState, played, has_played, voice_model, voice_world, pace_of, fresh_voice}
 use Rattle.cs_voice_meaning.specs.Voices.{Sheet, Sounding, IsPlayable, IsSound, begins, seen, initialised, voice_of, performed, has_channel, have_channels}
 use Rattle.cs_voice_meaning.specs.Room.{FitsIn, VoiceFits}
 
@@ -61,7 +63,8 @@ kept_frames false x h = sym (h refl)
 zero_added : (x y : ℤ) → x ≡ pos 0 → y ≡ pos 0 → added (λ j. x) (λ j. y) 0 ≡ pos 0
 zero_added x y e f = ap (λ z. added (λ j. z) (λ j. y) 0) e ∙ ap (λ z. added (λ j. pos 0) (λ j. z) 0) f
 
-added_held : (ksmps : ℕ) (w v : Wave) → held ksmps rate.Audio w ≡ w → held ksmps rate.Audio v ≡ v → held ksmps rate.Audio (added w v) ≡ added w v
+added_held : (ksmps : ℕ) (w v : Wave) → held ksmps rate.Audio w ≡ w → held ksmps rate.Audio v ≡ v
+    → held ksmps rate.Audio (added w v) ≡ added w v
 added_held ksmps w v h k = λ i j. at j i
   where
     at : (j : ℕ) → held ksmps rate.Audio (added w v) j ≡ added w v j
@@ -74,6 +77,9 @@ audio_is rate.Control h = absurd (cc)
 audio_is rate.Audio h = refl
 
 module _ (areas : List Area) (piece : Piece) (counts : Counts) where
+  abbrev model : Model (ℕ → ℤ) Playing
+  model = voice_model areas piece
+
   abbrev pub Fits : Machine VoiceState → Type 0
   Fits m = FitsIn counts piece.head.ksmps piece.head.nchnls m.regs m.world.units m.world.outs
 
@@ -100,7 +106,8 @@ module _ (areas : List Area) (piece : Piece) (counts : Counts) where
 
   -- ---- a register is written
 
-  put_other : (b : Bool) (q into : Reg) (w v : Wave) → same_reg q into ≡ b → has_register counts into ≡ true → has_register counts q ≡ false → v ≡ silence → (if b then w else v) ≡ silence
+  put_other : (b : Bool) (q into : Reg) (w v : Wave) → same_reg q into ≡ b → has_register counts into ≡ true
+      → has_register counts q ≡ false → v ≡ silence → (if b then w else v) ≡ silence
   put_other true q into w v e there past h = absurd (let same : q ≡ into = same_reg_is q into e in let t : has_register counts q ≡ true = ap (has_register counts) same ∙ there in cc)
   put_other false q into w v e there past h = h
 
@@ -110,7 +117,8 @@ module _ (areas : List Area) (piece : Piece) (counts : Counts) where
       subst (λ (p : Reg). held piece.head.ksmps p.rate (held piece.head.ksmps into.rate w) ≡ held piece.head.ksmps into.rate w) (sym (same_reg_is q into e)) (held_twice piece.head.ksmps into.rate w)
   put_held false q into w v e h = h
 
-  write_fits : (into : Reg) (w : Wave) (m : Machine VoiceState) → has_register counts into ≡ true → Fits m → Fits (write piece.head.ksmps into w m)
+  write_fits : (into : Reg) (w : Wave) (m : Machine VoiceState) → has_register counts into ≡ true → Fits m
+      → Fits (write piece.head.ksmps into w m)
   write_fits into w m there f = record {
     regs = λ q past. put_other (same_reg q into) q into (held piece.head.ksmps into.rate w) (m.regs q) refl there past (f.regs q past);
     keeps = λ q. put_held (same_reg q into) q into w (m.regs q) refl (f.keeps q);
@@ -128,51 +136,56 @@ module _ (areas : List Area) (piece : Piece) (counts : Counts) where
   put_room : (u : ℕ) (p : Playing) (x : VoiceState) → nat_lt u counts.units ≡ true → Room x → Room (put_unit u p x)
   put_room u p x there r = (λ n past. put_past (n == u) p (x.units n) u n refl there past (r.0 n past), r.1, r.2)
 
-  unit_room : (opcode : Opcode) (r : Rate) (u : ℕ) (reach : Reach) (ws : List Wave) (o : Option Playing) (x : VoiceState) → nat_lt u counts.units ≡ true → Room x
-      → Room (unit_plays areas piece opcode r u reach ws o x).0
+  unit_room : (opcode : Opcode) (r : Rate) (u : ℕ) (reach : Reach) (ws : List Wave) (o : Option Playing) (x : VoiceState)
+      → nat_lt u counts.units ≡ true → Room x
+      → Room (unit_does model opcode r u reach ws o x).0
   unit_room opcode r u reach ws None x there k = k
   unit_room opcode r u reach ws (Some p) x there k =
-      let done = played piece.head.ksmps r p ws (points_read areas piece opcode p x) in
-      either_room_of (may_touch opcode reach p) (has_played u r p done x) (x, silence) (put_room u (record p { state = done.0 }) x there k) k
+      let done = has_played r p (played piece.head.ksmps r p ws (unit_points model opcode p x)) in
+      either_room_of (may_touch opcode reach p.table) (has_run u done x) (x, silence) (put_room u done.0 x there k) k
 
-  table_room : (r : Rate) (ws : List Wave) (o : Option Table) (x : VoiceState) → Room x → Room (table_stored areas piece.head.ksmps r ws o x)
+  table_room : (r : Rate) (ws : List Wave) (o : Option Table) (x : VoiceState) → Room x
+      → Room (store_into model r ws o x)
   table_room r ws None x k = k
   table_room r ws (Some t) x k = either_room (is_live t) _ x k k
 
-  store_room : (opcode : Opcode) (r : Rate) (reach : Reach) (ws : List Wave) (o : Option Playing) (x : VoiceState) → Room x → Room (store_plays areas piece opcode r reach ws o x)
-  store_room opcode r reach ws None x k = k
-  store_room opcode r reach ws (Some p) x k =
-      either_room (may_touch opcode reach p) (table_stored areas piece.head.ksmps r ws (find_table piece.tables p.table) x) x (table_room r ws (find_table piece.tables p.table) x k) k
+  store_room : (r : Rate) (reach : Reach) (ws : List Wave) (i : Option ℕ) (x : VoiceState) → Room x
+      → Room (store_at model r reach ws i x)
+  store_room r reach ws None x k = k
+  store_room r reach ws (Some n) x k =
+      either_room (reaches reach n) (store_into model r ws (find_table piece.tables (pos n)) x) x (table_room r ws (find_table piece.tables (pos n)) x k) k
 
-  place_room : (sp : Space) (reach : Reach) (i : Option ℕ) (x : VoiceState) (w : Res → Wave) → Room x → Room (at_place piece sp reach i x (λ g. save areas g (w g) x))
+  place_room : (sp : Space) (reach : Reach) (i : Option ℕ) (x : VoiceState) (w : Res → Wave) → Room x
+      → Room (at_place piece sp reach i x (λ g. with_value model g (w g) x))
   place_room sp reach None x w k = k
   place_room sp reach (Some n) x w k = either_room (has_place piece sp reach n) _ x k k
 
-  does_room : (sh : Shape) (opcode : Opcode) (r : Rate) (u : ℕ) (reach : Reach) (ws : List Wave) (x : VoiceState) → nat_lt u counts.units ≡ true → Room x
-      → Room (does areas piece sh opcode r u reach ws x).0
-  does_room shape.Unit opcode r u reach ws x there k = unit_room opcode r u reach ws (x.units u) x there k
-  does_room shape.Store opcode r u reach ws x there k = store_room opcode r reach ws (x.units u) x k
-  does_room (shape.ZakGet sp) opcode r u reach ws x there k = k
-  does_room (shape.ZakPut sp) opcode r u reach ws x there k = place_room sp reach (index (operand 1 ws 0)) x _ k
-  does_room shape.ZakMix opcode r u reach ws x there k = place_room space.Audio reach (index (operand 1 ws 0)) x _ k
-  does_room (shape.ZakClear sp) opcode r u reach ws x there k = k
-  does_room shape.Init opcode r u reach ws x there k = k
-  does_room shape.Out opcode r u reach ws x there k = k
-  does_room shape.OutAt opcode r u reach ws x there k = k
-  does_room shape.Turnoff opcode r u reach ws x there k = k
-  does_room shape.ZakInit opcode r u reach ws x there k = k
-  does_room shape.ChannelGet opcode r u reach ws x there k = k
-  does_room shape.ChannelPut opcode r u reach ws x there k = k
-  does_room shape.ChannelMix opcode r u reach ws x there k = k
-  does_room shape.ChannelClear opcode r u reach ws x there k = k
-  does_room shape.Ask opcode r u reach ws x there k = k
+  zak_room : (sh : Shape) (reach : Reach) (ws : List Wave) (x : VoiceState) → Room x
+      → Room (zak_does model sh reach ws x).0
+  zak_room (shape.ZakGet sp) reach ws x k = k
+  zak_room (shape.ZakPut sp) reach ws x k = place_room sp reach (index (operand 1 ws 0)) x _ k
+  zak_room shape.ZakMix reach ws x k = place_room space.Audio reach (index (operand 1 ws 0)) x _ k
+  zak_room (shape.ZakClear sp) reach ws x k = k
+  zak_room shape.Unit reach ws x k = k
+  zak_room shape.Store reach ws x k = k
+  zak_room shape.Init reach ws x k = k
+  zak_room shape.Out reach ws x k = k
+  zak_room shape.OutAt reach ws x k = k
+  zak_room shape.Turnoff reach ws x k = k
+  zak_room shape.ZakInit reach ws x k = k
+  zak_room shape.ChannelGet reach ws x k = k
+  zak_room shape.ChannelPut reach ws x k = k
+  zak_room shape.ChannelMix reach ws x k = k
+  zak_room shape.ChannelClear reach ws x k = k
+  zak_room shape.Ask reach ws x k = k
 
-  starts_room : (opcode : Opcode) (r : Rate) (u : ℕ) (is : List ℤ) (x : VoiceState) → nat_lt u counts.units ≡ true → Room x → Room (starts piece opcode r u is x)
+  starts_room : (opcode : Opcode) (r : Rate) (u : ℕ) (is : List ℤ) (x : VoiceState) → nat_lt u counts.units ≡ true
+      → Room x → Room (starts model opcode r u is x)
   starts_room opcode r u is x there k =
       let samples : ℕ = x.delays + delay_length (pace_of piece.head) (slice_index_or is 0 (pos 0)) in
       either_room (takes_table opcode && not (is_there (find_table piece.tables (table_number is)))) _ _ k
-      (either_room (is_delay opcode) (delayed (pace_of piece.head) samples opcode r u is x) _
-      (either_room (nat_le samples most_delay_samples) (begun (pace_of piece.head) opcode r u is (record x { delays = samples })) _ (put_room u _ (record x { delays = samples }) there k) k)
+      (either_room (is_delay opcode) (delayed model samples opcode r u is x) _
+      (either_room (nat_le samples most_delay_samples) (begun model opcode r u is (record x { delays = samples })) _ (put_room u _ (record x { delays = samples }) there k) k)
       (put_room u _ x there k))
 
   -- ---- what goes out
@@ -185,7 +198,8 @@ module _ (areas : List Area) (piece : Piece) (counts : Counts) where
   either_sound true w v h k = h
   either_sound false w v h k = k
 
-  out_room : (c : ℕ) (w : Wave) (x : VoiceState) → nat_lt c piece.head.nchnls ≡ true → Sound w → Room x → Room (out_to c w x)
+  out_room : (c : ℕ) (w : Wave) (x : VoiceState) → nat_lt c piece.head.nchnls ≡ true → Sound w → Room x
+      → Room (out_to c w x)
   out_room c w x there sound k = (
     k.0,
     λ n past. out_past (n == c) (added (x.outs n) w) (x.outs n) n c refl there past (k.1 n past),
@@ -199,7 +213,8 @@ module _ (areas : List Area) (piece : Piece) (counts : Counts) where
   when_room true x y h k = h refl
   when_room false x y h k = k
 
-  out_at_room : (i : Option ℕ) (w : Wave) (x : VoiceState) → Sound w → Room x → Room (out_to_numbered piece.head.nchnls i w x)
+  out_at_room : (i : Option ℕ) (w : Wave) (x : VoiceState) → Sound w → Room x
+      → Room (out_to_numbered piece.head.nchnls i w x)
   out_at_room None w x sound k = k
   out_at_room (Some n) w x sound k =
       when_room (nat_le 1 n && nat_le n piece.head.nchnls) (out_to (n - 1) w x) x (λ there. out_room (n - 1) w x (channel_below n piece.head.nchnls there) sound k) k
@@ -208,12 +223,14 @@ module _ (areas : List Area) (piece : Piece) (counts : Counts) where
   reg_sound m x f h = subst (λ r. held piece.head.ksmps r (m.regs x) ≡ m.regs x) (audio_is x.rate h) (f.keeps x)
 
   -- what a valid op sends out is a sound
-  out_sound : (m : Machine VoiceState) (c : ℕ) (r : Rate) (from : List Reg) → takes_from (act.Out c) r from ≡ true → Fits m → Sound (operand 0 (map m.regs from))
+  out_sound : (m : Machine VoiceState) (c : ℕ) (r : Rate) (from : List Reg) → takes_from (act.Out c) r from ≡ true
+      → Fits m → Sound (operand 0 (map m.regs from))
   out_sound m c r [] h f = absurd (cc)
   out_sound m c r (x ∷ []) h f = reg_sound m x f h
   out_sound m c r (x ∷ y ∷ from) h f = absurd (cc)
 
-  out_at_sound : (m : Machine VoiceState) (r : Rate) (from : List Reg) → takes_from act.OutAt r from ≡ true → Fits m → Sound (operand 1 (map m.regs from))
+  out_at_sound : (m : Machine VoiceState) (r : Rate) (from : List Reg) → takes_from act.OutAt r from ≡ true → Fits m
+      → Sound (operand 1 (map m.regs from))
   out_at_sound m r [] h f = absurd (cc)
   out_at_sound m r (x ∷ []) h f = absurd (cc)
   out_at_sound m r (x ∷ y ∷ []) h f = reg_sound m y f (and_parts (not (is_audio x.rate)) (is_audio y.rate) h).1
@@ -223,13 +240,16 @@ module _ (areas : List Area) (piece : Piece) (counts : Counts) where
   written_there true c h e = h
   written_there false c h e = absurd (cc)
 
-  written_fits : (b : Bool) (into : Reg) (p : VoiceState × Wave) (m : Machine VoiceState) → (b ≡ true → has_register counts into ≡ true) → Room p.0 → Fits m
+  written_fits : (b : Bool) (into : Reg) (p : VoiceState × Wave) (m : Machine VoiceState)
+      → (b ≡ true → has_register counts into ≡ true) → Room p.0 → Fits m
       → Fits (if b then write piece.head.ksmps into p.1 (record m { world = p.0 }) else record m { world = p.0 })
   written_fits true into p m there k f = write_fits into p.1 (record m { world = p.0 }) (there refl) (in_room m p.0 f k)
   written_fits false into p m there k f = in_room m p.0 f k
 
-  acts_fit : (t : Act) (into : Reg) (from : List Reg) (end place : ℕ) (m : Machine VoiceState) → (writes t ≡ true → has_register counts into ≡ true) → finds counts end place t ≡ true
-      → takes_from t into.rate from ≡ true → has_channel piece.head.nchnls t ≡ true → Fits m → Fits (acts (voice_world areas piece) t into (map m.regs from) m)
+  acts_fit : (t : Act) (into : Reg) (from : List Reg) (end place : ℕ) (m : Machine VoiceState)
+      → (writes t ≡ true → has_register counts into ≡ true) → finds counts end place t ≡ true
+      → takes_from t into.rate from ≡ true → has_channel piece.head.nchnls t ≡ true → Fits m
+      → Fits (acts (voice_world areas piece) t into (map m.regs from) m)
   acts_fit (act.Const z) into from end place m w fi ta ch f = write_fits into _ m (w refl) f
   acts_fit (act.Field k) into from end place m w fi ta ch f = write_fits into _ m (w refl) f
   acts_fit (act.Head k) into from end place m w fi ta ch f = write_fits into _ m (w refl) f
@@ -243,8 +263,16 @@ module _ (areas : List Area) (piece : Piece) (counts : Counts) where
   acts_fit (act.Start opcode k) into from end place m w fi ta ch f =
       in_room m (acts (voice_world areas piece) (act.Start opcode k) into (map m.regs from) m).world f (starts_room opcode into.rate k (first_values (map m.regs from)) m.world fi (room_of m f))
   acts_fit (act.Unit opcode k reach) into from end place m w fi ta ch f =
-      written_fits (gives opcode) into (does areas piece (row_of opcode).shape opcode into.rate k reach (map m.regs from) m.world) m w
-      (does_room (row_of opcode).shape opcode into.rate k reach (map m.regs from) m.world fi (room_of m f)) f
+      written_fits (gives opcode) into (unit_does model opcode into.rate k reach (map m.regs from) (m.world.units k) m.world) m w
+      (unit_room opcode into.rate k reach (map m.regs from) (m.world.units k) m.world fi (room_of m f)) f
+  acts_fit act.Seek into from end place m w fi ta ch f =
+      in_room m (acts (voice_world areas piece) act.Seek into (map m.regs from) m).world f (either_room (lacks_table model (first_values (map m.regs from))) _ m.world (room_of m f) (room_of m f))
+  acts_fit (act.Store opcode reach) into from end place m w fi ta ch f =
+      in_room m (acts (voice_world areas piece) (act.Store opcode reach) into (map m.regs from) m).world f
+      (store_room into.rate reach (map m.regs from) (index (operand 2 (map m.regs from) 0)) m.world (room_of m f))
+  acts_fit (act.Zak opcode reach) into from end place m w fi ta ch f =
+      written_fits (gives opcode) into (zak_does model (row_of opcode).shape reach (map m.regs from) m.world) m w
+      (zak_room (row_of opcode).shape reach (map m.regs from) m.world (room_of m f)) f
   acts_fit (act.Jump to) into from end place m w fi ta ch f = record { regs = f.regs; keeps = f.keeps; units = f.units; outs = f.outs; frames = f.frames }
   acts_fit (act.Unless to) into from end place m w fi ta ch f = record { regs = f.regs; keeps = f.keeps; units = f.units; outs = f.outs; frames = f.frames }
   acts_fit (act.Out c) into from end place m w fi ta ch f = in_room m (acts (voice_world areas piece) (act.Out c) into (map m.regs from) m).world f (out_room c (operand 0 (map m.regs from)) m.world ch (out_sound m c into.rate from ta f) (room_of m f))
@@ -257,7 +285,8 @@ module _ (areas : List Area) (piece : Piece) (counts : Counts) where
   either_fits true n m h k = h
   either_fits false n m h k = k
 
-  step_fits : (end place : ℕ) (op : Op) (m : Machine VoiceState) → is_fine counts end place op ≡ true → has_channel piece.head.nchnls op.act ≡ true → Fits m
+  step_fits : (end place : ℕ) (op : Op) (m : Machine VoiceState) → is_fine counts end place op ≡ true
+      → has_channel piece.head.nchnls op.act ≡ true → Fits m
       → Fits (step (voice_world areas piece) place op m)
   step_fits end place op m fine ch f =
       let own : Bool = not (writes op.act) || has_register counts op.into in
@@ -271,7 +300,8 @@ module _ (areas : List Area) (piece : Piece) (counts : Counts) where
       (acts_fit op.act op.into op.from end place m (written_there (writes op.act) (has_register counts op.into) into.0) middle.1 outer.1 ch f) f
 
   -- a machine that fits goes on so
-  pub run_fits : (end place : ℕ) (ops : List Op) (m : Machine VoiceState) → fine_from counts end place ops ≡ true → have_channels piece.head.nchnls ops ≡ true → Fits m
+  pub run_fits : (end place : ℕ) (ops : List Op) (m : Machine VoiceState) → fine_from counts end place ops ≡ true
+      → have_channels piece.head.nchnls ops ≡ true → Fits m
       → Fits (run (voice_world areas piece) place ops m)
   run_fits end place [] m fine ch f = f
   run_fits end place (op ∷ ops) m fine ch f =
@@ -289,7 +319,8 @@ silent_held ksmps rate.Audio = λ i j. both (nat_lt j ksmps) i
     both false = refl
 
 -- a voice begins so, and stays so
-pub begins_fitting : (s : Sheet) (counts : Counts) (cells : ℕ → ℤ) → IsPlayable s → fine_from counts (length s.init) 0 s.init ≡ true → VoiceFits counts (voice_of s (initialised s cells))
+pub begins_fitting : (s : Sheet) (counts : Counts) (cells : ℕ → ℤ) → IsPlayable s
+    → fine_from counts (length s.init) 0 s.init ≡ true → VoiceFits counts (voice_of s (initialised s cells))
 begins_fitting s counts cells playable fine =
     run_fits s.areas s.piece counts (length s.init) 0 s.init (new_machine (fresh_voice cells)) fine playable.init_channels
     (record {
@@ -300,7 +331,9 @@ begins_fitting s counts cells playable fine =
       frames = λ c. silent_held s.piece.head.ksmps rate.Audio;
     })
 
-pub goes_on_fitting : (v : Sounding) (counts : Counts) (c : Cells) → IsSound v → fine_from counts (length v.sheet.perf) 0 v.sheet.perf ≡ true → VoiceFits counts v → VoiceFits counts (performed v c)
+pub goes_on_fitting : (v : Sounding) (counts : Counts) (c : Cells) → IsSound v
+    → fine_from counts (length v.sheet.perf) 0 v.sheet.perf ≡ true → VoiceFits counts v
+    → VoiceFits counts (performed v c)
 goes_on_fitting v counts c playable fine fits =
     run_fits v.sheet.areas v.sheet.piece counts (length v.sheet.perf) 0 v.sheet.perf (begins v (seen v.sheet (cell c))) fine playable.perf_channels
     (record {

@@ -32,7 +32,8 @@ high : (a n : ℕ) → nat_lt a n ≡ false → n ≤ a
 high a n h = grind (arith, nat_tests)
 
 -- what a voice sees of cells that agree where it uses them
-seen_same : (v : Sounding) (c d : Cells) → Agree (Uses voice_means v) c d → seen v.sheet (cell c) ≡ seen v.sheet (cell d)
+seen_same : (v : Sounding) (c d : Cells) → Agree (Uses voice_means v) c d
+    → seen v.sheet (cell c) ≡ seen v.sheet (cell d)
 seen_same v c d same = λ i a. at a i
   where
     at : (a : ℕ) → seen v.sheet (cell c) a ≡ seen v.sheet (cell d) a
@@ -40,24 +41,26 @@ seen_same v c d same = λ i a. at a i
         (λ yes. ap (λ b. if b then cell c a else pos 0) yes ∙ same.same a yes ∙ sym (ap (λ b. if b then cell d a else pos 0) yes))
         (λ no. ap (λ b. if b then cell c a else pos 0) no ∙ sym (ap (λ b. if b then cell d a else pos 0) no))
 
-pub left_at : (v : Sounding) (c : Cells) (a : ℕ) → a < length c → cell (left_by v c) a ≡ (if may_write v.sheet a then (cycle v (seen v.sheet (cell c))).world.cells a else cell c a)
+pub left_at : (v : Sounding) (c : Cells) (a : ℕ) → a < length c
+    → cell (left_by v c) a ≡ (if may_write v.sheet a then (cycle v (seen v.sheet (cell c))).world.shared a else cell c a)
 left_at v c a h =
-    let value : ℕ → ℤ = λ z. if may_write v.sheet z then (cycle v (seen v.sheet (cell c))).world.cells z else cell c z in
+    let value : ℕ → ℤ = λ z. if may_write v.sheet z then (cycle v (seen v.sheet (cell c))).world.shared z else cell c z in
     tabled value 0 (length c) a h ∙ ap value (let e : 0 + a ≡ a = omega arith in e)
 
 left_long : (v : Sounding) (c : Cells) → length (left_by v c) ≡ length c
-left_long v c = long_map (λ a. if may_write v.sheet a then (cycle v (seen v.sheet (cell c))).world.cells a else cell c a) 0 (length c)
+left_long v c = long_map (λ a. if may_write v.sheet a then (cycle v (seen v.sheet (cell c))).world.shared a else cell c a) 0 (length c)
 
 left_past : (v : Sounding) (c : Cells) (a : ℕ) → length c ≤ a → cell (left_by v c) a ≡ pos 0
 left_past v c a h = let long = left_long v c in past_cells (left_by v c) a (omega (arith, long, h))
 
-left_same : (v : Sounding) (c d : Cells) → Agree (Uses voice_means v) c d → (a : ℕ) → Uses voice_means v a → cell (left_by v c) a ≡ cell (left_by v d) a
+left_same : (v : Sounding) (c d : Cells) → Agree (Uses voice_means v) c d → (a : ℕ) → Uses voice_means v a
+    → cell (left_by v c) a ≡ cell (left_by v d) a
 left_same v c d same a used =
     by_test (nat_lt a (length c))
     (λ yes. let near : a < length c = low a (length c) yes in let near' : a < length d = omega (arith, near, same.long) in
     left_at v c a near
-    ∙ ap (λ s. if may_write v.sheet a then (cycle v s).world.cells a else cell c a) (seen_same v c d same)
-    ∙ ap (λ z. if may_write v.sheet a then (cycle v (seen v.sheet (cell d))).world.cells a else z) (same.same a used)
+    ∙ ap (λ s. if may_write v.sheet a then (cycle v s).world.shared a else cell c a) (seen_same v c d same)
+    ∙ ap (λ z. if may_write v.sheet a then (cycle v (seen v.sheet (cell d))).world.shared a else z) (same.same a used)
     ∙ sym (left_at v d a near'))
     (λ no. let far : length c ≤ a = high a (length c) no in let far' : length d ≤ a = omega (arith, far, same.long) in
     left_past v c a far ∙ sym (left_past v d a far'))
@@ -66,7 +69,7 @@ left_others : (v : Sounding) (c : Cells) (a : ℕ) → ¬ (Writes voice_means v 
 left_others v c a un =
     by_test (nat_lt a (length c))
     (λ yes. left_at v c a (low a (length c) yes)
-    ∙ by_test (may_write v.sheet a) (λ w. absurd (un w)) (λ w. ap (λ b. if b then (cycle v (seen v.sheet (cell c))).world.cells a else cell c a) w))
+    ∙ by_test (may_write v.sheet a) (λ w. absurd (un w)) (λ w. ap (λ b. if b then (cycle v (seen v.sheet (cell c))).world.shared a else cell c a) w))
     (λ no. left_past v c a (high a (length c) no) ∙ sym (past_cells c a (high a (length c) no)))
 
 after_same : (v : Sounding) (c d : Cells) → Agree (Uses voice_means v) c d → performed v c ≡ performed v d

@@ -24,11 +24,13 @@ differ m n h e = absurd (let t : (m == n) ≡ true = ap (λ k. k == n) e ∙ sel
     self : (n : ℕ) → (n == n) ≡ true
     self n = grind (arith, nat_tests)
 
-split : (N : Res → Type 0) (f : ℕ → Res) (b : Bool) (k : ℕ) (l : List ℕ) → AreNamed N (map f (if b then k ∷ l else l)) → (b ≡ true → N (f k)) × AreNamed N (map f l)
+split : (N : Res → Type 0) (f : ℕ → Res) (b : Bool) (k : ℕ) (l : List ℕ) → AreNamed N (map f (if b then k ∷ l else l))
+    → (b ≡ true → N (f k)) × AreNamed N (map f l)
 split N f true k l h = (λ e. h.0, h.1)
 split N f false k l h = (λ e. absurd (cc), h)
 
-pub named_among : (N : Res → Type 0) (f : ℕ → Res) (r : Reach) (xs : List ℕ) → AreNamed N (map f (filter (reaches r) xs)) → (n : ℕ)
+pub named_among : (N : Res → Type 0) (f : ℕ → Res) (r : Reach) (xs : List ℕ)
+    → AreNamed N (map f (filter (reaches r) xs)) → (n : ℕ)
     → list_any (λ k. n == k) xs ≡ true → reaches r n ≡ true → N (f n)
 named_among N f r [] h n among at = absurd (cc)
 named_among N f r (k ∷ xs) h n among at =
@@ -46,7 +48,8 @@ in_range n j (suc len) low high = by_test (n == j)
     or_right (n == j) (list_any (λ k. n == k) (range_with_len (j + 1) len)) (in_range n (j + 1) len (omega arith) (omega arith)))
 
 -- a place of a space that is reached
-pub place_named : (N : Res → Type 0) (stock : Stock) (spaces : Spaces) (s : Space) (r : Reach) (n : ℕ) → stock.spaces ≡ spaces → AreNamed N (places_within stock s r)
+pub place_named : (N : Res → Type 0) (stock : Stock) (spaces : Spaces) (s : Space) (r : Reach) (n : ℕ)
+    → stock.spaces ≡ spaces → AreNamed N (places_within stock s r)
     → (nat_lt n (places_of spaces s) && reaches r n) ≡ true → N (zak_place s n)
 place_named N stock spaces s r n e h at =
     let both = and_parts (nat_lt n (places_of spaces s)) (reaches r n) at in

@@ -35,7 +35,8 @@ area_at (a ∷ areas) g area h = by_test (same_res a.res g)
     second false e k = k
 
 -- areas of two resources share no cell
-pub apart : (areas : List Area) (g h : Res) (a b : Area) (x : ℕ) → IsLaid areas → area_of areas g ≡ Some a → area_of areas h ≡ Some b
+pub apart : (areas : List Area) (g h : Res) (a b : Area) (x : ℕ) → IsLaid areas → area_of areas g ≡ Some a
+    → area_of areas h ≡ Some b
     → in_area (Some a) x ≡ true → in_area (Some b) x ≡ true → g ≡ h
 apart areas g h a b x laid ha hb xa xb =
     let p = area_at areas g a ha in
@@ -66,7 +67,8 @@ at_or_past : (j n : ℕ) → nat_lt j n ≡ false → n ≤ j
 at_or_past j n h = grind (arith, nat_tests)
 
 -- the cells of an area, and no others, make its wave
-pub wave_same : (r : Rate) (area : Area) (c d : ℕ → ℤ) → Roomy r area.length → ((a : ℕ) → in_area (Some area) a ≡ true → c a ≡ d a) → wave_in r area c ≡ wave_in r area d
+pub wave_same : (r : Rate) (area : Area) (c d : ℕ → ℤ) → Roomy r area.length
+    → ((a : ℕ) → in_area (Some area) a ≡ true → c a ≡ d a) → wave_in r area c ≡ wave_in r area d
 wave_same rate.Init area c d some same = λ i j. same area.first (in_first area some) i
 wave_same rate.Control area c d some same = λ i j. same area.first (in_first area some) i
 wave_same rate.Audio area c d some same = λ i j. at j i
@@ -82,7 +84,8 @@ Fits rate.Init area w = (j : ℕ) → w j ≡ w 0
 Fits rate.Control area w = (j : ℕ) → w j ≡ w 0
 Fits rate.Audio area w = (j : ℕ) → area.length ≤ j → w j ≡ pos 0
 
-written_at : (area : Area) (w : Wave) (c : ℕ → ℤ) (j : ℕ) → j < area.length → with_wave (Some area) w c (area.first + j) ≡ w j
+written_at : (area : Area) (w : Wave) (c : ℕ → ℤ) (j : ℕ) → j < area.length
+    → with_wave (Some area) w c (area.first + j) ≡ w j
 written_at area w c j h =
     let e : area.first + j - area.first ≡ j = omega arith in
     ap (λ b. if b then w (area.first + j - area.first) else c (area.first + j)) (in_front area j h) ∙ ap w e
@@ -93,7 +96,8 @@ first_written area w c h =
     ap (λ b. if b then w (area.first - area.first) else c area.first) (in_first area h) ∙ ap w e
 
 -- what was written is read
-pub wave_written : (r : Rate) (area : Area) (w : Wave) (c : ℕ → ℤ) → Roomy r area.length → Fits r area w → wave_in r area (with_wave (Some area) w c) ≡ w
+pub wave_written : (r : Rate) (area : Area) (w : Wave) (c : ℕ → ℤ) → Roomy r area.length → Fits r area w
+    → wave_in r area (with_wave (Some area) w c) ≡ w
 wave_written rate.Init area w c some fits = λ i j. (first_written area w c some ∙ sym (fits j)) i
 wave_written rate.Control area w c some fits = λ i j. (first_written area w c some ∙ sym (fits j)) i
 wave_written rate.Audio area w c some fits = λ i j. at j i
@@ -104,15 +108,18 @@ wave_written rate.Audio area w c some fits = λ i j. at j i
         (λ no. ap (λ b. if b then with_wave (Some area) w c (area.first + j) else pos 0) no ∙ sym (fits j (at_or_past j area.length no)))
 
 -- outside the area nothing changes
-pub unwritten : (area : Area) (w : Wave) (c : ℕ → ℤ) (a : ℕ) → in_area (Some area) a ≡ false → with_wave (Some area) w c a ≡ c a
+pub unwritten : (area : Area) (w : Wave) (c : ℕ → ℤ) (a : ℕ) → in_area (Some area) a ≡ false
+    → with_wave (Some area) w c a ≡ c a
 unwritten area w c a h = ap (λ b. if b then w (a - area.first) else c a) h
 
-not_in : (areas : List Area) (g h : Res) (a b : Area) (x : ℕ) → IsLaid areas → area_of areas g ≡ Some a → area_of areas h ≡ Some b → h ≢ g
+not_in : (areas : List Area) (g h : Res) (a b : Area) (x : ℕ) → IsLaid areas → area_of areas g ≡ Some a
+    → area_of areas h ≡ Some b → h ≢ g
     → in_area (Some b) x ≡ true → in_area (Some a) x ≡ false
 not_in areas g h a b x laid ha hb other inside = by_test (in_area (Some a) x) (λ yes. absurd (other (sym (apart areas g h a b x laid ha hb yes inside)))) (λ no. no)
 
 -- another resource keeps its wave
-pub wave_kept : (areas : List Area) (g h : Res) (a b : Area) (r : Rate) (w : Wave) (c : ℕ → ℤ) → IsLaid areas → area_of areas g ≡ Some a → area_of areas h ≡ Some b
+pub wave_kept : (areas : List Area) (g h : Res) (a b : Area) (r : Rate) (w : Wave) (c : ℕ → ℤ) → IsLaid areas
+    → area_of areas g ≡ Some a → area_of areas h ≡ Some b
     → h ≢ g → Roomy r b.length → wave_in r b (with_wave (Some a) w c) ≡ wave_in r b c
 wave_kept areas g h a b r w c laid ha hb other some =
     wave_same r b (with_wave (Some a) w c) c some (λ x inside. unwritten a w c x (not_in areas g h a b x laid ha hb other inside))

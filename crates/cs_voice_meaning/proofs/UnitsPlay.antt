@@ -16,15 +16,15 @@ use Rattle.cs_signal.specs.Steps.{HasAnswered}
 use Rattle.cs_ugen.proofs.Units.{units}
 use Rattle.cs_ugen.specs.Units.{IsUnitOpcode, Stands, gen, unit_start}
 use Rattle.cs_words.specs.Catalogue.{takes_table}
-use Rattle.cs_ir.specs.Resources.{Stock, reaches, tables_within}
+use Rattle.cs_ir.specs.Resources.{Stock, reaches, tables_within, unit_uses}
 use Rattle.cs_ir.specs.Waves.{Wave, held, silence}
 use Rattle.cs_ir.specs.declared.op.Reach.{Reach}
 use Rattle.cs_cells.specs.declared.footprint.Area.{Area}
-use Rattle.cs_meaning.specs.Plain as plain
-use Rattle.cs_meaning.specs.Plain.{Piece, Plain, History, Table, Generators, find_table, table_number, read_points, points_of, steps_of, step_at, inputs_of, generated}
+use Rattle.cs_meaning.specs.Model.{loaded, put_unit, unit_points, has_run, unit_does}
+use Rattle.cs_meaning.specs.Pieces.{Generators, Piece, Table, find_table, table_number, read_points, points_of, steps_of, step_at, may_touch}
+use Rattle.cs_meaning.specs.Plain.{Plain, History, inputs_of, has_had, generated, plain_model}
 use Rattle.cs_voice_meaning.specs.Placing.{IsPlaced}
-use Rattle.cs_voice_meaning.specs.VoiceWorld as voice
-use Rattle.cs_voice_meaning.specs.VoiceWorld.{Playing, VoiceState, load, inputs_at, played, has_played, unit_plays, points_read, may_touch, the_generators, pace_of}
+use Rattle.cs_voice_meaning.specs.VoiceWorld.{Playing, VoiceState, inputs_at, played, has_played, the_generators, pace_of, voice_model}
 use Rattle.cs_voice_meaning.specs.Follows.{Kinds, AreNamed, Plays, SameUnit, SameState}
 use Rattle.cs_voice_meaning.proofs.Naming.{named_among, found_number}
 
@@ -37,7 +37,8 @@ below_frames : (j n : ℕ) → nat_lt j n ≡ true → j < n
 below_frames j n h = ltb-true j n h
 
 -- results that are a formula's step by step are the formula's wave
-same_results : (r : Rate) (ksmps : ℕ) (results : List ℤ) (w : ℕ → ℤ) → ((k : ℕ) → k < steps_of ksmps r → argument results k ≡ w k)
+same_results : (r : Rate) (ksmps : ℕ) (results : List ℤ) (w : ℕ → ℤ)
+    → ((k : ℕ) → k < steps_of ksmps r → argument results k ≡ w k)
     → held ksmps r (λ j. argument results (step_at r j)) ≡ held ksmps r (λ j. w (step_at r j))
 same_results rate.Init ksmps results w each = λ i j. each 0 (omega arith) i
 same_results rate.Control ksmps results w each = λ i j. each 0 (omega arith) i
@@ -51,13 +52,15 @@ same_results rate.Audio ksmps results w each = λ i j. at j i
 -- ---- units by number
 
 module _ (areas : List Area) (kinds : Kinds) (N : Res → Type 0) (pace : Pace) (earlier : List (List ℤ)) where
-  unit_after : (u n : ℕ) (b : Bool) (p : Playing) (h : History) (o : Option Playing) (k : Option History) → (b ≡ true → n ≡ u) → Plays pace (kinds u) p h
+  unit_after : (u n : ℕ) (b : Bool) (p : Playing) (h : History) (o : Option Playing) (k : Option History)
+      → (b ≡ true → n ≡ u) → Plays pace (kinds u) p h
       → SameUnit pace (kinds n) o k → SameUnit pace (kinds n) (if b then Some p else o) (if b then Some h else k)
   unit_after u n true p h o k at plays same = subst (λ z. Plays pace (kinds z) p h) (sym (at refl)) plays
   unit_after u n false p h o k at plays same = same
 
-  pub put_state : (u : ℕ) (p : Playing) (h : History) (x : VoiceState) (y : Plain) → Plays pace (kinds u) p h → SameState N areas kinds pace earlier x y
-      → SameState N areas kinds pace earlier (voice.put_unit u p x) (plain.put_unit u h y)
+  pub put_state : (u : ℕ) (p : Playing) (h : History) (x : VoiceState) (y : Plain) → Plays pace (kinds u) p h
+      → SameState N areas kinds pace earlier x y
+      → SameState N areas kinds pace earlier (put_unit u p x) (put_unit u h y)
   put_state u p h x y plays r = record {
     shared = r.shared;
     units = λ n. unit_after u n (n == u) p h (x.units n) (y.units n) (equal n u) plays (r.units n);
@@ -69,13 +72,14 @@ module _ (areas : List Area) (kinds : Kinds) (N : Res → Type 0) (pace : Pace) 
   }
 
   -- a unit that starts has no inputs behind it
-  pub starts_to_play : (opcode : Opcode) (r : Rate) (is : List ℤ)
+  pub starts_to_play : (opcode : Opcode) (r : Rate) (is : List ℤ) → IsUnitOpcode opcode
       → Plays pace (opcode, r) (record { table = table_number is; state = unit_start opcode r pace is }) (record { opcode = opcode; rate = r; settled = is; inputs = [] })
-  starts_to_play opcode r is = record {
+  starts_to_play opcode r is unit = record {
     opcode = refl;
     rate = refl;
     table = refl;
-    stands = λ unit. (units opcode unit).starts r pace is;
+    unit = unit;
+    stands = (units opcode unit).starts r pace is;
   }
 
 -- the result of a unit by its parts
@@ -83,22 +87,23 @@ abbrev of_parts : Generators → Opcode → Rate → History → List Wave → L
 of_parts g opcode r h ws points = λ j. g.gen opcode r h.settled (h.inputs ++ inputs_of ws points (step_at r j + 1))
 
 -- a unit's steps in a cycle: where it comes to, and what it answers
-module _ (piece : Piece) (opcode : Opcode) (r : Rate) (p : Playing) (h : History) (ws : List Wave) (points read : List ℤ) (unit : IsUnitOpcode opcode)
+module _ (piece : Piece) (opcode : Opcode) (r : Rate) (p : Playing) (h : History) (ws : List Wave) (points read : List ℤ)
     (generators : piece.generators ≡ the_generators (pace_of piece.head)) (plays : Plays (pace_of piece.head) (opcode, r) p h) (same : points ≡ read) where
   ksmps : ℕ
   ksmps = piece.head.ksmps
 
   answered : HasAnswered (gen opcode) (λ u. Stands u opcode) r (pace_of piece.head) h.settled h.inputs (inputs_at ws points) 0 (steps_of piece.head.ksmps r)
       (played piece.head.ksmps r p ws points).0 (played piece.head.ksmps r p ws points).1
-  answered = by_formula (units opcode unit) p.state r (pace_of piece.head) h.settled h.inputs (inputs_at ws points) 0 (steps_of piece.head.ksmps r) (plays.stands unit)
+  answered = by_formula (units opcode plays.unit) p.state r (pace_of piece.head) h.settled h.inputs (inputs_at ws points) 0 (steps_of piece.head.ksmps r) plays.stands
 
   pub plays_on : Plays (pace_of piece.head) (opcode, r) (record p { state = (played piece.head.ksmps r p ws points).0 })
-      (record h { inputs = h.inputs ++ inputs_of ws read (steps_of piece.head.ksmps h.rate) })
+      (has_had piece ws read h)
   plays_on = record {
     opcode = plays.opcode;
     rate = plays.rate;
     table = plays.table;
-    stands = λ u. subst (λ l. Stands (played piece.head.ksmps r p ws points).0 opcode r (pace_of piece.head) h.settled (h.inputs ++ l))
+    unit = plays.unit;
+    stands = subst (λ l. Stands (played piece.head.ksmps r p ws points).0 opcode r (pace_of piece.head) h.settled (h.inputs ++ l))
         (ap (λ l. inputs_of ws l (steps_of piece.head.ksmps r)) same ∙ ap (λ q. inputs_of ws read (steps_of piece.head.ksmps q)) (sym plays.rate)) answered.stands;
   }
 
@@ -115,18 +120,22 @@ module _ (piece : Piece) (opcode : Opcode) (r : Rate) (p : Playing) (h : History
 -- ---- tables
 
 module _ (areas : List Area) (stock : Stock) (piece : Piece) (kinds : Kinds) (N : Res → Type 0) (earlier : List (List ℤ)) (placed : IsPlaced areas stock piece) where
-  points_same : (x : VoiceState) (y : Plain) (t : Table) (f : Option (List ℤ)) → SameState N areas kinds (pace_of piece.head) earlier x y → (f ≡ None → N (res.Table t.number))
-      → points_of (λ g. load areas g x) t f ≡ points_of y.shared t f
+  points_same : (x : VoiceState) (y : Plain) (t : Table) (f : Option (List ℤ))
+      → SameState N areas kinds (pace_of piece.head) earlier x y → (f ≡ None → N (res.Table t.number))
+      → points_of (λ g. loaded (voice_model areas piece) g x) t f ≡ points_of (λ g. loaded (plain_model piece) g y) t f
   points_same x y t (Some points) r n = refl
   points_same x y t None r n = ap (λ w. map w (range_with_len 0 t.size)) (r.shared (res.Table t.number) (n refl))
 
-  pub read_same : (x : VoiceState) (y : Plain) (o : Option Table) → SameState N areas kinds (pace_of piece.head) earlier x y
-      → ((t : Table) → o ≡ Some t → t.frozen ≡ None → N (res.Table t.number)) → read_points (λ g. load areas g x) o ≡ read_points y.shared o
+  pub read_same : (x : VoiceState) (y : Plain) (o : Option Table)
+      → SameState N areas kinds (pace_of piece.head) earlier x y
+      → ((t : Table) → o ≡ Some t → t.frozen ≡ None → N (res.Table t.number))
+      → read_points (λ g. loaded (voice_model areas piece) g x) o ≡ read_points (λ g. loaded (plain_model piece) g y) o
   read_same x y None r n = refl
   read_same x y (Some t) r n = ap curve_of (points_same x y t t.frozen r (n t refl))
 
   -- a live table that is reached is named
-  pub table_named : (reach : Reach) (z : ℤ) (t : Table) → AreNamed N (tables_within stock reach) → reaches reach (unsigned_abs z) ≡ true
+  pub table_named : (reach : Reach) (z : ℤ) (t : Table) → AreNamed N (tables_within stock reach)
+      → reaches reach (unsigned_abs z) ≡ true
       → find_table piece.tables z ≡ Some t → t.frozen ≡ None → N (res.Table t.number)
   table_named reach z t named at found live =
       named_among N res.Table reach stock.live named t.number (placed.tables z t found live).among
@@ -140,52 +149,58 @@ module _ (areas : List Area) (stock : Stock) (piece : Piece) (kinds : Kinds) (N 
   reached true b h e = h
   reached false b h e = absurd (cc)
 
-  pub points_alike : (opcode : Opcode) (reach : Reach) (p : Playing) (h : History) (x : VoiceState) (y : Plain) → h.opcode ≡ opcode → p.table ≡ table_number h.settled
-      → AreNamed N (if takes_table opcode then tables_within stock reach else []) → may_touch opcode reach p ≡ true → SameState N areas kinds (pace_of piece.head) earlier x y
-      → points_read areas piece opcode p x ≡ plain.unit_points piece h y
-  points_alike opcode reach p h x y o table named may r =
+  pub points_alike : (opcode : Opcode) (reach : Reach) (p : Playing) (h : History) (x : VoiceState) (y : Plain)
+      → p.table ≡ table_number h.settled
+      → AreNamed N (unit_uses stock opcode reach) → may_touch opcode reach p.table ≡ true
+      → SameState N areas kinds (pace_of piece.head) earlier x y
+      → unit_points (voice_model areas piece) opcode p x ≡ unit_points (plain_model piece) opcode h y
+  points_alike opcode reach p h x y table named may r =
       by_test (takes_table opcode)
       (λ takes.
-      ap (λ b. if b then read_points (λ g. load areas g x) (find_table piece.tables p.table) else []) takes
+      ap (λ b. if b then read_points (λ g. loaded (voice_model areas piece) g x) (find_table piece.tables p.table) else []) takes
       ∙ read_same x y (find_table piece.tables p.table) r
       (λ t found live. table_named reach p.table t (when_taken (takes_table opcode) (tables_within stock reach) named takes)
       (reached (takes_table opcode) (reaches reach (unsigned_abs p.table)) may takes) found live)
-      ∙ ap (λ z. read_points y.shared (find_table piece.tables z)) table
-      ∙ sym (ap (λ b. if b then read_points y.shared (find_table piece.tables (table_number h.settled)) else []) (ap takes_table o ∙ takes)))
+      ∙ ap (λ z. read_points (λ g. loaded (plain_model piece) g y) (find_table piece.tables z)) table
+      ∙ sym (ap (λ b. if b then read_points (λ g. loaded (plain_model piece) g y) (find_table piece.tables (table_number h.settled)) else []) takes))
       (λ none.
-      ap (λ b. if b then read_points (λ g. load areas g x) (find_table piece.tables p.table) else []) none
-      ∙ sym (ap (λ b. if b then read_points y.shared (find_table piece.tables (table_number h.settled)) else []) (ap takes_table o ∙ none)))
+      ap (λ b. if b then read_points (λ g. loaded (voice_model areas piece) g x) (find_table piece.tables p.table) else []) none
+      ∙ sym (ap (λ b. if b then read_points (λ g. loaded (plain_model piece) g y) (find_table piece.tables (table_number h.settled)) else []) none))
+
+  -- both run, or neither does
+  abbrev Ran : Rate → VoiceState × Wave → Plain × Wave → Type 0
+  Ran r v q = SameState N areas kinds (pace_of piece.head) earlier v.0 q.0 × (held piece.head.ksmps r v.1 ≡ held piece.head.ksmps r q.1)
+
+  either_ran : (b c : Bool) (r : Rate) (v : VoiceState × Wave) (q : Plain × Wave) (x : VoiceState) (y : Plain) → b ≡ c
+      → (b ≡ true → Ran r v q)
+      → SameState N areas kinds (pace_of piece.head) earlier x y
+      → Ran r (if b then v else (x, silence)) (if c then q else (y, silence))
+  either_ran true true r v q x y e ran s = ran refl
+  either_ran false false r v q x y e ran s = (s, refl)
+  either_ran true false r v q x y e ran s = absurd (cc)
+  either_ran false true r v q x y e ran s = absurd (cc)
 
   -- a unit over a cycle
   pub unit_alike : (opcode : Opcode) (r : Rate) (u : ℕ) (reach : Reach) (ws : List Wave) (o : Option Playing) (k : Option History) (x : VoiceState) (y : Plain)
-      → IsUnitOpcode opcode → piece.generators ≡ the_generators (pace_of piece.head) → kinds u ≡ (opcode, r)
-      → AreNamed N (if takes_table opcode then tables_within stock reach else [])
+      → piece.generators ≡ the_generators (pace_of piece.head) → kinds u ≡ (opcode, r)
+      → AreNamed N (unit_uses stock opcode reach)
       → SameUnit (pace_of piece.head) (kinds u) o k → SameState N areas kinds (pace_of piece.head) earlier x y
-      → SameState N areas kinds (pace_of piece.head) earlier (unit_plays areas piece opcode r u reach ws o x).0 (plain.unit_does piece u reach ws k y).0
-      × (held piece.head.ksmps r (unit_plays areas piece opcode r u reach ws o x).1 ≡ held piece.head.ksmps r (plain.unit_does piece u reach ws k y).1)
-  unit_alike opcode r u reach ws None None x y unit gens kind named same s = (s, refl)
-  unit_alike opcode r u reach ws None (Some h) x y unit gens kind named same s = absurd same
-  unit_alike opcode r u reach ws (Some p) None x y unit gens kind named same s = absurd same
-  unit_alike opcode r u reach ws (Some p) (Some h) x y unit gens kind named same s =
+      → SameState N areas kinds (pace_of piece.head) earlier (unit_does (voice_model areas piece) opcode r u reach ws o x).0 (unit_does (plain_model piece) opcode r u reach ws k y).0
+      × (held piece.head.ksmps r (unit_does (voice_model areas piece) opcode r u reach ws o x).1 ≡ held piece.head.ksmps r (unit_does (plain_model piece) opcode r u reach ws k y).1)
+  unit_alike opcode r u reach ws None None x y gens kind named same s = (s, refl)
+  unit_alike opcode r u reach ws None (Some h) x y gens kind named same s = absurd same
+  unit_alike opcode r u reach ws (Some p) None x y gens kind named same s = absurd same
+  unit_alike opcode r u reach ws (Some p) (Some h) x y gens kind named same s =
       let plays : Plays (pace_of piece.head) (opcode, r) p h = subst (λ k. Plays (pace_of piece.head) k p h) kind same in
-      let may : may_touch opcode reach p ≡ plain.may_touch reach h =
-      ap (λ o. not (takes_table o) || reaches reach (unsigned_abs p.table)) (sym plays.opcode)
-      ∙ ap (λ z. not (takes_table h.opcode) || reaches reach (unsigned_abs z)) plays.table in
-      either (may_touch opcode reach p) (plain.may_touch reach h) may
+      either_ran (may_touch opcode reach p.table) (may_touch opcode reach (table_number h.settled)) r
+      (has_run u (has_played r p (played piece.head.ksmps r p ws (unit_points (voice_model areas piece) opcode p x))) x)
+      (has_run u (has_had piece ws (unit_points (plain_model piece) opcode h y) h, generated piece h ws (unit_points (plain_model piece) opcode h y)) y)
+      x y (ap (may_touch opcode reach) plays.table)
       (λ touches.
-      let points = points_alike opcode reach p h x y plays.opcode plays.table named touches s in
-      let on = plays_on piece opcode r p h ws (points_read areas piece opcode p x) (plain.unit_points piece h y) unit gens plays points in (
+      let points = points_alike opcode reach p h x y plays.table named touches s in
+      let on = plays_on piece opcode r p h ws (unit_points (voice_model areas piece) opcode p x) (unit_points (plain_model piece) opcode h y) gens plays points in (
         put_state areas kinds N (pace_of piece.head) earlier u _ _ x y (subst (λ k. Plays (pace_of piece.head) k
-            (record p { state = (played piece.head.ksmps r p ws (points_read areas piece opcode p x)).0 })
-            (record h { inputs = h.inputs ++ inputs_of ws (plain.unit_points piece h y) (steps_of piece.head.ksmps h.rate) })) (sym kind) on) s,
-        result_same piece opcode r p h ws (points_read areas piece opcode p x) (plain.unit_points piece h y) unit gens plays points,
-      ))
-    where
-      either : (b c : Bool) → b ≡ c → (b ≡ true → SameState N areas kinds (pace_of piece.head) earlier (has_played u r p (played piece.head.ksmps r p ws (points_read areas piece opcode p x)) x).0 (plain.has_run piece u h ws (plain.unit_points piece h y) y).0
-          × (held piece.head.ksmps r (has_played u r p (played piece.head.ksmps r p ws (points_read areas piece opcode p x)) x).1 ≡ held piece.head.ksmps r (plain.has_run piece u h ws (plain.unit_points piece h y) y).1))
-          → SameState N areas kinds (pace_of piece.head) earlier (if b then has_played u r p (played piece.head.ksmps r p ws (points_read areas piece opcode p x)) x else (x, silence)).0 (if c then plain.has_run piece u h ws (plain.unit_points piece h y) y else (y, silence)).0
-          × (held piece.head.ksmps r (if b then has_played u r p (played piece.head.ksmps r p ws (points_read areas piece opcode p x)) x else (x, silence)).1 ≡ held piece.head.ksmps r (if c then plain.has_run piece u h ws (plain.unit_points piece h y) y else (y, silence)).1)
-      either true true e done = done refl
-      either false false e done = (s, refl)
-      either true false e done = absurd (cc)
-      either false true e done = absurd (cc)
+            (record p { state = (played piece.head.ksmps r p ws (unit_points (voice_model areas piece) opcode p x)).0 })
+            (has_had piece ws (unit_points (plain_model piece) opcode h y) h)) (sym kind) on) s,
+        result_same piece opcode r p h ws (unit_points (voice_model areas piece) opcode p x) (unit_points (plain_model piece) opcode h y) gens plays points,
+      )) s

@@ -1,5 +1,5 @@
 -- A voice changes no cell but those of what its code may write.
-use Rattle.std.proofs.Common.{◌≡◌, ℕ, ℤ, pos, zero, suc, ◌+◌, ◌-◌, ◌&&◌, ◌||◌, Bool, true, false, not, List, [], ◌∷◌, map, nat_le, slice_get, slice_index_or, unsigned_abs, Option, Some, None, if◌then◌else◌, refl, sym, ◌∙◌, ap, subst}
+use Rattle.std.proofs.Common.{◌≡◌, ℕ, ℤ, pos, zero, suc, ◌+◌, ◌-◌, ◌&&◌, Bool, true, false, not, List, [], ◌∷◌, map, nat_le, slice_get, slice_index_or, Option, Some, None, if◌then◌else◌, refl, sym, ◌∙◌, ap, subst}
 use Rattle.std.specs.Option.{is_some}
 use Rattle.std.proofs.lemmas.Bool.{and_parts}
 use Rattle.cs_base.specs.Limits.{most_delay_samples}
@@ -11,13 +11,14 @@ use Rattle.cs_base.proofs.Rates.{same_res_here}
 use Rattle.cs_base.proofs.Tests.{by_test}
 use Rattle.cs_words.specs.Catalogue.{row_of, takes_table}
 use Rattle.cs_words.specs.declared.catalogue.Opcode.{Opcode}
+use Rattle.cs_words.specs.declared.catalogue.Opcode.TheVariants as op
 use Rattle.cs_words.specs.declared.catalogue.Shape.{Shape}
 use Rattle.cs_words.specs.declared.catalogue.Shape.TheVariants as shape
 use Rattle.cs_words.specs.declared.catalogue.Space.{Space}
 use Rattle.cs_words.specs.declared.catalogue.Space.TheVariants as space
 use Rattle.cs_signal.specs.Delay.{delay_length}
 use Rattle.cs_ir.specs.Machine.{Machine, acts, is_done, step, run, gives, write}
-use Rattle.cs_ir.specs.Resources.{Stock, reaches, shape_uses, is_store, act_writes, tables_within, places_within, zak_place}
+use Rattle.cs_ir.specs.Resources.{Stock, reaches, shape_uses, writes_places, act_writes, tables_within, places_within, zak_place}
 use Rattle.cs_ir.specs.Waves.{Wave, held, silence, operand, first_values}
 use Rattle.cs_ir.specs.declared.op.Act.{Act}
 use Rattle.cs_ir.specs.declared.op.Act.TheVariants as act
@@ -26,31 +27,34 @@ use Rattle.cs_ir.specs.declared.op.Reach.{Reach}
 use Rattle.cs_ir.specs.declared.register.Reg.{Reg}
 use Rattle.cs_cells.specs.Cells.{in_area}
 use Rattle.cs_cells.specs.declared.footprint.Area.{Area}
-use Rattle.cs_meaning.specs.Plain.{Piece, Table, find_table, table_number, is_there, is_delay, is_live, index, is_cleared, is_between, stored, places_of_indices, steps_of, at_place, has_place}
+use Rattle.cs_meaning.specs.Model.{Model, loaded, with_value, unit_points, has_run, unit_does, store_into, store_at, cleared, zak_does, lacks_table, delayed, starts, out_to, out_to_numbered}
+use Rattle.cs_meaning.specs.Pieces.{Piece, Table, find_table, table_number, is_there, is_delay, is_live, index, is_cleared, is_between, stored, places_of_indices, steps_of, may_touch, at_place, has_place}
 use Rattle.cs_voice_meaning.specs.Placing.{area_of, with_wave, IsPlaced}
-use Rattle.cs_voice_meaning.specs.VoiceWorld.{Playing, VoiceState, load, save, unit_plays, may_touch, points_read, played, has_played, table_stored, store_plays, lies_cleared, cleared, does, starts, delayed, out_to, out_to_numbered, voice_world, pace_of}
+use Rattle.cs_voice_meaning.specs.VoiceWorld.{Playing, VoiceState, played, has_played, lies_cleared, pace_of, voice_model, voice_world}
 use Rattle.cs_voice_meaning.specs.Follows.{AreNamed}
 use Rattle.cs_voice_meaning.specs.Voices.{OpsWritten}
 use Rattle.cs_voice_meaning.proofs.Naming.{place_named}
 use Rattle.cs_voice_meaning.proofs.Placed.{area_at}
 use Rattle.cs_voice_meaning.proofs.Shared.{any_at}
-use Rattle.cs_voice_meaning.proofs.StoresPlay.{stores_take}
 use Rattle.cs_voice_meaning.proofs.UnitsPlay.{table_named}
 
 -- a resource that stands at a place has an area
-some_area : (areas : List Area) (place : ℕ) (area : Area) → slice_get areas place ≡ Some area → (b : Area) × (area_of areas area.res ≡ Some b)
+some_area : (areas : List Area) (place : ℕ) (area : Area) → slice_get areas place ≡ Some area
+    → (b : Area) × (area_of areas area.res ≡ Some b)
 some_area [] place area h = absurd (cc)
 some_area (x ∷ areas) zero area h =
     let e : x ≡ area = cc in
     (x, ap (λ b. if b then Some x else area_of areas area.res) (ap (λ z. same_res z.res area.res) e ∙ same_res_here area.res))
 some_area (x ∷ areas) (suc place) area h = by_case (some_area areas place area h) (same_res x.res area.res)
   where
-    by_case : (b : Area) × (area_of areas area.res ≡ Some b) → (t : Bool) → (b : Area) × ((if t then Some x else area_of areas area.res) ≡ Some b)
+    by_case : (b : Area) × (area_of areas area.res ≡ Some b) → (t : Bool)
+        → (b : Area) × ((if t then Some x else area_of areas area.res) ≡ Some b)
     by_case later true = (x, refl)
     by_case later false = later
 
 -- what is cleared is a place that the space has
-cleared_place : (piece : Piece) (sp : Space) (reach : Reach) (first last : ℤ) (g : Res) → is_cleared piece sp reach first last g ≡ true
+cleared_place : (piece : Piece) (sp : Space) (reach : Reach) (first last : ℤ) (g : Res)
+    → is_cleared piece sp reach first last g ≡ true
     → (n : ℕ) × (zak_place sp n ≡ g) × (has_place piece sp reach n ≡ true)
 cleared_place piece space.Control reach first last (res.ZakK n) h = (n, refl, (and_parts (has_place piece space.Control reach n) (is_between first last n) h).0)
 cleared_place piece space.Audio reach first last (res.ZakA n) h = (n, refl, (and_parts (has_place piece space.Audio reach n) (is_between first last n) h).0)
@@ -70,62 +74,68 @@ cleared_place piece space.Audio reach first last (res.Sound n) h = absurd (cc)
 cleared_place piece space.Audio reach first last (res.Table n) h = absurd (cc)
 
 module _ (areas : List Area) (stock : Stock) (piece : Piece) (a : ℕ) (placed : IsPlaced areas stock piece) where
+  abbrev model : Model (ℕ → ℤ) Playing
+  model = voice_model areas piece
+
   kept_by_wave : (o : Option Area) (w : Wave) (c : ℕ → ℤ) → in_area o a ≡ false → with_wave o w c a ≡ c a
   kept_by_wave None w c h = refl
   kept_by_wave (Some area) w c h = ap (λ b. if b then w (a - area.first) else c a) h
 
-  same_cell : (b : Bool) (x y : VoiceState) (z : ℤ) → (b ≡ true → x.cells a ≡ z) → y.cells a ≡ z → (if b then x else y).cells a ≡ z
+  same_cell : (b : Bool) (x y : VoiceState) (z : ℤ) → (b ≡ true → x.shared a ≡ z) → y.shared a ≡ z
+      → (if b then x else y).shared a ≡ z
   same_cell true x y z h k = h refl
   same_cell false x y z h k = k
 
-  same_cell_of : (b : Bool) (p q : VoiceState × Wave) (z : ℤ) → p.0.cells a ≡ z → q.0.cells a ≡ z → (if b then p else q).0.cells a ≡ z
+  same_cell_of : (b : Bool) (p q : VoiceState × Wave) (z : ℤ) → p.0.shared a ≡ z → q.0.shared a ≡ z
+      → (if b then p else q).0.shared a ≡ z
   same_cell_of true p q z h k = h
   same_cell_of false p q z h k = k
 
-  starts_keep : (opcode : Opcode) (r : Rate) (u : ℕ) (is : List ℤ) (x : VoiceState) → (starts piece opcode r u is x).cells a ≡ x.cells a
+  starts_keep : (opcode : Opcode) (r : Rate) (u : ℕ) (is : List ℤ) (x : VoiceState)
+      → (starts model opcode r u is x).shared a ≡ x.shared a
   starts_keep opcode r u is x =
       let samples : ℕ = x.delays + delay_length (pace_of piece.head) (slice_index_or is 0 (pos 0)) in
-      same_cell (takes_table opcode && not (is_there (find_table piece.tables (table_number is)))) _ _ (x.cells a) (λ e. refl)
-      (same_cell (is_delay opcode) (delayed (pace_of piece.head) samples opcode r u is x) _ (x.cells a)
-      (λ e. same_cell (nat_le samples most_delay_samples) _ _ (x.cells a) (λ e. refl) refl) refl)
+      same_cell (takes_table opcode && not (is_there (find_table piece.tables (table_number is)))) _ _ (x.shared a) (λ e. refl)
+      (same_cell (is_delay opcode) (delayed model samples opcode r u is x) _ (x.shared a)
+      (λ e. same_cell (nat_le samples most_delay_samples) _ _ (x.shared a) (λ e. refl) refl) refl)
 
-  unit_keeps : (opcode : Opcode) (r : Rate) (u : ℕ) (reach : Reach) (ws : List Wave) (o : Option Playing) (x : VoiceState) → (unit_plays areas piece opcode r u reach ws o x).0.cells a ≡ x.cells a
+  unit_keeps : (opcode : Opcode) (r : Rate) (u : ℕ) (reach : Reach) (ws : List Wave) (o : Option Playing) (x : VoiceState)
+      → (unit_does model opcode r u reach ws o x).0.shared a ≡ x.shared a
   unit_keeps opcode r u reach ws None x = refl
   unit_keeps opcode r u reach ws (Some p) x =
-      same_cell_of (may_touch opcode reach p) (has_played u r p (played piece.head.ksmps r p ws (points_read areas piece opcode p x)) x) (x, silence) (x.cells a) refl refl
+      same_cell_of (may_touch opcode reach p.table) (has_run u (has_played r p (played piece.head.ksmps r p ws (unit_points model opcode p x))) x) (x, silence) (x.shared a) refl refl
 
-  live_is : (f : Option (List ℤ)) (b : Bool) → (not (is_some f) && b) ≡ true → f ≡ None
-  live_is None b h = refl
-  live_is (Some points) b h = absurd (cc)
+  live_is : (f : Option (List ℤ)) → not (is_some f) ≡ true → f ≡ None
+  live_is None h = refl
+  live_is (Some points) h = absurd (cc)
 
-  reached : (p q : Bool) → (not p || q) ≡ true → p ≡ true → q ≡ true
-  reached true q h e = h
-  reached false q h e = absurd (cc)
-
-  table_keeps : (r : Rate) (ws : List Wave) (o : Option Table) (x : VoiceState) → ((t : Table) → o ≡ Some t → t.frozen ≡ None → in_area (area_of areas (res.Table t.number)) a ≡ false)
-      → (table_stored areas piece.head.ksmps r ws o x).cells a ≡ x.cells a
+  table_keeps : (r : Rate) (ws : List Wave) (o : Option Table) (x : VoiceState)
+      → ((t : Table) → o ≡ Some t → t.frozen ≡ None → in_area (area_of areas (res.Table t.number)) a ≡ false)
+      → (store_into model r ws o x).shared a ≡ x.shared a
   table_keeps r ws None x named = refl
-  table_keeps r ws (Some t) x named = same_cell (is_live t) _ x (x.cells a)
-      (λ live. kept_by_wave (area_of areas (res.Table t.number)) (stored (places_of_indices t (operand 1 ws)) (operand 0 ws) (steps_of piece.head.ksmps r) (load areas (res.Table t.number) x)) x.cells
-      (named t refl (live_is t.frozen t.present live))) refl
+  table_keeps r ws (Some t) x named = same_cell (is_live t) _ x (x.shared a)
+      (λ live. kept_by_wave (area_of areas (res.Table t.number)) (stored (places_of_indices t (operand 1 ws)) (operand 0 ws) (steps_of piece.head.ksmps r) (loaded model (res.Table t.number) x)) x.shared
+      (named t refl (live_is t.frozen live))) refl
 
-  store_keeps : (opcode : Opcode) (r : Rate) (reach : Reach) (ws : List Wave) (o : Option Playing) (x : VoiceState) → takes_table opcode ≡ true
-      → AreNamed (λ g. in_area (area_of areas g) a ≡ false) (tables_within stock reach) → (store_plays areas piece opcode r reach ws o x).cells a ≡ x.cells a
-  store_keeps opcode r reach ws None x takes named = refl
-  store_keeps opcode r reach ws (Some p) x takes named = same_cell (may_touch opcode reach p) _ x (x.cells a)
-      (λ touches. table_keeps r ws (find_table piece.tables p.table) x
-      (λ t found live. table_named areas stock piece (λ u. (opcode, r)) (λ g. in_area (area_of areas g) a ≡ false) [] placed reach p.table t named
-      (reached (takes_table opcode) (reaches reach (unsigned_abs p.table)) touches takes) found live)) refl
+  store_keeps : (r : Rate) (reach : Reach) (ws : List Wave) (i : Option ℕ) (x : VoiceState)
+      → AreNamed (λ g. in_area (area_of areas g) a ≡ false) (tables_within stock reach)
+      → (store_at model r reach ws i x).shared a ≡ x.shared a
+  store_keeps r reach ws None x named = refl
+  store_keeps r reach ws (Some n) x named = same_cell (reaches reach n) _ x (x.shared a)
+      (λ touches. table_keeps r ws (find_table piece.tables (pos n)) x
+      (λ t found live. table_named areas stock piece (λ u. (op.Tablew, r)) (λ g. in_area (area_of areas g) a ≡ false) [] placed reach (pos n) t named touches found live)) refl
 
   place_keeps : (sp : Space) (reach : Reach) (i : Option ℕ) (x : VoiceState) (w : Res → Wave)
-      → AreNamed (λ g. in_area (area_of areas g) a ≡ false) (places_within stock sp reach) → (at_place piece sp reach i x (λ g. save areas g (w g) x)).cells a ≡ x.cells a
+      → AreNamed (λ g. in_area (area_of areas g) a ≡ false) (places_within stock sp reach)
+      → (at_place piece sp reach i x (λ g. with_value model g (w g) x)).shared a ≡ x.shared a
   place_keeps sp reach None x w named = refl
-  place_keeps sp reach (Some n) x w named = same_cell (has_place piece sp reach n) (save areas (zak_place sp n) (w (zak_place sp n)) x) x (x.cells a)
-      (λ there. kept_by_wave (area_of areas (zak_place sp n)) (w (zak_place sp n)) x.cells
+  place_keeps sp reach (Some n) x w named = same_cell (has_place piece sp reach n) (with_value model (zak_place sp n) (w (zak_place sp n)) x) x (x.shared a)
+      (λ there. kept_by_wave (area_of areas (zak_place sp n)) (w (zak_place sp n)) x.shared
       (place_named (λ g. in_area (area_of areas g) a ≡ false) stock piece.spaces sp reach n placed.spaces named there)) refl
 
-  clear_keeps : (sp : Space) (reach : Reach) (first last : ℤ) (x : VoiceState) → AreNamed (λ g. in_area (area_of areas g) a ≡ false) (places_within stock sp reach)
-      → (cleared areas (is_cleared piece sp reach first last) x).cells a ≡ x.cells a
+  clear_keeps : (sp : Space) (reach : Reach) (first last : ℤ) (x : VoiceState)
+      → AreNamed (λ g. in_area (area_of areas g) a ≡ false) (places_within stock sp reach)
+      → (cleared model (is_cleared piece sp reach first last) x).shared a ≡ x.shared a
   clear_keeps sp reach first last x named =
       let clears : Res → Bool = is_cleared piece sp reach first last in
       let none : lies_cleared areas clears a ≡ false =
@@ -143,39 +153,41 @@ module _ (areas : List Area) (stock : Stock) (piece : Piece) (a : ℕ) (placed :
       let inside : in_area (area_of areas found.1.res) a ≡ true = ap (λ o. in_area o a) (own.1 ∙ sym some) ∙ both.0 in
       absurd (cc))
       (λ f. f) in
-      ap (λ b. if b then pos 0 else x.cells a) none
+      ap (λ b. if b then pos 0 else x.shared a) none
 
-  does_keeps : (sh : Shape) (opcode : Opcode) (r : Rate) (u : ℕ) (reach : Reach) (ws : List Wave) (x : VoiceState) → (row_of opcode).shape ≡ sh
-      → AreNamed (λ g. in_area (area_of areas g) a ≡ false) (if is_store sh then shape_uses stock sh (takes_table opcode) reach else [])
-      → (does areas piece sh opcode r u reach ws x).0.cells a ≡ x.cells a
-  does_keeps shape.Unit opcode r u reach ws x e named = unit_keeps opcode r u reach ws (x.units u) x
-  does_keeps shape.Store opcode r u reach ws x e named = store_keeps opcode r reach ws (x.units u) x (stores_take opcode e) named
-  does_keeps (shape.ZakGet sp) opcode r u reach ws x e named = refl
-  does_keeps (shape.ZakPut sp) opcode r u reach ws x e named = place_keeps sp reach (index (operand 1 ws 0)) x _ named
-  does_keeps shape.ZakMix opcode r u reach ws x e named = place_keeps space.Audio reach (index (operand 1 ws 0)) x _ named
-  does_keeps (shape.ZakClear sp) opcode r u reach ws x e named = clear_keeps sp reach (operand 0 ws 0) (operand 1 ws 0) x named
-  does_keeps shape.Init opcode r u reach ws x e named = refl
-  does_keeps shape.Out opcode r u reach ws x e named = refl
-  does_keeps shape.OutAt opcode r u reach ws x e named = refl
-  does_keeps shape.Turnoff opcode r u reach ws x e named = refl
-  does_keeps shape.ZakInit opcode r u reach ws x e named = refl
-  does_keeps shape.ChannelGet opcode r u reach ws x e named = refl
-  does_keeps shape.ChannelPut opcode r u reach ws x e named = refl
-  does_keeps shape.ChannelMix opcode r u reach ws x e named = refl
-  does_keeps shape.ChannelClear opcode r u reach ws x e named = refl
-  does_keeps shape.Ask opcode r u reach ws x e named = refl
+  zak_keeps : (sh : Shape) (reach : Reach) (ws : List Wave) (x : VoiceState)
+      → AreNamed (λ g. in_area (area_of areas g) a ≡ false) (if writes_places sh then shape_uses stock sh reach else [])
+      → (zak_does model sh reach ws x).0.shared a ≡ x.shared a
+  zak_keeps (shape.ZakGet sp) reach ws x named = refl
+  zak_keeps (shape.ZakPut sp) reach ws x named = place_keeps sp reach (index (operand 1 ws 0)) x _ named
+  zak_keeps shape.ZakMix reach ws x named = place_keeps space.Audio reach (index (operand 1 ws 0)) x _ named
+  zak_keeps (shape.ZakClear sp) reach ws x named = clear_keeps sp reach (operand 0 ws 0) (operand 1 ws 0) x named
+  zak_keeps shape.Unit reach ws x named = refl
+  zak_keeps shape.Store reach ws x named = refl
+  zak_keeps shape.Init reach ws x named = refl
+  zak_keeps shape.Out reach ws x named = refl
+  zak_keeps shape.OutAt reach ws x named = refl
+  zak_keeps shape.Turnoff reach ws x named = refl
+  zak_keeps shape.ZakInit reach ws x named = refl
+  zak_keeps shape.ChannelGet reach ws x named = refl
+  zak_keeps shape.ChannelPut reach ws x named = refl
+  zak_keeps shape.ChannelMix reach ws x named = refl
+  zak_keeps shape.ChannelClear reach ws x named = refl
+  zak_keeps shape.Ask reach ws x named = refl
 
-  written_keeps : (b : Bool) (into : Reg) (p : VoiceState × Wave) (m : Machine VoiceState) (z : ℤ) → p.0.cells a ≡ z
-      → (if b then write piece.head.ksmps into p.1 (record m { world = p.0 }) else record m { world = p.0 }).world.cells a ≡ z
+  written_keeps : (b : Bool) (into : Reg) (p : VoiceState × Wave) (m : Machine VoiceState) (z : ℤ) → p.0.shared a ≡ z
+      → (if b then write piece.head.ksmps into p.1 (record m { world = p.0 }) else record m { world = p.0 }).world.shared a ≡ z
   written_keeps true into p m z h = h
   written_keeps false into p m z h = h
 
-  out_at_keeps : (i : Option ℕ) (w : Wave) (x : VoiceState) → (out_to_numbered piece.head.nchnls i w x).cells a ≡ x.cells a
+  out_at_keeps : (i : Option ℕ) (w : Wave) (x : VoiceState)
+      → (out_to_numbered piece.head.nchnls i w x).shared a ≡ x.shared a
   out_at_keeps None w x = refl
-  out_at_keeps (Some n) w x = same_cell (nat_le 1 n && nat_le n piece.head.nchnls) (out_to (n - 1) w x) x (x.cells a) (λ e. refl) refl
+  out_at_keeps (Some n) w x = same_cell (nat_le 1 n && nat_le n piece.head.nchnls) (out_to (n - 1) w x) x (x.shared a) (λ e. refl) refl
 
-  acts_keep : (t : Act) (into : Reg) (ws : List Wave) (m : Machine VoiceState) → AreNamed (λ g. in_area (area_of areas g) a ≡ false) (act_writes stock t)
-      → (acts (voice_world areas piece) t into ws m).world.cells a ≡ m.world.cells a
+  acts_keep : (t : Act) (into : Reg) (ws : List Wave) (m : Machine VoiceState)
+      → AreNamed (λ g. in_area (area_of areas g) a ≡ false) (act_writes stock t)
+      → (acts (voice_world areas piece) t into ws m).world.shared a ≡ m.world.shared a
   acts_keep (act.Const z) into ws m h = refl
   acts_keep (act.Field k) into ws m h = refl
   acts_keep (act.Head k) into ws m h = refl
@@ -185,11 +197,16 @@ module _ (areas : List Area) (stock : Stock) (piece : Piece) (a : ℕ) (placed :
   acts_keep act.Pick into ws m h = refl
   acts_keep (act.Call g) into ws m h = refl
   acts_keep (act.Load g) into ws m h = refl
-  acts_keep (act.Save g) into ws m h = kept_by_wave (area_of areas g) (held piece.head.ksmps (res_rate g) (operand 0 ws)) m.world.cells h.0
+  acts_keep (act.Save g) into ws m h = kept_by_wave (area_of areas g) (held piece.head.ksmps (res_rate g) (operand 0 ws)) m.world.shared h.0
   acts_keep (act.Start opcode k) into ws m h = starts_keep opcode into.rate k (first_values ws) m.world
   acts_keep (act.Unit opcode k reach) into ws m h =
-      written_keeps (gives opcode) into (does areas piece (row_of opcode).shape opcode into.rate k reach ws m.world) m (m.world.cells a)
-      (does_keeps (row_of opcode).shape opcode into.rate k reach ws m.world refl h)
+      written_keeps (gives opcode) into (unit_does model opcode into.rate k reach ws (m.world.units k) m.world) m (m.world.shared a)
+      (unit_keeps opcode into.rate k reach ws (m.world.units k) m.world)
+  acts_keep act.Seek into ws m h = same_cell (lacks_table model (first_values ws)) _ m.world (m.world.shared a) (λ e. refl) refl
+  acts_keep (act.Store opcode reach) into ws m h = store_keeps into.rate reach ws (index (operand 2 ws 0)) m.world h
+  acts_keep (act.Zak opcode reach) into ws m h =
+      written_keeps (gives opcode) into (zak_does model (row_of opcode).shape reach ws m.world) m (m.world.shared a)
+      (zak_keeps (row_of opcode).shape reach ws m.world h)
   acts_keep (act.Jump to) into ws m h = refl
   acts_keep (act.Unless to) into ws m h = refl
   acts_keep (act.Out c) into ws m h = refl
@@ -197,15 +214,17 @@ module _ (areas : List Area) (stock : Stock) (piece : Piece) (a : ℕ) (placed :
   acts_keep act.Turnoff into ws m h = refl
   acts_keep act.Ask into ws m h = refl
 
-  either_keeps : (b : Bool) (n m : Machine VoiceState) (z : ℤ) → n.world.cells a ≡ z → m.world.cells a ≡ z → (if b then n else m).world.cells a ≡ z
+  either_keeps : (b : Bool) (n m : Machine VoiceState) (z : ℤ) → n.world.shared a ≡ z → m.world.shared a ≡ z
+      → (if b then n else m).world.shared a ≡ z
   either_keeps true n m z h k = h
   either_keeps false n m z h k = k
 
   -- a cell that lies in nothing that the ops may write keeps its value
-  pub run_keeps : (place : ℕ) (ops : List Op) (m : Machine VoiceState) → OpsWritten stock (λ g. in_area (area_of areas g) a ≡ false) ops
-      → (run (voice_world areas piece) place ops m).world.cells a ≡ m.world.cells a
+  pub run_keeps : (place : ℕ) (ops : List Op) (m : Machine VoiceState)
+      → OpsWritten stock (λ g. in_area (area_of areas g) a ≡ false) ops
+      → (run (voice_world areas piece) place ops m).world.shared a ≡ m.world.shared a
   run_keeps place [] m h = refl
   run_keeps place (op ∷ ops) m h =
       run_keeps (place + 1) ops (step (voice_world areas piece) place op m) h.1
-      ∙ either_keeps (is_done (voice_world areas piece) place m) (acts (voice_world areas piece) op.act op.into (map m.regs op.from) m) m (m.world.cells a)
+      ∙ either_keeps (is_done (voice_world areas piece) place m) (acts (voice_world areas piece) op.act op.into (map m.regs op.from) m) m (m.world.shared a)
       (acts_keep op.act op.into (map m.regs op.from) m h.0) refl

@@ -1,5 +1,5 @@
 -- Small codes that voices play, worked out from the definitions: eight frames a second, four a control cycle, one channel.
-use Rattle.std.specs.Prelude.{ℕ, ℤ, pos, ◌*◌, List, [], ◌∷◌, map, replicate}
+use Rattle.std.specs.Prelude.{ℕ, ℤ, pos, ◌*◌, List, [], ◌∷◌, map, replicate, None, true}
 use Rattle.std.specs.List.{range_with_len}
 use Rattle.cs_base.specs.declared.resource.Rate.TheVariants as rate
 use Rattle.cs_base.specs.declared.resource.Res.TheVariants as res
@@ -90,11 +90,11 @@ counting = sheet (0 ∷ []) (0 ∷ []) (op_of (act.Const (whole 1)) (i 0) [] ∷
 abbrev pub writing : Sheet
 writing = sheet (1 ∷ []) (1 ∷ [])
     (op_of (act.Const (whole 70)) (i 0) [] ∷ op_of (act.Const (whole 0)) (i 1) [] ∷ [])
-    (op_of (act.Unit op.Zkw 0 (reach.Span 0 0)) (k 0) (i 0 ∷ i 1 ∷ []) ∷ [])
+    (op_of (act.Zak op.Zkw (reach.Span 0 0)) (k 0) (i 0 ∷ i 1 ∷ []) ∷ [])
 
 abbrev pub reading : List ℕ → Sheet
 reading uses = sheet uses [] (op_of (act.Const (whole 0)) (i 0) [] ∷ [])
-    (op_of (act.Unit op.Zkr 0 (reach.Span 0 0)) (k 0) (i 0 ∷ [])
+    (op_of (act.Zak op.Zkr (reach.Span 0 0)) (k 0) (i 0 ∷ [])
     ∷ op_of act.Copy (a 0) (k 0 ∷ [])
     ∷ op_of (act.Out 0) (a 0) (a 0 ∷ [])
     ∷ [])
@@ -129,3 +129,25 @@ two_delays first second = sheet [] []
     ∷ op_of (act.Start op.Delay 1) (a 0) (i 0 ∷ [])
     ∷ [])
     []
+
+-- table 9 is looked for, and another note is asked for
+abbrev pub seeking : Sheet
+seeking = sheet [] []
+    (op_of (act.Const (whole 9)) (i 0) []
+    ∷ op_of act.Seek (i 0) (i 0 ∷ [])
+    ∷ op_of act.Ask (i 0) (i 0 ∷ i 0 ∷ i 0 ∷ [])
+    ∷ [])
+    []
+
+-- 7 is stored at place 2 of table 1, whose four points have an area of their own
+abbrev pub storing : Sheet
+storing = record (sheet (0 ∷ []) (0 ∷ [])
+    (op_of (act.Const (whole 7)) (i 0) []
+    ∷ op_of (act.Const (whole 2)) (i 1) []
+    ∷ op_of (act.Const (whole 1)) (i 2) []
+    ∷ op_of act.Seek (i 0) (i 2 ∷ [])
+    ∷ [])
+    (op_of (act.Store op.Tablew (reach.Span 1 1)) (k 0) (i 0 ∷ i 1 ∷ i 2 ∷ []) ∷ [])) {
+      piece = record small_piece { tables = record { number = 1; size = 4; frozen = None; present = true } ∷ [] };
+      areas = record { res = res.Table 1; first = 0; length = 4 } ∷ [];
+    }

@@ -8,14 +8,15 @@ use Rattle.cs_signal.specs.Pace.{Pace}
 use Rattle.cs_ugen.specs.Units.{IsUnitOpcode, Stands}
 use Rattle.cs_ir.specs.Machine.{Machine, run}
 use Rattle.cs_ir.specs.Validity.{has_value}
-use Rattle.cs_ir.specs.Resources.{Stock, unit_uses}
+use Rattle.cs_ir.specs.Resources.{Stock, tables_within, unit_uses, zak_uses}
 use Rattle.cs_ir.specs.declared.op.Act.{Act}
 use Rattle.cs_ir.specs.declared.op.Act.TheVariants as act
 use Rattle.cs_ir.specs.declared.op.Op.{Op}
 use Rattle.cs_cells.specs.declared.footprint.Area.{Area}
-use Rattle.cs_meaning.specs.Plain.{Piece, Plain, History, table_number, plain}
+use Rattle.cs_meaning.specs.Pieces.{Piece, table_number}
+use Rattle.cs_meaning.specs.Plain.{Plain, History, plain}
 use Rattle.cs_voice_meaning.specs.Placing.{HasArea, IsPlaced}
-use Rattle.cs_voice_meaning.specs.VoiceWorld.{Playing, VoiceState, load, pace_of, the_generators, voice_world}
+use Rattle.cs_voice_meaning.specs.VoiceWorld.{Playing, VoiceState, read_cells, pace_of, the_generators, voice_world}
 
 -- each of some resources is named
 abbrev pub AreNamed : (Res → Type 0) → List Res → Type 0
@@ -25,12 +26,14 @@ AreNamed N gs = AllByRecursion N gs
 abbrev pub Kinds : Type 0
 Kinds = ℕ → Opcode × Rate
 
--- An op at a rate touches what is named and no other, has its units as they are, and saves into no table.
+-- An op at a rate touches what is named and no other, starts and runs units as they are, and saves into no table.
 abbrev pub ActNamed : Stock → Kinds → (Res → Type 0) → Act → Rate → Type 0
 ActNamed stock kinds N (act.Load g) r = N g
 ActNamed stock kinds N (act.Save g) r = N g × (has_value g ≡ true)
-ActNamed stock kinds N (act.Start opcode u) r = kinds u ≡ (opcode, r)
+ActNamed stock kinds N (act.Start opcode u) r = (kinds u ≡ (opcode, r)) × IsUnitOpcode opcode
 ActNamed stock kinds N (act.Unit opcode u reach) r = (kinds u ≡ (opcode, r)) × AreNamed N (unit_uses stock opcode reach)
+ActNamed stock kinds N (act.Store opcode reach) r = AreNamed N (tables_within stock reach)
+ActNamed stock kinds N (act.Zak opcode reach) r = AreNamed N (zak_uses stock opcode reach)
 ActNamed stock kinds N _ r = Unit {0}
 
 abbrev pub OpsNamed : Stock → Kinds → (Res → Type 0) → List Op → Type 0
@@ -47,7 +50,8 @@ pub record Plays (pace : Pace) (kind : Opcode × Rate) (p : Playing) (h : Histor
   pub opcode : h.opcode ≡ kind.0
   pub rate : h.rate ≡ kind.1
   pub table : p.table ≡ table_number h.settled
-  pub stands : IsUnitOpcode kind.0 → Stands p.state kind.0 kind.1 pace h.settled h.inputs
+  pub unit : IsUnitOpcode kind.0
+  pub stands : Stands p.state kind.0 kind.1 pace h.settled h.inputs
 
 abbrev pub SameUnit : Pace → Opcode × Rate → Option Playing → Option History → Type 0
 SameUnit pace kind None None = Unit {0}
@@ -59,7 +63,7 @@ SameUnit pace kind (Some p) None = ⊥
 -- inputs bring it, and the rest is the same; of what it asked for, all but what it had asked for earlier.
 pub record SameState (N : Res → Type 0) (areas : List Area) (kinds : Kinds) (pace : Pace) (earlier : List (List ℤ))
     (x : VoiceState) (y : Plain) : Type 0 where
-  pub shared : (g : Res) → N g → load areas g x ≡ y.shared g
+  pub shared : (g : Res) → N g → read_cells areas g x.shared ≡ y.shared g
   pub units : (u : ℕ) → SameUnit pace (kinds u) (x.units u) (y.units u)
   pub delays : x.delays ≡ y.delays
   pub outs : x.outs ≡ y.outs

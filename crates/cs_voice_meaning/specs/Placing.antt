@@ -1,5 +1,5 @@
 -- Where what notes share has its cells.
-use Rattle.std.specs.Prelude.{ℕ, ℤ, pos, ◌≡◌, ◌<◌, ◌+◌, ◌-◌, ◌==◌, true, List, [], ◌∷◌, nat_lt, Option, Some, None, if◌then◌else◌}
+use Rattle.std.specs.Prelude.{ℕ, ℤ, pos, ◌≡◌, ◌<◌, ◌+◌, ◌-◌, ◌==◌, Bool, true, List, [], ◌∷◌, nat_lt, Option, Some, None, if◌then◌else◌}
 use Rattle.std.specs.List.{list_any}
 use Rattle.cs_base.specs.Rates.{same_res, res_rate}
 use Rattle.cs_base.specs.declared.resource.Rate.{Rate}
@@ -12,6 +12,8 @@ use Rattle.cs_ir.specs.Waves.{Wave, silence}
 use Rattle.cs_cells.specs.Areas.{IsLaid}
 use Rattle.cs_cells.specs.Cells.{in_area}
 use Rattle.cs_cells.specs.declared.footprint.Area.{Area}
+use Rattle.cs_gen.specs.Points.{len_of}
+use Rattle.cs_ugen.specs.Points.{is_len}
 use Rattle.cs_meaning.specs.Plain.{Piece, Table, find_table}
 
 -- the area of a resource, where it has one
@@ -42,11 +44,22 @@ abbrev pub cell_count : ℕ → Rate → ℕ
 cell_count ksmps rate.Audio = ksmps
 cell_count ksmps _ = 1
 
--- a live table is one of those that the layout has, and has a cell a point
+-- whether a table may have so many points: a power of two, or one more
+abbrev pub is_table_size : ℕ → Bool
+is_table_size n = is_len (len_of n)
+
+-- a live table is one of those that the layout has, has a cell a point, as many as a table may have
 pub record IsTablePlaced (areas : List Area) (stock : Stock) (t : Table) : Type 0 where
   pub among : list_any (λ n. t.number == n) stock.live ≡ true
   pub some : 0 < t.size
+  pub power : is_table_size t.size ≡ true
   pub size : (area : Area) → area_of areas (res.Table t.number) ≡ Some area → area.length ≡ t.size
+
+-- the table of a number is one that notes may write
+pub record IsLiveTable (tables : List Table) (n : ℕ) : Type 0 where
+  pub table : Table
+  pub found : find_table tables (pos n) ≡ Some table
+  pub live : table.frozen ≡ None
 
 -- Areas hold what the notes of a piece share: each has its resource's number of cells, and the zak places and live tables
 -- are those of the piece.
@@ -58,3 +71,4 @@ pub record IsPlaced (areas : List Area) (stock : Stock) (piece : Piece) : Type 0
   pub spaces : stock.spaces ≡ piece.spaces
   pub tables : (number : ℤ) (t : Table) → find_table piece.tables number ≡ Some t → t.frozen ≡ None
       → IsTablePlaced areas stock t
+  pub live : (n : ℕ) (area : Area) → area_of areas (res.Table n) ≡ Some area → IsLiveTable piece.tables n

@@ -72,7 +72,7 @@ begins v cells = record {
   regs = v.regs;
   next = 0;
   world = record {
-    cells = cells;
+    shared = cells;
     units = v.units;
     delays = v.delays;
     outs = λ c. silence;
@@ -91,7 +91,7 @@ performed v c = voice_of v.sheet (cycle v (seen v.sheet (cell c)))
 
 -- the cells after it: those that it may write, as the code leaves them
 abbrev pub left_by : Sounding → Cells → Cells
-left_by v c = map (λ a. if may_write v.sheet a then (cycle v (seen v.sheet (cell c))).world.cells a else cell c a)
+left_by v c = map (λ a. if may_write v.sheet a then (cycle v (seen v.sheet (cell c))).world.shared a else cell c a)
     (range_with_len 0 (length c))
 
 -- a resource has an area of which the voice may use each cell, or may write each cell

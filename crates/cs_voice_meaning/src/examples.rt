@@ -1,7 +1,7 @@
 // Small codes worked out: a call that does nothing, whose contract says what comes of them.
 ghost use Rattle.std.specs.Prelude.{◌≡◌, ◌∷◌, [], pos, true, None, Some};
-ghost use Rattle.cs_meaning.specs.Plain.{no_table, delay_too_long};
-ghost use Rattle.cs_voice_meaning.specs.Examples.{whole, cells_of, start, begun, heard, counting, writing, reading, ending, missing_table, two_delays};
+ghost use Rattle.cs_meaning.specs.Model.{no_table, delay_too_long};
+ghost use Rattle.cs_voice_meaning.specs.Examples.{whole, cells_of, start, begun, heard, counting, writing, reading, ending, missing_table, two_delays, seeking, storing};
 ghost use Rattle.cs_voice_meaning.specs.Voices.{performed, left_by};
 
 /// Codes that voices play, worked out from the definitions.
@@ -14,6 +14,10 @@ pub fn voices_worked_by_hand()
         ≡ cells_of (whole 3) (whole 70) (whole 9) }
     ensures read { heard (begun (reading (1 ∷ []))) (left_by (begun writing) (cells_of (whole 3) (whole 8) (whole 9)))
         ≡ whole 70 ∷ whole 70 ∷ whole 70 ∷ whole 70 ∷ [] }
+    // A point of a table takes a value; a table that isn't there refuses what looks for it.
+    ensures stored { left_by (begun storing) (whole 0 ∷ whole 0 ∷ whole 0 ∷ whole 0 ∷ [])
+        ≡ whole 0 ∷ whole 0 ∷ whole 7 ∷ whole 0 ∷ [] }
+    ensures sought { (start seeking).world.cause ≡ Some (no_table (pos 9)) }
     // A place that isn't in the footprint isn't seen.
     ensures unseen { heard (begun (reading [])) (cells_of (whole 3) (whole 8) (whole 9))
         ≡ whole 0 ∷ whole 0 ∷ whole 0 ∷ whole 0 ∷ [] }
@@ -23,7 +27,7 @@ pub fn voices_worked_by_hand()
         ≡ whole 4 ∷ whole 4 ∷ whole 4 ∷ whole 4 ∷ [] }
     // A start that is refused keeps what was written and asked for before, and does nothing after.
     ensures refused { (start missing_table).world.cause ≡ Some (no_table (pos 9)) }
-    ensures kept { (start missing_table).world.cells 0 ≡ whole 5 }
+    ensures kept { (start missing_table).world.shared 0 ≡ whole 5 }
     ensures asked { (start missing_table).world.asks ≡ (whole 5 ∷ whole 0 ∷ whole 0 ∷ []) ∷ [] }
     // Delays of 2^18 samples together, and of one sample more.
     ensures delays { (start (two_delays (whole 16384) (whole 16384))).world.cause ≡ None }

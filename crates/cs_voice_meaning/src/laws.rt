@@ -20,7 +20,7 @@ pub fn voices_obey_the_frame_law()
     ensures voice { (v : Sounding) (c : Cells) → IsSound v
         → performed v c ≡ voice_of v.sheet (cycle v (cell c)) }
     ensures cells { (v : Sounding) (c : Cells) (a : ℕ) → IsSound v → a < length c
-        → cell (left_by v c) a ≡ (cycle v (cell c)).world.cells a }
+        → cell (left_by v c) a ≡ (cycle v (cell c)).world.shared a }
 {}
 
 /// A control cycle refuses nothing, asks for nothing and starts no delay: it takes no memory.

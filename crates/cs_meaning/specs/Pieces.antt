@@ -1,0 +1,136 @@
+-- What a note finds: the header, the tables and the zak spaces of its piece, its p-fields, and what opcodes with a state do.
+use Rattle.std.specs.Prelude.{ℕ, ℤ, pos, Bool, true, false, not, ◌&&◌, ◌||◌, ◌*◌, ◌==◌, zero, suc, List, [], ◌∷◌, map, nat_lt, unsigned_abs, slice_index_or, int_lt, Option, Some, None, if◌then◌else◌}
+use Rattle.std.specs.Int.{is_negative}
+use Rattle.std.specs.List.{range_with_len}
+use Rattle.std.specs.Option.{is_some}
+use Rattle.cs_base.specs.Numbers.{whole_below, sum_of, quotient_of}
+use Rattle.cs_base.specs.declared.resource.Rate.{Rate}
+use Rattle.cs_base.specs.declared.resource.Rate.TheVariants as rate
+use Rattle.cs_base.specs.declared.resource.Res.{Res}
+use Rattle.cs_base.specs.declared.resource.Res.TheVariants as res
+use Rattle.cs_base.specs.declared.spaces.Spaces.{Spaces}
+use Rattle.cs_words.specs.Catalogue.{takes_table}
+use Rattle.cs_words.specs.declared.catalogue.Opcode.{Opcode}
+use Rattle.cs_words.specs.declared.catalogue.Opcode.TheVariants as op
+use Rattle.cs_words.specs.declared.catalogue.Space.{Space}
+use Rattle.cs_words.specs.declared.catalogue.Space.TheVariants as space
+use Rattle.cs_words.specs.declared.word.HeadName.{HeadName}
+use Rattle.cs_words.specs.declared.word.HeadName.TheVariants as head
+use Rattle.cs_gen.specs.Places.{place_of_index}
+use Rattle.cs_gen.specs.Points.{len_of}
+use Rattle.cs_gen.specs.Tables.{curve_of}
+use Rattle.cs_typed.specs.Places.{Header}
+use Rattle.cs_ir.specs.Resources.{places_of, zak_place, reaches}
+use Rattle.cs_ir.specs.Waves.{Wave}
+use Rattle.cs_ir.specs.declared.op.Reach.{Reach}
+
+-- What opcodes with a state do: what one gives at its last step, by its rate, its settled values and all inputs so far; and how
+-- many samples a delay of a time in raw seconds keeps.
+pub record Generators : Type 0 where
+  pub gen : Opcode → Rate → List ℤ → List (List ℤ) → ℤ
+  pub delay : ℤ → ℕ
+
+-- A table: its number, its size, its points where they are frozen, and whether it has been made by now.
+pub record Table : Type 0 where
+  pub number : ℕ
+  pub size : ℕ
+  pub frozen : Option (List ℤ)
+  pub present : Bool
+
+-- what a note finds
+pub record Piece : Type 0 where
+  pub head : Header
+  pub spaces : Spaces
+  pub tables : List Table
+  pub generators : Generators
+  pub fields : ℕ → ℤ
+
+-- what a name of the header is worth
+abbrev pub head_value : Header → HeadName → ℤ
+head_value h head.Sr = pos (h.sr * 65536)
+head_value h head.Kr = quotient_of (pos (h.sr * 65536)) (pos (h.ksmps * 65536))
+head_value h head.Ksmps = pos (h.ksmps * 65536)
+head_value h head.Nchnls = pos (h.nchnls * 65536)
+head_value h head.Dbfs = h.dbfs
+
+-- The whole number below a value, where it is 0 or more.
+abbrev pub index : ℤ → Option ℕ
+index z = if is_negative z then None else Some (unsigned_abs (whole_below z))
+
+-- two values, frame by frame, as one sum
+abbrev pub added : Wave → Wave → Wave
+added w v = λ j. sum_of (w j) (v j)
+
+-- ---- steps
+
+-- how many steps an opcode makes in a cycle, and at which of them it is at a frame
+abbrev pub steps_of : ℕ → Rate → ℕ
+steps_of ksmps rate.Audio = ksmps
+steps_of ksmps _ = 1
+
+abbrev pub step_at : Rate → ℕ → ℕ
+step_at rate.Audio j = j
+step_at _ j = 0
+
+-- ---- tables
+
+-- The number of a table is the whole number below the first of an opcode's settled values.
+abbrev pub table_number : List ℤ → ℤ
+table_number is = whole_below (slice_index_or is 0 (pos 0))
+
+abbrev pub find_table : List Table → ℤ → Option Table
+find_table [] n = None
+find_table (t ∷ ts) n = if not (is_negative n) && t.number == unsigned_abs n then Some t else find_table ts n
+
+abbrev pub is_there : Option Table → Bool
+is_there None = false
+is_there (Some t) = t.present
+
+-- the points of a table, and those that are read: with the guard point behind the last
+abbrev pub points_of : (Res → Wave) → Table → Option (List ℤ) → List ℤ
+points_of shared t (Some points) = points
+points_of shared t None = map (shared (res.Table t.number)) (range_with_len 0 t.size)
+
+abbrev pub read_points : (Res → Wave) → Option Table → List ℤ
+read_points shared None = []
+read_points shared (Some t) = curve_of (points_of shared t t.frozen)
+
+-- A live table is one that notes may change. A note that stores into one that hasn't been made yet is refused as it begins.
+abbrev pub is_live : Table → Bool
+is_live t = not (is_some t.frozen)
+
+-- After some steps a place of a table has what the last step stored that went there, else what it had.
+abbrev pub stored : (ℕ → ℕ) → Wave → ℕ → Wave → Wave
+stored place sig zero w a = w a
+stored place sig (suc n) w a = if place n == a then sig n else stored place sig n w a
+
+abbrev pub places_of_indices : Table → Wave → ℕ → ℕ
+places_of_indices t indices j = place_of_index (len_of t.size) (indices j)
+
+-- whether an opcode may touch the table with a number, where it takes one
+abbrev pub may_touch : Opcode → Reach → ℤ → Bool
+may_touch opcode reach n = not (takes_table opcode) || reaches reach (unsigned_abs n)
+
+-- whether an opcode is the one that keeps a delay's samples
+abbrev pub is_delay : Opcode → Bool
+is_delay op.Delay = true
+is_delay _ = false
+
+-- ---- zak places
+
+-- A value names the place below it, where the space has it and the op may touch it.
+abbrev pub has_place : Piece → Space → Reach → ℕ → Bool
+has_place piece s reach n = nat_lt n (places_of piece.spaces s) && reaches reach n
+
+abbrev pub at_place : {A : Type 0} → Piece → Space → Reach → Option ℕ → A → (Res → A) → A
+at_place piece s reach None other found = other
+at_place piece s reach (Some n) other found = if has_place piece s reach n then found (zak_place s n) else other
+
+-- the places from one value to another
+abbrev pub is_between : ℤ → ℤ → ℕ → Bool
+is_between first last n = not (int_lt (pos n) (whole_below first)) && not (int_lt (whole_below last) (pos n))
+
+abbrev pub is_cleared : Piece → Space → Reach → ℤ → ℤ → Res → Bool
+is_cleared piece space.Control reach first last (res.ZakK n) = has_place piece space.Control reach n && is_between first last n
+is_cleared piece space.Audio reach first last (res.ZakA n) = has_place piece space.Audio reach n && is_between first last n
+is_cleared piece s reach first last _ = false
