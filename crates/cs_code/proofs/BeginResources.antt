@@ -1,29 +1,25 @@
 -- The ops of a note's beginning use, and may write, exactly what its statements do then.
-use Rattle.std.proofs.Common.{◌≡◌, ℕ, ◌+◌, Bool, true, false, List, [], ◌∷◌, ◌++◌, length, if◌then◌else◌, refl, sym, ◌∙◌, append-nil}
+use Rattle.std.proofs.Common.{◌≡◌, ℕ, ◌+◌, Bool, true, false, List, [], ◌∷◌, ◌++◌, length, if◌then◌else◌, refl, sym, ◌∙◌, ap, append-nil}
 use Rattle.cs_base.specs.Rates.{same_rate}
 use Rattle.cs_base.specs.declared.resource.Rate.{Rate}
 use Rattle.cs_base.specs.declared.resource.Rate.TheVariants as rate
 use Rattle.cs_base.specs.declared.resource.Res.{Res}
-use Rattle.cs_words.specs.Catalogue.{row_of}
-use Rattle.cs_words.specs.declared.catalogue.Opcode.{Opcode}
-use Rattle.cs_ir.specs.Resources.{Stock, ops_use, ops_write, unit_uses, unit_writes}
-use Rattle.cs_ir.specs.Units.{is_started}
+use Rattle.cs_ir.specs.Resources.{Stock, act_uses, ops_use, ops_write, tables_within, unit_uses, zak_uses, zak_writes}
 use Rattle.cs_ir.specs.Waves.{if_init}
+use Rattle.cs_ir.specs.declared.op.Act.{Act}
 use Rattle.cs_ir.specs.declared.op.Act.TheVariants as act
 use Rattle.cs_ir.specs.declared.op.Op.{Op}
-use Rattle.cs_ir.specs.declared.op.Reach.{Reach}
 use Rattle.cs_ir.specs.declared.register.Reg.{Reg}
-use Rattle.cs_meaning.specs.Beginning.{expr_reads, exprs_read, expr_begins, exprs_begin, settled_reads, stmt_begins, block_begins, arms_begin, stmt_begin_writes, block_begin_writes, arms_begin_write}
-use Rattle.cs_meaning.specs.Core.{Stmt, Block, Arms, set, unit, out, out_at, ask, turnoff, nothing, choose, no_stmt, andthen, otherwise, arm}
+use Rattle.cs_meaning.specs.Uses.{arms_used, arms_written, beginning, block_begin_writes, block_begins, expr_reads, expr_used, exprs_read, exprs_used, stmt_used, stmt_written, var_uses, vars_use}
+use Rattle.cs_meaning.specs.Core.{Stmt, Block, Arms, set, unit, zak, store, out, out_at, ask, turnoff, nothing, choose, no_stmt, andthen, otherwise, arm}
 use Rattle.cs_meaning.specs.Notes.{Place, reg, past, past_parts, past_stmt, past_block}
-use Rattle.cs_meaning.specs.Uses.{var_uses, vars_use}
 use Rattle.cs_typed.specs.TypedTree.{Expression, number, var, field, head, neg, pair, pick, apply}
 use Rattle.cs_typed.specs.WellRated.{node_rate}
 use Rattle.cs_typed.specs.declared.tree.Var.{Var as Variable}
 use Rattle.cs_typed.specs.declared.tree.Var.TheVariants.{Local, Global}
 use Rattle.cs_code.specs.inner.Frames.{Frame, op_of, kept_reg, temp, direct, spot, spots}
-use Rattle.cs_code.specs.inner.Code.{unless_there, own, code, copied, operand_code, operands_code, kept_code, keep_code, keep_all_code, set_code, target, given_code, start_code, unit_code, init_code, init_block_code, first_code, all_code}
-use Rattle.cs_code.proofs.Resources.{use_two, write_two, nothing_read, last_uses, given_use, arm_use, copied_write, own_write, operands_write, set_write, unit_write, arm_write}
+use Rattle.cs_code.specs.inner.Code.{unless_there, own, code, copied, operand_code, operands_code, kept_code, keep_code, keep_all_code, set_code, target, given_code, on_code, run_code, start_code, unit_code, zak_code, seek_code, store_code, init_code, init_block_code, first_code, all_code}
+use Rattle.cs_code.proofs.Resources.{use_two, write_two, nothing_read, last_uses, given_use, arm_use, copied_write, own_write, set_write, on_write, run_write, arm_write}
 
 -- ---- what whole expressions read
 
@@ -113,7 +109,7 @@ same_use stock rate.Init once each u h k = h
 same_use stock rate.Control once each u h k = k
 same_use stock rate.Audio once each u h k = k
 
-keep_use : (stock : Stock) (f : Frame) (at : ℕ) (e : Expression) → ops_use stock (keep_code f at e) ≡ expr_begins e
+keep_use : (stock : Stock) (f : Frame) (at : ℕ) (e : Expression) → ops_use stock (keep_code f at e) ≡ expr_used beginning e
 keep_use stock f at (number r n) =
     either_use stock r (kept_code f at (number r n)) [] [] [] (whole_code stock f (number r n) 0 (kept_reg f at) 0) refl ∙ nothing_read r
 keep_use stock f at (var r v) =
@@ -123,30 +119,30 @@ keep_use stock f at (field r k) =
 keep_use stock f at (head r k) =
     either_use stock r (kept_code f at (head r k)) [] [] [] (whole_code stock f (head r k) 0 (kept_reg f at) 0) refl ∙ nothing_read r
 keep_use stock f at (neg r a) =
-    either_use stock r (kept_code f at (neg r a)) (keep_code f at a) (expr_reads a) (expr_begins a)
+    either_use stock r (kept_code f at (neg r a)) (keep_code f at a) (expr_reads a) (expr_used beginning a)
     (whole_code stock f (neg r a) 0 (kept_reg f at) 0) (keep_use stock f at a)
 keep_use stock f at (pair r b y z) =
     either_use stock r (kept_code f at (pair r b y z)) (keep_code f at y ++ keep_code f (past at y) z)
-    (expr_reads y ++ expr_reads z) (expr_begins y ++ expr_begins z)
+    (expr_reads y ++ expr_reads z) (expr_used beginning y ++ expr_used beginning z)
     (whole_code stock f (pair r b y z) 0 (kept_reg f at) 0)
-    (use_two stock (keep_code f at y) (keep_code f (past at y) z) (expr_begins y) (expr_begins z) (keep_use stock f at y) (keep_use stock f (past at y) z))
+    (use_two stock (keep_code f at y) (keep_code f (past at y) z) (expr_used beginning y) (expr_used beginning z) (keep_use stock f at y) (keep_use stock f (past at y) z))
 keep_use stock f at (pick r c y z) =
     let first : List Op = keep_code f at c in
     let second : List Op = keep_code f (past at c) y in
     let third : List Op = keep_code f (past (past at c) y) z in
     either_use stock r (kept_code f at (pick r c y z)) (first ++ (second ++ third))
-    (expr_reads c ++ (expr_reads y ++ expr_reads z)) (expr_begins c ++ (expr_begins y ++ expr_begins z))
+    (expr_reads c ++ (expr_reads y ++ expr_reads z)) (expr_used beginning c ++ (expr_used beginning y ++ expr_used beginning z))
     (whole_code stock f (pick r c y z) 0 (kept_reg f at) 0)
-    (use_two stock first (second ++ third) (expr_begins c) (expr_begins y ++ expr_begins z) (keep_use stock f at c)
-    (use_two stock second third (expr_begins y) (expr_begins z) (keep_use stock f (past at c) y) (keep_use stock f (past (past at c) y) z)))
+    (use_two stock first (second ++ third) (expr_used beginning c) (expr_used beginning y ++ expr_used beginning z) (keep_use stock f at c)
+    (use_two stock second third (expr_used beginning y) (expr_used beginning z) (keep_use stock f (past at c) y) (keep_use stock f (past (past at c) y) z)))
 keep_use stock f at (apply r g a) =
-    either_use stock r (kept_code f at (apply r g a)) (keep_code f at a) (expr_reads a) (expr_begins a)
+    either_use stock r (kept_code f at (apply r g a)) (keep_code f at a) (expr_reads a) (expr_used beginning a)
     (whole_code stock f (apply r g a) 0 (kept_reg f at) 0) (keep_use stock f at a)
 
-keep_all_use : (stock : Stock) (f : Frame) (at : ℕ) (es : List Expression) → ops_use stock (keep_all_code f at es) ≡ exprs_begin es
+keep_all_use : (stock : Stock) (f : Frame) (at : ℕ) (es : List Expression) → ops_use stock (keep_all_code f at es) ≡ exprs_used beginning es
 keep_all_use stock f at [] = refl
 keep_all_use stock f at (e ∷ es) =
-    use_two stock (keep_code f at e) (keep_all_code f (past at e) es) (expr_begins e) (exprs_begin es) (keep_use stock f at e)
+    use_two stock (keep_code f at e) (keep_all_code f (past at e) es) (expr_used beginning e) (exprs_used beginning es) (keep_use stock f at e)
     (keep_all_use stock f (past at e) es)
 
 -- ---- what statements use as the note begins
@@ -163,50 +159,59 @@ whole_set stock f (Global g) e =
     use_two stock (operand_code f true 0 e 0) (op_of (act.Save g) (spot f true 0 e 0) (spot f true 0 e 0 ∷ []) ∷ []) (expr_reads e) (g ∷ [])
     (whole_operand stock f 0 e 0) refl
 
-start_use : (stock : Stock) (f : Frame) (r : Rate) (opcode : Opcode) (u : ℕ) (is : List Expression)
-    → ops_use stock (start_code f r opcode u is) ≡ settled_reads opcode is
-start_use stock f r opcode u is = by_shape (is_started (row_of opcode).shape)
-  where
-    by_shape : (b : Bool) → ops_use stock (if b
-        then operands_code f true 0 is 0 ++ (op_of (act.Start opcode u) (reg r 0) (spots f true 0 is 0) ∷ []) else [])
-        ≡ (if b then exprs_read is else [])
-    by_shape true =
-        last_uses stock (operands_code f true 0 is 0) (op_of (act.Start opcode u) (reg r 0) (spots f true 0 is 0)) (exprs_read is) refl
-        (whole_operands stock f 0 is 0)
-    by_shape false = refl
+whole_on : (stock : Stock) (f : Frame) (a : Act) (into : Reg) (es : List Expression)
+    → ops_use stock (on_code f true 0 a into es) ≡ exprs_read es ++ act_uses stock a
+whole_on stock f a into es =
+    use_two stock (operands_code f true 0 es 0) (op_of a into (spots f true 0 es 0) ∷ []) (exprs_read es) (act_uses stock a)
+    (whole_operands stock f 0 es 0) (append-nil (act_uses stock a))
 
-whole_unit : (stock : Stock) (f : Frame) (r : Rate) (vs : List Variable) (opcode : Opcode) (u : ℕ) (reach : Reach) (xs : List Expression)
-    → ops_use stock (unit_code f true 0 r vs opcode u reach xs) ≡ exprs_read xs ++ (unit_uses stock opcode reach ++ vars_use vs)
-whole_unit stock f r vs opcode u reach xs =
-    use_two stock (operands_code f true 0 xs 0) (op_of (act.Unit opcode u reach) (target f r vs) (spots f true 0 xs 0) ∷ given_code f r vs)
-    (exprs_read xs) (unit_uses stock opcode reach ++ vars_use vs) (whole_operands stock f 0 xs 0)
-    (use_two stock (op_of (act.Unit opcode u reach) (target f r vs) (spots f true 0 xs 0) ∷ []) (given_code f r vs)
-    (unit_uses stock opcode reach) (vars_use vs) (append-nil (unit_uses stock opcode reach)) (given_use stock f r vs))
+-- an op that uses nothing by itself
+whole_alone : (stock : Stock) (f : Frame) (a : Act) (into : Reg) (es : List Expression) → act_uses stock a ≡ []
+    → ops_use stock (on_code f true 0 a into es) ≡ exprs_read es
+whole_alone stock f a into es none =
+    last_uses stock (operands_code f true 0 es 0) (op_of a into (spots f true 0 es 0)) (exprs_read es) none (whole_operands stock f 0 es 0)
+
+whole_run : (stock : Stock) (f : Frame) (a : Act) (r : Rate) (vs : List Variable) (xs : List Expression)
+    → ops_use stock (run_code f true 0 a r vs xs) ≡ exprs_read xs ++ (act_uses stock a ++ vars_use vs)
+whole_run stock f a r vs xs =
+    use_two stock (operands_code f true 0 xs 0) (op_of a (target f r vs) (spots f true 0 xs 0) ∷ given_code f r vs)
+    (exprs_read xs) (act_uses stock a ++ vars_use vs) (whole_operands stock f 0 xs 0)
+    (ap (λ l. act_uses stock a ++ l) (given_use stock f r vs))
 
 mutual
-  begins_use : (stock : Stock) (f : Frame) (place : ℕ) (p : Place) (s : Stmt) → ops_use stock (init_code f place p s) ≡ stmt_begins stock s
+  begins_use : (stock : Stock) (f : Frame) (place : ℕ) (p : Place) (s : Stmt) → ops_use stock (init_code f place p s) ≡ stmt_used beginning stock s
   begins_use stock f place p (set r v e) =
-      either_use stock r (set_code f true 0 v e) (keep_code f p.part e) (expr_reads e ++ var_uses v) (expr_begins e)
+      either_use stock r (set_code f true 0 v e) (keep_code f p.part e) (expr_reads e ++ var_uses v) (expr_used beginning e)
       (whole_set stock f v e) (keep_use stock f p.part e)
   begins_use stock f place p (unit r vs opcode reach xs is) =
       let started : List Op = start_code f r opcode p.unit is in
       let once : List Op = unit_code f true 0 r vs opcode p.unit reach xs in
       let kept : List Op = keep_all_code f p.part xs in
       let runs : List Res = exprs_read xs ++ (unit_uses stock opcode reach ++ vars_use vs) in
-      either_use stock r (started ++ once) (kept ++ started) (settled_reads opcode is ++ runs) (exprs_begin xs ++ settled_reads opcode is)
-      (use_two stock started once (settled_reads opcode is) runs (start_use stock f r opcode p.unit is)
-      (whole_unit stock f r vs opcode p.unit reach xs))
-      (use_two stock kept started (exprs_begin xs) (settled_reads opcode is) (keep_all_use stock f p.part xs)
-      (start_use stock f r opcode p.unit is))
+      let starts = whole_alone stock f (act.Start opcode p.unit) (reg r 0) is refl in
+      either_use stock r (started ++ once) (kept ++ started) (exprs_read is ++ runs) (exprs_used beginning xs ++ exprs_read is)
+      (use_two stock started once (exprs_read is) runs starts (whole_run stock f (act.Unit opcode p.unit reach) r vs xs))
+      (use_two stock kept started (exprs_used beginning xs) (exprs_read is) (keep_all_use stock f p.part xs) starts)
+  begins_use stock f place p (zak r vs opcode reach xs) =
+      either_use stock r (zak_code f true 0 r vs opcode reach xs) (keep_all_code f p.part xs)
+      (exprs_read xs ++ (zak_uses stock opcode reach ++ vars_use vs)) (exprs_used beginning xs)
+      (whole_run stock f (act.Zak opcode reach) r vs xs) (keep_all_use stock f p.part xs)
+  begins_use stock f place p (store r opcode reach es is) =
+      let sought : List Op = seek_code f is in
+      let once : List Op = store_code f true 0 r opcode reach es in
+      let kept : List Op = keep_all_code f p.part es in
+      let stores : List Res = exprs_read es ++ tables_within stock reach in
+      let seeks = whole_alone stock f act.Seek (reg rate.Init 0) is refl in
+      either_use stock r (sought ++ once) (kept ++ sought) (exprs_read is ++ stores) (exprs_used beginning es ++ exprs_read is)
+      (use_two stock sought once (exprs_read is) stores seeks (whole_on stock f (act.Store opcode reach) (reg r 0) es))
+      (use_two stock kept sought (exprs_used beginning es) (exprs_read is) (keep_all_use stock f p.part es) seeks)
   begins_use stock f place p (out r es) = keep_all_use stock f p.part es
   begins_use stock f place p (out_at r es) = keep_all_use stock f p.part es
-  begins_use stock f place p (ask es) =
-      last_uses stock (operands_code f true 0 es 0) (op_of act.Ask (reg rate.Init 0) (spots f true 0 es 0)) (exprs_read es) refl
-      (whole_operands stock f 0 es 0)
+  begins_use stock f place p (ask es) = whole_alone stock f act.Ask (reg rate.Init 0) es refl
   begins_use stock f place p (turnoff r) = refl
   begins_use stock f place p nothing = refl
   begins_use stock f place p (choose r arms) =
-      same_use stock r (first_code f place p arms) (all_code f place p arms) (arms_begin stock arms) (first_use stock f place p arms)
+      same_use stock r (first_code f place p arms) (all_code f place p arms) (arms_used beginning stock arms) (first_use stock f place p arms)
       (all_use stock f place p arms)
 
   -- the ops of a note's beginning use what its statements do then
@@ -214,29 +219,29 @@ mutual
   begins_block_use stock f place p no_stmt = refl
   begins_block_use stock f place p (andthen s b) =
       use_two stock (init_code f place p s) (init_block_code f (place + length (init_code f place p s)) (past_stmt p s) b)
-      (stmt_begins stock s) (block_begins stock b) (begins_use stock f place p s)
+      (stmt_used beginning stock s) (block_begins stock b) (begins_use stock f place p s)
       (begins_block_use stock f (place + length (init_code f place p s)) (past_stmt p s) b)
 
-  first_use : (stock : Stock) (f : Frame) (place : ℕ) (p : Place) (arms : Arms) → ops_use stock (first_code f place p arms) ≡ arms_begin stock arms
+  first_use : (stock : Stock) (f : Frame) (place : ℕ) (p : Place) (arms : Arms) → ops_use stock (first_code f place p arms) ≡ arms_used beginning stock arms
   first_use stock f place p (otherwise b) = begins_block_use stock f place p b
   first_use stock f place p (arm c b rest) =
       let before : List Op = keep_code f p.part c in
       let q : Place = past_parts (past p.part c) p in
       let body : List Op = init_block_code f (place + length before + 1) q b in
       let others : List Op = first_code f (place + length before + 1 + length body + 1) (past_block q b) rest in
-      arm_use stock place before (kept_reg f p.part) body others (expr_begins c) (block_begins stock b) (arms_begin stock rest)
+      arm_use stock place before (kept_reg f p.part) body others (expr_used beginning c) (block_begins stock b) (arms_used beginning stock rest)
       (keep_use stock f p.part c) (begins_block_use stock f (place + length before + 1) q b)
       (first_use stock f (place + length before + 1 + length body + 1) (past_block q b) rest)
 
-  all_use : (stock : Stock) (f : Frame) (place : ℕ) (p : Place) (arms : Arms) → ops_use stock (all_code f place p arms) ≡ arms_begin stock arms
+  all_use : (stock : Stock) (f : Frame) (place : ℕ) (p : Place) (arms : Arms) → ops_use stock (all_code f place p arms) ≡ arms_used beginning stock arms
   all_use stock f place p (otherwise b) = begins_block_use stock f place p b
   all_use stock f place p (arm c b rest) =
       let before : List Op = keep_code f p.part c in
       let q : Place = past_parts (past p.part c) p in
       let body : List Op = init_block_code f (place + length before) q b in
       let others : List Op = all_code f (place + length before + length body) (past_block q b) rest in
-      use_two stock before (body ++ others) (expr_begins c) (block_begins stock b ++ arms_begin stock rest) (keep_use stock f p.part c)
-      (use_two stock body others (block_begins stock b) (arms_begin stock rest)
+      use_two stock before (body ++ others) (expr_used beginning c) (block_begins stock b ++ arms_used beginning stock rest) (keep_use stock f p.part c)
+      (use_two stock body others (block_begins stock b) (arms_used beginning stock rest)
       (begins_block_use stock f (place + length before) q b)
       (all_use stock f (place + length before + length body) (past_block q b) rest))
 
@@ -284,38 +289,36 @@ keep_all_write stock f at [] = refl
 keep_all_write stock f at (e ∷ es) =
     write_two stock (keep_code f at e) (keep_all_code f (past at e) es) [] [] (keep_write stock f at e) (keep_all_write stock f (past at e) es)
 
-start_write : (stock : Stock) (f : Frame) (r : Rate) (opcode : Opcode) (u : ℕ) (is : List Expression)
-    → ops_write stock (start_code f r opcode u is) ≡ []
-start_write stock f r opcode u is = by_shape (is_started (row_of opcode).shape)
-  where
-    by_shape : (b : Bool) → ops_write stock (if b
-        then operands_code f true 0 is 0 ++ (op_of (act.Start opcode u) (reg r 0) (spots f true 0 is 0) ∷ []) else []) ≡ []
-    by_shape true =
-        write_two stock (operands_code f true 0 is 0) (op_of (act.Start opcode u) (reg r 0) (spots f true 0 is 0) ∷ []) [] []
-        (operands_write stock f true 0 is 0) refl
-    by_shape false = refl
-
 mutual
-  begins_write : (stock : Stock) (f : Frame) (place : ℕ) (p : Place) (s : Stmt) → ops_write stock (init_code f place p s) ≡ stmt_begin_writes stock s
+  begins_write : (stock : Stock) (f : Frame) (place : ℕ) (p : Place) (s : Stmt) → ops_write stock (init_code f place p s) ≡ stmt_written beginning stock s
   begins_write stock f place p (set r v e) =
       either_write stock r (set_code f true 0 v e) (keep_code f p.part e) (var_uses v) [] (set_write stock f true 0 v e) (keep_write stock f p.part e)
   begins_write stock f place p (unit r vs opcode reach xs is) =
       let started : List Op = start_code f r opcode p.unit is in
       let once : List Op = unit_code f true 0 r vs opcode p.unit reach xs in
       let kept : List Op = keep_all_code f p.part xs in
-      let stored : List Res = unit_writes stock opcode reach ++ vars_use vs in
-      either_write stock r (started ++ once) (kept ++ started) stored []
-      (write_two stock started once [] stored (start_write stock f r opcode p.unit is) (unit_write stock f true 0 r vs opcode p.unit reach xs))
-      (write_two stock kept started [] [] (keep_all_write stock f p.part xs) (start_write stock f r opcode p.unit is))
+      let starts = on_write stock f true 0 (act.Start opcode p.unit) (reg r 0) is in
+      either_write stock r (started ++ once) (kept ++ started) (vars_use vs) []
+      (write_two stock started once [] (vars_use vs) starts (run_write stock f true 0 (act.Unit opcode p.unit reach) r vs xs))
+      (write_two stock kept started [] [] (keep_all_write stock f p.part xs) starts)
+  begins_write stock f place p (zak r vs opcode reach xs) =
+      either_write stock r (zak_code f true 0 r vs opcode reach xs) (keep_all_code f p.part xs) (zak_writes stock opcode reach ++ vars_use vs) []
+      (run_write stock f true 0 (act.Zak opcode reach) r vs xs) (keep_all_write stock f p.part xs)
+  begins_write stock f place p (store r opcode reach es is) =
+      let sought : List Op = seek_code f is in
+      let once : List Op = store_code f true 0 r opcode reach es in
+      let kept : List Op = keep_all_code f p.part es in
+      let seeks = on_write stock f true 0 act.Seek (reg rate.Init 0) is in
+      either_write stock r (sought ++ once) (kept ++ sought) (tables_within stock reach) []
+      (write_two stock sought once [] (tables_within stock reach) seeks (on_write stock f true 0 (act.Store opcode reach) (reg r 0) es))
+      (write_two stock kept sought [] [] (keep_all_write stock f p.part es) seeks)
   begins_write stock f place p (out r es) = keep_all_write stock f p.part es
   begins_write stock f place p (out_at r es) = keep_all_write stock f p.part es
-  begins_write stock f place p (ask es) =
-      write_two stock (operands_code f true 0 es 0) (op_of act.Ask (reg rate.Init 0) (spots f true 0 es 0) ∷ []) [] []
-      (operands_write stock f true 0 es 0) refl
+  begins_write stock f place p (ask es) = on_write stock f true 0 act.Ask (reg rate.Init 0) es
   begins_write stock f place p (turnoff r) = refl
   begins_write stock f place p nothing = refl
   begins_write stock f place p (choose r arms) =
-      same_write stock r (first_code f place p arms) (all_code f place p arms) (arms_begin_write stock arms) (first_write stock f place p arms)
+      same_write stock r (first_code f place p arms) (all_code f place p arms) (arms_written beginning stock arms) (first_write stock f place p arms)
       (all_write stock f place p arms)
 
   -- the ops of a note's beginning may write what its statements may then
@@ -324,28 +327,28 @@ mutual
   begins_block_write stock f place p no_stmt = refl
   begins_block_write stock f place p (andthen s b) =
       write_two stock (init_code f place p s) (init_block_code f (place + length (init_code f place p s)) (past_stmt p s) b)
-      (stmt_begin_writes stock s) (block_begin_writes stock b) (begins_write stock f place p s)
+      (stmt_written beginning stock s) (block_begin_writes stock b) (begins_write stock f place p s)
       (begins_block_write stock f (place + length (init_code f place p s)) (past_stmt p s) b)
 
-  first_write : (stock : Stock) (f : Frame) (place : ℕ) (p : Place) (arms : Arms) → ops_write stock (first_code f place p arms) ≡ arms_begin_write stock arms
+  first_write : (stock : Stock) (f : Frame) (place : ℕ) (p : Place) (arms : Arms) → ops_write stock (first_code f place p arms) ≡ arms_written beginning stock arms
   first_write stock f place p (otherwise b) = begins_block_write stock f place p b
   first_write stock f place p (arm c b rest) =
       let before : List Op = keep_code f p.part c in
       let q : Place = past_parts (past p.part c) p in
       let body : List Op = init_block_code f (place + length before + 1) q b in
       let others : List Op = first_code f (place + length before + 1 + length body + 1) (past_block q b) rest in
-      arm_write stock place before (kept_reg f p.part) body others (block_begin_writes stock b) (arms_begin_write stock rest)
+      arm_write stock place before (kept_reg f p.part) body others (block_begin_writes stock b) (arms_written beginning stock rest)
       (keep_write stock f p.part c) (begins_block_write stock f (place + length before + 1) q b)
       (first_write stock f (place + length before + 1 + length body + 1) (past_block q b) rest)
 
-  all_write : (stock : Stock) (f : Frame) (place : ℕ) (p : Place) (arms : Arms) → ops_write stock (all_code f place p arms) ≡ arms_begin_write stock arms
+  all_write : (stock : Stock) (f : Frame) (place : ℕ) (p : Place) (arms : Arms) → ops_write stock (all_code f place p arms) ≡ arms_written beginning stock arms
   all_write stock f place p (otherwise b) = begins_block_write stock f place p b
   all_write stock f place p (arm c b rest) =
       let before : List Op = keep_code f p.part c in
       let q : Place = past_parts (past p.part c) p in
       let body : List Op = init_block_code f (place + length before) q b in
       let others : List Op = all_code f (place + length before + length body) (past_block q b) rest in
-      write_two stock before (body ++ others) [] (block_begin_writes stock b ++ arms_begin_write stock rest) (keep_write stock f p.part c)
-      (write_two stock body others (block_begin_writes stock b) (arms_begin_write stock rest)
+      write_two stock before (body ++ others) [] (block_begin_writes stock b ++ arms_written beginning stock rest) (keep_write stock f p.part c)
+      (write_two stock body others (block_begin_writes stock b) (arms_written beginning stock rest)
       (begins_block_write stock f (place + length before) q b)
       (all_write stock f (place + length before + length body) (past_block q b) rest))

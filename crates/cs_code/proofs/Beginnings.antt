@@ -3,20 +3,19 @@ use Rattle.std.proofs.Common.{◌≡◌, ◌∙◌, ◌+◌, ◌++◌, ℕ, fals
 use Rattle.cs_base.specs.Rates.{same_rate}
 use Rattle.cs_base.specs.declared.resource.Rate.{Rate}
 use Rattle.cs_base.specs.declared.resource.Rate.TheVariants as rate
-use Rattle.cs_words.specs.declared.catalogue.Opcode.{Opcode}
 use Rattle.cs_ir.specs.Waves.{if_init}
+use Rattle.cs_ir.specs.declared.op.Act.{Act}
 use Rattle.cs_ir.specs.declared.op.Act.TheVariants as act
 use Rattle.cs_ir.specs.declared.op.Op.{Op}
-use Rattle.cs_ir.specs.declared.op.Reach.{Reach}
 use Rattle.cs_ir.specs.declared.register.Reg.{Reg}
-use Rattle.cs_meaning.specs.Core.{Stmt, Block, Arms, set, unit, out, out_at, ask, turnoff, nothing, choose, no_stmt, andthen, otherwise, arm}
+use Rattle.cs_meaning.specs.Core.{Stmt, Block, Arms, set, unit, zak, store, out, out_at, ask, turnoff, nothing, choose, no_stmt, andthen, otherwise, arm}
 use Rattle.cs_meaning.specs.Notes.{reg, past, past_parts, past_stmt, past_block, Place}
 use Rattle.cs_typed.specs.TypedTree.{Expression, number, var, field, head, neg, pair, pick, apply}
 use Rattle.cs_typed.specs.WellRated.{node_rate}
 use Rattle.cs_typed.specs.declared.tree.Var.{Var as Variable}
 use Rattle.cs_typed.specs.declared.tree.Var.TheVariants.{Local, Global}
 use Rattle.cs_code.specs.declared.frame.Bases.{Bases}
-use Rattle.cs_code.specs.inner.Code.{unless_there, copied, own, code, operand_code, operands_code, set_code, target, given_code, unit_code, out_ops, out_at_ops, arm_code, perf_code, perf_block_code, perf_arms_code}
+use Rattle.cs_code.specs.inner.Code.{unless_there, copied, own, code, operand_code, operands_code, set_code, target, given_code, on_code, run_code, out_ops, out_at_ops, arm_code, perf_code, perf_block_code, perf_arms_code}
 use Rattle.cs_code.specs.inner.Emitted.{frame_of}
 use Rattle.cs_code.specs.inner.Frames.{Frame, op_of, kept_or, local_of, reg_or, temp, spot, spots}
 
@@ -90,31 +89,32 @@ module _ (b : Bases) (n : ℕ) where
       (ap₂ ◌++◌ (same_operand e at 0) (ap (λ p. op_of act.Copy (reg q k) (p ∷ []) ∷ []) (same_spot at e 0)))
   same_set at (Global g) e = ap₂ ◌++◌ (same_operand e at 0) (ap (λ p. op_of (act.Save g) p (p ∷ []) ∷ []) (same_spot at e 0))
 
-  -- a unit of a faster rate runs
-  run_by : (r : Rate) (at : ℕ) (vs : List Variable) (opcode : Opcode) (u : ℕ) (reach : Reach) (xs : List Expression)
-      → if_init r [] (unit_code F false at r vs opcode u reach xs) ≡ if_init r [] (unit_code G false at r vs opcode u reach xs)
-  run_by rate.Init at vs opcode u reach xs = refl
-  run_by rate.Control at [] opcode u reach xs =
-      ap₂ (λ l qs. l ++ (op_of (act.Unit opcode u reach) (target F rate.Control []) qs ∷ [])) (same_operands xs at 0) (same_spots at xs 0)
-  run_by rate.Control at (Local q k ∷ vs) opcode u reach xs =
-      ap₂ (λ l qs. l ++ (op_of (act.Unit opcode u reach) (target F rate.Control (Local q k ∷ vs)) qs ∷ given_code F rate.Control (Local q k ∷ vs)))
-      (same_operands xs at 0) (same_spots at xs 0)
-  run_by rate.Control at (Global g ∷ vs) opcode u reach xs =
-      ap₂ (λ l qs. l ++ (op_of (act.Unit opcode u reach) (target F rate.Control (Global g ∷ vs)) qs ∷ given_code F rate.Control (Global g ∷ vs)))
-      (same_operands xs at 0) (same_spots at xs 0)
-  run_by rate.Audio at [] opcode u reach xs =
-      ap₂ (λ l qs. l ++ (op_of (act.Unit opcode u reach) (target F rate.Audio []) qs ∷ [])) (same_operands xs at 0) (same_spots at xs 0)
-  run_by rate.Audio at (Local q k ∷ vs) opcode u reach xs =
-      ap₂ (λ l qs. l ++ (op_of (act.Unit opcode u reach) (target F rate.Audio (Local q k ∷ vs)) qs ∷ given_code F rate.Audio (Local q k ∷ vs)))
-      (same_operands xs at 0) (same_spots at xs 0)
-  run_by rate.Audio at (Global g ∷ vs) opcode u reach xs =
-      ap₂ (λ l qs. l ++ (op_of (act.Unit opcode u reach) (target F rate.Audio (Global g ∷ vs)) qs ∷ given_code F rate.Audio (Global g ∷ vs)))
-      (same_operands xs at 0) (same_spots at xs 0)
+  -- an op on values; and what runs at a faster rate
+  same_on : (at : ℕ) (a : Act) (into : Reg) (es : List Expression) → on_code F false at a into es ≡ on_code G false at a into es
+  same_on at a into es = ap₂ (λ l qs. l ++ (op_of a into qs ∷ [])) (same_operands es at 0) (same_spots at es 0)
+
+  run_by : (r : Rate) (at : ℕ) (a : Act) (vs : List Variable) (xs : List Expression)
+      → if_init r [] (run_code F false at a r vs xs) ≡ if_init r [] (run_code G false at a r vs xs)
+  run_by rate.Init at a vs xs = refl
+  run_by rate.Control at a [] xs =
+      ap₂ (λ l qs. l ++ (op_of a (target F rate.Control []) qs ∷ [])) (same_operands xs at 0) (same_spots at xs 0)
+  run_by rate.Control at a (Local q k ∷ vs) xs =
+      ap₂ (λ l qs. l ++ (op_of a (target F rate.Control (Local q k ∷ vs)) qs ∷ given_code F rate.Control (Local q k ∷ vs))) (same_operands xs at 0) (same_spots at xs 0)
+  run_by rate.Control at a (Global g ∷ vs) xs =
+      ap₂ (λ l qs. l ++ (op_of a (target F rate.Control (Global g ∷ vs)) qs ∷ given_code F rate.Control (Global g ∷ vs))) (same_operands xs at 0) (same_spots at xs 0)
+  run_by rate.Audio at a [] xs =
+      ap₂ (λ l qs. l ++ (op_of a (target F rate.Audio []) qs ∷ [])) (same_operands xs at 0) (same_spots at xs 0)
+  run_by rate.Audio at a (Local q k ∷ vs) xs =
+      ap₂ (λ l qs. l ++ (op_of a (target F rate.Audio (Local q k ∷ vs)) qs ∷ given_code F rate.Audio (Local q k ∷ vs))) (same_operands xs at 0) (same_spots at xs 0)
+  run_by rate.Audio at a (Global g ∷ vs) xs =
+      ap₂ (λ l qs. l ++ (op_of a (target F rate.Audio (Global g ∷ vs)) qs ∷ given_code F rate.Audio (Global g ∷ vs))) (same_operands xs at 0) (same_spots at xs 0)
 
   mutual
     same_stmt : (place : ℕ) (p : Place) (s : Stmt) → perf_code F place p s ≡ perf_code G place p s
     same_stmt place p (set r v e) = ap (if_init r []) (same_set p.part v e)
-    same_stmt place p (unit r vs opcode reach xs is) = run_by r p.part vs opcode p.unit reach xs
+    same_stmt place p (unit r vs opcode reach xs is) = run_by r p.part (act.Unit opcode p.unit reach) vs xs
+    same_stmt place p (zak r vs opcode reach xs) = run_by r p.part (act.Zak opcode reach) vs xs
+    same_stmt place p (store r opcode reach es is) = ap (if_init r []) (same_on p.part (act.Store opcode reach) (reg r 0) es)
     same_stmt place p (out r es) = ap₂ (λ l qs. l ++ out_ops 0 qs) (same_operands es p.part 0) (same_spots p.part es 0)
     same_stmt place p (out_at r es) = ap₂ (λ l qs. l ++ out_at_ops qs) (same_operands es p.part 0) (same_spots p.part es 0)
     same_stmt place p (ask es) = refl

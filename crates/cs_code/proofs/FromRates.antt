@@ -17,7 +17,7 @@ use Rattle.cs_words.specs.declared.catalogue.Shape.TheVariants as shape
 use Rattle.cs_words.specs.declared.word.Func.TheVariants as func
 use Rattle.cs_base.specs.declared.spaces.Spaces.{Spaces}
 use Rattle.cs_ir.specs.Units.{is_unit}
-use Rattle.cs_ir.specs.Validity.{take_all, stores_at, as_sounds, bound_at}
+use Rattle.cs_ir.specs.Validity.{take_all, bound_at}
 use Rattle.cs_meaning.specs.Core.{ask, core, core_stmt, core_arms, core_call, values_of, settled, moving}
 use Rattle.cs_typed.specs.TypedTree as typed
 use Rattle.cs_typed.specs.TypedTree.{Expression, number, var, field, head, neg, pair, pick, apply}
@@ -26,9 +26,9 @@ use Rattle.cs_typed.specs.Places.{is_starting}
 use Rattle.cs_typed.specs.declared.setting.Setting.{Setting}
 use Rattle.cs_typed.specs.declared.tree.Var.{Var as Variable}
 use Rattle.cs_typed.specs.declared.tree.Var.TheVariants.{Local, Global}
-use Rattle.cs_code.proofs.Letters.{take_rates, stills, unit_fits, may_run, same_bound, sounds as sound_rates, stores_rates, store_fits}
+use Rattle.cs_code.proofs.Letters.{take_rates, stills, is_run, run_fits, may_run, same_bound, store_fits}
 use Rattle.cs_code.proofs.Named.{Narrow, NarrowBlock, NarrowArms}
-use Rattle.cs_code.proofs.Ranked.{holds_value, Ranked, AllRanked, AllInit, AllSound, Paired, rated, RankedSet, GivenTo, RankedUnit, RankedStmt, RankedBlock, RankedArms}
+use Rattle.cs_code.proofs.Ranked.{holds_value, Ranked, AllRanked, AllInit, AllSound, Paired, rated, RankedSet, GivenTo, RankedRun, RankedUnit, RankedStore, RankedStmt, RankedBlock, RankedArms}
 use Rattle.cs_code.proofs.Rated.{init_is}
 use Rattle.cs_code.proofs.Valid.{within_self, init_within, two}
 
@@ -290,33 +290,47 @@ take_rated [] bound (e ∷ es) = refl
 take_rated (l ∷ ls) bound [] = refl
 take_rated (l ∷ ls) bound (e ∷ es) = ap (λ b. takes l bound (node_rate e) && b) (take_rated ls bound es)
 
-sounds_rated : (r : Rate) (es : List Expression) → list_all (as_sounds r) (rated es) ≡ sound_rates r es
-sounds_rated r [] = refl
-sounds_rated r (e ∷ es) = ap (λ b. (if is_audio r then is_audio (node_rate e) else not (is_audio (node_rate e))) && b) (sounds_rated r es)
-
-stores_rated : (sh : Shape) (r : Rate) (es : List Expression) → stores_at sh r (rated es) ≡ stores_rates sh r es
-stores_rated shape.Store r es = sounds_rated r es
-stores_rated _ r es = refl
+run_ranked : (s : Setting) (r : Rate) (vs : List Variable) (opcode : Opcode) (args : List typed.Argument) → is_run (row_of opcode).shape ≡ true
+    → takes_count (row_of opcode) (length args) ≡ true → fit_letters (row_of opcode) (bound_by vs) 0 args ≡ true
+    → IsRatedCall s r vs opcode args → RankedRun r vs opcode (moving (row_of opcode) 0 args)
+run_ranked s r vs opcode args runs count letters h =
+    let xs : List Expression = moving (row_of opcode) 0 args in
+    let fits = run_fits opcode (bound_by vs) args runs count letters in
+    let bound : bound_by vs ≡ bound_at (row_of opcode) r = same_bound s r vs opcode args h runs in
+    record {
+      moving = take_rated (moving_letters (row_of opcode)) (bound_at (row_of opcode) r) xs
+          ∙ subst (λ b. take_rates (moving_letters (row_of opcode)) b xs ≡ true) bound fits.moving;
+      runs = may_run s r vs opcode args h runs;
+      given = unit_given (row_of opcode) r vs args h.given h.done;
+      parts = moving_ranked (row_of opcode) 0 args (args_ranked args h.parts);
+    }
 
 unit_ranked : (s : Setting) (r : Rate) (vs : List Variable) (opcode : Opcode) (args : List typed.Argument) → is_unit (row_of opcode).shape ≡ true
-    → takes_count (row_of opcode) (length args) ≡ true → fit_letters (row_of opcode) (bound_by vs) 0 args ≡ true
+    → is_run (row_of opcode).shape ≡ true → takes_count (row_of opcode) (length args) ≡ true
+    → fit_letters (row_of opcode) (bound_by vs) 0 args ≡ true
     → IsRatedCall s r vs opcode args → RankedUnit r vs opcode (moving (row_of opcode) 0 args) (settled (row_of opcode) 0 args)
-unit_ranked s r vs opcode args one count letters h =
-    let parts = args_ranked args h.parts in
-    let xs : List Expression = moving (row_of opcode) 0 args in
-    let fits = unit_fits opcode (bound_by vs) args one count letters in
-    let bound : bound_by vs ≡ bound_at (row_of opcode) r = same_bound s r vs opcode args h one in
+unit_ranked s r vs opcode args one runs count letters h =
+    let fits = run_fits opcode (bound_by vs) args runs count letters in
     record {
       is_one = one;
       count = fits.count;
       settled = all_init (settled (row_of opcode) 0 args) fits.settled;
-      moving = take_rated (moving_letters (row_of opcode)) (bound_at (row_of opcode) r) xs
-          ∙ subst (λ b. take_rates (moving_letters (row_of opcode)) b xs ≡ true) bound fits.moving;
-      even = stores_rated (row_of opcode).shape r xs ∙ store_fits s r vs opcode args h;
-      runs = may_run s r vs opcode args h one;
-      given = unit_given (row_of opcode) r vs args h.given h.done;
-      parts = moving_ranked (row_of opcode) 0 args parts;
-      settled_parts = settled_ranked (row_of opcode) 0 args parts;
+      run = run_ranked s r vs opcode args runs count letters h;
+      settled_parts = settled_ranked (row_of opcode) 0 args (args_ranked args h.parts);
+    }
+
+store_ranked : (s : Setting) (r : Rate) (args : List typed.Argument) → IsRatedCall s r [] op.Tablew args
+    → RankedStore r op.Tablew (values_of args) (settled (row_of op.Tablew) 0 args)
+store_ranked s r args h =
+    let fits = store_fits r args h.count h.letters h.even h.done in
+    let parts = args_ranked args h.parts in
+    record {
+      is_one = refl;
+      stores = fits.stores;
+      settled = all_init (settled (row_of op.Tablew) 0 args) fits.still;
+      single = fits.single;
+      parts = values_ranked args parts;
+      settled_parts = settled_ranked (row_of op.Tablew) 0 args parts;
     }
 
 none_given : (v : Variable) (vs : List Variable) → length (v ∷ vs) ≡ 0 → ⊥
@@ -407,8 +421,16 @@ call_ranked spaces s r [] op.Schedule args h = ask_ranked rate.Audio args (args_
 call_ranked spaces s r (v ∷ vs) op.Schedule args h = absurd (none_given v vs h.results)
 call_ranked spaces s r [] op.EventI args h = ask_ranked rate.Audio args (args_ranked args h.parts) h.count h.letters
 call_ranked spaces s r (v ∷ vs) op.EventI args h = absurd (none_given v vs h.results)
-call_ranked spaces s r [] opcode args h = unit_ranked s r [] opcode args refl h.count h.letters h
-call_ranked spaces s r (v ∷ vs) opcode args h = unit_ranked s r (v ∷ vs) opcode args refl h.count h.letters h
+call_ranked spaces s r [] op.Tablew args h = store_ranked s r args h
+call_ranked spaces s r (v ∷ vs) op.Tablew args h = absurd (none_given v vs h.results)
+call_ranked spaces s r vs op.Zkr args h = (refl, run_ranked s r vs op.Zkr args refl h.count h.letters h)
+call_ranked spaces s r vs op.Zar args h = (refl, run_ranked s r vs op.Zar args refl h.count h.letters h)
+call_ranked spaces s r vs op.Zkw args h = (refl, run_ranked s r vs op.Zkw args refl h.count h.letters h)
+call_ranked spaces s r vs op.Zaw args h = (refl, run_ranked s r vs op.Zaw args refl h.count h.letters h)
+call_ranked spaces s r vs op.Zawm args h = (refl, run_ranked s r vs op.Zawm args refl h.count h.letters h)
+call_ranked spaces s r vs op.Zkcl args h = (refl, run_ranked s r vs op.Zkcl args refl h.count h.letters h)
+call_ranked spaces s r vs op.Zacl args h = (refl, run_ranked s r vs op.Zacl args refl h.count h.letters h)
+call_ranked spaces s r vs opcode args h = unit_ranked s r vs opcode args refl refl h.count h.letters h
 
 -- ---- statements
 

@@ -1,24 +1,23 @@
--- The code of a control cycle starts no unit and asks for no note.
+-- The code of a control cycle starts no unit, looks for no table and asks for no note.
 use Rattle.std.proofs.Common.{◌≡◌, ℕ, ◌+◌, Bool, true, false, List, [], ◌∷◌, ◌++◌, length, Option, Some, None, if◌then◌else◌, refl}
 use Rattle.std.proofs.lemmas.Bool.{and_parts, and_from}
 use Rattle.cs_base.specs.Rates.{same_rate}
 use Rattle.cs_base.specs.declared.resource.Rate.{Rate}
 use Rattle.cs_base.specs.declared.resource.Rate.TheVariants as rate
-use Rattle.cs_words.specs.declared.catalogue.Opcode.{Opcode}
 use Rattle.cs_ir.specs.Cycles.{is_of_cycle, are_of_cycle}
 use Rattle.cs_ir.specs.Waves.{if_init}
+use Rattle.cs_ir.specs.declared.op.Act.{Act}
 use Rattle.cs_ir.specs.declared.op.Act.TheVariants as act
 use Rattle.cs_ir.specs.declared.op.Op.{Op}
-use Rattle.cs_ir.specs.declared.op.Reach.{Reach}
 use Rattle.cs_ir.specs.declared.register.Reg.{Reg}
-use Rattle.cs_meaning.specs.Core.{Stmt, Block, Arms, set, unit, out, out_at, ask, turnoff, nothing, choose, no_stmt, andthen, otherwise, arm}
+use Rattle.cs_meaning.specs.Core.{Stmt, Block, Arms, set, unit, zak, store, out, out_at, ask, turnoff, nothing, choose, no_stmt, andthen, otherwise, arm}
 use Rattle.cs_meaning.specs.Notes.{Place, reg, past, past_parts, past_stmt, past_block}
 use Rattle.cs_typed.specs.TypedTree.{Expression, number, var, field, head, neg, pair, pick, apply}
 use Rattle.cs_typed.specs.WellRated.{node_rate}
 use Rattle.cs_typed.specs.declared.tree.Var.{Var as Variable}
 use Rattle.cs_typed.specs.declared.tree.Var.TheVariants.{Local, Global}
 use Rattle.cs_code.specs.inner.Frames.{Frame, op_of, temp, direct, spot, spots}
-use Rattle.cs_code.specs.inner.Code.{unless_there, copied, own, code, operand_code, operands_code, set_code, target, given_code, unit_code, out_ops, out_at_ops, arm_code, perf_code, perf_block_code, perf_arms_code}
+use Rattle.cs_code.specs.inner.Code.{unless_there, copied, own, code, operand_code, operands_code, set_code, target, given_code, on_code, run_code, unit_code, zak_code, store_code, out_ops, out_at_ops, arm_code, perf_code, perf_block_code, perf_arms_code}
 
 both : (a b : List Op) → are_of_cycle a ≡ true → are_of_cycle b ≡ true → are_of_cycle (a ++ b) ≡ true
 both [] b h k = k
@@ -98,11 +97,16 @@ given_fine f r (Local q n ∷ vs) = by_rate (same_rate q r)
     by_rate true = refl
     by_rate false = refl
 
-unit_fine : (f : Frame) (whole : Bool) (at : ℕ) (r : Rate) (vs : List Variable) (opcode : Opcode) (u : ℕ) (reach : Reach) (xs : List Expression)
-    → are_of_cycle (unit_code f whole at r vs opcode u reach xs) ≡ true
-unit_fine f whole at r vs opcode u reach xs =
-    both (operands_code f whole at xs 0) (op_of (act.Unit opcode u reach) (target f r vs) (spots f whole at xs 0) ∷ given_code f r vs)
-    (operands_fine f whole xs at 0) (given_fine f r vs)
+on_fine : (f : Frame) (whole : Bool) (at : ℕ) (a : Act) (into : Reg) (es : List Expression) → is_of_cycle a ≡ true
+    → are_of_cycle (on_code f whole at a into es) ≡ true
+on_fine f whole at a into es h =
+    both (operands_code f whole at es 0) (op_of a into (spots f whole at es 0) ∷ []) (operands_fine f whole es at 0) (and_from (is_of_cycle a) true h refl)
+
+run_fine : (f : Frame) (whole : Bool) (at : ℕ) (a : Act) (r : Rate) (vs : List Variable) (xs : List Expression) → is_of_cycle a ≡ true
+    → are_of_cycle (run_code f whole at a r vs xs) ≡ true
+run_fine f whole at a r vs xs h =
+    both (operands_code f whole at xs 0) (op_of a (target f r vs) (spots f whole at xs 0) ∷ given_code f r vs)
+    (operands_fine f whole xs at 0) (and_from (is_of_cycle a) (are_of_cycle (given_code f r vs)) h (given_fine f r vs))
 
 outs_fine : (c : ℕ) (qs : List Reg) → are_of_cycle (out_ops c qs) ≡ true
 outs_fine c [] = refl
@@ -123,7 +127,11 @@ mutual
   stmt_fine : (f : Frame) (place : ℕ) (p : Place) (s : Stmt) → are_of_cycle (perf_code f place p s) ≡ true
   stmt_fine f place p (set r v e) = when_cycle r (set_code f false p.part v e) (set_fine f false p.part v e)
   stmt_fine f place p (unit r vs opcode reach xs is) =
-      when_cycle r (unit_code f false p.part r vs opcode p.unit reach xs) (unit_fine f false p.part r vs opcode p.unit reach xs)
+      when_cycle r (unit_code f false p.part r vs opcode p.unit reach xs) (run_fine f false p.part (act.Unit opcode p.unit reach) r vs xs refl)
+  stmt_fine f place p (zak r vs opcode reach xs) =
+      when_cycle r (zak_code f false p.part r vs opcode reach xs) (run_fine f false p.part (act.Zak opcode reach) r vs xs refl)
+  stmt_fine f place p (store r opcode reach es is) =
+      when_cycle r (store_code f false p.part r opcode reach es) (on_fine f false p.part (act.Store opcode reach) (reg r 0) es refl)
   stmt_fine f place p (out r es) =
       both (operands_code f false p.part es 0) (out_ops 0 (spots f false p.part es 0)) (operands_fine f false es p.part 0) (outs_fine 0 (spots f false p.part es 0))
   stmt_fine f place p (out_at r es) =

@@ -1,30 +1,28 @@
 -- The code of the initialisation does what statements do as the note begins.
-use Rattle.std.proofs.Common.{◌≡◌, ℕ, ◌+◌, ◌≤◌, true, false, List, [], ◌∷◌, ◌++◌, length, refl, sym, ◌∙◌, ap, subst, arith, le_trans, length-append}
+use Rattle.std.proofs.Common.{◌≡◌, ℕ, ◌+◌, ◌≤◌, true, false, List, ◌++◌, length, refl, sym, ◌∙◌, ap, subst, arith, le_trans, length-append}
 use Rattle.cs_base.proofs.Tests.{by_test}
 use Rattle.cs_base.specs.declared.resource.Rate.{Rate}
 use Rattle.cs_base.specs.declared.resource.Rate.TheVariants as rate
 use Rattle.cs_words.specs.declared.catalogue.Opcode.{Opcode}
-use Rattle.cs_ir.specs.Machine.{Machine, in_world, run}
+use Rattle.cs_ir.specs.Machine.{Machine, run}
 use Rattle.cs_ir.specs.Waves.{constant, if_init, first_values}
 use Rattle.cs_ir.specs.Worlds.{World}
-use Rattle.cs_ir.specs.declared.op.Act.TheVariants as act
 use Rattle.cs_ir.specs.declared.op.Op.{Op}
 use Rattle.cs_ir.specs.declared.op.Reach.{Reach}
 use Rattle.cs_ir.specs.declared.register.Reg.{Reg}
-use Rattle.cs_meaning.specs.Core.{Stmt, Block, Arms, set, unit, out, out_at, ask, turnoff, nothing, choose, no_stmt, andthen, otherwise, arm}
-use Rattle.cs_meaning.specs.Initialising.{going, keep, keep_all, started, run_once, init_stmt, init_block, init_first, init_all}
-use Rattle.cs_meaning.specs.Notes.{Note, Place, reg, moved_to, past, past_all, past_parts, past_stmt, past_block, past_arms, assign, value, values}
+use Rattle.cs_meaning.specs.Core.{Stmt, Block, Arms, set, unit, zak, store, out, out_at, ask, turnoff, nothing, choose, no_stmt, andthen, otherwise, arm}
+use Rattle.cs_meaning.specs.Initialising.{going, keep, keep_all, started, run_once, sought, stored_once, zak_once, init_stmt, init_block, init_first, init_all}
+use Rattle.cs_meaning.specs.Notes.{Note, Place, moved_to, past, past_all, past_parts, past_stmt, past_block, past_arms, assign, value, values}
 use Rattle.cs_typed.specs.TypedTree.{Expression, number, var, field, head, neg, pair, pick, apply}
 use Rattle.cs_typed.specs.WellRated.{node_rate}
 use Rattle.cs_typed.specs.declared.tree.Var.{Var as Variable}
-use Rattle.cs_code.specs.inner.Frames.{Frame, op_of, kept_reg, spots}
-use Rattle.cs_code.specs.inner.Code.{operands_code, keep_code, keep_all_code, set_code, start_code, unit_code, arm_code, init_code, init_block_code, first_code, all_code}
+use Rattle.cs_code.specs.inner.Frames.{Frame, kept_reg}
+use Rattle.cs_code.specs.inner.Code.{keep_code, keep_all_code, set_code, start_code, unit_code, zak_code, seek_code, store_code, ask_code, arm_code, init_code, init_block_code, first_code, all_code}
 use Rattle.cs_code.proofs.Arms.{Agrees, agrees_live, agrees_later, arm_runs}
-use Rattle.cs_code.proofs.Expressions.{live_same, operands_run}
 use Rattle.cs_code.proofs.Inside.{Fits, Takes, InsideAll, InsideStmt, InsideBlock, InsideArms, AllStill}
-use Rattle.cs_code.proofs.Parts.{Quiet, Reached, Kept, live_kept, moved_stands, keep_runs, keep_all_runs, start_runs, set_runs, unit_runs}
+use Rattle.cs_code.proofs.Parts.{Quiet, Reached, Kept, live_kept, keep_runs, keep_all_runs, start_runs, seek_runs, store_runs, ask_runs, set_runs, unit_runs, zak_runs}
 use Rattle.cs_code.proofs.Performs.{block_grows, arms_grow, arm_length}
-use Rattle.cs_code.proofs.Runs.{Live, run_append, run_snoc, run_refused}
+use Rattle.cs_code.proofs.Runs.{Live, run_append, run_refused}
 
 past_once : (at : ℕ) (r : Rate) (n : ℕ) → r ≡ rate.Init → if_init r (at + 1) n ≡ at + 1
 past_once at r n h = ap (λ q. if_init q (at + 1) n) h
@@ -113,27 +111,40 @@ module _ {W : Type 0} (o : World W) (quiet : Quiet o) (f : Frame) (lim : Rate �
       (λ k. from_reached (started o r opcode p.unit is s) (place + length first) rest n (run o (place + length first) rest n) lk
       (start_runs o f lim parts fits r opcode p.unit is s (place + length first) n k.stands lk settled))
 
-  ask_runs : (es : List Expression) (place : ℕ) (t : Note W) (m : Machine W) → Agrees f lim parts place t m → o.refused t.world ≡ false → InsideAll lim es
-      → Agrees f lim parts (place + length (operands_code f true 0 es 0 ++ (op_of act.Ask (reg rate.Init 0) (spots f true 0 es 0) ∷ [])))
-      (moved_to (o.ask (first_values (values o t true 0 es)) t.world) t)
-      (run o place (operands_code f true 0 es 0 ++ (op_of act.Ask (reg rate.Init 0) (spots f true 0 es 0) ∷ [])) m)
-  ask_runs es place t m h live inside =
-      let ops : List Op = operands_code f true 0 es 0 in
-      let last : Op = op_of act.Ask (reg rate.Init 0) (spots f true 0 es 0) in
-      let n : Machine W = run o place ops m in
+  store_once : (r : Rate) (opcode : Opcode) (reach : Reach) (es is : List Expression) (place : ℕ) (t : Note W) (m : Machine W)
+      → Agrees f lim parts place t m → o.refused t.world ≡ false → InsideAll lim es → InsideAll lim is
+      → Agrees f lim parts (place + length (seek_code f is ++ store_code f true 0 r opcode reach es))
+      (let s = sought o is t in going o s (stored_once o r opcode reach es s))
+      (run o place (seek_code f is ++ store_code f true 0 r opcode reach es) m)
+  store_once r opcode reach es is place t m h live values_in settled =
+      let first : List Op = seek_code f is in
+      let rest : List Op = store_code f true 0 r opcode reach es in
+      let s : Note W = sought o is t in
+      let u : Note W = stored_once o r opcode reach es s in
+      let n : Machine W = run o place first m in
       let l = agrees_live o f lim parts place t m h live in
-      let ready = operands_run o f lim parts fits t es true 0 0 place m h.stands l inside tt in
-      let lk : Live o (place + length ops) n = live_same o f 0 place (length ops) m n l ready.same in
-      let x : W = o.ask (first_values (values o t true 0 es)) t.world in
-      let is : run o place (ops ++ (last ∷ [])) m ≡ in_world x n =
-      run_snoc o place ops last m lk
-      ∙ ap (λ ws. in_world (o.ask (first_values ws) n.world) n) ready.here
-      ∙ ap (λ y. in_world (o.ask (first_values (values o t true 0 es)) y) n) (ready.same.world ∙ h.stands.world) in
-      from_reached (moved_to x t) place (ops ++ (last ∷ [])) m (run o place (ops ++ (last ∷ [])) m) l
-      (subst (Reached f lim parts (moved_to x t) m) (sym is) (record {
-        stands = moved_stands o f lim parts fits t x m (in_world x n) h.stands refl (λ q low. ready.same.regs q (omega arith));
-        next = ready.same.next;
-      }))
+      seq_runs place first rest s (going o s u) m
+      (from_reached s place first m n l (seek_runs o f lim parts fits is t place m h.stands l settled))
+      (λ k. going_runs (place + length first) rest s u n k (λ e.
+      let lk = agrees_live o f lim parts (place + length first) s n k e in
+      from_reached u (place + length first) rest n (run o (place + length first) rest n) lk
+      (store_runs o f lim parts fits true 0 r opcode reach es s (place + length first) n k.stands lk values_in tt)))
+
+  store_each : (p : Place) (es is : List Expression) (place : ℕ) (t : Note W) (m : Machine W)
+      → Agrees f lim parts place t m → o.refused t.world ≡ false → InsideAll lim es → InsideAll lim is → past_all p.part es ≤ parts
+      → Agrees f lim parts (place + length (keep_all_code f p.part es ++ seek_code f is))
+      (sought o is (keep_all o p.part es t)) (run o place (keep_all_code f p.part es ++ seek_code f is) m)
+  store_each p es is place t m h live values_in settled bound =
+      let first : List Op = keep_all_code f p.part es in
+      let rest : List Op = seek_code f is in
+      let s : Note W = keep_all o p.part es t in
+      let n : Machine W = run o place first m in
+      let l = agrees_live o f lim parts place t m h live in
+      let kept = keep_all_runs o f lim parts fits es t p.part place m h.stands l values_in bound in
+      let lk : Live o (place + length first) n = live_kept o f lim parts place (length first) s m n l kept in
+      seq_runs place first rest s (sought o is s) m (from_kept s place first m n l kept)
+      (λ k. from_reached (sought o is s) (place + length first) rest n (run o (place + length first) rest n) lk
+      (seek_runs o f lim parts fits is s (place + length first) n k.stands lk settled))
 
   -- the arms of an `if` that is decided once, or of any other
   choose_runs : (r : Rate) (arms : Arms) (p : Place) (place : ℕ) (t : Note W) (m : Machine W) → (r ≡ rate.Init → AllStill arms)
@@ -168,6 +179,27 @@ module _ {W : Type 0} (o : World W) (quiet : Quiet o) (f : Frame) (lim : Rate �
         rate_agrees r place p.part (past_all p.part xs) once each a b m bound
         (unit_once p r vs opcode reach xs is place t m h live inside.0 inside.1 inside.2)
         (λ low. unit_each p r opcode xs is place t m h live inside.1 inside.2 low))
+    init_runs (zak r vs opcode reach xs) p place t m h inside bound =
+        let once : List Op = zak_code f true 0 r vs opcode reach xs in
+        let each : List Op = keep_all_code f p.part xs in
+        let a : Note W = zak_once o r vs opcode reach xs t in
+        let b : Note W = keep_all o p.part xs t in
+        going_runs place (if_init r once each) t (if_init r a b) m h (λ live.
+        let l = agrees_live o f lim parts place t m h live in
+        rate_agrees r place p.part (past_all p.part xs) once each a b m bound
+        (from_reached a place once m (run o place once m) l
+        (zak_runs o f lim parts fits quiet true 0 r vs opcode reach xs t place m h.stands l inside.0 inside.1 tt))
+        (λ low. from_kept b place each m (run o place each m) l (keep_all_runs o f lim parts fits xs t p.part place m h.stands l inside.1 low)))
+    init_runs (store r opcode reach es is) p place t m h inside bound =
+        let once : List Op = seek_code f is ++ store_code f true 0 r opcode reach es in
+        let each : List Op = keep_all_code f p.part es ++ seek_code f is in
+        let s : Note W = sought o is t in
+        let a : Note W = going o s (stored_once o r opcode reach es s) in
+        let b : Note W = sought o is (keep_all o p.part es t) in
+        going_runs place (if_init r once each) t (if_init r a b) m h (λ live.
+        rate_agrees r place p.part (past_all p.part es) once each a b m bound
+        (store_once r opcode reach es is place t m h live inside.0 inside.1)
+        (λ low. store_each p es is place t m h live inside.0 inside.1 low))
     init_runs (out r es) p place t m h inside bound =
         let ops : List Op = keep_all_code f p.part es in
         going_runs place ops t (keep_all o p.part es t) m h (λ live.
@@ -179,8 +211,11 @@ module _ {W : Type 0} (o : World W) (quiet : Quiet o) (f : Frame) (lim : Rate �
         let l = agrees_live o f lim parts place t m h live in
         from_kept (keep_all o p.part es t) place ops m (run o place ops m) l (keep_all_runs o f lim parts fits es t p.part place m h.stands l inside bound))
     init_runs (ask es) p place t m h inside bound =
-        let ops : List Op = operands_code f true 0 es 0 ++ (op_of act.Ask (reg rate.Init 0) (spots f true 0 es 0) ∷ []) in
-        going_runs place ops t (moved_to (o.ask (first_values (values o t true 0 es)) t.world) t) m h (λ live. ask_runs es place t m h live inside)
+        let ops : List Op = ask_code f es in
+        let s : Note W = moved_to (o.ask (first_values (values o t true 0 es)) t.world) t in
+        going_runs place ops t s m h (λ live.
+        let l = agrees_live o f lim parts place t m h live in
+        from_reached s place ops m (run o place ops m) l (ask_runs o f lim parts fits es t place m h.stands l inside))
     init_runs (turnoff r) p place t m h inside bound = agrees_later o f lim parts place (place + 0) t m (omega arith) h
     init_runs nothing p place t m h inside bound = agrees_later o f lim parts place (place + 0) t m (omega arith) h
     init_runs (choose r arms) p place t m h inside bound =

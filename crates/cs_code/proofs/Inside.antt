@@ -4,7 +4,7 @@ use Rattle.cs_base.specs.declared.resource.Rate.{Rate}
 use Rattle.cs_base.specs.declared.resource.Rate.TheVariants as rate
 use Rattle.cs_words.specs.declared.catalogue.Opcode.{Opcode}
 use Rattle.cs_ir.specs.Machine.{gives}
-use Rattle.cs_meaning.specs.Core.{Stmt, Block, Arms, set, unit, out, out_at, ask, turnoff, nothing, choose, no_stmt, andthen, otherwise, arm}
+use Rattle.cs_meaning.specs.Core.{Stmt, Block, Arms, set, unit, zak, store, out, out_at, ask, turnoff, nothing, choose, no_stmt, andthen, otherwise, arm}
 use Rattle.cs_typed.specs.TypedTree.{Expression}
 use Rattle.cs_typed.specs.Variables.{EachInExpression}
 use Rattle.cs_typed.specs.WellRated.{node_rate}
@@ -53,6 +53,8 @@ abbrev mutual
   pub InsideStmt : (Rate → ℕ) → Stmt → Type 0
   InsideStmt lim (set r v e) = InsideVar lim v × Inside lim e
   InsideStmt lim (unit r vs opcode reach xs is) = Takes lim opcode vs × InsideAll lim xs × InsideAll lim is
+  InsideStmt lim (zak r vs opcode reach xs) = Takes lim opcode vs × InsideAll lim xs
+  InsideStmt lim (store r opcode reach es is) = InsideAll lim es × InsideAll lim is
   InsideStmt lim (out r es) = InsideAll lim es
   InsideStmt lim (out_at r es) = InsideAll lim es
   InsideStmt lim (ask es) = InsideAll lim es

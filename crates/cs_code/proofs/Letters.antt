@@ -19,15 +19,17 @@ use Rattle.cs_words.specs.declared.catalogue.Opcode.{Opcode}
 use Rattle.cs_words.specs.declared.catalogue.Opcode.TheVariants as op
 use Rattle.cs_words.specs.declared.catalogue.Shape.{Shape}
 use Rattle.cs_words.specs.declared.catalogue.Shape.TheVariants as shape
-use Rattle.cs_ir.specs.Units.{is_unit}
-use Rattle.cs_ir.specs.Validity.{may_run_at, bound_at}
-use Rattle.cs_meaning.specs.Core.{settled, moving}
+use Rattle.cs_words.proofs.EachOpcode.{when_all}
+use Rattle.cs_ir.specs.Units.{is_unit, is_zak}
+use Rattle.cs_ir.specs.Validity.{may_run_at, bound_at, stores_with}
+use Rattle.cs_meaning.specs.Core.{values_of, settled, moving}
 use Rattle.cs_typed.specs.Places.{is_starting}
 use Rattle.cs_typed.specs.TypedTree as typed
 use Rattle.cs_typed.specs.TypedTree.{Expression}
 use Rattle.cs_typed.specs.WellRated.{node_rate, var_rate, fit_letters, bound_by, may_give, done_at, stores_evenly, is_variable, IsRatedCall}
 use Rattle.cs_typed.specs.declared.setting.Setting.{Setting}
 use Rattle.cs_typed.specs.declared.tree.Var.{Var}
+use Rattle.cs_code.proofs.Ranked.{rated}
 
 -- letters take values of these rates, one each
 abbrev pub take_rates : List Letter → Rate → List Expression → Bool
@@ -226,52 +228,20 @@ fit row bound args h c l =
       moving = subst (λ t. take_rates t bound (moving row 0 args) ≡ true) same (moves row bound 0 args l);
     }
 
--- what may follow the arguments of a unit is settled
-unit_follows : (o : Opcode) → is_unit (row_of o).shape ≡ true → follows_settled (row_of o).more ≡ true
-unit_follows op.Init h = refl
-unit_follows op.Oscil h = refl
-unit_follows op.Oscili h = refl
-unit_follows op.Phasor h = refl
-unit_follows op.Line h = refl
-unit_follows op.Linseg h = refl
-unit_follows op.Linen h = refl
-unit_follows op.Delay h = refl
-unit_follows op.Biquad h = refl
-unit_follows op.Table h = refl
-unit_follows op.Tablei h = refl
-unit_follows op.Tablew h = refl
-unit_follows op.Integ h = refl
-unit_follows op.Diff h = refl
-unit_follows op.Samphold h = refl
-unit_follows op.Limit h = refl
-unit_follows op.Interp h = refl
-unit_follows op.Downsamp h = refl
-unit_follows op.Out h = absurd (cc)
-unit_follows op.Outs h = refl
-unit_follows op.Outch h = absurd (cc)
-unit_follows op.Turnoff h = refl
-unit_follows op.Zakinit h = refl
-unit_follows op.Zkr h = refl
-unit_follows op.Zar h = refl
-unit_follows op.Zkw h = refl
-unit_follows op.Zaw h = refl
-unit_follows op.Zawm h = refl
-unit_follows op.Zkcl h = refl
-unit_follows op.Zacl h = refl
-unit_follows op.Chnget h = refl
-unit_follows op.Chnset h = refl
-unit_follows op.Chnmix h = refl
-unit_follows op.Chnclear h = refl
-unit_follows op.Schedule h = refl
-unit_follows op.EventI h = refl
+-- What runs with values that move is a unit, or reads or writes zak places. What may follow its arguments is settled.
+abbrev pub is_run : Shape → Bool
+is_run sh = is_unit sh || is_zak sh
 
-pub unit_fits : (o : Opcode) (bound : Rate) (args : List typed.Argument) → is_unit (row_of o).shape ≡ true
+run_follows : (o : Opcode) → is_run (row_of o).shape ≡ true → follows_settled (row_of o).more ≡ true
+run_follows o h = when_all (λ o. is_run (row_of o).shape) (λ o. follows_settled (row_of o).more) refl o h
+
+pub run_fits : (o : Opcode) (bound : Rate) (args : List typed.Argument) → is_run (row_of o).shape ≡ true
     → takes_count (row_of o) (length args) ≡ true → fit_letters (row_of o) bound 0 args ≡ true → FitsUnit (row_of o) bound args
-unit_fits o bound args h c l = fit (row_of o) bound args (unit_follows o h) c l
+run_fits o bound args h c l = fit (row_of o) bound args (run_follows o h) c l
 
--- ---- the rate of a unit
+-- ---- the rate at which it runs
 
-not_starting : (sh : Shape) → is_unit sh ≡ true → is_starting sh ≡ false
+not_starting : (sh : Shape) → is_run sh ≡ true → is_starting sh ≡ false
 not_starting shape.Init h = absurd (cc)
 not_starting shape.ZakInit h = absurd (cc)
 not_starting shape.Ask h = absurd (cc)
@@ -281,9 +251,9 @@ result_rate : (b : Bool) (r q : Rate) → b ≡ false → r ≡ (if b then rate.
 result_rate true r q h e = absurd (cc)
 result_rate false r q h e = e
 
--- a unit's rate is one that its opcode's result may have
+-- it is one that its opcode's result may have
 pub may_run : (s : Setting) (r : Rate) (vs : List Var) (o : Opcode) (args : List typed.Argument) → IsRatedCall s r vs o args
-    → is_unit (row_of o).shape ≡ true → may_run_at (row_of o) r ≡ true
+    → is_run (row_of o).shape ≡ true → may_run_at (row_of o) r ≡ true
 may_run s r [] o args h u = or_left _ _ (subst (λ n. (n == 0) ≡ true) h.results refl)
 may_run s r (v ∷ vs) o args h u =
     let g = and_parts (list_all (may_give (row_of o)) (v ∷ vs)) true (rw h.given refl) in
@@ -297,7 +267,7 @@ unequal n m e = grind (arith, nat_tests)
 
 -- its arguments are bounded by its own rate
 pub same_bound : (s : Setting) (r : Rate) (vs : List Var) (o : Opcode) (args : List typed.Argument) → IsRatedCall s r vs o args
-    → is_unit (row_of o).shape ≡ true → bound_by vs ≡ bound_at (row_of o) r
+    → is_run (row_of o).shape ≡ true → bound_by vs ≡ bound_at (row_of o) r
 same_bound s r [] o args h u = let e : (result_count (row_of o) == 0) ≡ true = subst (λ n. (n == 0) ≡ true) h.results refl in rw e refl
 same_bound s r (v ∷ vs) o args h u =
     rw (unequal (length vs) (result_count (row_of o)) h.results)
@@ -305,17 +275,9 @@ same_bound s r (v ∷ vs) o args h u =
 
 -- ---- a table is stored to evenly
 
-abbrev pub sounds : Rate → List Expression → Bool
-sounds r [] = true
-sounds r (e ∷ es) = (if is_audio r then is_audio (node_rate e) else not (is_audio (node_rate e))) && sounds r es
-
-abbrev pub stores_rates : Shape → Rate → List Expression → Bool
-stores_rates shape.Store r es = sounds r es
-stores_rates _ r es = true
-
 even : (r p q t : Rate) → (if is_audio p then is_audio q else not (is_audio q)) ≡ true → is_init t ≡ true
     → r ≡ (if is_init p && (is_init q && (is_init t && true)) then rate.Init else (if is_audio p || (is_audio q || (is_audio t || false)) then rate.Audio else rate.Control))
-    → ((if is_audio r then is_audio p else not (is_audio p)) && ((if is_audio r then is_audio q else not (is_audio q)) && true)) ≡ true
+    → ((if is_audio r then is_audio p else not (is_audio p)) && (if is_audio r then is_audio q else not (is_audio q)) && is_init t) ≡ true
 even r p q rate.Control h i e = absurd (cc)
 even r p q rate.Audio h i e = absurd (cc)
 even r rate.Init rate.Init rate.Init h i e = rw e refl
@@ -328,56 +290,23 @@ even r rate.Audio rate.Init rate.Init h i e = absurd (cc)
 even r rate.Audio rate.Control rate.Init h i e = absurd (cc)
 even r rate.Audio rate.Audio rate.Init h i e = rw e refl
 
-tablew : (r : Rate) (args : List typed.Argument) → takes_count (row_of op.Tablew) (length args) ≡ true → fit_letters (row_of op.Tablew) rate.Audio 0 args ≡ true
-    → stores_evenly shape.Store args ≡ true → r ≡ done_at shape.Store [] args → sounds r (moving (row_of op.Tablew) 0 args) ≡ true
-tablew r [] c l h e = absurd (cc)
-tablew r (a ∷ []) c l h e = absurd (cc)
-tablew r (a ∷ b ∷ []) c l h e = absurd (cc)
-tablew r (typed.value x ∷ typed.value y ∷ typed.value z ∷ []) c l h e =
-    even r (node_rate x) (node_rate y) (node_rate z) h (and_parts (is_init (node_rate z)) true l).0 e
-tablew r (typed.text v ∷ b ∷ c' ∷ []) c l h e = absurd (cc)
-tablew r (typed.value x ∷ typed.text v ∷ c' ∷ []) c l h e = absurd (cc)
-tablew r (typed.value x ∷ typed.value y ∷ typed.text v ∷ []) c l h e = absurd (cc)
-tablew r (a ∷ b ∷ c' ∷ d ∷ rest) c l h e =
+-- what a call gives a store
+pub record FitsStore (r : Rate) (args : List typed.Argument) : Type 0 where
+  pub stores : stores_with r (rated (values_of args)) ≡ true
+  pub still : stills (settled (row_of op.Tablew) 0 args) ≡ true
+  pub single : length (settled (row_of op.Tablew) 0 args) ≡ 1
+
+pub store_fits : (r : Rate) (args : List typed.Argument) → takes_count (row_of op.Tablew) (length args) ≡ true
+    → fit_letters (row_of op.Tablew) rate.Audio 0 args ≡ true → stores_evenly shape.Store args ≡ true → r ≡ done_at shape.Store [] args → FitsStore r args
+store_fits r [] c l h e = absurd (cc)
+store_fits r (a ∷ []) c l h e = absurd (cc)
+store_fits r (a ∷ b ∷ []) c l h e = absurd (cc)
+store_fits r (typed.value x ∷ typed.value y ∷ typed.value z ∷ []) c l h e =
+    let init : is_init (node_rate z) ≡ true = (and_parts (is_init (node_rate z)) true l).0 in
+    record { stores = even r (node_rate x) (node_rate y) (node_rate z) h init e; still = l; single = refl }
+store_fits r (typed.text v ∷ b ∷ c' ∷ []) c l h e = absurd (cc)
+store_fits r (typed.value x ∷ typed.text v ∷ c' ∷ []) c l h e = absurd (cc)
+store_fits r (typed.value x ∷ typed.value y ∷ typed.text v ∷ []) c l h e = absurd (cc)
+store_fits r (a ∷ b ∷ c' ∷ d ∷ rest) c l h e =
     let p = and_parts (nat_le 3 (length (a ∷ b ∷ c' ∷ d ∷ rest))) (length (a ∷ b ∷ c' ∷ d ∷ rest) - 3 == 0) c in
     let n = equal (length (a ∷ b ∷ c' ∷ d ∷ rest) - 3) 0 p.1 in let no : ⊥ = omega (arith, n) in absurd no
-
-pub store_fits : (s : Setting) (r : Rate) (vs : List Var) (o : Opcode) (args : List typed.Argument) → IsRatedCall s r vs o args
-    → stores_rates (row_of o).shape r (moving (row_of o) 0 args) ≡ true
-store_fits s r vs op.Init args h = refl
-store_fits s r vs op.Oscil args h = refl
-store_fits s r vs op.Oscili args h = refl
-store_fits s r vs op.Phasor args h = refl
-store_fits s r vs op.Line args h = refl
-store_fits s r vs op.Linseg args h = refl
-store_fits s r vs op.Linen args h = refl
-store_fits s r vs op.Delay args h = refl
-store_fits s r vs op.Biquad args h = refl
-store_fits s r vs op.Table args h = refl
-store_fits s r vs op.Tablei args h = refl
-store_fits s r [] op.Tablew args h = tablew r args h.count h.letters h.even h.done
-store_fits s r (v ∷ vs) op.Tablew args h = let no : ⊥ = omega (arith, h.results) in absurd no
-store_fits s r vs op.Integ args h = refl
-store_fits s r vs op.Diff args h = refl
-store_fits s r vs op.Samphold args h = refl
-store_fits s r vs op.Limit args h = refl
-store_fits s r vs op.Interp args h = refl
-store_fits s r vs op.Downsamp args h = refl
-store_fits s r vs op.Out args h = refl
-store_fits s r vs op.Outs args h = refl
-store_fits s r vs op.Outch args h = refl
-store_fits s r vs op.Turnoff args h = refl
-store_fits s r vs op.Zakinit args h = refl
-store_fits s r vs op.Zkr args h = refl
-store_fits s r vs op.Zar args h = refl
-store_fits s r vs op.Zkw args h = refl
-store_fits s r vs op.Zaw args h = refl
-store_fits s r vs op.Zawm args h = refl
-store_fits s r vs op.Zkcl args h = refl
-store_fits s r vs op.Zacl args h = refl
-store_fits s r vs op.Chnget args h = refl
-store_fits s r vs op.Chnset args h = refl
-store_fits s r vs op.Chnmix args h = refl
-store_fits s r vs op.Chnclear args h = refl
-store_fits s r vs op.Schedule args h = refl
-store_fits s r vs op.EventI args h = refl

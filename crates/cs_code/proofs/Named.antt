@@ -5,15 +5,12 @@ use Rattle.cs_base.proofs.Rates.{same_rate_is}
 use Rattle.cs_base.specs.Rates.{same_rate}
 use Rattle.cs_base.specs.declared.resource.Rate.{Rate}
 use Rattle.cs_base.specs.declared.resource.Rate.TheVariants as rate
-use Rattle.cs_words.specs.Catalogue.{row_of}
-use Rattle.cs_words.specs.declared.catalogue.Opcode.{Opcode}
-use Rattle.cs_ir.specs.Units.{is_started}
 use Rattle.cs_ir.specs.Waves.{if_init}
+use Rattle.cs_ir.specs.declared.op.Act.{Act}
 use Rattle.cs_ir.specs.declared.op.Act.TheVariants as act
 use Rattle.cs_ir.specs.declared.op.Op.{Op}
-use Rattle.cs_ir.specs.declared.op.Reach.{Reach}
 use Rattle.cs_ir.specs.declared.register.Reg.{Reg}
-use Rattle.cs_meaning.specs.Core.{Stmt, Block, Arms, set, unit, out, out_at, ask, turnoff, nothing, choose, no_stmt, andthen, otherwise, arm}
+use Rattle.cs_meaning.specs.Core.{Stmt, Block, Arms, set, unit, zak, store, out, out_at, ask, turnoff, nothing, choose, no_stmt, andthen, otherwise, arm}
 use Rattle.cs_meaning.specs.Notes.{Place, reg, start, past, past_parts, past_stmt, past_block, past_arms}
 use Rattle.cs_typed.specs.TypedTree.{Expression, number, var, field, head, neg, pair, pick, apply}
 use Rattle.cs_typed.specs.WellRated.{node_rate}
@@ -21,7 +18,7 @@ use Rattle.cs_typed.specs.declared.tree.Var.{Var as Variable}
 use Rattle.cs_typed.specs.declared.tree.Var.TheVariants.{Local, Global}
 use Rattle.cs_code.specs.Names.{UnitKind, stmt_units, block_units, arms_units, Names, AllNamed}
 use Rattle.cs_code.specs.inner.Frames.{Frame, op_of, kept_reg, temp, direct, spot, spots}
-use Rattle.cs_code.specs.inner.Code.{unless_there, copied, own, code, operand_code, operands_code, kept_code, keep_code, keep_all_code, set_code, target, given_code, start_code, unit_code, out_ops, out_at_ops, arm_code, init_code, init_block_code, first_code, all_code, perf_code, perf_block_code, perf_arms_code}
+use Rattle.cs_code.specs.inner.Code.{unless_there, copied, own, code, operand_code, operands_code, kept_code, keep_code, keep_all_code, set_code, target, given_code, on_code, run_code, start_code, unit_code, zak_code, seek_code, store_code, out_ops, out_at_ops, arm_code, init_code, init_block_code, first_code, all_code, perf_code, perf_block_code, perf_arms_code}
 
 -- ---- places in lists
 
@@ -57,6 +54,8 @@ mutual
   stmt_count : (p : Place) (s : Stmt) → (past_stmt p s).unit ≡ p.unit + length (stmt_units s)
   stmt_count p (set r v e) = omega arith
   stmt_count p (unit r vs opcode reach xs is) = refl
+  stmt_count p (zak r vs opcode reach xs) = omega arith
+  stmt_count p (store r opcode reach es is) = omega arith
   stmt_count p (out r es) = omega arith
   stmt_count p (out_at r es) = omega arith
   stmt_count p (ask es) = omega arith
@@ -89,6 +88,8 @@ abbrev mutual
   Narrow channels (choose r arms) = NarrowArms channels arms
   Narrow channels (set r v e) = Unit {0}
   Narrow channels (unit r vs opcode reach xs is) = Unit {0}
+  Narrow channels (zak r vs opcode reach xs) = Unit {0}
+  Narrow channels (store r opcode reach es is) = Unit {0}
   Narrow channels (out_at r es) = Unit {0}
   Narrow channels (ask es) = Unit {0}
   Narrow channels (turnoff r) = Unit {0}
@@ -237,20 +238,17 @@ module _ (channels : ℕ) (units : List UnitKind) where
       by_rate false = (tt, tt)
   given_named f r (Global g ∷ vs) = (tt, tt)
 
-  start_named : (f : Frame) (r : Rate) (opcode : Opcode) (u : ℕ) (is : List Expression) → slice_get units u ≡ Some (record { opcode = opcode; rate = r })
-      → Each (start_code f r opcode u is)
-  start_named f r opcode u is here = when (is_started (row_of opcode).shape)
-    where
-      when : (b : Bool) → Each (if b then operands_code f true 0 is 0 ++ (op_of (act.Start opcode u) (reg r 0) (spots f true 0 is 0) ∷ []) else [])
-      when true = both (operands_code f true 0 is 0) (op_of (act.Start opcode u) (reg r 0) (spots f true 0 is 0) ∷ []) (operands_named f true is 0 0) (here, tt)
-      when false = tt
+  -- an op that names what there is, on values
+  on_named : (f : Frame) (whole : Bool) (at : ℕ) (a : Act) (into : Reg) (es : List Expression) → Names channels units a into.rate
+      → Each (on_code f whole at a into es)
+  on_named f whole at a into es here =
+      both (operands_code f whole at es 0) (op_of a into (spots f whole at es 0) ∷ []) (operands_named f whole es at 0) (here, tt)
 
-  unit_named : (f : Frame) (whole : Bool) (at : ℕ) (r : Rate) (vs : List Variable) (opcode : Opcode) (u : ℕ) (reach : Reach) (xs : List Expression)
-      → slice_get units u ≡ Some (record { opcode = opcode; rate = r }) → Each (unit_code f whole at r vs opcode u reach xs)
-  unit_named f whole at r vs opcode u reach xs here =
-      both (operands_code f whole at xs 0) (op_of (act.Unit opcode u reach) (target f r vs) (spots f whole at xs 0) ∷ given_code f r vs)
-      (operands_named f whole xs at 0)
-      (subst (λ q. slice_get units u ≡ Some (record { opcode = opcode; rate = q })) (sym (target_rate f r vs)) here, given_named f r vs)
+  run_named : (f : Frame) (whole : Bool) (at : ℕ) (a : Act) (r : Rate) (vs : List Variable) (xs : List Expression) → Names channels units a r
+      → Each (run_code f whole at a r vs xs)
+  run_named f whole at a r vs xs here =
+      both (operands_code f whole at xs 0) (op_of a (target f r vs) (spots f whole at xs 0) ∷ given_code f r vs) (operands_named f whole xs at 0)
+      (subst (Names channels units a) (sym (target_rate f r vs)) here, given_named f r vs)
 
   out_named : (c : ℕ) (qs : List Reg) → c + length qs ≤ channels → Each (out_ops c qs)
   out_named c [] h = tt
@@ -275,12 +273,21 @@ module _ (channels : ℕ) (units : List UnitKind) where
         let begins : List Op = start_code f r opcode p.unit is in
         let runs : List Op = unit_code f true 0 r vs opcode p.unit reach xs in
         when_init r (begins ++ runs) (keep_all_code f p.part xs ++ begins)
-        (both begins runs (start_named f r opcode p.unit is here) (unit_named f true 0 r vs opcode p.unit reach xs here))
-        (both (keep_all_code f p.part xs) begins (keep_all_named f xs p.part) (start_named f r opcode p.unit is here))
+        (both begins runs (on_named f true 0 (act.Start opcode p.unit) (reg r 0) is here) (run_named f true 0 (act.Unit opcode p.unit reach) r vs xs here))
+        (both (keep_all_code f p.part xs) begins (keep_all_named f xs p.part) (on_named f true 0 (act.Start opcode p.unit) (reg r 0) is here))
+    init_named f place p (zak r vs opcode reach xs) h =
+        when_init r (zak_code f true 0 r vs opcode reach xs) (keep_all_code f p.part xs) (run_named f true 0 (act.Zak opcode reach) r vs xs tt)
+        (keep_all_named f xs p.part)
+    init_named f place p (store r opcode reach es is) h =
+        let seeks : List Op = seek_code f is in
+        let stores : List Op = store_code f true 0 r opcode reach es in
+        let sought = on_named f true 0 act.Seek (reg rate.Init 0) is tt in
+        when_init r (seeks ++ stores) (keep_all_code f p.part es ++ seeks)
+        (both seeks stores sought (on_named f true 0 (act.Store opcode reach) (reg r 0) es tt))
+        (both (keep_all_code f p.part es) seeks (keep_all_named f es p.part) sought)
     init_named f place p (out r es) h = keep_all_named f es p.part
     init_named f place p (out_at r es) h = keep_all_named f es p.part
-    init_named f place p (ask es) h =
-        both (operands_code f true 0 es 0) (op_of act.Ask (reg rate.Init 0) (spots f true 0 es 0) ∷ []) (operands_named f true es 0 0) (tt, tt)
+    init_named f place p (ask es) h = on_named f true 0 act.Ask (reg rate.Init 0) es tt
     init_named f place p (turnoff r) h = tt
     init_named f place p nothing h = tt
     init_named f place p (choose r arms) h =
@@ -323,7 +330,11 @@ module _ (channels : ℕ) (units : List UnitKind) where
     perf_named f place p (set r v e) h n = when_init r [] (set_code f false p.part v e) tt (set_named f false p.part v e)
     perf_named f place p (unit r vs opcode reach xs is) h n =
         when_init r [] (unit_code f false p.part r vs opcode p.unit reach xs) tt
-        (unit_named f false p.part r vs opcode p.unit reach xs (at_one units p.unit (record { opcode = opcode; rate = r }) h))
+        (run_named f false p.part (act.Unit opcode p.unit reach) r vs xs (at_one units p.unit (record { opcode = opcode; rate = r }) h))
+    perf_named f place p (zak r vs opcode reach xs) h n =
+        when_init r [] (zak_code f false p.part r vs opcode reach xs) tt (run_named f false p.part (act.Zak opcode reach) r vs xs tt)
+    perf_named f place p (store r opcode reach es is) h n =
+        when_init r [] (store_code f false p.part r opcode reach es) tt (on_named f false p.part (act.Store opcode reach) (reg r 0) es tt)
     perf_named f place p (out r es) h n =
         both (operands_code f false p.part es 0) (out_ops 0 (spots f false p.part es 0)) (operands_named f false es p.part 0)
         (out_named 0 (spots f false p.part es 0) (let l = length_spots f false p.part es 0 in omega arith))

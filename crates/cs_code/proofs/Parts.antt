@@ -8,17 +8,16 @@ use Rattle.cs_base.specs.Rates.{same_rate, res_rate}
 use Rattle.cs_base.specs.declared.resource.Rate.{Rate}
 use Rattle.cs_base.specs.declared.resource.Rate.TheVariants as rate
 use Rattle.cs_base.specs.declared.resource.Res.{Res}
-use Rattle.cs_words.specs.Catalogue.{row_of}
 use Rattle.cs_words.specs.declared.catalogue.Opcode.{Opcode}
-use Rattle.cs_ir.specs.Machine.{Machine, same_reg, put, write, written, gives, in_world, step, run}
-use Rattle.cs_ir.specs.Units.{is_started}
+use Rattle.cs_ir.specs.Machine.{Machine, same_reg, put, write, written, gives, in_world, acts, step, run}
 use Rattle.cs_ir.specs.Waves.{Wave, held, constant, if_init, first_values}
 use Rattle.cs_ir.specs.Worlds.{World}
+use Rattle.cs_ir.specs.declared.op.Act.{Act}
 use Rattle.cs_ir.specs.declared.op.Act.TheVariants as act
 use Rattle.cs_ir.specs.declared.op.Op.{Op}
 use Rattle.cs_ir.specs.declared.op.Reach.{Reach}
 use Rattle.cs_ir.specs.declared.register.Reg.{Reg}
-use Rattle.cs_meaning.specs.Initialising.{put_kept, keep, keep_all, started}
+use Rattle.cs_meaning.specs.Initialising.{put_kept, keep, keep_all, started, sought}
 use Rattle.cs_meaning.specs.Notes.{Note, reg, moved_to, past, past_all, assign, value, values, first_value, done}
 use Rattle.cs_typed.specs.TypedTree.{Expression, number, var, field, head, neg, pair, pick, apply}
 use Rattle.cs_typed.specs.WellRated.{node_rate}
@@ -26,16 +25,19 @@ use Rattle.cs_typed.specs.declared.tree.Var.{Var as Variable}
 use Rattle.cs_typed.specs.declared.tree.Var.TheVariants.{Local, Global}
 use Rattle.cs_code.specs.Means.{Stands}
 use Rattle.cs_code.specs.inner.Frames.{Frame, op_of, kept_reg, temp, spot, spots}
-use Rattle.cs_code.specs.inner.Code.{code, operand_code, operands_code, kept_code, keep_code, keep_all_code, set_code, target, given_code, start_code, unit_code}
+use Rattle.cs_code.specs.inner.Code.{code, operand_code, operands_code, kept_code, keep_code, keep_all_code, set_code, target, given_code, on_code, run_code, start_code, unit_code, zak_code, seek_code, store_code, ask_code}
 use Rattle.cs_code.proofs.Expressions.{Wrote, live_same, stands_same, operands_run, operand_runs, code_runs, past_grows, past_all_grows}
 use Rattle.cs_code.proofs.Named.{target_rate}
 use Rattle.cs_code.proofs.Inside.{Fits, plan_of, Bound, InsideVar, Inside, InsideAll, Takes}
 use Rattle.cs_code.proofs.Runs.{Live, run_append, live_step, run_snoc, apart, put_here, put_other, held_again}
 
--- What a note can do in a world without being refused: only the start of a unit, and a note that it asks for, may be refused.
+-- What a note can do in a world without being refused: only the start of a unit, the search for a table, and a note that it asks
+-- for, may be refused.
 pub record Quiet {W : Type 0} (o : World W) : Type 0 where
   pub save : (g : Res) (w : Wave) (x : W) → o.refused (o.save g w x) ≡ o.refused x
   pub does : (opcode : Opcode) (r : Rate) (u : ℕ) (reach : Reach) (ws : List Wave) (x : W) → o.refused (o.does opcode r u reach ws x).0 ≡ o.refused x
+  pub store : (opcode : Opcode) (r : Rate) (reach : Reach) (ws : List Wave) (x : W) → o.refused (o.store opcode r reach ws x) ≡ o.refused x
+  pub zak : (opcode : Opcode) (reach : Reach) (ws : List Wave) (x : W) → o.refused (o.zak opcode reach ws x).0 ≡ o.refused x
   pub out : (c : ℕ) (w : Wave) (x : W) → o.refused (o.out c w x) ≡ o.refused x
   pub out_at : (k w : Wave) (x : W) → o.refused (o.out_at k w x) ≡ o.refused x
   pub turnoff : (x : W) → o.refused (o.turnoff x) ≡ o.refused x
@@ -208,24 +210,24 @@ module _ {W : Type 0} (o : World W) (f : Frame) (lim : Rate → ℕ) (parts : �
       (keep_all_runs es (keep o at e t) (past at e) (place + length ops) n first.stands (live_kept o f lim parts place (length ops) (keep o at e t) m n l first)
       inside.1 bound)
 
-  -- ---- a unit is started
+  -- ---- an op on values moves the world alone
 
-  start_when : (b : Bool) (r : Rate) (opcode : Opcode) (u : ℕ) (is : List Expression) (t : Note W) (place : ℕ) (m : Machine W)
-      → Stands (plan_of f lim parts) t m → Live o place m → InsideAll lim is
-      → Reached f lim parts (if b then moved_to (o.start opcode r u (first_values (values o t true 0 is)) t.world) t else t) m
-      (run o place (if b then operands_code f true 0 is 0 ++ (op_of (act.Start opcode u) (reg r 0) (spots f true 0 is 0) ∷ []) else []) m)
-  start_when false r opcode u is t place m s l inside = record { stands = s; next = refl }
-  start_when true r opcode u is t place m s l inside =
-      let ops : List Op = operands_code f true 0 is 0 in
-      let last : Op = op_of (act.Start opcode u) (reg r 0) (spots f true 0 is 0) in
+  pub on_runs : (whole : Bool) (at : ℕ) (a : Act) (into : Reg) (es : List Expression) (move : List Wave → W → W) (t : Note W) (place : ℕ) (m : Machine W)
+      → ((ws : List Wave) (n : Machine W) → acts o a into ws n ≡ in_world (move ws n.world) n)
+      → Stands (plan_of f lim parts) t m → Live o place m → InsideAll lim es → Bound whole parts (past_all at es)
+      → Reached f lim parts (moved_to (move (values o t whole at es) t.world) t) m (run o place (on_code f whole at a into es) m)
+  on_runs whole at a into es move t place m moves s l inside bound =
+      let ops : List Op = operands_code f whole at es 0 in
+      let last : Op = op_of a into (spots f whole at es 0) in
       let n : Machine W = run o place ops m in
-      let ready = operands_run o f lim parts fits t is true 0 0 place m s l inside tt in
+      let ready = operands_run o f lim parts fits t es whole at 0 place m s l inside bound in
       let live : Live o (place + length ops) n = live_same o f 0 place (length ops) m n l ready.same in
-      let x : W = o.start opcode r u (first_values (values o t true 0 is)) t.world in
+      let x : W = move (values o t whole at es) t.world in
       let here : run o place (ops ++ (last ∷ [])) m ≡ in_world x n =
       run_snoc o place ops last m live
-      ∙ ap (λ ws. in_world (o.start opcode r u (first_values ws) n.world) n) ready.here
-      ∙ ap (λ y. in_world (o.start opcode r u (first_values (values o t true 0 is)) y) n) (ready.same.world ∙ s.world) in
+      ∙ moves (map n.regs (spots f whole at es 0)) n
+      ∙ ap (λ ws. in_world (move ws n.world) n) ready.here
+      ∙ ap (λ y. in_world (move (values o t whole at es) y) n) (ready.same.world ∙ s.world) in
       subst (Reached f lim parts (moved_to x t) m) (sym here) (record {
         stands = moved_stands t x m (in_world x n) s refl (λ p low. ready.same.regs p (omega arith));
         next = ready.same.next;
@@ -234,9 +236,29 @@ module _ {W : Type 0} (o : World W) (f : Frame) (lim : Rate → ℕ) (parts : �
   pub start_runs : (r : Rate) (opcode : Opcode) (u : ℕ) (is : List Expression) (t : Note W) (place : ℕ) (m : Machine W)
       → Stands (plan_of f lim parts) t m → Live o place m → InsideAll lim is
       → Reached f lim parts (started o r opcode u is t) m (run o place (start_code f r opcode u is) m)
-  start_runs r opcode u is t place m s l inside = start_when (is_started (row_of opcode).shape) r opcode u is t place m s l inside
+  start_runs r opcode u is t place m s l inside =
+      on_runs true 0 (act.Start opcode u) (reg r 0) is (λ ws x. o.start opcode r u (first_values ws) x) t place m (λ ws n. refl) s l inside tt
 
-  -- ---- a unit runs
+  pub seek_runs : (is : List Expression) (t : Note W) (place : ℕ) (m : Machine W)
+      → Stands (plan_of f lim parts) t m → Live o place m → InsideAll lim is
+      → Reached f lim parts (sought o is t) m (run o place (seek_code f is) m)
+  seek_runs is t place m s l inside =
+      on_runs true 0 act.Seek (reg rate.Init 0) is (λ ws x. o.seek (first_values ws) x) t place m (λ ws n. refl) s l inside tt
+
+  pub store_runs : (whole : Bool) (at : ℕ) (r : Rate) (opcode : Opcode) (reach : Reach) (es : List Expression) (t : Note W) (place : ℕ) (m : Machine W)
+      → Stands (plan_of f lim parts) t m → Live o place m → InsideAll lim es → Bound whole parts (past_all at es)
+      → Reached f lim parts (moved_to (o.store opcode r reach (values o t whole at es) t.world) t) m
+      (run o place (store_code f whole at r opcode reach es) m)
+  store_runs whole at r opcode reach es t place m s l inside bound =
+      on_runs whole at (act.Store opcode reach) (reg r 0) es (λ ws x. o.store opcode r reach ws x) t place m (λ ws n. refl) s l inside bound
+
+  pub ask_runs : (es : List Expression) (t : Note W) (place : ℕ) (m : Machine W)
+      → Stands (plan_of f lim parts) t m → Live o place m → InsideAll lim es
+      → Reached f lim parts (moved_to (o.ask (first_values (values o t true 0 es)) t.world) t) m (run o place (ask_code f es) m)
+  ask_runs es t place m s l inside =
+      on_runs true 0 act.Ask (reg rate.Init 0) es (λ ws x. o.ask (first_values ws) x) t place m (λ ws n. refl) s l inside tt
+
+  -- ---- what gives a result runs: a unit, or what reads or writes zak places
 
   -- no variable takes the result
   none_given : (b : Bool) (r : Rate) (t : Note W) (x : W) (w : Wave) (m : Machine W) → Stands (plan_of f lim parts) t m
@@ -308,32 +330,51 @@ module _ {W : Type 0} (o : World W) (f : Frame) (lim : Rate → ℕ) (parts : �
       rw takes.1 (local_given (same_rate q r) r q y t p.0 p.1 place m refl s next going takes.0)
   given_runs r (Global g ∷ vs) opcode p t place m s next going takes = rw takes.1 (global_given r g t p.0 p.1 place m s next going)
 
+  run_runs : (whole : Bool) (at : ℕ) (a : Act) (r : Rate) (vs : List Variable) (opcode : Opcode) (xs : List Expression) (gives_it : List Wave → W → W × Wave)
+      (t : Note W) (place : ℕ) (m : Machine W)
+      → ((into : Reg) (ws : List Wave) (n : Machine W) → into.rate ≡ r → acts o a into ws n ≡ written o.ksmps opcode into (gives_it ws n.world) n)
+      → ((ws : List Wave) (x : W) → o.refused (gives_it ws x).0 ≡ o.refused x)
+      → Stands (plan_of f lim parts) t m → Live o place m → Takes lim opcode vs → InsideAll lim xs → Bound whole parts (past_all at xs)
+      → Reached f lim parts (done o r vs (gives_it (values o t whole at xs) t.world) t) m (run o place (run_code f whole at a r vs xs) m)
+  run_runs whole at a r vs opcode xs gives_it t place m acts_so calm s l takes inside bound =
+      let ops : List Op = operands_code f whole at xs 0 in
+      let rest : List Op = given_code f r vs in
+      let into : Reg = target f r vs in
+      let op : Op = op_of a into (spots f whole at xs 0) in
+      let n : Machine W = run o place ops m in
+      let ready = operands_run o f lim parts fits t xs whole at 0 place m s l inside bound in
+      let live : Live o (place + length ops) n = live_same o f 0 place (length ops) m n l ready.same in
+      let p : W × Wave = gives_it (values o t whole at xs) t.world in
+      let does : step o (place + length ops) op n ≡ written o.ksmps opcode into p n =
+      live_step o (place + length ops) op n live
+      ∙ acts_so into (map n.regs (spots f whole at xs 0)) n (target_rate f r vs)
+      ∙ ap (λ ws. written o.ksmps opcode into (gives_it ws n.world) n) ready.here
+      ∙ ap (λ x. written o.ksmps opcode into (gives_it (values o t whole at xs) x) n) (ready.same.world ∙ s.world) in
+      let is : run o place (ops ++ (op ∷ rest)) m ≡ run o (place + length ops + 1) rest (written o.ksmps opcode into p n) =
+      run_append o place ops (op ∷ rest) m ∙ ap (run o (place + length ops + 1) rest) does in
+      let going : o.refused p.0 ≡ false = calm (values o t whole at xs) t.world ∙ ap o.refused (sym s.world) ∙ l.going in
+      let low : n.next ≤ place + length ops + 1 = le_trans live.next (omega arith) in
+      let after = given_runs r vs opcode p t (place + length ops + 1) n (stands_same o f lim parts fits t 0 m n s ready.same) low going takes in
+      subst (Reached f lim parts (done o r vs p t) m) (sym is) (record { stands = after.stands; next = after.next ∙ ready.same.next })
+
   pub unit_runs : Quiet o → (whole : Bool) (at : ℕ) (r : Rate) (vs : List Variable) (opcode : Opcode) (u : ℕ) (reach : Reach) (xs : List Expression)
       (t : Note W) (place : ℕ) (m : Machine W) → Stands (plan_of f lim parts) t m → Live o place m → Takes lim opcode vs → InsideAll lim xs
       → Bound whole parts (past_all at xs)
       → Reached f lim parts (done o r vs (o.does opcode r u reach (values o t whole at xs) t.world) t) m
       (run o place (unit_code f whole at r vs opcode u reach xs) m)
   unit_runs quiet whole at r vs opcode u reach xs t place m s l takes inside bound =
-      let ops : List Op = operands_code f whole at xs 0 in
-      let rest : List Op = given_code f r vs in
-      let into : Reg = target f r vs in
-      let op : Op = op_of (act.Unit opcode u reach) into (spots f whole at xs 0) in
-      let n : Machine W = run o place ops m in
-      let ready = operands_run o f lim parts fits t xs whole at 0 place m s l inside bound in
-      let live : Live o (place + length ops) n = live_same o f 0 place (length ops) m n l ready.same in
-      let p : W × Wave = o.does opcode r u reach (values o t whole at xs) t.world in
-      let does : step o (place + length ops) op n ≡ written o.ksmps opcode into p n =
-      live_step o (place + length ops) op n live
-      ∙ ap (λ y. written o.ksmps opcode into (o.does opcode y u reach (map n.regs (spots f whole at xs 0)) n.world) n) (target_rate f r vs)
-      ∙ ap (λ ws. written o.ksmps opcode into (o.does opcode r u reach ws n.world) n) ready.here
-      ∙ ap (λ x. written o.ksmps opcode into (o.does opcode r u reach (values o t whole at xs) x) n) (ready.same.world ∙ s.world) in
-      let is : run o place (ops ++ (op ∷ rest)) m ≡ run o (place + length ops + 1) rest (written o.ksmps opcode into p n) =
-      run_append o place ops (op ∷ rest) m ∙ ap (run o (place + length ops + 1) rest) does in
-      let going : o.refused p.0 ≡ false =
-      quiet.does opcode r u reach (values o t whole at xs) t.world ∙ ap o.refused (sym s.world) ∙ l.going in
-      let low : n.next ≤ place + length ops + 1 = le_trans live.next (omega arith) in
-      let after = given_runs r vs opcode p t (place + length ops + 1) n (stands_same o f lim parts fits t 0 m n s ready.same) low going takes in
-      subst (Reached f lim parts (done o r vs p t) m) (sym is) (record { stands = after.stands; next = after.next ∙ ready.same.next })
+      run_runs whole at (act.Unit opcode u reach) r vs opcode xs (o.does opcode r u reach) t place m
+      (λ into ws n is. ap (λ y. written o.ksmps opcode into (o.does opcode y u reach ws n.world) n) is)
+      (λ ws x. quiet.does opcode r u reach ws x) s l takes inside bound
+
+  pub zak_runs : Quiet o → (whole : Bool) (at : ℕ) (r : Rate) (vs : List Variable) (opcode : Opcode) (reach : Reach) (xs : List Expression)
+      (t : Note W) (place : ℕ) (m : Machine W) → Stands (plan_of f lim parts) t m → Live o place m → Takes lim opcode vs → InsideAll lim xs
+      → Bound whole parts (past_all at xs)
+      → Reached f lim parts (done o r vs (o.zak opcode reach (values o t whole at xs) t.world) t) m
+      (run o place (zak_code f whole at r vs opcode reach xs) m)
+  zak_runs quiet whole at r vs opcode reach xs t place m s l takes inside bound =
+      run_runs whole at (act.Zak opcode reach) r vs opcode xs (o.zak opcode reach) t place m (λ into ws n is. refl)
+      (λ ws x. quiet.zak opcode reach ws x) s l takes inside bound
 
   -- ---- a variable takes a value
 

@@ -9,7 +9,7 @@ use Rattle.cs_ir.specs.Worlds.{World}
 use Rattle.cs_ir.specs.declared.op.Act.TheVariants as act
 use Rattle.cs_ir.specs.declared.op.Op.{Op}
 use Rattle.cs_ir.specs.declared.register.Reg.{Reg}
-use Rattle.cs_meaning.specs.Core.{Stmt, Block, Arms, set, unit, out, out_at, ask, turnoff, nothing, choose, no_stmt, andthen, otherwise, arm}
+use Rattle.cs_meaning.specs.Core.{Stmt, Block, Arms, set, unit, zak, store, out, out_at, ask, turnoff, nothing, choose, no_stmt, andthen, otherwise, arm}
 use Rattle.cs_meaning.specs.Notes.{Note, Place, reg, moved_to, past, past_all, past_parts, past_stmt, past_block, past_arms, assign, given, done, value, values, sent, sent_at}
 use Rattle.cs_meaning.specs.Performing.{perf_stmt, perf_block, perf_arms}
 use Rattle.cs_typed.specs.TypedTree.{Expression}
@@ -17,11 +17,11 @@ use Rattle.cs_typed.specs.declared.tree.Var.{Var as Variable}
 use Rattle.cs_typed.specs.declared.tree.Var.TheVariants.{Local, Global}
 use Rattle.cs_code.specs.Means.{Stands}
 use Rattle.cs_code.specs.inner.Frames.{Frame, op_of, spot, spots}
-use Rattle.cs_code.specs.inner.Code.{operand_code, operands_code, set_code, unit_code, out_ops, out_at_ops, arm_code, perf_code, perf_block_code, perf_arms_code}
+use Rattle.cs_code.specs.inner.Code.{operand_code, operands_code, set_code, unit_code, zak_code, store_code, out_ops, out_at_ops, arm_code, perf_code, perf_block_code, perf_arms_code}
 use Rattle.cs_code.proofs.Arms.{Agrees, agrees_live, arm_runs}
 use Rattle.cs_code.proofs.Expressions.{live_same, stands_same, operands_run, operand_runs, past_grows, past_all_grows}
 use Rattle.cs_code.proofs.Inside.{Fits, plan_of, InsideAll, InsideStmt, InsideBlock, InsideArms}
-use Rattle.cs_code.proofs.Parts.{Quiet, Reached, moved_stands, set_runs, unit_runs}
+use Rattle.cs_code.proofs.Parts.{Quiet, Reached, moved_stands, set_runs, unit_runs, zak_runs, store_runs}
 use Rattle.cs_code.proofs.Runs.{Live, run_append, live_step}
 
 -- ---- numbers of places grow
@@ -35,6 +35,8 @@ mutual
   pub stmt_grows : (p : Place) (s : Stmt) → p.part ≤ (past_stmt p s).part
   stmt_grows p (set r v e) = if_below r p.part (past p.part e) (past_grows p.part e)
   stmt_grows p (unit r vs opcode reach xs is) = if_below r p.part (past_all p.part xs) (past_all_grows p.part xs)
+  stmt_grows p (zak r vs opcode reach xs) = if_below r p.part (past_all p.part xs) (past_all_grows p.part xs)
+  stmt_grows p (store r opcode reach es is) = if_below r p.part (past_all p.part es) (past_all_grows p.part es)
   stmt_grows p (out r es) = past_all_grows p.part es
   stmt_grows p (out_at r es) = past_all_grows p.part es
   stmt_grows p (ask es) = omega arith
@@ -100,6 +102,12 @@ module _ {W : Type 0} (o : World W) (quiet : Quiet o) where
     stmt_quiet p (unit r vs opcode reach xs is) t =
         init_quiet r t _ (done_quiet r vs (o.does opcode r p.unit reach (values o t false p.part xs) t.world) t
         (quiet.does opcode r p.unit reach (values o t false p.part xs) t.world))
+    stmt_quiet p (zak r vs opcode reach xs) t =
+        init_quiet r t _ (done_quiet r vs (o.zak opcode reach (values o t false p.part xs) t.world) t
+        (quiet.zak opcode reach (values o t false p.part xs) t.world))
+    stmt_quiet p (store r opcode reach es is) t =
+        init_quiet r t (moved_to (o.store opcode r reach (values o t false p.part es) t.world) t)
+        (quiet.store opcode r reach (values o t false p.part es) t.world)
     stmt_quiet p (out r es) t = sent_quiet 0 (values o t false p.part es) t.world
     stmt_quiet p (out_at r es) t = sent_at_quiet (values o t false p.part es) t.world
     stmt_quiet p (ask es) t = refl
@@ -188,6 +196,20 @@ module _ {W : Type 0} (o : World W) (quiet : Quiet o) (f : Frame) (lim : Rate �
         each_cycle r t s place p.part (past_all p.part xs) ops m h bound (λ b.
         reached t s place ops m (run o place ops m) live
         (unit_runs o f lim parts fits quiet false p.part r vs opcode p.unit reach xs t place m h.stands live inside.0 inside.1 b))
+    perf_runs (zak r vs opcode reach xs) p place t m h going inside bound =
+        let ops : List Op = zak_code f false p.part r vs opcode reach xs in
+        let live = agrees_live o f lim parts place t m h going in
+        let s : Note W = done o r vs (o.zak opcode reach (values o t false p.part xs) t.world) t in
+        each_cycle r t s place p.part (past_all p.part xs) ops m h bound (λ b.
+        reached t s place ops m (run o place ops m) live
+        (zak_runs o f lim parts fits quiet false p.part r vs opcode reach xs t place m h.stands live inside.0 inside.1 b))
+    perf_runs (store r opcode reach es is) p place t m h going inside bound =
+        let ops : List Op = store_code f false p.part r opcode reach es in
+        let live = agrees_live o f lim parts place t m h going in
+        let s : Note W = moved_to (o.store opcode r reach (values o t false p.part es) t.world) t in
+        each_cycle r t s place p.part (past_all p.part es) ops m h bound (λ b.
+        reached t s place ops m (run o place ops m) live
+        (store_runs o f lim parts fits false p.part r opcode reach es t place m h.stands live inside.0 b))
     perf_runs (out r es) p place t m h going inside bound =
         let ops : List Op = operands_code f false p.part es 0 in
         let last : List Op = out_ops 0 (spots f false p.part es 0) in

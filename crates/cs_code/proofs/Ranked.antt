@@ -5,10 +5,10 @@ use Rattle.cs_base.specs.declared.resource.Rate.{Rate}
 use Rattle.cs_base.specs.declared.resource.Rate.TheVariants as rate
 use Rattle.cs_words.specs.Catalogue.{row_of, moving_letters, unit_takes}
 use Rattle.cs_words.specs.declared.catalogue.Opcode.{Opcode}
-use Rattle.cs_ir.specs.Units.{is_unit}
-use Rattle.cs_ir.specs.Validity.{suits_operator, suits_function, take_all, stores_at, may_run_at, bound_at, has_value}
+use Rattle.cs_ir.specs.Units.{is_store, is_unit, is_zak}
+use Rattle.cs_ir.specs.Validity.{suits_operator, suits_function, take_all, stores_with, may_run_at, bound_at, has_value}
 use Rattle.cs_ir.specs.declared.register.Reg.{Reg}
-use Rattle.cs_meaning.specs.Core.{Stmt, Block, Arms, set, unit, out, out_at, ask, turnoff, nothing, choose, no_stmt, andthen, otherwise, arm}
+use Rattle.cs_meaning.specs.Core.{Stmt, Block, Arms, set, unit, zak, store, out, out_at, ask, turnoff, nothing, choose, no_stmt, andthen, otherwise, arm}
 use Rattle.cs_meaning.specs.Notes.{reg}
 use Rattle.cs_typed.specs.TypedTree.{Expression, number, var, field, head, neg, pair, pick, apply}
 use Rattle.cs_typed.specs.WellRated.{node_rate, var_rate}
@@ -65,22 +65,35 @@ abbrev pub GivenTo : Rate → List Variable → Type 0
 GivenTo r [] = Unit {0}
 GivenTo r (v ∷ vs) = (holds_value v && within r (var_rate v)) ≡ true
 
--- A unit's arguments fit the letters of its opcode.
+-- What runs has arguments that fit the letters of its opcode; a unit has settled ones too.
+pub record RankedRun (r : Rate) (vs : List Variable) (opcode : Opcode) (xs : List Expression) : Type 0 where
+  pub moving : take_all (moving_letters (row_of opcode)) (bound_at (row_of opcode) r) (rated xs) ≡ true
+  pub runs : may_run_at (row_of opcode) r ≡ true
+  pub given : GivenTo r vs
+  pub parts : AllRanked xs
+
 pub record RankedUnit (r : Rate) (vs : List Variable) (opcode : Opcode) (xs is : List Expression) : Type 0 where
   pub is_one : is_unit (row_of opcode).shape ≡ true
   pub count : unit_takes (row_of opcode) (length is) ≡ true
   pub settled : AllInit is
-  pub moving : take_all (moving_letters (row_of opcode)) (bound_at (row_of opcode) r) (rated xs) ≡ true
-  pub even : stores_at (row_of opcode).shape r (rated xs) ≡ true
-  pub runs : may_run_at (row_of opcode) r ≡ true
-  pub given : GivenTo r vs
-  pub parts : AllRanked xs
+  pub run : RankedRun r vs opcode xs
+  pub settled_parts : AllRanked is
+
+-- A store's arguments are stored at its rate, and one of them, known when the note begins, is the number of its table.
+pub record RankedStore (r : Rate) (opcode : Opcode) (es is : List Expression) : Type 0 where
+  pub is_one : is_store (row_of opcode).shape ≡ true
+  pub stores : stores_with r (rated es) ≡ true
+  pub settled : AllInit is
+  pub single : length is ≡ 1
+  pub parts : AllRanked es
   pub settled_parts : AllRanked is
 
 abbrev mutual
   pub RankedStmt : Stmt → Type 0
   RankedStmt (set r v e) = RankedSet v e
   RankedStmt (unit r vs opcode reach xs is) = RankedUnit r vs opcode xs is
+  RankedStmt (zak r vs opcode reach xs) = (is_zak (row_of opcode).shape ≡ true) × RankedRun r vs opcode xs
+  RankedStmt (store r opcode reach es is) = RankedStore r opcode es is
   RankedStmt (out r es) = AllSound es × AllRanked es
   RankedStmt (out_at r es) = Paired es × AllRanked es
   RankedStmt (ask es) = (3 ≤ length es) × AllInit es × AllRanked es

@@ -107,7 +107,13 @@ module _ (counts : PerRate ℕ) where
       (channel, (channel, inside_expr e (All-head Counted (typed.value e) (typed.text c ∷ args) k)))
   inside_call spaces r vs opcode shape.ChannelClear (typed.text c ∷ args) t h k = (inside_var c (All-head Counted (typed.text c) args k), tt)
   inside_call spaces r vs opcode shape.Ask args t h k = inside_values args k
-  inside_call spaces r vs opcode sh args t h k = (t, inside_moving (row_of opcode) 0 args k, inside_settled (row_of opcode) 0 args k)
+  inside_call spaces r vs opcode shape.Unit args t h k = (t, inside_moving (row_of opcode) 0 args k, inside_settled (row_of opcode) 0 args k)
+  inside_call spaces r vs opcode shape.Store args t h k = (inside_values args k, inside_settled (row_of opcode) 0 args k)
+  inside_call spaces r vs opcode (shape.ZakGet s) args t h k = (t, inside_moving (row_of opcode) 0 args k)
+  inside_call spaces r vs opcode (shape.ZakPut s) args t h k = (t, inside_moving (row_of opcode) 0 args k)
+  inside_call spaces r vs opcode shape.ZakMix args t h k = (t, inside_moving (row_of opcode) 0 args k)
+  inside_call spaces r vs opcode (shape.ZakClear s) args t h k = (t, inside_moving (row_of opcode) 0 args k)
+  inside_call spaces r vs opcode sh args t h k = tt
 
   mutual
     inside_stmt : (spaces : Spaces) (s : Setting) (x : typed.Statement) → IsRatedStatement s x → EachInStatement (IsCounted counts) x

@@ -1,18 +1,18 @@
--- What a unit may touch, by what is known of its arguments.
-use Rattle.std.proofs.Common.{◌≡◌, ◌∷◌, ℕ, ℤ, Bool, List, [], cond, refl, sym, ap}
+-- What an op may touch, by what is known of its values.
+use Rattle.std.proofs.Common.{◌≡◌, ◌∷◌, ℕ, ℤ, List, [], refl, sym}
 use Rattle.cs_base.specs.declared.resource.Rate.{Rate}
 use Rattle.cs_base.specs.declared.spaces.Spaces.{Spaces}
 use Rattle.cs_ir.specs.Resources.{places_of}
 use Rattle.cs_ir.specs.declared.op.Reach.TheVariants as reach
-use Rattle.cs_meaning.specs.Core.{table_reach, place_reach, span_reach, reach_of}
+use Rattle.cs_meaning.specs.Core.{table_reach, place_reach, span_reach, zak_reach}
 use Rattle.cs_typed.specs.TypedTree.{Expression, number, var, field, head, neg, pair, pick, apply}
 use Rattle.cs_words.specs.declared.catalogue.Shape.{Shape}
 use Rattle.cs_words.specs.declared.catalogue.Shape.TheVariants as shape
 use Rattle.cs_words.specs.declared.catalogue.Space.TheVariants as space
 use Rattle.cs_code.specs.declared.reach.Known.TheVariants as known
-use Rattle.cs_code.specs.inner.Emitted.{known_of, known_at, table_known, place_known, span_known, reach_known}
+use Rattle.cs_code.specs.inner.Emitted.{known_of, known_at, table_known, place_known, span_known, zak_known}
 
-table_by : (is : List Expression) → table_reach is ≡ table_known (known_at is 0)
+pub table_by : (is : List Expression) → table_reach is ≡ table_known (known_at is 0)
 table_by [] = refl
 table_by (number r v ∷ es) = refl
 table_by (var r v ∷ es) = refl
@@ -64,28 +64,27 @@ span_by places (pair r o a b) x = sym (any_by places x)
 span_by places (pick r c a b) x = sym (any_by places x)
 span_by places (apply r g a) x = sym (any_by places x)
 
-pub reach_by_known : (spaces : Spaces) (sh : Shape) (table : Bool) (xs is : List Expression) → reach_of spaces sh table xs is
-    ≡ reach_known spaces sh table (known_at is 0) (known_at xs 0) (known_at xs 1)
-reach_by_known spaces shape.Unit table xs is = ap (λ r. cond table r reach.Nothing) (table_by is)
-reach_by_known spaces shape.Store table xs is = table_by is
-reach_by_known spaces (shape.ZakGet s) table [] is = refl
-reach_by_known spaces (shape.ZakGet s) table (x ∷ xs) is = place_by (places_of spaces s) x
-reach_by_known spaces (shape.ZakPut s) table [] is = refl
-reach_by_known spaces (shape.ZakPut s) table (v ∷ []) is = refl
-reach_by_known spaces (shape.ZakPut s) table (v ∷ x ∷ xs) is = place_by (places_of spaces s) x
-reach_by_known spaces shape.ZakMix table [] is = refl
-reach_by_known spaces shape.ZakMix table (v ∷ []) is = refl
-reach_by_known spaces shape.ZakMix table (v ∷ x ∷ xs) is = place_by (places_of spaces space.Audio) x
-reach_by_known spaces (shape.ZakClear s) table [] is = refl
-reach_by_known spaces (shape.ZakClear s) table (x ∷ []) is = refl
-reach_by_known spaces (shape.ZakClear s) table (x ∷ y ∷ xs) is = span_by (places_of spaces s) x y
-reach_by_known spaces shape.Init table xs is = refl
-reach_by_known spaces shape.Out table xs is = refl
-reach_by_known spaces shape.OutAt table xs is = refl
-reach_by_known spaces shape.Turnoff table xs is = refl
-reach_by_known spaces shape.ZakInit table xs is = refl
-reach_by_known spaces shape.ChannelGet table xs is = refl
-reach_by_known spaces shape.ChannelPut table xs is = refl
-reach_by_known spaces shape.ChannelMix table xs is = refl
-reach_by_known spaces shape.ChannelClear table xs is = refl
-reach_by_known spaces shape.Ask table xs is = refl
+pub zak_by_known : (spaces : Spaces) (sh : Shape) (xs : List Expression) → zak_reach spaces sh xs ≡ zak_known spaces sh (known_at xs 0) (known_at xs 1)
+zak_by_known spaces (shape.ZakGet s) [] = refl
+zak_by_known spaces (shape.ZakGet s) (x ∷ xs) = place_by (places_of spaces s) x
+zak_by_known spaces (shape.ZakPut s) [] = refl
+zak_by_known spaces (shape.ZakPut s) (v ∷ []) = refl
+zak_by_known spaces (shape.ZakPut s) (v ∷ x ∷ xs) = place_by (places_of spaces s) x
+zak_by_known spaces shape.ZakMix [] = refl
+zak_by_known spaces shape.ZakMix (v ∷ []) = refl
+zak_by_known spaces shape.ZakMix (v ∷ x ∷ xs) = place_by (places_of spaces space.Audio) x
+zak_by_known spaces (shape.ZakClear s) [] = refl
+zak_by_known spaces (shape.ZakClear s) (x ∷ []) = refl
+zak_by_known spaces (shape.ZakClear s) (x ∷ y ∷ xs) = span_by (places_of spaces s) x y
+zak_by_known spaces shape.Unit xs = refl
+zak_by_known spaces shape.Store xs = refl
+zak_by_known spaces shape.Init xs = refl
+zak_by_known spaces shape.Out xs = refl
+zak_by_known spaces shape.OutAt xs = refl
+zak_by_known spaces shape.Turnoff xs = refl
+zak_by_known spaces shape.ZakInit xs = refl
+zak_by_known spaces shape.ChannelGet xs = refl
+zak_by_known spaces shape.ChannelPut xs = refl
+zak_by_known spaces shape.ChannelMix xs = refl
+zak_by_known spaces shape.ChannelClear xs = refl
+zak_by_known spaces shape.Ask xs = refl

@@ -9,10 +9,8 @@ use Rattle.cs_base.specs.declared.resource.Rate.TheVariants as rate
 use Rattle.cs_words.specs.Catalogue.{row_of, takes, moving_letters, unit_takes}
 use Rattle.cs_words.specs.declared.catalogue.Letter.{Letter}
 use Rattle.cs_words.specs.declared.catalogue.Opcode.{Opcode}
-use Rattle.cs_words.specs.declared.catalogue.Shape.{Shape}
-use Rattle.cs_words.specs.declared.catalogue.Shape.TheVariants as shape
-use Rattle.cs_ir.specs.Units.{is_started, is_unit}
-use Rattle.cs_ir.specs.Validity.{takes_from, suits_operator, suits_function, take_all, stores_at, is_still, may_run_at, bound_at, has_value, runs_with, count_of, has_register, writes, finds, is_fine, fine_from}
+use Rattle.cs_ir.specs.Units.{is_store, is_unit, is_zak}
+use Rattle.cs_ir.specs.Validity.{takes_from, suits_operator, suits_function, take_all, as_sounds, stores_with, is_still, may_run_at, bound_at, has_value, runs_with, count_of, has_register, writes, finds, is_fine, fine_from}
 use Rattle.cs_ir.specs.Waves.{if_init}
 use Rattle.cs_ir.specs.declared.op.Act.{Act}
 use Rattle.cs_ir.specs.declared.op.Act.TheVariants as act
@@ -20,7 +18,7 @@ use Rattle.cs_ir.specs.declared.op.Op.{Op}
 use Rattle.cs_ir.specs.declared.op.Reach.{Reach}
 use Rattle.cs_ir.specs.declared.register.Counts.{Counts}
 use Rattle.cs_ir.specs.declared.register.Reg.{Reg}
-use Rattle.cs_meaning.specs.Core.{Stmt, Block, Arms, set, unit, out, out_at, ask, turnoff, nothing, choose, no_stmt, andthen, otherwise, arm}
+use Rattle.cs_meaning.specs.Core.{Stmt, Block, Arms, set, unit, zak, store, out, out_at, ask, turnoff, nothing, choose, no_stmt, andthen, otherwise, arm}
 use Rattle.cs_meaning.specs.Notes.{Place, reg, past, past_parts, past_stmt, past_block}
 use Rattle.cs_typed.specs.TypedTree.{Expression, number, var, field, head, neg, pair, pick, apply}
 use Rattle.cs_typed.specs.WellRated.{node_rate}
@@ -29,10 +27,10 @@ use Rattle.cs_typed.specs.declared.tree.Var.TheVariants.{Local, Global}
 use Rattle.cs_code.specs.Names.{UnitKind, Names}
 use Rattle.cs_code.specs.inner.Limits.{reg_limit, regs_limit, ops_limit}
 use Rattle.cs_code.specs.inner.Frames.{Frame, op_of, kept_reg, temp, kept_or, direct, reg_or, spot, spots}
-use Rattle.cs_code.specs.inner.Code.{unless_there, copied, own, code, operand_code, operands_code, kept_code, keep_code, keep_all_code, set_code, target, given_code, start_code, unit_code, out_ops, out_at_ops, arm_code, init_code, init_block_code, first_code, all_code, perf_code, perf_block_code, perf_arms_code}
+use Rattle.cs_code.specs.inner.Code.{unless_there, copied, own, code, operand_code, operands_code, kept_code, keep_code, keep_all_code, set_code, target, given_code, on_code, run_code, start_code, unit_code, zak_code, seek_code, store_code, ask_code, out_ops, out_at_ops, arm_code, init_code, init_block_code, first_code, all_code, perf_code, perf_block_code, perf_arms_code}
 use Rattle.cs_code.proofs.Named.{Each, target_rate}
 use Rattle.cs_code.proofs.Performs.{arm_length}
-use Rattle.cs_code.proofs.Ranked.{Ranked, AllRanked, AllInit, AllSound, Paired, rated, RankedSet, GivenTo, RankedUnit, RankedStmt, RankedBlock, RankedArms}
+use Rattle.cs_code.proofs.Ranked.{Ranked, AllRanked, AllInit, AllSound, Paired, rated, RankedSet, GivenTo, RankedRun, RankedUnit, RankedStore, RankedStmt, RankedBlock, RankedArms}
 
 -- where an act goes on: later, and not beyond the end
 abbrev pub Lands : ℕ → ℕ → Act → Type 0
@@ -113,9 +111,24 @@ same_length (p ∷ ps) (q ∷ qs) h = ap suc (same_length ps qs h.1)
 same_length [] (q ∷ qs) h = absurd h
 same_length (p ∷ ps) [] h = absurd h
 
-same_stores : (sh : Shape) (r : Rate) (ps qs : List Reg) → SameRates ps qs → stores_at sh r ps ≡ stores_at sh r qs
-same_stores shape.Store r ps qs h = same_all (λ y. if is_audio r then is_audio y else not (is_audio y)) ps qs h
-same_stores _ r ps qs h = refl
+same_sound : (r : Rate) (p q : Reg) → p.rate ≡ q.rate → as_sounds r p ≡ as_sounds r q
+same_sound r p q h = ap (λ y. if is_audio r then is_audio y else not (is_audio y)) h
+
+same_stores : (r : Rate) (ps qs : List Reg) → SameRates ps qs → stores_with r ps ≡ stores_with r qs
+same_stores r [] [] h = refl
+same_stores r (a ∷ []) (x ∷ []) h = refl
+same_stores r (a ∷ (b ∷ [])) (x ∷ (y ∷ [])) h = refl
+same_stores r (a ∷ (b ∷ (c ∷ []))) (x ∷ (y ∷ (z ∷ []))) h =
+    ap₂ ◌&&◌ (ap₂ ◌&&◌ (same_sound r a x h.0) (same_sound r b y h.1.0)) (ap is_init h.1.1.0)
+same_stores r (a ∷ (b ∷ (c ∷ (d ∷ ps)))) (x ∷ (y ∷ (z ∷ (t ∷ qs)))) h = refl
+same_stores r [] (x ∷ qs) h = absurd h
+same_stores r (a ∷ ps) [] h = absurd h
+same_stores r (a ∷ []) (x ∷ (y ∷ qs)) h = absurd h.1
+same_stores r (a ∷ (b ∷ ps)) (x ∷ []) h = absurd h.1
+same_stores r (a ∷ (b ∷ [])) (x ∷ (y ∷ (z ∷ qs))) h = absurd h.1.1
+same_stores r (a ∷ (b ∷ (c ∷ ps))) (x ∷ (y ∷ [])) h = absurd h.1.1
+same_stores r (a ∷ (b ∷ (c ∷ []))) (x ∷ (y ∷ (z ∷ (t ∷ qs)))) h = absurd h.1.1.1
+same_stores r (a ∷ (b ∷ (c ∷ (d ∷ ps)))) (x ∷ (y ∷ (z ∷ []))) h = absurd h.1.1.1
 
 init_still : (es : List Expression) → AllInit es → list_all is_still (rated es) ≡ true
 init_still [] h = refl
@@ -282,43 +295,70 @@ module _ (end : ℕ) where
       by_rate false = (h, tt, tt)
   given_fine f r (Global g ∷ vs) place h = (h, tt, tt)
 
+  -- an op on values that it takes; and what is then left to do
+  on_fine : (f : Frame) (whole : Bool) (at : ℕ) (a : Act) (into : Reg) (es : List Expression) (place : ℕ) → AllRanked es
+      → takes_from a into.rate (spots f whole at es 0) ≡ true → Lands end (place + length (operands_code f whole at es 0)) a
+      → Fine end place (on_code f whole at a into es)
+  on_fine f whole at a into es place ranked takes lands =
+      both_fine place (operands_code f whole at es 0) (op_of a into (spots f whole at es 0) ∷ []) (operands_fine f whole es at 0 place ranked)
+      (takes, lands, tt)
+
+  run_fine : (f : Frame) (whole : Bool) (at : ℕ) (a : Act) (r : Rate) (vs : List Variable) (xs : List Expression) (place : ℕ) → AllRanked xs
+      → GivenTo r vs → takes_from a r (spots f whole at xs 0) ≡ true → Lands end (place + length (operands_code f whole at xs 0)) a
+      → Fine end place (run_code f whole at a r vs xs)
+  run_fine f whole at a r vs xs place ranked given takes lands =
+      let ps : List Reg = spots f whole at xs 0 in
+      let ops : List Op = operands_code f whole at xs 0 in
+      both_fine place ops (op_of a (target f r vs) ps ∷ given_code f r vs) (operands_fine f whole xs at 0 place ranked)
+      (ap (λ y. takes_from a y ps) (target_rate f r vs) ∙ takes, lands, given_fine f r vs (place + length ops + 1) given)
+
+  -- all are still, and so are the registers where they stand
+  spots_still : (f : Frame) (is : List Expression) → AllInit is → AllRanked is → list_all is_still (spots f true 0 is 0) ≡ true
+  spots_still f is h k =
+      same_all is_init (spots f true 0 is 0) (rated is) (spots_rates f true 0 is 0 k) ∙ init_still is h
+
   start_fine : (f : Frame) (r : Rate) (vs : List Variable) (opcode : Opcode) (u : ℕ) (xs is : List Expression) (place : ℕ) → RankedUnit r vs opcode xs is
       → Fine end place (start_code f r opcode u is)
-  start_fine f r vs opcode u xs is place h = when (is_started (row_of opcode).shape) refl
-    where
-      when : (b : Bool) → is_started (row_of opcode).shape ≡ b
-          → Fine end place (if b then operands_code f true 0 is 0 ++ (op_of (act.Start opcode u) (reg r 0) (spots f true 0 is 0) ∷ []) else [])
-      when true e =
-          let ps : List Reg = spots f true 0 is 0 in
-          let same : SameRates ps (rated is) = spots_rates f true 0 is 0 h.settled_parts in
-          let count : unit_takes (row_of opcode) (length ps) ≡ true =
-          ap (unit_takes (row_of opcode)) (same_length ps (rated is) same ∙ length_rated is) ∙ h.count in
-          let still : list_all is_still ps ≡ true = same_all is_init ps (rated is) same ∙ init_still is h.settled in
-          both_fine place (operands_code f true 0 is 0) (op_of (act.Start opcode u) (reg r 0) ps ∷ [])
-          (operands_fine f true is 0 0 place h.settled_parts) (
-            four (is_started (row_of opcode).shape) (unit_takes (row_of opcode) (length ps)) (list_all is_still ps) (may_run_at (row_of opcode) r)
-                e count still h.runs,
-            tt,
-            tt,
-          )
-      when false e = tt
+  start_fine f r vs opcode u xs is place h =
+      let ps : List Reg = spots f true 0 is 0 in
+      let count : unit_takes (row_of opcode) (length ps) ≡ true =
+      ap (unit_takes (row_of opcode)) (same_length ps (rated is) (spots_rates f true 0 is 0 h.settled_parts) ∙ length_rated is) ∙ h.count in
+      on_fine f true 0 (act.Start opcode u) (reg r 0) is place h.settled_parts
+      (four (is_unit (row_of opcode).shape) (unit_takes (row_of opcode) (length ps)) (list_all is_still ps) (may_run_at (row_of opcode) r)
+      h.is_one count (spots_still f is h.settled h.settled_parts) h.run.runs)
+      tt
+
+  runs_fine : (f : Frame) (whole : Bool) (at : ℕ) (r : Rate) (vs : List Variable) (opcode : Opcode) (xs : List Expression) → RankedRun r vs opcode xs
+      → runs_with (row_of opcode) r (spots f whole at xs 0) ≡ true
+  runs_fine f whole at r vs opcode xs h =
+      let ps : List Reg = spots f whole at xs 0 in
+      two (take_all (moving_letters (row_of opcode)) (bound_at (row_of opcode) r) ps) (may_run_at (row_of opcode) r)
+      (same_takes (moving_letters (row_of opcode)) (bound_at (row_of opcode) r) ps (rated xs) (spots_rates f whole at xs 0 h.parts) ∙ h.moving) h.runs
 
   unit_fine : (f : Frame) (whole : Bool) (at : ℕ) (r : Rate) (vs : List Variable) (opcode : Opcode) (u : ℕ) (reach : Reach) (xs is : List Expression) (place : ℕ)
       → RankedUnit r vs opcode xs is → Fine end place (unit_code f whole at r vs opcode u reach xs)
   unit_fine f whole at r vs opcode u reach xs is place h =
-      let ps : List Reg = spots f whole at xs 0 in
-      let ops : List Op = operands_code f whole at xs 0 in
-      let same : SameRates ps (rated xs) = spots_rates f whole at xs 0 h.parts in
-      let moves : take_all (moving_letters (row_of opcode)) (bound_at (row_of opcode) r) ps ≡ true =
-      same_takes (moving_letters (row_of opcode)) (bound_at (row_of opcode) r) ps (rated xs) same ∙ h.moving in
-      let even : stores_at (row_of opcode).shape r ps ≡ true = same_stores (row_of opcode).shape r ps (rated xs) same ∙ h.even in
-      both_fine place ops (op_of (act.Unit opcode u reach) (target f r vs) ps ∷ given_code f r vs) (operands_fine f whole xs at 0 place h.parts) (
-        ap (λ y. runs_with (row_of opcode) y ps) (target_rate f r vs)
-            ∙ four (is_unit (row_of opcode).shape) (take_all (moving_letters (row_of opcode)) (bound_at (row_of opcode) r) ps)
-            (stores_at (row_of opcode).shape r ps) (may_run_at (row_of opcode) r) h.is_one moves even h.runs,
-        tt,
-        given_fine f r vs (place + length ops + 1) h.given,
-      )
+      run_fine f whole at (act.Unit opcode u reach) r vs xs place h.run.parts h.run.given
+      (two (is_unit (row_of opcode).shape) (runs_with (row_of opcode) r (spots f whole at xs 0)) h.is_one (runs_fine f whole at r vs opcode xs h.run)) tt
+
+  zak_fine : (f : Frame) (whole : Bool) (at : ℕ) (r : Rate) (vs : List Variable) (opcode : Opcode) (reach : Reach) (xs : List Expression) (place : ℕ)
+      → is_zak (row_of opcode).shape ≡ true → RankedRun r vs opcode xs → Fine end place (zak_code f whole at r vs opcode reach xs)
+  zak_fine f whole at r vs opcode reach xs place one h =
+      run_fine f whole at (act.Zak opcode reach) r vs xs place h.parts h.given
+      (two (is_zak (row_of opcode).shape) (runs_with (row_of opcode) r (spots f whole at xs 0)) one (runs_fine f whole at r vs opcode xs h)) tt
+
+  seek_fine : (f : Frame) (r : Rate) (opcode : Opcode) (es is : List Expression) (place : ℕ) → RankedStore r opcode es is → Fine end place (seek_code f is)
+  seek_fine f r opcode es [] place h = absurd (let no : 0 ≡ 1 = h.single in omega arith)
+  seek_fine f r opcode es (e ∷ []) place h =
+      on_fine f true 0 act.Seek (reg rate.Init 0) (e ∷ []) place h.settled_parts (ap is_init (spot_rate f true 0 e 0 h.settled_parts.0 ∙ h.settled.0)) tt
+  seek_fine f r opcode es (e ∷ (x ∷ is)) place h = absurd (let no : length (e ∷ (x ∷ is)) ≡ 1 = h.single in omega arith)
+
+  store_fine : (f : Frame) (whole : Bool) (at : ℕ) (r : Rate) (opcode : Opcode) (reach : Reach) (es is : List Expression) (place : ℕ)
+      → RankedStore r opcode es is → Fine end place (store_code f whole at r opcode reach es)
+  store_fine f whole at r opcode reach es is place h =
+      let ps : List Reg = spots f whole at es 0 in
+      on_fine f whole at (act.Store opcode reach) (reg r 0) es place h.parts
+      (two (is_store (row_of opcode).shape) (stores_with r ps) h.is_one (same_stores r ps (rated es) (spots_rates f whole at es 0 h.parts) ∙ h.stores)) tt
 
   out_fine : (f : Frame) (c at d place : ℕ) (es : List Expression) → AllSound es → AllRanked es → Fine end place (out_ops c (spots f false at es d))
   out_fine f c at d place [] h k = tt
@@ -333,15 +373,12 @@ module _ (end : ℕ) where
       let sound : is_audio (spot f false (past at c) e (d + 1)).rate ≡ true = ap is_audio (spot_rate f false (past at c) e (d + 1) k.1.0) ∙ h.1 in
       (rw (held, sound) refl, tt, out_at_fine f (past (past at c) e) (d + 1 + 1) (place + 1) es h.2 k.1.1)
 
-  ask_fine : (f : Frame) (es : List Expression) (place : ℕ) → 3 ≤ length es → AllInit es → AllRanked es
-      → Fine end place (operands_code f true 0 es 0 ++ (op_of act.Ask (reg rate.Init 0) (spots f true 0 es 0) ∷ []))
+  ask_fine : (f : Frame) (es : List Expression) (place : ℕ) → 3 ≤ length es → AllInit es → AllRanked es → Fine end place (ask_code f es)
   ask_fine f es place many still h =
       let ps : List Reg = spots f true 0 es 0 in
-      let same : SameRates ps (rated es) = spots_rates f true 0 es 0 h in
-      let count : nat_le 3 (length ps) ≡ true = ap (nat_le 3) (same_length ps (rated es) same ∙ length_rated es) ∙ le-leb 3 (length es) many in
-      let all : list_all is_still ps ≡ true = same_all is_init ps (rated es) same ∙ init_still es still in
-      both_fine place (operands_code f true 0 es 0) (op_of act.Ask (reg rate.Init 0) ps ∷ []) (operands_fine f true es 0 0 place h)
-      (two (nat_le 3 (length ps)) (list_all is_still ps) count all, tt, tt)
+      let count : nat_le 3 (length ps) ≡ true =
+      ap (nat_le 3) (same_length ps (rated es) (spots_rates f true 0 es 0 h) ∙ length_rated es) ∙ le-leb 3 (length es) many in
+      on_fine f true 0 act.Ask (reg rate.Init 0) es place h (two (nat_le 3 (length ps)) (list_all is_still ps) count (spots_still f es still h)) tt
 
   -- ---- arms
 
@@ -374,8 +411,18 @@ module _ (end : ℕ) where
         when_init r place (begins ++ unit_code f true 0 r vs opcode p.unit reach xs) (keep_all_code f p.part xs ++ begins)
         (λ i. both_fine place begins (unit_code f true 0 r vs opcode p.unit reach xs) (start_fine f r vs opcode p.unit xs is place h)
         (unit_fine f true 0 r vs opcode p.unit reach xs is (place + length begins) h))
-        (both_fine place (keep_all_code f p.part xs) begins (keep_all_fine f xs p.part place h.parts)
+        (both_fine place (keep_all_code f p.part xs) begins (keep_all_fine f xs p.part place h.run.parts)
         (start_fine f r vs opcode p.unit xs is (place + length (keep_all_code f p.part xs)) h))
+    init_fine f place p (zak r vs opcode reach xs) h low =
+        when_init r place (zak_code f true 0 r vs opcode reach xs) (keep_all_code f p.part xs)
+        (λ i. zak_fine f true 0 r vs opcode reach xs place h.0 h.1) (keep_all_fine f xs p.part place h.1.parts)
+    init_fine f place p (store r opcode reach es is) h low =
+        let seeks : List Op = seek_code f is in
+        let stores : List Op = store_code f true 0 r opcode reach es in
+        when_init r place (seeks ++ stores) (keep_all_code f p.part es ++ seeks)
+        (λ i. both_fine place seeks stores (seek_fine f r opcode es is place h) (store_fine f true 0 r opcode reach es is (place + length seeks) h))
+        (both_fine place (keep_all_code f p.part es) seeks (keep_all_fine f es p.part place h.parts)
+        (seek_fine f r opcode es is (place + length (keep_all_code f p.part es)) h))
     init_fine f place p (out r es) h low = keep_all_fine f es p.part place h.1
     init_fine f place p (out_at r es) h low = keep_all_fine f es p.part place h.1
     init_fine f place p (ask es) h low = ask_fine f es place h.0 h.1 h.2
@@ -427,6 +474,10 @@ module _ (end : ℕ) where
     perf_fine f place p (set r v e) h low = when_init r place [] (set_code f false p.part v e) (λ i. tt) (set_fine f false p.part place v e h)
     perf_fine f place p (unit r vs opcode reach xs is) h low =
         when_init r place [] (unit_code f false p.part r vs opcode p.unit reach xs) (λ i. tt) (unit_fine f false p.part r vs opcode p.unit reach xs is place h)
+    perf_fine f place p (zak r vs opcode reach xs) h low =
+        when_init r place [] (zak_code f false p.part r vs opcode reach xs) (λ i. tt) (zak_fine f false p.part r vs opcode reach xs place h.0 h.1)
+    perf_fine f place p (store r opcode reach es is) h low =
+        when_init r place [] (store_code f false p.part r opcode reach es) (λ i. tt) (store_fine f false p.part r opcode reach es is place h)
     perf_fine f place p (out r es) h low =
         both_fine place (operands_code f false p.part es 0) (out_ops 0 (spots f false p.part es 0)) (operands_fine f false es p.part 0 place h.1)
         (out_fine f 0 p.part 0 (place + length (operands_code f false p.part es 0)) es h.0 h.1)

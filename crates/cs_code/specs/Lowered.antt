@@ -8,9 +8,8 @@ use Rattle.cs_base.specs.declared.spaces.Spaces.{Spaces}
 use Rattle.cs_ir.specs.Resources.{Stock, ops_use, ops_write}
 use Rattle.cs_ir.specs.Validity.{valid}
 use Rattle.cs_ir.specs.declared.op.Code.{Code}
-use Rattle.cs_meaning.specs.Beginning.{block_begins, block_begin_writes}
+use Rattle.cs_meaning.specs.Uses.{block_begin_writes, block_begins, block_uses, block_writes}
 use Rattle.cs_meaning.specs.Core.{core}
-use Rattle.cs_meaning.specs.Uses.{block_uses, block_writes}
 use Rattle.cs_typed.specs.TypedTree as typed
 use Rattle.cs_code.specs.Means.{Means}
 use Rattle.cs_code.specs.Names.{block_units, AllNamed}

@@ -1,19 +1,20 @@
-// The code of a call's arguments. The catalogue's letters say which arguments are fixed at note start.
-ghost use Rattle.std.specs.Prelude.{◌≡◌, ◌+◌, ◌++◌, length, IfOk, OnOk};
+// The values among a call's arguments, and their code. The catalogue's letters say which are settled at note start.
+ghost use Rattle.std.specs.Prelude.{◌≡◌, ◌++◌, map, not, true, IfOk, OnOk};
+ghost use Rattle.cs_meaning.specs.Core.{settled, moving, values_of};
 ghost use Rattle.cs_meaning.specs.Notes.{past_all};
+ghost use Rattle.cs_words.specs.Catalogue.{row_of};
+ghost use Rattle.cs_code.specs.inner.Code.{operands_code, on_code, keep_all_code};
+ghost use Rattle.cs_code.specs.inner.Emitted.{frame_of, is_whole, arguments_of, expressions_of, taken};
 ghost use Rattle.cs_typed.specs.TypedTree.{argument};
-ghost use Rattle.cs_words.specs.Catalogue.{row_of, letter_at};
-ghost use Rattle.cs_code.specs.inner.Code.{operands_code, keep_all_code};
-ghost use Rattle.cs_code.specs.inner.Emitted.{frame_of, is_picked, picked, taken, picks_of, is_whole};
 ghost use Rattle.cs_code.specs.inner.Frames.{spots};
 ghost use Rattle.cs_code.specs.declared.frame.Pass.TheVariants as pass;
 
 use crate::expr::{keep, operand};
-use crate::frame::{Context, add};
+use crate::frame::{Context, add, push};
 use cs_base::{OutOfMemory, Rate};
-use cs_ir::{Op, Reg};
-use cs_typed::{TypedArg, Var};
-use cs_words::{Letter, Opcode, signature_of};
+use cs_ir::{Act, Op, Operands, Reg};
+use cs_typed::{TypedArg, TypedExpr, Var};
+use cs_words::{Opcode, signature_of};
 use std::alloc::Global;
 
 /// A call of an opcode, and how often it is done.
@@ -25,66 +26,120 @@ pub struct Call<'t> {
     pub args: &'t [TypedArg],
 }
 
-/// Which arguments of a call: those that are settled as the note begins, those that may move, or
-/// all.
-#[derive(Clone, Copy)]
-pub enum Which {
-    Settled,
-    Moving,
-    All,
+/// The values among a call's arguments, in order: those that are settled as the note begins, and those that move.
+#[derive(Drop)]
+pub struct Parted<'t> {
+    pub settled: Vec<&'t TypedExpr>,
+    pub moving: Vec<&'t TypedExpr>,
 }
 
-/// Where arguments stand, in order, and the number of the next kept value.
+impl<'t> Parted<'t> {
+    // One argument more.
+    #[tactic(auto, using(crate::proofs::Lists::expressions_more, crate::proofs::Lists::append_nothing))]
+    fn add(&mut self, settles: bool, arg: &'t TypedArg) -> Result<(), OutOfMemory>
+        ensures settled { OnOk result (expressions_of self.new.settled.items
+            ≡ expressions_of self.old.settled.items ++ taken settles (argument arg.now)) }
+        ensures moving { OnOk result (expressions_of self.new.moving.items
+            ≡ expressions_of self.old.moving.items ++ taken (not settles) (argument arg.now)) }
+    {
+        match arg {
+            TypedArg::Value(e) => {
+                if settles {
+                    self.settled.push(e)?;
+                } else {
+                    self.moving.push(e)?;
+                }
+                Ok(())
+            }
+            TypedArg::Text(_) => Ok(()),
+        }
+    }
+}
+
+/// The values among the arguments of a call, by whether the opcode's letters let them move.
+pub fn parted_values<'t>(alloc: Global, call: &Call<'t>) -> Result<Parted<'t>, OutOfMemory>
+    ensures settled { IfOk result (λ p. expressions_of p.settled.items
+        ≡ settled (row_of call.now.opcode) 0 (arguments_of call.now)) }
+    ensures moving { IfOk result (λ p. expressions_of p.moving.items
+        ≡ moving (row_of call.now.opcode) 0 (arguments_of call.now)) }
+{
+    let mut parted = Parted {
+        settled: Vec::new(alloc),
+        moving: Vec::new(alloc),
+    };
+    part_args(&mut parted, call)?;
+    Ok(parted)
+}
+
+// The same, to values that are appended.
+fn part_args<'t>(parted: &mut Parted<'t>, call: &Call<'t>) -> Result<(), OutOfMemory>
+    ensures settled { OnOk result (expressions_of parted.new.settled.items ≡ expressions_of parted.old.settled.items
+        ++ settled (row_of call.now.opcode) 0 (arguments_of call.now)) }
+    ensures moving { OnOk result (expressions_of parted.new.moving.items ≡ expressions_of parted.old.moving.items
+        ++ moving (row_of call.now.opcode) 0 (arguments_of call.now)) }
+{
+    let row = signature_of(call.opcode);
+    let mut place = 0;
+    for arg in call.args {
+        parted.add(row.letter(place).is_settled(), arg)?;
+        place = add(place, 1)?;
+    }
+    Ok(())
+}
+
+/// All values among the arguments of a call, in order.
+pub fn values<'t>(alloc: Global, call: &Call<'t>) -> Result<Vec<&'t TypedExpr>, OutOfMemory>
+    ensures { IfOk result (λ v. expressions_of v.items ≡ values_of (arguments_of call.now)) }
+{
+    let mut values = Vec::new(alloc);
+    add_values(&mut values, call.args)?;
+    Ok(values)
+}
+
+// The same, to values that are appended.
+fn add_values<'t>(values: &mut Vec<&'t TypedExpr>, args: &'t [TypedArg]) -> Result<(), OutOfMemory>
+    ensures { OnOk result (expressions_of values.new.items
+        ≡ expressions_of values.old.items ++ values_of (map argument args.now)) }
+{
+    for arg in args {
+        add_value(values, arg)?;
+    }
+    Ok(())
+}
+
+#[tactic(auto, using(crate::proofs::Lists::expressions_more, crate::proofs::Lists::append_nothing))]
+fn add_value<'t>(values: &mut Vec<&'t TypedExpr>, arg: &'t TypedArg) -> Result<(), OutOfMemory>
+    ensures { OnOk result (expressions_of values.new.items
+        ≡ expressions_of values.old.items ++ taken true (argument arg.now)) }
+{
+    if let TypedArg::Value(e) = arg {
+        values.push(e)?;
+    }
+    Ok(())
+}
+
+/// Where values stand, in order, and the number of the next kept value.
 #[derive(Drop)]
 pub struct Gathered {
     pub regs: Vec<Reg>,
     pub next: usize,
 }
 
-/// The number of the next kept value, and that of the next temporary.
-#[derive(Clone, Copy)]
-struct Free {
-    next: usize,
-    d: usize,
-}
-
-impl Which {
-    fn picks(self, letter: Letter) -> bool
-        ensures { result ≡ is_picked self letter }
-    {
-        match self {
-            Which::Settled => letter.is_settled(),
-            Which::Moving => !letter.is_settled(),
-            Which::All => true,
-        }
-    }
-}
-
-/// Whether the argument at a place, counted from 0, is one of these.
-pub fn picks(which: Which, opcode: Opcode, place: usize) -> bool
-    ensures { result ≡ is_picked which (letter_at (row_of opcode) place) }
-{
-    which.picks(signature_of(opcode).letter(place))
-}
-
-/// The code of the arguments that are picked, into temporaries from 0 on where they stand nowhere
-/// yet.
+/// The code of values, into temporaries from 0 on where they stand nowhere yet.
 pub fn operands(
-    alloc: Global,
     ops: &mut Vec<Op>,
     context: Context,
     at: usize,
-    which: Which,
-    call: &Call<'_>,
+    values: &[&TypedExpr],
 ) -> Result<Gathered, OutOfMemory>
     ensures ops { OnOk result (ops.new.items ≡ ops.old.items
-        ++ operands_code (frame_of context.bases) (is_whole context.pass) at (picks_of which call.now) 0) }
+        ++ operands_code (frame_of context.bases) (is_whole context.pass) at (expressions_of values.now) 0) }
     ensures regs { IfOk result (λ g. g.regs.items
-        ≡ spots (frame_of context.bases) (is_whole context.pass) at (picks_of which call.now) 0) }
-    ensures next { IfOk result (λ g. g.next ≡ past_all at (picks_of which call.now)) }
+        ≡ spots (frame_of context.bases) (is_whole context.pass) at (expressions_of values.now) 0) }
+    ensures next { IfOk result (λ g. g.next ≡ past_all at (expressions_of values.now)) }
 {
-    let mut regs = Vec::new(alloc);
-    let next = gather(ops, &mut regs, context, at, which, call)?;
+    let mut regs = Vec::new(context.alloc);
+    let next = gather(ops, &mut regs, context, at, values)?;
     Ok(Gathered { regs, next })
 }
 
@@ -94,104 +149,59 @@ fn gather(
     regs: &mut Vec<Reg>,
     context: Context,
     at: usize,
-    which: Which,
-    call: &Call<'_>,
+    values: &[&TypedExpr],
 ) -> Result<usize, OutOfMemory>
     ensures ops { OnOk result (ops.new.items ≡ ops.old.items
-        ++ operands_code (frame_of context.bases) (is_whole context.pass) at (picks_of which call.now) 0) }
+        ++ operands_code (frame_of context.bases) (is_whole context.pass) at (expressions_of values.now) 0) }
     ensures regs { OnOk result (regs.new.items ≡ regs.old.items
-        ++ spots (frame_of context.bases) (is_whole context.pass) at (picks_of which call.now) 0) }
-    ensures next { IfOk result (λ n. n ≡ past_all at (picks_of which call.now)) }
-{
-    let mut free = Free { next: at, d: 0 };
-    let mut place = 0;
-    for arg in call.args {
-        let take = picks(which, call.opcode, place);
-        free = one_operand(ops, regs, context, free, take, arg)?;
-        place = add(place, 1)?;
-    }
-    Ok(free.next)
-}
-
-// One argument, where it is taken.
-#[tactic(auto, using(crate::proofs::Lists::append_nothing))]
-fn one_operand(
-    ops: &mut Vec<Op>,
-    regs: &mut Vec<Reg>,
-    context: Context,
-    free: Free,
-    take: bool,
-    arg: &TypedArg,
-) -> Result<Free, OutOfMemory>
-    ensures ops { OnOk result (ops.new.items ≡ ops.old.items
-        ++ operands_code (frame_of context.bases) (is_whole context.pass) free.next
-        (taken take (argument arg.now)) free.d) }
-    ensures regs { OnOk result (regs.new.items ≡ regs.old.items
-        ++ spots (frame_of context.bases) (is_whole context.pass) free.next
-        (taken take (argument arg.now)) free.d) }
-    ensures next { IfOk result (λ r. r.next ≡ past_all free.next (taken take (argument arg.now))) }
-    ensures d { IfOk result (λ r. r.d ≡ free.d + length (taken take (argument arg.now))) }
-{
-    match arg {
-        TypedArg::Value(e) => {
-            if take {
-                let spot = operand(ops, context, free.next, e, free.d)?;
-                regs.push(spot.reg)?;
-                Ok(Free {
-                    next: spot.next,
-                    d: add(free.d, 1)?,
-                })
-            } else {
-                Ok(free)
-            }
-        }
-        TypedArg::Text(_) => Ok(free),
-    }
-}
-
-/// The parts that are kept of the arguments that are picked. Returns the number of the next kept value.
-pub fn keep_all(
-    ops: &mut Vec<Op>,
-    context: Context,
-    at: usize,
-    which: Which,
-    call: &Call<'_>,
-) -> Result<usize, OutOfMemory>
-    requires { context.pass ≡ pass.Initialisation }
-    ensures ops { OnOk result (ops.new.items ≡ ops.old.items
-        ++ keep_all_code (frame_of context.bases) at (picks_of which call.now)) }
-    ensures next { IfOk result (λ n. n ≡ past_all at (picks_of which call.now)) }
+        ++ spots (frame_of context.bases) (is_whole context.pass) at (expressions_of values.now) 0) }
+    ensures next { IfOk result (λ n. n ≡ past_all at (expressions_of values.now)) }
 {
     let mut next = at;
-    let mut place = 0;
-    for arg in call.args {
-        next = keep_one(ops, context, next, picks(which, call.opcode, place), arg)?;
-        place = add(place, 1)?;
+    let mut d = 0;
+    for e in values {
+        let spot = operand(ops, context, next, e, d)?;
+        regs.push(spot.reg)?;
+        next = spot.next;
+        d = add(d, 1)?;
     }
     Ok(next)
 }
 
-#[tactic(auto, using(crate::proofs::Lists::append_nothing))]
-fn keep_one(
+/// An op on values, after their code. Returns the number of the next kept value.
+pub fn push_on(
     ops: &mut Vec<Op>,
     context: Context,
     at: usize,
-    take: bool,
-    arg: &TypedArg,
+    act: Act,
+    into: Reg,
+    values: &[&TypedExpr],
+) -> Result<usize, OutOfMemory>
+    ensures ops { OnOk result (ops.new.items ≡ ops.old.items
+        ++ on_code (frame_of context.bases) (is_whole context.pass) at act into (expressions_of values.now)) }
+    ensures next { IfOk result (λ n. n ≡ past_all at (expressions_of values.now)) }
+{
+    let found = operands(ops, context, at, values)?;
+    let next = found.next;
+    push(ops, act, into, Operands::from_vec(found.regs))?;
+    Ok(next)
+}
+
+/// The parts of values that are kept. Returns the number of the next kept value.
+pub fn keep_all(
+    ops: &mut Vec<Op>,
+    context: Context,
+    at: usize,
+    values: &[&TypedExpr],
 ) -> Result<usize, OutOfMemory>
     requires { context.pass ≡ pass.Initialisation }
     ensures ops { OnOk result (ops.new.items ≡ ops.old.items
-        ++ keep_all_code (frame_of context.bases) at (taken take (argument arg.now))) }
-    ensures next { IfOk result (λ n. n ≡ past_all at (taken take (argument arg.now))) }
+        ++ keep_all_code (frame_of context.bases) at (expressions_of values.now)) }
+    ensures next { IfOk result (λ n. n ≡ past_all at (expressions_of values.now)) }
 {
-    match arg {
-        TypedArg::Value(e) => {
-            if take {
-                keep(ops, context, at, e)
-            } else {
-                Ok(at)
-            }
-        }
-        TypedArg::Text(_) => Ok(at),
+    let mut next = at;
+    for e in values {
+        next = keep(ops, context, next, e)?;
     }
+    Ok(next)
 }

@@ -66,22 +66,24 @@ pub fn codes_of(
         temporaries: locals,
     };
     let context = Context {
+        alloc,
         pass: Pass::Performance,
         bases,
         spaces,
     };
-    let perf = body_of(alloc, context, START, stmts)?;
+    let perf = body_of(context, START, stmts)?;
     let init = add(kept, perf.next.part)?;
     let bases = Bases {
         kept,
         temporaries: PerRate { init, ..locals },
     };
     let context = Context {
+        alloc,
         pass: Pass::Initialisation,
         bases,
         spaces,
     };
-    let init = body_of(alloc, context, START, stmts)?;
+    let init = body_of(context, START, stmts)?;
     let counts = counts_of(init.next.unit, &init.ops, &perf.ops)?;
     Ok(Codes {
         init: init.ops,

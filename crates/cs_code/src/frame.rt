@@ -7,6 +7,7 @@ ghost use Rattle.cs_code.specs.inner.Frames.{op_of, kept_reg, temp};
 
 use cs_base::{OutOfMemory, PerRate, Rate, Spaces};
 use cs_ir::{Act, Op, Operands, Reg};
+use std::alloc::Global;
 
 /// Where values stand among the registers: local variables from 0 on, then, at rate Init, the kept values, then
 /// temporaries.
@@ -28,6 +29,7 @@ pub enum Pass {
 /// What code is made for: one of a note's two codes, where its values stand, and the zak spaces of the piece.
 #[derive(Clone, Copy)]
 pub struct Context {
+    pub alloc: Global,
     pub pass: Pass,
     pub bases: Bases,
     pub spaces: Spaces,

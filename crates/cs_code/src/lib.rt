@@ -6,10 +6,10 @@
 //! made is the crate's own (specs/inner/Code.antt) and may be changed without anyone above noticing.
 //!
 //! To be read in this order: `frame` (where values stand among the registers), `value` and `expr` (expressions),
-//! `args`, `reach` and `unit` (calls of units), `init` and `perf` (simple statements in either pass), `call` (what a
-//! call is short for), `jumps` (jumps that are aimed once their end is known), `stmt` (statements, blocks, arms),
-//! `counts` (registers in use), `codes` (both codes of a block), `orchestra` (`lower`: valid codes, and instruments by
-//! number), `laws` (codes worked by hand).
+//! `args`, `reach` and `run` (the values of calls, and ops on them), `simple` (simple statements in either pass),
+//! `call` (what a call is short for), `jumps` (jumps that are aimed once their end is known), `stmt` (statements, blocks,
+//! arms), `counts` (registers in use), `codes` (both codes of a block), `orchestra` (`lower`: valid codes, and
+//! instruments by number), `laws` (codes worked by hand).
 #![tactic(auto)]
 
 mod args;
@@ -18,14 +18,13 @@ mod codes;
 mod counts;
 mod expr;
 mod frame;
-mod init;
 mod jumps;
 mod laws;
 mod orchestra;
-mod perf;
 mod reach;
+mod run;
+mod simple;
 mod stmt;
-mod unit;
 mod value;
 
 pub use laws::codes_worked_by_hand;

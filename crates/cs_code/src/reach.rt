@@ -1,19 +1,13 @@
-// Which tables, or which zak places, a unit may touch, by the literals among its arguments.
-ghost use Rattle.std.specs.Prelude.{◌≡◌, IfOk};
-ghost use Rattle.cs_meaning.specs.Core.{reach_of};
-ghost use Rattle.cs_typed.specs.TypedTree.{argument, expression};
-ghost use Rattle.cs_words.specs.Catalogue.{row_of, takes_table};
-ghost use Rattle.cs_code.specs.declared.args.Which.TheVariants as which;
-ghost use Rattle.cs_code.specs.inner.Emitted.{picked, known_at, known_of, table_known};
-ghost use Rattle.cs_code.specs.inner.Emitted.{place_known, span_known, reach_known, picks_of};
-ghost use Rattle.std.specs.Prelude.{if◌then◌else◌};
-ghost use Rattle.cs_ir.specs.declared.op.Reach.TheVariants as reach;
+// Which tables, or which zak places, an op may touch, by the literals among its values.
+ghost use Rattle.std.specs.Prelude.{◌≡◌};
+ghost use Rattle.cs_meaning.specs.Core.{unit_reach, table_reach, zak_reach};
+ghost use Rattle.cs_typed.specs.TypedTree.{expression};
+ghost use Rattle.cs_code.specs.inner.Emitted.{known_at, known_of, table_known};
+ghost use Rattle.cs_code.specs.inner.Emitted.{place_known, span_known, zak_known, expressions_of};
 
-use crate::args::{Call, Which, picks};
-use crate::frame::add;
-use cs_base::{Num, OutOfMemory, Spaces};
+use cs_base::Spaces;
 use cs_ir::{Reach, places_of};
-use cs_typed::{TypedArg, TypedExpr, TypedPart};
+use cs_typed::{TypedExpr, TypedPart};
 use cs_words::{Opcode, Shape, signature_of};
 
 /// What is known of an argument: nothing where there is none, and of a literal the whole number
@@ -25,44 +19,43 @@ pub enum Known {
     Other,
 }
 
-/// What a unit may touch.
-#[tactic(auto, using(crate::proofs::Reaches::reach_by_known))]
-pub fn reach_of(spaces: Spaces, call: &Call<'_>) -> Result<Reach, OutOfMemory>
-    ensures { IfOk result (λ r. r ≡ reach_of spaces (row_of call.now.opcode).shape
-        (takes_table call.now.opcode)
-        (picks_of which.Moving call.now)
-        (picks_of which.Settled call.now)) }
+/// Which tables a unit of an opcode may touch, by its settled values: none where it takes none.
+pub fn unit_reach(opcode: Opcode, settled: &[&TypedExpr]) -> Reach
+    ensures { result ≡ unit_reach opcode (expressions_of settled.now) }
 {
-    let table = known_at(Which::Settled, call, 0)?;
-    let first = known_at(Which::Moving, call, 0)?;
-    let second = known_at(Which::Moving, call, 1)?;
-    Ok(reach_by(spaces, call.opcode, table, first, second))
+    if signature_of(opcode).takes_table() {
+        table_reach(settled)
+    } else {
+        Reach::Nothing
+    }
 }
 
-// What a unit may touch, by what is known of its first settled argument and of its first two that
-// may move.
-fn reach_by(spaces: Spaces, opcode: Opcode, table: Known, first: Known, second: Known) -> Reach
-    ensures { result ≡ reach_known spaces (row_of opcode).shape
-        (takes_table opcode) table first second }
+/// Which tables may be touched, by settled values of which the first is the number of a table.
+#[tactic(auto, using(crate::proofs::Reaches::table_by))]
+pub fn table_reach(settled: &[&TypedExpr]) -> Reach
+    ensures { result ≡ table_reach (expressions_of settled.now) }
 {
-    match signature_of(opcode).shape() {
-        Shape::Unit => if_table(opcode, table),
-        Shape::Store => table_of(table),
+    table_of(known_first(settled))
+}
+
+/// Which zak places may be touched, by the values of an opcode of this shape.
+#[tactic(auto, using(crate::proofs::Reaches::zak_by_known))]
+pub fn zak_reach(spaces: Spaces, shape: Shape, values: &[&TypedExpr]) -> Reach
+    ensures { result ≡ zak_reach spaces shape (expressions_of values.now) }
+{
+    zak_by(spaces, shape, known_first(values), known_second(values))
+}
+
+// Which zak places, by what is known of the first two values.
+fn zak_by(spaces: Spaces, shape: Shape, first: Known, second: Known) -> Reach
+    ensures { result ≡ zak_known spaces shape first second }
+{
+    match shape {
         Shape::ZakGet(space) => place_of(places_of(spaces, space), first),
         Shape::ZakPut(space) => place_of(places_of(spaces, space), second),
         Shape::ZakMix => place_of(spaces.audio, second),
         Shape::ZakClear(space) => span_of(places_of(spaces, space), first, second),
         _ => Reach::Nothing,
-    }
-}
-
-fn if_table(opcode: Opcode, table: Known) -> Reach
-    ensures { result ≡ (if takes_table opcode then table_known table else reach.Nothing) }
-{
-    if signature_of(opcode).takes_table() {
-        table_of(table)
-    } else {
-        Reach::Nothing
     }
 }
 
@@ -105,24 +98,23 @@ fn span_of(places: u32, first: Known, last: Known) -> Reach
     }
 }
 
-// What is known of one of the arguments that are picked, counted from 0.
-fn known_at(which: Which, call: &Call<'_>, number: usize) -> Result<Known, OutOfMemory>
-    ensures { IfOk result (λ k. k ≡ known_at (picks_of which call.now) number) }
+// What is known of the first of some values, and of the second.
+fn known_first(values: &[&TypedExpr]) -> Known
+    ensures { result ≡ known_at (expressions_of values.now) 0 }
 {
-    let mut left = number;
-    let mut place = 0;
-    for arg in call.args {
-        if let TypedArg::Value(e) = arg {
-            if picks(which, call.opcode, place) {
-                if left == 0 {
-                    return Ok(known_of(e));
-                }
-                left -= 1;
-            }
-        }
-        place = add(place, 1)?;
+    match values {
+        [e, ..] => known_of(e),
+        [] => Known::Missing,
     }
-    Ok(Known::Missing)
+}
+
+fn known_second(values: &[&TypedExpr]) -> Known
+    ensures { result ≡ known_at (expressions_of values.now) 1 }
+{
+    match values {
+        [_, rest @ ..] => known_first(rest),
+        [] => Known::Missing,
+    }
 }
 
 fn known_of(e: &TypedExpr) -> Known

@@ -14,15 +14,15 @@ ghost use Rattle.cs_code.specs.inner.Branches.{branches, past_arm, past_list};
 ghost use Rattle.cs_code.specs.declared.frame.Pass.TheVariants as pass;
 
 use crate::args::Call;
-use crate::call::{assign, call};
+use crate::call::call;
 use crate::expr::{keep, operand};
 use crate::frame::{Context, Pass, Spot, Step, kept_reg, push};
 use crate::jumps::{aim, aim_all};
+use crate::simple::{Assignment, assign};
 use crate::value::Value;
 use cs_base::{OutOfMemory, Rate};
 use cs_ir::{Act, Op, Operands};
 use cs_typed::{TypedArm, TypedExpr, TypedStmt, TypedWhat};
-use std::alloc::Global;
 
 /// The code of statements, and what was met before its end.
 #[derive(Drop)]
@@ -32,19 +32,14 @@ pub struct Body {
 }
 
 /// The code of the statements of a note.
-pub fn body_of(
-    alloc: Global,
-    context: Context,
-    p: Step,
-    stmts: &[TypedStmt],
-) -> Result<Body, OutOfMemory>
+pub fn body_of(context: Context, p: Step, stmts: &[TypedStmt]) -> Result<Body, OutOfMemory>
     ensures ops { IfOk result (λ m. m.ops.items ≡ pass_block_code context.pass (frame_of context.bases) 0
         (place_of p) (core context.spaces (typed.block stmts.now))) }
     ensures next { IfOk result (λ m. place_of m.next
         ≡ past_block (place_of p) (core context.spaces (typed.block stmts.now))) }
 {
-    let mut ops = Vec::new(alloc);
-    let next = block(alloc, &mut ops, context, p, stmts)?;
+    let mut ops = Vec::new(context.alloc);
+    let next = block(&mut ops, context, p, stmts)?;
     Ok(Body { ops, next })
 }
 
@@ -52,7 +47,6 @@ pub fn body_of(
 #[cycle(stmt)]
 #[tactic(auto, using(crate::proofs::Chains::block_none, crate::proofs::Lists::append_nothing))]
 pub fn block(
-    alloc: Global,
     ops: &mut Vec<Op>,
     context: Context,
     p: Step,
@@ -66,7 +60,7 @@ pub fn block(
 {
     let mut next = p;
     for s in stmts {
-        next = stmt(alloc, ops, context, next, s)?;
+        next = stmt(ops, context, next, s)?;
     }
     Ok(next)
 }
@@ -74,13 +68,7 @@ pub fn block(
 /// The code of a statement. Returns what was met before its end.
 #[cycle(stmt)]
 #[tactic(auto, using(crate::proofs::Calls::at_each_place, crate::proofs::Chains::taken_pass))]
-fn stmt(
-    alloc: Global,
-    ops: &mut Vec<Op>,
-    context: Context,
-    p: Step,
-    s: &TypedStmt,
-) -> Result<Step, OutOfMemory>
+fn stmt(ops: &mut Vec<Op>, context: Context, p: Step, s: &TypedStmt) -> Result<Step, OutOfMemory>
     ensures ops { OnOk result (ops.new.items ≡ ops.old.items
         ++ pass_code context.pass (frame_of context.bases) (length ops.old.items) (place_of p)
         (core_stmt context.spaces (typed.statement s.now))) }
@@ -88,7 +76,14 @@ fn stmt(
         ≡ past_stmt (place_of p) (core_stmt context.spaces (typed.statement s.now))) }
 {
     match &s.what {
-        TypedWhat::Set(v, e) => assign(ops, context, p, s.rate, *v, &Value::Of(e)),
+        TypedWhat::Set(v, e) => {
+            let assignment = Assignment {
+                done: s.rate,
+                to: *v,
+                value: Value::Of(e),
+            };
+            assign(ops, context, p, &assignment)
+        }
         TypedWhat::Call(results, opcode, args) => {
             let made = Call {
                 rate: s.rate,
@@ -96,16 +91,16 @@ fn stmt(
                 opcode: *opcode,
                 args,
             };
-            call(alloc, ops, context, p, &made)
+            call(ops, context, p, &made)
         }
         TypedWhat::Choose(arms, els) => {
             if takes_all(context.pass, s.rate) {
-                let next = each_arm(alloc, ops, context, p, arms)?;
-                block(alloc, ops, context, next, els)
+                let next = each_arm(ops, context, p, arms)?;
+                block(ops, context, next, els)
             } else {
-                let mut ends = Vec::new(alloc);
-                let last = arms_of(alloc, ops, context, p, arms, &mut ends)?;
-                let done = block(alloc, ops, context, last, els)?;
+                let mut ends = Vec::new(context.alloc);
+                let last = arms_of(ops, context, p, arms, &mut ends)?;
+                let done = block(ops, context, last, els)?;
                 aim_all(ops, &ends);
                 Ok(done)
             }
@@ -128,7 +123,6 @@ fn takes_all(pass: Pass, rate: Rate) -> bool
 #[cycle(stmt)]
 #[tactic(auto, using(crate::proofs::Lists::append_nothing))]
 fn arms_of(
-    alloc: Global,
     ops: &mut Vec<Op>,
     context: Context,
     p: Step,
@@ -146,7 +140,7 @@ fn arms_of(
 {
     let mut next = p;
     for a in arms {
-        next = arm(alloc, ops, context, next, a, ends)?;
+        next = arm(ops, context, next, a, ends)?;
     }
     Ok(next)
 }
@@ -155,7 +149,6 @@ fn arms_of(
 // past the others.
 #[cycle(stmt)]
 fn arm(
-    alloc: Global,
     ops: &mut Vec<Op>,
     context: Context,
     p: Step,
@@ -178,7 +171,7 @@ fn arm(
         part: spot.next,
         unit: p.unit,
     };
-    let next = block(alloc, ops, context, at, &arm.body)?;
+    let next = block(ops, context, at, &arm.body)?;
     ends.push(ops.len())?;
     push(ops, Act::Jump(0), spot.reg, Operands::none())?;
     let past = ops.len();
@@ -211,7 +204,6 @@ fn condition(
 // Arms that are all initialised, since nothing is chosen yet.
 #[cycle(stmt)]
 fn each_arm(
-    alloc: Global,
     ops: &mut Vec<Op>,
     context: Context,
     p: Step,
@@ -229,7 +221,7 @@ fn each_arm(
 {
     let mut next = p;
     for a in arms {
-        next = one_arm(alloc, ops, context, next, a)?;
+        next = one_arm(ops, context, next, a)?;
     }
     Ok(next)
 }
@@ -237,7 +229,6 @@ fn each_arm(
 // One of them.
 #[cycle(stmt)]
 fn one_arm(
-    alloc: Global,
     ops: &mut Vec<Op>,
     context: Context,
     p: Step,
@@ -255,5 +246,5 @@ fn one_arm(
 {
     let part = keep(ops, context, p.part, &arm.cond)?;
     let at = Step { part, unit: p.unit };
-    block(alloc, ops, context, at, &arm.body)
+    block(ops, context, at, &arm.body)
 }

@@ -12,7 +12,7 @@ use Rattle.cs_words.specs.declared.catalogue.Space.{Space}
 use Rattle.cs_words.specs.declared.catalogue.Space.TheVariants as space
 use Rattle.cs_cells.specs.Areas.{HasPlace}
 use Rattle.cs_cells.specs.declared.footprint.Area.{Area}
-use Rattle.cs_ir.specs.Resources.{Stock, act_uses, act_writes, is_store, ops_use, ops_write, places_of, places_within, reaches, tables_within, unit_uses, zak_place}
+use Rattle.cs_ir.specs.Resources.{Stock, act_uses, act_writes, ops_use, ops_write, places_of, places_within, reaches, tables_within, writes_places, zak_place, zak_uses}
 use Rattle.cs_ir.specs.declared.op.Act.{Act}
 use Rattle.cs_ir.specs.declared.op.Act.TheVariants as act
 use Rattle.cs_ir.specs.declared.op.Op.{Op}
@@ -82,11 +82,14 @@ reaches_none n h = cc
 -- what is written is used
 pub act_written_is_used : (stock : Stock) (a : Act) (r : Res) → Contains (act_writes stock a) r → Contains (act_uses stock a) r
 act_written_is_used stock (act.Save g) r h = h
-act_written_is_used stock (act.Unit opcode u reach) r h = by (is_store (row_of opcode).shape) h
+act_written_is_used stock (act.Store opcode reach) r h = h
+act_written_is_used stock (act.Zak opcode reach) r h = by (writes_places (row_of opcode).shape) h
   where
-    by : (b : Bool) → Contains (if b then unit_uses stock opcode reach else []) r → Contains (unit_uses stock opcode reach) r
+    by : (b : Bool) → Contains (if b then zak_uses stock opcode reach else []) r → Contains (zak_uses stock opcode reach) r
     by true k = k
     by false k = absurd (contains_none r k)
+act_written_is_used stock (act.Unit opcode u reach) r h = absurd (contains_none r h)
+act_written_is_used stock act.Seek r h = absurd (contains_none r h)
 act_written_is_used stock (act.Const n) r h = absurd (contains_none r h)
 act_written_is_used stock (act.Field n) r h = absurd (contains_none r h)
 act_written_is_used stock (act.Head n) r h = absurd (contains_none r h)

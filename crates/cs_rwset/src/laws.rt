@@ -10,7 +10,7 @@ ghost use Rattle.cs_cells.specs.declared.footprint.Area.{Area};
 ghost use Rattle.cs_words.specs.declared.catalogue.Opcode.TheVariants.{Tablew, Tablei, Zkw, Zkcl};
 ghost use Rattle.cs_words.specs.declared.catalogue.Space.{Space};
 ghost use Rattle.cs_ir.specs.Resources.{act_uses, act_writes, ops_use, ops_write, places_within, tables_within, zak_place};
-ghost use Rattle.cs_ir.specs.declared.op.Act.TheVariants.{Load, Save, Unit};
+ghost use Rattle.cs_ir.specs.declared.op.Act.TheVariants.{Load, Save, Store, Unit, Zak};
 ghost use Rattle.cs_ir.specs.declared.op.Op.{Op};
 ghost use Rattle.cs_ir.specs.declared.op.Reach.TheVariants.{Nothing, Span, Any};
 ghost use Rattle.cs_rwset.specs.Examples.{seven_areas, used, written};
@@ -79,14 +79,14 @@ pub fn written_is_used()
 pub fn footprints_worked_by_hand()
     ensures laid { IsLaid seven_areas }
     // `tablew k1, k2, i1` may write both tables, and so may read them.
-    ensures table_write { written (Unit Tablew 0 Any ∷ []) ≡ 5 ∷ 6 ∷ [] }
-    ensures table_write_uses { used (Unit Tablew 0 Any ∷ []) ≡ 5 ∷ 6 ∷ [] }
+    ensures table_write { written (Store Tablew Any ∷ []) ≡ 5 ∷ 6 ∷ [] }
+    ensures table_write_uses { used (Store Tablew Any ∷ []) ≡ 5 ∷ 6 ∷ [] }
     // `tablei k1, 2` reads table 2.
     ensures table_read { used (Unit Tablei 0 (Span 2 2) ∷ []) ≡ 6 ∷ [] }
     ensures table_read_writes { written (Unit Tablei 0 (Span 2 2) ∷ []) ≡ [] }
     // `zkw 1, 0` writes one place, `zkcl 1, 2` the last two.
-    ensures zak_write { written (Unit Zkw 0 (Span 0 0) ∷ []) ≡ 2 ∷ [] }
-    ensures zak_clear { written (Unit Zkcl 0 (Span 1 2) ∷ []) ≡ 3 ∷ 4 ∷ [] }
+    ensures zak_write { written (Zak Zkw (Span 0 0) ∷ []) ≡ 2 ∷ [] }
+    ensures zak_clear { written (Zak Zkcl (Span 1 2) ∷ []) ≡ 3 ∷ 4 ∷ [] }
     // `chnget` reads its channel.
     ensures channel { used (Load (res.Control 0) ∷ []) ≡ 1 ∷ [] }
     ensures channel_kept { written (Load (res.Control 0) ∷ []) ≡ [] }

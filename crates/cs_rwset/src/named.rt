@@ -1,7 +1,7 @@
 // What an op names of what notes share, read off its text.
 ghost use Rattle.std.specs.Prelude.{◌≡◌, [], if◌then◌else◌};
 ghost use Rattle.cs_base.specs.declared.resource.Res.{Res};
-ghost use Rattle.cs_ir.specs.Resources.{Stock, act_uses, act_writes, is_store, unit_uses};
+ghost use Rattle.cs_ir.specs.Resources.{Stock, act_uses, act_writes, shape_uses, unit_uses, writes_places};
 ghost use Rattle.cs_rwset.specs.inner.Named.{resources, covers};
 ghost use Rattle.cs_ir.specs.declared.op.Reach.TheVariants as reach;
 ghost use Rattle.cs_rwset.specs.declared.named.Named.TheVariants as named;
@@ -28,6 +28,8 @@ pub fn names_of(act: Act) -> Named
     match act {
         Act::Load(res) | Act::Save(res) => Named::One(res),
         Act::Unit(opcode, _, reach) => named_by_unit(opcode, reach),
+        Act::Store(_, reach) => Named::Tables(reach),
+        Act::Zak(opcode, reach) => named_by_shape(signature_of(opcode).shape(), reach),
         _ => Named::Nothing,
     }
 }
@@ -35,16 +37,17 @@ pub fn names_of(act: Act) -> Named
 fn named_by_unit(opcode: Opcode, reach: Reach) -> Named
     ensures { (stock : Stock) → resources stock result ≡ unit_uses stock opcode reach }
 {
-    let row = signature_of(opcode);
-    match row.shape() {
-        Shape::Unit => {
-            if row.takes_table() {
-                Named::Tables(reach)
-            } else {
-                Named::Nothing
-            }
-        }
-        Shape::Store => Named::Tables(reach),
+    if signature_of(opcode).takes_table() {
+        Named::Tables(reach)
+    } else {
+        Named::Nothing
+    }
+}
+
+fn named_by_shape(shape: Shape, reach: Reach) -> Named
+    ensures { (stock : Stock) → resources stock result ≡ shape_uses stock shape reach }
+{
+    match shape {
         Shape::ZakGet(space) | Shape::ZakPut(space) | Shape::ZakClear(space) => {
             Named::Places(space, reach)
         }
@@ -58,19 +61,16 @@ pub fn writes(act: Act) -> bool
     ensures { (stock : Stock) → act_writes stock act ≡ (if result then act_uses stock act else []) }
 {
     match act {
-        Act::Save(_) => true,
-        Act::Unit(opcode, _, _) => is_store(signature_of(opcode).shape()),
+        Act::Save(_) | Act::Store(_, _) => true,
+        Act::Zak(opcode, _) => writes_places(signature_of(opcode).shape()),
         _ => false,
     }
 }
 
-fn is_store(shape: Shape) -> bool
-    ensures { result ≡ is_store shape }
+fn writes_places(shape: Shape) -> bool
+    ensures { result ≡ writes_places shape }
 {
-    matches!(
-        shape,
-        Shape::Store | Shape::ZakPut(_) | Shape::ZakMix | Shape::ZakClear(_)
-    )
+    matches!(shape, Shape::ZakPut(_) | Shape::ZakMix | Shape::ZakClear(_))
 }
 
 impl Named {

@@ -3,15 +3,14 @@ use Rattle.std.specs.Prelude.{ℕ, Bool, true, false, ◌+◌, ◌++◌, List, [
 use Rattle.cs_base.specs.Rates.{same_rate}
 use Rattle.cs_base.specs.declared.resource.Rate.{Rate}
 use Rattle.cs_base.specs.declared.resource.Rate.TheVariants as rate
-use Rattle.cs_words.specs.Catalogue.{row_of}
 use Rattle.cs_words.specs.declared.catalogue.Opcode.{Opcode}
-use Rattle.cs_ir.specs.Units.{is_started}
 use Rattle.cs_ir.specs.Waves.{if_init}
+use Rattle.cs_ir.specs.declared.op.Act.{Act}
 use Rattle.cs_ir.specs.declared.op.Act.TheVariants as act
 use Rattle.cs_ir.specs.declared.op.Op.{Op}
 use Rattle.cs_ir.specs.declared.op.Reach.{Reach}
 use Rattle.cs_ir.specs.declared.register.Reg.{Reg}
-use Rattle.cs_meaning.specs.Core.{Stmt, Block, Arms, set, unit, out, out_at, ask, turnoff, nothing, choose, no_stmt, andthen, otherwise, arm}
+use Rattle.cs_meaning.specs.Core.{Stmt, Block, Arms, set, unit, zak, store, out, out_at, ask, turnoff, nothing, choose, no_stmt, andthen, otherwise, arm}
 use Rattle.cs_meaning.specs.Notes.{reg, past, past_parts, past_stmt, past_block, Place}
 use Rattle.cs_typed.specs.TypedTree.{Expression, number, var, field, head, neg, pair, pick, apply}
 use Rattle.cs_typed.specs.WellRated.{node_rate}
@@ -107,16 +106,35 @@ given_code f r [] = []
 given_code f r (Local q n ∷ vs) = if same_rate q r then [] else op_of act.Copy (reg q n) (temp f r 0 ∷ []) ∷ []
 given_code f r (Global g ∷ vs) = op_of (act.Save g) (temp f r 0) (temp f r 0 ∷ []) ∷ []
 
+-- an op on values, after their code; and then what is left to do with its result
+abbrev pub on_code : Frame → Bool → ℕ → Act → Reg → List Expression → List Op
+on_code f whole at a into es = operands_code f whole at es 0 ++ (op_of a into (spots f whole at es 0) ∷ [])
+
+abbrev pub run_code : Frame → Bool → ℕ → Act → Rate → List Variable → List Expression → List Op
+run_code f whole at a r vs xs =
+    operands_code f whole at xs 0 ++ (op_of a (target f r vs) (spots f whole at xs 0) ∷ given_code f r vs)
+
 -- a unit is started, and runs
 abbrev pub start_code : Frame → Rate → Opcode → ℕ → List Expression → List Op
-start_code f r opcode u is =
-    if is_started (row_of opcode).shape
-    then operands_code f true 0 is 0 ++ (op_of (act.Start opcode u) (reg r 0) (spots f true 0 is 0) ∷ []) else []
+start_code f r opcode u is = on_code f true 0 (act.Start opcode u) (reg r 0) is
 
 abbrev pub unit_code : Frame → Bool → ℕ → Rate → List Variable → Opcode → ℕ → Reach → List Expression → List Op
-unit_code f whole at r vs opcode u reach xs =
-    operands_code f whole at xs 0
-    ++ (op_of (act.Unit opcode u reach) (target f r vs) (spots f whole at xs 0) ∷ given_code f r vs)
+unit_code f whole at r vs opcode u reach xs = run_code f whole at (act.Unit opcode u reach) r vs xs
+
+-- zak places are read or written
+abbrev pub zak_code : Frame → Bool → ℕ → Rate → List Variable → Opcode → Reach → List Expression → List Op
+zak_code f whole at r vs opcode reach xs = run_code f whole at (act.Zak opcode reach) r vs xs
+
+-- a store looks for its table, and stores
+abbrev pub seek_code : Frame → List Expression → List Op
+seek_code f is = on_code f true 0 act.Seek (reg rate.Init 0) is
+
+abbrev pub store_code : Frame → Bool → ℕ → Rate → Opcode → Reach → List Expression → List Op
+store_code f whole at r opcode reach es = on_code f whole at (act.Store opcode reach) (reg r 0) es
+
+-- a note is asked for
+abbrev pub ask_code : Frame → List Expression → List Op
+ask_code f es = on_code f true 0 act.Ask (reg rate.Init 0) es
 
 -- values go out: to the channels from one on, and in pairs of a channel's number and a value
 abbrev pub out_ops : ℕ → List Reg → List Op
@@ -140,9 +158,12 @@ abbrev mutual
   init_code f place p (unit r vs opcode reach xs is) =
       if_init r (start_code f r opcode p.unit is ++ unit_code f true 0 r vs opcode p.unit reach xs)
       (keep_all_code f p.part xs ++ start_code f r opcode p.unit is)
+  init_code f place p (zak r vs opcode reach xs) = if_init r (zak_code f true 0 r vs opcode reach xs) (keep_all_code f p.part xs)
+  init_code f place p (store r opcode reach es is) =
+      if_init r (seek_code f is ++ store_code f true 0 r opcode reach es) (keep_all_code f p.part es ++ seek_code f is)
   init_code f place p (out r es) = keep_all_code f p.part es
   init_code f place p (out_at r es) = keep_all_code f p.part es
-  init_code f place p (ask es) = operands_code f true 0 es 0 ++ (op_of act.Ask (reg rate.Init 0) (spots f true 0 es 0) ∷ [])
+  init_code f place p (ask es) = ask_code f es
   init_code f place p (turnoff r) = []
   init_code f place p nothing = []
   init_code f place p (choose r arms) = if_init r (first_code f place p arms) (all_code f place p arms)
@@ -172,6 +193,8 @@ abbrev mutual
   pub perf_code : Frame → ℕ → Place → Stmt → List Op
   perf_code f place p (set r v e) = if_init r [] (set_code f false p.part v e)
   perf_code f place p (unit r vs opcode reach xs is) = if_init r [] (unit_code f false p.part r vs opcode p.unit reach xs)
+  perf_code f place p (zak r vs opcode reach xs) = if_init r [] (zak_code f false p.part r vs opcode reach xs)
+  perf_code f place p (store r opcode reach es is) = if_init r [] (store_code f false p.part r opcode reach es)
   perf_code f place p (out r es) = operands_code f false p.part es 0 ++ out_ops 0 (spots f false p.part es 0)
   perf_code f place p (out_at r es) = operands_code f false p.part es 0 ++ out_at_ops (spots f false p.part es 0)
   perf_code f place p (ask es) = []

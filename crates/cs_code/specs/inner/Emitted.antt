@@ -1,5 +1,6 @@
 -- What the functions that make code work on, in the words of the definitions.
 use Rattle.std.specs.Prelude.{ℕ, Bool, true, false, not, zero, suc, ◌+◌, ◌-◌, ◌&&◌, ◌++◌, List, [], ◌∷◌, length, min, nat_lt, nat_le, Option, Some, None, map, if◌then◌else◌, pos}
+use Rattle.std.specs.Borrow.{Bor}
 use Rattle.cs_base.specs.Rates.{at_rate, is_init}
 use Rattle.cs_base.specs.declared.resource.Rate.{Rate}
 use Rattle.cs_base.specs.declared.resource.Rate.TheVariants as rate
@@ -9,28 +10,30 @@ use Rattle.cs_ir.specs.declared.op.Op.{Op}
 use Rattle.cs_ir.specs.declared.op.Reach.{Reach}
 use Rattle.cs_ir.specs.declared.op.Reach.TheVariants as reach
 use Rattle.cs_ir.specs.declared.register.Reg.{Reg}
-use Rattle.cs_meaning.specs.Core.{plus, core_call, whole_below, moving, settled, reach_of, Stmt, Block, Arms, unit}
+use Rattle.cs_meaning.specs.Core.{plus, core_call, whole_part, values_of, unit_call, store_call, zak_call, Stmt, Block, Arms, set, out, out_at, ask, turnoff, nothing}
 use Rattle.cs_meaning.specs.Notes.{past, past_parts, Place}
 use Rattle.cs_typed.specs.TypedTree as typed
 use Rattle.cs_typed.specs.TypedTree.{Expression, number, var, neg, pair, pick, apply}
+use Rattle.cs_typed.specs.declared.tree.TypedExpr.{TypedExpr}
 use Rattle.cs_typed.specs.declared.tree.Var.{Var as Variable}
-use Rattle.cs_words.specs.Catalogue.{Row, row_of, letter_at, is_settled, takes_table}
-use Rattle.cs_words.specs.declared.catalogue.Letter.{Letter}
 use Rattle.cs_words.specs.declared.catalogue.Opcode.{Opcode}
 use Rattle.cs_words.specs.declared.catalogue.Shape.{Shape}
 use Rattle.cs_words.specs.declared.catalogue.Shape.TheVariants as shape
 use Rattle.cs_code.specs.declared.args.Call.{Call}
-use Rattle.cs_code.specs.declared.args.Which.{Which}
-use Rattle.cs_code.specs.declared.args.Which.TheVariants as which
+use Rattle.cs_code.specs.declared.call.Putting.{Putting}
+use Rattle.cs_code.specs.declared.call.Putting.TheVariants as putting
 use Rattle.cs_code.specs.declared.frame.Bases.{Bases}
 use Rattle.cs_code.specs.declared.frame.Pass.{Pass}
 use Rattle.cs_code.specs.declared.frame.Pass.TheVariants as pass
 use Rattle.cs_code.specs.declared.frame.Step.{Step}
 use Rattle.cs_code.specs.declared.reach.Known.{Known}
 use Rattle.cs_code.specs.declared.reach.Known.TheVariants as known
+use Rattle.cs_code.specs.declared.simple.Assignment.{Assignment}
+use Rattle.cs_code.specs.declared.simple.Sending.{Sending}
+use Rattle.cs_code.specs.declared.simple.Sending.TheVariants as sending
 use Rattle.cs_code.specs.declared.value.Value.{Value}
 use Rattle.cs_code.specs.declared.value.Value.TheVariants as value
-use Rattle.cs_code.specs.inner.Code.{keep_code, operand_code, init_code, init_block_code, first_code, perf_code, perf_block_code, perf_arms_code}
+use Rattle.cs_code.specs.inner.Code.{keep_code, operand_code, init_code, init_block_code, first_code, perf_code, perf_block_code, perf_arms_code, out_ops, out_at_ops}
 use Rattle.cs_code.specs.inner.Frames.{Frame, kept_reg, spot}
 
 abbrev pub frame_of : Bases → Frame
@@ -45,6 +48,18 @@ value_of (value.Of e) = typed.expression e.now
 value_of (value.Read r v) = var r v
 value_of (value.Mixed v e) = plus rate.Audio v (typed.expression e.now)
 value_of value.Zero = number rate.Init (pos 0)
+
+-- an assignment: how often it is done, the variable, and what it takes
+pub record Assigned : Type 0 where
+  pub done : Rate
+  pub to : Variable
+  pub value : Expression
+
+abbrev pub assignment_of : Assignment → Assigned
+assignment_of a = record { done = a.done; to = a.to; value = value_of a.value }
+
+abbrev pub set_of : Assigned → Stmt
+set_of a = set a.done a.to a.value
 
 -- the code of the kept parts of an expression that changes, and the number after theirs
 abbrev pub parts_code : Frame → ℕ → Expression → List Op
@@ -61,29 +76,17 @@ parts_past at (pick r c a b) = past (past (past at c) a) b
 parts_past at (apply r f a) = past at a
 parts_past at _ = at
 
--- the values among arguments from a place on whose letter is settled, moving, or any
-abbrev pub is_picked : Which → Letter → Bool
-is_picked which.Settled l = is_settled l
-is_picked which.Moving l = not (is_settled l)
-is_picked which.All l = true
-
-abbrev pub picked : Which → Row → ℕ → List typed.Argument → List Expression
-picked w row n [] = []
-picked w row n (typed.value e ∷ rest) =
-    if is_picked w (letter_at row n) then e ∷ picked w row (n + 1) rest else picked w row (n + 1) rest
-picked w row n (typed.text v ∷ rest) = picked w row (n + 1) rest
+-- the arguments of a call, and expressions that are lent
+abbrev pub arguments_of : Call → List typed.Argument
+arguments_of k = map typed.argument k.args.now
 
 -- an argument, where it is taken
 abbrev pub taken : Bool → typed.Argument → List Expression
 taken b (typed.value e) = if b then e ∷ [] else []
 taken b (typed.text v) = []
 
--- the arguments of a call, and those that are picked
-abbrev pub arguments_of : Call → List typed.Argument
-arguments_of k = map typed.argument k.args.now
-
-abbrev pub picks_of : Which → Call → List Expression
-picks_of w k = picked w (row_of k.opcode) 0 (arguments_of k)
+abbrev pub expressions_of : List (Bor TypedExpr) → List Expression
+expressions_of es = map (λ e. typed.expression e.now) es
 
 -- the initialisation works values out as a whole; the performance takes the parts that don't change as they are kept
 abbrev pub is_whole : Pass → Bool
@@ -120,7 +123,7 @@ each_arm_code f place p c b =
 
 -- what is known of one of some expressions, counted from 0: of a literal the whole number below it
 abbrev pub known_of : Expression → Known
-known_of (number r v) = known.Literal (whole_below v)
+known_of (number r v) = known.Literal (whole_part v)
 known_of _ = known.Other
 
 abbrev pub known_at : List Expression → ℕ → Known
@@ -144,44 +147,58 @@ span_known places (known.Literal n) (known.Literal m) =
     if nat_lt n places && nat_le n m then reach.Span n (min m (places - 1)) else reach.Nothing
 span_known places _ _ = reach.Any
 
-abbrev pub reach_known : Spaces → Shape → Bool → Known → Known → Known → Reach
-reach_known spaces shape.Unit table t x y = if table then table_known t else reach.Nothing
-reach_known spaces shape.Store table t x y = table_known t
-reach_known spaces (shape.ZakGet s) table t x y = place_known (places_of spaces s) x
-reach_known spaces (shape.ZakPut s) table t x y = place_known (places_of spaces s) y
-reach_known spaces shape.ZakMix table t x y = place_known spaces.audio y
-reach_known spaces (shape.ZakClear s) table t x y = span_known (places_of spaces s) x y
-reach_known spaces _ table t x y = reach.Nothing
+abbrev pub zak_known : Spaces → Shape → Known → Known → Reach
+zak_known spaces (shape.ZakGet s) x y = place_known (places_of spaces s) x
+zak_known spaces (shape.ZakPut s) x y = place_known (places_of spaces s) y
+zak_known spaces shape.ZakMix x y = place_known spaces.audio y
+zak_known spaces (shape.ZakClear s) x y = span_known (places_of spaces s) x y
+zak_known spaces _ x y = reach.Nothing
 
--- a call that is a unit
-abbrev pub plain_unit : Spaces → Rate → List Variable → Opcode → Shape → List typed.Argument → Stmt
-plain_unit spaces r vs opcode sh args =
-    let xs = moving (row_of opcode) 0 args in let is = settled (row_of opcode) 0 args in
-    unit r vs opcode (reach_of spaces sh (takes_table opcode) xs is) xs is
-
--- what a call is short for by a shape, and where it is a unit
+-- what a call is short for by a shape
 abbrev pub call_of : Spaces → Call → Shape → Stmt
 call_of o k sh = core_call o k.rate k.results.now k.opcode sh (arguments_of k)
-
-abbrev pub unit_of : Spaces → Call → Stmt
-unit_of o k = plain_unit o k.rate k.results.now k.opcode (row_of k.opcode).shape (arguments_of k)
 
 -- whether the arms of an `if` are all initialised, while nothing is chosen yet
 abbrev pub takes_all : Pass → Rate → Bool
 takes_all pass.Initialisation r = not (is_init r)
 takes_all pass.Performance r = false
 
--- the channel that the first of some arguments names
-abbrev pub channel_of : List typed.Argument → Option Variable
-channel_of (typed.text c ∷ args) = Some c
-channel_of _ = None
+-- the assignment that a call of a shape is short for, if it is
+abbrev pub assigned : Shape → Rate → List Variable → List typed.Argument → Option Assigned
+assigned shape.Init r (v ∷ vs) (typed.value e ∷ args) = Some (record { done = rate.Init; to = v; value = e })
+assigned shape.ChannelGet r (v ∷ vs) (typed.text c ∷ args) = Some (record { done = r; to = v; value = var r c })
+assigned shape.ChannelPut r vs (typed.value e ∷ typed.text c ∷ args) = Some (record { done = r; to = c; value = e })
+assigned shape.ChannelMix r vs (typed.value e ∷ typed.text c ∷ args) = Some (record { done = r; to = c; value = plus rate.Audio c e })
+assigned shape.ChannelClear r vs (typed.text c ∷ args) = Some (record { done = r; to = c; value = number rate.Init (pos 0) })
+assigned _ r vs args = None
 
--- the channel that takes a value, and the value, where arguments begin with these
-abbrev pub taken_by : List typed.Argument → Option (Variable × Expression)
-taken_by (typed.value e ∷ typed.text c ∷ args) = Some (c, e)
-taken_by _ = None
+-- the shape of a call that puts a value into a channel
+abbrev pub put_shape : Putting → Shape
+put_shape putting.Value = shape.ChannelPut
+put_shape putting.Sum = shape.ChannelMix
 
--- a channel takes a value, or what it has and a value
-abbrev pub put_shape : Bool → Shape
-put_shape true = shape.ChannelMix
-put_shape false = shape.ChannelPut
+-- what a call of a shape is short for that is no assignment
+abbrev pub effect : Spaces → Rate → List Variable → Opcode → Shape → List typed.Argument → Stmt
+effect o r vs opcode shape.Unit args = unit_call r vs opcode args
+effect o r vs opcode shape.Store args = store_call r opcode args
+effect o r vs opcode (shape.ZakGet s) args = zak_call o r vs opcode (shape.ZakGet s) args
+effect o r vs opcode (shape.ZakPut s) args = zak_call o r vs opcode (shape.ZakPut s) args
+effect o r vs opcode shape.ZakMix args = zak_call o r vs opcode shape.ZakMix args
+effect o r vs opcode (shape.ZakClear s) args = zak_call o r vs opcode (shape.ZakClear s) args
+effect o r vs opcode shape.Out args = out r (values_of args)
+effect o r vs opcode shape.OutAt args = out_at r (values_of args)
+effect o r vs opcode shape.Turnoff args = turnoff r
+effect o r vs opcode shape.Ask args = ask (values_of args)
+effect o r vs opcode _ args = nothing
+
+abbrev pub effect_of : Spaces → Call → Shape → Stmt
+effect_of o k sh = effect o k.rate k.results.now k.opcode sh (arguments_of k)
+
+-- values go out, to the channels in turn or each to that of its number
+abbrev pub sent_as : Sending → Rate → List Expression → Stmt
+sent_as sending.InTurn r es = out r es
+sent_as sending.ByNumber r es = out_at r es
+
+abbrev pub sent_ops : Sending → List Reg → List Op
+sent_ops sending.InTurn qs = out_ops 0 qs
+sent_ops sending.ByNumber qs = out_at_ops qs

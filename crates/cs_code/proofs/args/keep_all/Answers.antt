@@ -1,26 +1,20 @@
-use Rattle.std.proofs.Common.{◌≡◌, ◌∙◌, ◌+◌, ◌∷◌, List, map, drop, arith, ap}
-use Rattle.cs_typed.specs.TypedTree.{Argument, argument}
-use Rattle.cs_words.specs.Catalogue.{row_of}
-use Rattle.cs_code.specs.inner.Emitted.{frame_of}
-use Rattle.cs_code.proofs.Lists.{keep_more, past_more, dropped}
+use Rattle.std.proofs.Common.{◌≡◌, ◌∙◌, ◌+◌, ◌∷◌, List, drop, arith, ap, sym}
+use Rattle.cs_meaning.specs.Notes.{past_all}
+use Rattle.cs_typed.specs.TypedTree.{Expression, expression}
+use Rattle.cs_code.specs.inner.Emitted.{frame_of, expressions_of}
+use Rattle.cs_code.proofs.Lists.{keep_more, dropped}
 use Rattle.cs_code.proofs.args.keep_all.Goals as goal
 
-pub loop-arg-preserved : goal.loop-arg-preserved
-loop-arg-preserved c =
-    let was = c.loop-arg.invariant in
-    let i = c.loop-arg.arg-index in
-    let x = c.arg-item.result in
-    let row = row_of c.args.call.now.opcode in
-    let args : List Argument = map argument (drop i c.args.call.now.args.now) in
-    let rest : List Argument = map argument (drop (i + 1) c.args.call.now.args.now) in
-    let split : args ≡ argument x ∷ rest = ap (map argument) (dropped c.args.call.now.args.now i x (omega arith) c.arg-item.is) in
-    let made = c.in_ok-next.ensures in
-    let on = c.in_ok-place.ensures in
-    let n = c.loop-arg.place in
-    let m = c.in_ok-place.place in
-    let f = frame_of c.args.context.bases in (
-      on ∙ ap (λ k. k + 1) was.0,
-      keep_more f c.args.which row args n m (argument x) rest c.picks.result c.loop-arg.ops.items c.keep_one.new.ops.items _ c.loop-arg.next
-          c.in_ok-next.next split c.picks.ensures on made.ops made.next was.1,
-      past_more c.args.which row args n m (argument x) rest c.picks.result c.loop-arg.next c.in_ok-next.next _ split c.picks.ensures on made.next was.2,
+pub loop-e-preserved : goal.loop-e-preserved
+loop-e-preserved c =
+    let was = c.loop-e.invariant in
+    let i = c.loop-e.e-index in
+    let x = c.e-item.result in
+    let es : List Expression = expressions_of (drop i c.args.values.now) in
+    let rest : List Expression = expressions_of (drop (i + 1) c.args.values.now) in
+    let split : es ≡ expression x.now ∷ rest = ap expressions_of (dropped c.args.values.now i x (omega arith) c.e-item.is) in
+    let made = c.in_ok-next.ensures in (
+      keep_more (frame_of c.args.context.bases) c.loop-e.ops.items c.keep.new.ops.items _ c.loop-e.next c.in_ok-next.next es (expression x.now) rest
+          split made.ops made.next was.0,
+      ap (λ n. past_all n rest) made.next ∙ sym (ap (past_all c.loop-e.next) split) ∙ was.1,
     )

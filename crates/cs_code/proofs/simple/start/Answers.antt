@@ -1,0 +1,15 @@
+use Rattle.std.proofs.Common.{◌∙◌, ◌++◌, true, ap}
+use Rattle.cs_ir.specs.declared.op.Act.TheVariants as act
+use Rattle.cs_code.specs.inner.Code.{on_code}
+use Rattle.cs_code.specs.inner.Emitted.{frame_of, expressions_of, is_whole}
+use Rattle.cs_code.proofs.simple.start.Goals as goal
+
+pub returns : goal.returns
+returns c =
+    let f = frame_of c.args.context.bases in
+    let old = c.args.ops.now.items in
+    let es = expressions_of c.args.settled.now in
+    let begins = act.Start c.args.call.now.opcode c.args.unit in
+    c.in_ok-push_on.ensures.ops
+    ∙ ap (λ w. old ++ on_code f (is_whole w) 0 begins c.unwritten.result es) c.requires
+    ∙ ap (λ q. old ++ on_code f true 0 begins q es) c.unwritten.ensures

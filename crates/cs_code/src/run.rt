@@ -1,0 +1,76 @@
+// The code of what gives results: units, and what reads or writes zak places.
+ghost use Rattle.std.specs.Prelude.{◌≡◌, ◌+◌, ◌++◌, [], IfOk, OnOk};
+ghost use Rattle.cs_meaning.specs.Notes.{past_all};
+ghost use Rattle.cs_code.specs.inner.Code.{run_code, target, given_code};
+ghost use Rattle.cs_code.specs.inner.Emitted.{frame_of, expressions_of, is_whole};
+
+use crate::args::{Call, push_on};
+use crate::frame::{Bases, Context, push, temp};
+use cs_base::{OutOfMemory, Rate};
+use cs_ir::{Act, Op, Operands, Reg};
+use cs_typed::{TypedExpr, Var};
+
+// Where a result goes.
+fn target(bases: Bases, rate: Rate, results: &[Var]) -> Result<Reg, OutOfMemory>
+    ensures { IfOk result (λ q. q ≡ target (frame_of bases) rate results.now) }
+{
+    match results {
+        [Var::Local(own, index), ..] => {
+            if own.same(rate) {
+                Ok(Reg {
+                    rate: *own,
+                    index: *index,
+                })
+            } else {
+                temp(bases, rate, 0)
+            }
+        }
+        _ => temp(bases, rate, 0),
+    }
+}
+
+// What is left to do once a result is there.
+fn give(ops: &mut Vec<Op>, bases: Bases, rate: Rate, results: &[Var]) -> Result<(), OutOfMemory>
+    ensures { OnOk result (ops.new.items ≡ ops.old.items
+        ++ given_code (frame_of bases) rate results.now) }
+{
+    match results {
+        [] => Ok(()),
+        [Var::Local(own, index), ..] => {
+            if own.same(rate) {
+                Ok(())
+            } else {
+                let into = Reg {
+                    rate: *own,
+                    index: *index,
+                };
+                push(ops, Act::Copy, into, Operands::one(temp(bases, rate, 0)?))
+            }
+        }
+        [Var::Global(res), ..] => {
+            let from = temp(bases, rate, 0)?;
+            push(ops, Act::Save(*res), from, Operands::one(from))
+        }
+    }
+}
+
+/// An op on values that gives a result where its opcode has one, and what is left to do then. Returns the number of the
+/// next kept value.
+pub fn run(
+    ops: &mut Vec<Op>,
+    context: Context,
+    at: usize,
+    act: Act,
+    call: &Call<'_>,
+    values: &[&TypedExpr],
+) -> Result<usize, OutOfMemory>
+    ensures ops { OnOk result (ops.new.items ≡ ops.old.items
+        ++ run_code (frame_of context.bases) (is_whole context.pass) at act call.now.rate
+        call.now.results.now (expressions_of values.now)) }
+    ensures next { IfOk result (λ n. n ≡ past_all at (expressions_of values.now)) }
+{
+    let into = target(context.bases, call.rate, call.results)?;
+    let next = push_on(ops, context, at, act, into, values)?;
+    give(ops, context.bases, call.rate, call.results)?;
+    Ok(next)
+}

@@ -1,0 +1,299 @@
+// The code of simple statements, for either pass: what is done once or kept as the note begins, and what is done in
+// each cycle.
+ghost use Rattle.std.specs.Prelude.{◌≡◌, ◌++◌, IfOk, OnOk};
+ghost use Rattle.cs_base.specs.declared.resource.Rate.TheVariants as rate;
+ghost use Rattle.cs_meaning.specs.Core.{unit, zak, store, table_reach, ask, turnoff};
+ghost use Rattle.cs_meaning.specs.Notes.{reg, start, past_stmt};
+ghost use Rattle.cs_code.specs.inner.Code.{start_code, seek_code, out_ops, out_at_ops};
+ghost use Rattle.cs_code.specs.declared.frame.Pass.TheVariants as pass;
+ghost use Rattle.cs_code.specs.inner.Emitted.{frame_of, place_of, pass_code, expressions_of};
+ghost use Rattle.cs_code.specs.inner.Emitted.{assignment_of, set_of, sent_as, sent_ops};
+
+use crate::args::{Call, Parted, keep_all, operands, push_on};
+use crate::expr::{keep_value, set};
+use crate::frame::{Context, Pass, Step, add, push};
+use crate::reach::table_reach;
+use crate::run::run;
+use crate::value::Value;
+use cs_base::{OutOfMemory, Rate};
+use cs_ir::{Act, Op, Operands, Reach, Reg};
+use cs_typed::{TypedExpr, Var};
+
+/// To which channels values go.
+#[derive(Clone, Copy)]
+pub enum Sending {
+    /// From the first on.
+    InTurn,
+    /// In pairs of a channel's number and a value for it.
+    ByNumber,
+}
+
+/// A variable takes a value: how often, which variable, and what it takes.
+#[derive(Clone, Copy)]
+pub struct Assignment<'t> {
+    pub done: Rate,
+    pub to: Var,
+    pub value: Value<'t>,
+}
+
+/// A variable takes a value: once, or in each cycle, for which the parts that don't change are kept.
+pub fn assign(
+    ops: &mut Vec<Op>,
+    context: Context,
+    p: Step,
+    it: &Assignment<'_>,
+) -> Result<Step, OutOfMemory>
+    ensures ops { OnOk result (ops.new.items ≡ ops.old.items
+        ++ pass_code context.pass (frame_of context.bases) 0 (place_of p) (set_of (assignment_of it.now))) }
+    ensures next { IfOk result (λ q. place_of q ≡ past_stmt (place_of p) (set_of (assignment_of it.now))) }
+{
+    match (context.pass, it.done) {
+        (Pass::Initialisation, Rate::Init) => {
+            set(ops, context, 0, it.to, &it.value)?;
+            Ok(p)
+        }
+        (Pass::Initialisation, _) => {
+            let part = keep_value(ops, context, p.part, &it.value)?;
+            Ok(Step { part, ..p })
+        }
+        (Pass::Performance, Rate::Init) => Ok(p),
+        (Pass::Performance, _) => {
+            let part = set(ops, context, p.part, it.to, &it.value)?;
+            Ok(Step { part, ..p })
+        }
+    }
+}
+
+/// A unit: started as the note begins, and run then where it is done once, else in each cycle.
+pub fn unit(
+    ops: &mut Vec<Op>,
+    context: Context,
+    p: Step,
+    reach: Reach,
+    call: &Call<'_>,
+    values: &Parted<'_>,
+) -> Result<Step, OutOfMemory>
+    ensures ops { OnOk result (ops.new.items ≡ ops.old.items
+        ++ pass_code context.pass (frame_of context.bases) 0 (place_of p) (unit call.now.rate call.now.results.now
+        call.now.opcode reach (expressions_of values.now.moving.items) (expressions_of values.now.settled.items))) }
+    ensures next { IfOk result (λ q. place_of q
+        ≡ past_stmt (place_of p) (unit call.now.rate call.now.results.now call.now.opcode reach
+        (expressions_of values.now.moving.items) (expressions_of values.now.settled.items))) }
+{
+    let unit = add(p.unit, 1)?;
+    let act = Act::Unit(call.opcode, p.unit, reach);
+    match (context.pass, call.rate) {
+        (Pass::Initialisation, Rate::Init) => {
+            start(ops, context, p.unit, call, &values.settled)?;
+            run(ops, context, 0, act, call, &values.moving)?;
+            Ok(Step { part: p.part, unit })
+        }
+        (Pass::Initialisation, _) => {
+            let part = keep_all(ops, context, p.part, &values.moving)?;
+            start(ops, context, p.unit, call, &values.settled)?;
+            Ok(Step { part, unit })
+        }
+        (Pass::Performance, Rate::Init) => Ok(Step { part: p.part, unit }),
+        (Pass::Performance, _) => {
+            let part = run(ops, context, p.part, act, call, &values.moving)?;
+            Ok(Step { part, unit })
+        }
+    }
+}
+
+// A unit is started with its settled values.
+fn start(
+    ops: &mut Vec<Op>,
+    context: Context,
+    unit: usize,
+    call: &Call<'_>,
+    settled: &[&TypedExpr],
+) -> Result<(), OutOfMemory>
+    requires { context.pass ≡ pass.Initialisation }
+    ensures { OnOk result (ops.new.items ≡ ops.old.items
+        ++ start_code (frame_of context.bases) call.now.rate call.now.opcode unit (expressions_of settled.now)) }
+{
+    let act = Act::Start(call.opcode, unit);
+    push_on(ops, context, 0, act, unwritten(call.rate), settled)?;
+    Ok(())
+}
+
+// The register of an op that writes none; it tells a rate.
+fn unwritten(rate: Rate) -> Reg
+    ensures { result ≡ reg rate 0 }
+{
+    Reg { rate, index: 0 }
+}
+
+/// Zak places are read or written: once, or in each cycle.
+pub fn zak(
+    ops: &mut Vec<Op>,
+    context: Context,
+    p: Step,
+    reach: Reach,
+    call: &Call<'_>,
+    values: &[&TypedExpr],
+) -> Result<Step, OutOfMemory>
+    ensures ops { OnOk result (ops.new.items ≡ ops.old.items
+        ++ pass_code context.pass (frame_of context.bases) 0 (place_of p) (zak call.now.rate call.now.results.now
+        call.now.opcode reach (expressions_of values.now))) }
+    ensures next { IfOk result (λ q. place_of q ≡ past_stmt (place_of p) (zak call.now.rate call.now.results.now
+        call.now.opcode reach (expressions_of values.now))) }
+{
+    let act = Act::Zak(call.opcode, reach);
+    match (context.pass, call.rate) {
+        (Pass::Initialisation, Rate::Init) => {
+            run(ops, context, 0, act, call, values)?;
+            Ok(p)
+        }
+        (Pass::Initialisation, _) => {
+            let part = keep_all(ops, context, p.part, values)?;
+            Ok(Step { part, ..p })
+        }
+        (Pass::Performance, Rate::Init) => Ok(p),
+        (Pass::Performance, _) => {
+            let part = run(ops, context, p.part, act, call, values)?;
+            Ok(Step { part, ..p })
+        }
+    }
+}
+
+/// A store: as the note begins its table must be there, and it stores then where it is done once, else in each cycle.
+pub fn store(
+    ops: &mut Vec<Op>,
+    context: Context,
+    p: Step,
+    call: &Call<'_>,
+    values: &[&TypedExpr],
+    settled: &[&TypedExpr],
+) -> Result<Step, OutOfMemory>
+    ensures ops { OnOk result (ops.new.items ≡ ops.old.items
+        ++ pass_code context.pass (frame_of context.bases) 0 (place_of p) (store call.now.rate call.now.opcode
+        (table_reach (expressions_of settled.now)) (expressions_of values.now) (expressions_of settled.now))) }
+    ensures next { IfOk result (λ q. place_of q ≡ past_stmt (place_of p) (store call.now.rate call.now.opcode
+        (table_reach (expressions_of settled.now)) (expressions_of values.now) (expressions_of settled.now))) }
+{
+    let act = Act::Store(call.opcode, table_reach(settled));
+    let into = unwritten(call.rate);
+    match (context.pass, call.rate) {
+        (Pass::Initialisation, Rate::Init) => {
+            seek(ops, context, settled)?;
+            push_on(ops, context, 0, act, into, values)?;
+            Ok(p)
+        }
+        (Pass::Initialisation, _) => {
+            let part = keep_all(ops, context, p.part, values)?;
+            seek(ops, context, settled)?;
+            Ok(Step { part, ..p })
+        }
+        (Pass::Performance, Rate::Init) => Ok(p),
+        (Pass::Performance, _) => {
+            let part = push_on(ops, context, p.part, act, into, values)?;
+            Ok(Step { part, ..p })
+        }
+    }
+}
+
+// The table that settled values name is looked for.
+fn seek(ops: &mut Vec<Op>, context: Context, settled: &[&TypedExpr]) -> Result<(), OutOfMemory>
+    requires { context.pass ≡ pass.Initialisation }
+    ensures { OnOk result (ops.new.items ≡ ops.old.items ++ seek_code (frame_of context.bases)
+        (expressions_of settled.now)) }
+{
+    push_on(ops, context, 0, Act::Seek, unwritten(Rate::Init), settled)?;
+    Ok(())
+}
+
+// Values to the channels from one on.
+fn out_ops(ops: &mut Vec<Op>, regs: &[Reg]) -> Result<(), OutOfMemory>
+    ensures { OnOk result (ops.new.items ≡ ops.old.items ++ out_ops 0 regs.now) }
+{
+    let mut channel = 0;
+    for reg in regs {
+        push(ops, Act::Out(channel), *reg, Operands::one(*reg))?;
+        channel = add(channel, 1)?;
+    }
+    Ok(())
+}
+
+// Pairs of a channel's number and a value for it.
+fn out_at_ops(ops: &mut Vec<Op>, regs: &[Reg]) -> Result<(), OutOfMemory>
+    ensures { OnOk result (ops.new.items ≡ ops.old.items ++ out_at_ops regs.now) }
+{
+    let mut channel = None;
+    for reg in regs {
+        channel = match channel {
+            None => Some(*reg),
+            Some(number) => {
+                push(ops, Act::OutAt, *reg, Operands::two(number, *reg))?;
+                None
+            }
+        };
+    }
+    Ok(())
+}
+
+// Values in registers go out.
+fn send_regs(ops: &mut Vec<Op>, sending: Sending, regs: &[Reg]) -> Result<(), OutOfMemory>
+    ensures { OnOk result (ops.new.items ≡ ops.old.items ++ sent_ops sending regs.now) }
+{
+    match sending {
+        Sending::InTurn => out_ops(ops, regs),
+        Sending::ByNumber => out_at_ops(ops, regs),
+    }
+}
+
+/// Values go out: their parts that don't change are kept as the note begins, and each cycle sends them.
+pub fn send(
+    ops: &mut Vec<Op>,
+    context: Context,
+    p: Step,
+    sending: Sending,
+    values: &[&TypedExpr],
+) -> Result<Step, OutOfMemory>
+    ensures ops { OnOk result (ops.new.items ≡ ops.old.items
+        ++ pass_code context.pass (frame_of context.bases) 0 (place_of p)
+        (sent_as sending rate.Audio (expressions_of values.now))) }
+    ensures next { IfOk result (λ q. place_of q
+        ≡ past_stmt (place_of p) (sent_as sending rate.Audio (expressions_of values.now))) }
+{
+    match context.pass {
+        Pass::Initialisation => {
+            let part = keep_all(ops, context, p.part, values)?;
+            Ok(Step { part, ..p })
+        }
+        Pass::Performance => {
+            let found = operands(ops, context, p.part, values)?;
+            send_regs(ops, sending, &found.regs)?;
+            Ok(Step {
+                part: found.next,
+                ..p
+            })
+        }
+    }
+}
+
+/// Asks for a note, as the note begins.
+pub fn ask(ops: &mut Vec<Op>, context: Context, values: &[&TypedExpr]) -> Result<(), OutOfMemory>
+    ensures { OnOk result (ops.new.items ≡ ops.old.items
+        ++ pass_code context.pass (frame_of context.bases) 0 start (ask (expressions_of values.now))) }
+{
+    match context.pass {
+        Pass::Initialisation => {
+            push_on(ops, context, 0, Act::Ask, unwritten(Rate::Init), values)?;
+            Ok(())
+        }
+        Pass::Performance => Ok(()),
+    }
+}
+
+/// Ends the note with this cycle.
+pub fn turnoff(ops: &mut Vec<Op>, context: Context) -> Result<(), OutOfMemory>
+    ensures { OnOk result (ops.new.items ≡ ops.old.items
+        ++ pass_code context.pass (frame_of context.bases) 0 start (turnoff rate.Audio)) }
+{
+    match context.pass {
+        Pass::Initialisation => Ok(()),
+        Pass::Performance => { push(ops, Act::Turnoff, unwritten(Rate::Init), Operands::none()) }
+    }
+}
