@@ -1,5 +1,5 @@
 -- The layout of a piece has what the piece has.
-use Rattle.std.proofs.Common.{◌≡◌, ℕ, zero, suc, ◌+◌, ◌<◌, ◌==◌, ◌||◌, ◌&&◌, Bool, true, false, List, [], ◌∷◌, ◌++◌, length, map, take, nat_lt, nat_le, arith, ap, sym, ◌∙◌, refl, subst, slice_get, Option, Some, None, if◌then◌else◌}
+use Rattle.std.proofs.Common.{◌≡◌, ℕ, zero, suc, ◌+◌, ◌<◌, ◌==◌, ◌||◌, ◌&&◌, Bool, true, false, List, [], ◌∷◌, ◌++◌, length, map, take, nat_lt, nat_le, arith, ap, sym, ◌∙◌, refl, subst, slice_get, Option, Some, None}
 use Rattle.std.specs.List.{All, filter_map, list_any, range_with_len}
 use Rattle.std.specs.Option.{is_some}
 use Rattle.std.proofs.lemmas.Bool.Decides.{nat_tests}
@@ -13,15 +13,16 @@ use Rattle.cs_cells.specs.Areas.{IsLaid, word_count}
 use Rattle.cs_cells.specs.declared.footprint.Area.{Area}
 use Rattle.cs_base.specs.declared.spaces.Spaces.{Spaces}
 use Rattle.cs_ir.specs.Validity.{has_value}
-use Rattle.cs_layout.specs.Layouts.{Shared, numbered, of_tables, shared_by, areas_of, is_shared, AreApart, AreLive, IsLive}
+use Rattle.cs_layout.specs.Layouts.{Shared, numbered, of_tables, shared_by, areas_of, is_shared, AreApart, AreLive, AreOfPiece, IsLive}
 use Rattle.cs_layout.specs.declared.areas.LiveTable.{LiveTable}
 use Rattle.cs_layout.proofs.Laid.{laid_at, is_there, found_at}
 use Rattle.cs_layout.proofs.Sharing.{position, is_at}
 use Rattle.cs_layout.proofs.Counted.{spaces_are}
 use Rattle.cs_layout.proofs.Tails.{from_gk, from_ga, from_control, from_sound, from_zk, from_za}
-use Rattle.cs_meaning.specs.Plain.{Piece, Table}
+use Rattle.cs_meaning.specs.Pieces.{Piece, Table}
+use Rattle.cs_machine.proofs.Curved.{some_points}
 use Rattle.cs_rwset.specs.Footprints.{stock_of, table_number}
-use Rattle.cs_voice_meaning.specs.Placing.{IsPlaced, IsTablePlaced, area_of, cell_count}
+use Rattle.cs_voice_meaning.specs.Placing.{IsPlaced, IsTablePlaced, area_of, cell_count, is_table_size}
 use Rattle.cs_typed.specs.TypedTree.{SharedNames}
 
 -- each resource has its area at its own position
@@ -197,10 +198,14 @@ live_is_shared (t ∷ live) zero n size e =
 live_is_shared (t ∷ live) (suc q) n size e =
     let more = live_is_shared live q n size e in by_test (t.number == n) (λ y. rw y refl) (λ y. rw y more)
 
-all_at : (live : List LiveTable) (q : ℕ) (t : LiveTable) → All (λ u. 0 < u.size) live → slice_get live q ≡ Some t → 0 < t.size
+-- the size of a table is a power of two or one more
+abbrev IsSized : LiveTable → Type 0
+IsSized t = is_table_size t.size ≡ true
+
+all_at : (live : List LiveTable) (q : ℕ) (t : LiveTable) → All IsSized live → slice_get live q ≡ Some t → IsSized t
 all_at [] q t a e = absurd (cc (e))
-all_at (u ∷ live) zero t a e = subst (λ x. 0 < x.size) (some_is u t e) (All-head (λ x. 0 < x.size) u live a)
-all_at (u ∷ live) (suc q) t a e = all_at live q t (All-tail (λ x. 0 < x.size) u live a) e
+all_at (u ∷ live) zero t a e = subst IsSized (some_is u t e) (All-head IsSized u live a)
+all_at (u ∷ live) (suc q) t a e = all_at live q t (All-tail IsSized u live a) e
 
 some_of : {A : Type 0} (o : Option A) → is_some o ≡ true → (x : A) × (o ≡ Some x)
 some_of None e = absurd (cc (e))
@@ -214,22 +219,24 @@ module _ (ksmps : ℕ) (names : SharedNames) (spaces : Spaces) (live : List Live
       let here = laid_at 0 (shared_by ksmps names spaces live) found.place area found.there in
       here.long ∙ (is_at ksmps names spaces live apart found.place here.what here.there).size n q size (sym here.res ∙ found.res) e
 
-  pub table_placed : (t : Table) → All (λ u. 0 < u.size) live → IsLive live t → IsTablePlaced (areas_of ksmps names spaces live) (stock_of (areas_of ksmps names spaces live)) t
-  table_placed t some (q, e) =
+  pub table_placed : (t : Table) → All IsSized live → IsLive live t → IsTablePlaced (areas_of ksmps names spaces live) (stock_of (areas_of ksmps names spaces live)) t
+  table_placed t sized (q, e) =
       let area = some_of (area_of (areas_of ksmps names spaces live) (res.Table t.number)) (there ksmps names spaces live (res.Table t.number) ∙ live_is_shared live q t.number t.size e) in
       let found = found_at (areas_of ksmps names spaces live) (res.Table t.number) area.0 area.1 in
       record {
         among = among_areas (areas_of ksmps names spaces live) found.place t.number area.0 found.there found.res;
-        some = all_at live q (record { number = t.number; size = t.size }) some e;
+        some = (let most = some_points t.size (all_at live q (record { number = t.number; size = t.size }) sized e) in omega (arith, most));
+        power = all_at live q (record { number = t.number; size = t.size }) sized e;
         size = λ a f. table_size t.number q t.size a e f;
       }
 
-pub is_placed : (names : SharedNames) (live : List LiveTable) (piece : Piece) → AreApart live → 0 < piece.head.ksmps → AreLive live piece.tables → All (λ t. 0 < t.size) live
-    → IsPlaced (areas_of piece.head.ksmps names piece.spaces live) (stock_of (areas_of piece.head.ksmps names piece.spaces live)) piece
-is_placed names live piece apart frames are some = record {
+pub is_placed : (names : SharedNames) (live : List LiveTable) (piece : Piece) → AreApart live → 0 < piece.head.ksmps → AreLive live piece.tables → AreOfPiece live piece.tables
+    → All IsSized live → IsPlaced (areas_of piece.head.ksmps names piece.spaces live) (stock_of (areas_of piece.head.ksmps names piece.spaces live)) piece
+is_placed names live piece apart frames are of_piece sized = record {
   laid = is_laid piece.head.ksmps names piece.spaces live apart;
   frames = frames;
   cells = cells_of piece.head.ksmps names piece.spaces live apart;
   spaces = spaces_are piece.head.ksmps names piece.spaces live;
-  tables = λ number t found frozen. table_placed piece.head.ksmps names piece.spaces live apart t some (are number t found frozen);
+  tables = λ number t found frozen. table_placed piece.head.ksmps names piece.spaces live apart t sized (are number t found frozen);
+  live = λ n area at. of_piece n (sym (there piece.head.ksmps names piece.spaces live (res.Table n)) ∙ ap is_some at);
 }

@@ -1,13 +1,14 @@
 -- Which cells a piece has: those of its variables, channels, zak places and live tables, one behind the other.
-use Rattle.std.specs.Prelude.{ℕ, ℤ, ◌≡◌, ◌+◌, ◌==◌, Bool, nat_lt, List, [], ◌∷◌, ◌++◌, length, map, slice_get, Some, None}
+use Rattle.std.specs.Prelude.{ℕ, ℤ, ◌≡◌, ◌+◌, ◌==◌, Bool, true, nat_lt, List, [], ◌∷◌, ◌++◌, length, map, slice_get, Some, None}
 use Rattle.std.specs.List.{list_any, range_with_len}
 use Rattle.cs_base.specs.declared.resource.Res.{Res}
 use Rattle.cs_base.specs.declared.resource.Res.TheVariants as res
 use Rattle.cs_cells.specs.declared.footprint.Area.{Area}
 use Rattle.cs_base.specs.declared.spaces.Spaces.{Spaces}
 use Rattle.cs_layout.specs.declared.areas.LiveTable.{LiveTable}
-use Rattle.cs_meaning.specs.Plain.{Table, find_table}
+use Rattle.cs_meaning.specs.Pieces.{Table, find_table}
 use Rattle.cs_typed.specs.TypedTree.{SharedNames}
+use Rattle.cs_voice_meaning.specs.Placing.{IsLiveTable}
 
 -- what notes share: a resource, and how many cells it has
 pub record Shared : Type 0 where
@@ -22,8 +23,8 @@ numbered kind count cells = map (λ n. record { res = kind n; cells = cells }) (
 abbrev pub of_tables : List LiveTable → List Shared
 of_tables live = map (λ t. record { res = res.Table t.number; cells = t.size }) live
 
--- What a piece's notes share: variables of the rates i, k and a, channels of control values and of sounds, zak places of both
--- spaces, live tables. What is a sound has a cell for each frame of a control cycle.
+-- What a piece's notes share: variables of the rates i, k and a, channels of control values and of sounds, zak places
+-- of both spaces, live tables. What is a sound has a cell for each frame of a control cycle.
 abbrev pub shared_by : ℕ → SharedNames → Spaces → List LiveTable → List Shared
 shared_by ksmps names spaces live =
     numbered res.Gi (length names.gi) 1
@@ -66,3 +67,7 @@ IsLive live t = (place : ℕ) × (slice_get live place ≡ Some (record { number
 -- so are all of a piece's tables that aren't frozen
 abbrev pub AreLive : List LiveTable → List Table → Type 0
 AreLive live tables = (number : ℤ) (t : Table) → find_table tables number ≡ Some t → t.frozen ≡ None → IsLive live t
+
+-- and each of these is a table of the piece that notes may write
+abbrev pub AreOfPiece : List LiveTable → List Table → Type 0
+AreOfPiece live tables = (n : ℕ) → list_any (λ t. t.number == n) live ≡ true → IsLiveTable tables n

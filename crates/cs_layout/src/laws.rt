@@ -9,11 +9,11 @@ ghost use Rattle.cs_cells.specs.Areas.{IsLaid};
 ghost use Rattle.cs_cells.specs.declared.footprint.Area.{Area};
 ghost use Rattle.cs_base.specs.declared.spaces.Spaces.{Spaces};
 ghost use Rattle.cs_ir.specs.Validity.{has_value};
-ghost use Rattle.cs_layout.specs.Layouts.{AreApart, AreLive, areas_of, is_shared};
+ghost use Rattle.cs_layout.specs.Layouts.{AreApart, AreLive, AreOfPiece, areas_of, is_shared};
 ghost use Rattle.cs_layout.specs.declared.areas.LiveTable.{LiveTable};
-ghost use Rattle.cs_meaning.specs.Plain.{Piece};
+ghost use Rattle.cs_meaning.specs.Pieces.{Piece};
 ghost use Rattle.cs_rwset.specs.Footprints.{stock_of};
-ghost use Rattle.cs_voice_meaning.specs.Placing.{IsPlaced, area_of, cell_count};
+ghost use Rattle.cs_voice_meaning.specs.Placing.{IsPlaced, area_of, cell_count, is_table_size};
 ghost use Rattle.cs_typed.specs.TypedTree.{SharedNames};
 
 /// Areas follow one another and no resource has two; a resource has one exactly where the piece has the resource, with
@@ -43,7 +43,7 @@ pub fn layouts_have_their_places()
 /// write.
 pub fn layouts_hold_a_piece()
     ensures { (names : SharedNames) (live : List LiveTable) (piece : Piece) → AreApart live → 0 < piece.head.ksmps
-        → AreLive live piece.tables → All (λ t. 0 < t.size) live
+        → AreLive live piece.tables → AreOfPiece live piece.tables → All (λ t. is_table_size t.size ≡ true) live
         → IsPlaced (areas_of piece.head.ksmps names piece.spaces live)
         (stock_of (areas_of piece.head.ksmps names piece.spaces live)) piece }
 {}

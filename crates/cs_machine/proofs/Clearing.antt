@@ -19,7 +19,7 @@ use Rattle.cs_ir.specs.declared.op.Reach.{Reach}
 use Rattle.cs_cells.specs.Areas.{IsLaid}
 use Rattle.cs_cells.specs.Cells.{in_area}
 use Rattle.cs_cells.specs.declared.footprint.Area.{Area}
-use Rattle.cs_meaning.specs.Plain.{Piece, has_place, index, is_between, is_cleared}
+use Rattle.cs_meaning.specs.Pieces.{Piece, has_place, index, is_between, is_cleared}
 use Rattle.cs_voice_meaning.specs.Placing.{area_of, with_wave}
 use Rattle.cs_voice_meaning.specs.VoiceWorld.{lies_cleared}
 use Rattle.cs_machine.specs.Access.{AreSpaces, spaces_of}

@@ -6,7 +6,8 @@ use Rattle.cs_ir.specs.declared.op.Act.{Act}
 use Rattle.cs_ir.specs.declared.register.Counts.{Counts}
 use Rattle.cs_ir.specs.declared.register.Reg.{Reg}
 use Rattle.cs_cells.specs.declared.footprint.Area.{Area}
-use Rattle.cs_meaning.specs.Plain.{Piece, Cause}
+use Rattle.cs_meaning.specs.Model.{Cause}
+use Rattle.cs_meaning.specs.Pieces.{Piece}
 use Rattle.cs_machine.specs.Outputs.{outs}
 use Rattle.cs_machine.specs.Registers.{IsWritten, values}
 use Rattle.cs_voice_meaning.specs.Follows.{Kinds}
@@ -59,7 +60,7 @@ written_machine ksmps old new into w rest frames written before after same next 
   regs = (written.values ∙ ap (λ n. put (values old.regs) into (held n into.rate w)) frames) i;
   next = next;
   world = record {
-    cells = same i;
+    shared = same i;
     units = unit_at (rest.players i);
     delays = rest.delays i;
     outs = outs (rest.outs i);
@@ -125,7 +126,7 @@ changes areas piece kinds counts act into from old new before after keeps state 
       regs = values (keeps.regs i);
       next = next;
       world = record {
-        cells = after;
+        shared = after;
         units = unit_at (keeps.rest.players i);
         delays = keeps.rest.delays i;
         outs = outs (keeps.rest.outs i);

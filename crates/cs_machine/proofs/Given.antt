@@ -11,11 +11,12 @@ use Rattle.cs_ir.specs.declared.op.Act.{Act}
 use Rattle.cs_ir.specs.declared.register.Counts.{Counts}
 use Rattle.cs_ir.specs.declared.register.Reg.{Reg}
 use Rattle.cs_cells.specs.declared.footprint.Area.{Area}
-use Rattle.cs_meaning.specs.Plain.{Piece, Cause}
+use Rattle.cs_meaning.specs.Model.{Cause, out_to, out_to_numbered}
+use Rattle.cs_meaning.specs.Pieces.{Piece}
 use Rattle.cs_machine.specs.Outputs.{IsGiven}
 use Rattle.cs_machine.specs.Registers.{reg, values}
 use Rattle.cs_voice_meaning.specs.Follows.{Kinds}
-use Rattle.cs_voice_meaning.specs.VoiceWorld.{VoiceState, out_to, out_to_numbered, voice_world}
+use Rattle.cs_voice_meaning.specs.VoiceWorld.{VoiceState, voice_world}
 use Rattle.cs_machine.specs.declared.state.State.{State}
 use Rattle.cs_machine.specs.States.{machine_of, unit_at, IsStateIn, Does}
 use Rattle.cs_machine.specs.inner.Channels.{channel_below}
@@ -36,7 +37,7 @@ given_machine old new c w rest given cells next asks cause = λ i. record {
   regs = values (rest.regs i);
   next = next;
   world = record {
-    cells = cells;
+    shared = cells;
     units = unit_at (rest.players i);
     delays = rest.delays i;
     outs = given.outs i;

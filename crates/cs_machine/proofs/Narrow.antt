@@ -1,34 +1,20 @@
--- What an operator makes of two numbers where that is in range as it is.
-use Rattle.std.proofs.Common.{◌≡◌, ◌≢◌, ◌<◌, ◌≤◌, ◌==◌, ◌+◌, ◌^◌, ◌+ℤ◌, ◌-ℤ◌, ◌*ℤ◌, ℕ, ℤ, pos, negsuc, bit_or, unsigned_abs, arith, sym, ap, ◌∙◌}
+-- Products that fit into 64 bits.
+use Rattle.std.proofs.Common.{◌≡◌, ◌≢◌, ◌<◌, ◌≤◌, ◌==◌, ◌+◌, ◌^◌, ◌*ℤ◌, ℕ, ℤ, bit_or, unsigned_abs, arith, sym, ap, ◌∙◌}
 use Rattle.std.proofs.lemmas.Bool.{eqb-true}
-use Rattle.std.proofs.lemmas.Int.{ints, unsigned_abs-mul}
+use Rattle.std.proofs.lemmas.Int.{unsigned_abs-mul}
 use Rattle.std.proofs.lemmas.Nat.{le_or_l, le_or_r, mul-lt}
-use Rattle.cs_base.specs.Numbers.{IsRaw}
 use Rattle.cs_base.proofs.Tests.{by_test}
 use Rattle.cs_ir.specs.Waves.{Wave}
-use Rattle.cs_words.specs.declared.sign.BinOp.{BinOp}
-use Rattle.cs_words.specs.declared.sign.BinOp.TheVariants as op
-use Rattle.cs_machine.specs.inner.Narrow.{AreNarrow, IsNarrow, bound_of, size_of}
+use Rattle.cs_machine.specs.inner.Narrow.{AreNarrow, size_of}
 use Rattle.cs_machine.proofs.Frames.{apart}
 
-in_range : (z : ℤ) → unsigned_abs z < 140737488355328 → IsRaw z
-in_range (pos n) h = (omega (arith, ints), omega (arith, ints))
-in_range (negsuc n) h = (omega (arith, ints), omega (arith, ints))
-
-factors : (x y : ℤ) → bit_or (unsigned_abs x) (unsigned_abs y) < 2147483648 → unsigned_abs (x *ℤ y) < 2 ^ 63
+factors : (x y : ℤ) → size_of x y < 2147483648 → unsigned_abs (x *ℤ y) < 2 ^ 63
 factors x y h =
     let a : unsigned_abs x < 2147483648 = let l = le_or_l (unsigned_abs x) (unsigned_abs y) in omega (arith, h, l) in
     let b : unsigned_abs y < 2147483648 = let l = le_or_r (unsigned_abs x) (unsigned_abs y) in omega (arith, h, l) in
     let p = mul-lt (unsigned_abs x) (unsigned_abs y) 2147483648 2147483648 a b in
     let e = unsigned_abs-mul x y in
     omega (arith, p, e)
-
--- a size below its bound
-pub narrow : (o : BinOp) (x y : ℤ) → size_of o x y < bound_of o → IsNarrow o x y
-narrow op.Add x y h = in_range (x +ℤ y) h
-narrow op.Sub x y h = in_range (x -ℤ y) h
-narrow op.Mul x y h = λ a b. factors x y h
-narrow _ x y h = tt
 
 -- sizes joined with one more
 pub one_more_size : (f : ℕ → ℕ) (sizes size j : ℕ) → ((i : ℕ) → i < j → f i ≤ sizes) → size ≡ f j → (i : ℕ) → i < j + 1 → f i ≤ bit_or sizes size
@@ -43,5 +29,5 @@ one_more_size f sizes size j each is i h = by_test (i == j)
     omega (arith, l, k))
 
 -- sizes below their bound
-pub narrow_all : (o : BinOp) (n sizes : ℕ) (w v : Wave) → sizes < bound_of o → ((i : ℕ) → i < n → size_of o (w i) (v i) ≤ sizes) → AreNarrow o n w v
-narrow_all o n sizes w v low each j h = narrow o (w j) (v j) (let e = each j h in omega (arith, low, e))
+pub narrow_all : (n sizes : ℕ) (w v : Wave) → sizes < 2147483648 → ((i : ℕ) → i < n → size_of (w i) (v i) ≤ sizes) → AreNarrow n w v
+narrow_all n sizes w v low each j h a b = factors (w j) (v j) (let e = each j h in omega (arith, low, e))

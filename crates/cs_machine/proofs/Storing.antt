@@ -9,7 +9,7 @@ use Rattle.cs_ir.specs.Waves.{Wave}
 use Rattle.cs_cells.specs.Cells.{cell, in_area}
 use Rattle.cs_cells.specs.declared.footprint.Area.{Area}
 use Rattle.cs_gen.specs.Places.{place_of_index}
-use Rattle.cs_meaning.specs.Plain.{Table, places_of_indices, stored}
+use Rattle.cs_meaning.specs.Pieces.{Table, places_of_indices, stored}
 use Rattle.cs_voice_meaning.specs.Placing.{wave_in, with_wave}
 use Rattle.cs_machine.proofs.Writing.{frame_in, in_here, set_cell}
 

@@ -10,7 +10,7 @@ use Rattle.cs_signal.specs.Operands.{argument}
 use Rattle.cs_ir.specs.Waves.{Wave, constant}
 use Rattle.cs_cells.specs.Cells.{cell, in_area}
 use Rattle.cs_cells.specs.declared.footprint.Area.{Area}
-use Rattle.cs_meaning.specs.Plain.{added}
+use Rattle.cs_meaning.specs.Pieces.{added}
 use Rattle.cs_voice_meaning.specs.Placing.{wave_in, with_wave}
 use Rattle.cs_machine.specs.Access.{CanTouch}
 use Rattle.cs_machine.specs.Rows.{Begins, HasFrames, row_wave}

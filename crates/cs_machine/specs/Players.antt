@@ -11,12 +11,10 @@ use Rattle.cs_signal.specs.Steps.{run}
 use Rattle.cs_voice_meaning.specs.VoiceWorld.{Playing, inputs_at}
 use Rattle.cs_ugen.specs.Units.{opcode_of, reads_table, unit_step}
 use Rattle.cs_ugen.specs.declared.unit.Kind.{Kind}
-use Rattle.cs_words.specs.declared.catalogue.Opcode.{Opcode}
 
--- A unit as it lies in memory: the opcode and the number of the table that it was started with, its state, and where the table is:
--- the points of a frozen one, or the area of a live one.
+-- A unit as it lies in memory: the number of the table that it was started with, its state, and where the table is: the
+-- points of a frozen one, or the area of a live one.
 pub record PlayerData : Type 0 where
-  pub opcode : Opcode
   pub table : ℤ
   pub state : Kind
   pub points : Option (List ℤ)
@@ -44,7 +42,6 @@ pub record CanRead (can : ℕ → Type 0) (count : ℕ) (p : PlayerData) : Type 
 
 -- what doesn't change of a player as it plays
 pub record SamePlayer (p q : PlayerData) : Type 0 where
-  pub opcode : q.opcode ≡ p.opcode
   pub table : q.table ≡ p.table
   pub points : q.points ≡ p.points
   pub area : q.area ≡ p.area

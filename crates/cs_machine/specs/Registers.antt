@@ -10,8 +10,8 @@ use Rattle.cs_ir.specs.declared.register.Reg.{Reg}
 use Rattle.cs_machine.specs.Rows.{row_wave, row_of}
 use Rattle.cs_signal.specs.Operands.{argument}
 
--- The numbers that are held at the rates of initialisation and control, a row for each register of sounds, how many there are of
--- each, and how many frames a cycle has.
+-- The numbers that are held at the rates of initialisation and control, a row for each register of sounds, how many
+-- there are of each, and how many frames a cycle has.
 pub record RegisterFile : Type 0 where
   pub i : List ℤ
   pub k : List ℤ

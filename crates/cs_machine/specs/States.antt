@@ -10,7 +10,7 @@ pub use Rattle.cs_typed.specs.TypedTree.{header_of_head as header_of}
 use Rattle.cs_gen.specs.Points.{len_of}
 use Rattle.cs_ugen.specs.Points.{is_len}
 use Rattle.cs_signal.specs.Operands.{argument}
-use Rattle.cs_ugen.specs.Units.{IsUnitOpcode, opcode_of}
+use Rattle.cs_ugen.specs.Units.{opcode_of}
 use Rattle.cs_ir.specs.Machine.{Machine, acts}
 use Rattle.cs_words.specs.Catalogue.{takes_table}
 use Rattle.cs_ir.specs.Resources.{Stock, act_uses, act_writes}
@@ -18,7 +18,8 @@ use Rattle.cs_ir.specs.declared.op.Act.{Act}
 use Rattle.cs_ir.specs.declared.register.Counts.{Counts}
 use Rattle.cs_ir.specs.declared.register.Reg.{Reg}
 use Rattle.cs_cells.specs.declared.footprint.Area.{Area}
-use Rattle.cs_meaning.specs.Plain.{Piece, Table, Cause, find_table}
+use Rattle.cs_meaning.specs.Model.{Cause}
+use Rattle.cs_meaning.specs.Pieces.{Piece, Table, find_table}
 use Rattle.cs_machine.specs.Registers.{values}
 use Rattle.cs_machine.specs.Outputs.{outs}
 use Rattle.cs_voice_meaning.specs.Placing.{area_of}
@@ -33,14 +34,14 @@ use Rattle.cs_machine.specs.declared.state.Setting.{Setting}
 abbrev pub unit_at : List (Option PlayerData) → ℕ → Option Playing
 unit_at players u = option_map playing (slice_index_or players u None)
 
--- The machine that a state stands for, over cells: with the place of the next op, what the note has asked for, and why it doesn't
--- start, none of which is in the state.
+-- The machine that a state stands for, over cells: with the place of the next op, what the note has asked for, and why
+-- it doesn't start, none of which is in the state.
 abbrev pub machine_of : State → (ℕ → ℤ) → ℕ → List (List ℤ) → Option Cause → Machine VoiceState
 machine_of s cells next asks cause = record {
   regs = values s.regs;
   next = next;
   world = record {
-    cells = cells;
+    shared = cells;
     units = unit_at s.players.items;
     delays = s.delays;
     outs = outs s.outs;
@@ -57,7 +58,8 @@ pub record IsSettingOf (at : Setting) (areas : List Area) (piece : Piece) : Type
   pub spaces : piece.spaces ≡ at.spaces
   pub fields : (k : ℕ) → piece.fields k ≡ argument at.fields.now (k - 1)
 
--- What a unit has kept of its table is what the piece has: the points of a frozen one, or else the area that notes may change.
+-- What a unit has kept of its table is what the piece has: the points of a frozen one, or else the area that notes may
+-- change.
 pub record IsOnTable (areas : List Area) (tables : List Table) (p : PlayerData) : Type 0 where
   pub table : Table
   pub found : find_table tables p.table ≡ Some table
@@ -68,15 +70,15 @@ pub record IsOnTable (areas : List Area) (tables : List Table) (p : PlayerData) 
   pub power : is_len (len_of table.size) ≡ true
   pub small : (area : Area) → p.area ≡ Some area → area.first + area.length ≤ 65536
 
--- A unit of an opcode: its state is one of that opcode, and its table is one of the piece, or none where the opcode takes none.
+-- A unit of an opcode: its state is one of that opcode, and its table is one of the piece, or none where the opcode
+-- takes none.
 pub record IsPlayerOf (areas : List Area) (piece : Piece) (kind : Opcode × Rate) (p : PlayerData) : Type 0 where
-  pub opcode : p.opcode ≡ kind.0
-  pub state : IsUnitOpcode kind.0 → opcode_of p.state ≡ kind.0
+  pub state : opcode_of p.state ≡ kind.0
   pub table : takes_table kind.0 ≡ true → IsOnTable areas piece.tables p
   pub none : takes_table kind.0 ≡ false → (p.points ≡ None) × (p.area ≡ None)
 
--- A state has as many registers, units and channels as its code and the piece need, of as many frames; and its units are of the
--- opcodes that the code runs.
+-- A state has as many registers, units and channels as its code and the piece need, of as many frames; and its units
+-- are of the opcodes that the code runs.
 pub record IsStateIn (areas : List Area) (piece : Piece) (kinds : Kinds) (counts : Counts) (s : State) : Type 0 where
   pub registers : s.regs.counts ≡ counts
   pub frames : s.regs.ksmps ≡ piece.head.ksmps
@@ -86,12 +88,14 @@ pub record IsStateIn (areas : List Area) (piece : Piece) (kinds : Kinds) (counts
   pub row : length s.row.items ≡ piece.head.ksmps
   pub players : (u : ℕ) (p : PlayerData) → slice_index_or s.players.items u None ≡ Some p → IsPlayerOf areas piece (kinds u) p
 
--- Of a state, what no call needs to know a piece for: the room for a row and the channels have the frames of the registers.
+-- Of a state, what no call needs to know a piece for: the room for a row and the channels have the frames of the
+-- registers.
 pub record HasRoom (s : State) : Type 0 where
   pub row : length s.row.items ≡ s.regs.ksmps
   pub channels : s.outs.ksmps ≡ s.regs.ksmps
 
--- A state and cells become what an act makes of them in the world of voices, and the state still is one of its code and piece.
+-- A state and cells become what an act makes of them in the world of voices, and the state still is one of its code and
+-- piece.
 pub record Does (areas : List Area) (piece : Piece) (kinds : Kinds) (counts : Counts) (act : Act) (into : Reg) (from : List Reg)
     (old : State) (before : ℕ → ℤ) (new : State) (after : ℕ → ℤ) : Type 0 where
   pub machine : (next : ℕ) (asks : List (List ℤ)) (cause : Option Cause) → machine_of new after next asks cause
@@ -112,7 +116,8 @@ DoesAt at act into from old new = (areas : List Area) (piece : Piece) (kinds : K
 abbrev pub MayTouch : (ℕ → Type 0) → ℕ → List Area → Res → Type 0
 MayTouch allowed count areas g = (area : Area) × (area_of areas g ≡ Some area) × CanTouch allowed count area
 
--- An act may be done over a bank: each resource that it may read has cells that may be read, and so with those that it may write.
+-- An act may be done over a bank: each resource that it may read has cells that may be read, and so with those that it
+-- may write.
 pub record CanDo (can_get can_set : ℕ → Type 0) (count : ℕ) (areas : List Area) (stock : Stock) (act : Act) : Type 0 where
   pub uses : AreNamed (MayTouch can_get count areas) (act_uses stock act)
   pub writes : AreNamed (MayTouch can_set count areas) (act_writes stock act)

@@ -5,7 +5,7 @@ ghost use Rattle.cs_machine.specs.Rows.{HasFrames, row_wave};
 ghost use Rattle.cs_base.specs.declared.resource.Rate.TheVariants as rate;
 ghost use Rattle.cs_cells.specs.Cells.{cell};
 ghost use Rattle.cs_ir.specs.Waves.{constant, silence};
-ghost use Rattle.cs_meaning.specs.Plain.{added};
+ghost use Rattle.cs_meaning.specs.Pieces.{added};
 ghost use Rattle.cs_signal.specs.Operands.{argument};
 ghost use Rattle.cs_voice_meaning.specs.Placing.{wave_in, with_wave};
 

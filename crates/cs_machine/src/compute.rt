@@ -91,7 +91,8 @@ impl Registers {
         requires x { has_register self.old.counts x ≡ true }
         requires y { has_register self.old.counts y ≡ true }
         requires row { length row.old.items ≡ self.old.ksmps }
-        ensures values { IsWritten self.old into (chosen (values self.old condition) (values self.old x) (values self.old y)) self.new }
+        ensures values { IsWritten self.old into (chosen (values self.old condition) (values self.old x)
+            (values self.old y)) self.new }
         ensures row { length row.new.items ≡ self.old.ksmps }
     {
         if holds(self.first(condition)) {

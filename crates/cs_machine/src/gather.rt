@@ -87,7 +87,8 @@ fn operands<'r>(regs: &'r Registers, from: &[Reg]) -> [Operand<'r>; MOST_INPUTS]
 #[inline(always)]
 fn operand_at<'r>(regs: &'r Registers, from: &[Reg], place: usize) -> Operand<'r>
     requires { list_all (has_register regs.now.counts) from.now ≡ true }
-    ensures stands { place < length from.now → StandsFor (values regs.now) result (slice_index_or from.now place no_register) }
+    ensures stands { place < length from.now → StandsFor (values regs.now) result
+        (slice_index_or from.now place no_register) }
     ensures lasts { Lasts regs.now.ksmps result }
 {
     match from.get(place) {

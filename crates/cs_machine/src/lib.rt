@@ -1,18 +1,19 @@
 //! The machine that runs codes: what a note keeps from cycle to cycle, and the cells that notes share.
 //!
-//! The one contract: a `State` over cells stands for a machine of the world of voices (`machine_of`, specs/States), and each
-//! act here makes of it the machine that the definition of the act makes (`Does`). Contracts see registers as a value over
-//! the cycle for each register (specs/Registers), the cells of a bank as one function by address (specs/Access), and a
-//! `Player` as a unit with the points of its table (specs/Players). What touches cells touches those of its areas alone.
+//! The one contract: a `State` over cells stands for a machine of the world of voices (`machine_of`, specs/States), and
+//! each act here makes of it the machine that the definition of the act makes (`Does`). Contracts see registers as a
+//! value over the cycle for each register (specs/Registers), the cells of a bank as one function by address
+//! (specs/Access), and a `Player` as a unit with the points of its table (specs/Players). What touches cells touches
+//! those of its areas alone.
 //!
-//! How registers, units and channels lie in memory, which loop fills a row, in which order cells are read and written, and
-//! how a table is read, may be changed without anyone above noticing.
+//! How registers, units and channels lie in memory, which loop fills a row, in which order cells are read and written,
+//! and how a table is read, may be changed without anyone above noticing.
 //!
-//! Modules in reading order: `rows` (loops over the frames of a cycle), `pairs` (an operator and two operands over them),
-//! `registers`, `compute` (operators and functions over registers), `outputs` (the channels); `places` (areas and numbers),
-//! `area_rows` (an area at once), `zak`, `table` (stores), `live` (reading); `player` (a unit and its table), `gather` (a player
-//! on registers); `state` (what a note keeps, and what it plays in), `values` (numbers, p-fields, the header), `operate`
-//! (operators and functions), `output` (channels, a note's end).
+//! Modules in reading order: `rows` (loops over the frames of a cycle), `pairs` (an operator and two operands over
+//! them), `registers`, `compute` (operators and functions over registers), `outputs` (the channels); `places` (areas
+//! and numbers), `area_rows` (an area at once), `zak`, `table` (stores), `live` (reading); `player` (a unit and its
+//! table), `gather` (a player on registers); `state` (what a note keeps, and what it plays in), `values` (numbers,
+//! p-fields, the header), `operate` (operators and functions), `output` (channels, a note's end).
 #![tactic(auto)]
 
 mod area_rows;

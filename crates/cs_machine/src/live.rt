@@ -12,7 +12,8 @@ use cs_ugen::Curve;
 use std::marker::Model;
 
 /// A live table as a curve over the cells of a bank: its points as they stand, and the guard point, which is the last
-/// of a size that is one more than a power of two, else the first. Contracts see the bank, the loan's name and the area.
+/// of a size that is one more than a power of two, else the first. Contracts see the bank, the loan's name and the
+/// area.
 #[derive(Drop)]
 pub(crate) struct LiveTable<'b, B: Bank> {
     bank: &'b mut B,
@@ -29,7 +30,8 @@ impl<'b, B: Bank> Model for LiveTable<'b, B> {
 
     ghost view = { λ t. record { name = t.bank.ghost_name; bank = t.bank.now; area = t.area } };
 
-    ghost invariant = { λ t. IsLive (B.can_get (B.rest t.bank.now)) (length (B.cells t.bank.now)) t.area t.len t.guard };
+    ghost invariant = { λ t. IsLive (B.can_get (B.rest t.bank.now)) (length (B.cells t.bank.now)) t.area t.len
+        t.guard };
 }
 
 impl<'b, B: Bank> LiveTable<'b, B> {

@@ -4,7 +4,7 @@ ghost use Rattle.cs_base.specs.Rates.{is_audio};
 ghost use Rattle.cs_ir.specs.Validity.{has_register};
 ghost use Rattle.cs_ir.specs.declared.op.Act.TheVariants as act;
 ghost use Rattle.cs_ir.specs.declared.register.Reg.{Reg};
-ghost use Rattle.cs_meaning.specs.Plain.{index};
+ghost use Rattle.cs_meaning.specs.Pieces.{index};
 ghost use Rattle.cs_machine.specs.States.{DoesAnywhere, HasRoom};
 ghost use Rattle.cs_machine.specs.inner.Channels.{channel_below};
 
@@ -25,8 +25,8 @@ impl State<'_> {
         self.outs.give(channel, self.regs.row(x.index));
     }
 
-    /// Adds a register of sound to the channel that another one names, counted from 1; where there is no such channel it
-    /// adds it to none: the act `OutAt`.
+    /// Adds a register of sound to the channel that another one names, counted from 1; where there is no such channel
+    /// it adds it to none: the act `OutAt`.
     pub fn send_at(&mut self, number: Reg, x: Reg)
         requires number { has_register self.old.regs.counts number ≡ true }
         requires x { has_register self.old.regs.counts x ≡ true }

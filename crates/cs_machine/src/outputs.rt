@@ -1,17 +1,14 @@
 // Output channels: what a note gives to each of them in a cycle.
-ghost use Rattle.std.specs.Prelude.{◌≡◌, ◌<◌, ℕ, [], true, length, replicate, pos, slice_index_or, IfOk, IfSome, IfNone};
+ghost use Rattle.std.specs.Prelude.{◌≡◌, ◌<◌, ℕ, [], length, replicate, pos, slice_index_or, IfOk, IfSome, IfNone};
 ghost use Rattle.cs_base.specs.Numbers.{sum_of};
 ghost use Rattle.cs_ir.specs.Waves.{both, silence};
 ghost use Rattle.cs_machine.specs.Outputs.{IsGiven, outs, refilled};
 ghost use Rattle.cs_machine.specs.Rows.{HasFrames, row_wave};
 ghost use Rattle.cs_machine.specs.inner.Kept.{AreRows};
-ghost use Rattle.cs_machine.specs.inner.Narrow.{AreNarrow};
 ghost use Rattle.cs_words.specs.declared.sign.BinOp.TheVariants as op;
 
-use crate::pairs::{are_narrow_sums, made};
 use crate::registers::zeros;
 use cs_base::{Num, OutOfMemory};
-use cs_words::BinOp;
 use std::alloc::Global;
 use std::marker::Model;
 
@@ -186,23 +183,7 @@ fn add_row(row: &[Num], channel: &mut [Num])
     ensures frames { HasFrames (both op.Add (row_wave channel.old) (row_wave row.now)) channel.new }
     ensures long { length channel.new ≡ length channel.old }
 {
-    let narrow = are_narrow_sums(channel, row);
-    if narrow {
-        add_each(true, row, channel);
-    } else {
-        add_each(false, row, channel);
-    }
-}
-
-/// A loop over the frames. `narrow` says that each sum is in range as it is.
-#[inline(always)]
-fn add_each(narrow: bool, row: &[Num], channel: &mut [Num])
-    requires long { length row.now ≡ length channel.old }
-    requires narrow { narrow ≡ true → AreNarrow op.Add (length channel.old) (row_wave channel.old) (row_wave row.now) }
-    ensures frames { HasFrames (both op.Add (row_wave channel.old) (row_wave row.now)) channel.new }
-    ensures long { length channel.new ≡ length channel.old }
-{
     for j in 0..channel.len() {
-        channel[j] = made(BinOp::Add, narrow, channel[j], row[j]);
+        channel[j] = channel[j].add(row[j]);
     }
 }

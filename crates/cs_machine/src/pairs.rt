@@ -1,13 +1,14 @@
 // What an operator makes of two operands over the frames of a control cycle.
 //
-// Sums, differences and products are looked at before they are made: one pass over the rows, which is vector code, tells whether
-// all of them are in range as they are. Then the loop that makes them brings nothing into range.
+// Products are looked at before they are made: by the size of a held factor, or by one pass over the rows, which is
+// vector code. Where all of them fit into 64 bits, the loop that makes them is one of 64 bits and brings nothing into
+// range.
 ghost use Rattle.std.specs.Prelude.{◌≡◌, ◌<◌, ℕ, length, true, unsigned_abs};
-ghost use Rattle.cs_base.specs.Numbers.{floor_div, one};
-ghost use Rattle.cs_ir.specs.Values.{combined, negated};
+ghost use Rattle.cs_base.specs.Numbers.{floor_div, one, product_of};
+ghost use Rattle.cs_ir.specs.Values.{negated};
 ghost use Rattle.cs_ir.specs.Waves.{both};
-ghost use Rattle.cs_machine.specs.Rows.{HasFrames, row_wave};
-ghost use Rattle.cs_machine.specs.inner.Narrow.{AreNarrow, IsNarrow, bound_of, size_of};
+ghost use Rattle.cs_machine.specs.Rows.{HasFrames};
+ghost use Rattle.cs_machine.specs.inner.Narrow.{AreNarrow, IsNarrow, size_of};
 ghost use Rattle.cs_signal.specs.Operands.{Lasts, operand_at};
 ghost use Rattle.cs_words.specs.declared.sign.BinOp.TheVariants as op;
 
@@ -17,10 +18,7 @@ use cs_ir::combine;
 use cs_signal::Operand;
 use cs_words::BinOp;
 
-/// Sums and differences of a smaller size are in range.
-const SUM_BOUND: u64 = 140_737_488_355_328;
-
-/// Products of numbers of a smaller size are in range.
+/// Products of numbers of a smaller size fit into 64 bits.
 const FACTOR_BOUND: u64 = 2_147_483_648;
 
 /// One of the two operands of a loop: a number that is held, or one a frame.
@@ -128,147 +126,62 @@ fn by_operator<X: Side, Y: Side>(operator: BinOp, x: &X, y: &Y, out: &mut [Num])
     ensures long { length out.new ≡ length out.old }
 {
     match operator {
-        BinOp::Add => by_size(BinOp::Add, x, y, out),
-        BinOp::Sub => by_size(BinOp::Sub, x, y, out),
-        BinOp::Mul => by_size(BinOp::Mul, x, y, out),
-        BinOp::Div => each(BinOp::Div, false, x, y, out),
-        _ => each(operator, false, x, y, out),
+        BinOp::Add => each(BinOp::Add, x, y, out),
+        BinOp::Sub => each(BinOp::Sub, x, y, out),
+        BinOp::Mul => multiply(x, y, out),
+        BinOp::Div => each(BinOp::Div, x, y, out),
+        _ => each(operator, x, y, out),
     }
 }
 
 #[inline(always)]
-fn by_size<X: Side, Y: Side>(operator: BinOp, x: &X, y: &Y, out: &mut [Num])
+fn each<X: Side, Y: Side>(operator: BinOp, x: &X, y: &Y, out: &mut [Num])
     requires x { X.lasts x.now (length out.old) }
     requires y { Y.lasts y.now (length out.old) }
-    ensures frames { HasFrames (both operator (X.wave x.now) (Y.wave y.now)) out.new }
-    ensures long { length out.new ≡ length out.old }
-{
-    if are_narrow(operator, x, y, out.len()) {
-        each(operator, true, x, y, out);
-    } else {
-        each(operator, false, x, y, out);
-    }
-}
-
-/// Whether what an operator makes of two operands is in range at each of so many frames; it may be so even where this is false.
-#[inline(always)]
-fn are_narrow<X: Side, Y: Side>(operator: BinOp, x: &X, y: &Y, count: usize) -> bool
-    requires x { X.lasts x.now count }
-    requires y { Y.lasts y.now count }
-    ensures { result ≡ true → AreNarrow operator count (X.wave x.now) (Y.wave y.now) }
-{
-    is_by_gain(operator, x, y) || are_small(operator, x, y, count)
-}
-
-/// Whether a product has a factor that makes no number larger.
-#[inline(always)]
-fn is_by_gain<X: Side, Y: Side>(operator: BinOp, x: &X, y: &Y) -> bool
-    ensures { result ≡ true → (count : ℕ) → AreNarrow operator count (X.wave x.now) (Y.wave y.now) }
-{
-    match operator {
-        BinOp::Mul => x.is_gain() || y.is_gain(),
-        _ => false,
-    }
-}
-
-/// Whether the sizes of two operands tell it, by a look at each frame.
-#[inline(always)]
-fn are_small<X: Side, Y: Side>(operator: BinOp, x: &X, y: &Y, count: usize) -> bool
-    requires x { X.lasts x.now count }
-    requires y { Y.lasts y.now count }
-    ensures { result ≡ true → AreNarrow operator count (X.wave x.now) (Y.wave y.now) }
-{
-    let mut sizes: u64 = 0;
-    for j in 0..count {
-        sizes |= size(operator, x.at(j), y.at(j));
-    }
-    sizes < bound(operator)
-}
-
-/// Whether each sum of two rows is in range; it may be so even where this is false.
-pub(crate) fn are_narrow_sums(xs: &[Num], ys: &[Num]) -> bool
-    requires { length xs.now ≡ length ys.now }
-    ensures { result ≡ true → AreNarrow op.Add (length xs.now) (row_wave xs.now) (row_wave ys.now) }
-{
-    are_narrow(
-        BinOp::Add,
-        &Row { values: xs },
-        &Row { values: ys },
-        xs.len(),
-    )
-}
-
-/// How large what an operator makes of two numbers is, by a number that is below `bound` only where that is in range.
-#[inline(always)]
-fn size(operator: BinOp, x: Num, y: Num) -> u64
-    ensures { result ≡ size_of operator x y }
-{
-    match operator {
-        BinOp::Add => (x.raw() + y.raw()).unsigned_abs(),
-        BinOp::Sub => (x.raw() - y.raw()).unsigned_abs(),
-        _ => x.raw().unsigned_abs() | y.raw().unsigned_abs(),
-    }
-}
-
-#[inline(always)]
-fn bound(operator: BinOp) -> u64
-    ensures { result ≡ bound_of operator }
-{
-    match operator {
-        BinOp::Mul => FACTOR_BOUND,
-        _ => SUM_BOUND,
-    }
-}
-
-/// A loop over the frames. `narrow` says that what the operator makes of two operands is in range as it is.
-#[inline(always)]
-fn each<X: Side, Y: Side>(operator: BinOp, narrow: bool, x: &X, y: &Y, out: &mut [Num])
-    requires x { X.lasts x.now (length out.old) }
-    requires y { Y.lasts y.now (length out.old) }
-    requires narrow { narrow ≡ true → AreNarrow operator (length out.old) (X.wave x.now) (Y.wave y.now) }
     ensures frames { HasFrames (both operator (X.wave x.now) (Y.wave y.now)) out.new }
     ensures long { length out.new ≡ length out.old }
 {
     for j in 0..out.len() {
-        out[j] = made(operator, narrow, x.at(j), y.at(j));
+        out[j] = combine(operator, x.at(j), y.at(j));
     }
 }
 
+/// The product of two operands.
 #[inline(always)]
-pub(crate) fn made(operator: BinOp, narrow: bool, x: Num, y: Num) -> Num
-    requires { narrow ≡ true → IsNarrow operator x y }
-    ensures { result ≡ combined operator x y }
+fn multiply<X: Side, Y: Side>(x: &X, y: &Y, out: &mut [Num])
+    requires x { X.lasts x.now (length out.old) }
+    requires y { Y.lasts y.now (length out.old) }
+    ensures frames { HasFrames (both op.Mul (X.wave x.now) (Y.wave y.now)) out.new }
+    ensures long { length out.new ≡ length out.old }
 {
-    if narrow {
-        exactly(operator, x, y)
+    if are_narrow(x, y, out.len()) {
+        each_product(x, y, out);
     } else {
-        by_range(operator, x, y)
+        each(BinOp::Mul, x, y, out);
     }
 }
 
+/// Products that fit into 64 bits.
 #[inline(always)]
-fn by_range(operator: BinOp, x: Num, y: Num) -> Num
-    ensures { result ≡ combined operator x y }
+fn each_product<X: Side, Y: Side>(x: &X, y: &Y, out: &mut [Num])
+    requires x { X.lasts x.now (length out.old) }
+    requires y { Y.lasts y.now (length out.old) }
+    requires narrow { AreNarrow (length out.old) (X.wave x.now) (Y.wave y.now) }
+    ensures frames { HasFrames (both op.Mul (X.wave x.now) (Y.wave y.now)) out.new }
+    ensures long { length out.new ≡ length out.old }
 {
-    match operator {
-        BinOp::Add => x.add(y),
-        BinOp::Sub => x.sub(y),
-        BinOp::Mul => x.mul(y),
-        _ => combine(operator, x, y),
+    for j in 0..out.len() {
+        out[j] = product(x.at(j), y.at(j));
     }
 }
 
+/// A product that fits into 64 bits.
 #[inline(always)]
-fn exactly(operator: BinOp, x: Num, y: Num) -> Num
-    requires { IsNarrow operator x y }
-    ensures { result ≡ combined operator x y }
+fn product(x: Num, y: Num) -> Num
+    requires { IsNarrow x y }
+    ensures { result ≡ product_of x y }
 {
-    match operator {
-        BinOp::Add => Num::exact(x.raw() + y.raw()),
-        BinOp::Sub => Num::exact(x.raw() - y.raw()),
-        BinOp::Mul => scaled(x.raw() * y.raw()),
-        _ => combine(operator, x, y),
-    }
+    scaled(x.raw() * y.raw())
 }
 
 /// A product in 65,536ths, rounded down.
@@ -277,4 +190,45 @@ fn scaled(product: i64) -> Num
     ensures { result ≡ floor_div product one }
 {
     Num::exact(product >> 16)
+}
+
+/// Whether the product of two operands fits into 64 bits at each of so many frames; it may be so even where this is
+/// false.
+#[inline(always)]
+fn are_narrow<X: Side, Y: Side>(x: &X, y: &Y, count: usize) -> bool
+    requires x { X.lasts x.now count }
+    requires y { Y.lasts y.now count }
+    ensures { result ≡ true → AreNarrow count (X.wave x.now) (Y.wave y.now) }
+{
+    is_by_gain(x, y) || are_small(x, y, count)
+}
+
+/// Whether a factor makes no number larger.
+#[inline(always)]
+fn is_by_gain<X: Side, Y: Side>(x: &X, y: &Y) -> bool
+    ensures { result ≡ true → (count : ℕ) → AreNarrow count (X.wave x.now) (Y.wave y.now) }
+{
+    x.is_gain() || y.is_gain()
+}
+
+/// Whether the sizes of two operands tell it, by a look at each frame.
+#[inline(always)]
+fn are_small<X: Side, Y: Side>(x: &X, y: &Y, count: usize) -> bool
+    requires x { X.lasts x.now count }
+    requires y { Y.lasts y.now count }
+    ensures { result ≡ true → AreNarrow count (X.wave x.now) (Y.wave y.now) }
+{
+    let mut sizes: u64 = 0;
+    for j in 0..count {
+        sizes |= size(x.at(j), y.at(j));
+    }
+    sizes < FACTOR_BOUND
+}
+
+/// A number that neither factor is larger than.
+#[inline(always)]
+fn size(x: Num, y: Num) -> u64
+    ensures { result ≡ size_of x y }
+{
+    x.raw().unsigned_abs() | y.raw().unsigned_abs()
 }

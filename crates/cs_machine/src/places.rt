@@ -1,6 +1,6 @@
 // Where a resource has its cells, and what numbers name.
 ghost use Rattle.std.specs.Prelude.{◌≡◌, ◌+◌, ◌<◌, ◌≤◌, length, slice_get, IfSome, Some};
-ghost use Rattle.cs_meaning.specs.Plain.{index};
+ghost use Rattle.cs_meaning.specs.Pieces.{index};
 ghost use Rattle.cs_voice_meaning.specs.Placing.{area_of};
 
 use cs_base::{Num, Res};

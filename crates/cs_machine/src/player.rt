@@ -16,7 +16,6 @@ use cs_cells::{Area, Bank};
 use cs_ir::Reach;
 use cs_signal::Operand;
 use cs_ugen::{Frozen, FrozenTable, Unit};
-use cs_words::Opcode;
 use std::marker::Model;
 
 /// Where the table of a unit is.
@@ -27,10 +26,9 @@ enum Reads<'t> {
     Live(Area),
 }
 
-/// A unit, or a store into a table, as a note keeps it.
+/// A unit as a note keeps it.
 #[derive(Drop)]
 pub struct Player<'t> {
-    opcode: Opcode,
     table: i64,
     unit: Unit,
     reads: Reads<'t>,
@@ -43,7 +41,6 @@ impl<'t> Model for Player<'t> {
     ghost Value = { PlayerData };
 
     ghost view = { λ p. record {
-      opcode = p.opcode;
       table = p.table;
       state = p.unit;
       points = points_in p.reads;
@@ -52,37 +49,34 @@ impl<'t> Model for Player<'t> {
 }
 
 impl<'t> Player<'t> {
-    /// A player of an opcode without a table. `table` is the number of none that there is.
-    pub fn new(opcode: Opcode, table: i64, unit: Unit) -> Player<'t>
-        ensures { result ≡ record { opcode = opcode; table = table; state = unit; points = None; area = None } }
+    /// A player of a unit without a table. `table` is the number of none that there is.
+    pub fn new(table: i64, unit: Unit) -> Player<'t>
+        ensures { result ≡ record { table = table; state = unit; points = None; area = None } }
     {
         Player {
-            opcode,
             table,
             unit,
             reads: Reads::Nothing,
         }
     }
 
-    /// A player of an opcode on a frozen table: the table's number, and its points.
-    pub fn on_frozen(opcode: Opcode, table: i64, unit: Unit, points: FrozenTable<'t>) -> Player<'t>
+    /// A player of a unit on a frozen table: the table's number, and its points.
+    pub fn on_frozen(table: i64, unit: Unit, points: FrozenTable<'t>) -> Player<'t>
         requires { is_len (len_of (length points.points.now)) ≡ true }
-        ensures { result ≡ record { opcode = opcode; table = table; state = unit; points = Some points.entry.points.now; area = None } }
+        ensures { result ≡ record { table = table; state = unit; points = Some points.entry.points.now; area = None } }
     {
         Player {
-            opcode,
             table,
             unit,
             reads: Reads::Frozen(Frozen::of(points)),
         }
     }
 
-    /// A player of an opcode on a live table: the table's number, and its area.
-    pub fn on_live(opcode: Opcode, table: i64, unit: Unit, area: Area) -> Player<'t>
-        ensures { result ≡ record { opcode = opcode; table = table; state = unit; points = None; area = Some area } }
+    /// A player of a unit on a live table: the table's number, and its area.
+    pub fn on_live(table: i64, unit: Unit, area: Area) -> Player<'t>
+        ensures { result ≡ record { table = table; state = unit; points = None; area = Some area } }
     {
         Player {
-            opcode,
             table,
             unit,
             reads: Reads::Live(area),
@@ -97,16 +91,6 @@ impl<'t> Player<'t> {
         match &self.reads {
             Reads::Nothing => true,
             _ => reach.contains(self.table.unsigned_abs() as usize),
-        }
-    }
-
-    /// The area of its table, where that is live.
-    pub fn live(&self) -> Option<Area>
-        ensures { result ≡ self.now.area }
-    {
-        match &self.reads {
-            Reads::Live(area) => Some(*area),
-            _ => None,
         }
     }
 

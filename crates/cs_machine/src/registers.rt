@@ -2,7 +2,6 @@
 ghost use Rattle.std.specs.Prelude.{◌≡◌, ◌<◌, ℕ, length, map, replicate, pos, IfOk, false, true};
 ghost use Rattle.cs_base.specs.Rates.{is_audio};
 ghost use Rattle.cs_base.specs.declared.resource.Rate.TheVariants as rate;
-ghost use Rattle.cs_ir.specs.Machine.{put};
 ghost use Rattle.cs_ir.specs.Validity.{has_register};
 ghost use Rattle.cs_ir.specs.Waves.{constant, silence};
 ghost use Rattle.cs_machine.specs.Registers.{IsWritten, filled, reg, values};

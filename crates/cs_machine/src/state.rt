@@ -2,7 +2,7 @@
 ghost use Rattle.std.specs.Prelude.{◌≡◌, ℕ, ℤ, List, [], None, replicate, IfOk};
 ghost use Rattle.cs_cells.specs.declared.footprint.Area.{Area};
 ghost use Rattle.cs_ir.specs.Machine.{new_machine};
-ghost use Rattle.cs_meaning.specs.Plain.{Piece};
+ghost use Rattle.cs_meaning.specs.Pieces.{Piece};
 ghost use Rattle.cs_voice_meaning.specs.Follows.{Kinds};
 ghost use Rattle.cs_voice_meaning.specs.VoiceWorld.{fresh_voice};
 ghost use Rattle.cs_machine.specs.States.{IsStateIn, machine_of};
@@ -43,15 +43,17 @@ pub struct Setting<'s> {
 }
 
 impl<'p> State<'p> {
-    /// A note that hasn't begun: its registers and channels are silent, no unit was started. All memory that its registers,
-    /// channels and list of units need is taken now. `channels` are those of the piece, of `ksmps` frames each.
+    /// A note that hasn't begun: its registers and channels are silent, no unit was started. All memory that its
+    /// registers, channels and list of units need is taken now. `channels` are those of the piece, of `ksmps` frames
+    /// each.
     pub fn new(
         alloc: Global,
         counts: Counts,
         ksmps: usize,
         channels: usize,
     ) -> Result<State<'p>, OutOfMemory>
-        ensures machine { IfOk result (λ s. (cells : ℕ → ℤ) → machine_of s cells 0 [] None ≡ new_machine (fresh_voice cells)) }
+        ensures machine { IfOk result (λ s. (cells : ℕ → ℤ) → machine_of s cells 0 [] None ≡ new_machine
+            (fresh_voice cells)) }
         ensures state { IfOk result (λ s. (areas : List Area) (piece : Piece) (kinds : Kinds) → piece.head.ksmps ≡ ksmps
             → piece.head.nchnls ≡ channels → IsStateIn areas piece kinds counts s) }
     {

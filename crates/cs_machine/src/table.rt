@@ -4,7 +4,7 @@ ghost use Rattle.cs_machine.specs.Access.{CanTouch};
 ghost use Rattle.cs_base.specs.declared.resource.Rate.TheVariants as rate;
 ghost use Rattle.cs_cells.specs.Cells.{cell};
 ghost use Rattle.cs_gen.specs.Points.{len_of};
-ghost use Rattle.cs_meaning.specs.Plain.{Table, places_of_indices, stored};
+ghost use Rattle.cs_meaning.specs.Pieces.{Table, places_of_indices, stored};
 ghost use Rattle.cs_ugen.specs.Points.{is_len};
 ghost use Rattle.cs_signal.specs.Operands.{operand_at};
 ghost use Rattle.cs_voice_meaning.specs.Placing.{wave_in, with_wave};

@@ -2,7 +2,7 @@
 ghost use Rattle.std.specs.Prelude.{◌≡◌, ◌≤◌, ◌*◌, ◌-◌, [], pos, true};
 ghost use Rattle.cs_ir.specs.Validity.{has_register};
 ghost use Rattle.cs_ir.specs.declared.op.Act.TheVariants as act;
-ghost use Rattle.cs_meaning.specs.Plain.{head_value};
+ghost use Rattle.cs_meaning.specs.Pieces.{head_value};
 ghost use Rattle.cs_signal.specs.Operands.{argument};
 ghost use Rattle.cs_typed.specs.TypedTree.{header_of_head};
 ghost use Rattle.cs_machine.specs.States.{DoesAnywhere, DoesAt, HasRoom};

@@ -5,7 +5,7 @@ ghost use Rattle.cs_machine.specs.inner.Numbers.{clears, lies_between};
 ghost use Rattle.cs_cells.specs.Cells.{cell};
 ghost use Rattle.cs_cells.specs.declared.footprint.Area.{Area};
 ghost use Rattle.cs_ir.specs.Resources.{reaches, zak_place};
-ghost use Rattle.cs_meaning.specs.Plain.{Piece, is_cleared};
+ghost use Rattle.cs_meaning.specs.Pieces.{Piece, is_cleared};
 ghost use Rattle.cs_voice_meaning.specs.Placing.{area_of};
 ghost use Rattle.cs_voice_meaning.specs.VoiceWorld.{lies_cleared};
 

@@ -12,7 +12,7 @@ use Rattle.cs_machine.specs.Access.{AreSpaces, spaces_of}
 use Rattle.cs_cells.specs.Areas.{word_count}
 use Rattle.cs_cells.specs.declared.footprint.Footprint.{Footprint}
 use Rattle.cs_cells.specs.declared.footprint.Area.{Area}
-use Rattle.cs_meaning.specs.Plain.{Piece}
+use Rattle.cs_meaning.specs.Pieces.{Piece}
 use Rattle.cs_machine.specs.Players.{PlayerData, playing}
 use Rattle.cs_machine.specs.Registers.{values}
 use Rattle.cs_machine.specs.Outputs.{outs}
@@ -27,7 +27,6 @@ use Rattle.cs_voice.specs.Memory.{MakeVoice, table_of, voice_in}
 use Rattle.cs_voice.specs.VoiceData.{IsOn, made, sounding_on}
 use Rattle.cs_voice.specs.declared.stage.Stage.{Stage}
 use Rattle.cs_voice.specs.declared.stage.TableAt.{TableAt}
-use Rattle.cs_voice.proofs.Made.{is_on}
 use Rattle.cs_voice.specs.Passing.{CanPass, IsStateOf, Passes}
 use Rattle.cs_voice.specs.Starting.{cause_of}
 use Rattle.cs_voice.specs.Starts.{IsLive, IsStarted, piece_at, sheet_at, started_as}
@@ -67,8 +66,8 @@ module _ (s : Sheet) (first now : State) (before after : ℕ → ℤ) (asked giv
   began : initialised s before ≡ machine_of now after passes.next passes.more (option_map cause_of refused)
   began = ap (run (voice_world s.areas s.piece) 0 s.init) (sym (fresh before)) ∙ passes.machine
 
-  pub cells_left : after ≡ (initialised s before).world.cells
-  cells_left = sym (ap (λ m. m.world.cells) began)
+  pub cells_left : after ≡ (initialised s before).world.shared
+  cells_left = sym (ap (λ m. m.world.shared) began)
 
   pub asks_left : given ≡ asked ++ map ask_of (initialised s before).world.asks
   asks_left = passes.asks ∙ ap (λ more. asked ++ map ask_of more) (sym (ap (λ m. m.world.asks) began))
@@ -133,7 +132,7 @@ pub on_sheet : (instrument : Numbered) (number age : ℕ) (foot : Footprint) (st
     → IsOn (sheet_at instrument age foot stage ms fields) (voice_in number age stage foot perf fields state)
 unfolding made_voice
 on_sheet instrument number age foot stage ms fields perf counts state playable numbered same long places zak fine counted of =
-    is_on number age stage foot perf fields state (made_voice instrument number age foot stage ms fields perf counts state playable numbered same long places zak fine counted of)
+    (made_voice instrument number age foot stage ms fields perf counts state playable numbered same long places zak fine counted of).parts
 
 -- the code that begins a sheet's notes can be done over a bank of all cells
 pub can_pass : (get set : ℕ → Type 0) (count : ℕ) (finds : Finds) (instrument : Numbered) (age : ℕ) (foot : Footprint) (stage : Stage) (ms : List Bool) (fields : List ℤ) (init : Code) (state : State)

@@ -4,7 +4,7 @@ use Rattle.std.specs.List.{AllByRecursion}
 use Rattle.cs_base.specs.declared.resource.Rate.{Rate}
 use Rattle.cs_base.specs.declared.resource.Res.{Res}
 use Rattle.cs_words.specs.Catalogue.{row_of}
-use Rattle.cs_ir.specs.Resources.{Stock, act_writes, is_store, unit_uses}
+use Rattle.cs_ir.specs.Resources.{Stock, act_writes, tables_within, unit_uses, writes_places, zak_uses}
 use Rattle.cs_ir.specs.declared.op.Act.{Act}
 use Rattle.cs_ir.specs.declared.op.Act.TheVariants as act
 use Rattle.cs_ir.specs.declared.op.Op.{Op}
@@ -39,33 +39,21 @@ module _ (s : Sheet) (can_get can_set : ℕ → Type 0) (count : ℕ) (get : (a 
   each_set [] h w = tt
   each_set (g ∷ gs) h w = (may_set g h.0 w.0, each_set gs h.1 w.1)
 
-  unit_set : (b : Bool) (gs : List Res) → AreNamed (IsUsed s) gs → AreNamed (IsWritten s) (if b then gs else []) → AreNamed (MayTouch can_set count s.areas) (if b then gs else [])
-  unit_set true gs h w = each_set gs h w
-  unit_set false gs h w = tt
+  if_set : (b : Bool) (gs : List Res) → AreNamed (IsUsed s) gs → AreNamed (IsWritten s) (if b then gs else []) → AreNamed (MayTouch can_set count s.areas) (if b then gs else [])
+  if_set true gs h w = each_set gs h w
+  if_set false gs h w = tt
 
   can_do : (stock : Stock) (kinds : Kinds) (t : Act) (r : Rate) → ActNamed stock kinds (IsUsed s) t r → AreNamed (IsWritten s) (act_writes stock t)
       → CanDo can_get can_set count s.areas stock t
-  can_do stock kinds (act.Const z) r h w = record { uses = tt; writes = tt }
-  can_do stock kinds (act.Field k) r h w = record { uses = tt; writes = tt }
-  can_do stock kinds (act.Head k) r h w = record { uses = tt; writes = tt }
-  can_do stock kinds act.Copy r h w = record { uses = tt; writes = tt }
-  can_do stock kinds act.Neg r h w = record { uses = tt; writes = tt }
-  can_do stock kinds (act.Pair b) r h w = record { uses = tt; writes = tt }
-  can_do stock kinds act.Pick r h w = record { uses = tt; writes = tt }
-  can_do stock kinds (act.Call f) r h w = record { uses = tt; writes = tt }
   can_do stock kinds (act.Load g) r h w = record { uses = (may_get g h, tt); writes = tt }
   can_do stock kinds (act.Save g) r h w = record { uses = (may_get g h.0, tt); writes = (may_set g h.0 w.0, tt) }
-  can_do stock kinds (act.Start opcode u) r h w = record { uses = tt; writes = tt }
-  can_do stock kinds (act.Unit opcode u reach) r h w = record {
-    uses = each_get (unit_uses stock opcode reach) h.1;
-    writes = unit_set (is_store (row_of opcode).shape) (unit_uses stock opcode reach) h.1 w;
+  can_do stock kinds (act.Unit opcode u reach) r h w = record { uses = each_get (unit_uses stock opcode reach) h.1; writes = tt }
+  can_do stock kinds (act.Store opcode reach) r h w = record { uses = each_get (tables_within stock reach) h; writes = each_set (tables_within stock reach) h w }
+  can_do stock kinds (act.Zak opcode reach) r h w = record {
+    uses = each_get (zak_uses stock opcode reach) h;
+    writes = if_set (writes_places (row_of opcode).shape) (zak_uses stock opcode reach) h w;
   }
-  can_do stock kinds (act.Jump to) r h w = record { uses = tt; writes = tt }
-  can_do stock kinds (act.Unless to) r h w = record { uses = tt; writes = tt }
-  can_do stock kinds (act.Out n) r h w = record { uses = tt; writes = tt }
-  can_do stock kinds act.OutAt r h w = record { uses = tt; writes = tt }
-  can_do stock kinds act.Turnoff r h w = record { uses = tt; writes = tt }
-  can_do stock kinds act.Ask r h w = record { uses = tt; writes = tt }
+  can_do stock kinds _ r h w = record { uses = tt; writes = tt }
 
   pub can_all : (stock : Stock) (kinds : Kinds) (ops : List Op) → OpsNamed stock kinds (IsUsed s) ops → OpsWritten stock (IsWritten s) ops
       → AllByRecursion (λ (op : Op). CanDo can_get can_set count s.areas stock op.act) ops
@@ -82,24 +70,13 @@ module _ (s : Sheet) where
   each_area (g ∷ gs) h = (has_area g h.0, each_area gs h.1)
 
   act_area : (stock : Stock) (kinds : Kinds) (t : Act) (r : Rate) → ActNamed stock kinds (IsUsed s) t r → ActNamed stock kinds (HasArea s.areas) t r
-  act_area stock kinds (act.Const z) r h = tt
-  act_area stock kinds (act.Field k) r h = tt
-  act_area stock kinds (act.Head k) r h = tt
-  act_area stock kinds act.Copy r h = tt
-  act_area stock kinds act.Neg r h = tt
-  act_area stock kinds (act.Pair b) r h = tt
-  act_area stock kinds act.Pick r h = tt
-  act_area stock kinds (act.Call f) r h = tt
   act_area stock kinds (act.Load g) r h = has_area g h
   act_area stock kinds (act.Save g) r h = (has_area g h.0, h.1)
   act_area stock kinds (act.Start opcode u) r h = h
   act_area stock kinds (act.Unit opcode u reach) r h = (h.0, each_area (unit_uses stock opcode reach) h.1)
-  act_area stock kinds (act.Jump to) r h = tt
-  act_area stock kinds (act.Unless to) r h = tt
-  act_area stock kinds (act.Out n) r h = tt
-  act_area stock kinds act.OutAt r h = tt
-  act_area stock kinds act.Turnoff r h = tt
-  act_area stock kinds act.Ask r h = tt
+  act_area stock kinds (act.Store opcode reach) r h = each_area (tables_within stock reach) h
+  act_area stock kinds (act.Zak opcode reach) r h = each_area (zak_uses stock opcode reach) h
+  act_area stock kinds _ r h = tt
 
   pub all_areas : (stock : Stock) (kinds : Kinds) (ops : List Op) → OpsNamed stock kinds (IsUsed s) ops → OpsNamed stock kinds (HasArea s.areas) ops
   all_areas stock kinds [] h = tt

@@ -126,7 +126,7 @@ module _ (number age : ℕ) (stage : Stage) (foot : Footprint) (code : Code) (fi
       regs = values s.regs;
       next = 0;
       world = record {
-        cells = cell c;
+        shared = cell c;
         units = units_are s.players.items i;
         delays = s.delays;
         outs = sym silent i;
@@ -164,7 +164,7 @@ module _ (number age : ℕ) (stage : Stage) (foot : Footprint) (code : Code) (fi
     pub cells : length d ≡ length c → d ≡ leaves (voice s) c
     cells long =
         ext_get_or (pos 0) d (leaves (voice s) c) (long ∙ sym (voice_frames.long (sounding (voice s)) c))
-        (λ a low. ap (λ (m : Machine VoiceState). m.world.cells a) end
+        (λ a low. ap (λ (m : Machine VoiceState). m.world.shared a) end
         ∙ sym (left_on_all (sounding (voice s)) c a h.voice.playable (omega (arith, low, long))))
 
     pub still_kept : Kept t

@@ -22,9 +22,10 @@ use Rattle.cs_voice.proofs.Ops.{fine_here}
 use Rattle.cs_voice.proofs.Passed as passed
 use Rattle.cs_voice.proofs.Steps as steps
 
--- a cycle starts nothing and asks for nothing
+-- a cycle starts nothing, looks for no table and asks for nothing
 pub starts_not : (t : Act) → is_of_cycle t ≡ true → is_start t ≡ true → ⊥
 starts_not (act.Start o u) h s = absurd cc
+starts_not act.Seek h s = absurd cc
 starts_not act.Ask h s = absurd cc
 starts_not _ h s = absurd cc
 
@@ -32,6 +33,7 @@ pub here_if : (t : Act) → is_jump t ≡ false → is_start t ≡ false → is_
 here_if (act.Jump to) j s = absurd cc
 here_if (act.Unless to) j s = absurd cc
 here_if (act.Start o u) j s = absurd cc
+here_if act.Seek j s = absurd cc
 here_if act.Ask j s = absurd cc
 here_if _ j s = refl
 

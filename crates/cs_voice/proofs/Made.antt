@@ -1,35 +1,26 @@
 -- A voice that plays from a sheet is one by itself.
-use Rattle.std.proofs.Common.{◌≡◌, ℕ, ℤ, true, List, [], ◌∷◌, map, slice_index_or, Option, Some, None, refl, sym, ◌∙◌, ap, subst}
+use Rattle.std.proofs.Common.{◌≡◌, ℕ, ℤ, pos, List, [], Option, Some, None, refl, sym, ◌∙◌, ap, subst}
 use Rattle.std.specs.Option.{option_map}
 use Rattle.std.proofs.lemmas.List.{length-map}
 use Rattle.cs_base.specs.declared.resource.Rate.{Rate}
-use Rattle.cs_base.specs.declared.resource.Res.{Res}
 use Rattle.cs_words.specs.declared.catalogue.Opcode.{Opcode}
-use Rattle.cs_words.specs.Catalogue.{takes_table}
 use Rattle.cs_ir.specs.Resources.{Stock}
-use Rattle.cs_ir.specs.declared.op.Act.{Act}
-use Rattle.cs_ir.specs.declared.op.Act.TheVariants as act
 use Rattle.cs_ir.specs.declared.op.Code.{Code}
-use Rattle.cs_ir.specs.declared.op.Op.{Op}
-use Rattle.cs_ir.specs.declared.op.Reach.{Reach}
 use Rattle.cs_ir.specs.declared.register.Counts.{Counts}
 use Rattle.cs_cells.specs.declared.footprint.Area.{Area}
 use Rattle.cs_cells.specs.declared.footprint.Footprint.{Footprint}
-use Rattle.cs_meaning.specs.Plain.{Generators, Piece, Table, find_table}
+use Rattle.cs_meaning.specs.Pieces.{Generators, Piece, Table, find_table}
 use Rattle.cs_machine.specs.Outputs.{outs, refilled}
 use Rattle.cs_machine.specs.Registers.{filled, values}
 use Rattle.cs_machine.specs.Players.{PlayerData, playing}
-use Rattle.cs_voice_meaning.proofs.StoresPlay.{stores_take}
-use Rattle.cs_voice_meaning.specs.Follows.{ActNamed, Kinds, OpsNamed}
+use Rattle.cs_voice_meaning.specs.Follows.{Kinds}
 use Rattle.cs_voice_meaning.specs.Placing.{IsPlaced, IsTablePlaced}
-use Rattle.cs_voice_meaning.specs.VoiceWorld.{Playing}
-use Rattle.cs_voice_meaning.specs.Voices.{Sheet, IsPlayable, IsUsed}
+use Rattle.cs_voice_meaning.specs.Voices.{Sheet, IsPlayable}
 use Rattle.cs_machine.specs.States.{IsPlayerOf, IsStateIn}
 use Rattle.cs_machine.specs.declared.state.State.{State}
 use Rattle.cs_voice.specs.declared.stage.Stage.{Stage}
 use Rattle.cs_voice.specs.Memory.{IsKept, MakeVoice, voice_in}
-use Rattle.cs_voice.specs.VoiceData.{VoiceData, IsOn, OpsStoreInto, StoresInto, made, piece_of, sheet_of, table_at, units_in}
-use Rattle.cs_voice.proofs.Cycled.{units_are}
+use Rattle.cs_voice.specs.VoiceData.{VoiceData, made, piece_of, sheet_of}
 use Rattle.cs_voice.proofs.Sheets.{all_made, find_made}
 use Rattle.cs_voice.proofs.Voices.{own_sheet, its_own}
 
@@ -46,12 +37,16 @@ module _ (areas : List Area) (g : Generators) (piece : Piece) where
     cells = p.cells;
     spaces = p.spaces;
     tables = λ n t found live. made_before (λ u. u.frozen ≡ None → IsTablePlaced areas stock u) (find_table piece.tables n) t (sym (find_made piece.tables n) ∙ found)
-        (λ u there live. let was = p.tables n u there live in record { among = was.among; some = was.some; size = was.size }) live;
+        (λ u there live. let was = p.tables n u there live in record { among = was.among; some = was.some; power = was.power; size = was.size }) live;
+    live = λ n area at. let is = p.live n area at in record {
+      table = made is.table;
+      found = find_made piece.tables (pos n) ∙ ap (option_map made) is.found;
+      live = is.live;
+    };
   }
 
   player_made : (kind : Opcode × Rate) (p : PlayerData) → IsPlayerOf areas piece kind p → IsPlayerOf areas (all_made g piece) kind p
   player_made kind p h = record {
-    opcode = h.opcode;
     state = h.state;
     table = λ takes. let t = h.table takes in record {
       table = made t.table;
@@ -76,61 +71,6 @@ module _ (areas : List Area) (g : Generators) (piece : Piece) where
     row = h.row;
     players = λ u p there. player_made (kinds u) p (h.players u p there);
   }
-
--- ---- what a voice stores into was made
-
-same_some : (x y : Table) → Some x ≡ Some y → x ≡ y
-same_some x y e = cc
-
-player_with : (o : Option PlayerData) (z : ℤ) → option_map (λ (p : Playing). p.table) (option_map playing o) ≡ Some z
-    → (p : PlayerData) × (o ≡ Some p) × (p.table ≡ z)
-player_with None z e = absurd (cc)
-player_with (Some p) z e = (p, refl, (cc))
-
-module _ (areas : List Area) (piece : Piece) (kinds : Kinds) (counts : Counts) (s : State) (st : IsStateIn areas piece kinds counts s) where
-  unit_stores : (N : Res → Type 0) (stock : Stock) (opcode : Opcode) (u : ℕ) (reach : Reach) (r : Rate) → ActNamed stock kinds N (act.Unit opcode u reach) r
-      → StoresInto piece.tables (table_at (units_in (map (option_map playing) s.players.items))) (act.Unit opcode u reach)
-  unit_stores N stock opcode u reach r named stores z t at found =
-      let there = player_with (slice_index_or s.players.items u None) z (sym (ap (λ f. option_map (λ (p : Playing). p.table) (f u)) (units_are s.players.items)) ∙ at) in
-      let of = st.players u there.0 there.1 in
-      let takes : takes_table (kinds u).0 ≡ true = ap (λ (k : Opcode × Rate). takes_table k.0) named.0 ∙ stores_take opcode stores in
-      let on = of.table takes in
-      let same : on.table ≡ t = same_some on.table t (sym on.found ∙ ap (find_table piece.tables) there.2 ∙ found) in
-      ap (λ (x : Table). x.present) (sym same) ∙ on.present
-
-  act_stores : (N : Res → Type 0) (stock : Stock) (t : Act) (r : Rate) → ActNamed stock kinds N t r
-      → StoresInto piece.tables (table_at (units_in (map (option_map playing) s.players.items))) t
-  act_stores N stock (act.Const z) r h = tt
-  act_stores N stock (act.Field k) r h = tt
-  act_stores N stock (act.Head k) r h = tt
-  act_stores N stock act.Copy r h = tt
-  act_stores N stock act.Neg r h = tt
-  act_stores N stock (act.Pair b) r h = tt
-  act_stores N stock act.Pick r h = tt
-  act_stores N stock (act.Call f) r h = tt
-  act_stores N stock (act.Load g) r h = tt
-  act_stores N stock (act.Save g) r h = tt
-  act_stores N stock (act.Start opcode u) r h = tt
-  act_stores N stock (act.Unit opcode u reach) r h = unit_stores N stock opcode u reach r h
-  act_stores N stock (act.Jump to) r h = tt
-  act_stores N stock (act.Unless to) r h = tt
-  act_stores N stock (act.Out n) r h = tt
-  act_stores N stock act.OutAt r h = tt
-  act_stores N stock act.Turnoff r h = tt
-  act_stores N stock act.Ask r h = tt
-
-  pub ops_store : (N : Res → Type 0) (stock : Stock) (ops : List Op) → OpsNamed stock kinds N ops
-      → OpsStoreInto piece.tables (table_at (units_in (map (option_map playing) s.players.items))) ops
-  ops_store N stock [] h = tt
-  ops_store N stock (op ∷ ops) h = (act_stores N stock op.act op.into.rate h.0, ops_store N stock ops h.1)
-
--- parts that make a voice play from the sheet
-pub is_on : (number age : ℕ) (stage : Stage) (foot : Footprint) (code : Code) (fields : List ℤ) (s : State) (m : MakeVoice number age stage foot code fields s)
-    → IsOn m.sheet (voice_in number age stage foot code fields s)
-is_on number age stage foot code fields s m = record {
-  parts = m.parts;
-  stores = ops_store m.sheet.areas m.sheet.piece m.playable.kinds code.counts s m.state (IsUsed m.sheet) m.playable.stock m.sheet.perf m.playable.perf_uses;
-}
 
 -- ---- the voice by itself
 

@@ -3,7 +3,7 @@ use Rattle.std.proofs.Common.{◌≡◌, ℕ, zero, suc, ◌+◌, ◌<◌, ◌�
 use Rattle.std.specs.List.{list_all, AllByRecursion}
 use Rattle.std.proofs.lemmas.Bool.{and_parts}
 use Rattle.std.proofs.lemmas.Bool.Decides.{nat_tests}
-use Rattle.cs_ir.specs.Resources.{Stock, act_uses, act_writes, unit_uses, is_store}
+use Rattle.cs_ir.specs.Resources.{Stock, act_uses, act_writes, writes_places, zak_uses}
 use Rattle.cs_ir.specs.Validity.{finds, has_register, is_fine, takes_from, valid, writes}
 use Rattle.cs_ir.specs.declared.op.Act.{Act}
 use Rattle.cs_ir.specs.declared.op.Act.TheVariants as act
@@ -104,21 +104,9 @@ named_uses : (areas : List Area) (stock : Stock) (kinds : Kinds) (t : Act) (r : 
 named_uses areas stock kinds (act.Load g) r h = (h, tt)
 named_uses areas stock kinds (act.Save g) r h = (h.0, tt)
 named_uses areas stock kinds (act.Unit o u reach) r h = h.1
-named_uses areas stock kinds (act.Const z) r h = tt
-named_uses areas stock kinds (act.Field k) r h = tt
-named_uses areas stock kinds (act.Head k) r h = tt
-named_uses areas stock kinds act.Copy r h = tt
-named_uses areas stock kinds act.Neg r h = tt
-named_uses areas stock kinds (act.Pair b) r h = tt
-named_uses areas stock kinds act.Pick r h = tt
-named_uses areas stock kinds (act.Call f) r h = tt
-named_uses areas stock kinds (act.Start o u) r h = tt
-named_uses areas stock kinds (act.Jump to) r h = tt
-named_uses areas stock kinds (act.Unless to) r h = tt
-named_uses areas stock kinds (act.Out c) r h = tt
-named_uses areas stock kinds act.OutAt r h = tt
-named_uses areas stock kinds act.Turnoff r h = tt
-named_uses areas stock kinds act.Ask r h = tt
+named_uses areas stock kinds (act.Store o reach) r h = h
+named_uses areas stock kinds (act.Zak o reach) r h = h
+named_uses areas stock kinds _ r h = tt
 
 if_named : (N : Res → Type 0) (b : Bool) (gs : List Res) → AreNamed N gs → AreNamed N (if b then gs else [])
 if_named N true gs h = h
@@ -126,23 +114,9 @@ if_named N false gs h = tt
 
 named_writes : (areas : List Area) (stock : Stock) (kinds : Kinds) (t : Act) (r : Rate) → ActNamed stock kinds (HasArea areas) t r → AreNamed (HasArea areas) (act_writes stock t)
 named_writes areas stock kinds (act.Save g) r h = (h.0, tt)
-named_writes areas stock kinds (act.Unit o u reach) r h = if_named (HasArea areas) (is_store (row_of o).shape) (unit_uses stock o reach) h.1
-named_writes areas stock kinds (act.Load g) r h = tt
-named_writes areas stock kinds (act.Const z) r h = tt
-named_writes areas stock kinds (act.Field k) r h = tt
-named_writes areas stock kinds (act.Head k) r h = tt
-named_writes areas stock kinds act.Copy r h = tt
-named_writes areas stock kinds act.Neg r h = tt
-named_writes areas stock kinds (act.Pair b) r h = tt
-named_writes areas stock kinds act.Pick r h = tt
-named_writes areas stock kinds (act.Call f) r h = tt
-named_writes areas stock kinds (act.Start o u) r h = tt
-named_writes areas stock kinds (act.Jump to) r h = tt
-named_writes areas stock kinds (act.Unless to) r h = tt
-named_writes areas stock kinds (act.Out c) r h = tt
-named_writes areas stock kinds act.OutAt r h = tt
-named_writes areas stock kinds act.Turnoff r h = tt
-named_writes areas stock kinds act.Ask r h = tt
+named_writes areas stock kinds (act.Store o reach) r h = h
+named_writes areas stock kinds (act.Zak o reach) r h = if_named (HasArea areas) (writes_places (row_of o).shape) (zak_uses stock o reach) h
+named_writes areas stock kinds _ r h = tt
 
 pub can_do : (get set : ℕ → Type 0) (count : ℕ) (areas : List Area) (stock : Stock) (kinds : Kinds) (t : Act) (r : Rate) → IsLaid areas
     → ((a : ℕ) → a < word_count areas → get a) → ((a : ℕ) → a < word_count areas → set a) → word_count areas ≤ count

@@ -1,16 +1,14 @@
 -- The code that begins a note, op by op.
-use Rattle.std.proofs.Common.{◌≡◌, ℕ, ℤ, ◌+◌, ◌<◌, ◌≤◌, ◌⊎◌, inl, inr, Bool, true, false, ◌&&◌, List, [], ◌∷◌, ◌++◌, length, map, slice_get, Option, Some, None, if◌then◌else◌, refl, sym, ◌∙◌, ap, subst, append_assoc, arith}
+use Rattle.std.proofs.Common.{◌≡◌, ℕ, ℤ, ◌+◌, ◌<◌, ◌≤◌, ◌⊎◌, inl, inr, Bool, true, false, not, ◌&&◌, List, [], ◌∷◌, ◌++◌, length, map, slice_get, Option, Some, None, if◌then◌else◌, refl, sym, ◌∙◌, ap, subst, append_assoc, arith}
 use Rattle.std.specs.Option.{option_map}
-use Rattle.std.specs.List.{list_all}
-use Rattle.std.proofs.lemmas.Bool.{and_parts}
 use Rattle.std.proofs.lemmas.Bool.Decides.{nat_tests}
 use Rattle.cs_words.specs.declared.catalogue.Opcode.{Opcode}
 use Rattle.cs_ir.specs.Asks.{ask_of}
 use Rattle.cs_ir.specs.Cycles.{are_of_cycle, is_of_cycle}
-use Rattle.cs_ir.specs.Machine.{acts}
-use Rattle.cs_words.specs.Catalogue.{row_of, unit_takes}
-use Rattle.cs_ir.specs.Units.{is_started}
-use Rattle.cs_ir.specs.Validity.{finds, is_fine, is_still, may_run_at, starts_with, takes_from}
+use Rattle.cs_ir.specs.Machine.{Machine, acts, in_world}
+use Rattle.cs_ugen.specs.Units.{IsUnitOpcode}
+use Rattle.cs_ir.proofs.Shapes.{started_shape}
+use Rattle.cs_ir.specs.Validity.{finds, is_fine, takes_from}
 use Rattle.cs_ir.specs.Values.{holds}
 use Rattle.cs_ir.specs.Waves.{Wave, first_values, operand}
 use Rattle.cs_ir.specs.declared.ask.Ask.{Ask}
@@ -24,10 +22,11 @@ use Rattle.cs_voice.specs.Ready.{CanBeDone, DoesOp, IsReady, is_here}
 use Rattle.cs_machine.specs.Access.{AreSpaces, spaces_of}
 use Rattle.cs_cells.specs.Areas.{word_count}
 use Rattle.cs_cells.specs.declared.footprint.Area.{Area}
-use Rattle.cs_meaning.specs.Plain.{Piece}
+use Rattle.cs_meaning.specs.Model.{no_table, refused_for, seek}
+use Rattle.cs_meaning.specs.Pieces.{Piece, find_table, is_there, table_number}
 use Rattle.cs_machine.specs.Registers.{values}
 use Rattle.cs_voice_meaning.specs.Placing.{HasArea, IsPlaced}
-use Rattle.cs_voice_meaning.specs.VoiceWorld.{voice_world}
+use Rattle.cs_voice_meaning.specs.VoiceWorld.{VoiceState, voice_model, voice_world}
 use Rattle.cs_voice_meaning.specs.Follows.{ActNamed, Kinds}
 use Rattle.cs_voice_meaning.specs.Voices.{Sheet, IsPlayable}
 use Rattle.cs_voice_meaning.proofs.Steady.{run_steady}
@@ -39,6 +38,7 @@ use Rattle.cs_voice.specs.Tables.{CanAllBePlayed, tables_of}
 use Rattle.cs_voice.specs.Starting.{Starts, cause_of}
 use Rattle.cs_voice.specs.declared.begin.Refusal.{Refusal}
 use Rattle.cs_voice.specs.declared.tables.Finds.{Finds}
+use Rattle.cs_voice.specs.inner.Begun.{Seeks}
 use Rattle.cs_voice.specs.inner.Jumps.{GoesOn}
 use Rattle.cs_voice.proofs.Ops.{can_do, names_of, op_of, takes_of}
 use Rattle.cs_voice.proofs.Running.{IsUpTo, begins, ends, jumps, one_more, refuses}
@@ -51,9 +51,10 @@ map_more : {A B : Type 0} (f : A → B) (xs ys : List A) → map f (xs ++ ys) �
 map_more f [] ys = refl
 map_more f (x ∷ xs) ys = ap (λ zs. f x ∷ zs) (map_more f xs ys)
 
--- what is done here starts nothing and asks for nothing
+-- what is done here starts nothing, looks for no table and asks for nothing
 steady_here : (t : Act) → is_here t ≡ true → is_of_cycle t ≡ true
 steady_here (act.Start o u) h = absurd cc
+steady_here act.Seek h = absurd cc
 steady_here act.Ask h = absurd cc
 steady_here (act.Jump to) h = refl
 steady_here (act.Unless to) h = refl
@@ -97,7 +98,7 @@ module _ (get set : ℕ → Type 0) (count : ℕ) (finds : Finds) (ms : List Boo
     state = record {
       in_piece = λ q. (own q).state;
       delays =
-          let kept = run_steady s.areas s.piece 0 (op ∷ []) (machine_of old before 0 [] None) (steady_one op (steady_here op.act at)) in
+          let kept = run_steady (voice_model s.areas s.piece) 0 (op ∷ []) (machine_of old before 0 [] None) (steady_one op (steady_here op.act at)) in
           let same : new.delays ≡ old.delays = ap (λ m. m.world.delays) ((own p).machine 0 [] None) ∙ ap (λ z. z.delays) kept in
           let low = state.delays in
           omega arith;
@@ -238,12 +239,9 @@ pub start_there : (counts : Counts) (end place u : ℕ) (o : Opcode) (op : Op) �
 start_there counts end place u o op fine is =
     starts_at counts end place u o (subst (λ t. finds counts end place t ≡ true) is (names_of counts end place op fine))
 
-pub start_takes : (counts : Counts) (end place u : ℕ) (o : Opcode) (op : Op) → is_fine counts end place op ≡ true → op.act ≡ act.Start o u → is_started (row_of o).shape ≡ true
+pub start_takes : (counts : Counts) (end place u : ℕ) (o : Opcode) (op : Op) → is_fine counts end place op ≡ true → op.act ≡ act.Start o u → IsUnitOpcode o
 start_takes counts end place u o op fine is =
-    let all : starts_with (row_of o) op.into.rate op.from ≡ true = subst (λ t. takes_from t op.into.rate op.from ≡ true) is (takes_of counts end place op fine) in
-    let outer = and_parts (is_started (row_of o).shape && unit_takes (row_of o) (length op.from) && list_all is_still op.from) (may_run_at (row_of o) op.into.rate) all in
-    let middle = and_parts (is_started (row_of o).shape && unit_takes (row_of o) (length op.from)) (list_all is_still op.from) outer.0 in
-    (and_parts (is_started (row_of o).shape) (unit_takes (row_of o) (length op.from)) middle.0).0
+    started_shape o op.into.rate op.from (subst (λ t. takes_from t op.into.rate op.from ≡ true) is (takes_of counts end place op fine))
 
 -- a start, and an ask, as they are done
 pub started_op : (finds : Finds) (ms : List Bool) (s : Sheet) (op : Op) (o : Opcode) (u : ℕ) (settled : List ℤ) (old new : State) (cells : ℕ → ℤ) (asked : List Ask) (refused : Option Refusal)
@@ -257,8 +255,39 @@ started_op finds ms s op o u settled old new cells asked refused is found playab
     done_start s op o u finds.at.layout.now old new cells asked refused is found.setting.layout playable
     (λ p. subst (λ xs. Starts finds.at.layout.now s.piece p.kinds old.regs.counts o op.into.rate u xs old new refused) same
     (starts s.piece p.kinds old.regs.counts found.setting.head found.tables
-    (subst (λ t. ActNamed p.stock p.kinds (HasArea s.areas) t op.into.rate) is (fine.named p))
+    (subst (λ t. ActNamed p.stock p.kinds (HasArea s.areas) t op.into.rate) is (fine.named p)).0
     (subst (λ areas. IsStateIn areas s.piece p.kinds old.regs.counts old) (sym found.setting.layout) (state.in_piece p))))
+
+-- a look for a table
+sought : (s : Sheet) (old : State) (cells : ℕ → ℤ) (next : ℕ) (earlier : List (List ℤ)) (is : List ℤ) (refused : Option Refusal) → Seeks s.piece.tables (table_number is) refused
+    → machine_of old cells next earlier (option_map cause_of refused)
+    ≡ in_world (seek (voice_model s.areas s.piece) is (machine_of old cells next earlier None).world) (machine_of old cells next earlier None)
+sought s old cells next earlier is refused h = by refused h
+  where
+    m : Machine VoiceState
+    m = machine_of old cells next earlier None
+
+    looks : Bool → Machine VoiceState
+    looks there = in_world (if not there then refused_for (no_table (table_number is)) m.world else m.world) m
+
+    by : (refused : Option Refusal) → Seeks s.piece.tables (table_number is) refused
+        → machine_of old cells next earlier (option_map cause_of refused) ≡ looks (is_there (find_table s.piece.tables (table_number is)))
+    by None there = sym (ap looks there)
+    by (Some r) (missing, cause) = ap (λ q. machine_of old cells next earlier (Some (cause_of q))) cause ∙ sym (ap looks missing)
+
+pub sought_op : (finds : Finds) (ms : List Bool) (s : Sheet) (op : Op) (settled : List ℤ) (old : State) (cells : ℕ → ℤ) (asked : List Ask) (refused : Option Refusal)
+    → op.act ≡ act.Seek → IsFound finds ms s → IsStateOf s old.regs.counts old
+    → settled ≡ first_values (map (values old.regs) op.from) → Seeks (tables_of finds.tables.now ms) (table_number settled) refused
+    → IsDone s op old cells asked old cells asked refused
+sought_op finds ms s op settled old cells asked refused is found state same seeks = record {
+  more = [];
+  asks = sym (none_more asked);
+  machine = λ next earlier. ap (λ e. machine_of old cells next e (option_map cause_of refused)) (none_more earlier)
+      ∙ sought s old cells next earlier (first_values (map (values old.regs) op.from)) refused
+      (subst (λ xs. Seeks s.piece.tables (table_number xs) refused) same (subst (λ ts. Seeks ts (table_number settled) refused) (sym found.tables) seeks))
+      ∙ ap (λ t. acts (voice_world s.areas s.piece) t op.into (map (values old.regs) op.from) (machine_of old cells next earlier None)) (sym is);
+  state = state;
+}
 
 pub asked_op : (s : Sheet) (op : Op) (settled : List ℤ) (old : State) (cells : ℕ → ℤ) (asked given : List Ask) → op.act ≡ act.Ask → IsStateOf s old.regs.counts old
     → settled ≡ first_values (map (values old.regs) op.from) → given ≡ asked ++ ask_of settled ∷ []

@@ -1,5 +1,5 @@
 -- What a unit reads of its table is what the definition reads.
-use Rattle.std.proofs.Common.{◌≡◌, ℤ, true, false, not, ◌||◌, List, [], map, unsigned_abs, Option, Some, None, if◌then◌else◌, refl, sym, ◌∙◌, ap}
+use Rattle.std.proofs.Common.{◌≡◌, ℤ, Bool, true, false, not, ◌||◌, List, [], map, unsigned_abs, Option, Some, None, if◌then◌else◌, refl, sym, ◌∙◌, ap}
 use Rattle.std.specs.List.{range_with_len}
 use Rattle.std.specs.Option.{is_some}
 use Rattle.cs_base.proofs.Tests.{by_test}
@@ -7,18 +7,20 @@ use Rattle.cs_base.specs.declared.resource.Rate.{Rate}
 use Rattle.cs_base.specs.declared.resource.Rate.TheVariants as rate
 use Rattle.cs_base.specs.declared.resource.Res.TheVariants as res
 use Rattle.cs_words.specs.declared.catalogue.Opcode.{Opcode}
-use Rattle.cs_words.specs.declared.catalogue.Opcode.TheVariants as op
+use Rattle.cs_words.proofs.EachOpcode.{when_all}
 use Rattle.cs_gen.specs.Tables.{curve_of}
 use Rattle.cs_ugen.specs.Units.{IsUnitOpcode, reads_table}
 use Rattle.cs_ir.specs.Machine.{gives}
-use Rattle.cs_words.specs.Catalogue.{takes_table}
+use Rattle.cs_ir.specs.Units.{is_unit}
+use Rattle.cs_words.specs.Catalogue.{row_of, takes_table}
 use Rattle.cs_ir.specs.Resources.{Stock, reaches}
 use Rattle.cs_ir.specs.declared.op.Reach.{Reach}
 use Rattle.cs_cells.specs.declared.footprint.Area.{Area}
-use Rattle.cs_meaning.specs.Plain.{Piece, Table, find_table, points_of, read_points}
+use Rattle.cs_meaning.specs.Model.{unit_points}
+use Rattle.cs_meaning.specs.Pieces.{Piece, Table, find_table, may_touch, points_of, read_points}
 use Rattle.cs_machine.specs.Players.{PlayerData, curve_at, has_table, playing}
 use Rattle.cs_voice_meaning.specs.Placing.{IsPlaced, area_of, wave_in, wave_of}
-use Rattle.cs_voice_meaning.specs.VoiceWorld.{VoiceState, load, may_touch, points_read}
+use Rattle.cs_voice_meaning.specs.VoiceWorld.{VoiceState, read_cells, voice_model}
 use Rattle.cs_machine.specs.States.{IsOnTable, IsPlayerOf}
 use Rattle.cs_voice.specs.Units.{may_play}
 
@@ -27,43 +29,19 @@ pub record IsResult (o : Opcode) : Type 0 where
   pub some : gives o ≡ true
   pub table : reads_table o ≡ takes_table o
 
+same_bool : (a b : Bool) → (if a then b else not b) ≡ true → a ≡ b
+same_bool true b h = sym h
+same_bool false true h = absurd (cc)
+same_bool false false h = refl
+
 pub unit_result : (o : Opcode) → IsUnitOpcode o → IsResult o
-unit_result op.Oscil h = record { some = refl; table = refl }
-unit_result op.Oscili h = record { some = refl; table = refl }
-unit_result op.Phasor h = record { some = refl; table = refl }
-unit_result op.Line h = record { some = refl; table = refl }
-unit_result op.Linseg h = record { some = refl; table = refl }
-unit_result op.Linen h = record { some = refl; table = refl }
-unit_result op.Delay h = record { some = refl; table = refl }
-unit_result op.Biquad h = record { some = refl; table = refl }
-unit_result op.Table h = record { some = refl; table = refl }
-unit_result op.Tablei h = record { some = refl; table = refl }
-unit_result op.Integ h = record { some = refl; table = refl }
-unit_result op.Diff h = record { some = refl; table = refl }
-unit_result op.Samphold h = record { some = refl; table = refl }
-unit_result op.Limit h = record { some = refl; table = refl }
-unit_result op.Interp h = record { some = refl; table = refl }
-unit_result op.Downsamp h = record { some = refl; table = refl }
-unit_result op.Init h = absurd (cc)
-unit_result op.Tablew h = absurd (cc)
-unit_result op.Out h = absurd (cc)
-unit_result op.Outs h = absurd (cc)
-unit_result op.Outch h = absurd (cc)
-unit_result op.Turnoff h = absurd (cc)
-unit_result op.Zakinit h = absurd (cc)
-unit_result op.Zkr h = absurd (cc)
-unit_result op.Zar h = absurd (cc)
-unit_result op.Zkw h = absurd (cc)
-unit_result op.Zaw h = absurd (cc)
-unit_result op.Zawm h = absurd (cc)
-unit_result op.Zkcl h = absurd (cc)
-unit_result op.Zacl h = absurd (cc)
-unit_result op.Chnget h = absurd (cc)
-unit_result op.Chnset h = absurd (cc)
-unit_result op.Chnmix h = absurd (cc)
-unit_result op.Chnclear h = absurd (cc)
-unit_result op.Schedule h = absurd (cc)
-unit_result op.EventI h = absurd (cc)
+unit_result o h =
+    let unit : is_unit (row_of o).shape ≡ true = ap is_unit h in
+    record {
+      some = when_all (λ o. is_unit (row_of o).shape) gives refl o unit;
+      table = same_bool (reads_table o) (takes_table o)
+          (when_all (λ o. is_unit (row_of o).shape) (λ o. if reads_table o then takes_table o else not (takes_table o)) refl o unit);
+    }
 
 -- a unit has a table exactly where its opcode takes one
 no_table : (points : Option (List ℤ)) (area : Option Area) → (points ≡ None) × (area ≡ None) → (is_some points || is_some area) ≡ false
@@ -77,7 +55,7 @@ table_taken areas piece kind p is = by_test (takes_table kind.0)
 
 -- so what it may touch is what the definition lets it touch
 pub same_reach : (areas : List Area) (piece : Piece) (opcode : Opcode) (r : Rate) (reach : Reach) (p : PlayerData) → IsPlayerOf areas piece (opcode, r) p
-    → may_touch opcode reach (playing p) ≡ may_play reach p
+    → may_touch opcode reach p.table ≡ may_play reach p
 same_reach areas piece opcode r reach p is =
     ap (λ b. not b || reaches reach (unsigned_abs p.table)) (sym (table_taken areas piece (opcode, r) p is))
 
@@ -89,13 +67,13 @@ live_area areas t p is live = is ∙ ap (λ o. if is_some o then None else area_
 -- the points that are read of a table, by whether it is frozen and where it lies
 points_of_table : (areas : List Area) (t : Table) (frozen : Option (List ℤ)) (area : Option Area) (x : VoiceState) → (is_some frozen || is_some area) ≡ true
     → (frozen ≡ None → (area ≡ area_of areas (res.Table t.number)) × ((a : Area) → area ≡ Some a → a.length ≡ t.size))
-    → curve_of (points_of (λ g. load areas g x) t frozen) ≡ curve_at frozen area x.cells
+    → curve_of (points_of (λ g. read_cells areas g x.shared) t frozen) ≡ curve_at frozen area x.shared
 points_of_table areas t (Some points) area x has live = refl
 points_of_table areas t None None x has live = absurd (cc)
 points_of_table areas t None (Some a) x has live =
     let there : area_of areas (res.Table t.number) ≡ Some a = sym (live refl).0 in
-    ap (λ o. curve_of (map (wave_of o rate.Audio x.cells) (range_with_len 0 t.size))) there
-    ∙ ap (λ n. curve_of (map (wave_in rate.Audio a x.cells) (range_with_len 0 n))) (sym ((live refl).1 a refl))
+    ap (λ o. curve_of (map (wave_of o rate.Audio x.shared) (range_with_len 0 t.size))) there
+    ∙ ap (λ n. curve_of (map (wave_in rate.Audio a x.shared) (range_with_len 0 n))) (sym ((live refl).1 a refl))
 
 -- a live table has its area, with a cell a point
 pub record IsLiveOn (areas : List Area) (t : Table) (a : Area) : Type 0 where
@@ -109,14 +87,14 @@ live_table areas stock piece p on placed live a at =
     record { area = there; size = (placed.tables p.table on.table on.found live).size a there }
 
 pub same_points : (areas : List Area) (stock : Stock) (piece : Piece) (opcode : Opcode) (r : Rate) (p : PlayerData) (x : VoiceState) → IsPlaced areas stock piece
-    → IsPlayerOf areas piece (opcode, r) p → points_read areas piece opcode (playing p) x ≡ curve_at p.points p.area x.cells
+    → IsPlayerOf areas piece (opcode, r) p → unit_points (voice_model areas piece) opcode (playing p) x ≡ curve_at p.points p.area x.shared
 same_points areas stock piece opcode r p x placed is = by_test (takes_table opcode)
     (λ takes. let on = is.table takes in
-    ap (λ b. if b then read_points (λ g. load areas g x) (find_table piece.tables p.table) else []) takes
-    ∙ ap (read_points (λ g. load areas g x)) on.found
-    ∙ ap (λ f. curve_of (points_of (λ g. load areas g x) on.table f)) (sym on.points)
+    ap (λ b. if b then read_points (λ g. read_cells areas g x.shared) (find_table piece.tables p.table) else []) takes
+    ∙ ap (read_points (λ g. read_cells areas g x.shared)) on.found
+    ∙ ap (λ f. curve_of (points_of (λ g. read_cells areas g x.shared) on.table f)) (sym on.points)
     ∙ points_of_table areas on.table p.points p.area x on.has
     (λ none. let live : on.table.frozen ≡ None = sym on.points ∙ none in
     (live_area areas on.table p on.area live, λ a at. (live_table areas stock piece p on placed live a at).size)))
-    (λ none. ap (λ b. if b then read_points (λ g. load areas g x) (find_table piece.tables p.table) else []) none
-    ∙ sym (ap (λ o. curve_at o p.area x.cells) (is.none none).0 ∙ ap (λ o. curve_at None o x.cells) (is.none none).1))
+    (λ none. ap (λ b. if b then read_points (λ g. read_cells areas g x.shared) (find_table piece.tables p.table) else []) none
+    ∙ sym (ap (λ o. curve_at o p.area x.shared) (is.none none).0 ∙ ap (λ o. curve_at None o x.shared) (is.none none).1))

@@ -18,7 +18,8 @@ use Rattle.cs_ir.specs.declared.op.Reach.{Reach}
 use Rattle.cs_ir.specs.declared.register.Counts.{Counts}
 use Rattle.cs_ir.specs.declared.register.Reg.{Reg}
 use Rattle.cs_cells.specs.declared.footprint.Area.{Area}
-use Rattle.cs_meaning.specs.Plain.{Piece, Cause, steps_of, step_at}
+use Rattle.cs_meaning.specs.Model.{Cause, has_run, unit_does, unit_points}
+use Rattle.cs_meaning.specs.Pieces.{Piece, steps_of, step_at}
 use Rattle.cs_machine.specs.Players.{PlayerData, curve_at, playing}
 use Rattle.cs_machine.proofs.Unchanging.{same_unit}
 use Rattle.cs_machine.specs.Outputs.{outs}
@@ -26,7 +27,7 @@ use Rattle.cs_machine.specs.Registers.{IsWritten, values}
 use Rattle.cs_machine.proofs.Putting.{set_at_place}
 use Rattle.cs_voice_meaning.specs.Follows.{Kinds}
 use Rattle.cs_voice_meaning.specs.Placing.{IsPlaced}
-use Rattle.cs_voice_meaning.specs.VoiceWorld.{Playing, VoiceState, does, has_played, inputs_at, played, points_read, unit_plays, voice_world}
+use Rattle.cs_voice_meaning.specs.VoiceWorld.{Playing, VoiceState, has_played, inputs_at, played, voice_model, voice_world}
 use Rattle.cs_machine.specs.declared.state.State.{State}
 use Rattle.cs_machine.specs.States.{Does, IsPlayerOf, IsStateIn, machine_of, unit_at}
 use Rattle.cs_voice.specs.Units.{cycled, may_play, unit_after, unit_gives}
@@ -65,22 +66,26 @@ module _ (areas : List Area) (stock : Stock) (piece : Piece) (opcode : Opcode) (
   stays : (o : Option Playing) → x.units u ≡ o → ◌≡◌ {A = VoiceState × Wave} (x, silence) (record x { units = λ n. if n == u then o else x.units n }, silence)
   stays o is = λ i. (record x { units = sym (unit_again x.units u o is) i }, silence)
 
+  -- the steps of a cycle, of these points
+  abbrev plays_on : List ℤ → PlayerData → VoiceState × Wave
+  plays_on points p = has_run u (has_played r (playing p) (played piece.head.ksmps r (playing p) ws points)) x
+
   plays_as : (o : Option PlayerData) → x.units u ≡ option_map playing o → ((p : PlayerData) → o ≡ Some p → IsPlayerOf areas piece (opcode, r) p)
-      → unit_plays areas piece opcode r u reach ws (option_map playing o) x
-      ≡ answers u (unit_after piece.head.ksmps r reach ws x.cells o) (unit_gives piece.head.ksmps r reach ws x.cells o) x
+      → unit_does (voice_model areas piece) opcode r u reach ws (option_map playing o) x
+      ≡ answers u (unit_after piece.head.ksmps r reach ws x.shared o) (unit_gives piece.head.ksmps r reach ws x.shared o) x
   plays_as None at is = stays None at
   plays_as (Some p) at is =
-      ap (λ b. if b then has_played u r (playing p) (played piece.head.ksmps r (playing p) ws (points_read areas piece opcode (playing p) x)) x else (x, silence)) (same_reach areas piece opcode r reach p (is p refl))
+      ap (λ b. if b then plays_on (unit_points (voice_model areas piece) opcode (playing p) x) p else (x, silence)) (same_reach areas piece opcode r reach p (is p refl))
       ∙ by_reach (may_play reach p)
     where
       -- the same steps, of the same points
-      same_steps : played piece.head.ksmps r (playing p) ws (points_read areas piece opcode (playing p) x) ≡ cycled piece.head.ksmps r ws x.cells p
+      same_steps : played piece.head.ksmps r (playing p) ws (unit_points (voice_model areas piece) opcode (playing p) x) ≡ cycled piece.head.ksmps r ws x.shared p
       same_steps = ap (λ points. run unit_step (inputs_at ws points) p.state 0 (steps_of piece.head.ksmps r)) (same_points areas stock piece opcode r p x placed (is p refl))
 
-      by_reach : (b : Bool) → (if b then has_played u r (playing p) (played piece.head.ksmps r (playing p) ws (points_read areas piece opcode (playing p) x)) x else (x, silence))
-          ≡ answers u (Some (if b then record p { state = (cycled piece.head.ksmps r ws x.cells p).0 } else p))
-          (if b then (λ j. argument (cycled piece.head.ksmps r ws x.cells p).1 (step_at r j)) else silence) x
-      by_reach true = ap (λ d. has_played u r (playing p) d x) same_steps
+      by_reach : (b : Bool) → (if b then plays_on (unit_points (voice_model areas piece) opcode (playing p) x) p else (x, silence))
+          ≡ answers u (Some (if b then record p { state = (cycled piece.head.ksmps r ws x.shared p).0 } else p))
+          (if b then (λ j. argument (cycled piece.head.ksmps r ws x.shared p).1 (step_at r j)) else silence) x
+      by_reach true = ap (λ d. has_run u (has_played r (playing p) d) x) same_steps
       by_reach false = stays (Some (playing p)) at
 
 -- ---- the state whose unit has run
@@ -102,7 +107,7 @@ run_machine ksmps old new u q into w ran frames low before after same next asks 
   regs = (ran.regs.values ∙ ap (λ n. put (values old.regs) into (held n into.rate w)) frames) i;
   next = next;
   world = record {
-    cells = same i;
+    shared = same i;
     units = (ap unit_at ran.players ∙ units_set old.players.items u q low) i;
     delays = ran.delays i;
     outs = outs (ran.outs i);
@@ -116,8 +121,7 @@ run_machine ksmps old new u q into w ran frames low before after same next asks 
 goes_on : (areas : List Area) (piece : Piece) (kind : Opcode × Rate) (p : PlayerData) (k : Kind) → opcode_of k ≡ opcode_of p.state → IsPlayerOf areas piece kind p
     → IsPlayerOf areas piece kind (record p { state = k })
 goes_on areas piece kind p k same is = record {
-  opcode = is.opcode;
-  state = λ unit. same ∙ is.state unit;
+  state = same ∙ is.state;
   table = λ takes. let on = is.table takes in record {
     table = on.table;
     found = on.found;
@@ -163,13 +167,12 @@ unit_machine ksmps u q into w m = write ksmps into w (in_world (answers u q w m.
 acts_as : (areas : List Area) (stock : Stock) (piece : Piece) (opcode : Opcode) (u : ℕ) (reach : Reach) (into : Reg) (ws : List Wave) (m : Machine VoiceState) (o : Option PlayerData)
     → IsUnitOpcode opcode → IsPlaced areas stock piece → m.world.units u ≡ option_map playing o → ((p : PlayerData) → o ≡ Some p → IsPlayerOf areas piece (opcode, into.rate) p)
     → acts (voice_world areas piece) (act.Unit opcode u reach) into ws m
-    ≡ unit_machine piece.head.ksmps u (unit_after piece.head.ksmps into.rate reach ws m.world.cells o) into (unit_gives piece.head.ksmps into.rate reach ws m.world.cells o) m
+    ≡ unit_machine piece.head.ksmps u (unit_after piece.head.ksmps into.rate reach ws m.world.shared o) into (unit_gives piece.head.ksmps into.rate reach ws m.world.shared o) m
 acts_as areas stock piece opcode u reach into ws m o unit placed at is =
     ap (λ d. written piece.head.ksmps opcode into d m)
-    (ap (λ s. does areas piece s opcode into.rate u reach ws m.world) unit
-    ∙ ap (λ k. unit_plays areas piece opcode into.rate u reach ws k m.world) at
+    (ap (λ k. unit_does (voice_model areas piece) opcode into.rate u reach ws k m.world) at
     ∙ plays_as areas stock piece opcode into.rate reach u ws m.world placed o at is)
-    ∙ given (gives opcode) (unit_result opcode unit).some (answers u (unit_after piece.head.ksmps into.rate reach ws m.world.cells o) (unit_gives piece.head.ksmps into.rate reach ws m.world.cells o) m.world)
+    ∙ given (gives opcode) (unit_result opcode unit).some (answers u (unit_after piece.head.ksmps into.rate reach ws m.world.shared o) (unit_gives piece.head.ksmps into.rate reach ws m.world.shared o) m.world)
   where
     given : (b : Bool) → b ≡ true → (d : VoiceState × Wave) → (if b then write piece.head.ksmps into d.1 (in_world d.0 m) else in_world d.0 m) ≡ write piece.head.ksmps into d.1 (in_world d.0 m)
     given true h d = refl

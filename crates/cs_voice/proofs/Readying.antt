@@ -1,26 +1,28 @@
 -- What an op that is ready has, by its act: all that the calls that do the act ask for.
-use Rattle.std.proofs.Common.{◌≡◌, ℕ, ℤ, ◌<◌, suc, true, ◌&&◌, List, [], ◌∷◌, length, slice_index_or, Some, None, if◌then◌else◌, refl, sym, ◌∙◌, ap, subst, ltb-true}
+use Rattle.std.proofs.Common.{◌≡◌, ℕ, ℤ, ◌<◌, ◌==◌, suc, Bool, true, List, [], ◌∷◌, length, slice_index_or, Some, None, if◌then◌else◌, refl, sym, ◌∙◌, ap, subst, eqb-true, ltb-true}
 use Rattle.std.proofs.lemmas.Bool.{and_parts}
 use Rattle.cs_base.specs.Rates.{is_audio, res_rate}
 use Rattle.cs_base.specs.declared.resource.Rate.{Rate}
-use Rattle.cs_words.specs.Catalogue.{moving_letters, row_of, takes, takes_table}
+use Rattle.cs_words.specs.Catalogue.{moving_letters, row_of, takes}
 use Rattle.cs_words.specs.declared.catalogue.Letter.{Letter}
 use Rattle.cs_words.specs.declared.catalogue.Letter.TheVariants as letter
 use Rattle.cs_words.specs.declared.catalogue.Opcode.{Opcode}
 use Rattle.cs_words.specs.declared.catalogue.Opcode.TheVariants as op
+use Rattle.cs_words.proofs.EachOpcode.{when_all}
 use Rattle.cs_words.specs.declared.catalogue.Shape.{Shape}
+use Rattle.cs_words.specs.declared.catalogue.Shape.TheVariants as shape
 use Rattle.cs_words.specs.declared.catalogue.Space.{Space}
-use Rattle.cs_words.specs.declared.catalogue.Space.TheVariants as space
 use Rattle.cs_ugen.specs.Units.{IsUnitOpcode, moving_count}
-use Rattle.cs_ir.specs.Resources.{Stock, act_uses, act_writes, places_within, tables_within, shape_uses, unit_uses}
-use Rattle.cs_ir.specs.Units.{is_unit}
-use Rattle.cs_ir.specs.Validity.{bound_at, finds, has_register, may_run_at, stores_at, take_all, takes_from, writes}
+use Rattle.cs_ir.specs.Resources.{Stock, act_uses, act_writes, places_within, shape_uses, writes_places}
+use Rattle.cs_ir.specs.Units.{is_store, is_unit, is_zak}
+use Rattle.cs_ir.proofs.Shapes.{run_shape}
+use Rattle.cs_ir.specs.Validity.{bound_at, finds, has_register, may_run_at, runs_with, stores_with, take_all, takes_from, writes}
 use Rattle.cs_ir.specs.declared.op.Act.{Act}
 use Rattle.cs_ir.specs.declared.op.Act.TheVariants as act
 use Rattle.cs_ir.specs.declared.op.Op.{Op}
 use Rattle.cs_ir.specs.declared.op.Reach.{Reach}
 use Rattle.cs_ir.specs.declared.register.Reg.{Reg}
-use Rattle.cs_meaning.specs.Plain.{Piece}
+use Rattle.cs_meaning.specs.Pieces.{Piece}
 use Rattle.cs_machine.specs.Players.{PlayerData}
 use Rattle.cs_voice_meaning.specs.Follows.{ActNamed, AreNamed, Kinds}
 use Rattle.cs_voice_meaning.specs.Placing.{HasArea, cell_count}
@@ -29,9 +31,9 @@ use Rattle.cs_machine.proofs.Done.{has_room}
 use Rattle.cs_machine.specs.States.{Does, DoesAt, HasRoom, IsPlayerOf, MayTouch}
 use Rattle.cs_machine.specs.declared.state.Setting.{Setting}
 use Rattle.cs_machine.specs.declared.state.State.{State}
-use Rattle.cs_voice.specs.Cells.{AreSized, DoesOver, MayReach, clear_of, get_of, put_of}
+use Rattle.cs_voice.specs.Cells.{AreSized, DoesOver, MayReach, MayStore}
 use Rattle.cs_voice.specs.Ready.{DoesOp, IsFit, IsReady}
-use Rattle.cs_voice.specs.Units.{DoesUnit, MayPlay, MayStore}
+use Rattle.cs_voice.specs.Units.{DoesUnit, MayPlay}
 use Rattle.cs_voice.proofs.Fitting.{Parts, found, parts, takes_as}
 use Rattle.cs_voice.proofs.Touching.{may_reach, may_run, may_store}
 
@@ -86,7 +88,7 @@ module _ (can_get can_set : ℕ → Type 0) (count : ℕ) (at : Setting) (piece 
   player_of opcode u reach e p is = subst (λ k. IsPlayerOf at.layout.now piece k p)
       (subst (λ a. ActNamed stock kinds (HasArea at.layout.now) a o.into.rate) e r.named).0 (r.state.players u p is)
 
--- ---- operands of units
+-- ---- operands of units, of stores and of acts on zak places
 
 take_count : (ls : List Letter) (bound : Rate) (xs : List Reg) → take_all ls bound xs ≡ true → length xs ≡ length ls
 take_count [] bound [] h = refl
@@ -94,76 +96,71 @@ take_count [] bound (x ∷ xs) h = absurd (cc)
 take_count (l ∷ ls) bound [] h = absurd (cc)
 take_count (l ∷ ls) bound (x ∷ xs) h = ap (λ n. suc n) (take_count ls bound xs (and_parts (takes l bound x.rate) (take_all ls bound xs) h).1)
 
-pub unit_takes_all : (opcode : Opcode) (u : ℕ) (reach : Reach) (r : Rate) (xs : List Reg) → takes_from (act.Unit opcode u reach) r xs ≡ true
-    → take_all (moving_letters (row_of opcode)) (bound_at (row_of opcode) r) xs ≡ true
-unit_takes_all opcode u reach r xs h =
-    let abc = and_parts (is_unit (row_of opcode).shape && take_all (moving_letters (row_of opcode)) (bound_at (row_of opcode) r) xs && stores_at (row_of opcode).shape r xs) (may_run_at (row_of opcode) r) h in
-    let ab = and_parts (is_unit (row_of opcode).shape && take_all (moving_letters (row_of opcode)) (bound_at (row_of opcode) r) xs) (stores_at (row_of opcode).shape r xs) abc.0 in
-    (and_parts (is_unit (row_of opcode).shape) (take_all (moving_letters (row_of opcode)) (bound_at (row_of opcode) r) xs) ab.0).1
+run_takes : (o : Opcode) (r : Rate) (xs : List Reg) → runs_with (row_of o) r xs ≡ true → take_all (moving_letters (row_of o)) (bound_at (row_of o) r) xs ≡ true
+run_takes o r xs h = (and_parts (take_all (moving_letters (row_of o)) (bound_at (row_of o) r) xs) (may_run_at (row_of o) r) h).0
 
-pub is_a_unit : (opcode : Opcode) (u : ℕ) (reach : Reach) (r : Rate) (xs : List Reg) → takes_from (act.Unit opcode u reach) r xs ≡ true → is_unit (row_of opcode).shape ≡ true
-is_a_unit opcode u reach r xs h =
-    let abc = and_parts (is_unit (row_of opcode).shape && take_all (moving_letters (row_of opcode)) (bound_at (row_of opcode) r) xs && stores_at (row_of opcode).shape r xs) (may_run_at (row_of opcode) r) h in
-    let ab = and_parts (is_unit (row_of opcode).shape && take_all (moving_letters (row_of opcode)) (bound_at (row_of opcode) r) xs) (stores_at (row_of opcode).shape r xs) abc.0 in
-    (and_parts (is_unit (row_of opcode).shape) (take_all (moving_letters (row_of opcode)) (bound_at (row_of opcode) r) xs) ab.0).0
+pub is_a_unit : (o : Opcode) (u : ℕ) (reach : Reach) (r : Rate) (xs : List Reg) → takes_from (act.Unit o u reach) r xs ≡ true → IsUnitOpcode o
+is_a_unit o u reach r xs h = run_shape o r xs h
 
-pub unit_count : (opcode : Opcode) (u : ℕ) (reach : Reach) (r : Rate) (xs : List Reg) → takes_from (act.Unit opcode u reach) r xs ≡ true → length xs ≡ moving_count opcode
-unit_count opcode u reach r xs h = take_count (moving_letters (row_of opcode)) (bound_at (row_of opcode) r) xs (unit_takes_all opcode u reach r xs h)
+pub unit_count : (o : Opcode) (u : ℕ) (reach : Reach) (r : Rate) (xs : List Reg) → takes_from (act.Unit o u reach) r xs ≡ true → length xs ≡ moving_count o
+unit_count o u reach r xs h =
+    take_count (moving_letters (row_of o)) (bound_at (row_of o) r) xs (run_takes o r xs (and_parts (is_unit (row_of o).shape) (runs_with (row_of o) r xs) h).1)
+
+zak_takes : (o : Opcode) (reach : Reach) (r : Rate) (xs : List Reg) → takes_from (act.Zak o reach) r xs ≡ true
+    → take_all (moving_letters (row_of o)) (bound_at (row_of o) r) xs ≡ true
+zak_takes o reach r xs h = run_takes o r xs (and_parts (is_zak (row_of o).shape) (runs_with (row_of o) r xs) h).1
+
+pub is_a_zak : (o : Opcode) (reach : Reach) (r : Rate) (xs : List Reg) → takes_from (act.Zak o reach) r xs ≡ true → is_zak (row_of o).shape ≡ true
+is_a_zak o reach r xs h = (and_parts (is_zak (row_of o).shape) (runs_with (row_of o) r xs) h).0
+
+-- there is no other shape of one
+pub not_zak : (s : Shape) → is_zak s ≡ true → ((z : Space) → s ≡ shape.ZakGet z → ⊥) → ((z : Space) → s ≡ shape.ZakPut z → ⊥) → (s ≡ shape.ZakMix → ⊥)
+    → ((z : Space) → s ≡ shape.ZakClear z → ⊥) → ⊥
+not_zak (shape.ZakGet z) h g p m c = g z refl
+not_zak (shape.ZakPut z) h g p m c = p z refl
+not_zak shape.ZakMix h g p m c = m refl
+not_zak (shape.ZakClear z) h g p m c = c z refl
+not_zak _ h g p m c = absurd (cc)
+
+-- how many operands an act on zak places takes, by its opcode's shape: a read one, any other two
+abbrev pub zak_count : Shape → ℕ
+zak_count (shape.ZakGet s) = 1
+zak_count _ = 2
+
+counts_so : Opcode → Bool
+counts_so o = length (moving_letters (row_of o)) == zak_count (row_of o).shape
+
+pub zak_long : (o : Opcode) (reach : Reach) (r : Rate) (xs : List Reg) (n : ℕ) → takes_from (act.Zak o reach) r xs ≡ true → zak_count (row_of o).shape ≡ n → length xs ≡ n
+unfolding counts_so
+zak_long o reach r xs n h e =
+    take_count (moving_letters (row_of o)) (bound_at (row_of o) r) xs (zak_takes o reach r xs h)
+    ∙ eqb-true (length (moving_letters (row_of o))) (zak_count (row_of o).shape)
+    (when_all (λ o. is_zak (row_of o).shape) counts_so refl o (is_a_zak o reach r xs h)) ∙ e
 
 -- what is mixed into a zak place is a sound
-pub mix_sounds : (u : ℕ) (reach : Reach) (r : Rate) (xs : List Reg) (x n : Reg) → takes_from (act.Unit op.Zawm u reach) r xs ≡ true → xs ≡ x ∷ n ∷ [] → is_audio x.rate ≡ true
-mix_sounds u reach r xs x n h e =
-    (and_parts (is_audio x.rate) (take_all (letter.Place ∷ []) (bound_at (row_of op.Zawm) r) (n ∷ []))
-    (ap (take_all (moving_letters (row_of op.Zawm)) (bound_at (row_of op.Zawm) r)) (sym e) ∙ unit_takes_all op.Zawm u reach r xs h)).0
+mixes : (o : Opcode) → (row_of o).shape ≡ shape.ZakMix → o ≡ op.Zawm
+mixes op.Zawm h = refl
+mixes _ h = absurd (cc)
 
--- a unit that neither stores nor touches zak places computes its result
-pub record IsOther (o : Opcode) : Type 0 where
-  pub zkr : ¬ (o ≡ op.Zkr)
-  pub zar : ¬ (o ≡ op.Zar)
-  pub zkw : ¬ (o ≡ op.Zkw)
-  pub zaw : ¬ (o ≡ op.Zaw)
-  pub zawm : ¬ (o ≡ op.Zawm)
-  pub zkcl : ¬ (o ≡ op.Zkcl)
-  pub zacl : ¬ (o ≡ op.Zacl)
-  pub tablew : ¬ (o ≡ op.Tablew)
+pub mix_sounds : (o : Opcode) (reach : Reach) (r : Rate) (xs : List Reg) (x n : Reg) → takes_from (act.Zak o reach) r xs ≡ true → (row_of o).shape ≡ shape.ZakMix
+    → xs ≡ x ∷ n ∷ [] → is_audio x.rate ≡ true
+mix_sounds o reach r xs x n h mix e =
+    let is : o ≡ op.Zawm = mixes o mix in
+    let all : take_all (moving_letters (row_of op.Zawm)) (bound_at (row_of op.Zawm) r) (x ∷ n ∷ []) ≡ true =
+    ap (λ q. take_all (moving_letters (row_of q)) (bound_at (row_of q) r) (x ∷ n ∷ [])) (sym is)
+    ∙ ap (take_all (moving_letters (row_of o)) (bound_at (row_of o) r)) (sym e) ∙ zak_takes o reach r xs h in
+    (and_parts (is_audio x.rate) (take_all (letter.Place ∷ []) (bound_at (row_of op.Zawm) r) (n ∷ [])) all).0
 
-pub other_unit : (o : Opcode) → is_unit (row_of o).shape ≡ true → IsOther o → IsUnitOpcode o
-other_unit op.Init h n = absurd (cc)
-other_unit op.Oscil h n = refl
-other_unit op.Oscili h n = refl
-other_unit op.Phasor h n = refl
-other_unit op.Line h n = refl
-other_unit op.Linseg h n = refl
-other_unit op.Linen h n = refl
-other_unit op.Delay h n = refl
-other_unit op.Biquad h n = refl
-other_unit op.Table h n = refl
-other_unit op.Tablei h n = refl
-other_unit op.Tablew h n = absurd (n.tablew refl)
-other_unit op.Integ h n = refl
-other_unit op.Diff h n = refl
-other_unit op.Samphold h n = refl
-other_unit op.Limit h n = refl
-other_unit op.Interp h n = refl
-other_unit op.Downsamp h n = refl
-other_unit op.Out h n = absurd (cc)
-other_unit op.Outs h n = absurd (cc)
-other_unit op.Outch h n = absurd (cc)
-other_unit op.Turnoff h n = absurd (cc)
-other_unit op.Zakinit h n = absurd (cc)
-other_unit op.Zkr h n = absurd (n.zkr refl)
-other_unit op.Zar h n = absurd (n.zar refl)
-other_unit op.Zkw h n = absurd (n.zkw refl)
-other_unit op.Zaw h n = absurd (n.zaw refl)
-other_unit op.Zawm h n = absurd (n.zawm refl)
-other_unit op.Zkcl h n = absurd (n.zkcl refl)
-other_unit op.Zacl h n = absurd (n.zacl refl)
-other_unit op.Chnget h n = absurd (cc)
-other_unit op.Chnset h n = absurd (cc)
-other_unit op.Chnmix h n = absurd (cc)
-other_unit op.Chnclear h n = absurd (cc)
-other_unit op.Schedule h n = absurd (cc)
-other_unit op.EventI h n = absurd (cc)
+-- a store takes three operands
+stores_three : (r : Rate) (xs : List Reg) → stores_with r xs ≡ true → length xs ≡ 3
+stores_three r [] h = absurd (cc)
+stores_three r (x ∷ []) h = absurd (cc)
+stores_three r (x ∷ y ∷ []) h = absurd (cc)
+stores_three r (x ∷ y ∷ n ∷ []) h = refl
+stores_three r (x ∷ y ∷ n ∷ z ∷ xs) h = absurd (cc)
+
+pub store_long : (o : Opcode) (reach : Reach) (r : Rate) (xs : List Reg) → takes_from (act.Store o reach) r xs ≡ true → length xs ≡ 3
+store_long o reach r xs h = stores_three r xs (and_parts (is_store (row_of o).shape) (stores_with r xs) h).1
 
 -- ---- an op that is done
 
@@ -174,9 +171,9 @@ does_op can_get can_set count at o b ys old before new after e f h piece kinds s
     (subst (λ l. Does at.layout.now piece kinds old.regs.counts b o.into l old before new after) (sym f)
     (h at.layout.now piece stock kinds old.regs.counts r.setting r.placed r.state))
 
-pub does_op_unit : (can_get can_set : ℕ → Type 0) (count : ℕ) (at : Setting) (o : Op) (opcode : Opcode) (u : ℕ) (reach : Reach) (shaped : Shape) (ys : List Reg) (old : State) (before : ℕ → ℤ) (new : State) (after : ℕ → ℤ)
-    → o.act ≡ act.Unit opcode u reach → o.from ≡ ys → (row_of opcode).shape ≡ shaped → DoesUnit shaped u reach o.into ys old before new after → DoesOp can_get can_set count at o old before new after
-does_op_unit can_get can_set count at o opcode u reach shaped ys old before new after e f is h piece kinds stock r =
+pub does_op_unit : (can_get can_set : ℕ → Type 0) (count : ℕ) (at : Setting) (o : Op) (opcode : Opcode) (u : ℕ) (reach : Reach) (ys : List Reg) (old : State) (before : ℕ → ℤ) (new : State) (after : ℕ → ℤ)
+    → o.act ≡ act.Unit opcode u reach → o.from ≡ ys → IsUnitOpcode opcode → DoesUnit u reach o.into ys old before new after → DoesOp can_get can_set count at o old before new after
+does_op_unit can_get can_set count at o opcode u reach ys old before new after e f is h piece kinds stock r =
     subst (λ d. Does at.layout.now piece kinds old.regs.counts d o.into o.from old before new after) (sym e)
     (subst (λ l. Does at.layout.now piece kinds old.regs.counts (act.Unit opcode u reach) o.into l old before new after) (sym f)
     (h at.layout.now piece stock kinds old.regs.counts opcode is (kind_of can_get can_set count at piece kinds stock o old r opcode u reach e) r.placed r.state))
@@ -188,66 +185,36 @@ does_op_plain can_get can_set count at o old cells new h piece kinds stock r =
 
 -- ---- zak places of an op that is ready
 
-pub get_reach : (can_get can_set : ℕ → Type 0) (count : ℕ) (at : Setting) (piece : Piece) (kinds : Kinds) (stock : Stock) (o : Op) (s : State)
-    → IsReady can_get can_set count at piece kinds stock o s → (z : Space) (u : ℕ) (reach : Reach) → o.act ≡ act.Unit (get_of z) u reach → MayReach can_get count at z reach
-get_reach can_get can_set count at piece kinds stock o s r z u reach e =
-    may_reach can_get count at stock piece z reach r.placed.spaces r.setting.spaces
-    (by_space z (uses_of can_get can_set count at piece kinds stock o s r (act.Unit (get_of z) u reach) e))
-  where
-    by_space : (z : Space) → AreNamed (MayTouch can_get count at.layout.now) (act_uses stock (act.Unit (get_of z) u reach)) → AreNamed (MayTouch can_get count at.layout.now) (places_within stock z reach)
-    by_space space.Control h = h
-    by_space space.Audio h = h
+module _ (can_get can_set : ℕ → Type 0) (count : ℕ) (at : Setting) (piece : Piece) (kinds : Kinds) (stock : Stock) (o : Op) (s : State)
+    (r : IsReady can_get can_set count at piece kinds stock o s) (opcode : Opcode) (reach : Reach) (e : o.act ≡ act.Zak opcode reach) where
+  -- those of the space that its shape reads, and those of the one that it writes
+  pub may_read : (z : Space) (sh : Shape) → (row_of opcode).shape ≡ sh → ((stock : Stock) → shape_uses stock sh reach ≡ places_within stock z reach) → MayReach can_get count at z reach
+  may_read z sh is these =
+      may_reach can_get count at stock piece z reach r.placed.spaces r.setting.spaces
+      (subst (AreNamed (MayTouch can_get count at.layout.now)) (ap (λ q. shape_uses stock q reach) is ∙ these stock)
+      (uses_of can_get can_set count at piece kinds stock o s r (act.Zak opcode reach) e))
 
-pub put_reach : (can_get can_set : ℕ → Type 0) (count : ℕ) (at : Setting) (piece : Piece) (kinds : Kinds) (stock : Stock) (o : Op) (s : State)
-    → IsReady can_get can_set count at piece kinds stock o s → (z : Space) (u : ℕ) (reach : Reach) → o.act ≡ act.Unit (put_of z) u reach → MayReach can_set count at z reach
-put_reach can_get can_set count at piece kinds stock o s r z u reach e =
-    may_reach can_set count at stock piece z reach r.placed.spaces r.setting.spaces
-    (by_space z (writes_of can_get can_set count at piece kinds stock o s r (act.Unit (put_of z) u reach) e))
-  where
-    by_space : (z : Space) → AreNamed (MayTouch can_set count at.layout.now) (act_writes stock (act.Unit (put_of z) u reach)) → AreNamed (MayTouch can_set count at.layout.now) (places_within stock z reach)
-    by_space space.Control h = h
-    by_space space.Audio h = h
-
-pub clear_reach : (can_get can_set : ℕ → Type 0) (count : ℕ) (at : Setting) (piece : Piece) (kinds : Kinds) (stock : Stock) (o : Op) (s : State)
-    → IsReady can_get can_set count at piece kinds stock o s → (z : Space) (u : ℕ) (reach : Reach) → o.act ≡ act.Unit (clear_of z) u reach → MayReach can_set count at z reach
-clear_reach can_get can_set count at piece kinds stock o s r z u reach e =
-    may_reach can_set count at stock piece z reach r.placed.spaces r.setting.spaces
-    (by_space z (writes_of can_get can_set count at piece kinds stock o s r (act.Unit (clear_of z) u reach) e))
-  where
-    by_space : (z : Space) → AreNamed (MayTouch can_set count at.layout.now) (act_writes stock (act.Unit (clear_of z) u reach)) → AreNamed (MayTouch can_set count at.layout.now) (places_within stock z reach)
-    by_space space.Control h = h
-    by_space space.Audio h = h
-
-pub mix_reads : (can_get can_set : ℕ → Type 0) (count : ℕ) (at : Setting) (piece : Piece) (kinds : Kinds) (stock : Stock) (o : Op) (s : State)
-    → IsReady can_get can_set count at piece kinds stock o s → (u : ℕ) (reach : Reach) → o.act ≡ act.Unit op.Zawm u reach → MayReach can_get count at space.Audio reach
-mix_reads can_get can_set count at piece kinds stock o s r u reach e =
-    may_reach can_get count at stock piece space.Audio reach r.placed.spaces r.setting.spaces
-    (uses_of can_get can_set count at piece kinds stock o s r (act.Unit op.Zawm u reach) e)
-
-pub mix_writes : (can_get can_set : ℕ → Type 0) (count : ℕ) (at : Setting) (piece : Piece) (kinds : Kinds) (stock : Stock) (o : Op) (s : State)
-    → IsReady can_get can_set count at piece kinds stock o s → (u : ℕ) (reach : Reach) → o.act ≡ act.Unit op.Zawm u reach → MayReach can_set count at space.Audio reach
-mix_writes can_get can_set count at piece kinds stock o s r u reach e =
-    may_reach can_set count at stock piece space.Audio reach r.placed.spaces r.setting.spaces
-    (writes_of can_get can_set count at piece kinds stock o s r (act.Unit op.Zawm u reach) e)
+  pub may_write : (z : Space) (sh : Shape) → (row_of opcode).shape ≡ sh → ((stock : Stock) → (if writes_places sh then shape_uses stock sh reach else []) ≡ places_within stock z reach)
+      → MayReach can_set count at z reach
+  may_write z sh is these =
+      may_reach can_set count at stock piece z reach r.placed.spaces r.setting.spaces
+      (subst (AreNamed (MayTouch can_set count at.layout.now)) (ap (λ q. if writes_places q then shape_uses stock q reach else []) is ∙ these stock)
+      (writes_of can_get can_set count at piece kinds stock o s r (act.Zak opcode reach) e))
 
 -- ---- tables of an op that is ready
 
 pub unit_may_play : (can_get can_set : ℕ → Type 0) (count : ℕ) (at : Setting) (piece : Piece) (kinds : Kinds) (stock : Stock) (o : Op) (s : State)
-    → IsReady can_get can_set count at piece kinds stock o s → (opcode : Opcode) (u : ℕ) (reach : Reach) → o.act ≡ act.Unit opcode u reach → IsUnitOpcode opcode
+    → IsReady can_get can_set count at piece kinds stock o s → (opcode : Opcode) (u : ℕ) (reach : Reach) → o.act ≡ act.Unit opcode u reach
     → (p : PlayerData) → slice_index_or s.players.items u None ≡ Some p → MayPlay can_get count reach o.from p
-unit_may_play can_get can_set count at piece kinds stock o s r opcode u reach e unit p is =
-    may_run can_get count at.layout.now stock piece kinds opcode o.into.rate reach o.from p unit
-    (unit_count opcode u reach o.into.rate o.from (takes_of can_get can_set count at piece kinds stock o s r (act.Unit opcode u reach) e))
-    r.placed (of_unit (uses_of can_get can_set count at piece kinds stock o s r (act.Unit opcode u reach) e))
+unit_may_play can_get can_set count at piece kinds stock o s r opcode u reach e p is =
+    let takes = takes_of can_get can_set count at piece kinds stock o s r (act.Unit opcode u reach) e in
+    may_run can_get count at.layout.now stock piece opcode o.into.rate reach o.from p (is_a_unit opcode u reach o.into.rate o.from takes)
+    (unit_count opcode u reach o.into.rate o.from takes)
+    r.placed (uses_of can_get can_set count at piece kinds stock o s r (act.Unit opcode u reach) e)
     (player_of can_get can_set count at piece kinds stock o s r opcode u reach e p is)
-  where
-    of_unit : AreNamed (MayTouch can_get count at.layout.now) (unit_uses stock opcode reach) → AreNamed (MayTouch can_get count at.layout.now) (if takes_table opcode then tables_within stock reach else [])
-    of_unit h = subst (AreNamed (MayTouch can_get count at.layout.now)) (ap (λ q. shape_uses stock q (takes_table opcode) reach) unit) h
 
-pub unit_may_store : (can_get can_set : ℕ → Type 0) (count : ℕ) (at : Setting) (piece : Piece) (kinds : Kinds) (stock : Stock) (o : Op) (s : State)
-    → IsReady can_get can_set count at piece kinds stock o s → (u : ℕ) (reach : Reach) → o.act ≡ act.Unit op.Tablew u reach
-    → (p : PlayerData) → slice_index_or s.players.items u None ≡ Some p → MayStore can_set count reach p
-unit_may_store can_get can_set count at piece kinds stock o s r u reach e p is =
-    may_store can_set count at.layout.now stock piece kinds op.Tablew o.into.rate reach p refl r.placed
-    (writes_of can_get can_set count at piece kinds stock o s r (act.Unit op.Tablew u reach) e)
-    (player_of can_get can_set count at piece kinds stock o s r op.Tablew u reach e p is)
+pub op_may_store : (can_get can_set : ℕ → Type 0) (count : ℕ) (at : Setting) (piece : Piece) (kinds : Kinds) (stock : Stock) (o : Op) (s : State)
+    → IsReady can_get can_set count at piece kinds stock o s → (opcode : Opcode) (reach : Reach) → o.act ≡ act.Store opcode reach → MayStore can_set count at.layout.now reach
+op_may_store can_get can_set count at piece kinds stock o s r opcode reach e =
+    may_store can_set count at.layout.now stock piece reach r.placed
+    (writes_of can_get can_set count at piece kinds stock o s r (act.Store opcode reach) e)

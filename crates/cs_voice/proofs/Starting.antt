@@ -8,7 +8,7 @@ use Rattle.cs_base.specs.Limits.{most_delay_samples}
 use Rattle.cs_base.specs.declared.resource.Rate.{Rate}
 use Rattle.cs_base.specs.declared.resource.Res.TheVariants as res
 use Rattle.cs_base.proofs.Tests.{by_test}
-use Rattle.cs_words.specs.Catalogue.{row_of, takes_table}
+use Rattle.cs_words.specs.Catalogue.{takes_table}
 use Rattle.cs_words.specs.declared.catalogue.Opcode.{Opcode}
 use Rattle.cs_words.specs.declared.catalogue.Opcode.TheVariants as op
 use Rattle.cs_signal.specs.Delay.{delay_length}
@@ -17,14 +17,14 @@ use Rattle.cs_ugen.specs.Units.{IsUnitOpcode, unit_start}
 use Rattle.cs_ugen.specs.declared.unit.Kind.{Kind}
 use Rattle.cs_ugen.proofs.Units.{state_starts}
 use Rattle.cs_ir.specs.Machine.{Machine, in_world}
-use Rattle.cs_ir.specs.Units.{is_started}
 use Rattle.cs_ir.specs.declared.register.Counts.{Counts}
 use Rattle.cs_cells.specs.declared.footprint.Area.{Area}
-use Rattle.cs_meaning.specs.Plain.{Piece, Table, Cause, delay_too_long, find_table, is_there, is_delay, table_number}
+use Rattle.cs_meaning.specs.Model.{Cause, delay_too_long, starts}
+use Rattle.cs_meaning.specs.Pieces.{Piece, Table, find_table, is_there, is_delay, table_number}
 use Rattle.cs_machine.specs.Registers.{values}
 use Rattle.cs_machine.specs.Outputs.{outs}
 use Rattle.cs_voice_meaning.specs.Placing.{area_of}
-use Rattle.cs_voice_meaning.specs.VoiceWorld.{Playing, VoiceState, pace_of, starts}
+use Rattle.cs_voice_meaning.specs.VoiceWorld.{Playing, VoiceState, pace_of, voice_model}
 use Rattle.cs_voice_meaning.specs.Follows.{Kinds}
 use Rattle.cs_machine.specs.Players.{PlayerData, playing}
 use Rattle.cs_machine.specs.States.{machine_of, unit_at, IsStateIn, IsPlayerOf}
@@ -54,7 +54,7 @@ unit_machine : (old new : State) (u samples : ℕ) (p : PlayerData) → HasUnit 
       regs = values old.regs;
       next = next;
       world = record {
-        cells = cells;
+        shared = cells;
         units = λ n. if n == u then Some (playing p) else unit_at old.players.items n;
         delays = samples;
         outs = outs old.outs;
@@ -67,7 +67,7 @@ unit_machine old new u samples p has low cells next asks cause = λ i. record {
   regs = values (has.regs i);
   next = next;
   world = record {
-    cells = cells;
+    shared = cells;
     units = λ n. (ap (λ ps. unit_at ps n) has.players ∙ set_at old.players.items u n p low) i;
     delays = has.delays i;
     outs = outs (has.outs i);
@@ -101,41 +101,10 @@ unit_state areas piece kinds counts old new u samples p has low state player = r
       (λ no. state.players n q (sym (get_or-set_other old.players.items u n (Some p) None (apart n u no)) ∙ ap (λ ps. slice_index_or ps n None) (sym has.players) ∙ is));
 }
 
--- what takes a table is no delay, and a unit without one isn't a store
+-- what takes a table is no delay
 no_delay : (o : Opcode) → takes_table o ≡ true → is_delay o ≡ false
 no_delay op.Delay h = absurd cc
-no_delay op.Init h = refl
-no_delay op.Oscil h = refl
-no_delay op.Oscili h = refl
-no_delay op.Phasor h = refl
-no_delay op.Line h = refl
-no_delay op.Linseg h = refl
-no_delay op.Linen h = refl
-no_delay op.Biquad h = refl
-no_delay op.Table h = refl
-no_delay op.Tablei h = refl
-no_delay op.Tablew h = refl
 no_delay _ h = refl
-
-no_store : (o : Opcode) → is_started (row_of o).shape ≡ true → takes_table o ≡ false → IsUnitOpcode o
-no_store op.Oscil h t = refl
-no_store op.Oscili h t = refl
-no_store op.Phasor h t = refl
-no_store op.Line h t = refl
-no_store op.Linseg h t = refl
-no_store op.Linen h t = refl
-no_store op.Delay h t = refl
-no_store op.Biquad h t = refl
-no_store op.Table h t = refl
-no_store op.Tablei h t = refl
-no_store op.Tablew h t = absurd cc
-no_store op.Integ h t = refl
-no_store op.Diff h t = refl
-no_store op.Samphold h t = refl
-no_store op.Limit h t = refl
-no_store op.Interp h t = refl
-no_store op.Downsamp h t = refl
-no_store _ h t = absurd cc
 
 no_test : (o : Opcode) → is_delay o ≡ true → takes_table o ≡ false
 no_test op.Delay h = refl
@@ -146,13 +115,12 @@ has_one : (o : Option (List ℤ)) (a : Option Area) → (o ≡ None → (x : Are
 has_one (Some ps) a h = refl
 has_one None a h = let e = h refl in ap is_some e.1
 
-on_is : (areas : List Area) (piece : Piece) (o : Opcode) (r : Rate) (pace : Pace) (settled : List ℤ) (t : Table) → takes_table o ≡ true
+on_is : (areas : List Area) (piece : Piece) (o : Opcode) (r : Rate) (pace : Pace) (settled : List ℤ) (t : Table) → IsUnitOpcode o → takes_table o ≡ true
     → find_table piece.tables (table_number settled) ≡ Some t → t.present ≡ true → CanBePlayed areas t
-    → ((area : Area) → (player_on areas t o (table_number settled) (unit_start o r pace settled)).area ≡ Some area → area.first + area.length ≤ 65536)
-    → IsPlayerOf areas piece (o, r) (player_on areas t o (table_number settled) (unit_start o r pace settled))
-on_is areas piece o r pace settled t takes found present can small = record {
-  opcode = refl;
-  state = λ unit. (state_starts o r pace settled unit).opcode;
+    → ((area : Area) → (player_on areas t (table_number settled) (unit_start o r pace settled)).area ≡ Some area → area.first + area.length ≤ 65536)
+    → IsPlayerOf areas piece (o, r) (player_on areas t (table_number settled) (unit_start o r pace settled))
+on_is areas piece o r pace settled t unit takes found present can small = record {
+  state = (state_starts o r pace settled unit).opcode;
   table = λ again. record {
     table = t;
     found = found;
@@ -166,11 +134,10 @@ on_is areas piece o r pace settled t takes found present can small = record {
   none = λ no. absurd (let e : true ≡ false = sym takes ∙ no in cc);
 }
 
-alone_is : (areas : List Area) (piece : Piece) (o : Opcode) (r : Rate) (pace : Pace) (settled : List ℤ) → takes_table o ≡ false
-    → IsPlayerOf areas piece (o, r) (player_alone o (table_number settled) (unit_start o r pace settled))
-alone_is areas piece o r pace settled takes = record {
-  opcode = refl;
-  state = λ unit. (state_starts o r pace settled unit).opcode;
+alone_is : (areas : List Area) (piece : Piece) (o : Opcode) (r : Rate) (pace : Pace) (settled : List ℤ) → IsUnitOpcode o → takes_table o ≡ false
+    → IsPlayerOf areas piece (o, r) (player_alone (table_number settled) (unit_start o r pace settled))
+alone_is areas piece o r pace settled unit takes = record {
+  state = (state_starts o r pace settled unit).opcode;
   table = λ again. absurd (let e : true ≡ false = sym again ∙ takes in cc);
   none = λ no. (refl, refl);
 }
@@ -206,7 +173,7 @@ with_unit cells next asks s u samples p = record {
   regs = values s.regs;
   next = next;
   world = record {
-    cells = cells;
+    shared = cells;
     units = λ n. if n == u then Some p else unit_at s.players.items n;
     delays = samples;
     outs = outs s.outs;
@@ -219,7 +186,7 @@ with_unit cells next asks s u samples p = record {
 module _ (areas : List Area) (piece : Piece) (kinds : Kinds) (counts : Counts) (o : Opcode) (r : Rate) (u : ℕ) (settled : List ℤ) (old new : State) where
   -- what is refused
   refused_is : (refused : Refusal) → new ≡ old → IsStateIn areas piece kinds counts old → old.delays ≤ most_delay_samples
-      → ((x : VoiceState) → x.delays ≡ old.delays → starts piece o r u settled x ≡ record x { cause = Some (cause_of refused) })
+      → ((x : VoiceState) → x.delays ≡ old.delays → starts (voice_model areas piece) o r u settled x ≡ record x { cause = Some (cause_of refused) })
       → Starts areas piece kinds counts o r u settled old new (Some refused)
   refused_is refused same state small is = record {
     machine = λ cells next asks. ap (λ s. machine_of s cells next asks (Some (cause_of refused))) same
@@ -231,7 +198,7 @@ module _ (areas : List Area) (piece : Piece) (kinds : Kinds) (counts : Counts) (
   -- what is started
   started_is : (samples : ℕ) (p : PlayerData) → HasUnit old u p samples new → u < length old.players.items
       → IsStateIn areas piece kinds counts old → IsPlayerOf areas piece (o, r) p → kinds u ≡ (o, r) → samples ≤ most_delay_samples
-      → ((cells : ℕ → ℤ) (next : ℕ) (asks : List (List ℤ)) → in_world (starts piece o r u settled (machine_of old cells next asks None).world) (machine_of old cells next asks None)
+      → ((cells : ℕ → ℤ) (next : ℕ) (asks : List (List ℤ)) → in_world (starts (voice_model areas piece) o r u settled (machine_of old cells next asks None).world) (machine_of old cells next asks None)
       ≡ with_unit cells next asks old u samples (playing p))
       → Starts areas piece kinds counts o r u settled old new None
   unfolding with_unit
@@ -241,15 +208,15 @@ module _ (areas : List Area) (piece : Piece) (kinds : Kinds) (counts : Counts) (
     delays = let e = has.delays in omega arith;
   }
 
-  module _ (pace : Pace) (same_pace : pace_of piece.head ≡ pace) (kind : kinds u ≡ (o, r)) (state : IsStateIn areas piece kinds counts old)
+  module _ (pace : Pace) (same_pace : pace_of piece.head ≡ pace) (kind : kinds u ≡ (o, r)) (unit : IsUnitOpcode o) (state : IsStateIn areas piece kinds counts old)
       (low : u < length old.players.items) (small : old.delays ≤ most_delay_samples) where
     pub on_table : (refused : Option Refusal) → takes_table o ≡ true → CanAllBePlayed areas piece.tables
-        → BeginsOnTable areas piece.tables (table_number settled) o (unit_start o r pace settled) u old new refused
+        → BeginsOnTable areas piece.tables (table_number settled) (unit_start o r pace settled) u old new refused
         → Starts areas piece kinds counts o r u settled old new refused
     unfolding with_unit
     on_table None takes can b =
-        started_is old.delays (player_on areas b.table o (table_number settled) (unit_start o r pace settled)) b.has low state
-        (on_is areas piece o r pace settled b.table takes b.found b.present (can (table_number settled) b.table b.found) b.small) kind small
+        started_is old.delays (player_on areas b.table (table_number settled) (unit_start o r pace settled)) b.has low state
+        (on_is areas piece o r pace settled b.table unit takes b.found b.present (can (table_number settled) b.table b.found) b.small) kind small
         (λ cells next asks.
         ap (λ w. in_world w (machine_of old cells next asks None))
         (if_false (takes_table o && not (is_there (find_table piece.tables (table_number settled)))) _ _
@@ -263,12 +230,12 @@ module _ (areas : List Area) (piece : Piece) (kinds : Kinds) (counts : Counts) (
         ∙ ap (λ f. record x { cause = Some (cause_of f) }) (sym b.cause))
 
     pub alone : takes_table o ≡ false → is_delay o ≡ false
-        → HasUnit old u (player_alone o (table_number settled) (unit_start o r pace settled)) old.delays new
+        → HasUnit old u (player_alone (table_number settled) (unit_start o r pace settled)) old.delays new
         → Starts areas piece kinds counts o r u settled old new None
     unfolding with_unit
     alone takes delay has =
-        started_is old.delays (player_alone o (table_number settled) (unit_start o r pace settled)) has low state
-        (alone_is areas piece o r pace settled takes) kind small
+        started_is old.delays (player_alone (table_number settled) (unit_start o r pace settled)) has low state
+        (alone_is areas piece o r pace settled unit takes) kind small
         (λ cells next asks.
         ap (λ w. in_world w (machine_of old cells next asks None))
         (if_false (takes_table o && not (is_there (find_table piece.tables (table_number settled)))) _ _
@@ -278,13 +245,13 @@ module _ (areas : List Area) (piece : Piece) (kinds : Kinds) (counts : Counts) (
 
     pub a_delay : (refused : Option Refusal) → is_delay o ≡ true
         → BeginsDelay (old.delays + delay_length pace (slice_index_or settled 0 (pos 0)))
-        (player_alone o (table_number settled) (unit_start o r pace settled)) u old new refused
+        (player_alone (table_number settled) (unit_start o r pace settled)) u old new refused
         → Starts areas piece kinds counts o r u settled old new refused
     unfolding with_unit
     a_delay None delay b =
         let samples : ℕ = old.delays + delay_length pace (slice_index_or settled 0 (pos 0)) in
-        started_is samples (player_alone o (table_number settled) (unit_start o r pace settled)) b.has low state
-        (alone_is areas piece o r pace settled (no_test o delay)) kind b.within
+        started_is samples (player_alone (table_number settled) (unit_start o r pace settled)) b.has low state
+        (alone_is areas piece o r pace settled unit (no_test o delay)) kind b.within
         (λ cells next asks.
         ap (λ w. in_world w (machine_of old cells next asks None))
         (if_false (takes_table o && not (is_there (find_table piece.tables (table_number settled)))) _ _
@@ -310,12 +277,12 @@ module _ (areas : List Area) (piece : Piece) (kinds : Kinds) (counts : Counts) (
         ∙ sym (ap cause_of b.cause)))
 
 -- a unit that was put on a table
-pub begun_on : (areas : List Area) (tables : List Table) (t : Table) (number n m : ℤ) (o : Opcode) (state k : Kind) (u : ℕ) (old new : State) (p : PlayerData)
-    → n ≡ number → m ≡ number → Some t ≡ find_table tables n → t.present ≡ true → k ≡ state → p ≡ player_on areas t o m k
+pub begun_on : (areas : List Area) (tables : List Table) (t : Table) (number n m : ℤ) (state k : Kind) (u : ℕ) (old new : State) (p : PlayerData)
+    → n ≡ number → m ≡ number → Some t ≡ find_table tables n → t.present ≡ true → k ≡ state → p ≡ player_on areas t m k
     → ((area : Area) → p.area ≡ Some area → area.first + area.length ≤ 65536) → HasUnit old u p old.delays new
-    → IsBegunOn areas tables number o state u old new
-begun_on areas tables t number n m o state k u old new p e d found present f g small has =
-    let full : p ≡ player_on areas t o number state = g ∙ (λ i. player_on areas t o (d i) (f i)) in
+    → IsBegunOn areas tables number state u old new
+begun_on areas tables t number n m state k u old new p e d found present f g small has =
+    let full : p ≡ player_on areas t number state = g ∙ (λ i. player_on areas t (d i) (f i)) in
     record {
       table = t;
       found = sym (found ∙ ap (find_table tables) e);

@@ -1,7 +1,7 @@
 -- The tables that a note finds, by their numbers.
 use Rattle.std.proofs.Common.{◌≡◌, ℕ, ℤ, zero, suc, ◌+◌, ◌<◌, ◌≤◌, ◌==◌, Bool, true, false, not, ◌&&◌, List, [], ◌∷◌, length, drop, get_or, unsigned_abs, Option, Some, None, if◌then◌else◌, refl, sym, ◌∙◌, ap, arith}
 use Rattle.std.specs.Int.{is_negative}
-use Rattle.cs_meaning.specs.Plain.{Table, find_table}
+use Rattle.cs_meaning.specs.Pieces.{Table, find_table}
 use Rattle.cs_voice.specs.declared.stage.TableAt.{TableAt}
 use Rattle.cs_voice.specs.Tables.{table_at, tables_of}
 

@@ -1,5 +1,5 @@
 -- What an op that runs a unit may do: its table, and the zak places that it reaches.
-use Rattle.std.proofs.Common.{◌≡◌, ℕ, ℤ, ◌+◌, ◌≤◌, Bool, true, false, not, ◌||◌, List, [], length, nat_lt, unsigned_abs, Option, Some, None, if◌then◌else◌, refl, sym, ◌∙◌, ap, subst}
+use Rattle.std.proofs.Common.{◌≡◌, ℕ, ℤ, pos, ◌+◌, ◌≤◌, Bool, true, false, not, ◌||◌, List, [], length, nat_lt, unsigned_abs, Option, Some, None, if◌then◌else◌, refl, sym, ◌∙◌, ap, subst}
 use Rattle.std.specs.Option.{is_some}
 use Rattle.std.proofs.lemmas.Bool.{and_from, lt-ltb}
 use Rattle.cs_base.proofs.Tests.{some_is}
@@ -16,17 +16,16 @@ use Rattle.cs_ir.specs.Resources.{Stock, places_of, places_within, reaches, tabl
 use Rattle.cs_ir.specs.declared.op.Reach.{Reach}
 use Rattle.cs_ir.specs.declared.register.Reg.{Reg}
 use Rattle.cs_cells.specs.declared.footprint.Area.{Area}
-use Rattle.cs_meaning.specs.Plain.{Piece}
+use Rattle.cs_meaning.specs.Pieces.{Piece}
 use Rattle.cs_machine.specs.Access.{CanTouch}
 use Rattle.cs_machine.specs.Players.{PlayerData, has_table}
-use Rattle.cs_voice_meaning.proofs.Naming.{place_named}
-use Rattle.cs_voice_meaning.proofs.UnitsPlay.{table_named}
-use Rattle.cs_voice_meaning.specs.Follows.{AreNamed, Kinds}
+use Rattle.cs_voice_meaning.proofs.Naming.{found_number, named_among, place_named}
+use Rattle.cs_voice_meaning.specs.Follows.{AreNamed}
 use Rattle.cs_voice_meaning.specs.Placing.{IsPlaced, area_of}
 use Rattle.cs_machine.specs.States.{IsOnTable, IsPlayerOf, MayTouch}
 use Rattle.cs_machine.specs.declared.state.Setting.{Setting}
-use Rattle.cs_voice.specs.Cells.{MayReach}
-use Rattle.cs_voice.specs.Units.{MayPlay, MayStore, may_play}
+use Rattle.cs_voice.specs.Cells.{MayReach, MayStore}
+use Rattle.cs_voice.specs.Units.{MayPlay, may_play}
 use Rattle.cs_voice.proofs.Points.{IsLiveOn, live_table, table_taken, unit_result}
 
 -- ---- tables
@@ -49,17 +48,17 @@ in_reach false b h e = absurd (cc)
 the_area : (allowed : ℕ → Type 0) (count : ℕ) (areas : List Area) (g : Res) (a : Area) → area_of areas g ≡ Some a → MayTouch allowed count areas g → CanTouch allowed count a
 the_area allowed count areas g a at may = subst (CanTouch allowed count) (some_is may.0 a (sym may.1 ∙ at)) may.2
 
-pub touched : (allowed : ℕ → Type 0) (count : ℕ) (areas : List Area) (stock : Stock) (piece : Piece) (kinds : Kinds) (reach : Reach) (p : PlayerData) (on : IsOnTable areas piece.tables p)
+pub touched : (allowed : ℕ → Type 0) (count : ℕ) (areas : List Area) (stock : Stock) (piece : Piece) (reach : Reach) (p : PlayerData) (on : IsOnTable areas piece.tables p)
     → IsPlaced areas stock piece → AreNamed (MayTouch allowed count areas) (tables_within stock reach) → (area : Area) → p.area ≡ Some area → IsTouched allowed count reach p area
-touched allowed count areas stock piece kinds reach p on placed named area at =
+touched allowed count areas stock piece reach p on placed named area at =
     let open_table : on.table.frozen ≡ None = not_frozen on.table.frozen (area_of areas (res.Table on.table.number)) p.area area on.area at in
     let live : IsLiveOn areas on.table area = live_table areas stock piece p on placed open_table area at in
     record {
       power = subst (λ n. is_len (len_of n) ≡ true) (sym live.size) on.power;
       small = on.small area at;
       can = λ may. the_area allowed count areas (res.Table on.table.number) area live.area
-          (table_named areas stock piece kinds (MayTouch allowed count areas) [] placed reach p.table on.table named
-          (in_reach (has_table p) (reaches reach (unsigned_abs p.table)) may on.has) on.found open_table);
+          (named_among (MayTouch allowed count areas) res.Table reach stock.live named on.table.number (placed.tables p.table on.table on.found open_table).among
+          (ap (reaches reach) (found_number piece.tables p.table on.table on.found) ∙ in_reach (has_table p) (reaches reach (unsigned_abs p.table)) may on.has));
     }
 
 -- a unit that has an area takes a table
@@ -74,14 +73,14 @@ when_taken : (N : Res → Type 0) (b : Bool) (l : List Res) → AreNamed N (if b
 when_taken N true l h e = h
 when_taken N false l h e = absurd (cc)
 
-pub may_run : (allowed : ℕ → Type 0) (count : ℕ) (areas : List Area) (stock : Stock) (piece : Piece) (kinds : Kinds) (opcode : Opcode) (r : Rate) (reach : Reach) (from : List Reg) (p : PlayerData)
+pub may_run : (allowed : ℕ → Type 0) (count : ℕ) (areas : List Area) (stock : Stock) (piece : Piece) (opcode : Opcode) (r : Rate) (reach : Reach) (from : List Reg) (p : PlayerData)
     → IsUnitOpcode opcode → length from ≡ moving_count opcode → IsPlaced areas stock piece
     → AreNamed (MayTouch allowed count areas) (if takes_table opcode then tables_within stock reach else []) → IsPlayerOf areas piece (opcode, r) p → MayPlay allowed count reach from p
-may_run allowed count areas stock piece kinds opcode r reach from p unit long placed named is =
-    let same : opcode_of p.state ≡ opcode = is.state unit in
+may_run allowed count areas stock piece opcode r reach from p unit long placed named is =
+    let same : opcode_of p.state ≡ opcode = is.state in
     let there : (area : Area) → p.area ≡ Some area → IsTouched allowed count reach p area =
     λ area at. let takes = takes_with areas piece (opcode, r) p is area at in
-    touched allowed count areas stock piece kinds reach p (is.table takes) placed (when_taken (MayTouch allowed count areas) (takes_table opcode) (tables_within stock reach) named takes) area at in
+    touched allowed count areas stock piece reach p (is.table takes) placed (when_taken (MayTouch allowed count areas) (takes_table opcode) (tables_within stock reach) named takes) area at in
     record {
       unit = subst IsUnitOpcode (sym same) unit;
       operands = long ∙ ap moving_count (sym same);
@@ -93,15 +92,18 @@ may_run allowed count areas stock piece kinds opcode r reach from p unit long pl
       };
     }
 
-pub may_store : (allowed : ℕ → Type 0) (count : ℕ) (areas : List Area) (stock : Stock) (piece : Piece) (kinds : Kinds) (opcode : Opcode) (r : Rate) (reach : Reach) (p : PlayerData)
-    → takes_table opcode ≡ true → IsPlaced areas stock piece → AreNamed (MayTouch allowed count areas) (tables_within stock reach) → IsPlayerOf areas piece (opcode, r) p → MayStore allowed count reach p
-may_store allowed count areas stock piece kinds opcode r reach p takes placed named is =
-    let there : (area : Area) → p.area ≡ Some area → IsTouched allowed count reach p area =
-    touched allowed count areas stock piece kinds reach p (is.table takes) placed named in
+-- a live table within reach may be stored into
+pub may_store : (allowed : ℕ → Type 0) (count : ℕ) (areas : List Area) (stock : Stock) (piece : Piece) (reach : Reach)
+    → IsPlaced areas stock piece → AreNamed (MayTouch allowed count areas) (tables_within stock reach) → MayStore allowed count areas reach
+may_store allowed count areas stock piece reach placed named n area within at =
+    let is = placed.live n area at in
+    let lies = placed.tables (pos n) is.table is.found is.live in
+    let number : is.table.number ≡ n = found_number piece.tables (pos n) is.table is.found in
+    let here : area_of areas (res.Table is.table.number) ≡ Some area = ap (λ m. area_of areas (res.Table m)) number ∙ at in
     record {
-      power = λ area at. (there area at).power;
-      small = λ area at. (there area at).small;
-      write = λ area at may. (there area at).can may;
+      power = ap (λ m. is_len (len_of m)) (lies.size area here) ∙ lies.power;
+      write = the_area allowed count areas (res.Table is.table.number) area here
+          (named_among (MayTouch allowed count areas) res.Table reach stock.live named is.table.number lies.among (ap (reaches reach) number ∙ within));
     }
 
 -- ---- zak places

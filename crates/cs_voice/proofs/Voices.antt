@@ -6,10 +6,10 @@ use Rattle.cs_ir.specs.Machine.{Machine}
 use Rattle.cs_cells.specs.Cells.{Cells, cell}
 use Rattle.cs_voice_meaning.specs.VoiceWorld.{VoiceState}
 use Rattle.cs_voice_meaning.specs.Voices.{Sheet, begins, cycle, may_write, performed, left_by, seen, voice_of}
-use Rattle.cs_voice.specs.VoiceData.{VoiceData, IsOn, IsSheetFor, OpsStoreInto, piece_of, sheet_of, sounding, sounding_on, table_at, units_in}
+use Rattle.cs_voice.specs.VoiceData.{VoiceData, IsOn, piece_of, sheet_of, sounding, sounding_on}
 use Rattle.cs_voice.specs.VoiceMeaning.{IsVoice, Performs, after, leaves}
-use Rattle.cs_voice.specs.Jobs.{after_voice, performed_fits, taken, units_taken}
-use Rattle.cs_voice.proofs.Sheets.{run_keeps_tables, run_same}
+use Rattle.cs_voice.specs.Jobs.{after_voice, performed_fits, taken}
+use Rattle.cs_voice.proofs.Sheets.{run_same}
 
 -- ---- any sheet that it plays from
 
@@ -32,7 +32,7 @@ own_sheet s d = record {
 }
 
 -- a sheet is its own one with a voice's parts
-pub its_own : (s : Sheet) (d : VoiceData) → IsSheetFor s d → s ≡ own_sheet s d
+pub its_own : (s : Sheet) (d : VoiceData) → IsOn s d → s ≡ own_sheet s d
 unfolding own_sheet
 its_own s d on = λ t. record {
   number = on.number t;
@@ -55,9 +55,8 @@ module _ (s : Sheet) (d : VoiceData) (on : IsOn s d) (h : IsVoice d) where
   same_cycle : (x : ℕ → ℤ) → cycle (sounding_on (own_sheet s d) d) x ≡ cycle (sounding d) x
   unfolding own_sheet
   same_cycle x =
-      sym (run_same d.areas (own_sheet s d).piece (piece_of d).generators 0 d.code.ops.items (begins (sounding d) x) h.playable.perf_acts
-      (subst (OpsStoreInto s.piece.tables (table_at (units_in d.units))) on.parts.perf on.stores))
-      ∙ ap (λ ts. cycle (record (sounding d) { sheet = record (sheet_of d) { piece = record (piece_of d) { tables = ts } } }) x) on.parts.tables
+      sym (run_same d.areas (own_sheet s d).piece (piece_of d).generators 0 d.code.ops.items (begins (sounding d) x) h.playable.perf_acts)
+      ∙ ap (λ ts. cycle (record (sounding d) { sheet = record (sheet_of d) { piece = record (piece_of d) { tables = ts } } }) x) on.tables
 
   performs_own : (c : Cells) → sounding_on (own_sheet s d) (after d c) ≡ performed (sounding_on (own_sheet s d) d) c
   unfolding own_sheet
@@ -68,32 +67,23 @@ module _ (s : Sheet) (d : VoiceData) (on : IsOn s d) (h : IsVoice d) where
   leaves_own : (c : Cells) → leaves d c ≡ left_by (sounding_on (own_sheet s d) d) c
   unfolding own_sheet
   leaves_own c =
-      ap (λ (m : Machine VoiceState). map (λ a. if may_write (sheet_of d) a then m.world.cells a else cell c a) (range_with_len 0 (length c)))
+      ap (λ (m : Machine VoiceState). map (λ a. if may_write (sheet_of d) a then m.world.shared a else cell c a) (range_with_len 0 (length c)))
       (sym (same_cycle (seen (sheet_of d) (cell c))))
-
-  -- each unit has the table that it was started with
-  same_tables : (c : Cells) → table_at (units_in (after d c).units) ≡ table_at (units_in d.units)
-  same_tables c =
-      ap table_at (units_taken d h (performed (sounding d) c) (performed_fits d c h))
-      ∙ run_keeps_tables d.areas (piece_of d) 0 d.code.ops.items (begins (sounding d) (seen (sheet_of d) (cell c))) h.playable.perf_acts
 
   pub performs : (c : Cells) → Performs s d c
   performs c = record {
-    voice = subst (λ z. sounding_on z (after d c) ≡ performed (sounding_on z d) c) (sym (its_own s d on.parts)) (performs_own c);
-    cells = subst (λ z. leaves d c ≡ left_by (sounding_on z d) c) (sym (its_own s d on.parts)) (leaves_own c);
+    voice = subst (λ z. sounding_on z (after d c) ≡ performed (sounding_on z d) c) (sym (its_own s d on)) (performs_own c);
+    cells = subst (λ z. leaves d c ≡ left_by (sounding_on z d) c) (sym (its_own s d on)) (leaves_own c);
     sheet = record {
-      parts = record {
-        number = on.parts.number;
-        age = on.parts.age;
-        head = on.parts.head;
-        spaces = on.parts.spaces;
-        tables = on.parts.tables;
-        fields = on.parts.fields;
-        areas = on.parts.areas;
-        foot = on.parts.foot;
-        perf = on.parts.perf;
-      };
-      stores = subst (λ at. OpsStoreInto s.piece.tables at s.perf) (sym (same_tables c)) on.stores;
+      number = on.number;
+      age = on.age;
+      head = on.head;
+      spaces = on.spaces;
+      tables = on.tables;
+      fields = on.fields;
+      areas = on.areas;
+      foot = on.foot;
+      perf = on.perf;
     };
     valid = after_voice d c h;
   }

@@ -1,11 +1,11 @@
 -- Acts over the cells of a bank.
-use Rattle.std.specs.Prelude.{ℕ, ℤ, ◌≡◌, ◌<◌, true, List, Some}
+use Rattle.std.specs.Prelude.{ℕ, ℤ, ◌≡◌, ◌<◌, true, List, Option, Some, None, if◌then◌else◌}
 use Rattle.cs_base.specs.Rates.{res_rate}
 use Rattle.cs_base.specs.declared.resource.Res.{Res}
-use Rattle.cs_words.specs.declared.catalogue.Opcode.{Opcode}
-use Rattle.cs_words.specs.declared.catalogue.Opcode.TheVariants as op
+use Rattle.cs_base.specs.declared.resource.Res.TheVariants as res
 use Rattle.cs_words.specs.declared.catalogue.Space.{Space}
-use Rattle.cs_words.specs.declared.catalogue.Space.TheVariants as space
+use Rattle.cs_gen.specs.Points.{len_of}
+use Rattle.cs_ugen.specs.Points.{is_len}
 use Rattle.cs_ir.specs.Resources.{Stock, places_of, reaches, zak_place}
 use Rattle.cs_ir.specs.Validity.{has_value}
 use Rattle.cs_ir.specs.declared.op.Act.{Act}
@@ -13,14 +13,16 @@ use Rattle.cs_ir.specs.declared.op.Reach.{Reach}
 use Rattle.cs_ir.specs.declared.register.Counts.{Counts}
 use Rattle.cs_ir.specs.declared.register.Reg.{Reg}
 use Rattle.cs_cells.specs.declared.footprint.Area.{Area}
-use Rattle.cs_meaning.specs.Plain.{Piece}
+use Rattle.cs_meaning.specs.Pieces.{Piece}
 use Rattle.cs_voice_meaning.specs.Follows.{Kinds}
 use Rattle.cs_voice_meaning.specs.Placing.{IsPlaced, area_of, cell_count}
+use Rattle.cs_machine.specs.Access.{CanTouch}
 use Rattle.cs_machine.specs.States.{Does, IsSettingOf, IsStateIn, MayTouch}
 use Rattle.cs_machine.specs.declared.state.Setting.{Setting}
 use Rattle.cs_machine.specs.declared.state.State.{State}
 
--- An act makes of a state and cells what it makes in whatever piece the setting is of, whose areas are placed and whose state it is.
+-- An act makes of a state and cells what it makes in whatever piece the setting is of, whose areas are placed and whose
+-- state it is.
 abbrev pub DoesOver : Setting → Act → Reg → List Reg → State → (ℕ → ℤ) → State → (ℕ → ℤ) → Type 0
 DoesOver at act into from old before new after = (areas : List Area) (piece : Piece) (stock : Stock) (kinds : Kinds) (counts : Counts)
     → IsSettingOf at areas piece → IsPlaced areas stock piece → IsStateIn areas piece kinds counts old
@@ -37,15 +39,17 @@ abbrev pub MayReach : (ℕ → Type 0) → ℕ → Setting → Space → Reach �
 MayReach allowed count at s reach = (n : ℕ) → n < places_of at.spaces s → reaches reach n ≡ true
     → MayTouch allowed count at.layout.now (zak_place s n)
 
--- the opcodes that read a place of a space, write it and clear places
-abbrev pub get_of : Space → Opcode
-get_of space.Control = op.Zkr
-get_of space.Audio = op.Zar
+-- the area of the live table of a number, where it is within reach
+abbrev pub stored_area : List Area → Reach → Option ℕ → Option Area
+stored_area areas reach None = None
+stored_area areas reach (Some n) = if reaches reach n then area_of areas (res.Table n) else None
 
-abbrev pub put_of : Space → Opcode
-put_of space.Control = op.Zkw
-put_of space.Audio = op.Zaw
+-- The cells of a table may be stored into.
+pub record IsStorable (allowed : ℕ → Type 0) (count : ℕ) (area : Area) : Type 0 where
+  pub power : is_len (len_of area.length) ≡ true
+  pub write : CanTouch allowed count area
 
-abbrev pub clear_of : Space → Opcode
-clear_of space.Control = op.Zkcl
-clear_of space.Audio = op.Zacl
+-- so may those of each live table within reach
+abbrev pub MayStore : (ℕ → Type 0) → ℕ → List Area → Reach → Type 0
+MayStore allowed count areas reach = (n : ℕ) (area : Area) → reaches reach n ≡ true → area_of areas (res.Table n) ≡ Some area
+    → IsStorable allowed count area

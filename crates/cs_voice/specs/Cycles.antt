@@ -8,7 +8,7 @@ use Rattle.cs_ir.specs.Validity.{fine_from, is_fine}
 use Rattle.cs_ir.specs.declared.op.Op.{Op}
 use Rattle.cs_ir.specs.declared.register.Counts.{Counts}
 use Rattle.cs_cells.specs.declared.footprint.Area.{Area}
-use Rattle.cs_meaning.specs.Plain.{Piece}
+use Rattle.cs_meaning.specs.Pieces.{Piece}
 use Rattle.cs_machine.specs.Access.{AreSpaces, spaces_of}
 use Rattle.cs_voice.specs.Ready.{IsReady}
 use Rattle.cs_machine.specs.Registers.{values}
@@ -20,16 +20,16 @@ use Rattle.cs_machine.specs.States.{CanDo, IsSettingOf, IsStateIn, machine_of}
 use Rattle.cs_machine.specs.declared.state.State.{State}
 use Rattle.cs_machine.specs.declared.state.Setting.{Setting}
 
--- What a code is run in: the piece, what it has beside its variables, which opcode each unit has, and how many registers and units
--- there are.
+-- What a code is run in: the piece, what it has beside its variables, which opcode each unit has, and how many
+-- registers and units there are.
 pub record Context : Type 0 where
   pub piece : Piece
   pub stock : Stock
   pub kinds : Kinds
   pub counts : Counts
 
--- An op at a place of a code of so many can be done in a control cycle over a bank: it may be done, is fine there, and is one
--- of a cycle.
+-- An op at a place of a code of so many can be done in a control cycle over a bank: it may be done, is fine there, and
+-- is one of a cycle.
 pub record CanStep (can_get can_set : ℕ → Type 0) (count : ℕ) (at : Setting) (c : Context) (end place : ℕ) (op : Op) (s : State) : Type 0 where
   pub ready : IsReady can_get can_set count at c.piece c.kinds c.stock op s
   pub counts : s.regs.counts ≡ c.counts
@@ -49,8 +49,8 @@ pub record CanRun (can_get can_set : ℕ → Type 0) (count : ℕ) (at : Setting
   pub acts : are_of_cycle ops ≡ true
   pub can : AllByRecursion (λ (op : Op). CanDo can_get can_set count at.layout.now c.stock op.act) ops
 
--- The machine after the op at a place is this state over these cells, and the next op that is done is at another place: the one
--- behind, or the one that the op jumps to.
+-- The machine after the op at a place is this state over these cells, and the next op that is done is at another place:
+-- the one behind, or the one that the op jumps to.
 pub record HasMoved (place result : ℕ) (m : Machine VoiceState) (new : State) (after : ℕ → ℤ) : Type 0 where
   pub next : ℕ
   pub machine : machine_of new after next [] None ≡ m
@@ -64,7 +64,8 @@ pub record HasStepped (areas : List Area) (c : Context) (op : Op) (place result 
       (acts (voice_world areas c.piece) op.act op.into (map (values old.regs) op.from) (machine_of old before next [] None)) new after
   pub state : IsStateIn areas c.piece c.kinds c.counts new
 
--- A code was run: the state and the cells are those of the machine after it. Where its last jump went doesn't matter any more.
+-- A code was run: the state and the cells are those of the machine after it. Where its last jump went doesn't matter
+-- any more.
 pub record HasRun (areas : List Area) (c : Context) (ops : List Op) (old : State) (before : ℕ → ℤ) (new : State) (after : ℕ → ℤ) : Type 0 where
   pub next : ℕ
   pub machine : machine_of new after next [] None ≡ run (voice_world areas c.piece) 0 ops (machine_of old before 0 [] None)

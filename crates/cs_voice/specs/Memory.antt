@@ -4,7 +4,7 @@ use Rattle.std.specs.Option.{option_map}
 use Rattle.cs_ir.specs.Validity.{valid}
 use Rattle.cs_ir.specs.declared.op.Code.{Code}
 use Rattle.cs_cells.specs.declared.footprint.Footprint.{Footprint}
-use Rattle.cs_meaning.specs.Plain.{Table}
+use Rattle.cs_meaning.specs.Pieces.{Table}
 use Rattle.cs_machine.specs.Access.{AreSpaces, spaces_of}
 use Rattle.cs_machine.specs.Players.{playing}
 use Rattle.cs_ugen.specs.declared.frozen.FrozenTable.{FrozenTable}
@@ -15,7 +15,7 @@ use Rattle.cs_machine.specs.declared.state.State.{State}
 use Rattle.cs_voice.specs.declared.body.Body.{Body}
 use Rattle.cs_voice.specs.declared.stage.Stage.{Stage}
 use Rattle.cs_voice.specs.declared.stage.TableAt.{TableAt}
-use Rattle.cs_voice.specs.VoiceData.{VoiceData, IsSheetFor, piece_of}
+use Rattle.cs_voice.specs.VoiceData.{VoiceData, IsOn, piece_of}
 use Rattle.cs_voice.specs.VoiceMeaning.{IsVoice}
 
 -- the points of a table that stays as it is
@@ -46,11 +46,11 @@ voice_in number age stage foot code fields s = record {
   ended = s.ended;
 }
 
--- Parts make a voice that plays from a sheet: the sheet can be played, the layout has the zak places of the piece, the code is
--- valid, and the state is one in the piece.
+-- Parts make a voice that plays from a sheet: the sheet can be played, the layout has the zak places of the piece, the
+-- code is valid, and the state is one in the piece.
 pub record MakeVoice (number age : ℕ) (stage : Stage) (foot : Footprint) (code : Code) (fields : List ℤ) (s : State) : Type 0 where
   pub sheet : Sheet
-  pub parts : IsSheetFor sheet (voice_in number age stage foot code fields s)
+  pub parts : IsOn sheet (voice_in number age stage foot code fields s)
   pub playable : IsPlayable sheet
   pub spaces : AreSpaces stage.layout.now
   pub zak : spaces_of stage.layout.now ≡ stage.spaces

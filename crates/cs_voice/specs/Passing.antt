@@ -37,7 +37,8 @@ pub record IsStateOf (s : Sheet) (counts : Counts) (state : State) : Type 0 wher
   pub in_piece : (p : IsPlayable s) → IsStateIn s.areas s.piece p.kinds counts state
   pub delays : state.delays ≤ most_delay_samples
 
--- An op of the code that begins a sheet's notes: it is fine at some place of a code of some length, and what it names is there.
+-- An op of the code that begins a sheet's notes: it is fine at some place of a code of some length, and what it names
+-- is there.
 pub record IsOpOf (s : Sheet) (counts : Counts) (op : Op) : Type 0 where
   pub end : ℕ
   pub place : ℕ
@@ -45,8 +46,8 @@ pub record IsOpOf (s : Sheet) (counts : Counts) (op : Op) : Type 0 where
   pub named : (p : IsPlayable s) → ActNamed p.stock p.kinds (HasArea s.areas) op.act op.into.rate
   pub channel : has_channel s.piece.head.nchnls op.act ≡ true
 
--- A note of a sheet can begin: what it finds is what the sheet says, the sheet can be played, the state is one of its code, and each
--- cell of the piece can be read and written.
+-- A note of a sheet can begin: what it finds is what the sheet says, the sheet can be played, the state is one of its
+-- code, and each cell of the piece can be read and written.
 pub record CanBegin (get set : ℕ → Type 0) (count : ℕ) (finds : Finds) (ms : List Bool) (s : Sheet) (now : State) : Type 0 where
   pub found : IsFound finds ms s
   pub playable : IsPlayable s
@@ -66,8 +67,8 @@ pub record CanDoOp (get set : ℕ → Type 0) (count : ℕ) (finds : Finds) (ms 
   pub begin : CanBegin get set count finds ms s now
   pub fine : IsOpOf s now.regs.counts op
 
--- An op is done: state and cells become what it makes of them in the world of voices, what it asks for comes behind what was
--- asked for, and where it is refused it is for the same cause.
+-- An op is done: state and cells become what it makes of them in the world of voices, what it asks for comes behind
+-- what was asked for, and where it is refused it is for the same cause.
 pub record IsDone (s : Sheet) (op : Op) (old : State) (before : ℕ → ℤ) (asked : List Ask) (new : State) (after : ℕ → ℤ) (given : List Ask)
     (refused : Option Refusal) : Type 0 where
   pub more : List (List ℤ)

@@ -5,7 +5,7 @@ use Rattle.cs_ir.specs.Validity.{is_fine}
 use Rattle.cs_ir.specs.declared.op.Act.{Act}
 use Rattle.cs_ir.specs.declared.op.Act.TheVariants as act
 use Rattle.cs_ir.specs.declared.op.Op.{Op}
-use Rattle.cs_meaning.specs.Plain.{Piece}
+use Rattle.cs_meaning.specs.Pieces.{Piece}
 use Rattle.cs_machine.specs.Access.{AreSpaces, spaces_of}
 use Rattle.cs_voice_meaning.specs.Placing.{HasArea, IsPlaced}
 use Rattle.cs_voice_meaning.specs.Follows.{ActNamed, Kinds}
@@ -14,16 +14,19 @@ use Rattle.cs_machine.specs.States.{CanDo, Does, HasRoom, IsSettingOf, IsStateIn
 use Rattle.cs_machine.specs.declared.state.Setting.{Setting}
 use Rattle.cs_machine.specs.declared.state.State.{State}
 
--- The acts that are done here: all but those that go on at another op, start a unit or ask for a note.
+-- The acts that are done here: all but those that go on at another op, start a unit, look for a table or ask for a
+-- note.
 abbrev pub is_here : Act → Bool
 is_here (act.Jump to) = false
 is_here (act.Unless to) = false
 is_here (act.Start opcode u) = false
+is_here act.Seek = false
 is_here act.Ask = false
 is_here _ = true
 
--- An op of a valid code may be done: the setting is that of a piece, whose areas are placed; the state is one of the code and the
--- piece; the units are of the op's opcode, and its channel is there; and what it touches may be read or written.
+-- An op of a valid code may be done: the setting is that of a piece, whose areas are placed; the state is one of the
+-- code and the piece; the units are of the op's opcode, and its channel is there; and what it touches may be read or
+-- written.
 pub record IsReady (can_get can_set : ℕ → Type 0) (count : ℕ) (at : Setting) (piece : Piece) (kinds : Kinds) (stock : Stock)
     (op : Op) (s : State) : Type 0 where
   pub setting : IsSettingOf at at.layout.now piece
@@ -56,6 +59,8 @@ abbrev pub is_plain : Act → Bool
 is_plain (act.Load g) = false
 is_plain (act.Save g) = false
 is_plain (act.Unit opcode u reach) = false
+is_plain (act.Zak opcode reach) = false
+is_plain (act.Store opcode reach) = false
 is_plain a = is_here a
 
 -- An op of a valid code fits a state: its registers and its channel are there.

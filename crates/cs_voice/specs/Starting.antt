@@ -9,9 +9,10 @@ use Rattle.cs_ugen.specs.declared.unit.Kind.{Kind}
 use Rattle.cs_ir.specs.Machine.{in_world}
 use Rattle.cs_ir.specs.declared.register.Counts.{Counts}
 use Rattle.cs_cells.specs.declared.footprint.Area.{Area}
-use Rattle.cs_meaning.specs.Plain.{Piece, Table, Cause, no_table, delay_too_long}
+use Rattle.cs_meaning.specs.Model.{Cause, delay_too_long, no_table, starts}
+use Rattle.cs_meaning.specs.Pieces.{Piece, Table}
 use Rattle.cs_voice_meaning.specs.Placing.{area_of}
-use Rattle.cs_voice_meaning.specs.VoiceWorld.{starts}
+use Rattle.cs_voice_meaning.specs.VoiceWorld.{voice_model}
 use Rattle.cs_voice_meaning.specs.Follows.{Kinds}
 use Rattle.cs_machine.specs.Players.{PlayerData}
 use Rattle.cs_machine.specs.States.{machine_of, IsStateIn}
@@ -20,18 +21,16 @@ use Rattle.cs_voice.specs.declared.begin.Refusal.{Refusal}
 use Rattle.cs_voice.specs.declared.begin.Refusal.TheVariants as refusal
 
 -- the player of a unit on a table, and of one that has none
-abbrev pub player_on : List Area → Table → Opcode → ℤ → Kind → PlayerData
-player_on areas t opcode number unit = record {
-  opcode = opcode;
+abbrev pub player_on : List Area → Table → ℤ → Kind → PlayerData
+player_on areas t number unit = record {
   table = number;
   state = unit;
   points = t.frozen;
   area = if is_some t.frozen then None else area_of areas (res.Table t.number);
 }
 
-abbrev pub player_alone : Opcode → ℤ → Kind → PlayerData
-player_alone opcode number unit =
-    record { opcode = opcode; table = number; state = unit; points = None; area = None }
+abbrev pub player_alone : ℤ → Kind → PlayerData
+player_alone number unit = record { table = number; state = unit; points = None; area = None }
 
 -- a unit of a number was put into a state, whose delays have so many samples now
 pub record HasUnit (old : State) (unit : ℕ) (p : PlayerData) (samples : ℕ) (new : State) : Type 0 where
@@ -47,11 +46,11 @@ abbrev pub cause_of : Refusal → Cause
 cause_of (refusal.NoTable number) = no_table number
 cause_of (refusal.DelayTooLong samples) = delay_too_long samples
 
--- A state becomes what the start of a unit makes of it in the world of voices, or is refused for the same cause; its delays stay
--- within their limit.
+-- A state becomes what the start of a unit makes of it in the world of voices, or is refused for the same cause; its
+-- delays stay within their limit.
 pub record Starts (areas : List Area) (piece : Piece) (kinds : Kinds) (counts : Counts) (opcode : Opcode) (rate : Rate) (unit : ℕ)
     (settled : List ℤ) (old new : State) (refused : Option Refusal) : Type 0 where
   pub machine : (cells : ℕ → ℤ) (next : ℕ) (asks : List (List ℤ)) → machine_of new cells next asks (option_map cause_of refused)
-      ≡ in_world (starts piece opcode rate unit settled (machine_of old cells next asks None).world) (machine_of old cells next asks None)
+      ≡ in_world (starts (voice_model areas piece) opcode rate unit settled (machine_of old cells next asks None).world) (machine_of old cells next asks None)
   pub state : IsStateIn areas piece kinds counts new
   pub delays : new.delays ≤ most_delay_samples

@@ -4,7 +4,8 @@ use Rattle.cs_signal.specs.Operands.{argument}
 use Rattle.cs_ir.specs.Instruments.{Numbered}
 use Rattle.cs_ir.specs.Machine.{Machine}
 use Rattle.cs_cells.specs.declared.footprint.Footprint.{Footprint}
-use Rattle.cs_meaning.specs.Plain.{Piece, no_table, delay_too_long}
+use Rattle.cs_meaning.specs.Model.{no_table, delay_too_long}
+use Rattle.cs_meaning.specs.Pieces.{Piece}
 use Rattle.cs_voice_meaning.specs.VoiceWorld.{VoiceState, pace_of, the_generators}
 use Rattle.cs_voice_meaning.specs.Voices.{Sheet, voice_of}
 use Rattle.cs_typed.specs.TypedTree.{header_of_head}

@@ -3,7 +3,7 @@ use Rattle.std.specs.Prelude.{ℤ, ◌≡◌, true, Bool, List, [], ◌∷◌, l
 use Rattle.cs_base.specs.declared.resource.Res.TheVariants as res
 use Rattle.cs_cells.specs.declared.footprint.Area.{Area}
 use Rattle.cs_gen.specs.Points.{len_of}
-use Rattle.cs_meaning.specs.Plain.{Table, find_table}
+use Rattle.cs_meaning.specs.Pieces.{Table, find_table}
 use Rattle.cs_ugen.specs.Points.{is_len}
 use Rattle.cs_voice_meaning.specs.Placing.{HasArea}
 use Rattle.cs_voice.specs.Memory.{table_of}
@@ -19,7 +19,8 @@ tables_of [] made = []
 tables_of (t ∷ tables) [] = []
 tables_of (t ∷ tables) (m ∷ made) = table_at t m ∷ tables_of tables made
 
--- A table can be played: its size is a power of two or one more, a frozen one has as many points, and a live one has an area.
+-- A table can be played: its size is a power of two or one more, a frozen one has as many points, and a live one has an
+-- area.
 pub record CanBePlayed (areas : List Area) (t : Table) : Type 0 where
   pub power : is_len (len_of t.size) ≡ true
   pub points : (points : List ℤ) → t.frozen ≡ Some points → length points ≡ t.size

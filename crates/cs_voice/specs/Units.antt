@@ -1,9 +1,7 @@
--- What a unit of a note does in a control cycle, and a store, by what the note keeps of it.
-use Rattle.std.specs.Prelude.{ℕ, ℤ, ◌≡◌, Bool, true, not, ◌||◌, ◌+◌, ◌≤◌, List, length, unsigned_abs, Option, Some, None, if◌then◌else◌}
+-- What a unit of a note does in a control cycle, by what the note keeps of it.
+use Rattle.std.specs.Prelude.{ℕ, ℤ, ◌≡◌, Bool, true, not, ◌||◌, List, length, unsigned_abs, Option, Some, None, if◌then◌else◌}
 use Rattle.cs_base.specs.declared.resource.Rate.{Rate}
-use Rattle.cs_words.specs.Catalogue.{row_of}
 use Rattle.cs_words.specs.declared.catalogue.Opcode.{Opcode}
-use Rattle.cs_words.specs.declared.catalogue.Shape.{Shape}
 use Rattle.cs_signal.specs.Operands.{argument}
 use Rattle.cs_ugen.specs.Units.{IsUnitOpcode, moving_count, opcode_of}
 use Rattle.cs_ugen.specs.declared.unit.Kind.{Kind}
@@ -14,11 +12,8 @@ use Rattle.cs_ir.specs.declared.op.Reach.{Reach}
 use Rattle.cs_ir.specs.declared.register.Counts.{Counts}
 use Rattle.cs_ir.specs.declared.register.Reg.{Reg}
 use Rattle.cs_cells.specs.declared.footprint.Area.{Area}
-use Rattle.cs_meaning.specs.Plain.{Piece, steps_of, step_at}
+use Rattle.cs_meaning.specs.Pieces.{Piece, steps_of, step_at}
 use Rattle.cs_machine.specs.Players.{CanRead, PlayerData, has_table, stepped}
-use Rattle.cs_machine.specs.Access.{CanTouch}
-use Rattle.cs_ugen.specs.Points.{is_len}
-use Rattle.cs_gen.specs.Points.{len_of}
 use Rattle.cs_voice_meaning.specs.Follows.{Kinds}
 use Rattle.cs_voice_meaning.specs.Placing.{IsPlaced}
 use Rattle.cs_machine.specs.States.{Does, IsStateIn}
@@ -28,7 +23,8 @@ use Rattle.cs_machine.specs.declared.state.State.{State}
 abbrev pub may_play : Reach → PlayerData → Bool
 may_play reach p = not (has_table p) || reaches reach (unsigned_abs p.table)
 
--- A unit may be run on these registers: it takes as many, and the table that it reads may be read where it is within reach.
+-- A unit may be run on these registers: it takes as many, and the table that it reads may be read where it is within
+-- reach.
 pub record MayPlay (allowed : ℕ → Type 0) (count : ℕ) (reach : Reach) (from : List Reg) (p : PlayerData) : Type 0 where
   pub unit : IsUnitOpcode (opcode_of p.state)
   pub operands : length from ≡ moving_count (opcode_of p.state)
@@ -38,7 +34,8 @@ pub record MayPlay (allowed : ℕ → Type 0) (count : ℕ) (reach : Reach) (fro
 abbrev pub cycled : ℕ → Rate → List Wave → (ℕ → ℤ) → PlayerData → Kind × List ℤ
 cycled ksmps r ws cells p = stepped p ws cells (steps_of ksmps r)
 
--- the unit after a cycle, where there is one; and what it gives: nothing where there is none, or where its table is out of reach
+-- the unit after a cycle, where there is one; and what it gives: nothing where there is none, or where its table is out
+-- of reach
 abbrev pub unit_after : ℕ → Rate → Reach → List Wave → (ℕ → ℤ) → Option PlayerData → Option PlayerData
 unit_after ksmps r reach ws cells None = None
 unit_after ksmps r reach ws cells (Some p) =
@@ -49,21 +46,10 @@ unit_gives ksmps r reach ws cells None = silence
 unit_gives ksmps r reach ws cells (Some p) =
     if may_play reach p then (λ j. argument (cycled ksmps r ws cells p).1 (step_at r j)) else silence
 
--- The act `Unit` of an opcode of a shape is done on a state and cells, in whatever piece has placed its areas and has that opcode, at
--- the rate of the op's register, as its unit of this number.
-abbrev pub DoesUnit : Shape → ℕ → Reach → Reg → List Reg → State → (ℕ → ℤ) → State → (ℕ → ℤ) → Type 0
-DoesUnit shape u reach into from old before new after = (areas : List Area) (piece : Piece) (stock : Stock) (kinds : Kinds)
-    (counts : Counts) (opcode : Opcode) → (row_of opcode).shape ≡ shape → kinds u ≡ (opcode, into.rate)
+-- The act `Unit` is done on a state and cells, in whatever piece has placed its areas and has the opcode, at the rate
+-- of the op's register, as its unit of this number.
+abbrev pub DoesUnit : ℕ → Reach → Reg → List Reg → State → (ℕ → ℤ) → State → (ℕ → ℤ) → Type 0
+DoesUnit u reach into from old before new after = (areas : List Area) (piece : Piece) (stock : Stock) (kinds : Kinds)
+    (counts : Counts) (opcode : Opcode) → IsUnitOpcode opcode → kinds u ≡ (opcode, into.rate)
     → IsPlaced areas stock piece → IsStateIn areas piece kinds counts old
     → Does areas piece kinds counts (act.Unit opcode u reach) into from old before new after
-
--- The live table of a unit may be stored into, where it is within reach.
-pub record MayStore (allowed : ℕ → Type 0) (count : ℕ) (reach : Reach) (p : PlayerData) : Type 0 where
-  pub power : (area : Area) → p.area ≡ Some area → is_len (len_of area.length) ≡ true
-  pub small : (area : Area) → p.area ≡ Some area → area.first + area.length ≤ 65536
-  pub write : (area : Area) → p.area ≡ Some area → may_play reach p ≡ true → CanTouch allowed count area
-
--- the area that a store of a unit changes: that of its live table, where it is within reach
-abbrev pub stored_area : Reach → Option PlayerData → Option Area
-stored_area reach None = None
-stored_area reach (Some p) = if may_play reach p then p.area else None

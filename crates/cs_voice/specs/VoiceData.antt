@@ -1,27 +1,21 @@
 -- A voice as contracts see it, in plain data; and the voice of the definitions that it is.
-use Rattle.std.specs.Prelude.{ℕ, ℤ, ◌≡◌, ◌-◌, Bool, true, List, [], map, length, slice_index_or, Option, Some, None}
-use Rattle.std.specs.List.{AllByRecursion, range_with_len}
-use Rattle.std.specs.Option.{option_map}
-use Rattle.cs_words.specs.Catalogue.{row_of}
-use Rattle.cs_words.specs.declared.catalogue.Shape.TheVariants as shape
+use Rattle.std.specs.Prelude.{ℕ, ℤ, ◌≡◌, ◌-◌, Bool, true, List, [], map, length, slice_index_or, Option, None}
+use Rattle.std.specs.List.{range_with_len}
 use Rattle.cs_typed.specs.Places.{Header}
 use Rattle.cs_signal.specs.Operands.{argument}
 use Rattle.cs_base.specs.declared.spaces.Spaces.{Spaces}
-use Rattle.cs_ir.specs.declared.op.Act.{Act}
-use Rattle.cs_ir.specs.declared.op.Act.TheVariants as act
 use Rattle.cs_ir.specs.declared.op.Code.{Code}
-use Rattle.cs_ir.specs.declared.op.Op.{Op}
 use Rattle.cs_cells.specs.declared.footprint.Area.{Area}
 use Rattle.cs_cells.specs.declared.footprint.Footprint.{Footprint}
-use Rattle.cs_meaning.specs.Plain.{Piece, Table, find_table}
+use Rattle.cs_meaning.specs.Pieces.{Piece, Table}
 use Rattle.cs_machine.specs.Outputs.{ChannelFile, outs, refilled}
 use Rattle.cs_machine.specs.Registers.{RegisterFile, filled, values}
 use Rattle.cs_voice_meaning.specs.VoiceWorld.{Playing, pace_of, the_generators}
 use Rattle.cs_voice_meaning.specs.Voices.{Sheet, Sounding}
 
--- A voice: the number of its instrument and its age; the header, the zak spaces, the tables and the areas that it sounds in; its
--- p-fields, its footprint and its code; and its registers, its units, the samples of its delays, its output channels, and whether
--- it was turned off.
+-- A voice: the number of its instrument and its age; the header, the zak spaces, the tables and the areas that it
+-- sounds in; its p-fields, its footprint and its code; and its registers, its units, the samples of its delays, its
+-- output channels, and whether it was turned off.
 pub record VoiceData : Type 0 where
   pub number : ℕ
   pub age : ℕ
@@ -38,7 +32,8 @@ pub record VoiceData : Type 0 where
   pub outs : ChannelFile
   pub ended : Bool
 
--- The piece that it sounds in, as a note finds it that is started when all tables have been made. Its p-fields begin with p1.
+-- The piece that it sounds in, as a note finds it that is started when all tables have been made. Its p-fields begin
+-- with p1.
 abbrev pub piece_of : VoiceData → Piece
 piece_of d = record {
   head = d.head;
@@ -77,24 +72,12 @@ sounding_on s d = record {
 abbrev pub sounding : VoiceData → Sounding
 sounding d = sounding_on (sheet_of d) d
 
--- the table that each unit was started with
-abbrev pub table_at : (ℕ → Option Playing) → ℕ → Option ℤ
-table_at units u = option_map (λ (p : Playing). p.table) (units u)
-
--- each op that stores into a table finds it made
-abbrev pub StoresInto : List Table → (ℕ → Option ℤ) → Act → Type 0
-StoresInto tables at (act.Unit opcode u reach) = (row_of opcode).shape ≡ shape.Store
-    → (z : ℤ) (t : Table) → at u ≡ Some z → find_table tables z ≡ Some t → t.present ≡ true
-StoresInto tables at _ = Unit {0}
-
-abbrev pub OpsStoreInto : List Table → (ℕ → Option ℤ) → List Op → Type 0
-OpsStoreInto tables at ops = AllByRecursion (λ (op : Op). StoresInto tables at op.act) ops
-
 abbrev pub made : Table → Table
 made t = record t { present = true }
 
--- A sheet has what a voice plays from; but it may have begun by another code, and some of its tables may not have been made.
-pub record IsSheetFor (s : Sheet) (d : VoiceData) : Type 0 where
+-- A voice plays from a sheet: the sheet has what the voice has. But the voice may have begun by another code, and some
+-- of the sheet's tables may not have been made as it began.
+pub record IsOn (s : Sheet) (d : VoiceData) : Type 0 where
   pub number : s.number ≡ d.number
   pub age : s.age ≡ d.age
   pub head : s.piece.head ≡ d.head
@@ -104,11 +87,6 @@ pub record IsSheetFor (s : Sheet) (d : VoiceData) : Type 0 where
   pub areas : s.areas ≡ d.areas
   pub foot : s.foot ≡ d.foot
   pub perf : s.perf ≡ d.code.ops.items
-
--- A voice plays from a sheet: the tables that it stores into were made as it began.
-pub record IsOn (s : Sheet) (d : VoiceData) : Type 0 where
-  pub parts : IsSheetFor s d
-  pub stores : OpsStoreInto s.piece.tables (table_at (units_in d.units)) s.perf
 
 -- the same voice with what another has in its registers, units and channels
 abbrev pub taking : VoiceData → Sounding → VoiceData

@@ -8,8 +8,8 @@ use Rattle.cs_machine.specs.Registers.{filled, values}
 use Rattle.cs_voice_meaning.specs.Voices.{Sheet, IsPlayable, performed, left_by}
 use Rattle.cs_voice.specs.VoiceData.{VoiceData, IsOn, sheet_of, sounding, sounding_on, taking}
 
--- What is so of each voice: its code is valid and can be played; it has as many registers, units and channels as its code and its
--- piece need, of as many frames; and what registers and channels have is all that they are.
+-- What is so of each voice: its code is valid and can be played; it has as many registers, units and channels as its
+-- code and its piece need, of as many frames; and what registers and channels have is all that they are.
 pub record IsVoice (d : VoiceData) : Type 0 where
   pub playable : IsPlayable (sheet_of d)
   pub code : valid d.code ≡ true

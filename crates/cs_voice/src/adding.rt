@@ -15,9 +15,9 @@ use cs_wav::add_block;
 /// How many frames of a channel are summed at a time.
 const FRAMES: usize = 32;
 
-/// Writes what `voices`, at most 512, give together in a control cycle of `frames` frames to `channels` channels: whole 65,536ths
-/// without bounds, frame by frame, channel beside channel. `out` has a number for each channel of each frame; what it held
-/// doesn't matter.
+/// Writes what `voices`, at most 512, give together in a control cycle of `frames` frames to `channels` channels: whole
+/// 65,536ths without bounds, frame by frame, channel beside channel. `out` has a number for each channel of each frame;
+/// what it held doesn't matter.
 pub fn mix(voices: &[Voice<'_>], frames: usize, channels: usize, out: &mut [i64])
     requires voices { All (λ (v : VoiceData). v.outs.ksmps ≡ frames) voices.now }
     requires few { length voices.now ≤ most_notes }
@@ -87,7 +87,8 @@ fn sum_voices(voices: &[Voice<'_>], frames: usize, from: usize, channel: usize, 
     requires from { from + length sums.old ≤ frames }
     requires short { length sums.old ≤ 32 }
     requires silent { (j : ℕ) → slice_index_or sums.old j (pos 0) ≡ pos 0 }
-    ensures sums { (j : ℕ) → j < length sums.old → slice_index_or sums.new j (pos 0) ≡ sum_at voices.now (from + j) channel }
+    ensures sums { (j : ℕ) → j < length sums.old → slice_index_or sums.new j (pos 0) ≡ sum_at voices.now (from + j)
+        channel }
     ensures long { length sums.new ≡ length sums.old }
 {
     let mut room = [0; FRAMES];
@@ -97,7 +98,8 @@ fn sum_voices(voices: &[Voice<'_>], frames: usize, from: usize, channel: usize, 
     }
 }
 
-/// Adds what a voice gives to a channel from a frame on; nothing, where it is silent there. `part` is room for as many numbers.
+/// Adds what a voice gives to a channel from a frame on; nothing, where it is silent there. `part` is room for as many
+/// numbers.
 fn add_voice(voice: &Voice<'_>, from: usize, channel: usize, part: &mut [i64], sums: &mut [i64])
     requires from { from + length sums.old ≤ voice.now.outs.ksmps }
     requires part { length part.old ≡ length sums.old }
@@ -118,7 +120,8 @@ fn add_row(row: &[Num], part: &mut [i64], sums: &mut [i64])
     requires long { length row.now ≡ length sums.old }
     requires part { length part.old ≡ length sums.old }
     requires room { HasRoom sums.old }
-    ensures sums { (j : ℕ) → slice_index_or sums.new j (pos 0) ≡ slice_index_or sums.old j (pos 0) +ℤ argument row.now j }
+    ensures sums { (j : ℕ) → slice_index_or sums.new j (pos 0) ≡ slice_index_or sums.old j (pos 0) +ℤ argument row.now
+        j }
     ensures raw { (j : ℕ) → j < length row.now → IsRaw (argument row.now j) }
     ensures long { length sums.new ≡ length sums.old }
     ensures part { length part.new ≡ length part.old }
@@ -142,7 +145,8 @@ fn copy_raw(row: &[Num], part: &mut [i64])
 fn put(sums: &[i64], from: usize, channel: usize, channels: usize, out: &mut [i64])
     requires channel { channel < channels }
     requires long { (from + length sums.now) * channels ≤ length out.old }
-    ensures sums { (j : ℕ) → j < length sums.now → place channels out.new (from + j) channel ≡ slice_index_or sums.now j (pos 0) }
+    ensures sums { (j : ℕ) → j < length sums.now → place channels out.new (from + j) channel ≡ slice_index_or sums.now
+        j (pos 0) }
     ensures before { (j : ℕ) → j < from → place channels out.new j channel ≡ place channels out.old j channel }
     ensures others { (j c : ℕ) → c < channels → c ≢ channel → place channels out.new j c ≡ place channels out.old j c }
     ensures long { length out.new ≡ length out.old }

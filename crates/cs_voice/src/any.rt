@@ -4,21 +4,23 @@ ghost use Rattle.cs_voice.specs.Ready.{CanBeDone, DoesOp, IsFit, is_here, is_pla
 ghost use Rattle.cs_cells.specs.Cells.{cell};
 ghost use Rattle.cs_ir.specs.declared.op.Act.TheVariants as acts;
 ghost use Rattle.cs_machine.specs.States.{DoesAt};
+ghost use Rattle.cs_words.specs.declared.catalogue.Opcode.{Opcode};
 
 use crate::shared::{load, save};
-use crate::store::store_points;
+use crate::store::{Storing, store_points};
 use crate::unit::run_unit;
 use crate::zak::{zak_clear, zak_get, zak_mix, zak_put};
 use cs_cells::Bank;
 use cs_ir::{Act, Op, Reach, Reg};
 use cs_machine::{Setting, State};
-use cs_words::{Opcode, Space};
+use cs_words::{Opcode, Shape, signature_of};
 
-/// Does an op of a valid code on a state, over the cells of a bank: any but a jump, the start of a unit and the asking for
-/// a note.
+/// Does an op of a valid code on a state, over the cells of a bank: any but a jump, the start of a unit and the asking
+/// for a note.
 pub(crate) fn act<B: Bank>(state: &mut State<'_>, at: &Setting<'_>, op: &Op, bank: &mut B)
     requires here { is_here op.now.act ≡ true }
-    requires ready { CanBeDone (B.can_get (B.rest bank.old)) (B.can_set (B.rest bank.old)) (length (B.cells bank.old)) at.now
+    requires ready { CanBeDone (B.can_get (B.rest bank.old)) (B.can_set (B.rest bank.old)) (length (B.cells bank.old))
+        at.now
         op.now state.old }
     ensures does { DoesOp (B.can_get (B.rest bank.old)) (B.can_set (B.rest bank.old)) (length (B.cells bank.old)) at.now
         op.now state.old (cell (B.cells bank.old)) state.new (cell (B.cells bank.new)) }
@@ -28,23 +30,27 @@ pub(crate) fn act<B: Bank>(state: &mut State<'_>, at: &Setting<'_>, op: &Op, ban
     match op.act {
         Act::Load(res) => load(state, at, op.into, res, bank),
         Act::Save(res) => save(state, at, res, one(op.from.as_slice()), bank),
-        Act::Unit(opcode, number, reach) => unit(state, at, op, opcode, number, reach, bank),
+        Act::Unit(opcode, number, reach) => {
+            run_unit(state, number, reach, op.into, op.from.as_slice(), bank);
+        }
+        Act::Zak(opcode, reach) => zak(state, at, op, opcode, reach, bank),
+        Act::Store(_, reach) => store(state, at, op, reach, bank),
         _ => plain(state, at, op),
     }
 }
 
-/// An op that runs a unit, by its opcode.
-fn unit<B: Bank>(
+/// An op on zak places, by the shape of its opcode.
+fn zak<B: Bank>(
     state: &mut State<'_>,
     at: &Setting<'_>,
     op: &Op,
     opcode: Opcode,
-    number: usize,
     reach: Reach,
     bank: &mut B,
 )
-    requires act { op.now.act ≡ acts.Unit opcode number reach }
-    requires ready { CanBeDone (B.can_get (B.rest bank.old)) (B.can_set (B.rest bank.old)) (length (B.cells bank.old)) at.now
+    requires act { op.now.act ≡ acts.Zak opcode reach }
+    requires ready { CanBeDone (B.can_get (B.rest bank.old)) (B.can_set (B.rest bank.old)) (length (B.cells bank.old))
+        at.now
         op.now state.old }
     ensures does { DoesOp (B.can_get (B.rest bank.old)) (B.can_set (B.rest bank.old)) (length (B.cells bank.old)) at.now
         op.now state.old (cell (B.cells bank.old)) state.new (cell (B.cells bank.new)) }
@@ -52,35 +58,43 @@ fn unit<B: Bank>(
     ensures rest { B.rest bank.new ≡ B.rest bank.old }
 {
     let from = op.from.as_slice();
-    match opcode {
-        Opcode::Zkr => zak_get(state, at, Space::Control, reach, op.into, one(from), bank),
-        Opcode::Zar => zak_get(state, at, Space::Audio, reach, op.into, one(from), bank),
-        Opcode::Zkw => {
+    match signature_of(opcode).shape() {
+        Shape::ZakGet(space) => zak_get(state, at, space, reach, op.into, one(from), bank),
+        Shape::ZakPut(space) => {
             let (x, number) = two(from);
-            zak_put(state, at, Space::Control, reach, x, number, bank);
+            zak_put(state, at, space, reach, x, number, bank);
         }
-        Opcode::Zaw => {
-            let (x, number) = two(from);
-            zak_put(state, at, Space::Audio, reach, x, number, bank);
-        }
-        Opcode::Zawm => {
+        Shape::ZakMix => {
             let (x, number) = two(from);
             zak_mix(state, at, reach, x, number, bank);
         }
-        Opcode::Zkcl => {
+        Shape::ZakClear(space) => {
             let (first, last) = two(from);
-            zak_clear(state, at, Space::Control, reach, first, last, bank);
+            zak_clear(state, at, space, reach, first, last, bank);
         }
-        Opcode::Zacl => {
-            let (first, last) = two(from);
-            zak_clear(state, at, Space::Audio, reach, first, last, bank);
-        }
-        Opcode::Tablew => {
-            let (signal, index) = two(from);
-            store_points(state, number, reach, op.into, signal, index, bank);
-        }
-        _ => run_unit(state, number, reach, op.into, from, bank),
+        _ => unreachable!(),
     }
+}
+
+/// An op that stores into a table.
+fn store<B: Bank>(state: &State<'_>, at: &Setting<'_>, op: &Op, reach: Reach, bank: &mut B)
+    requires act { (opcode : Opcode) × (op.now.act ≡ acts.Store opcode reach) }
+    requires ready { CanBeDone (B.can_get (B.rest bank.old)) (B.can_set (B.rest bank.old)) (length (B.cells bank.old))
+        at.now
+        op.now state.now }
+    ensures does { DoesOp (B.can_get (B.rest bank.old)) (B.can_set (B.rest bank.old)) (length (B.cells bank.old)) at.now
+        op.now state.now (cell (B.cells bank.old)) state.now (cell (B.cells bank.new)) }
+    ensures long { length (B.cells bank.new) ≡ length (B.cells bank.old) }
+    ensures rest { B.rest bank.new ≡ B.rest bank.old }
+{
+    let (signal, index, table) = three(op.from.as_slice());
+    let storing = Storing {
+        signal,
+        index,
+        table,
+        rate: op.into.rate,
+    };
+    store_points(state, at, storing, reach, bank);
 }
 
 /// An op that touches registers and output channels alone.

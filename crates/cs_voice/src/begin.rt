@@ -3,20 +3,19 @@ ghost use Rattle.std.specs.Prelude.{◌≡◌, ◌+◌, ◌<◌, ◌≤◌, true
 ghost use Rattle.cs_base.specs.Limits.{most_delay_samples};
 ghost use Rattle.cs_base.specs.declared.resource.Res.TheVariants as res;
 ghost use Rattle.cs_cells.specs.declared.footprint.Area.{Area};
-ghost use Rattle.cs_ir.specs.Units.{is_started};
 ghost use Rattle.cs_ir.specs.declared.register.Counts.{Counts};
-ghost use Rattle.cs_meaning.specs.Plain.{Piece, is_delay, table_number};
+ghost use Rattle.cs_meaning.specs.Pieces.{Piece, is_delay, table_number};
 ghost use Rattle.cs_voice_meaning.specs.Placing.{HasArea, area_of};
 ghost use Rattle.cs_signal.specs.Delay.{delay_length};
 ghost use Rattle.cs_signal.specs.Pace.{pace_of};
 ghost use Rattle.cs_voice_meaning.specs.Follows.{Kinds};
 ghost use Rattle.cs_voice.specs.Starting.{HasUnit, Starts, player_alone, player_on};
 ghost use Rattle.cs_voice.specs.Tables.{CanAllBePlayed, CanBePlayed, table_at, tables_of};
-ghost use Rattle.cs_voice.specs.inner.Begun.{BeginsDelay, BeginsOnTable};
+ghost use Rattle.cs_voice.specs.inner.Begun.{BeginsDelay, BeginsOnTable, Seeks};
 ghost use Rattle.cs_typed.specs.TypedTree.{header_of_head};
 ghost use Rattle.cs_machine.specs.States.{IsStateIn};
 ghost use Rattle.cs_ugen.specs.Units.{IsUnitOpcode, unit_start};
-ghost use Rattle.cs_words.specs.Catalogue.{row_of, takes_table};
+ghost use Rattle.cs_words.specs.Catalogue.{takes_table};
 
 use crate::TableAt;
 use crate::tables::{Finds, find, table_number};
@@ -55,14 +54,15 @@ pub(crate) fn begin<'p>(
     settled: &[Num],
 ) -> Result<Option<Refusal>, OutOfMemory>
     requires unit { start.unit < length state.old.players.items }
-    requires opcode { is_started (row_of start.opcode).shape ≡ true }
+    requires opcode { IsUnitOpcode start.opcode }
     requires delays { state.old.delays ≤ most_delay_samples }
     requires made { length made.now ≡ length finds.now.tables.now }
     requires tables { CanAllBePlayed finds.now.at.layout.now (tables_of finds.now.tables.now made.now) }
     ensures { IfOk result (λ refused. (piece : Piece) (kinds : Kinds) (counts : Counts)
         → piece.head ≡ header_of_head finds.now.at.head.now → piece.tables ≡ tables_of finds.now.tables.now made.now
         → kinds start.unit ≡ (start.opcode, start.rate) → IsStateIn finds.now.at.layout.now piece kinds counts state.old
-        → Starts finds.now.at.layout.now piece kinds counts start.opcode start.rate start.unit settled.now state.old state.new refused) }
+        → Starts finds.now.at.layout.now piece kinds counts start.opcode start.rate start.unit settled.now state.old
+        state.new refused) }
 {
     if signature_of(start.opcode).takes_table() {
         let refused = begin_on_table(alloc, state, finds, made, start, settled)?;
@@ -77,13 +77,29 @@ pub(crate) fn begin<'p>(
     }
 }
 
+/// Looks for the table that a store writes; None where it is there.
+pub(crate) fn seek(tables: &[TableAt<'_>], made: &[bool], settled: &[Num]) -> Option<Refusal>
+    requires { length made.now ≡ length tables.now }
+    ensures { Seeks (tables_of tables.now made.now) (table_number settled.now) result }
+{
+    let number = table_number(settled);
+    let Some(found) = find(tables, made, number) else {
+        return Some(Refusal::NoTable(number));
+    };
+    if found.made {
+        None
+    } else {
+        Some(Refusal::NoTable(number))
+    }
+}
+
 fn is_delay(opcode: Opcode) -> bool
     ensures { result ≡ is_delay opcode }
 {
     matches!(opcode, Opcode::Delay)
 }
 
-/// A unit that reads or writes a table.
+/// A unit that reads a table.
 fn begin_on_table<'p>(
     alloc: Global,
     state: &mut State<'p>,
@@ -93,19 +109,21 @@ fn begin_on_table<'p>(
     settled: &[Num],
 ) -> Result<Option<Refusal>, OutOfMemory>
     requires unit { start.unit < length state.old.players.items }
-    requires opcode { is_started (row_of start.opcode).shape ≡ true }
+    requires opcode { IsUnitOpcode start.opcode }
     requires made { length made.now ≡ length finds.now.tables.now }
     requires tables { CanAllBePlayed finds.now.at.layout.now (tables_of finds.now.tables.now made.now) }
-    ensures { IfOk result (BeginsOnTable finds.now.at.layout.now (tables_of finds.now.tables.now made.now) (table_number settled.now)
-        start.opcode (unit_start start.opcode start.rate (pace_of finds.now.at.head.now) settled.now) start.unit state.old state.new) }
+    ensures { IfOk result (BeginsOnTable finds.now.at.layout.now (tables_of finds.now.tables.now made.now)
+        (table_number settled.now)
+        (unit_start start.opcode start.rate (pace_of finds.now.at.head.now) settled.now) start.unit state.old
+        state.new) }
 {
     let number = table_number(settled);
     let Some(found) = find(finds.tables, made, number) else {
         return Ok(Some(Refusal::NoTable(number)));
     };
     if found.made {
-        let unit = unit_of(alloc, start.opcode, start.rate, finds.at.head, settled)?;
-        let player = on_table(finds.at.layout, &found.table, start.opcode, number, unit);
+        let unit = Unit::start(alloc, start.opcode, start.rate, finds.at.head, settled)?;
+        let player = on_table(finds.at.layout, &found.table, number, unit);
         put(state, start.unit, player);
         Ok(None)
     } else {
@@ -126,7 +144,7 @@ fn begin_delay(
     requires delays { state.old.delays ≤ most_delay_samples }
     ensures { IfOk result (BeginsDelay
         (state.old.delays + delay_length (pace_of head.now) (slice_index_or settled.now 0 (pos 0)))
-        (player_alone start.opcode (table_number settled.now) (unit_start start.opcode start.rate (pace_of head.now) settled.now))
+        (player_alone (table_number settled.now) (unit_start start.opcode start.rate (pace_of head.now) settled.now))
         start.unit state.old state.new) }
 {
     let samples = state.delays as u64 + delay_samples(argument(settled, 0), head);
@@ -149,59 +167,41 @@ fn begin_alone(
     requires unit { start.unit < length state.old.players.items }
     requires opcode { IsUnitOpcode start.opcode }
     ensures { OnOk result (HasUnit state.old start.unit
-        (player_alone start.opcode (table_number settled.now) (unit_start start.opcode start.rate (pace_of head.now) settled.now))
+        (player_alone (table_number settled.now) (unit_start start.opcode start.rate (pace_of head.now) settled.now))
         samples state.new) }
 {
     let unit = Unit::start(alloc, start.opcode, start.rate, head, settled)?;
-    let player = Player::new(start.opcode, table_number(settled), unit);
+    let player = Player::new(table_number(settled), unit);
     state.delays = samples;
     put(state, start.unit, player);
     Ok(())
 }
 
-/// The state of a unit, or of a store: what that is has no meaning, and it takes no memory.
-fn unit_of(
-    alloc: Global,
-    opcode: Opcode,
-    rate: Rate,
-    head: &Head,
-    settled: &[Num],
-) -> Result<Unit, OutOfMemory>
-    requires { is_started (row_of opcode).shape ≡ true }
-    ensures { IfOk result (λ u. u ≡ unit_start opcode rate (pace_of head.now) settled.now) }
-{
-    let unit = match opcode {
-        Opcode::Tablew => Opcode::Downsamp,
-        _ => opcode,
-    };
-    Unit::start(alloc, unit, rate, head, settled)
-}
-
 /// The player of a unit on a table: the points of a frozen one, or the area of a live one.
-fn on_table<'p>(
-    layout: &Layout,
-    table: &TableAt<'p>,
-    opcode: Opcode,
-    number: i64,
-    unit: Unit,
-) -> Player<'p>
+fn on_table<'p>(layout: &Layout, table: &TableAt<'p>, number: i64, unit: Unit) -> Player<'p>
     requires { CanBePlayed layout.now (table_at table.now true) }
-    ensures value { result ≡ player_on layout.now (table_at table.now true) opcode number unit }
+    ensures value { result ≡ player_on layout.now (table_at table.now true) number unit }
     ensures small { (area : Area) → result.area ≡ Some area → area.first + area.length ≤ 65536 }
 {
     match table.points {
-        Some(points) => Player::on_frozen(opcode, number, unit, points),
-        None => on_live(layout, table.number, opcode, number, unit),
+        Some(points) => Player::on_frozen(number, unit, points),
+        None => on_live(layout, table.number, number, unit),
     }
 }
 
-fn on_live<'p>(layout: &Layout, table: usize, opcode: Opcode, number: i64, unit: Unit) -> Player<'p>
+fn on_live<'p>(layout: &Layout, table: usize, number: i64, unit: Unit) -> Player<'p>
     requires { HasArea layout.now (res.Table table) }
-    ensures value { result ≡ record { opcode = opcode; table = number; state = unit; points = None; area = area_of layout.now (res.Table table) } }
+    ensures value { result ≡ record {
+      table = number;
+      state = unit;
+      points = None;
+      area = area_of layout.now
+          (res.Table table);
+    } }
     ensures small { (area : Area) → result.area ≡ Some area → area.first + area.length ≤ 65536 }
 {
     match area_of(layout, Res::Table(table)) {
-        Some(area) => Player::on_live(opcode, number, unit, area),
+        Some(area) => Player::on_live(number, unit, area),
         None => unreachable!(),
     }
 }

@@ -28,9 +28,11 @@ impl<'p> Starter<'p> for NoStarter {
 
 /// Runs a code over a cycle.
 pub(crate) fn perform<B: Bank>(state: &mut State<'_>, at: &Setting<'_>, ops: &[Op], bank: &mut B)
-    requires { (c : Context) × CanRun (B.can_get (B.rest bank.old)) (B.can_set (B.rest bank.old)) (length (B.cells bank.old))
+    requires { (c : Context) × CanRun (B.can_get (B.rest bank.old)) (B.can_set (B.rest bank.old))
+        (length (B.cells bank.old))
         at.now c ops.now state.old }
-    ensures run { (c : Context) → CanRun (B.can_get (B.rest bank.old)) (B.can_set (B.rest bank.old)) (length (B.cells bank.old))
+    ensures run { (c : Context) → CanRun (B.can_get (B.rest bank.old)) (B.can_set (B.rest bank.old))
+        (length (B.cells bank.old))
         at.now c ops.now state.old
         → HasRun at.now.layout.now c ops.now state.old (cell (B.cells bank.old)) state.new (cell (B.cells bank.new)) }
     ensures long { length (B.cells bank.new) ≡ length (B.cells bank.old) }

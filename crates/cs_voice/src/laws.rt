@@ -4,8 +4,8 @@ ghost use Rattle.cs_voice_meaning.specs.Voices.{Sheet};
 ghost use Rattle.cs_voice.specs.VoiceData.{VoiceData, IsOn};
 ghost use Rattle.cs_voice.specs.VoiceMeaning.{IsVoice, Performs};
 
-/// A run of a voice is a cycle of the voice of the definitions, with whatever sheet it plays from, and leaves a voice that
-/// plays from that sheet.
+/// A run of a voice is a cycle of the voice of the definitions, with whatever sheet it plays from, and leaves a voice
+/// that plays from that sheet.
 pub fn voices_perform()
     ensures { (s : Sheet) (d : VoiceData) (c : Cells) → IsOn s d → IsVoice d → Performs s d c }
 {}

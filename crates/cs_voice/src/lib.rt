@@ -1,19 +1,19 @@
 //! A note as it sounds: a job that begins with its first code, performs its second once a control cycle, and is heard.
 //!
-//! The one contract: a `Voice` obeys the frame law of `Job`, and its run is a cycle of the voice of the definitions, with
-//! whatever sheet it plays from (`voices_perform`): what it leaves in the cells of its footprint, in its registers and units
-//! and in its channels is what its code does there. `start` leaves what the definition of a voice's beginning says
-//! (`initialised` of cs_voice_meaning), also where it is refused; no run can fail for want of memory. `mix` writes for each
-//! frame and channel the plain sum of what the voices give there (`mixed`).
+//! The one contract: a `Voice` obeys the frame law of `Job`, and its run is a cycle of the voice of the definitions,
+//! with whatever sheet it plays from (`voices_perform`): what it leaves in the cells of its footprint, in its registers
+//! and units and in its channels is what its code does there. `start` leaves what the definition of a voice's beginning
+//! says (`initialised` of cs_voice_meaning), also where it is refused; no run can fail for want of memory. `mix` writes
+//! for each frame and channel the plain sum of what the voices give there (`mixed`).
 //!
 //! How a voice lies in memory, how its tables and cells are found, in which loop its codes are done and in which order
 //! voices are added may be changed without anyone above noticing.
 //!
-//! Modules in reading order: `shared` (what notes share, by resource and rate), `zak` (zak places), `unit` (units), `store`
-//! (stores into tables), `any` (the act of any op), `jumps` (where an op goes on), `run` (a code from place to place); `stage`
-//! (what all notes of a piece play in), `cycle` (the second code, once a control cycle), `body`, `voice` (the note and its run as
-//! a job), `laws`; `tables` (what a note finds), `begin` (units), `asks`, `pass` (the first code), `note` (how a note begins);
-//! `adding` (what voices give together).
+//! Modules in reading order: `shared` (what notes share, by resource and rate), `zak` (zak places), `unit` (units),
+//! `store` (stores into tables), `any` (the act of any op), `jumps` (where an op goes on), `run` (a code from place to
+//! place); `stage` (what all notes of a piece play in), `cycle` (the second code, once a control cycle), `body`,
+//! `voice` (the note and its run as a job), `laws`; `tables` (what a note finds), `begin` (units), `asks`, `pass` (the
+//! first code), `note` (how a note begins); `adding` (what voices give together).
 #![tactic(auto)]
 
 mod adding;

@@ -29,12 +29,13 @@ pub enum Started<'p> {
     DelayTooLong { samples: u64 },
 }
 
-/// Begins a note of an instrument: `made` says of each table of the stage whether it has been made by now, `fields` are the
-/// p-fields from p1 on, `age` is how many notes were started before.
+/// Begins a note of an instrument: `made` says of each table of the stage whether it has been made by now, `fields` are
+/// the p-fields from p1 on, `age` is how many notes were started before.
 ///
-/// It does the code that begins the instrument's notes. What that asks for comes behind `asks`, in order. It stops where a
-/// unit asks for a table that isn't there, or where the delays become too long together; what was written to the cells and
-/// asked for before stays. Where there is too little memory, the note doesn't play, and some of the code may have been done.
+/// It does the code that begins the instrument's notes. What that asks for comes behind `asks`, in order. It stops
+/// where a unit asks for a table that isn't there, or where the delays become too long together; what was written to
+/// the cells and asked for before stays. Where there is too little memory, the note doesn't play, and some of the code
+/// may have been done.
 pub fn start<'p, B: Bank>(
     alloc: Global,
     instrument: &'p Instrument,
@@ -57,9 +58,10 @@ pub fn start<'p, B: Bank>(
     ensures started { let s = sheet_at instrument.now age foot.now stage.entry made.now fields.items in
         IfOk result (IsStarted s (initialised s (cell (B.cells bank.old)))) }
     ensures cells { let s = sheet_at instrument.now age foot.now stage.entry made.now fields.items in
-        OnOk result (cell (B.cells bank.new) ≡ (initialised s (cell (B.cells bank.old))).world.cells) }
+        OnOk result (cell (B.cells bank.new) ≡ (initialised s (cell (B.cells bank.old))).world.shared) }
     ensures asks { let s = sheet_at instrument.now age foot.now stage.entry made.now fields.items in
-        OnOk result (asks.new.items ≡ asks.old.items ++ map ask_of (initialised s (cell (B.cells bank.old))).world.asks) }
+        OnOk result (asks.new.items ≡ asks.old.items ++ map ask_of
+        (initialised s (cell (B.cells bank.old))).world.asks) }
     ensures long { length (B.cells bank.new) ≡ length (B.cells bank.old) }
     ensures rest { B.rest bank.new ≡ B.rest bank.old }
 {

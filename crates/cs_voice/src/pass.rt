@@ -5,7 +5,7 @@ ghost use Rattle.cs_voice_meaning.specs.Voices.{Sheet};
 ghost use Rattle.cs_voice.specs.Passing.{CanPass, Passes};
 
 use crate::asks::{ask, gather};
-use crate::begin::{Refusal, Start, begin};
+use crate::begin::{Refusal, Start, begin, seek};
 use crate::run::{Starter, run};
 use crate::tables::Finds;
 use cs_base::{Num, OutOfMemory};
@@ -51,6 +51,11 @@ impl<'p> Starter<'p> for Beginning<'_, 'p> {
                 )?;
                 Ok(refused)
             }
+            Act::Seek => {
+                gather(&state.regs, op.from.as_slice(), &mut self.settled)?;
+                let refused = seek(self.finds.tables, self.made, &self.settled);
+                Ok(refused)
+            }
             Act::Ask => {
                 gather(&state.regs, op.from.as_slice(), &mut self.settled)?;
                 ask(self.alloc, &mut self.asks, &self.settled)?;
@@ -71,11 +76,14 @@ pub(crate) fn pass<'s, 'p, B: Bank>(
     asks: &mut Vec<Ask>,
     bank: &mut B,
 ) -> Result<Option<Refusal>, OutOfMemory>
-    requires { (s : Sheet) × CanPass (B.can_get (B.rest bank.old)) (B.can_set (B.rest bank.old)) (length (B.cells bank.old))
+    requires { (s : Sheet) × CanPass (B.can_get (B.rest bank.old)) (B.can_set (B.rest bank.old))
+        (length (B.cells bank.old))
         finds.now made.now code.now s state.old }
-    ensures passes { IfOk result (λ refused. (s : Sheet) → CanPass (B.can_get (B.rest bank.old)) (B.can_set (B.rest bank.old))
+    ensures passes { IfOk result (λ refused. (s : Sheet) → CanPass (B.can_get (B.rest bank.old))
+        (B.can_set (B.rest bank.old))
         (length (B.cells bank.old)) finds.now made.now code.now s state.old
-        → Passes s state.old (cell (B.cells bank.old)) asks.old.items state.new (cell (B.cells bank.new)) asks.new.items refused) }
+        → Passes s state.old (cell (B.cells bank.old)) asks.old.items state.new (cell (B.cells bank.new))
+        asks.new.items refused) }
     ensures long { length (B.cells bank.new) ≡ length (B.cells bank.old) }
     ensures rest { B.rest bank.new ≡ B.rest bank.old }
 {

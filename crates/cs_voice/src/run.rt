@@ -17,7 +17,7 @@ use cs_cells::Bank;
 use cs_ir::{Act, Op};
 use cs_machine::{Setting, State};
 
-/// Does what only a code that begins a note does: it starts units and asks for notes.
+/// Does what only a code that begins a note does: it starts units, looks for tables and asks for notes.
 pub(crate) trait Starter<'p> {
     ghost use Rattle.std.specs.Prelude.{◌≡◌, List, true, IfOk};
     ghost use Rattle.cs_ir.specs.declared.ask.Ask.{Ask};
@@ -30,15 +30,17 @@ pub(crate) trait Starter<'p> {
     /// What has been asked for.
     ghost asked: { Self → List Ask };
 
-    /// Does a start or an ask.
+    /// Does a start, a look for a table or an ask.
     fn start(&mut self, state: &mut State<'p>, op: &Op) -> Result<Option<Refusal>, OutOfMemory>
         requires here { is_start op.now.act ≡ true }
         requires able { CanStart (finds self.old) op.now state.old }
-        ensures does { IfOk result (λ refused. HasStarted (finds self.old) op.now state.old (asked self.old) state.new (asked self.new) refused) }
+        ensures does { IfOk result (λ refused. HasStarted (finds self.old) op.now state.old (asked self.old) state.new
+            (asked self.new) refused) }
         ensures same { finds self.new ≡ finds self.old };
 }
 
-/// Does a code from place to place, up to its end or up to what the starter refuses. What a jump passes over costs nothing.
+/// Does a code from place to place, up to its end or up to what the starter refuses. What a jump passes over costs
+/// nothing.
 pub(crate) fn run<'p, S: Starter<'p>, B: Bank>(
     state: &mut State<'p>,
     at: &Setting<'_>,
@@ -48,13 +50,17 @@ pub(crate) fn run<'p, S: Starter<'p>, B: Bank>(
 ) -> Result<Option<Refusal>, OutOfMemory>
     requires { CanGo (B.can_get (B.rest bank.old)) (B.can_set (B.rest bank.old)) (length (B.cells bank.old)) at.now
         (S.finds starter.old) ops.now state.old }
-    ensures cycle { IfOk result (λ refused. (c : Context) → CanRun (B.can_get (B.rest bank.old)) (B.can_set (B.rest bank.old))
+    ensures cycle { IfOk result (λ refused. (c : Context) → CanRun (B.can_get (B.rest bank.old))
+        (B.can_set (B.rest bank.old))
         (length (B.cells bank.old)) at.now c ops.now state.old
-        → (refused ≡ None) × HasRun at.now.layout.now c ops.now state.old (cell (B.cells bank.old)) state.new (cell (B.cells bank.new))) }
+        → (refused ≡ None) × HasRun at.now.layout.now c ops.now state.old (cell (B.cells bank.old)) state.new
+        (cell (B.cells bank.new))) }
     ensures passes { IfOk result (λ refused. (f : Finds) (ms : List Bool) (code : Code) (s : Sheet)
         → S.finds starter.old ≡ Some (f, ms) → f.at ≡ at.now → code.ops.items ≡ ops.now
-        → CanPass (B.can_get (B.rest bank.old)) (B.can_set (B.rest bank.old)) (length (B.cells bank.old)) f ms code s state.old
-        → Passes s state.old (cell (B.cells bank.old)) (S.asked starter.old) state.new (cell (B.cells bank.new)) (S.asked starter.new) refused) }
+        → CanPass (B.can_get (B.rest bank.old)) (B.can_set (B.rest bank.old)) (length (B.cells bank.old)) f ms code s
+        state.old
+        → Passes s state.old (cell (B.cells bank.old)) (S.asked starter.old) state.new (cell (B.cells bank.new))
+        (S.asked starter.new) refused) }
     ensures memory { IsErr result → (c : Context) → CanRun (B.can_get (B.rest bank.old)) (B.can_set (B.rest bank.old))
         (length (B.cells bank.old)) at.now c ops.now state.old → ⊥ }
     ensures long { length (B.cells bank.new) ≡ length (B.cells bank.old) }
@@ -95,15 +101,19 @@ fn one<'p, S: Starter<'p>, B: Bank>(
     starter: &mut S,
     bank: &mut B,
 ) -> Result<Option<Refusal>, OutOfMemory>
-    requires able { CanDoHere (B.can_get (B.rest bank.old)) (B.can_set (B.rest bank.old)) (length (B.cells bank.old)) at.now
+    requires able { CanDoHere (B.can_get (B.rest bank.old)) (B.can_set (B.rest bank.old)) (length (B.cells bank.old))
+        at.now
         (S.finds starter.old) op.now state.old }
     requires here { is_jump op.now.act ≡ false }
     ensures cycle { IfOk result (λ refused. (c : Context) (end place : ℕ) → CanStep (B.can_get (B.rest bank.old))
         (B.can_set (B.rest bank.old)) (length (B.cells bank.old)) at.now c end place op.now state.old
-        → (refused ≡ None) × HasStepped at.now.layout.now c op.now place (place + 1) state.old (cell (B.cells bank.old)) state.new
+        → (refused ≡ None) × HasStepped at.now.layout.now c op.now place (place + 1) state.old
+        (cell (B.cells bank.old)) state.new
         (cell (B.cells bank.new))) }
-    ensures passes { IfOk result (λ refused. (f : Finds) (ms : List Bool) (s : Sheet) → S.finds starter.old ≡ Some (f, ms)
-        → f.at ≡ at.now → CanDoOp (B.can_get (B.rest bank.old)) (B.can_set (B.rest bank.old)) (length (B.cells bank.old)) f ms
+    ensures passes { IfOk result (λ refused. (f : Finds) (ms : List Bool) (s : Sheet) → S.finds starter.old ≡ Some
+        (f, ms)
+        → f.at ≡ at.now → CanDoOp (B.can_get (B.rest bank.old)) (B.can_set (B.rest bank.old))
+        (length (B.cells bank.old)) f ms
         op.now s state.old
         → IsDone s op.now state.old (cell (B.cells bank.old)) (S.asked starter.old) state.new (cell (B.cells bank.new))
         (S.asked starter.new) refused) }
@@ -125,5 +135,5 @@ fn one<'p, S: Starter<'p>, B: Bank>(
 fn is_start(act: Act) -> bool
     ensures { result ≡ is_start act }
 {
-    matches!(act, Act::Start(_, _) | Act::Ask)
+    matches!(act, Act::Start(_, _) | Act::Seek | Act::Ask)
 }

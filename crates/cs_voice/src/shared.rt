@@ -2,7 +2,6 @@
 ghost use Rattle.std.specs.Prelude.{◌≡◌, ◌≤◌, ◌<◌, ◌+◌, [], ◌∷◌, length, true, Some};
 ghost use Rattle.cs_machine.specs.Access.{CanTouch};
 ghost use Rattle.cs_voice.specs.Cells.{AreSized, DoesOver};
-ghost use Rattle.cs_base.specs.Rates.{res_rate};
 ghost use Rattle.cs_base.specs.declared.resource.Rate.TheVariants as rate;
 ghost use Rattle.cs_cells.specs.Cells.{cell};
 ghost use Rattle.cs_ir.specs.Validity.{has_register, has_value};
@@ -32,7 +31,8 @@ pub(crate) fn load<B: Bank>(
     requires value { has_value res ≡ true }
     requires sized { AreSized at.now.layout.now state.old.regs.ksmps }
     requires read { MayTouch (B.can_get (B.rest bank.old)) (length (B.cells bank.old)) at.now.layout.now res }
-    ensures does { DoesOver at.now (act.Load res) into [] state.old (cell (B.cells bank.old)) state.new (cell (B.cells bank.new)) }
+    ensures does { DoesOver at.now (act.Load res) into [] state.old (cell (B.cells bank.old)) state.new
+        (cell (B.cells bank.new)) }
     ensures same { B.cells bank.new ≡ B.cells bank.old }
     ensures rest { B.rest bank.new ≡ B.rest bank.old }
 {
@@ -54,7 +54,8 @@ pub(crate) fn save<B: Bank>(state: &mut State<'_>, at: &Setting<'_>, res: Res, x
     requires value { has_value res ≡ true }
     requires sized { AreSized at.now.layout.now state.old.regs.ksmps }
     requires write { MayTouch (B.can_set (B.rest bank.old)) (length (B.cells bank.old)) at.now.layout.now res }
-    ensures does { (into : Reg) → DoesOver at.now (act.Save res) into (x ∷ []) state.old (cell (B.cells bank.old)) state.new (cell (B.cells bank.new)) }
+    ensures does { (into : Reg) → DoesOver at.now (act.Save res) into (x ∷ []) state.old (cell (B.cells bank.old))
+        state.new (cell (B.cells bank.new)) }
     ensures long { length (B.cells bank.new) ≡ length (B.cells bank.old) }
     ensures rest { B.rest bank.new ≡ B.rest bank.old }
 {

@@ -1,66 +1,65 @@
 // Stores into live tables.
-ghost use Rattle.std.specs.Prelude.{◌≡◌, ◌<◌, ◌+◌, ◌≤◌, [], ◌∷◌, length, slice_index_or, true, IfSome, None, Some};
-ghost use Rattle.cs_voice.specs.Units.{DoesUnit, MayStore, stored_area};
+ghost use Rattle.std.specs.Prelude.{◌≡◌, ◌+◌, ◌≤◌, [], ◌∷◌, length, true, IfSome};
+ghost use Rattle.cs_voice.specs.Cells.{DoesOver, MayStore, stored_area};
 ghost use Rattle.cs_cells.specs.Cells.{cell};
 ghost use Rattle.cs_ir.specs.Validity.{has_register};
-ghost use Rattle.cs_meaning.specs.Plain.{steps_of};
-ghost use Rattle.cs_machine.specs.Players.{PlayerData};
+ghost use Rattle.cs_ir.specs.declared.op.Act.TheVariants as act;
+ghost use Rattle.cs_ir.specs.declared.register.Reg.{Reg};
+ghost use Rattle.cs_meaning.specs.Pieces.{index, steps_of};
 ghost use Rattle.cs_machine.specs.States.{HasRoom};
-ghost use Rattle.cs_words.specs.declared.catalogue.Shape.TheVariants as shape;
+ghost use Rattle.cs_words.specs.declared.catalogue.Opcode.{Opcode};
 
-use cs_base::Rate;
+use cs_base::{Num, Rate, Res};
 use cs_cells::{Area, Bank};
 use cs_ir::{Reach, Reg};
-use cs_machine::{Player, State, store};
+use cs_machine::{Setting, State, area_of, index, store};
 
-/// Stores a register into the live table that the unit of a number was started with, at the places that another one names:
-/// the act `Unit` of `tablew`. The rate of `into`, which isn't written, says how often: once a frame, or once a cycle. A
-/// frozen table and one out of reach stay as they are.
+/// What is stored: a register, at the places that another one names, into the table whose number a third one holds; and
+/// the rate, which says how often: once a frame, or once a cycle.
+#[derive(Clone, Copy)]
+pub(crate) struct Storing {
+    pub signal: Reg,
+    pub index: Reg,
+    pub table: Reg,
+    pub rate: Rate,
+}
+
+/// Stores a register into a live table: the act `Store`. A frozen table, one that isn't there and one out of reach stay
+/// as they are.
 pub(crate) fn store_points<B: Bank>(
     state: &State<'_>,
-    number: usize,
+    at: &Setting<'_>,
+    storing: Storing,
     reach: Reach,
-    into: Reg,
-    signal: Reg,
-    index: Reg,
     bank: &mut B,
 )
-    requires signal { has_register state.now.regs.counts signal ≡ true }
-    requires index { has_register state.now.regs.counts index ≡ true }
-    requires number { number < length state.now.players.items }
+    requires signal { has_register state.now.regs.counts storing.signal ≡ true }
+    requires index { has_register state.now.regs.counts storing.index ≡ true }
+    requires table { has_register state.now.regs.counts storing.table ≡ true }
     requires room { HasRoom state.now }
-    requires unit { (p : PlayerData) → slice_index_or state.now.players.items number None ≡ Some p
-        → MayStore (B.can_set (B.rest bank.old)) (length (B.cells bank.old)) reach p }
-    ensures does { DoesUnit shape.Store number reach into (signal ∷ index ∷ []) state.now (cell (B.cells bank.old)) state.now
-        (cell (B.cells bank.new)) }
+    requires write { MayStore (B.can_set (B.rest bank.old)) (length (B.cells bank.old)) at.now.layout.now reach }
+    ensures does { (opcode : Opcode) (into : Reg) → into.rate ≡ storing.rate
+        → DoesOver at.now (act.Store opcode reach) into (storing.signal ∷ storing.index ∷ storing.table ∷ []) state.now
+        (cell (B.cells bank.old)) state.now (cell (B.cells bank.new)) }
     ensures long { length (B.cells bank.new) ≡ length (B.cells bank.old) }
     ensures rest { B.rest bank.new ≡ B.rest bank.old }
 {
-    let steps = steps(into.rate, state.row.len());
-    let signal = state.regs.operand(signal);
-    let index = state.regs.operand(index);
-    if let Some(area) = stored_area(&state.players[number], reach) {
+    let steps = steps(storing.rate, state.row.len());
+    let signal = state.regs.operand(storing.signal);
+    let index = state.regs.operand(storing.index);
+    if let Some(area) = stored_area(at, reach, state.regs.first(storing.table)) {
         store(bank, area, steps, &signal, &index);
     }
 }
 
-/// The area that a store of a unit changes.
-fn stored_area(unit: &Option<Player<'_>>, reach: Reach) -> Option<Area>
-    ensures { result ≡ stored_area reach unit.now }
+/// The area of the live table that a value names, where it is within reach.
+fn stored_area(at: &Setting<'_>, reach: Reach, value: Num) -> Option<Area>
+    ensures value { result ≡ stored_area at.now.layout.now reach (index value) }
+    ensures small { IfSome result (λ area. area.first + area.length ≤ 65536) }
 {
-    match unit {
-        Some(player) => live_within(player, reach),
-        None => None,
-    }
-}
-
-fn live_within(player: &Player<'_>, reach: Reach) -> Option<Area>
-    ensures { result ≡ stored_area reach (Some player.now) }
-{
-    if player.may_touch(reach) {
-        player.live()
-    } else {
-        None
+    match index(value) {
+        Some(n) if reach.contains(n) => area_of(at.layout, Res::Table(n)),
+        _ => None,
     }
 }
 

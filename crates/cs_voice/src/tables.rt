@@ -2,8 +2,7 @@
 ghost use Rattle.std.specs.Prelude.{◌≡◌, ◌&&◌, ◌==◌, not, unsigned_abs, length};
 ghost use Rattle.std.specs.Int.{is_negative};
 ghost use Rattle.std.specs.Option.{option_map};
-ghost use Rattle.cs_words.specs.Catalogue.{takes_table};
-ghost use Rattle.cs_meaning.specs.Plain.{find_table, table_number};
+ghost use Rattle.cs_meaning.specs.Pieces.{find_table, table_number};
 ghost use Rattle.cs_voice.specs.Tables.{table_at, tables_of};
 
 use crate::TableAt;

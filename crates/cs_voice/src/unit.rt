@@ -1,23 +1,22 @@
 // Units of a note, run for a control cycle.
 ghost use Rattle.std.specs.Prelude.{◌≡◌, ◌<◌, length, map, slice_index_or, true, Some, None};
 ghost use Rattle.std.specs.List.{list_all};
-ghost use Rattle.cs_voice.specs.Units.{DoesUnit, MayPlay, cycled, may_play, unit_after, unit_gives};
+ghost use Rattle.cs_voice.specs.Units.{DoesUnit, MayPlay, cycled, unit_after, unit_gives};
 ghost use Rattle.cs_cells.specs.Cells.{cell};
 ghost use Rattle.cs_ir.specs.Validity.{has_register};
-ghost use Rattle.cs_meaning.specs.Plain.{step_at};
+ghost use Rattle.cs_meaning.specs.Pieces.{step_at};
 ghost use Rattle.cs_machine.specs.Players.{CanRead, PlayerData};
 ghost use Rattle.cs_machine.specs.Registers.{IsWritten, values};
 ghost use Rattle.cs_signal.specs.Operands.{argument};
 ghost use Rattle.cs_machine.specs.States.{HasRoom};
 ghost use Rattle.cs_ugen.specs.Units.{IsUnitOpcode, moving_count, opcode_of};
-ghost use Rattle.cs_words.specs.declared.catalogue.Shape.TheVariants as shape;
 
 use cs_base::{Num, Rate};
 use cs_cells::Bank;
 use cs_ir::{Reach, Reg};
 use cs_machine::{Player, Registers, State, block, step};
 
-/// Runs the unit of a number for a cycle: the act `Unit` of an opcode that computes a result. Its result goes into a
+/// Runs the unit of a number for a cycle: the act `Unit`. Its result goes into a
 /// register, of which the rate says how many steps it makes: one a frame, or one for the whole cycle. Where there is no
 /// such unit, or its table is out of reach, the register becomes 0 and the unit stays as it is.
 pub(crate) fn run_unit<B: Bank>(
@@ -34,7 +33,7 @@ pub(crate) fn run_unit<B: Bank>(
     requires room { HasRoom state.old }
     requires unit { (p : PlayerData) → slice_index_or state.old.players.items number None ≡ Some p
         → MayPlay (B.can_get (B.rest bank.old)) (length (B.cells bank.old)) reach from.now p }
-    ensures does { DoesUnit shape.Unit number reach into from.now state.old (cell (B.cells bank.old)) state.new
+    ensures does { DoesUnit number reach into from.now state.old (cell (B.cells bank.old)) state.new
         (cell (B.cells bank.new)) }
     ensures same { B.cells bank.new ≡ B.cells bank.old }
     ensures rest { B.rest bank.new ≡ B.rest bank.old }
@@ -127,7 +126,8 @@ fn play<B: Bank>(
     ensures unit { player.new ≡ record player.old {
       state = (cycled regs.old.ksmps into.rate (map (values regs.old) from.now) (cell (B.cells bank.old)) player.old).0;
     } }
-    ensures values { IsWritten regs.old into (λ j. argument (cycled regs.old.ksmps into.rate (map (values regs.old) from.now)
+    ensures values { IsWritten regs.old into (λ j. argument (cycled regs.old.ksmps into.rate
+        (map (values regs.old) from.now)
         (cell (B.cells bank.old)) player.old).1 (step_at into.rate j)) regs.new }
     ensures row { length row.new.items ≡ regs.old.ksmps }
     ensures same { B.cells bank.new ≡ B.cells bank.old }

@@ -14,8 +14,8 @@ use cs_machine::State;
 use std::alloc::Global;
 use std::marker::Model;
 
-/// A note that plays: a box, so that a move of it moves an address. Contracts see what it plays from and what it has come to
-/// as plain data.
+/// A note that plays: a box, so that a move of it moves an address. Contracts see what it plays from and what it has
+/// come to as plain data.
 #[derive(Drop)]
 pub struct Voice<'p> {
     body: Box<Body<'p>>,
@@ -34,9 +34,9 @@ impl<'p> Model for Voice<'p> {
 }
 
 impl<'p> Voice<'p> {
-    /// The voice of a note that has begun: the number of its instrument, its age (how many notes were started before it),
-    /// what it plays in, its footprint, the code that it runs in each control cycle, its p-fields from p1 on, and what it
-    /// has come to. `OutOfMemory` where there is none for it; then its parts are let go.
+    /// The voice of a note that has begun: the number of its instrument, its age (how many notes were started before
+    /// it), what it plays in, its footprint, the code that it runs in each control cycle, its p-fields from p1 on, and
+    /// what it has come to. `OutOfMemory` where there is none for it; then its parts are let go.
     pub fn of(
         alloc: Global,
         number: u32,

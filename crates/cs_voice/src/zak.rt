@@ -1,19 +1,20 @@
 // Zak places, read, written, mixed into and cleared by the numbers that values name.
-ghost use Rattle.std.specs.Prelude.{◌≡◌, ℕ, [], ◌∷◌, length, true};
+ghost use Rattle.std.specs.Prelude.{◌≡◌, [], ◌∷◌, length, true};
 ghost use Rattle.cs_machine.specs.Access.{AreSpaces, spaces_of};
-ghost use Rattle.cs_voice.specs.Cells.{AreSized, DoesOver, MayReach, clear_of, get_of, put_of};
+ghost use Rattle.cs_voice.specs.Cells.{AreSized, DoesOver, MayReach};
 ghost use Rattle.cs_voice.specs.inner.Zak.{reached};
 ghost use Rattle.cs_base.specs.Rates.{is_audio};
-ghost use Rattle.cs_base.specs.declared.resource.Rate.TheVariants as rate;
 ghost use Rattle.cs_cells.specs.Cells.{cell};
 ghost use Rattle.cs_ir.specs.Resources.{places_of};
 ghost use Rattle.cs_ir.specs.Validity.{has_register};
 ghost use Rattle.cs_ir.specs.declared.op.Act.TheVariants as act;
 ghost use Rattle.cs_ir.specs.declared.register.Reg.{Reg};
-ghost use Rattle.cs_meaning.specs.Plain.{index};
-ghost use Rattle.cs_words.specs.declared.catalogue.Opcode.TheVariants as op;
+ghost use Rattle.cs_meaning.specs.Pieces.{index};
+ghost use Rattle.cs_words.specs.Catalogue.{row_of};
+ghost use Rattle.cs_words.specs.declared.catalogue.Opcode.{Opcode};
+ghost use Rattle.cs_words.specs.declared.catalogue.Shape.TheVariants as shape;
 ghost use Rattle.cs_words.specs.declared.catalogue.Space.TheVariants as space;
-ghost use Rattle.cs_machine.specs.States.{HasRoom, MayTouch};
+ghost use Rattle.cs_machine.specs.States.{HasRoom};
 
 use crate::shared::{area_at, read, write};
 use cs_base::{Num, Rate, Res};
@@ -22,7 +23,8 @@ use cs_ir::{Reach, Reg, places_of, zak_place};
 use cs_machine::{Registers, Setting, State, clear_places, index, mix_row};
 use cs_words::Space;
 
-/// Reads the zak place that a value names, or 0 where there is none within reach: the act `Unit` of `zkr` and `zar`.
+/// Reads the zak place that a value names, or 0 where there is none within reach: the act `Zak` of an opcode that reads
+/// one.
 pub(crate) fn zak_get<B: Bank>(
     state: &mut State<'_>,
     at: &Setting<'_>,
@@ -37,7 +39,8 @@ pub(crate) fn zak_get<B: Bank>(
     requires room { HasRoom state.old }
     requires sized { AreSized at.now.layout.now state.old.regs.ksmps }
     requires read { MayReach (B.can_get (B.rest bank.old)) (length (B.cells bank.old)) at.now space reach }
-    ensures does { (unit : ℕ) → DoesOver at.now (act.Unit (get_of space) unit reach) into (number ∷ []) state.old
+    ensures does { (opcode : Opcode) → (row_of opcode).shape ≡ shape.ZakGet space → DoesOver at.now
+        (act.Zak opcode reach) into (number ∷ []) state.old
         (cell (B.cells bank.old)) state.new (cell (B.cells bank.new)) }
     ensures same { B.cells bank.new ≡ B.cells bank.old }
     ensures rest { B.rest bank.new ≡ B.rest bank.old }
@@ -58,7 +61,8 @@ pub(crate) fn zak_get<B: Bank>(
     }
 }
 
-/// Writes a register to the zak place that a value names, where it is within reach: the act `Unit` of `zkw` and `zaw`.
+/// Writes a register to the zak place that a value names, where it is within reach: the act `Zak` of an
+/// opcode that writes one.
 pub(crate) fn zak_put<B: Bank>(
     state: &mut State<'_>,
     at: &Setting<'_>,
@@ -73,7 +77,8 @@ pub(crate) fn zak_put<B: Bank>(
     requires room { HasRoom state.old }
     requires sized { AreSized at.now.layout.now state.old.regs.ksmps }
     requires write { MayReach (B.can_set (B.rest bank.old)) (length (B.cells bank.old)) at.now space reach }
-    ensures does { (unit : ℕ) (into : Reg) → DoesOver at.now (act.Unit (put_of space) unit reach) into (x ∷ number ∷ [])
+    ensures does { (opcode : Opcode) (into : Reg) → (row_of opcode).shape ≡ shape.ZakPut space → DoesOver at.now
+        (act.Zak opcode reach) into (x ∷ number ∷ [])
         state.old (cell (B.cells bank.old)) state.new (cell (B.cells bank.new)) }
     ensures long { length (B.cells bank.new) ≡ length (B.cells bank.old) }
     ensures rest { B.rest bank.new ≡ B.rest bank.old }
@@ -84,7 +89,8 @@ pub(crate) fn zak_put<B: Bank>(
     }
 }
 
-/// Adds a register of sound to the zak place that a value names, where it is within reach: the act `Unit` of `zawm`.
+/// Adds a register of sound to the zak place that a value names, where it is within reach: the act `Zak`
+/// of an opcode that mixes.
 pub(crate) fn zak_mix<B: Bank>(
     state: &mut State<'_>,
     at: &Setting<'_>,
@@ -100,7 +106,8 @@ pub(crate) fn zak_mix<B: Bank>(
     requires sized { AreSized at.now.layout.now state.old.regs.ksmps }
     requires read { MayReach (B.can_get (B.rest bank.old)) (length (B.cells bank.old)) at.now space.Audio reach }
     requires write { MayReach (B.can_set (B.rest bank.old)) (length (B.cells bank.old)) at.now space.Audio reach }
-    ensures does { (unit : ℕ) (into : Reg) → DoesOver at.now (act.Unit op.Zawm unit reach) into (x ∷ number ∷ [])
+    ensures does { (opcode : Opcode) (into : Reg) → (row_of opcode).shape ≡ shape.ZakMix → DoesOver at.now
+        (act.Zak opcode reach) into (x ∷ number ∷ [])
         state.old (cell (B.cells bank.old)) state.new (cell (B.cells bank.new)) }
     ensures long { length (B.cells bank.new) ≡ length (B.cells bank.old) }
     ensures rest { B.rest bank.new ≡ B.rest bank.old }
@@ -111,7 +118,8 @@ pub(crate) fn zak_mix<B: Bank>(
     }
 }
 
-/// Sets the zak places from one value to another to 0, as far as they are within reach: the act `Unit` of `zkcl` and `zacl`.
+/// Sets the zak places from one value to another to 0, as far as they are within reach: the act `Zak` of an
+/// opcode that clears.
 pub(crate) fn zak_clear<B: Bank>(
     state: &mut State<'_>,
     at: &Setting<'_>,
@@ -126,7 +134,8 @@ pub(crate) fn zak_clear<B: Bank>(
     requires spaces { AreSpaces at.now.layout.now }
     requires zak { spaces_of at.now.layout.now ≡ at.now.spaces }
     requires write { MayReach (B.can_set (B.rest bank.old)) (length (B.cells bank.old)) at.now space reach }
-    ensures does { (unit : ℕ) (into : Reg) → DoesOver at.now (act.Unit (clear_of space) unit reach) into (first ∷ last ∷ [])
+    ensures does { (opcode : Opcode) (into : Reg) → (row_of opcode).shape ≡ shape.ZakClear space → DoesOver at.now
+        (act.Zak opcode reach) into (first ∷ last ∷ [])
         state.old (cell (B.cells bank.old)) state.new (cell (B.cells bank.new)) }
     ensures long { length (B.cells bank.new) ≡ length (B.cells bank.old) }
     ensures rest { B.rest bank.new ≡ B.rest bank.old }

@@ -9,7 +9,8 @@ use Rattle.cs_ir.specs.declared.op.Reach.{Reach}
 use Rattle.cs_cells.specs.declared.footprint.Area.{Area}
 use Rattle.cs_voice_meaning.specs.VoiceWorld.{lies_cleared}
 
--- whether a number lies from one to another, each the whole part of a value; a first below 0 is before all, a last below 0 none
+-- whether a number lies from one to another, each the whole part of a value; a first below 0 is before all, a last
+-- below 0 none
 abbrev pub lies_between : Option ℕ → Option ℕ → ℕ → Bool
 lies_between None None n = false
 lies_between (Some m) None n = false

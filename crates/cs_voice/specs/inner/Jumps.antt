@@ -12,6 +12,7 @@ is_jump _ = false
 
 abbrev pub is_start : Act → Bool
 is_start (act.Start opcode u) = true
+is_start act.Seek = true
 is_start act.Ask = true
 is_start _ = false
 

@@ -2,7 +2,7 @@ use Rattle.std.proofs.Common.{◌∙◌, ◌+◌, ◌<◌, ap, arith, length, re
 use Rattle.std.proofs.lemmas.List.{length-set}
 use Rattle.cs_base.specs.declared.resource.Rate.TheVariants as rate
 use Rattle.cs_cells.specs.Cells.{cell}
-use Rattle.cs_meaning.specs.Plain.{added}
+use Rattle.cs_meaning.specs.Pieces.{added}
 use Rattle.cs_voice_meaning.specs.Placing.{wave_in}
 use Rattle.cs_machine.specs.Rows.{row_wave}
 use Rattle.cs_machine.proofs.Writing.{touch_again, within_here, none_written, one_written, all_written, mixed}

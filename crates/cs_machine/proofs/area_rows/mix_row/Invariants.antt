@@ -1,7 +1,7 @@
 use Rattle.std.proofs.Common.{◌≡◌, length, Some}
 use Rattle.cs_base.specs.declared.resource.Rate.TheVariants as rate
 use Rattle.cs_cells.specs.Cells.{cell}
-use Rattle.cs_meaning.specs.Plain.{added}
+use Rattle.cs_meaning.specs.Pieces.{added}
 use Rattle.cs_voice_meaning.specs.Placing.{wave_in, with_wave}
 use Rattle.cs_machine.specs.Rows.{row_wave}
 use Rattle.cs_machine.specs.inner.Numbers.{front}

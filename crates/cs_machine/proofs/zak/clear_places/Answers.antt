@@ -1,7 +1,7 @@
 use Rattle.std.proofs.Common.{◌∙◌, ap, arith, length, sym}
 use Rattle.cs_cells.specs.Cells.{cell}
 use Rattle.std.proofs.lemmas.List.{take_all}
-use Rattle.cs_meaning.specs.Plain.{index}
+use Rattle.cs_meaning.specs.Pieces.{index}
 use Rattle.cs_voice_meaning.specs.Placing.{area_of}
 use Rattle.cs_machine.specs.inner.Numbers.{cleared_in, clears}
 use Rattle.cs_machine.proofs.Clearing.{all_cleared, clears_reach, one_cleared, one_left}

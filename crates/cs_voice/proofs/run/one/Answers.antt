@@ -1,7 +1,7 @@
 use Rattle.std.proofs.Common.{◌∙◌, length, refl, sym}
 use Rattle.cs_cells.specs.Cells.{cell}
 use Rattle.cs_voice.specs.Codes.{CanStart}
-use Rattle.cs_voice.proofs.Going.{acted, can_act, can_start, here_if, started, starts_not}
+use Rattle.cs_voice.proofs.Going.{acted, can_act, can_start, here_if}
 use Rattle.cs_voice.proofs.Steps.{does_step}
 use Rattle.cs_voice.proofs.run.one.Goals as goal
 

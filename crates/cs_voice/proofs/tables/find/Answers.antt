@@ -1,6 +1,6 @@
 use Rattle.std.proofs.Common.{sym, ◌∙◌, ap, rules, w64, SFits}
 use Rattle.std.proofs.lemmas.Int.{to_z-of_z}
-use Rattle.cs_meaning.specs.Plain.{find_table}
+use Rattle.cs_meaning.specs.Pieces.{find_table}
 use Rattle.cs_voice.specs.Tables.{tables_of}
 use Rattle.cs_voice.proofs.Tabled.{found_here, found_later}
 use Rattle.cs_voice.proofs.tables.find.Goals as goal

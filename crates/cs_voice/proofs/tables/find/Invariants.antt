@@ -1,5 +1,5 @@
 use Rattle.std.proofs.Common.{◌≡◌, drop}
-use Rattle.cs_meaning.specs.Plain.{find_table}
+use Rattle.cs_meaning.specs.Pieces.{find_table}
 use Rattle.cs_voice.specs.Tables.{tables_of}
 use Rattle.cs_voice.proofs.tables.find.Given as goal
 

@@ -1,6 +1,6 @@
 use Rattle.std.proofs.Common.{◌∙◌, ap, length, map, subst}
 use Rattle.cs_cells.specs.Cells.{cell}
-use Rattle.cs_meaning.specs.Plain.{step_at}
+use Rattle.cs_meaning.specs.Pieces.{step_at}
 use Rattle.cs_machine.proofs.Frames.{all_written}
 use Rattle.cs_machine.proofs.Putting.{wrote_row}
 use Rattle.cs_machine.specs.Registers.{IsWritten, values}

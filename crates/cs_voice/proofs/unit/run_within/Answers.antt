@@ -1,7 +1,7 @@
 use Rattle.std.proofs.Common.{◌∙◌, if◌then◌else◌, map, subst, sym}
 use Rattle.cs_cells.specs.Cells.{cell}
 use Rattle.cs_ir.specs.Waves.{silence}
-use Rattle.cs_meaning.specs.Plain.{step_at}
+use Rattle.cs_meaning.specs.Pieces.{step_at}
 use Rattle.cs_machine.specs.Registers.{IsWritten, values}
 use Rattle.cs_signal.specs.Operands.{argument}
 use Rattle.cs_voice.specs.Units.{cycled}

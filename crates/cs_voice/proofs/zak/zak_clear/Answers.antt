@@ -1,24 +1,23 @@
 use Rattle.std.proofs.Common.{◌∙◌, [], ◌∷◌, pos, ap, refl, sym, if◌then◌else◌}
 use Rattle.cs_cells.specs.Cells.{cell}
 use Rattle.cs_ir.specs.declared.op.Act.TheVariants as act
-use Rattle.cs_meaning.specs.Plain.{is_cleared}
+use Rattle.cs_meaning.specs.Pieces.{is_cleared}
 use Rattle.cs_machine.specs.Registers.{values}
 use Rattle.cs_voice_meaning.specs.VoiceWorld.{lies_cleared}
 use Rattle.cs_machine.specs.States.{machine_of}
 use Rattle.cs_machine.proofs.Done.{changes}
-use Rattle.cs_voice.specs.Cells.{clear_of}
 use Rattle.cs_voice.proofs.Places.{clearing}
 use Rattle.cs_voice.proofs.zak.zak_clear.Goals as goal
 
 pub returns-clause-does : goal.returns-clause-does
-returns-clause-does g c = λ unit into areas piece stock kinds counts at placed state.
+returns-clause-does g c = λ opcode into shaped areas piece stock kinds counts at placed state.
     let before = cell (g.B.Bank.cells c.args.bank.now) in
     let after = cell (g.B.Bank.cells c.clear_places.new.bank) in
     let f = values c.args.state.now.regs c.args.first in
     let l = values c.args.state.now.regs c.args.last in
-    changes areas piece kinds counts (act.Unit (clear_of c.args.space) unit c.args.reach) into (c.args.first ∷ c.args.last ∷ []) c.args.state.now _ before after
+    changes areas piece kinds counts (act.Zak opcode c.args.reach) into (c.args.first ∷ c.args.last ∷ []) c.args.state.now _ before after
     (record { regs = refl; rest = record { players = refl; outs = refl; delays = refl; ended = refl } }) state (state.row ∙ sym state.frames)
-    (λ next asks cause. clearing areas piece c.args.space unit c.args.reach into f l (machine_of c.args.state.now before next asks cause)
+    (λ next asks cause. clearing areas piece opcode c.args.reach into (machine_of c.args.state.now before next asks cause) c.args.space f l shaped
     ∙ ap (λ cells. machine_of c.args.state.now cells next asks cause)
     (ap (λ ls a. if lies_cleared ls (is_cleared piece c.args.space c.args.reach (f 0) (l 0)) a then pos 0 else before a) (sym at.layout)
     ∙ ap (λ z a. if lies_cleared c.args.at.now.layout.now (is_cleared piece c.args.space c.args.reach z (l 0)) a then pos 0 else before a) (sym c.first.ensures)

@@ -4,40 +4,39 @@ use Rattle.cs_cells.specs.Cells.{cell}
 use Rattle.cs_ir.specs.Machine.{write}
 use Rattle.cs_ir.specs.Waves.{constant, silence}
 use Rattle.cs_ir.specs.declared.op.Act.TheVariants as act
-use Rattle.cs_meaning.specs.Plain.{index}
+use Rattle.cs_meaning.specs.Pieces.{index}
 use Rattle.cs_machine.specs.Registers.{IsWritten, values}
 use Rattle.cs_voice_meaning.specs.Placing.{area_of, wave_in, wave_of}
-use Rattle.cs_voice_meaning.specs.VoiceWorld.{load}
+use Rattle.cs_voice_meaning.specs.VoiceWorld.{read_cells}
 use Rattle.cs_machine.specs.States.{machine_of}
 use Rattle.cs_machine.proofs.Done.{writes}
-use Rattle.cs_voice.specs.Cells.{get_of}
 use Rattle.cs_voice.specs.inner.Zak.{reached}
 use Rattle.cs_voice.proofs.Places.{at_reached, getting, not_reached}
 use Rattle.cs_voice.proofs.zak.zak_get.Goals as goal
 
 pub returns-in-Some-clause-does : goal.returns-in-Some-clause-does
-returns-in-Some-clause-does g c = λ unit areas piece stock kinds counts at placed state.
+returns-in-Some-clause-does g c = λ opcode shaped areas piece stock kinds counts at placed state.
     let before = cell (g.B.Bank.cells c.args.bank.now) in
     let v = values c.args.state.now.regs c.args.number in
     let res = c.in-Some.res in
-    writes areas piece kinds counts (act.Unit (get_of c.args.space) unit c.args.reach) c.args.into (c.args.number ∷ []) (wave_in (res_rate res) c.area_at-area.result before)
+    writes areas piece kinds counts (act.Zak opcode c.args.reach) c.args.into (c.args.number ∷ []) (wave_in (res_rate res) c.area_at-area.result before)
     c.args.state.now _ before (cell (g.B.Bank.cells c.read.new.bank)) (record { players = refl; outs = refl; delays = refl; ended = refl }) (ap cell c.read.ensures.same) state (subst (λ r. IsWritten c.args.state.now.regs c.args.into (wave_in r c.area_at-area.result before) c.read.new.regs) c.rate.ensures c.read.ensures.values) c.read.ensures.row
     (λ next asks cause. let m = machine_of c.args.state.now before next asks cause in
-    getting areas piece c.args.space unit c.args.reach c.args.into v m
+    getting areas piece opcode c.args.reach c.args.into m c.args.space v shaped
     ∙ ap (λ w. write piece.head.ksmps c.args.into w m)
-    (at_reached c.args.at.now piece c.args.space c.args.reach (index (v 0)) res silence (λ q. load areas q m.world) at.spaces
+    (at_reached c.args.at.now piece c.args.space c.args.reach (index (v 0)) res silence (λ q. read_cells areas q before) at.spaces
     (ap (λ z. reached c.args.at.now c.args.space c.args.reach (index z)) (sym c.first.ensures) ∙ sym c.place.ensures ∙ c.in-Some.is)
     ∙ ap (λ o. wave_of o (res_rate res) before) (ap (λ l. area_of l res) (sym at.layout) ∙ c.area_at-area.ensures.value)))
 
 pub returns-in-None-clause-does : goal.returns-in-None-clause-does
-returns-in-None-clause-does g c = λ unit areas piece stock kinds counts at placed state.
+returns-in-None-clause-does g c = λ opcode shaped areas piece stock kinds counts at placed state.
     let before = cell (g.B.Bank.cells c.args.bank.now) in
     let v = values c.args.state.now.regs c.args.number in
-    writes areas piece kinds counts (act.Unit (get_of c.args.space) unit c.args.reach) c.args.into (c.args.number ∷ []) silence
+    writes areas piece kinds counts (act.Zak opcode c.args.reach) c.args.into (c.args.number ∷ []) silence
     c.args.state.now _ before before (record { players = refl; outs = refl; delays = refl; ended = refl }) refl state
     (subst (λ z. IsWritten c.args.state.now.regs c.args.into (constant z) c.hold.new.self) c.exact.ensures c.hold.ensures.values) c.hold.ensures.row
     (λ next asks cause. let m = machine_of c.args.state.now before next asks cause in
-    getting areas piece c.args.space unit c.args.reach c.args.into v m
+    getting areas piece opcode c.args.reach c.args.into m c.args.space v shaped
     ∙ ap (λ w. write piece.head.ksmps c.args.into w m)
-    (not_reached c.args.at.now piece c.args.space c.args.reach (index (v 0)) silence (λ q. load areas q m.world) at.spaces
+    (not_reached c.args.at.now piece c.args.space c.args.reach (index (v 0)) silence (λ q. read_cells areas q before) at.spaces
     (ap (λ z. reached c.args.at.now c.args.space c.args.reach (index z)) (sym c.first.ensures) ∙ sym c.place.ensures ∙ c.in-None.is)))

@@ -2,21 +2,21 @@ use Rattle.std.proofs.Common.{◌∙◌, [], ◌∷◌, ap, refl, sym}
 use Rattle.cs_cells.specs.Cells.{cell}
 use Rattle.cs_ir.specs.Machine.{in_world}
 use Rattle.cs_ir.specs.declared.op.Act.TheVariants as act
-use Rattle.cs_meaning.specs.Plain.{added, index}
+use Rattle.cs_meaning.specs.Pieces.{added, index}
 use Rattle.cs_machine.specs.Registers.{values}
 use Rattle.cs_voice_meaning.specs.Placing.{area_of, cell_count}
-use Rattle.cs_voice_meaning.specs.VoiceWorld.{load, saved}
+use Rattle.cs_meaning.specs.Model.{saved}
+use Rattle.cs_voice_meaning.specs.VoiceWorld.{read_cells, voice_model}
 use Rattle.cs_machine.specs.States.{machine_of}
 use Rattle.cs_machine.proofs.Done.{changes}
 use Rattle.cs_machine.proofs.Given.{sound_register}
-use Rattle.cs_words.specs.declared.catalogue.Opcode.TheVariants as op
 use Rattle.cs_words.specs.declared.catalogue.Space.TheVariants as space
 use Rattle.cs_voice.specs.inner.Zak.{reached}
 use Rattle.cs_voice.proofs.Places.{at_reached, mixed_here, mixing, not_reached, reached_sound, reached_value}
 use Rattle.cs_voice.proofs.zak.zak_mix.Goals as goal
 
 pub returns-in-Some-clause-does : goal.returns-in-Some-clause-does
-returns-in-Some-clause-does g c = λ unit into areas piece stock kinds counts at placed state.
+returns-in-Some-clause-does g c = λ opcode into shaped areas piece stock kinds counts at placed state.
     let before = cell (g.B.Bank.cells c.args.bank.now) in
     let after = cell (g.B.Bank.cells c.mix_row.new.bank) in
     let v = values c.args.state.now.regs c.args.number in
@@ -24,12 +24,12 @@ returns-in-Some-clause-does g c = λ unit into areas piece stock kinds counts at
     let res = c.in-Some.res in
     let here = ap (λ z. reached c.args.at.now space.Audio c.args.reach (index z)) (sym c.first.ensures) ∙ sym c.place.ensures ∙ c.in-Some.is in
     let sound = reached_sound c.args.at.now c.args.reach (index (v 0)) res here in
-    changes areas piece kinds counts (act.Unit op.Zawm unit c.args.reach) into (c.args.x ∷ c.args.number ∷ []) c.args.state.now _ before after
+    changes areas piece kinds counts (act.Zak opcode c.args.reach) into (c.args.x ∷ c.args.number ∷ []) c.args.state.now _ before after
     (record { regs = refl; rest = record { players = refl; outs = refl; delays = refl; ended = refl } }) state (state.row ∙ sym state.frames)
     (λ next asks cause. let m = machine_of c.args.state.now before next asks cause in
-    mixing areas piece unit c.args.reach into w v m
+    mixing areas piece opcode c.args.reach into m w v shaped
     ∙ ap (λ x. in_world x m)
-    (at_reached c.args.at.now piece space.Audio c.args.reach (index (v 0)) res m.world (λ q. saved areas piece.head.ksmps q (added (load areas q m.world) w) m.world) at.spaces here)
+    (at_reached c.args.at.now piece space.Audio c.args.reach (index (v 0)) res m.world (λ q. saved (voice_model areas piece) q (added (read_cells areas q before) w) m.world) at.spaces here)
     ∙ ap (λ cells. machine_of c.args.state.now cells next asks cause)
     (mixed_here areas res c.area_at-area.result w c.row.result.now c.args.state.now.regs.ksmps piece.head.ksmps before after
     (ap (λ l. area_of l res) (sym at.layout) ∙ c.area_at-area.ensures.value) sound
@@ -38,14 +38,14 @@ returns-in-Some-clause-does g c = λ unit into areas piece stock kinds counts at
     (c.row.ensures.value ∙ ap (values c.args.state.now.regs) (sound_register c.args.x c.requires.sound)) c.mix_row.ensures.cells))
 
 pub returns-in_default-clause-does : goal.returns-in_default-clause-does
-returns-in_default-clause-does g c = λ unit into areas piece stock kinds counts at placed state.
+returns-in_default-clause-does g c = λ opcode into shaped areas piece stock kinds counts at placed state.
     let before = cell (g.B.Bank.cells c.args.bank.now) in
     let v = values c.args.state.now.regs c.args.number in
     let w = values c.args.state.now.regs c.args.x in
-    changes areas piece kinds counts (act.Unit op.Zawm unit c.args.reach) into (c.args.x ∷ c.args.number ∷ []) c.args.state.now _ before before
+    changes areas piece kinds counts (act.Zak opcode c.args.reach) into (c.args.x ∷ c.args.number ∷ []) c.args.state.now _ before before
     (record { regs = refl; rest = record { players = refl; outs = refl; delays = refl; ended = refl } }) state (state.row ∙ sym state.frames)
     (λ next asks cause. let m = machine_of c.args.state.now before next asks cause in
-    mixing areas piece unit c.args.reach into w v m
+    mixing areas piece opcode c.args.reach into m w v shaped
     ∙ ap (λ x. in_world x m)
-    (not_reached c.args.at.now piece space.Audio c.args.reach (index (v 0)) m.world (λ q. saved areas piece.head.ksmps q (added (load areas q m.world) w) m.world) at.spaces
+    (not_reached c.args.at.now piece space.Audio c.args.reach (index (v 0)) m.world (λ q. saved (voice_model areas piece) q (added (read_cells areas q before) w) m.world) at.spaces
     (ap (λ z. reached c.args.at.now space.Audio c.args.reach (index z)) (sym c.first.ensures) ∙ sym c.place.ensures ∙ c.in_default.is)))

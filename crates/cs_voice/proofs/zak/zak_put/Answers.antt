@@ -4,45 +4,45 @@ use Rattle.cs_cells.specs.Cells.{cell}
 use Rattle.cs_ir.specs.Machine.{in_world}
 use Rattle.cs_ir.specs.Waves.{held}
 use Rattle.cs_ir.specs.declared.op.Act.TheVariants as act
-use Rattle.cs_meaning.specs.Plain.{index}
+use Rattle.cs_meaning.specs.Pieces.{index}
 use Rattle.cs_machine.specs.Registers.{values}
 use Rattle.cs_voice_meaning.specs.Placing.{area_of, with_wave}
-use Rattle.cs_voice_meaning.specs.VoiceWorld.{saved}
+use Rattle.cs_meaning.specs.Model.{saved}
+use Rattle.cs_voice_meaning.specs.VoiceWorld.{voice_model}
 use Rattle.cs_machine.specs.States.{machine_of}
 use Rattle.cs_machine.proofs.Done.{changes}
-use Rattle.cs_voice.specs.Cells.{put_of}
 use Rattle.cs_voice.specs.inner.Zak.{reached}
 use Rattle.cs_voice.proofs.Places.{at_reached, not_reached, putting}
 use Rattle.cs_voice.proofs.Sharing.{saved_here}
 use Rattle.cs_voice.proofs.zak.zak_put.Goals as goal
 
 pub returns-in-Some-clause-does : goal.returns-in-Some-clause-does
-returns-in-Some-clause-does g c = λ unit into areas piece stock kinds counts at placed state.
+returns-in-Some-clause-does g c = λ opcode into shaped areas piece stock kinds counts at placed state.
     let before = cell (g.B.Bank.cells c.args.bank.now) in
     let after = cell (g.B.Bank.cells c.write.new.bank) in
     let v = values c.args.state.now.regs c.args.number in
     let w = values c.args.state.now.regs c.args.x in
     let res = c.in-Some.res in
-    changes areas piece kinds counts (act.Unit (put_of c.args.space) unit c.args.reach) into (c.args.x ∷ c.args.number ∷ []) c.args.state.now _ before after
+    changes areas piece kinds counts (act.Zak opcode c.args.reach) into (c.args.x ∷ c.args.number ∷ []) c.args.state.now _ before after
     (record { regs = refl; rest = record { players = refl; outs = refl; delays = refl; ended = refl } }) state c.write.ensures.row
     (λ next asks cause. let m = machine_of c.args.state.now before next asks cause in
-    putting areas piece c.args.space unit c.args.reach into w v m
+    putting areas piece opcode c.args.reach into m c.args.space w v shaped
     ∙ ap (λ x. in_world x m)
-    (at_reached c.args.at.now piece c.args.space c.args.reach (index (v 0)) res m.world (λ q. saved areas piece.head.ksmps q w m.world) at.spaces
+    (at_reached c.args.at.now piece c.args.space c.args.reach (index (v 0)) res m.world (λ q. saved (voice_model areas piece) q w m.world) at.spaces
     (ap (λ z. reached c.args.at.now c.args.space c.args.reach (index z)) (sym c.first.ensures) ∙ sym c.place.ensures ∙ c.in-Some.is))
     ∙ ap (λ cells. machine_of c.args.state.now cells next asks cause)
     (saved_here areas res c.area_at-area.result (res_rate res) w c.args.state.now.regs.ksmps piece.head.ksmps before after
     (ap (λ l. area_of l res) (sym at.layout) ∙ c.area_at-area.ensures.value) state.frames (subst (λ r. after ≡ with_wave (Some c.area_at-area.result) (held c.args.state.now.regs.ksmps r (w)) before) c.rate.ensures c.write.ensures.cells)))
 
 pub returns-in_default-clause-does : goal.returns-in_default-clause-does
-returns-in_default-clause-does g c = λ unit into areas piece stock kinds counts at placed state.
+returns-in_default-clause-does g c = λ opcode into shaped areas piece stock kinds counts at placed state.
     let before = cell (g.B.Bank.cells c.args.bank.now) in
     let v = values c.args.state.now.regs c.args.number in
     let w = values c.args.state.now.regs c.args.x in
-    changes areas piece kinds counts (act.Unit (put_of c.args.space) unit c.args.reach) into (c.args.x ∷ c.args.number ∷ []) c.args.state.now _ before before
+    changes areas piece kinds counts (act.Zak opcode c.args.reach) into (c.args.x ∷ c.args.number ∷ []) c.args.state.now _ before before
     (record { regs = refl; rest = record { players = refl; outs = refl; delays = refl; ended = refl } }) state (state.row ∙ sym state.frames)
     (λ next asks cause. let m = machine_of c.args.state.now before next asks cause in
-    putting areas piece c.args.space unit c.args.reach into w v m
+    putting areas piece opcode c.args.reach into m c.args.space w v shaped
     ∙ ap (λ x. in_world x m)
-    (not_reached c.args.at.now piece c.args.space c.args.reach (index (v 0)) m.world (λ q. saved areas piece.head.ksmps q w m.world) at.spaces
+    (not_reached c.args.at.now piece c.args.space c.args.reach (index (v 0)) m.world (λ q. saved (voice_model areas piece) q w m.world) at.spaces
     (ap (λ z. reached c.args.at.now c.args.space c.args.reach (index z)) (sym c.first.ensures) ∙ sym c.place.ensures ∙ c.in_default.is)))

@@ -6,7 +6,6 @@ use Rattle.cs_machine.proofs.player.Player.block.Goals as goal
 
 pub returns-in-Nothing-clause-player : goal.returns-in-Nothing-clause-player
 returns-in-Nothing-clause-player g c = record {
-  opcode = ap (λ p. p.opcode) c.self.view_is;
   table = ap (λ p. p.table) c.self.view_is;
   points = ap (λ p. p.points) c.self.view_is;
   area = ap (λ p. p.area) c.self.view_is;
@@ -15,7 +14,6 @@ returns-in-Nothing-clause-player g c = record {
 
 pub returns-in-Frozen-clause-player : goal.returns-in-Frozen-clause-player
 returns-in-Frozen-clause-player g c = record {
-  opcode = ap (λ p. p.opcode) c.self.view_is;
   table = ap (λ p. p.table) c.self.view_is;
   points = ap (λ f. Some f.points.now) c.block_on.ensures.kept ∙ sym (ap points_in c.in-Frozen.is) ∙ ap (λ p. p.points) c.self.view_is;
   area = sym (ap area_in c.in-Frozen.is) ∙ ap (λ p. p.area) c.self.view_is;
@@ -24,7 +22,6 @@ returns-in-Frozen-clause-player g c = record {
 
 pub returns-in-Live-clause-player : goal.returns-in-Live-clause-player
 returns-in-Live-clause-player g c = record {
-  opcode = ap (λ p. p.opcode) c.self.view_is;
   table = ap (λ p. p.table) c.self.view_is;
   points = sym (ap points_in c.in-Live.is) ∙ ap (λ p. p.points) c.self.view_is;
   area = sym (ap area_in c.in-Live.is) ∙ ap (λ p. p.area) c.self.view_is;

@@ -2,7 +2,7 @@ use Rattle.std.proofs.Common.{[], ap, refl, sym, ◌∙◌}
 use Rattle.cs_ir.specs.declared.op.Act.TheVariants as act
 use Rattle.cs_ir.specs.Machine.{write}
 use Rattle.cs_ir.specs.Waves.{constant}
-use Rattle.cs_meaning.specs.Plain.{head_value}
+use Rattle.cs_meaning.specs.Pieces.{head_value}
 use Rattle.cs_machine.specs.States.{machine_of}
 use Rattle.cs_machine.proofs.Done.{writes}
 use Rattle.cs_machine.proofs.state.State.header.Goals as goal

@@ -1,7 +1,7 @@
 use Rattle.std.proofs.Common.{[], ◌∷◌, ◌∙◌, ap, refl, subst, sym}
 use Rattle.cs_ir.specs.Machine.{in_world}
 use Rattle.cs_ir.specs.declared.op.Act.TheVariants as act
-use Rattle.cs_meaning.specs.Plain.{index}
+use Rattle.cs_meaning.specs.Pieces.{index}
 use Rattle.cs_machine.specs.Outputs.{IsGiven}
 use Rattle.cs_machine.specs.Registers.{values}
 use Rattle.cs_machine.specs.inner.Channels.{channel_below}

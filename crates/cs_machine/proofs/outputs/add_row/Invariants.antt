@@ -3,7 +3,7 @@ use Rattle.cs_ir.specs.Waves.{both}
 use Rattle.cs_machine.specs.Rows.{Begins, row_wave}
 use Rattle.cs_machine.specs.inner.Kept.{Ends}
 use Rattle.cs_words.specs.declared.sign.BinOp.TheVariants as op
-use Rattle.cs_machine.proofs.outputs.add_each.Given as goal
+use Rattle.cs_machine.proofs.outputs.add_row.Given as goal
 
 -- the places before this one have the sum, the others what they had
 abbrev pub invariant-loop-j : goal.invariant-loop-j
