@@ -6,7 +6,7 @@ abbrev pub GoesOn : {A B E : Type 0} → (A → Result B E → Type 0) → Resul
 GoesOn Q (Ok a) r = Q a r
 GoesOn Q (Err e) r = r ≡ Err e
 
--- P answers first. Where it gives a value Q goes on from it, and where it refuses that is the answer.
+-- P comes first. Where it gives a value Q goes on from it, and where it refuses that is the result.
 pub record Then {A B E : Type 0} (P : Result A E → Type 0) (Q : A → Result B E → Type 0) (r : Result B E) : Type 0 where
   pub first : Result A E
   pub first_is : P first

@@ -1,6 +1,6 @@
 //! From two texts to all that their piece needs to be performed, or to their first refusal. It has no runtime.
 //!
-//! The one contract: `compile` returns exactly what the texts mean (specs/Meaning, `means`), a chain of steps each of
+//! Its one contract: `compile` returns exactly what the texts mean (specs/Meaning, `means`), a chain of steps each of
 //! which goes on from the value of the one before (specs/Then): a setup of the composition that they mean, or the
 //! first refusal in the stated order of steps. `texts_have_one_meaning` says that there is one and no other. In which
 //! order the parts are worked out, what is kept between them and when it is given back may be changed without anyone

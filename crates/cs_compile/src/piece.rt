@@ -36,7 +36,7 @@ pub fn compile(
     ensures accepted { IfOk result (λ s. means width orchestra.now score.now (Ok (composition_of s))) }
     ensures fits { IfOk result (λ s. size_of width
         (s.plot.cycles * s.orchestra.head.ksmps) s.orchestra.head ≤ most_wav_bytes) }
-    // Want of memory alone has no clause.
+    // Out of memory alone has no clause.
     ensures refused { (r : Refusal) → result ≡ Err (or.Fault r) → means width orchestra.now score.now (Err r) }
 {
     if orchestra.len() > MOST_ORCHESTRA_BYTES {

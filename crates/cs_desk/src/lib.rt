@@ -4,13 +4,14 @@
 //!
 //! The one contract: `Desk::rest` gives the jobs, and a desk with the cells, that the notes of the
 //! cycle leave when they run one by one in serial order; `Desk::open` costs the cycle's notes and
-//! edges, takes no memory and can't fail.
+//! edges, takes no memory and can't fail. `Desk::run_alone` gives the same without a board.
 //!
 //! In which order words are laid and cleared may change without anyone above noticing. In reading
-//! order: `receipt`, `desk`, `room`, `course` (the graph that is kept from cycle to cycle), `open`,
-//! `rest`.
+//! order: `receipt`, `desk`, `room`, `course` (the graph that is kept from cycle to cycle), `alone` (a
+//! cycle without a board), `open`, `rest`.
 #![tactic(auto)]
 
+mod alone;
 mod course;
 mod desk;
 mod open;

@@ -4,7 +4,7 @@ ghost use Rattle.std.specs.Prelude.{◌≡◌, ◌+◌, ◌≤◌, ◌^◌, leng
 use cs_cells::Job;
 use std::marker::Model;
 
-/// The jobs of a cycle after all its notes, in serial order. `Desk::rest` alone makes one.
+/// The jobs of a cycle after all its notes, in serial order. `Desk::rest` and `Desk::run_alone` alone make one.
 /// Contracts see the list of the jobs.
 pub struct Receipt<J> {
     pub(crate) notes: u32,

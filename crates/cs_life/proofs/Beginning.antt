@@ -34,7 +34,7 @@ use Rattle.cs_voice.specs.declared.stage.Stage.{Stage}
 -- what the start of a note answers and leaves
 pub record Gives (s : sounding.Sheet) (cells new : Cells) (r : Started) (asks : List Ask) : Type 0 where
   pub result : IsStarted s (sounding.initialised s (cell cells)) r
-  pub cells_are : cell new ≡ (sounding.initialised s (cell cells)).world.cells
+  pub cells_are : cell new ≡ (sounding.initialised s (cell cells)).world.shared
   pub asks_are : asks ≡ map ask_of (sounding.initialised s (cell cells)).world.asks
 
 -- what is so before the note takes its place

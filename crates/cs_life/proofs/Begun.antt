@@ -48,22 +48,22 @@ module _ (c : Composition) (stage : Stage) (flags : List Bool) (now : ℕ) (s : 
   same_asks = begins.asks ∙ ap (λ (n : Note Plain). n.world.asks) same_note
 
   -- the cells hold what notes share then
-  pub still_hold : (new : Cells) → cell new ≡ machine.world.cells → Hold stage.layout.now (cell new) t.world.shared
+  pub still_hold : (new : Cells) → cell new ≡ machine.world.shared → Hold stage.layout.now (cell new) t.world.shared
   still_hold new e =
       subst (λ x. Hold stage.layout.now x t.world.shared) (sym e)
-      (subst (λ (n : Note Plain). Hold stage.layout.now machine.world.cells n.world.shared) same_note begins.cells)
+      (subst (λ (n : Note Plain). Hold stage.layout.now machine.world.shared n.world.shared) same_note begins.cells)
 
   module _ (v : VoiceData) (live : IsLive sheet machine v) where
     same_sheet : sheet ≡ sheet_at i v.age foot stage flags v.fields
     same_sheet = λ j. record {
       number = i.number;
-      age = live.plays.parts.age j;
+      age = live.plays.age j;
       piece = record {
         head = sheet.piece.head;
         spaces = sheet.piece.spaces;
         tables = sheet.piece.tables;
         generators = sheet.piece.generators;
-        fields = λ k. live.plays.parts.fields k j;
+        fields = λ k. live.plays.fields k j;
       };
       areas = sheet.areas;
       foot = foot;
@@ -82,8 +82,8 @@ module _ (c : Composition) (stage : Stage) (flags : List Bool) (now : ℕ) (s : 
       i = i;
       foot = foot;
       of = of;
-      number = number ∙ ap pos live.plays.parts.number;
-      fields = live.plays.parts.fields;
+      number = number ∙ ap pos live.plays.number;
+      fields = live.plays.fields;
       on = subst (λ (x : Sheet). IsOn x v) same_sheet live.plays;
       valid = valid;
       note = subst (λ (x : Sheet). IsVoiceOf x of.plan of.kinds (sounding_on x v) t) same_sheet plays_on;

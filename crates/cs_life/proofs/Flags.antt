@@ -8,15 +8,12 @@ use Rattle.std.proofs.lemmas.Bool.Decides.{nat_tests}
 use Rattle.std.specs.List.{AllZip, list_any}
 use Rattle.cs_cells.specs.declared.footprint.Footprint.{Footprint}
 use Rattle.cs_ir.specs.Instruments.{Numbered}
-use Rattle.cs_ir.specs.declared.op.Act.{Act}
-use Rattle.cs_ir.specs.declared.op.Act.TheVariants as act
-use Rattle.cs_ir.specs.declared.op.Op.{Op}
 use Rattle.cs_piece_meaning.specs.Moments.{Composition, Active}
 use Rattle.cs_meaning.specs.Plain.{Table, find_table}
 use Rattle.cs_voice.specs.Starts.{sheet_at}
 use Rattle.cs_voice.specs.Tables.{table_at, tables_of}
 use Rattle.cs_voice.specs.Memory.{frozen_in, table_of}
-use Rattle.cs_voice.specs.VoiceData.{VoiceData, IsSheetFor, OpsStoreInto, StoresInto, made}
+use Rattle.cs_voice.specs.VoiceData.{VoiceData, IsOn, made}
 use Rattle.cs_voice.specs.declared.stage.Stage.{Stage}
 use Rattle.cs_voice.specs.declared.stage.TableAt.{TableAt}
 use Rattle.cs_life.specs.Standing.{Plays, flags_of}
@@ -55,23 +52,6 @@ marked_flags (t ∷ ts) (c ∷ cs) n ns e =
     let here : t.number ≡ c.number = ap (λ (x : Table). x.number) (first_of t c ts cs e) in
     let later = marked_flags ts cs n ns (later_of t c ts cs e) in
     λ i. ((n == here i) || list_any (λ k. k == c.number) ns) ∷ later i
-
--- a flag that was true stays so
-abbrev pub More : List Bool → List Bool → Type 0
-More fs gs = AllZip (λ f g. f ≡ true → g ≡ true) fs gs
-
-more_same : (fs : List Bool) → More fs fs
-more_same [] = tt
-more_same (f ∷ fs) = ((λ h. h), more_same fs)
-
-either_more : (b f : Bool) → f ≡ true → (b || f) ≡ true
-either_more true f h = refl
-either_more false f h = h
-
-pub marked_more : (n : ℕ) (ts : List TableAt) (fs : List Bool) → length fs ≡ length ts → More fs (marked n ts fs)
-marked_more n [] fs h = more_same fs
-marked_more n (t ∷ ts) [] h = tt
-marked_more n (t ∷ ts) (f ∷ fs) h = (either_more (n == t.number) f, marked_more n ts fs (omega arith))
 
 pub marked_long : (n : ℕ) (ts : List TableAt) (fs : List Bool) → length fs ≡ length ts → length (marked n ts fs) ≡ length ts
 marked_long n [] fs h = h
@@ -123,31 +103,6 @@ all_made [] fs h = refl
 all_made (t ∷ ts) [] h = absurd (omega arith)
 all_made (t ∷ ts) (f ∷ fs) h = ap (λ rest. table_of t ∷ rest) (all_made ts fs (omega arith))
 
--- a table that is found later was found before, and if it had been made then, it has been made
-record Was (ts : List TableAt) (fs : List Bool) (z : ℤ) (u : Table) : Type 0 where
-  t : Table
-  found : find_table (tables_of ts fs) z ≡ Some t
-  stays : t.present ≡ true → u.present ≡ true
-
-by_test : (b : Bool) (ts : List TableAt) (t : TableAt) (f g : Bool) (fs gs : List Bool) (z : ℤ) (u : Table) → (f ≡ true → g ≡ true)
-    → (find_table (tables_of ts gs) z ≡ Some u → Was ts fs z u)
-    → (if b then Some (table_at t g) else find_table (tables_of ts gs) z) ≡ Some u
-    → (v : Table) × ((if b then Some (table_at t f) else find_table (tables_of ts fs) z) ≡ Some v) × (v.present ≡ true → u.present ≡ true)
-by_test true ts t f g fs gs z u more later h = (table_at t f, refl, λ is. ap (λ (x : Table). x.present) (at_once h) ∙ more is)
-  where
-    at_once : Some (table_at t g) ≡ Some u → u ≡ table_at t g
-    at_once e = cc
-by_test false ts t f g fs gs z u more later h = let w = later h in (w.t, w.found, w.stays)
-
-was : (ts : List TableAt) (fs gs : List Bool) (z : ℤ) (u : Table) → length fs ≡ length ts → More fs gs → find_table (tables_of ts gs) z ≡ Some u → Was ts fs z u
-was [] fs gs z u h more found = absurd cc
-was (t ∷ ts) [] gs z u h more found = absurd (omega arith)
-was (t ∷ ts) (f ∷ fs) [] z u h more found = absurd more
-was (t ∷ ts) (f ∷ fs) (g ∷ gs) z u h more found =
-    let w = by_test (not (is_negative z) && t.number == unsigned_abs z) ts t f g fs gs z u more.0
-    (λ later. was ts fs gs z u (omega arith) more.1 later) found in
-    record { t = w.0; found = w.1; stays = w.2 }
-
 -- a table of the composition stands in the stage, made or not
 pub record IsFound (ts : List TableAt) (flags : List Bool) (z : ℤ) (t : Table) : Type 0 where
   pub u : Table
@@ -194,23 +149,13 @@ found_number (c ∷ cs) n t found = by_test_of (not (is_negative (pos n)) && c.n
 
 -- ---- voices
 
-module _ (ts : List TableAt) (fs gs : List Bool) (long : length fs ≡ length ts) (more : More fs gs) (at : ℕ → Option ℤ) where
-  store_on : (a : Act) → StoresInto (tables_of ts fs) at a → StoresInto (tables_of ts gs) at a
-  store_on (act.Unit opcode u reach) h = λ is z t here found.
-      let w = was ts fs gs z t long more found in w.stays (h is z w.t here w.found)
-  store_on a h = tt
-
-  stores_on : (ops : List Op) → OpsStoreInto (tables_of ts fs) at ops → OpsStoreInto (tables_of ts gs) at ops
-  stores_on [] h = tt
-  stores_on (op ∷ ops) h = (store_on op.act h.0, stores_on ops h.1)
-
 module _ (c : Composition) (stage : Stage) (fs gs : List Bool) (long : length fs ≡ length stage.tables.now)
-    (longer : length gs ≡ length stage.tables.now) (more : More fs gs) where
+    (longer : length gs ≡ length stage.tables.now) where
   same_tables : map made (tables_of stage.tables.now gs) ≡ map made (tables_of stage.tables.now fs)
   same_tables = all_made stage.tables.now gs longer ∙ sym (all_made stage.tables.now fs long)
 
-  sheet_on : (i : Numbered) (foot : Footprint) (v : VoiceData) → IsSheetFor (sheet_at i v.age foot stage fs v.fields) v
-      → IsSheetFor (sheet_at i v.age foot stage gs v.fields) v
+  sheet_on : (i : Numbered) (foot : Footprint) (v : VoiceData) → IsOn (sheet_at i v.age foot stage fs v.fields) v
+      → IsOn (sheet_at i v.age foot stage gs v.fields) v
   sheet_on i foot v h = record {
     number = h.number;
     age = h.age;
@@ -230,10 +175,7 @@ module _ (c : Composition) (stage : Stage) (fs gs : List Bool) (long : length fs
     of = h.of;
     number = h.number;
     fields = h.fields;
-    on = record {
-      parts = sheet_on h.i h.foot v h.on.parts;
-      stores = stores_on stage.tables.now fs gs long more _ _ h.on.stores;
-    };
+    on = sheet_on h.i h.foot v h.on;
     valid = h.valid;
     note = record {
       sheet = refl;

@@ -45,7 +45,7 @@ frames_of c stage flags [] (a ∷ active) is p = absurd p
 frames_of c stage flags (v ∷ voices) [] is p = absurd p
 frames_of c stage flags (v ∷ voices) (a ∷ active) is p =
     let here : v.outs.ksmps ≡ c.head.ksmps =
-    p.0.valid.channel_frames ∙ (ap (λ (h : Header). h.ksmps) (sym p.0.on.parts.head) ∙ ap (λ (h : Header). h.ksmps) is.head) in
+    p.0.valid.channel_frames ∙ (ap (λ (h : Header). h.ksmps) (sym p.0.on.head) ∙ ap (λ (h : Header). h.ksmps) is.head) in
     All-cons (λ (x : VoiceData). x.outs.ksmps ≡ c.head.ksmps) v voices here (frames_of c stage flags voices active is p.1)
 
 pub frames : (c : Composition) (life : Life) (voices : List VoiceData) (cells : Cells) (m : Moment) → Stands c life voices cells m

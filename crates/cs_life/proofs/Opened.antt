@@ -52,14 +52,14 @@ zeros_hold areas n = λ g has. (λ i. wave_of (area_of areas g) (res_rate g) (λ
 
 pub outside_holds : (c : Composition) (stage : Stage) (i : Numbered) (foot : Footprint) (flags : List Bool) (cells new : Cells) (n : ℕ)
     → IsStageOf c stage → IsInstrumentOf stage i foot c.outside → flags ≡ flags_of c.tables [] → piece_with c [] [] ≡ piece_at stage flags []
-    → cells ≡ replicate n (pos 0) → cell new ≡ (initialised (sheet_at i 0 foot stage flags []) (cell cells)).world.cells
+    → cells ≡ replicate n (pos 0) → cell new ≡ (initialised (sheet_at i 0 foot stage flags []) (cell cells)).world.shared
     → Hold stage.layout.now (cell new) (outside_done c).world.shared
 outside_holds c stage i foot flags cells new n stage_is of flags_are piece zeros left =
     let long = flags_fit stage.tables.now c.tables [] flags stage_is.tables flags_are in
     let before : Hold stage.layout.now (cell cells) (λ g. silence) = subst (λ x. Hold stage.layout.now (cell x) (λ g. silence)) (sym zeros) (zeros_hold stage.layout.now n) in
     let begins = (of.performs 0 flags [] long).begins (cell cells) (λ g. silence) before in
     subst (λ x. Hold stage.layout.now x (outside_done c).world.shared) (sym left)
-    (subst (λ p. Hold stage.layout.now (initialised (sheet_at i 0 foot stage flags []) (cell cells)).world.cells
+    (subst (λ p. Hold stage.layout.now (initialised (sheet_at i 0 foot stage flags []) (cell cells)).world.shared
     (init_block (plain p) start c.outside (new_note (fresh (λ g. silence)))).world.shared) (sym piece) begins.cells)
 
 -- ---- the flags

@@ -174,7 +174,7 @@ layouts_of c stage flags [] [] p = All-nil (λ (v : VoiceData). v.areas ≡ stag
 layouts_of c stage flags [] (a ∷ active) p = absurd p
 layouts_of c stage flags (v ∷ voices) [] p = absurd p
 layouts_of c stage flags (v ∷ voices) (a ∷ active) p =
-    All-cons (λ (x : VoiceData). x.areas ≡ stage.layout.now) v voices (sym p.0.on.parts.areas) (layouts_of c stage flags voices active p.1)
+    All-cons (λ (x : VoiceData). x.areas ≡ stage.layout.now) v voices (sym p.0.on.areas) (layouts_of c stage flags voices active p.1)
 
 pub layouts : (c : Composition) (life : Life) (voices : List VoiceData) (cells : Cells) (m : Moment) → Stands c life voices cells m
     → All (λ (v : VoiceData). v.areas ≡ life.stage.layout.now) voices
@@ -187,7 +187,7 @@ footprints_of c stage flags [] (a ∷ active) p = absurd p
 footprints_of c stage flags (v ∷ voices) [] p = absurd p
 footprints_of c stage flags (v ∷ voices) (a ∷ active) p =
     All-cons (λ (x : VoiceData). IsFootprint (length stage.layout.now) x.foot) v voices
-    (subst (IsFootprint (length stage.layout.now)) p.0.on.parts.foot p.0.of.footprint)
+    (subst (IsFootprint (length stage.layout.now)) p.0.on.foot p.0.of.footprint)
     (footprints_of c stage flags voices active p.1)
 
 pub footprints : (c : Composition) (life : Life) (voices : List VoiceData) (cells : Cells) (m : Moment) → Stands c life voices cells m

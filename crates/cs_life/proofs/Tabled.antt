@@ -30,7 +30,7 @@ use Rattle.cs_life.specs.Standing.{Stands, VoicesStand}
 use Rattle.cs_life.specs.declared.life.Life.{Life}
 use Rattle.cs_life.specs.inner.Doing.{CanBeMade}
 use Rattle.cs_life.specs.inner.Marks.{PointsWritten, has_cells, is_in_cells, marked}
-use Rattle.cs_life.proofs.Flags.{all_play_on, cells_of_first, flags_fit, found_at, found_number, marked_flags, marked_long, marked_more}
+use Rattle.cs_life.proofs.Flags.{all_play_on, cells_of_first, flags_fit, found_at, found_number, marked_flags, marked_long}
 
 -- ---- cells
 
@@ -87,8 +87,7 @@ module _ (c : Composition) (stage : Stage) (flags : List Bool) (voices : List Vo
         made = ap (marked n stage.tables.now) h.made ∙ marked_flags stage.tables.now c.tables n m.made h.stage_is.tables;
         hold = h.hold;
         long = h.long;
-        play = all_play_on c stage flags (marked n stage.tables.now flags) long (marked_long n stage.tables.now flags long)
-            (marked_more n stage.tables.now flags long) voices m.active h.play;
+        play = all_play_on c stage flags (marked n stage.tables.now flags) long (marked_long n stage.tables.now flags long) voices m.active h.play;
         in_order = h.in_order;
         few = h.few;
       }

@@ -19,7 +19,7 @@ foot_of c stage flags areas v a e p =
     let here : IsFootOf stage.layout.now a.body p.foot = record { uses = p.of.uses; writes = p.of.writes; there = p.of.there } in
     let P : List Area → Type 0 = λ l. IsFootOf l a.body p.foot in
     let Q : Footprint → Type 0 = λ f. IsFootOf areas a.body f in
-    subst Q p.on.parts.foot (subst P e here)
+    subst Q p.on.foot (subst P e here)
 
 -- the footprints of voices are those of their notes
 pub feet_of_notes : (c : Composition) (stage : Stage) (flags : List Bool) (areas : List Area) (voices : List VoiceData) (active : List Active)
@@ -36,6 +36,9 @@ feet_of_notes c stage flags areas (v ∷ voices) (a ∷ rest) e p =
 pub told_both : (lines : TurnLines) (xs ys : List ℕ) → if_told lines xs ++ if_told lines ys ≡ if_told lines (xs ++ ys)
 told_both Told xs ys = refl
 told_both Untold xs ys = refl
+
+pub nothing_told : (lines : TurnLines) (line start : List ℕ) → lines ≡ Untold → start ≡ start ++ if_told lines line
+nothing_told lines line start is = sym (append-nil start) ∙ ap (λ (l : TurnLines). start ++ if_told l line) (sym is)
 
 pub lines_more : (c : Composition) (n : ℕ) → turn_lines_before c (n + 1) ≡ turn_lines_before c n ++ line_of n (turns_in c (notes_in c n))
 lines_more c n = rows_more (λ cycle. line_of cycle (turns_in c (notes_in c cycle))) n

@@ -1,4 +1,4 @@
-// A performance by a crew: where the crew stands, its helpers are threads of a scope that lasts for the performance.
+// A performance by a crew, whose helpers are threads of a scope that lasts for the performance.
 ghost use Rattle.std.specs.Prelude.{◌≡◌, ◌≤◌};
 ghost use Rattle.cs_perform.specs.inner.Crews.{MayPlay, Performs};
 
@@ -7,68 +7,12 @@ use crate::performance::open;
 use cs_desk::Tally;
 use cs_edge::{Gate, Sink, Tap};
 use cs_piece::Setup;
-use cs_pool::{Crew, Pool, Runner};
-use cs_voice::{TableAt, Voice};
+use cs_pool::{Crew, Pool};
+use cs_voice::TableAt;
 use std::alloc::Global;
 use std::sync::Wait;
 use std::thread;
 use std::thread::{Scope, Threads};
-
-/// The performance over these tables, by a crew.
-pub(crate) fn play_by_crew<'e, 't, K: Sink, R: Threads + Wait + Sync, G: Gate + Sync>(
-    alloc: Global,
-    setup: &'t Setup,
-    tables: &'t [TableAt<'t>],
-    order: Order,
-    crew: &'e Crew<'e, R, G>,
-    name: &str,
-    wav: &mut K,
-    taps: &mut Vec<Box<dyn Tap>>,
-    tally: &mut Tally,
-) -> Result<Outcome, PlayFault>
-    requires { MayPlay setup.now order tally.old tables.now }
-    ensures { Performs (λ t h. stands_for t h) K.tells setup.now order name.now taps.old.items taps.new.items
-        tally.old tally.new wav.old wav.new result }
-{
-    if crew.standing {
-        play_in_loan(alloc, setup, tables, order, crew, name, wav, taps, tally)
-    } else {
-        let runner = Runner::Each(crew);
-        play_with(alloc, setup, tables, order, runner, name, wav, taps, tally)
-    }
-}
-
-/// By whoever runs the notes of each cycle, who has ended when it returns.
-fn play_with<'t, K: Sink, R: Threads + Wait + Sync, G: Gate + Sync>(
-    alloc: Global,
-    setup: &'t Setup,
-    tables: &'t [TableAt<'t>],
-    order: Order,
-    runner: Runner<'_, Voice<'t>, R, G>,
-    name: &str,
-    wav: &mut K,
-    taps: &mut Vec<Box<dyn Tap>>,
-    tally: &mut Tally,
-) -> Result<Outcome, PlayFault>
-    requires { MayPlay setup.now order tally.old tables.now }
-    ensures { Performs (λ t h. stands_for t h) K.tells setup.now order name.now taps.old.items taps.new.items
-        tally.old tally.new wav.old wav.new result }
-{
-    let mut runner = runner;
-    let played = open(
-        alloc,
-        setup,
-        tables,
-        order,
-        &mut runner,
-        name,
-        wav,
-        taps,
-        tally,
-    );
-    runner.close();
-    played
-}
 
 /// What the caller of a performance lends it. A scope's closure says nothing of a reference that it captures by
 /// itself, so all are handed to it as one value and come back as one.
@@ -79,8 +23,8 @@ struct Loan<'a, K> {
     tally: &'a mut Tally,
 }
 
-/// By a standing crew, to which sink, taps and tally are lent.
-fn play_in_loan<'a, 'e, 't, K: Sink, R: Threads + Wait + Sync, G: Gate + Sync>(
+/// The performance over these tables, by a crew to which sink, taps and tally are lent.
+pub(crate) fn play_by_crew<'a, 'e, 't, K: Sink, R: Threads + Wait + Sync, G: Gate + Sync>(
     alloc: Global,
     setup: &'t Setup,
     tables: &'t [TableAt<'t>],
@@ -108,7 +52,7 @@ fn take_back<A, B, C>(a: &mut A, b: &mut B, c: &mut C)
     ensures { (a.new ≡ a.old) × (b.new ≡ b.old) × (c.new ≡ c.old) }
 {}
 
-/// By a standing crew of `workers` workers, in a scope of its own.
+/// By a crew of `workers` workers, in a scope of its own.
 fn play_in_scope<'a, 'e, 't, K: Sink, R: Threads + Wait + Sync, G: Gate + Sync>(
     alloc: Global,
     setup: &'t Setup,
@@ -147,7 +91,7 @@ fn play_in_scope<'a, 'e, 't, K: Sink, R: Threads + Wait + Sync, G: Gate + Sync>(
     )
 }
 
-/// By a standing crew of `workers` workers, whose helpers are threads of this scope and have ended when it returns.
+/// By a crew of `workers` workers, whose helpers are threads of this scope and have ended when it returns.
 fn play_loan<'a, 's, 'e, 't: 's, K: Sink, R: Threads + Wait + Sync, G: Gate + Sync>(
     alloc: Global,
     scope: &'s Scope<'s, &'e ()>,
@@ -169,7 +113,10 @@ fn play_loan<'a, 's, 'e, 't: 's, K: Sink, R: Threads + Wait + Sync, G: Gate + Sy
         result.1.taps.now.items loan.entry.tally.now result.1.tally.now loan.entry.wav.now result.1.wav.now result.0 }
 {
     let Loan { wav, taps, tally } = loan;
-    let runner = Runner::Standing(Pool::new(rt, scope, alloc, workers, gate));
-    let played = play_with(alloc, setup, tables, order, runner, name, wav, taps, tally);
+    let mut pool = Pool::new(rt, scope, alloc, workers, gate);
+    let played = open(
+        alloc, setup, tables, order, &mut pool, name, wav, taps, tally,
+    );
+    pool.close();
     (played, Loan { wav, taps, tally })
 }

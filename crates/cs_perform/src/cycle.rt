@@ -10,12 +10,15 @@ ghost use Rattle.cs_edge.specs.Moves.{WroteMore};
 ghost use Rattle.cs_perform.specs.Hearing.{IfWritten, Told};
 ghost use Rattle.cs_perform.specs.Performances.{if_told};
 ghost use Rattle.cs_perform.specs.declared.order.Output.TheVariants.{SoundFile};
+ghost use Rattle.cs_perform.specs.declared.order.TurnLines.TheVariants.{Untold};
+ghost use Rattle.cs_perform.specs.declared.performers.Performers.TheVariants.{Caller, Crew};
 ghost use Rattle.cs_perform.specs.inner.Stands.{CountsCycle, IsAt, IsReady};
 ghost use Rattle.cs_piece.specs.Setups.{SetupData, composition_of};
 ghost use Rattle.cs_turns.specs.Turns.{line_of, notes_in, turns_in};
 ghost use Rattle.cs_wav.specs.Wav.{is_out_of_range, samples_of};
 
 use crate::order::{Order, TurnLines};
+use crate::performers::Performers;
 use crate::stand::Stand;
 use crate::taps::tell;
 use crate::turns::tell_turns;
@@ -24,7 +27,7 @@ use cs_base::{Head, OutOfMemory};
 use cs_desk::Tally;
 use cs_edge::{Failed, Gate, Sink, Tap};
 use cs_piece::Setup;
-use cs_pool::Runner;
+use cs_pool::Pool;
 use cs_voice::Voice;
 use cs_wav::pcm_block;
 use std::alloc::Global;
@@ -36,7 +39,7 @@ use std::thread::Threads;
 pub(crate) fn play_cycle<'t, R: Threads + Wait + Sync, G: Gate + Sync>(
     alloc: Global,
     setup: &Setup,
-    runner: &mut Runner<'_, Voice<'t>, R, G>,
+    pool: &mut Pool<'_, Voice<'t>, R, G>,
     lines: TurnLines,
     cycle: u32,
     mut stand: Stand<'t>,
@@ -55,36 +58,45 @@ pub(crate) fn play_cycle<'t, R: Threads + Wait + Sync, G: Gate + Sync>(
         (turns_in (composition_of setup.now) (notes_in (composition_of setup.now) cycle)))) }
     ensures memory { OnErr result (tally.new ≡ tally.old) }
 {
-    let Ok(()) = prepare(alloc, setup, lines, cycle, &mut stand, turns) else {
+    let by = Performers::of_next(pool, lines);
+    let Ok(()) = prepare(alloc, setup, by, lines, cycle, &mut stand, turns) else {
         drop(stand);
         return Err(OutOfMemory);
     };
-    let mut stand = stand.run(alloc, runner, cycle, tally);
+    let mut stand = stand.run(pool, by, cycle, tally);
     stand.mix_into(&setup.orchestra().head, mix);
     stand.end();
     Ok(stand)
 }
 
-/// The notes of a cycle begin, all is made ready for them, and their line of turns is told.
+/// The notes of a cycle begin. Where the crew performs them, all is made ready for it, and their line of turns is
+/// told.
 fn prepare(
     alloc: Global,
     setup: &Setup,
+    by: Performers,
     lines: TurnLines,
     cycle: u32,
     stand: &mut Stand<'_>,
     turns: &mut Vec<u8>,
 ) -> Result<(), OutOfMemory>
     requires at { (m : Moment) × IsAt setup.now stand.old m }
+    requires untold { by ≡ Caller → lines ≡ Untold }
     ensures begun { OnOk result ((m : Moment) → IsAt setup.now stand.old m
         → IsAt setup.now stand.new (begins (composition_of setup.now) cycle m)) }
-    ensures ready { OnOk result (IsReady stand.new) }
+    ensures ready { OnOk result (by ≡ Crew → IsReady stand.new) }
     ensures turns { OnOk result ((m : Moment) → IsAt setup.now stand.old m → turns.new.items
         ≡ turns.old.items ++ if_told lines (line_of cycle
         (turns_in (composition_of setup.now) (begins (composition_of setup.now) cycle m).active))) }
 {
     stand.begin(alloc, cycle)?;
-    stand.make_ready(alloc, setup.layout())?;
-    tell_turns(alloc, setup, lines, cycle, stand, turns)
+    match by {
+        Performers::Caller => Ok(()),
+        Performers::Crew => {
+            stand.make_ready(alloc, setup.layout())?;
+            tell_turns(alloc, setup, lines, cycle, stand, turns)
+        }
+    }
 }
 
 /// The mix of a cycle is told to the taps, and its samples are written. Returns how many of them had to be brought

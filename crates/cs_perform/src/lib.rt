@@ -9,8 +9,8 @@
 //! is made may be changed without anyone above noticing.
 //!
 //! Modules in reading order: `order` (what is asked for, and what comes of it), `performance`, `start` (what a
-//! performance begins with), `by_crew` (in a scope of threads, where the crew stands), `cycle`, `stand` (what is kept
-//! from cycle to cycle), `blocks`, `taps`, `turns`, `sizes`, `writing`; `laws`.
+//! performance begins with), `by_crew` (in a scope of threads), `cycle`, `performers` (the caller alone, or the
+//! crew), `stand` (what is kept from cycle to cycle), `blocks`, `taps`, `turns`, `sizes`, `writing`; `laws`.
 #![tactic(auto)]
 
 mod blocks;
@@ -19,6 +19,7 @@ mod cycle;
 mod laws;
 mod order;
 mod performance;
+mod performers;
 mod sizes;
 mod stand;
 mod start;

@@ -28,7 +28,7 @@ use cs_base::{Bytes, OutOfMemory};
 use cs_desk::Tally;
 use cs_edge::{Gate, Sink, Tap};
 use cs_piece::Setup;
-use cs_pool::{Crew, Runner};
+use cs_pool::{Crew, Pool};
 use cs_voice::{TableAt, Voice};
 use std::alloc::Global;
 use std::sync::Wait;
@@ -78,7 +78,7 @@ pub(crate) fn open<'t, K: Sink, R: Threads + Wait + Sync, G: Gate + Sync>(
     setup: &'t Setup,
     tables: &'t [TableAt<'t>],
     order: Order,
-    runner: &mut Runner<'_, Voice<'t>, R, G>,
+    pool: &mut Pool<'_, Voice<'t>, R, G>,
     name: &str,
     wav: &mut K,
     taps: &mut Vec<Box<dyn Tap>>,
@@ -96,7 +96,7 @@ pub(crate) fn open<'t, K: Sink, R: Threads + Wait + Sync, G: Gate + Sync>(
         alloc,
         setup,
         order,
-        runner,
+        pool,
         name,
         wav,
         taps,
@@ -112,7 +112,7 @@ fn play<'t, K: Sink, R: Threads + Wait + Sync, G: Gate + Sync>(
     alloc: Global,
     setup: &Setup,
     order: Order,
-    runner: &mut Runner<'_, Voice<'t>, R, G>,
+    pool: &mut Pool<'_, Voice<'t>, R, G>,
     name: &str,
     wav: &mut K,
     taps: &mut Vec<Box<dyn Tap>>,
@@ -147,7 +147,7 @@ fn play<'t, K: Sink, R: Threads + Wait + Sync, G: Gate + Sync>(
     };
     let mut turns = Vec::new(alloc);
     let (stand, out_of_range) = match play_all(
-        alloc, setup, order, runner, wav, taps, tally, stand, mix, out, &mut turns,
+        alloc, setup, order, pool, wav, taps, tally, stand, mix, out, &mut turns,
     ) {
         Ok(played) => played,
         Err(fault) => return Err(fault),
@@ -174,7 +174,7 @@ fn play_all<'t, K: Sink, R: Threads + Wait + Sync, G: Gate + Sync>(
     alloc: Global,
     setup: &Setup,
     order: Order,
-    runner: &mut Runner<'_, Voice<'t>, R, G>,
+    pool: &mut Pool<'_, Voice<'t>, R, G>,
     wav: &mut K,
     taps: &mut Vec<Box<dyn Tap>>,
     tally: &mut Tally,
@@ -209,7 +209,7 @@ fn play_all<'t, K: Sink, R: Threads + Wait + Sync, G: Gate + Sync>(
         let Ok(next) = play_cycle(
             alloc,
             setup,
-            runner,
+            pool,
             order.turns,
             cycle,
             stand,

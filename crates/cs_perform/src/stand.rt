@@ -6,18 +6,20 @@ ghost use Rattle.cs_piece_meaning.specs.Course.{begins, moment_at, opening, perf
 ghost use Rattle.cs_piece_meaning.specs.Heard.{mix_in};
 ghost use Rattle.cs_piece_meaning.specs.Moments.{Moment};
 ghost use Rattle.cs_desk.specs.Desk.{areas, cells};
+ghost use Rattle.cs_perform.specs.declared.performers.Performers.TheVariants.{Crew};
 ghost use Rattle.cs_perform.specs.inner.Stands.{IsAt, IsReady};
 ghost use Rattle.cs_piece.specs.Setups.{SetupData, composition_of};
 ghost use Rattle.cs_voice.specs.Memory.{table_of};
 ghost use Rattle.cs_voice.specs.VoiceData.{made};
 
+use crate::performers::Performers;
 use cs_base::{Head, OutOfMemory};
 use cs_cells::Layout;
 use cs_desk::{Course, Desk, Tally, make_room};
 use cs_edge::Gate;
 use cs_life::{Life, serial_runs_perform, voices_are_heard};
 use cs_piece::Setup;
-use cs_pool::{Runner, run_counted};
+use cs_pool::{Pool, run_counted, run_counted_alone};
 use cs_voice::{TableAt, Voice, mix};
 use std::alloc::Global;
 use std::sync::Wait;
@@ -85,11 +87,33 @@ impl<'t> Stand<'t> {
         make_room(alloc, layout, &mut self.desk, notes, edges)
     }
 
-    /// The notes that play perform the cycle, which the tally counts.
+    /// The notes that play perform the cycle, which the tally counts: by the caller alone, whether or not the course
+    /// is theirs, or by the crew.
     pub fn run<R: Threads + Wait + Sync, G: Gate + Sync>(
         self,
-        alloc: Global,
-        runner: &mut Runner<'_, Voice<'t>, R, G>,
+        pool: &mut Pool<'_, Voice<'t>, R, G>,
+        by: Performers,
+        cycle: u32,
+        tally: &mut Tally,
+    ) -> Stand<'t>
+        requires at { (s : SetupData) × (m : Moment) × IsAt s self m }
+        requires ready { by ≡ Crew → IsReady self }
+        requires tally { (tally.old.cycles ≤ 2 ^ 63) × (tally.old.notes ≤ 2 ^ 63) }
+        ensures performed { (s : SetupData) (m : Moment) → IsAt s self.entry m
+            → IsAt s result (performed (composition_of s) m) }
+        ensures cycles { tally.new.cycles ≡ tally.old.cycles + 1 }
+        ensures notes { tally.new.notes ≡ tally.old.notes + length self.entry.voices.items }
+    {
+        match by {
+            Performers::Caller => self.run_alone(pool, cycle, tally),
+            Performers::Crew => self.run_by_crew(pool, cycle, tally),
+        }
+    }
+
+    /// The notes that play perform the cycle by the crew.
+    fn run_by_crew<R: Threads + Wait + Sync, G: Gate + Sync>(
+        self,
+        pool: &mut Pool<'_, Voice<'t>, R, G>,
         cycle: u32,
         tally: &mut Tally,
     ) -> Stand<'t>
@@ -108,12 +132,42 @@ impl<'t> Stand<'t> {
             course: Course { graph, feet },
         } = self;
         serial_runs_perform();
-        let (voices, desk, graph) = run_counted(alloc, runner, cycle, graph, desk, voices, tally);
+        let (voices, desk, graph) = run_counted(pool, cycle, graph, desk, voices, tally);
         Stand {
             life,
             voices,
             desk,
             course: Course { graph, feet },
+        }
+    }
+
+    /// The notes that play perform the cycle by the caller alone.
+    fn run_alone<R: Threads + Wait + Sync, G: Gate + Sync>(
+        self,
+        pool: &mut Pool<'_, Voice<'t>, R, G>,
+        cycle: u32,
+        tally: &mut Tally,
+    ) -> Stand<'t>
+        requires at { (s : SetupData) × (m : Moment) × IsAt s self m }
+        requires tally { (tally.old.cycles ≤ 2 ^ 63) × (tally.old.notes ≤ 2 ^ 63) }
+        ensures performed { (s : SetupData) (m : Moment) → IsAt s self.entry m
+            → IsAt s result (performed (composition_of s) m) }
+        ensures cycles { tally.new.cycles ≡ tally.old.cycles + 1 }
+        ensures notes { tally.new.notes ≡ tally.old.notes + length self.entry.voices.items }
+    {
+        let Stand {
+            life,
+            voices,
+            desk,
+            course,
+        } = self;
+        serial_runs_perform();
+        let (voices, desk) = run_counted_alone(pool, cycle, desk, voices, tally);
+        Stand {
+            life,
+            voices,
+            desk,
+            course,
         }
     }
 

@@ -47,6 +47,9 @@ act_wider : (stock : Stock) (kinds : Kinds) (N M : Res → Type 0) → ((g : Res
 act_wider stock kinds N M wide (act.Load g) r h = wide g h
 act_wider stock kinds N M wide (act.Save g) r h = (wide g h.0, h.1)
 act_wider stock kinds N M wide (act.Unit opcode u reach) r h = (h.0, all_wider N M wide _ h.1)
+act_wider stock kinds N M wide (act.Store opcode reach) r h = all_wider N M wide _ h
+act_wider stock kinds N M wide (act.Zak opcode reach) r h = all_wider N M wide _ h
+act_wider stock kinds N M wide act.Seek r h = tt
 act_wider stock kinds N M wide (act.Start opcode u) r h = h
 act_wider stock kinds N M wide (act.Const n) r h = tt
 act_wider stock kinds N M wide (act.Field n) r h = tt
@@ -170,7 +173,7 @@ module _ (s : Sheet) (playable : IsPlayable s) where
 
       cells_so : Hold s.areas (cell (left_by v c)) (next_note s.piece body shared t).world.shared
       cells_so g has =
-          same_wave g (cell (left_by v c)) (cycle v (cell c)).world.cells has (λ area a e inside. left_on_all v c a playable (near g area c a long e inside))
+          same_wave g (cell (left_by v c)) (cycle v (cell c)).world.shared has (λ area a e inside. left_on_all v c a playable (near g area c a long e inside))
           ∙ world_so.shared g has
 
       goes_on_so : GoesOn s body plan playable.kinds w t c shared

@@ -1,6 +1,7 @@
 mod Apart
 mod Bodies
 mod Giving
+mod LiveFound
 mod Marks
 mod Readied
 mod Rights

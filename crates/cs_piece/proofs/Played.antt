@@ -8,6 +8,7 @@ use Rattle.cs_base.specs.declared.resource.Rate.{Rate}
 use Rattle.cs_base.specs.declared.resource.Res.{Res}
 use Rattle.cs_typed.specs.TypedTree as typed
 use Rattle.cs_ir.specs.Resources.{Stock, act_uses, act_writes, ops_use, ops_write}
+use Rattle.cs_ir.proofs.Shapes.{started_shape}
 use Rattle.cs_ir.specs.Cycles.{are_of_cycle}
 use Rattle.cs_ir.specs.Validity.{has_value, takes_from, has_register, finds, writes, is_fine, fine_from}
 use Rattle.cs_ir.specs.declared.op.Act.{Act}
@@ -64,8 +65,11 @@ act_named : (stock : Stock) (channels : ℕ) (units : List UnitKind) (N : Res �
     → AreNamed N (act_uses stock a) → ActNamed stock (kinds_of units) N a r
 act_named stock channels units N (act.Load g) r xs names takes h = h.0
 act_named stock channels units N (act.Save g) r xs names takes h = (h.0, saves_value g r xs takes)
-act_named stock channels units N (act.Start opcode u) r xs names takes h = ap kind_of names
+act_named stock channels units N (act.Start opcode u) r xs names takes h = (ap kind_of names, started_shape opcode r xs takes)
 act_named stock channels units N (act.Unit opcode u reach) r xs names takes h = (ap kind_of names, h)
+act_named stock channels units N (act.Store opcode reach) r xs names takes h = h
+act_named stock channels units N (act.Zak opcode reach) r xs names takes h = h
+act_named stock channels units N act.Seek r xs names takes h = tt
 act_named stock channels units N (act.Const n) r xs names takes h = tt
 act_named stock channels units N (act.Field n) r xs names takes h = tt
 act_named stock channels units N (act.Head n) r xs names takes h = tt
@@ -90,6 +94,9 @@ act_channel channels units (act.Load g) r names = refl
 act_channel channels units (act.Save g) r names = refl
 act_channel channels units (act.Start opcode u) r names = refl
 act_channel channels units (act.Unit opcode u reach) r names = refl
+act_channel channels units act.Seek r names = refl
+act_channel channels units (act.Store opcode reach) r names = refl
+act_channel channels units (act.Zak opcode reach) r names = refl
 act_channel channels units (act.Const n) r names = refl
 act_channel channels units (act.Field n) r names = refl
 act_channel channels units (act.Head n) r names = refl

@@ -20,9 +20,8 @@ use Rattle.cs_layout.proofs.Complete.{there}
 use Rattle.cs_layout.proofs.Counted.{spaces_are}
 use Rattle.cs_layout.specs.Layouts.{areas_of}
 use Rattle.cs_layout.specs.declared.areas.LiveTable.{LiveTable}
-use Rattle.cs_meaning.specs.Beginning.{block_begins}
+use Rattle.cs_meaning.specs.Uses.{block_begins, block_uses}
 use Rattle.cs_meaning.specs.Core.{Block, core}
-use Rattle.cs_meaning.specs.Uses.{block_uses}
 use Rattle.cs_name_laws.specs.Names.{IsNamedBlock, is_there}
 use Rattle.cs_piece.proofs.Played.{performed_from, plays_from}
 use Rattle.cs_piece.specs.Sheets.{IsSheetOf, kinds_of}

@@ -12,7 +12,7 @@ use Rattle.cs_ir.specs.Instruments.{Numbered}
 use Rattle.cs_base.specs.declared.spaces.Spaces.{Spaces}
 use Rattle.cs_ir.specs.Resources.{act_writes, ops_write}
 use Rattle.cs_ir.specs.declared.op.Op.{Op}
-use Rattle.cs_meaning.specs.Beginning.{block_begin_writes}
+use Rattle.cs_meaning.specs.Uses.{block_begin_writes}
 use Rattle.cs_meaning.specs.Core.{core}
 use Rattle.cs_tempo.specs.Performable.{IsActInRange}
 use Rattle.cs_tempo.specs.declared.plot.Event.{Event}

@@ -23,7 +23,7 @@ use Rattle.cs_meaning.specs.Plain.{Table, find_table}
 use Rattle.cs_ugen.proofs.Curves.{made_len}
 use Rattle.cs_ugen.specs.Points.{is_len}
 use Rattle.cs_rwset.specs.Footprints.{stock_of}
-use Rattle.cs_voice_meaning.specs.Placing.{IsPlaced, area_of}
+use Rattle.cs_voice_meaning.specs.Placing.{IsPlaced, area_of, is_table_size}
 use Rattle.cs_voice.specs.Starts.{piece_at}
 use Rattle.cs_voice.specs.Tables.{CanAllBePlayed, table_at, tables_of}
 use Rattle.cs_machine.specs.States.{header_of}
@@ -39,7 +39,8 @@ use Rattle.cs_piece.specs.Ready.{IsStageOf}
 use Rattle.cs_piece.specs.Setups.{IsSetup, SetupData, composition_of}
 use Rattle.cs_piece.specs.Tables.{Given, firsts, given_in, is_frozen, table_given, table_in, tables_in}
 use Rattle.cs_piece.specs.inner.Marked.{IsRight}
-use Rattle.cs_piece.proofs.Apart.{apart_in}
+use Rattle.cs_piece.proofs.Apart.{apart_in, tables_differ}
+use Rattle.cs_piece.proofs.LiveFound.{live_found}
 use Rattle.cs_piece.proofs.Rights.{AreRight, right_firsts, right_in}
 
 -- what is asked of a table of a plot
@@ -137,16 +138,16 @@ live_place (c ∷ cs) (suc k) u e none = by (not (is_some c.frozen)) (live_place
     by true r = (suc r.0, r.1)
     by false r = (r.0, r.1)
 
-some_points : (cs : List Table) → AllByRecursion IsSound cs → All (λ (t : LiveTable). 0 < t.size) (live_in cs)
-some_points [] h = All-nil (λ (t : LiveTable). 0 < t.size)
+some_points : (cs : List Table) → AllByRecursion IsSound cs → All (λ (t : LiveTable). is_table_size t.size ≡ true) (live_in cs)
+some_points [] h = All-nil (λ (t : LiveTable). is_table_size t.size ≡ true)
 some_points (c ∷ cs) h = by (not (is_some c.frozen)) (some_points cs h.1)
   where
     rest : List Table
     rest = filter (λ (t : Table). not (is_some t.frozen)) cs
 
-    by : (b : Bool) → All (λ (t : LiveTable). 0 < t.size) (live_in cs)
-        → All (λ (t : LiveTable). 0 < t.size) (map as_live (cond b (c ∷ rest) rest))
-    by true later = All-cons (λ (t : LiveTable). 0 < t.size) (as_live c) (live_in cs) h.0.some later
+    by : (b : Bool) → All (λ (t : LiveTable). is_table_size t.size ≡ true) (live_in cs)
+        → All (λ (t : LiveTable). is_table_size t.size ≡ true) (map as_live (cond b (c ∷ rest) rest))
+    by true later = All-cons (λ (t : LiveTable). is_table_size t.size ≡ true) (as_live c) (live_in cs) h.0.power later
     by false later = later
 
 sound_at : (cs : List Table) (k : ℕ) (u : Table) → AllByRecursion IsSound cs → slice_get cs k ≡ Some u → IsSound u
@@ -220,12 +221,15 @@ module _ (s : SetupData) (h : IsSetup s) (stage : Stage) (head : stage.head.now 
       ∙ spaces_are stage.head.now.ksmps (typed.shared_names s.orchestra.globals) stage.spaces
       (live_in (tables_in (typed.orchestra s.orchestra) s.plot.events))
 
-  placed : (flags : List Bool) (fields : List ℤ) → IsPlaced stage.layout.now (stock_of stage.layout.now) (piece_at stage flags fields)
-  placed flags fields =
+  placed : (flags : List Bool) (fields : List ℤ) → length flags ≡ length stage.tables.now
+      → IsPlaced stage.layout.now (stock_of stage.layout.now) (piece_at stage flags fields)
+  placed flags fields long =
       subst (λ areas. IsPlaced areas (stock_of areas) (piece_at stage flags fields)) (sym here)
       (is_placed (typed.shared_names s.orchestra.globals) (live_in (tables_in (typed.orchestra s.orchestra) s.plot.events)) (piece_at stage flags fields) apart frames
       (are_live stage.head.now.ksmps (typed.shared_names s.orchestra.globals) stage.spaces
       (tables_in (typed.orchestra s.orchestra) s.plot.events) sound stage.tables.now same flags)
+      (λ n any. live_found stage.tables.now flags (tables_in (typed.orchestra s.orchestra) s.plot.events) n
+      (tables_differ (typed.orchestra s.orchestra) s.plot.events) same long any)
       (some_points (tables_in (typed.orchestra s.orchestra) s.plot.events) sound))
 
   can_be_played : (flags : List Bool) → CanAllBePlayed stage.layout.now (tables_of stage.tables.now flags)
@@ -245,7 +249,7 @@ module _ (s : SetupData) (h : IsSetup s) (stage : Stage) (head : stage.head.now 
     within = ap limit_passed laid ∙ h.within;
     places = places;
     zak = zak;
-    placed = λ flags fields long. placed flags fields;
+    placed = λ flags fields long. placed flags fields long;
     can_be_played = λ flags long. can_be_played flags;
   }
 

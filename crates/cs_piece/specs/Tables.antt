@@ -6,10 +6,9 @@ use Rattle.cs_base.specs.declared.resource.Res.TheVariants as res
 use Rattle.cs_code.specs.Lowered.{bodies}
 use Rattle.cs_gen.specs.Points.{points_of}
 use Rattle.cs_ir.specs.Resources.{Stock}
-use Rattle.cs_meaning.specs.Beginning.{block_begin_writes}
+use Rattle.cs_meaning.specs.Uses.{block_begin_writes, block_writes}
 use Rattle.cs_meaning.specs.Core.{Block, core}
 use Rattle.cs_meaning.specs.Plain.{Table}
-use Rattle.cs_meaning.specs.Uses.{block_writes}
 use Rattle.cs_tempo.specs.declared.plot.Event.{Event}
 use Rattle.cs_tempo.specs.declared.plot.EventAct.{EventAct}
 use Rattle.cs_tempo.specs.declared.plot.EventAct.TheVariants as act

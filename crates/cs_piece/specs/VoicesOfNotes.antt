@@ -48,7 +48,7 @@ pub record IsVoiceOf (s : Sheet) (plan : Plan) (kinds : Kinds) (v : Sounding) (t
 pub record Begins (s : Sheet) (body : Block) (plan : Plan) (kinds : Kinds) (before : ℕ → ℤ) (shared : Res → Wave) : Type 0 where
   pub cause : (initialised s before).world.cause ≡ (begun_note s.piece body shared).world.cause
   pub asks : (initialised s before).world.asks ≡ (begun_note s.piece body shared).world.asks
-  pub cells : Hold s.areas (initialised s before).world.cells (begun_note s.piece body shared).world.shared
+  pub cells : Hold s.areas (initialised s before).world.shared (begun_note s.piece body shared).world.shared
   pub voice : (begun_note s.piece body shared).world.cause ≡ None
       → IsVoiceOf s plan kinds (voice_of s (initialised s before)) (begun_note s.piece body shared)
 

@@ -2,12 +2,11 @@
 ghost use Rattle.std.specs.Prelude.{◌≡◌, ◌<◌, ◌≤◌, ◌||◌, ℕ, false, length, nat_le, nat_lt, ◌&&◌, IfOk, slice_index_or};
 ghost use Rattle.std.specs.List.{list_any};
 ghost use Rattle.cs_ir.specs.Resources.{reaches};
-ghost use Rattle.cs_piece.specs.inner.Marked.{act_stores, codes_store, is_marked, is_table_store, numbers_end, ops_store};
+ghost use Rattle.cs_piece.specs.inner.Marked.{act_stores, codes_store, is_marked, numbers_end, ops_store};
 
 use crate::tables::NUMBERS_END;
 use cs_base::{OutOfMemory, Res};
 use cs_ir::{Act, Instrument, Op, Reach};
-use cs_words::{Shape, signature_of};
 use std::alloc::Global;
 use std::marker::Model;
 
@@ -112,13 +111,7 @@ fn stored_by(act: Act) -> Reach
 {
     match act {
         Act::Save(Res::Table(number)) => Reach::Span(number, number),
-        Act::Unit(opcode, _, reach) if is_table_store(signature_of(opcode).shape()) => reach,
+        Act::Store(_, reach) => reach,
         _ => Reach::Nothing,
     }
-}
-
-fn is_table_store(shape: Shape) -> bool
-    ensures { result ≡ is_table_store shape }
-{
-    matches!(shape, Shape::Store)
 }

@@ -1,5 +1,6 @@
 // One control cycle.
-ghost use Rattle.std.specs.Prelude.{◌≡◌, map, length, All};
+ghost use Rattle.std.specs.Prelude.{◌≡◌, ◌≤◌, map, length, All};
+ghost use Rattle.cs_base.specs.Limits.{most_notes};
 ghost use Rattle.std.specs.Arc.{arc_value};
 ghost use Rattle.cs_board.specs.Board.{plan, name, view, IsSeatOf};
 ghost use Rattle.cs_desk.specs.Desk.{areas, cells, note_room, word_room, HasRoom};
@@ -26,18 +27,14 @@ use std::sync::{Arc, Wait};
 use std::thread;
 use std::thread::Threads;
 
-/// How many cycles the caller plays alone after one that it had done before any helper began. So
-/// short cycles neither wake helpers nor keep them looking, which would take the caller's processor
-/// time.
-const SPARED: u32 = 128;
-
 impl<'e, J: Job + Send + Drop, R: Threads + Wait + Sync, G: Gate + Sync> Pool<'e, J, R, G> {
     /// Runs the notes of one control cycle, and answers a receipt with their jobs, the desk, and
     /// the graph, as if the notes had run one by one in serial order over the desk's cells.
     ///
     /// `graph` is that of the jobs, which stand in serial order; it serves as many cycles as the
     /// same notes are active. The desk's layout is that of each job, and it has room for the cycle.
-    /// No more helpers get a part than can have a note at once beside the caller, who works too.
+    /// No more helpers get a part than can have a note at once beside the caller, who works too, and
+    /// where none is to get one the caller runs the notes without a board.
     /// The gate is called with `cycle` and the note's place before each note is run. It can't fail:
     /// where there is no memory for the parts of further helpers, those with a part and the caller
     /// run all notes.
@@ -66,25 +63,56 @@ impl<'e, J: Job + Send + Drop, R: Threads + Wait + Sync, G: Gate + Sync> Pool<'e
         ensures ended { ended self.new ≡ next_cycle (ended self.old) }
         ensures helpers { helpers self.new ≡ helpers self.old }
     {
-        let others = self.wanted(graph.useful_workers().saturating_sub(1));
+        let others = self.wanted(&graph);
         serial_laws::<J>();
+        self.ended = self.ended.saturating_add(1);
+        if others == 0 {
+            let mut desk = desk;
+            let receipt = desk.run_alone(cycle, graph.len(), jobs, self.gate);
+            return (receipt, desk, graph);
+        }
         let (board, first) = desk.open(graph, jobs);
         let (board, first) = self.play(board, first, others, cycle);
-        self.ended = self.ended.saturating_add(1);
         Desk::rest(board, first)
     }
 
-    /// How many helpers are to get a part, where so many could have a note at once beside the
-    /// caller: none for a while after a cycle that the caller had done before any helper began.
-    fn wanted(&mut self, others: u32) -> u32
+    /// Whether the next cycle is offered to the helpers: not where there are none, and not for a
+    /// while after a cycle that the caller had done before any of them began. For one that isn't
+    /// offered there is `alone`, which needs no graph of its notes.
+    pub fn offers(&mut self) -> bool
         ensures ended { ended self.new ≡ ended self.old }
         ensures helpers { helpers self.new ≡ helpers self.old }
     {
-        if self.spared == 0 {
-            return others;
+        !self.lines.is_empty() && self.sparing.offers()
+    }
+
+    /// Runs the notes of one control cycle by the caller alone, one by one in serial order over the
+    /// desk's cells, and answers a receipt with their jobs, and the desk. They are at most 512, and
+    /// the desk's layout is that of each. The gate is called as in `cycle`. It can't fail.
+    pub fn alone(&mut self, cycle: u32, desk: Desk<J>, jobs: Vec<J>) -> (Receipt<J>, Desk<J>)
+        requires few { length jobs.items ≤ most_notes }
+        requires areas { All (λ j. J.means.areas j ≡ areas desk) jobs.items }
+        ensures jobs { result.0 ≡ serial_jobs J.means jobs.items (cells desk) }
+        ensures cells { cells result.1 ≡ serial_cells J.means jobs.items (cells desk) }
+        ensures notes { length result.0 ≡ length jobs.items }
+        ensures areas { areas result.1 ≡ areas desk }
+        ensures room { (note_room result.1 ≡ note_room desk) × (word_room result.1 ≡ word_room desk) }
+        ensures ended { ended self.new ≡ next_cycle (ended self.old) }
+        ensures helpers { helpers self.new ≡ helpers self.old }
+    {
+        let mut desk = desk;
+        let notes = jobs.len() as u32;
+        self.ended = self.ended.saturating_add(1);
+        let receipt = desk.run_alone(cycle, notes, jobs, self.gate);
+        (receipt, desk)
+    }
+
+    /// How many helpers are to get a part in a cycle of this graph.
+    fn wanted(&self, graph: &Graph) -> u32 {
+        if self.lines.is_empty() {
+            return 0;
         }
-        self.spared -= 1;
-        0
+        graph.useful_workers().saturating_sub(1)
     }
 
     /// The cycle on its board, by the caller and so many others, or as many as there are. It answers
@@ -104,10 +132,6 @@ impl<'e, J: Job + Send + Drop, R: Threads + Wait + Sync, G: Gate + Sync> Pool<'e
         ensures ended { ended self.new ≡ ended self.old }
         ensures helpers { helpers self.new ≡ helpers self.old }
     {
-        if others == 0 || self.lines.is_empty() {
-            work(self.rt, &board, &mut first, cycle, self.gate);
-            return (board, first);
-        }
         match Arc::new(self.alloc, board) {
             Ok(board) => {
                 let lines = self.lines.as_mut_slice();
@@ -116,7 +140,7 @@ impl<'e, J: Job + Send + Drop, R: Threads + Wait + Sync, G: Gate + Sync> Pool<'e
                     self.rt, self.gate, self.alloc, lines, others, &board, &mut first, cycle,
                     &mut begun,
                 );
-                self.spared = if begun { 0 } else { SPARED };
+                self.sparing.learn(begun);
                 (sole(self.rt, board), first)
             }
             Err(refused) => {

@@ -7,8 +7,8 @@
 //! How a helper gets its seat and gives it back, how it is woken, how long anybody looks before it sleeps, how many helpers get a
 //! part in a cycle, and who runs which note, may change without anyone above noticing. In reading order: `letter` (what lies in a
 //! helper's mailbox), `member`, `view` (what its two ends know), `mailbox_rule`, `mailbox`, `helper` (what a helper does), `line`
-//! (the caller's side of one helper), `pool` (all helpers, started and ended), `cycle`; `crew` (what a performance is run by),
-//! `runner` (a crew that stays, or one that is started in each cycle), `running` (a cycle that a tally counts).
+//! (the caller's side of one helper), `sparing` (which cycles the caller plays alone), `pool` (all helpers, started and ended),
+//! `cycle`; `crew` (what a performance is run by), `running` (a cycle that a tally counts).
 #![tactic(auto)]
 
 mod crew;
@@ -20,11 +20,10 @@ mod mailbox;
 mod mailbox_rule;
 mod member;
 mod pool;
-mod runner;
 mod running;
+mod sparing;
 mod view;
 
 pub use crew::Crew;
 pub use pool::Pool;
-pub use runner::Runner;
-pub use running::run_counted;
+pub use running::{run_counted, run_counted_alone};

@@ -3,6 +3,7 @@ ghost use Rattle.std.specs.Prelude.{◌≡◌, ◌<◌, ◌≤◌, All, length};
 ghost use Rattle.cs_pool.specs.inner.Lines.{IsIdle};
 
 use crate::line::Line;
+use crate::sparing::Sparing;
 use cs_cells::Job;
 use cs_edge::Gate;
 use std::alloc::Global;
@@ -18,8 +19,7 @@ pub struct Pool<'e, J: Job, R, G> {
     pub(crate) alloc: Global,
     pub(crate) lines: Vec<Line<J>>,
     pub(crate) ended: u64,
-    /// How many of the next cycles the caller plays alone.
-    pub(crate) spared: u32,
+    pub(crate) sparing: Sparing,
     ghost idle: { All (λ line. IsIdle line) lines.items },
 }
 
@@ -49,7 +49,7 @@ impl<'e, J: Job + Send + Drop, R: Threads + Wait + Sync, G: Gate + Sync> Pool<'e
             alloc,
             lines: start_all(rt, scope, alloc, workers - 1, gate),
             ended: 0,
-            spared: 0,
+            sparing: Sparing::new(),
         }
     }
 
@@ -64,7 +64,7 @@ impl<'e, J: Job + Send + Drop, R: Threads + Wait + Sync, G: Gate + Sync> Pool<'e
             alloc: _,
             lines,
             ended,
-            spared: _,
+            sparing: _,
         } = self;
         close_all(rt, lines);
         ended

@@ -10,8 +10,6 @@ use Rattle.cs_ir.specs.declared.op.Act.{Act}
 use Rattle.cs_ir.specs.declared.op.Op.{Op}
 use Rattle.cs_score.specs.Ranges.{IsTableNumber}
 use Rattle.cs_meaning.specs.Plain.{Table}
-use Rattle.cs_words.specs.declared.catalogue.Shape.{Shape}
-use Rattle.cs_words.specs.declared.catalogue.Shape.TheVariants as shape
 use Rattle.cs_piece.specs.Tables.{Given, firsts, only, table_given, times_given}
 use Rattle.cs_piece.specs.declared.tables.First.{First}
 use Rattle.cs_piece.specs.declared.tables.Firsts.{Firsts}
@@ -53,11 +51,6 @@ pub record IsRight (g : Given) : Type 0 where
 pub record StandFor (gs : List Given) (f : Firsts) : Type 0 where
   pub firsts_are : map given_of f.items.items ≡ firsts gs
   pub times_are : (n : ℕ) → n < numbers_end → times_at f.times.items n ≡ as_times (times_given n gs)
-
--- whether a shape stores into a table
-abbrev pub is_table_store : Shape → Bool
-is_table_store shape.Store = true
-is_table_store _ = false
 
 -- whether an op, or any of some ops, may write a table
 abbrev pub act_stores : ℕ → Act → Bool

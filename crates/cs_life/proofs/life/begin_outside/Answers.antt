@@ -23,4 +23,4 @@ returns-clause-hold g c =
     (g.B.Bank.cells c.start.new.bank) (word_count c.args.setup.now.layout) c.requires.stage (c.outside.ensures c.args.stage c.requires.stage c.requires.layout)
     c.requires.made (same_piece (composition_of c.args.setup.now) c.args.stage c.args.made.now [] [] c.requires.stage c.requires.made) c.requires.cells
     (c.in_ok-start.ensures.cells ∙ ap (λ fields. (initialised (sheet_at c.outside.result.instrument.now 0 c.outside.result.foot.now c.args.stage c.args.made.now fields)
-    (cell (g.B.Bank.cells c.args.bank.now))).world.cells) c.new-fields.ensures.items))
+    (cell (g.B.Bank.cells c.args.bank.now))).world.shared) c.new-fields.ensures.items))

@@ -10,6 +10,7 @@ use Rattle.cs_perform.proofs.cycle.play_cycle.Goals as goal
 pub prepare-requires : goal.prepare-requires
 prepare-requires g c = record {
   at = (moment_at (composition_of c.args.setup.now) c.args.cycle, c.requires.at);
+  untold = c.of_next-by.ensures;
 }
 
 pub run-stand-requires-clause-at : goal.run-stand-requires-clause-at

@@ -12,3 +12,7 @@ returns-clause-notes g c =
     ∙ ap (λ b. serial_jobs g.J.Job.means (plan b).jobs (plan b).cells) c.play-board.ensures.board
     ∙ ap (λ k. serial_jobs g.J.Job.means k.jobs k.cells) c.open-board.ensures.plan in
     ap length is ∙ length-serial_jobs g.J.Job.means c.args.jobs.items (cells c.args.desk)
+
+pub returns-then-others-eq0-clause-notes : goal.returns-then-others-eq0-clause-notes
+returns-then-others-eq0-clause-notes g c =
+    ap length c.run_alone-receipt.ensures.jobs ∙ length-serial_jobs g.J.Job.means c.args.jobs.items (cells c.args.desk)

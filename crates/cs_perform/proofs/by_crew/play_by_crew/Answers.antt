@@ -1,7 +1,7 @@
 use Rattle.std.proofs.Common.{rules}
 use Rattle.cs_perform.specs.inner.Crews.{Performs}
 use Rattle.cs_perform.proofs.Loans.{three_same}
-use Rattle.cs_perform.proofs.by_crew.play_in_loan.Goals as goal
+use Rattle.cs_perform.proofs.by_crew.play_by_crew.Goals as goal
 
 pub returns : goal.returns
 returns g c =

@@ -6,7 +6,7 @@ use Rattle.cs_graph.specs.Graph.{IsFit}
 use Rattle.cs_perform.proofs.Standings.{areas_same, feet_in_areas, kept_course, ran_at}
 use Rattle.cs_piece.specs.Setups.{composition_of}
 use Rattle.cs_voice.specs.VoiceData.{VoiceData}
-use Rattle.cs_perform.proofs.stand.Stand.run.Goals as goal
+use Rattle.cs_perform.proofs.stand.Stand.run_by_crew.Goals as goal
 
 pub run_counted-voices-requires-clause-notes : goal.run_counted-voices-requires-clause-notes
 run_counted-voices-requires-clause-notes g c κs lives =

@@ -1,0 +1,49 @@
+// A cycle by the caller alone.
+ghost use Rattle.std.specs.Prelude.{◌≡◌, ◌<◌, length, All};
+ghost use Rattle.cs_cells.specs.Serial.{serial_cells, serial_jobs};
+
+use crate::desk::Desk;
+use crate::receipt::Receipt;
+use cs_cells::Job;
+use cs_edge::Gate;
+
+impl<J: Job> Desk<J> {
+    ghost use Rattle.cs_desk.specs.Desk.{areas, cells, note_room, word_room};
+
+    /// Runs the notes of a control cycle, `notes` in number, one by one in serial order over the
+    /// desk's cells, which nobody else can reach, and answers a receipt with their jobs. There is no
+    /// board: nothing is claimed, laid or cleared, no memory is taken and nobody is waited for.
+    /// `gate` is called with `cycle` and the note's place before each note is run.
+    pub fn run_alone<G: Gate>(
+        &mut self,
+        cycle: u32,
+        notes: u32,
+        jobs: Vec<J>,
+        gate: &G,
+    ) -> Receipt<J>
+        requires notes { notes ≡ length jobs.items }
+        requires areas { All (λ j. J.means.areas j ≡ areas self.old) jobs.items }
+        ensures jobs { result ≡ serial_jobs J.means jobs.items (cells self.old) }
+        ensures cells { cells self.new ≡ serial_cells J.means jobs.items (cells self.old) }
+        ensures areas { areas self.new ≡ areas self.old }
+        ensures room { (note_room self.new ≡ note_room self.old) × (word_room self.new ≡ word_room self.old) }
+    {
+        let mut jobs = jobs;
+        for note in 0..notes {
+            gate.before(cycle, note);
+            self.run_job(&mut jobs[note as usize]);
+        }
+        Receipt { notes, jobs }
+    }
+
+    /// Runs one job over the desk's cells.
+    fn run_job(&mut self, job: &mut J)
+        requires areas { J.means.areas job.old ≡ areas self.old }
+        ensures job { job.new ≡ J.means.after job.old (cells self.old) }
+        ensures cells { cells self.new ≡ J.means.leaves job.old (cells self.old) }
+        ensures areas { areas self.new ≡ areas self.old }
+        ensures room { (note_room self.new ≡ note_room self.old) × (word_room self.new ≡ word_room self.old) }
+    {
+        job.run(self);
+    }
+}
