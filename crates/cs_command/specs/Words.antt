@@ -1,4 +1,4 @@
--- The words as texts, and what an answer says of them.
+-- The words as texts, and what a result says of them.
 use Rattle.std.specs.Prelude.{◌≡◌, List, map, Some, None, Result, Ok, Err, String, string_bytes}
 use Rattle.std.specs.Global.{Global}
 use Rattle.cs_arguments.specs.Orders.{asked_in}
@@ -10,8 +10,8 @@ use Rattle.cs_command.specs.declared.reading.Unread.TheVariants.{Usage}
 abbrev pub texts : List (String Global) → List Text
 texts words = map (λ w. string_bytes w) words
 
--- An order is what the words ask for. They are refused only where they have no reading; where they have none, there is no
--- order, so that the answer is this refusal or want of memory.
+-- An order is what the words ask for. They are refused only where they have no reading; where they have none, there
+-- is no order, so that the result is this refusal or out of memory.
 abbrev pub IsRead : List Text → Result Order Unread → Type 0
 IsRead words (Ok order) = reading words ≡ Some (asked_in order)
 IsRead words (Err unread) = unread ≡ Usage → reading words ≡ None

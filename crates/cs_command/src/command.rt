@@ -1,5 +1,5 @@
 // All that may stand, as one command.
-ghost use Rattle.std.specs.Prelude.{◌≡◌, false, fold, IfOk};
+ghost use Rattle.std.specs.Prelude.{◌≡◌, false, IfOk};
 ghost use Rattle.clap.specs.Words.{app_of, rule_of, with_rule};
 ghost use Rattle.cs_arguments.specs.Command.{bare_app, lettered_app, the_app};
 

@@ -1,7 +1,7 @@
 // The values of what stood, out of clap's matches.
-ghost use Rattle.std.specs.Prelude.{◌≡◌, ◌∷◌, [], ℕ, List, codes, option_map, unwrap_or};
+ghost use Rattle.std.specs.Prelude.{◌≡◌, List, codes, option_map, unwrap_or};
 ghost use Rattle.cs_arguments.specs.Orders.{asked_in, piece_in};
-ghost use Rattle.cs_arguments.specs.Reading.{Use, asked_by, has_use, number_of, piece_of, value_of, width_of};
+ghost use Rattle.cs_arguments.specs.Reading.{Use, asked_by, number_of, piece_of, value_of, width_of};
 ghost use Rattle.cs_command.specs.inner.Matched.{Holds};
 
 use clap::ArgMatches;

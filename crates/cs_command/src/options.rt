@@ -1,5 +1,5 @@
 // The options, flags and names that may stand.
-ghost use Rattle.std.specs.Prelude.{◌≡◌, ◌≤◌, pos, false, codes, Some, None};
+ghost use Rattle.std.specs.Prelude.{◌≡◌, pos, false, codes, Some, None};
 ghost use Rattle.clap.specs.Words.{rule_of};
 ghost use Rattle.clap.specs.declared.builder.value_parser.ValueParser.TheVariants.{Signed};
 ghost use Rattle.cs_arguments.specs.Command.{made_flag, made_option};

@@ -1,5 +1,5 @@
 // The words behind the program's name, read.
-ghost use Rattle.std.specs.Prelude.{◌≡◌, IfOk};
+ghost use Rattle.std.specs.Prelude.{IfOk};
 ghost use Rattle.cs_command.specs.Words.{IsRead, texts};
 ghost use Rattle.cs_command.specs.inner.Matched.{IsMatched};
 
@@ -18,8 +18,8 @@ pub enum Unread {
     OutOfMemory,
 }
 
-/// What the words behind the program's name ask for. Usage comes only where they have no reading; where they have none the
-/// answer is Usage or OutOfMemory.
+/// What the words behind the program's name ask for. Usage comes only where they have no reading; where they have none
+/// the result is Usage or OutOfMemory.
 pub fn read<'w>(alloc: Global, words: &'w [String]) -> Result<Order<'w>, Unread>
     ensures { IsRead (texts words.entry.now) result }
 {

@@ -222,75 +222,71 @@ module _ {F K T B : Type 0} (see : Sight F K T B) where
       subst P (sym (is ∙ e)) (in_part asked c head f t shelf wav wav' talk talk' taps taps' tally tally' e same part paused cause says)
 
   -- The piece of a source that was performed. The shelf has no part in its performance.
-  pub sounded_run : (words : List Text) (asked : Asked) (c : Composition) (s : Status) (shelf shelf' : F) (wav wav' : K) (talk talk' : T)
-      (taps taps' : List B) (tally tally' : Tally)
-      → reading words ≡ Some asked → WasRead (see.shelf shelf) (see.shelf shelf') asked.piece
-      → SourceMeans (see.shelf shelf) asked.width asked.piece (Ok c) → LeavesUnread (see.shelf shelf) (see.shelf shelf') asked.piece
-      → HasSounded (sight (λ (_ : Unit {0}). see.shelf shelf) see.wav see.talk see.stands see.line) asked c s
-      (scene tt wav talk taps tally) (scene tt wav' talk' taps' tally')
-      → IsRun see words s (scene shelf wav talk taps tally) (scene shelf' wav' talk' taps' tally')
-  sounded_run words asked c status.Ok shelf shelf' wav wav' talk talk' taps taps' tally tally' e was means rest h = record {
-    ended = (
-      asked,
-      e,
-      record {
-        c = c;
-        loaded = loaded asked (Ok c) (scene shelf wav talk taps tally) (scene shelf' wav' talk' taps' tally') means rest;
-        performed = record { head = h.0.head; head_is = h.0.head_is; whole = h.0.whole };
-        report = h.1;
-      },
-    );
-    shelf = inr (asked, e, was);
-  }
-  sounded_run words asked c status.TalkFault shelf shelf' wav wav' talk talk' taps taps' tally tally' e was means rest h = record {
-    ended = (
-      asked,
-      e,
-      record {
-        c = c;
-        loaded = loaded asked (Ok c) (scene shelf wav talk taps tally) (scene shelf' wav' talk' taps' tally') means rest;
-        performed = record { head = h.0.head; head_is = h.0.head_is; whole = h.0.whole };
-        report = h.1;
-      },
-    );
-    shelf = inr (asked, e, was);
-  }
-  sounded_run words asked c status.SinkFault shelf shelf' wav wav' talk talk' taps taps' tally tally' e was means rest h = record {
-    ended = (
-      asked,
-      e,
-      record {
-        c = c;
-        loaded = loaded asked (Ok c) (scene shelf wav talk taps tally) (scene shelf' wav' talk' taps' tally') means rest;
-        performed = record { head = h.0.head; head_is = h.0.head_is; part = h.0.part };
-        written = h.1;
-        rose = h.2;
-        line = h.3;
-      },
-    );
-    shelf = inr (asked, e, was);
-  }
-  sounded_run words asked c status.OutOfMemory shelf shelf' wav wav' talk talk' taps taps' tally tally' e was means rest h = record {
-    ended = record {
-      performed = inr (
+  module _ (words : List Text) (asked : Asked) (c : Composition) (shelf shelf' : F) (wav wav' : K) (talk talk' : T) (taps taps' : List B)
+      (tally tally' : Tally) (e : reading words ≡ Some asked) (was : WasRead (see.shelf shelf) (see.shelf shelf') asked.piece)
+      (means : SourceMeans (see.shelf shelf) asked.width asked.piece (Ok c))
+      (rest : LeavesUnread (see.shelf shelf) (see.shelf shelf') asked.piece) where
+    abbrev before : Scene F K T B
+    before = scene shelf wav talk taps tally
+
+    abbrev now : Scene F K T B
+    now = scene shelf' wav' talk' taps' tally'
+
+    is_loaded : IsLoaded see asked before now (Ok c)
+    is_loaded = loaded asked (Ok c) before now means rest
+
+    pub sounded_run : (s : Status)
+        → HasSounded (sight (λ (_ : Unit {0}). see.shelf shelf) see.wav see.talk see.stands see.line) asked c s
+        (scene tt wav talk taps tally) (scene tt wav' talk' taps' tally')
+        → IsRun see words s before now
+    sounded_run status.Ok h = record {
+      ended = (
+        asked,
+        e,
+        record { c = c; loaded = is_loaded; performed = record { head = h.0.head; head_is = h.0.head_is; whole = h.0.whole }; report = h.1 },
+      );
+      shelf = inr (asked, e, was);
+    }
+    sounded_run status.TalkFault h = record {
+      ended = (
+        asked,
+        e,
+        record { c = c; loaded = is_loaded; performed = record { head = h.0.head; head_is = h.0.head_is; whole = h.0.whole }; report = h.1 },
+      );
+      shelf = inr (asked, e, was);
+    }
+    sounded_run status.SinkFault h = record {
+      ended = (
         asked,
         e,
         record {
           c = c;
-          loaded = loaded asked (Ok c) (scene shelf wav talk taps tally) (scene shelf' wav' talk' taps' tally') means rest;
-          performed = record { head = h.0.head; head_is = h.0.head_is; paused = h.0.paused };
+          loaded = is_loaded;
+          performed = record { head = h.0.head; head_is = h.0.head_is; part = h.0.part };
+          written = h.1;
+          rose = h.2;
+          line = h.3;
         },
       );
-      line = h.1;
-    };
-    shelf = inr (asked, e, was);
-  }
-  sounded_run words asked c status.Usage shelf shelf' wav wav' talk talk' taps taps' tally tally' e was means rest h = absurd h
-  sounded_run words asked c status.ShelfFault shelf shelf' wav wav' talk talk' taps taps' tally tally' e was means rest h = absurd h
-  sounded_run words asked c (status.OrcRefused f) shelf shelf' wav wav' talk talk' taps taps' tally tally' e was means rest h = absurd h
-  sounded_run words asked c (status.ScoreRefused f) shelf shelf' wav wav' talk talk' taps taps' tally tally' e was means rest h = absurd h
-  sounded_run words asked c (status.Limit l) shelf shelf' wav wav' talk talk' taps taps' tally tally' e was means rest h = absurd h
-  sounded_run words asked c (status.CsdRefused f) shelf shelf' wav wav' talk talk' taps taps' tally tally' e was means rest h = absurd h
+      shelf = inr (asked, e, was);
+    }
+    sounded_run status.OutOfMemory h = record {
+      ended = record {
+        performed = inr (
+          asked,
+          e,
+          record { c = c; loaded = is_loaded; performed = record { head = h.0.head; head_is = h.0.head_is; paused = h.0.paused } },
+        );
+        line = h.1;
+      };
+      shelf = inr (asked, e, was);
+    }
+    sounded_run status.Usage h = absurd h
+    sounded_run status.ShelfFault h = absurd h
+    sounded_run (status.OrcRefused f) h = absurd h
+    sounded_run (status.ScoreRefused f) h = absurd h
+    sounded_run (status.Limit l) h = absurd h
+    sounded_run (status.CsdRefused f) h = absurd h
 
   -- What was loaded, a piece or what keeps it from its sound.
   pub loaded_run : (words : List Text) (asked : Asked) (l : Result SetupData Stop) (r : Status) (shelf shelf' : F) (wav wav' : K)
@@ -307,7 +303,7 @@ module _ {F K T B : Type 0} (see : Sight F K T B) where
       → (IsErr l → (wav' ≡ wav) × (taps' ≡ taps) × (tally' ≡ tally))
       → IsRun see words r (scene shelf wav talk taps tally) (scene shelf' wav' talk' taps' tally')
   loaded_run words asked (Ok s) r shelf shelf' wav wav' talk talk' taps taps' tally tally' e was means rest refused left unread sounds ends still =
-      sounded_run words asked (composition_of s) r shelf shelf' wav wav' talk talk' taps taps' tally tally' e was means rest (sounds (see.shelf shelf))
+      sounded_run words asked (composition_of s) shelf shelf' wav wav' talk talk' taps taps' tally tally' e was means rest r (sounds (see.shelf shelf))
   loaded_run words asked (Err s) r shelf shelf' wav wav' talk talk' taps taps' tally tally' e was means rest refused left unread sounds ends still =
       let same = still refl in
       rw (same.0, same.1, same.2)

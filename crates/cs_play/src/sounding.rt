@@ -118,7 +118,7 @@ fn play<R: Threads + Wait + Sync, K: Sink, G: Gate + Sync>(
     ensures sink { IsErrOf result PlayFault.Sink → ((order_of (asked_in order.now)).output ≡ SoundFile)
         × Rose (K.tells wav.old).faults (K.tells wav.new).faults }
 {
-    let crew = Crew::new(rt, workers_of(rt, order.workers.number()), order.pool, gate);
+    let crew = Crew::new(rt, workers_of(rt, order.workers.number()), gate);
     perform(
         alloc,
         setup,

@@ -1,4 +1,4 @@
--- The program's own piece: its orchestra, and its score for so many notes.
+-- The program's own piece: its orchestra, and its score for any number of notes.
 use Rattle.std.specs.Prelude.{ℕ, zero, suc, ◌+◌, ◌/◌, ◌%◌, ◌==◌, if◌then◌else◌, List, [], ◌∷◌, ◌++◌, codes, decimal, flat_map}
 
 -- lines, each with its line feed

@@ -15,7 +15,8 @@ use Rattle.cs_source.specs.Texts.{Texts, both, csd, demo_notes, Fit, Have, HaveW
 use Rattle.cs_csd.specs.declared.refused.Refused.{Refused}
 
 -- Texts of a source mean this, and where the shelf tells its files it has them.
-pub record SourceMeans (before : ShelfTold) (width : SampleWidth) (piece : Piece) (r : Result Composition Refused) : Type 0 where
+pub record SourceMeans (before : ShelfTold) (width : SampleWidth) (piece : Piece) (r : Result Composition Refused)
+    : Type 0 where
   pub texts : Texts
   pub fit : Fit piece texts
   pub have : HaveWhereTold before.files piece texts
@@ -58,7 +59,8 @@ pub record WasRead (before now : ShelfTold) (piece : Piece) : Type 0 where
 -- what is left of the text begun last, of which one byte more was read than it may have at most; the demo begins none
 abbrev pub left_of : Option (List ℕ) → Texts → Option (List ℕ)
 left_of before (both orchestra score) =
-    if is_too_long orchestra then Some (drop (most_orchestra_bytes + 1) orchestra) else Some (drop (most_score_bytes + 1) score)
+    if is_too_long orchestra then Some (drop (most_orchestra_bytes + 1) orchestra)
+    else Some (drop (most_score_bytes + 1) score)
 left_of before (csd text) = Some (drop (most_csd_bytes + 1) text)
 left_of before (demo_notes n) = before
 

@@ -50,7 +50,8 @@ told orc sco (Err r) = Err (refused.Texts (told_in orc sco r))
 
 -- two texts, which begin at these lines
 abbrev pub MeanAt : SampleWidth → ℕ → ℕ → List ℕ → List ℕ → Result Composition Refused → Type 0
-MeanAt width orc sco orchestra score r = (q : Result Composition Refusal) × means width orchestra score q × (r ≡ told orc sco q)
+MeanAt width orc sco orchestra score r =
+    (q : Result Composition Refusal) × means width orchestra score q × (r ≡ told orc sco q)
 
 -- a file whose tags were read
 abbrev pub PartsMean : SampleWidth → List ℕ → Result Parts CsdFault → Result Composition Refused → Type 0

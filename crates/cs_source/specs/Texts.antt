@@ -5,7 +5,7 @@ use Rattle.cs_edge.specs.Files.{file_named}
 use Rattle.cs_edge.specs.declared.files.NamedBytes.{NamedBytes}
 use Rattle.cs_arguments.specs.Reading.{Piece, two_files, one_file, demo}
 
--- an orchestra and a score; one file with both; or so many notes of the demo
+-- an orchestra and a score; one file with both; or the demo with some number of notes
 pub data Texts : Type 0 where
   both : List ℕ → List ℕ → Texts
   csd : List ℕ → Texts
@@ -45,8 +45,8 @@ HaveWhereTold (Some files) piece texts = Have files piece texts
 abbrev pub Lack : List NamedBytes → Piece → List ℕ → Type 0
 Lack files (two_files orc sco) name =
     ((name ≡ orc) × (file_named orc files ≡ None))
-    ⊎ ((name ≡ sco) × (orchestra : List ℕ) × (file_named orc files ≡ Some orchestra) × (length orchestra ≤ most_orchestra_bytes)
-    × (file_named sco files ≡ None))
+    ⊎ ((name ≡ sco) × (orchestra : List ℕ) × (file_named orc files ≡ Some orchestra)
+    × (length orchestra ≤ most_orchestra_bytes) × (file_named sco files ≡ None))
 Lack files (one_file csd_name) name = (name ≡ csd_name) × (file_named csd_name files ≡ None)
 Lack files (demo n) name = ⊥
 

@@ -1,6 +1,6 @@
 //! Where a piece comes from: two files of a shelf, one file with both texts, or the demo.
 //!
-//! The one contract: `load` returns a setup of what the texts of the source mean (`Mean`, specs/Meaning), or their
+//! Its one contract: `load` returns a setup of what the texts of the source mean (`Mean`, specs/Meaning), or their
 //! first refusal with its line in the file in which it stands; or the name that can't be read. Of a text one byte
 //! more is read than it may have at most, and files have one pair of texts, which mean one thing (`laws`). The demo's
 //! two texts are those of specs/DemoTexts. How texts are read, kept, parted and put together may be changed without

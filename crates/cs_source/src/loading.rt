@@ -47,7 +47,7 @@ pub fn load<'a, F: Shelf>(
         → SourceMeans (F.tells shelf.old) width (piece_in source.now) (Err r) }
     ensures unread { (name : _) → result ≡ Err (stop.Unread name)
         → CannotRead (F.tells shelf.old) (F.tells shelf.new) (piece_in source.now) name.now }
-    // Want of memory alone has no clause.
+    // Out of memory alone has no clause.
     ensures rest { OnOk result (LeavesUnread (F.tells shelf.old) (F.tells shelf.new) (piece_in source.now)) }
     ensures rest_refused { (r : Refused) → result ≡ Err (stop.Refused r)
         → LeavesUnread (F.tells shelf.old) (F.tells shelf.new) (piece_in source.now) }

@@ -14,7 +14,7 @@ use Rattle.cs_csd.specs.declared.refused.Refused.{Refused}
 use Rattle.cs_source.specs.declared.source.SourceText.{SourceText}
 use Rattle.cs_source.specs.declared.source.SourceText.TheVariants as read
 
--- a fault of which P holds, or want of memory
+-- a fault of which P holds, or out of memory
 abbrev pub IfFault : {F : Type 0} → Or F → (F → Type 0) → Type 0
 IfFault (or.Fault f) P = P f
 IfFault or.OutOfMemory P = ⊤

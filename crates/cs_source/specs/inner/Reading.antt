@@ -18,7 +18,7 @@ pub record ReadMore (before now : ShelfTold) (bytes : List ℕ) : Type 0 where
   pub later : before.faults ≤ now.faults
   pub same : now.files ≡ before.files
 
--- A shelf has given some bytes in one read, so many at most, which stand behind the text; and whether it gave any.
+-- A shelf has given some bytes in one read, `most` at most, which stand behind the text; and whether it gave any.
 pub record ReadOnce (before now : ShelfTold) (most : ℕ) (text longer : List ℕ) (any : Bool) : Type 0 where
   pub block : List ℕ
   pub count : ℕ
@@ -30,19 +30,19 @@ pub record ReadOnce (before now : ShelfTold) (most : ℕ) (text longer : List �
   pub same : now.files ≡ before.files
   pub any_is : any ≡ nat_lt 0 count
 
--- The first bytes of what was left, so many at most, have been read, and what follows them is left; where that is
+-- The first bytes of what was left, `most` at most, have been read, and what follows them is left; where that is
 -- told.
 abbrev pub IsFrontOf : ℕ → Option (List ℕ) → List ℕ → Option (List ℕ) → Type 0
 IsFrontOf most None text now = ⊤
 IsFrontOf most (Some left) text now = (text ≡ take most left) × (now ≡ Some (drop most left))
 
--- Where the files are told, one has that name, and all but its first bytes, so many at most, are left.
+-- Where the files are told, one has that name, and all but its first bytes, `most` at most, are left.
 abbrev pub LeavesRest : ℕ → Option (List NamedBytes) → List ℕ → Option (List ℕ) → Type 0
 LeavesRest most None name left = ⊤
 LeavesRest most (Some files) name left =
     (bytes : List ℕ) × (file_named name files ≡ Some bytes) × (left ≡ Some (drop most bytes))
 
--- the first bytes of the file of that name, so many at most, where the files are told
+-- the first bytes of the file of that name, `most` at most, where the files are told
 abbrev pub IsTextOf : ℕ → Option (List NamedBytes) → List ℕ → List ℕ → Type 0
 IsTextOf most None name text = ⊤
 IsTextOf most (Some files) name text =
