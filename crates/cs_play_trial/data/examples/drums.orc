@@ -17,8 +17,8 @@ instr 2                                ; the snare: noise and a short tone
   aloud  oscili p4, 1 / p3, 3
   aone   oscil 1, 9973.7, 4
   atwo   oscil 1, 7331.3, 4
-  atone  oscili .4, 190, 1
-  out aloud * (aone * atwo + atone)
+  abody  oscili .4, 190, 1
+  out aloud * (aone * atwo + abody)
 endin
 
 instr 3                                ; the hat: diff leaves the high part of the noise
