@@ -13,7 +13,7 @@ ghost use Rattle.cs_typing.specs.inner.Walk.{Judged, GivesOrc, parts_fault, type
 ghost use Rattle.cs_typing.specs.inner.Settled.{settings_of};
 
 use crate::known::{KnownNames, NamesByRate};
-use crate::making::add;
+use crate::making::{add, lend};
 use crate::settle::{Settings, judge_settings};
 use crate::stmt::block;
 use cs_base::{Or, OrcFault, OutOfMemory};
@@ -222,8 +222,7 @@ fn settled(alloc: Global, settings: Settings, orc: &Orc) -> Result<TypedOrc, Or<
     ensures { GivesOrc result (parts_fault settings.head.nchnls (tree.orchestra orc.now))
         (typed_by (settings_of settings) (tree.orchestra orc.now)) }
 {
-    let mut typing = Typing::new(alloc);
-    typing.typed(settings, orc)
+    lend(Typing::new(alloc), |typing| typing.typed(settings, orc))
 }
 
 /// Judges rates, names and types of an orchestra, and gives its typed form; or its first fault, which is of the kinds 12 to 19.
