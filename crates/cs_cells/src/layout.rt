@@ -16,6 +16,7 @@ use std::marker::Model;
 pub struct Layout {
     areas: Vec<Area>,
     keys: IndexSet<(u8, usize)>,
+    starts: [usize; 8],
     words: u32,
 }
 
@@ -53,12 +54,47 @@ impl Layout {
         Ok(Layout {
             areas: areas.to_vec(alloc)?,
             keys,
+            starts: starts_of(areas),
             words: words as u32,
         })
     }
 
     /// The place of a resource's area, or None where no area is the resource's.
     pub fn find(&self, res: Res) -> Option<u32>
+        ensures found { IfSome result (HasPlace self.now res) }
+        ensures none { IfNone result ((place : ℕ) → ¬ (HasPlace self.now res place)) }
+    {
+        match self.at(self.guess(res), res) {
+            Some(place) => Some(place),
+            None => self.by_key(res),
+        }
+    }
+
+    /// Where a resource's area is, if the areas of its kind follow one another in the order of their numbers.
+    #[inline(always)]
+    fn guess(&self, res: Res) -> usize {
+        self.starts[res.kind() as usize & 7].wrapping_add(res.number())
+    }
+
+    /// The place, if the area there is the resource's.
+    #[inline(always)]
+    fn at(&self, place: usize, res: Res) -> Option<u32>
+        ensures { IfSome result (HasPlace self.now res) }
+    {
+        match self.areas.get(place) {
+            Some(area) => {
+                if area.res.same(res) {
+                    Some(place as u32)
+                } else {
+                    None
+                }
+            }
+            None => None,
+        }
+    }
+
+    /// The place of a resource's area by a look at the keys.
+    fn by_key(&self, res: Res) -> Option<u32>
         ensures found { IfSome result (HasPlace self.now res) }
         ensures none { IfNone result ((place : ℕ) → ¬ (HasPlace self.now res place)) }
     {
@@ -109,6 +145,17 @@ fn end_of(area: Area) -> u64
     ensures { result ≡ area.first + area.length }
 {
     u64::from(area.first) + u64::from(area.length)
+}
+
+/// Of each kind, where the area of number 0 would be by the last of its areas. Nothing rests on it: `find` looks at the
+/// place that it tells.
+fn starts_of(areas: &[Area]) -> [usize; 8] {
+    let mut starts = [0; 8];
+    for place in 0..areas.len() {
+        let res = areas[place].res;
+        starts[res.kind() as usize & 7] = place.wrapping_sub(res.number());
+    }
+    starts
 }
 
 fn key_of(res: Res) -> (u8, usize)

@@ -4,7 +4,7 @@ use Rattle.std.proofs.lemmas.Bool.{both_ways}
 use Rattle.cs_cells.specs.Areas.{HasPlace}
 use Rattle.cs_cells.specs.inner.Index.{key, keys_of}
 use Rattle.cs_cells.proofs.Areas.{same, place_found, any_place}
-use Rattle.cs_cells.proofs.layout.Layout.find.Goals as goal
+use Rattle.cs_cells.proofs.layout.Layout.by_key.Goals as goal
 
 pub returns-in-Some-clause-found : goal.returns-in-Some-clause-found
 returns-in-Some-clause-found c =
