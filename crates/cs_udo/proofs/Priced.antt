@@ -11,13 +11,13 @@ use Rattle.cs_grammar.specs.Tree.{Argument, Block, Definition}
 use Rattle.cs_udo.specs.Names.{slots}
 use Rattle.cs_udo.specs.Expanded.{Opcodes, defined, assignments, template}
 use Rattle.cs_udo.specs.Counted.{size_of, call_count, counts_in, hit, statements_hit}
-use Rattle.cs_udo.specs.declared.tally.Tally.{Tally}
+use Rattle.cs_udo.specs.declared.tally.RunningCount.{RunningCount}
 use Rattle.cs_udo.specs.inner.Library.{opcodes_of}
 use Rattle.cs_udo.specs.inner.Tallies.{capped, total, after_counts, weight, IsPriced}
 use Rattle.cs_udo.proofs.Tallied.{capped_first, capped_both, sum_after, passed_after}
 use Rattle.cs_udo.proofs.Weighed.{AllFair, fair_template, call_weight, body_weight, length_slots}
 
-abbrev pub none_counted : Tally
+abbrev pub none_counted : RunningCount
 none_counted = record { sum = 0; passed = None }
 
 -- a call of a defined opcode
@@ -37,7 +37,7 @@ price_is env inner fair d line xs callee args given taken cost result found g k 
     ∙ sym (ap (λ o. capped (call_count line xs callee args o)) found)
 
 -- a definition
-pub cost_is : (env : Opcodes) → AllFair env → (d : Definition) (t : Tally) (given result : ℕ) → t ≡ after_counts none_counted (counts_in env d.body) → given ≡ capped (size_of (assignments d.line (slots 0 d.outs) d.result)) → result ≡ capped (t.sum + given) → result ≡ capped (weight (template env d))
+pub cost_is : (env : Opcodes) → AllFair env → (d : Definition) (t : RunningCount) (given result : ℕ) → t ≡ after_counts none_counted (counts_in env d.body) → given ≡ capped (size_of (assignments d.line (slots 0 d.outs) d.result)) → result ≡ capped (t.sum + given) → result ≡ capped (weight (template env d))
 cost_is env fair d t given result counted g r =
     let a : ℕ = total (counts_in env d.body) in
     let b : ℕ = size_of (assignments d.line (slots 0 d.outs) d.result) in
@@ -71,7 +71,7 @@ one_more_price ds costs more cost d was here is e =
 
 -- ---- limits
 
-pub statements_are : (env : Opcodes) (b : Block) (t : Tally) → t ≡ after_counts none_counted (counts_in env b) → hit limit.Statements t.passed ≡ statements_hit env b
+pub statements_are : (env : Opcodes) (b : Block) (t : RunningCount) → t ≡ after_counts none_counted (counts_in env b) → hit limit.Statements t.passed ≡ statements_hit env b
 statements_are env b t counted =
     ap (hit limit.Statements) (ap (λ u. u.passed) counted ∙ passed_after none_counted (counts_in env b) refl few)
   where

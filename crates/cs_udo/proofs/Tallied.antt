@@ -5,7 +5,7 @@ use Rattle.std.specs.Option.{option_or}
 use Rattle.std.proofs.lemmas.Option.{none-some}
 use Rattle.cs_base.specs.Limits.{most_statements}
 use Rattle.cs_udo.specs.Counted.{line_passing}
-use Rattle.cs_udo.specs.declared.tally.Tally.{Tally}
+use Rattle.cs_udo.specs.declared.tally.RunningCount.{RunningCount}
 use Rattle.cs_udo.specs.inner.Tallies.{capped, total, passed_at, after_count, after_counts}
 
 abbrev cap_if : Bool → ℕ → ℕ
@@ -45,14 +45,14 @@ same_passing sum n = by (nat_lt 2000 n) refl
     by true e = ap (λ k. nat_lt 2000 (sum + k)) (capped_by n true e) ∙ both_past sum n e
     by false e = ap (λ k. nat_lt 2000 (sum + k)) (capped_by n false e)
 
-pub counted_capped : (t : Tally) (line n : ℕ) → after_count t (line, capped n) ≡ after_count t (line, n)
+pub counted_capped : (t : RunningCount) (line n : ℕ) → after_count t (line, capped n) ≡ after_count t (line, n)
 counted_capped t line n = made (capped_second t.sum n) (ap (λ b. option_or t.passed (if b then Some line else None)) (same_passing t.sum n))
   where
-    made : {a b : ℕ} {o p : Option ℕ} → a ≡ b → o ≡ p → ◌≡◌ {A = Tally} (record { sum = a; passed = o }) (record { sum = b; passed = p })
+    made : {a b : ℕ} {o p : Option ℕ} → a ≡ b → o ≡ p → ◌≡◌ {A = RunningCount} (record { sum = a; passed = o }) (record { sum = b; passed = p })
     made e k = λ i. record { sum = e i; passed = k i }
 
 -- those of one list, and then those of another
-pub after_both : (t : Tally) (xs ys : List (ℕ × ℕ)) → after_counts t (xs ++ ys) ≡ after_counts (after_counts t xs) ys
+pub after_both : (t : RunningCount) (xs ys : List (ℕ × ℕ)) → after_counts t (xs ++ ys) ≡ after_counts (after_counts t xs) ys
 after_both t [] ys = refl
 after_both t (c ∷ xs) ys = after_both (after_count t c) xs ys
 
@@ -61,7 +61,7 @@ total_both [] ys = omega arith
 total_both (c ∷ xs) ys = let rest : total (xs ++ ys) ≡ total xs + total ys = total_both xs ys in omega (arith, rest)
 
 -- the sum of all
-pub sum_after : (t : Tally) (s : ℕ) (xs : List (ℕ × ℕ)) → t.sum ≡ capped s → (after_counts t xs).sum ≡ capped (s + total xs)
+pub sum_after : (t : RunningCount) (s : ℕ) (xs : List (ℕ × ℕ)) → t.sum ≡ capped s → (after_counts t xs).sum ≡ capped (s + total xs)
 sum_after t s [] e = e ∙ ap capped (plus_nothing s)
   where
     plus_nothing : (n : ℕ) → n ≡ n + 0
@@ -72,7 +72,7 @@ sum_after t s (c ∷ rest) e =
     again : (x y z : ℕ) → (x + y) + z ≡ x + (y + z)
     again x y z = omega arith
 
-stays : (t : Tally) (line : ℕ) (xs : List (ℕ × ℕ)) → t.passed ≡ Some line → (after_counts t xs).passed ≡ Some line
+stays : (t : RunningCount) (line : ℕ) (xs : List (ℕ × ℕ)) → t.passed ≡ Some line → (after_counts t xs).passed ≡ Some line
 stays t line [] e = e
 stays t line (c ∷ rest) e = stays (after_count t c) line rest (ap (λ o. option_or o (passed_at t.sum c)) e)
 
@@ -80,7 +80,7 @@ not_past : (n : ℕ) → nat_lt 2000 n ≡ false → n ≤ 2000
 not_past n e = grind (arith, nat_tests)
 
 -- the line at which it becomes too much
-pub passed_after : (t : Tally) (xs : List (ℕ × ℕ)) → t.passed ≡ None → t.sum ≤ 2000 → (after_counts t xs).passed ≡ line_passing most_statements t.sum xs
+pub passed_after : (t : RunningCount) (xs : List (ℕ × ℕ)) → t.passed ≡ None → t.sum ≤ 2000 → (after_counts t xs).passed ≡ line_passing most_statements t.sum xs
 passed_after t [] none le = none
 passed_after t (c ∷ rest) none le = by (nat_lt 2000 (t.sum + c.1)) refl (passed_after (after_count t c) rest)
   where

@@ -30,7 +30,8 @@ abbrev mutual
 abbrev pub call_count : ℕ → List (List ℕ) → Callee → List Argument → Option Template → ℕ
 call_count line xs c args found = size_of (called as_it_is 1 line xs c args found) + calls_of found
 
--- What the statements of an instrument count, each with its line, in the order of the text: an `if` counts one, before those in it.
+-- What the statements of an instrument count, each with its line, in the order of the text: an `if` counts one,
+-- before those in it.
 abbrev mutual
   pub counts : Opcodes → Statement → List (ℕ × ℕ)
   counts opcodes (set line x e) = (line, 1) ∷ []

@@ -8,8 +8,9 @@ use Rattle.cs_grammar.specs.Tree.{Argument, value, var, Statement, set, call, ch
 use Rattle.cs_grammar.specs.Tree.{Definition, Instrument, Orchestra}
 use Rattle.cs_udo.specs.Names.{renamed, renamed_argument, in_frame, as_it_is, slots}
 
--- What a defined opcode is to its callers: the names of its inputs and of its results, its statements in a frame of a number
--- (the frames of calls in it have the next numbers), the first number after all these, and how many calls there are in it.
+-- What a defined opcode is to its callers: the names of its inputs and of its results, its statements in a frame of a
+-- number (the frames of calls in it have the next numbers), the first number after all these, and how many calls
+-- there are in it.
 pub record Template : Type 0 where
   pub inputs : List (List ℕ)
   pub results : List (List ℕ)
@@ -41,8 +42,8 @@ assignments line xs args = no_stmt
 abbrev pub value_in : ℕ → List ℕ → Argument
 value_in frame x = value (var (in_frame frame x))
 
--- A call: its arguments are given to the inputs, then comes what the opcode does, then the results are given. All of them are in a
--- frame of their own. Another opcode's call stays.
+-- A call: its arguments are given to the inputs, then comes what the opcode does, then the results are given. All of
+-- them are in a frame of their own. Another opcode's call stays.
 abbrev pub called : (List ℕ → List ℕ) → ℕ → ℕ → List (List ℕ) → Callee → List Argument → Option Template → Block
 called own frame line xs c args None = alone (call line (map own xs) c (map (renamed_argument own) args))
 called own frame line xs c args (Some t) =
@@ -69,7 +70,8 @@ abbrev mutual
   after_arms opcodes frame (otherwise b) = after_block opcodes frame b
   after_arms opcodes frame (arm c b rest) = after_arms opcodes (after_block opcodes frame b) rest
 
--- Statements whose variables get the names of `own`, with each call in a frame of its own, numbered in the order of the text.
+-- Statements whose variables get the names of `own`, with each call in a frame of its own, numbered in the order of
+-- the text.
 abbrev mutual
   pub expanded : Opcodes → (List ℕ → List ℕ) → ℕ → Statement → Block
   expanded opcodes own frame (set line x e) = alone (set line (own x) (renamed own e))

@@ -13,8 +13,8 @@ has_text [] = false
 has_text (value e ∷ args) = has_text args
 has_text (text t ∷ args) = true
 
--- The rule that a call of a defined opcode breaks: as many results and arguments as it has; no text, and inside instruments and
--- definitions alone.
+-- The rule that a call of a defined opcode breaks: as many results and arguments as it has; no text, and inside
+-- instruments and definitions alone.
 abbrev pub broken_rule : Bool → List (List ℕ) → List Argument → Template → Option OrcKind
 broken_rule inside xs args t =
     if not (length xs == length t.results && length args == length t.inputs) then Some orc.ArgCount

@@ -6,8 +6,7 @@ ghost use Rattle.cs_udo.specs.Counted.{call_count, counts, counts_in, counts_in_
 ghost use Rattle.cs_udo.specs.Expanded.{alone, assignments, defined, template};
 ghost use Rattle.cs_udo.specs.Names.{in_frame, renamed, renamed_argument, slots};
 ghost use Rattle.cs_udo.specs.declared.owner.Owner.TheVariants as owner;
-ghost use Rattle.cs_udo.specs.inner.Building.{shown, with, longer, building, building_block, building_call, MakesArms, MakesArm};
-ghost use Rattle.cs_udo.specs.inner.Library.{definitions_of, opcodes_of};
+ghost use Rattle.cs_udo.specs.inner.Building.{opcodes_in, shown, with, building, building_block, building_call, MakesArms, MakesArm};
 ghost use Rattle.cs_udo.specs.inner.Owners.{owned};
 ghost use Rattle.cs_udo.specs.inner.Tallies.{total};
 
@@ -65,7 +64,8 @@ fn push(made: &mut Made, line: u32, what: StmtWhat) -> Result<(), OutOfMemory>
 // Adds `name = e`, with `name` renamed for `passing.to` and the names in `e` for `passing.from`.
 fn give(passing: Passing, made: &mut Made, name: &[u8], e: &Expr) -> Result<(), OutOfMemory>
     ensures { OnOk result (shown made.new ≡ with (shown made.old)
-        (alone (tree.set passing.line (owned passing.to name.now) (renamed (owned passing.from) (tree.expression e.now))))) }
+        (alone (tree.set passing.line (owned passing.to name.now)
+        (renamed (owned passing.from) (tree.expression e.now))))) }
 {
     let name = owned_name(passing.alloc, passing.to, name)?;
     let value = owned_expr(passing.alloc, passing.from, e)?;
@@ -80,7 +80,8 @@ fn give_all(
     args: &[Arg],
 ) -> Result<(), OutOfMemory>
     ensures { OnOk result (shown made.new ≡ with (shown made.old)
-        (assignments passing.line (map (owned passing.to) names.now) (map (renamed_argument (owned passing.from)) (map tree.argument args.now)))) }
+        (assignments passing.line (map (owned passing.to) names.now)
+        (map (renamed_argument (owned passing.from)) (map tree.argument args.now)))) }
 {
     for i in 0..names.len().min(args.len()) {
         match &args[i] {
@@ -158,10 +159,10 @@ fn arm_of(cond: Expr, body: Stmts) -> Arm
 
 #[cycle(build)]
 fn add_stmt(part: &Part, made: &mut Made, s: &OrcStmt) -> Result<(), OutOfMemory>
-    requires depth { total (counts (opcodes_of (definitions_of part.now.library.now) part.now.visible) (tree.statement s.now)) < part.now.depth }
-    requires room { made.old.next + total (counts (opcodes_of (definitions_of part.now.library.now) part.now.visible) (tree.statement s.now)) < 2 ^ 32 }
+    requires depth { total (counts (opcodes_in part.now) (tree.statement s.now)) < part.now.depth }
+    requires room { made.old.next + total (counts (opcodes_in part.now) (tree.statement s.now)) < 2 ^ 32 }
     ensures { OnOk result (shown made.new
-        ≡ building (opcodes_of (definitions_of part.now.library.now) part.now.visible) (owned part.now.owner) (shown made.old) (tree.statement s.now)) }
+        ≡ building (opcodes_in part.now) (owned part.now.owner) (shown made.old) (tree.statement s.now)) }
 {
     match &s.what {
         StmtWhat::Set(name, e) => {
@@ -191,11 +192,12 @@ fn add_call(
     args: &[Arg],
 ) -> Result<(), OutOfMemory>
     requires depth { call_count line results.now callee.now (map tree.argument args.now)
-        (defined (opcodes_of (definitions_of part.now.library.now) part.now.visible) callee.now) < part.now.depth }
+        (defined (opcodes_in part.now) callee.now) < part.now.depth }
     requires room { made.old.next + call_count line results.now callee.now (map tree.argument args.now)
-        (defined (opcodes_of (definitions_of part.now.library.now) part.now.visible) callee.now) < 2 ^ 32 }
-    ensures { OnOk result (shown made.new ≡ building_call (owned part.now.owner) (shown made.old) line results.now callee.now
-        (map tree.argument args.now) (defined (opcodes_of (definitions_of part.now.library.now) part.now.visible) callee.now)) }
+        (defined (opcodes_in part.now) callee.now) < 2 ^ 32 }
+    ensures { OnOk result (shown made.new
+        ≡ building_call (owned part.now.owner) (shown made.old) line results.now callee.now
+        (map tree.argument args.now) (defined (opcodes_in part.now) callee.now)) }
 {
     match part.library.find(part.visible, callee) {
         None => add_other(part, made, line, results, callee, args),
@@ -231,9 +233,11 @@ fn add_choice(
     list: &[Arm],
     els: &[OrcStmt],
 ) -> Result<(), OutOfMemory>
-    requires depth { 1 + total (counts_in_arms (opcodes_of (definitions_of part.now.library.now) part.now.visible) (tree.arms (tree.block els.now) list.now)) < part.now.depth }
-    requires room { made.old.next + (1 + total (counts_in_arms (opcodes_of (definitions_of part.now.library.now) part.now.visible) (tree.arms (tree.block els.now) list.now))) < 2 ^ 32 }
-    ensures { OnOk result (shown made.new ≡ building (opcodes_of (definitions_of part.now.library.now) part.now.visible) (owned part.now.owner) (shown made.old)
+    requires depth { 1 + total (counts_in_arms (opcodes_in part.now)
+        (tree.arms (tree.block els.now) list.now)) < part.now.depth }
+    requires room { made.old.next + (1 + total (counts_in_arms (opcodes_in part.now)
+        (tree.arms (tree.block els.now) list.now))) < 2 ^ 32 }
+    ensures { OnOk result (shown made.new ≡ building (opcodes_in part.now) (owned part.now.owner) (shown made.old)
         (tree.choose line (tree.arms (tree.block els.now) list.now))) }
 {
     let inner = Part {
@@ -260,10 +264,10 @@ fn add_choice(
 // Adds statements.
 #[cycle(build)]
 pub fn add_block(part: &Part, made: &mut Made, stmts: &[OrcStmt]) -> Result<(), OutOfMemory>
-    requires depth { total (counts_in (opcodes_of (definitions_of part.now.library.now) part.now.visible) (tree.block stmts.now)) < part.now.depth }
-    requires room { made.old.next + total (counts_in (opcodes_of (definitions_of part.now.library.now) part.now.visible) (tree.block stmts.now)) < 2 ^ 32 }
+    requires depth { total (counts_in (opcodes_in part.now) (tree.block stmts.now)) < part.now.depth }
+    requires room { made.old.next + total (counts_in (opcodes_in part.now) (tree.block stmts.now)) < 2 ^ 32 }
     ensures { OnOk result (shown made.new
-        ≡ building_block (opcodes_of (definitions_of part.now.library.now) part.now.visible) (owned part.now.owner) (shown made.old) (tree.block stmts.now)) }
+        ≡ building_block (opcodes_in part.now) (owned part.now.owner) (shown made.old) (tree.block stmts.now)) }
 {
     for s in stmts {
         add_stmt(part, made, s)?;
@@ -274,9 +278,10 @@ pub fn add_block(part: &Part, made: &mut Made, stmts: &[OrcStmt]) -> Result<(), 
 // Adds arms.
 #[cycle(build)]
 fn add_arms(part: &Part, made: &mut MadeArms, list: &[Arm]) -> Result<(), OutOfMemory>
-    requires depth { total (counts_in_arms (opcodes_of (definitions_of part.now.library.now) part.now.visible) (tree.arms tree.no_stmt list.now)) < part.now.depth }
-    requires room { made.old.next + total (counts_in_arms (opcodes_of (definitions_of part.now.library.now) part.now.visible) (tree.arms tree.no_stmt list.now)) < 2 ^ 32 }
-    ensures { OnOk result (MakesArms (opcodes_of (definitions_of part.now.library.now) part.now.visible) (owned part.now.owner) made.old made.new list.now) }
+    requires depth { total (counts_in_arms (opcodes_in part.now) (tree.arms tree.no_stmt list.now)) < part.now.depth }
+    requires room { made.old.next
+        + total (counts_in_arms (opcodes_in part.now) (tree.arms tree.no_stmt list.now)) < 2 ^ 32 }
+    ensures { OnOk result (MakesArms (opcodes_in part.now) (owned part.now.owner) made.old made.new list.now) }
 {
     for a in list {
         add_arm(part, made, a)?;
@@ -287,9 +292,10 @@ fn add_arms(part: &Part, made: &mut MadeArms, list: &[Arm]) -> Result<(), OutOfM
 // Adds an arm.
 #[cycle(build)]
 fn add_arm(part: &Part, made: &mut MadeArms, a: &Arm) -> Result<(), OutOfMemory>
-    requires depth { total (counts_in (opcodes_of (definitions_of part.now.library.now) part.now.visible) (tree.block (out-Arm a.now).body.items)) < part.now.depth }
-    requires room { made.old.next + total (counts_in (opcodes_of (definitions_of part.now.library.now) part.now.visible) (tree.block (out-Arm a.now).body.items)) < 2 ^ 32 }
-    ensures { OnOk result (MakesArm (opcodes_of (definitions_of part.now.library.now) part.now.visible) (owned part.now.owner) made.old made.new
+    requires depth { total (counts_in (opcodes_in part.now) (tree.block (out-Arm a.now).body.items)) < part.now.depth }
+    requires room { made.old.next
+        + total (counts_in (opcodes_in part.now) (tree.block (out-Arm a.now).body.items)) < 2 ^ 32 }
+    ensures { OnOk result (MakesArm (opcodes_in part.now) (owned part.now.owner) made.old made.new
         (tree.expression (out-Arm a.now).cond) (tree.block (out-Arm a.now).body.items)) }
 {
     let mut inner = Made {

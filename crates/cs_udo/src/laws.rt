@@ -10,9 +10,9 @@ ghost use Rattle.cs_udo.specs.Expanded.{opcodes_before};
 ghost use Rattle.cs_udo.specs.Expanding.{expanding};
 ghost use Rattle.cs_udo.specs.Worked.{literal, statements, instrument_1, twice, one_call, calls_twice, twice_expanded, four, calls_four, four_expanded, count, calls_count, count_expanded, wrong_call, text_call, uncalled, called_outside};
 
-/// Expansions worked by hand: an opcode that doubles, called on its own result; one that calls it twice; one that counts, at two
-/// places; an orchestra without definitions, which stays; and calls that
-/// are refused: the number of arguments before their kind, in a definition that nobody calls too, and outside instruments.
+/// Expansions worked by hand: an opcode that doubles, called on its own result; one that calls it twice; one that
+/// counts, at two places; an orchestra without definitions, which stays; and calls that are refused: the number of
+/// arguments before their kind, in a definition that nobody calls too, and outside instruments.
 pub fn opcodes_worked_by_hand()
     ensures twice { expanding (instrument_1 (twice ∷ []) calls_twice) ≡ Ok (instrument_1 [] twice_expanded) }
     ensures nested { expanding (instrument_1 (twice ∷ four ∷ []) calls_four) ≡ Ok (instrument_1 [] four_expanded) }
@@ -32,7 +32,8 @@ pub fn opcodes_worked_by_hand()
 pub fn counts_worked_by_hand()
     // `k1 Twice p4`: an input, two assignments for its result, and one for the call.
     ensures call { counts_in (opcodes_before 9 (twice ∷ [])) (statements (one_call ∷ [])) ≡ (9, 4) ∷ [] }
-    // `k1 Four p4`: an input, three assignments for each of the two calls in it, two for its result, and three for the calls.
+    // `k1 Four p4`: an input, three assignments for each of the two calls in it, two for its result, and three for
+    // the calls.
     ensures nested { counts_in (opcodes_before 9 (twice ∷ four ∷ [])) (statements calls_four) ≡ (9, 12) ∷ [] }
     // An `if` counts one, and then the statements in it.
     ensures choice { counts_in (opcodes_before 9 (twice ∷ [])) (statements (choose 9 (arm (field 5) (statements (one_call ∷ []))

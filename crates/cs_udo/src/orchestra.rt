@@ -24,9 +24,11 @@ use std::alloc::Global;
 
 // The statements of an instrument, expanded.
 fn body_of(alloc: Global, library: &Library, i: &Instr) -> Result<Stmts, OutOfMemory>
-    requires { statements_hit (opcodes_before i.now.line (definitions_of library.now)) (tree.block i.now.body.items) ≡ None }
+    requires { statements_hit (opcodes_before i.now.line (definitions_of library.now))
+        (tree.block i.now.body.items) ≡ None }
     ensures { IfOk result (λ v. tree.block v.items
-        ≡ expanded_block (opcodes_before i.now.line (definitions_of library.now)) as_it_is 1 (tree.block i.now.body.items)) }
+        ≡ expanded_block (opcodes_before i.now.line (definitions_of library.now)) as_it_is 1
+        (tree.block i.now.body.items)) }
 {
     let part = Part {
         alloc,
@@ -45,8 +47,10 @@ fn body_of(alloc: Global, library: &Library, i: &Instr) -> Result<Stmts, OutOfMe
 
 // An instrument, expanded.
 fn instrument_of(alloc: Global, library: &Library, i: &Instr) -> Result<Instr, OutOfMemory>
-    requires { statements_hit (opcodes_before i.now.line (definitions_of library.now)) (tree.block i.now.body.items) ≡ None }
-    ensures { IfOk result (λ made. tree.instrument made ≡ expanded_instrument (definitions_of library.now) (tree.instrument i.now)) }
+    requires { statements_hit (opcodes_before i.now.line (definitions_of library.now))
+        (tree.block i.now.body.items) ≡ None }
+    ensures { IfOk result (λ made. tree.instrument made
+        ≡ expanded_instrument (definitions_of library.now) (tree.instrument i.now)) }
 {
     let numbers = i.numbers.to_items(alloc)?;
     let body = body_of(alloc, library, i)?;
@@ -99,17 +103,31 @@ fn expanded(alloc: Global, orc: &Orc) -> Result<Option<Vec<Instr>>, Or<Refusal>>
 {
     let definitions: &[Udo] = &orc.opcodes;
     let library = Library::new(alloc, definitions)?;
-    check(alloc, &library, orc)?;
-    if definitions.is_empty() {
-        return Ok(None);
-    }
-    Ok(Some(instruments_of(alloc, &library, &orc.instrs)?))
+    expanded_by(alloc, &library, orc)
 }
 
-/// An orchestra without definitions, in which each call of a defined opcode has become what the opcode does: or the first call
-/// that is refused, or, where none is, the first limit on instruments or statements that it passes, each at its line. The names of
-/// the definitions are different, as in each orchestra that is read. An orchestra that is refused takes no memory for its calls,
-/// and one that defines no opcode is returned as it is, without a copy.
+// The same by the definitions of the orchestra.
+fn expanded_by(
+    alloc: Global,
+    library: &Library,
+    orc: &Orc,
+) -> Result<Option<Vec<Instr>>, Or<Refusal>>
+    requires { definitions_of library.now ≡ (tree.orchestra orc.now).opcodes }
+    ensures made { IfOk result (λ found. expanding (tree.orchestra orc.now)
+        ≡ Ok (with_instruments (tree.orchestra orc.now) (option_map (λ v. map tree.instrument v.items) found))) }
+    ensures fault { (f : Refusal) → result ≡ Err (or.Fault f) → expanding (tree.orchestra orc.now) ≡ Err f }
+{
+    check(alloc, library, orc)?;
+    if library.definitions.is_empty() {
+        return Ok(None);
+    }
+    Ok(Some(instruments_of(alloc, library, &orc.instrs)?))
+}
+
+/// An orchestra without definitions, in which each call of a defined opcode has become what the opcode does: or the
+/// first call that is refused, or, where none is, the first limit on instruments or statements that it passes, each at
+/// its line. The names of the definitions are different, as in each orchestra that is read. An orchestra that is
+/// refused takes no memory for its calls, and one that defines no opcode is returned as it is, without a copy.
 pub fn expand(alloc: Global, orc: Orc) -> Result<Orc, Or<Refusal>>
     requires { AreDifferent (map (λ d. d.name) (tree.orchestra orc).opcodes) }
     ensures made { IfOk result (λ o. expanding (tree.orchestra orc) ≡ Ok (tree.orchestra o)) }

@@ -5,8 +5,8 @@ ghost use Rattle.cs_grammar.specs.Tree as tree;
 ghost use Rattle.cs_grammar.specs.declared.tree.Arm.{out-Arm};
 ghost use Rattle.cs_udo.specs.Refused.{has_text, broken_rule, at, call_faults, uppermost_of, faults, faults_in, faults_in_arms, faults_outside, faults_of_definitions, faults_of_instruments, first_fault};
 ghost use Rattle.cs_udo.specs.Expanded.{Opcodes, no_opcodes, defined, template};
-ghost use Rattle.cs_udo.specs.inner.Library.{definitions_of, opcodes_of};
-ghost use Rattle.cs_udo.specs.inner.Walks.{listed, after_faults};
+ghost use Rattle.cs_udo.specs.inner.Library.{definitions_of};
+ghost use Rattle.cs_udo.specs.inner.Walks.{opcodes_at, listed, after_faults};
 
 use crate::library::Library;
 use cs_base::{Name, OrcFault, OrcKind};
@@ -34,7 +34,8 @@ fn has_text(args: &[Arg]) -> bool
 
 // Whether there are as many results and arguments as a definition has.
 fn are_as_many(results: &[Name], args: &[Arg], definition: &Udo) -> bool
-    ensures { result ≡ (length results.now == length definition.now.outs && length args.now == length definition.now.names) }
+    ensures { result
+        ≡ (length results.now == length definition.now.outs && length args.now == length definition.now.names) }
 {
     results.len() == definition.outs.len() && args.len() == definition.names.len()
 }
@@ -47,7 +48,8 @@ fn is_misplaced(inside: bool, args: &[Arg]) -> bool
 }
 
 fn rule_of(as_many: bool, misplaced: bool) -> Option<OrcKind>
-    ensures { result ≡ (if not as_many then Some orc.ArgCount else (if misplaced then Some orc.RateMismatch else None)) }
+    ensures { result
+        ≡ (if not as_many then Some orc.ArgCount else (if misplaced then Some orc.RateMismatch else None)) }
 {
     if !as_many {
         Some(OrcKind::ArgCount)
@@ -61,7 +63,8 @@ fn rule_of(as_many: bool, misplaced: bool) -> Option<OrcKind>
 // The rule that a call of a definition breaks.
 fn broken_rule(inside: bool, results: &[Name], args: &[Arg], definition: &Udo) -> Option<OrcKind>
     ensures { (opcodes : Opcodes) → result
-        ≡ broken_rule inside results.now (map tree.argument args.now) (template opcodes (tree.definition definition.now)) }
+        ≡ broken_rule inside results.now (map tree.argument args.now)
+        (template opcodes (tree.definition definition.now)) }
 {
     rule_of(
         are_as_many(results, args, definition),
@@ -87,7 +90,7 @@ fn call_fault(
     args: &[Arg],
 ) -> Option<OrcFault>
     ensures { listed result ≡ call_faults site.now.inside line results.now (map tree.argument args.now)
-        (defined (opcodes_of (definitions_of site.now.library.now) site.now.visible) callee.now) }
+        (defined (opcodes_at site.now) callee.now) }
 {
     match site.library.find(site.visible, callee) {
         None => None,
@@ -114,7 +117,7 @@ fn uppermost(first: Option<OrcFault>, next: Option<OrcFault>) -> Option<OrcFault
 #[cycle(refuse)]
 fn after_stmt(first: Option<OrcFault>, site: &Site, s: &OrcStmt) -> Option<OrcFault>
     ensures { result ≡ after_faults first
-        (faults (opcodes_of (definitions_of site.now.library.now) site.now.visible) site.now.inside (tree.statement s.now)) }
+        (faults (opcodes_at site.now) site.now.inside (tree.statement s.now)) }
 {
     match &s.what {
         StmtWhat::Set(_, _) => first,
@@ -129,7 +132,7 @@ fn after_stmt(first: Option<OrcFault>, site: &Site, s: &OrcStmt) -> Option<OrcFa
 #[cycle(refuse)]
 fn after_block(first: Option<OrcFault>, site: &Site, stmts: &[OrcStmt]) -> Option<OrcFault>
     ensures { result ≡ after_faults first
-        (faults_in (opcodes_of (definitions_of site.now.library.now) site.now.visible) site.now.inside (tree.block stmts.now)) }
+        (faults_in (opcodes_at site.now) site.now.inside (tree.block stmts.now)) }
 {
     let mut known = first;
     for s in stmts {
@@ -141,9 +144,9 @@ fn after_block(first: Option<OrcFault>, site: &Site, stmts: &[OrcStmt]) -> Optio
 #[cycle(refuse)]
 fn after_arms(first: Option<OrcFault>, site: &Site, list: &[Arm]) -> Option<OrcFault>
     ensures { (els : tree.Block) → after_faults result
-        (faults_in (opcodes_of (definitions_of site.now.library.now) site.now.visible) site.now.inside els)
+        (faults_in (opcodes_at site.now) site.now.inside els)
         ≡ after_faults first
-        (faults_in_arms (opcodes_of (definitions_of site.now.library.now) site.now.visible) site.now.inside (tree.arms els list.now)) }
+        (faults_in_arms (opcodes_at site.now) site.now.inside (tree.arms els list.now)) }
 {
     let mut known = first;
     for a in list {
@@ -155,7 +158,7 @@ fn after_arms(first: Option<OrcFault>, site: &Site, list: &[Arm]) -> Option<OrcF
 #[cycle(refuse)]
 fn after_arm(first: Option<OrcFault>, site: &Site, a: &Arm) -> Option<OrcFault>
     ensures { result ≡ after_faults first
-        (faults_in (opcodes_of (definitions_of site.now.library.now) site.now.visible) site.now.inside (tree.block (out-Arm a.now).body.items)) }
+        (faults_in (opcodes_at site.now) site.now.inside (tree.block (out-Arm a.now).body.items)) }
 {
     after_block(first, site, &a.body)
 }
@@ -203,7 +206,8 @@ fn after_instruments(
     library: &Library,
     instrs: &[Instr],
 ) -> Option<OrcFault>
-    ensures { result ≡ after_faults first (faults_of_instruments (definitions_of library.now) (map tree.instrument instrs.now)) }
+    ensures { result
+        ≡ after_faults first (faults_of_instruments (definitions_of library.now) (map tree.instrument instrs.now)) }
 {
     let mut known = first;
     for i in instrs {

@@ -5,7 +5,7 @@ ghost use Rattle.cs_grammar.specs.Tree as tree;
 ghost use Rattle.cs_grammar.specs.declared.tree.Arm.{out-Arm};
 ghost use Rattle.cs_udo.specs.Counted.{size_of, call_count, counts, counts_in, counts_in_arms, hit, numbers_hit, statements_hit, limits};
 ghost use Rattle.cs_udo.specs.Expanded.{assignments, defined, template, opcodes_before};
-ghost use Rattle.cs_udo.specs.inner.Library.{definitions_of, opcodes_of};
+ghost use Rattle.cs_udo.specs.inner.Library.{definitions_of, opcodes_priced};
 ghost use Rattle.cs_udo.specs.inner.Tallies.{capped, after_count, after_counts, IsPriced, is_value, weight};
 
 use crate::library::Library;
@@ -15,7 +15,7 @@ use std::alloc::Global;
 
 /// What is counted so far.
 #[derive(Clone, Copy)]
-pub struct Tally {
+pub struct RunningCount {
     /// The sum, capped at `MOST_STATEMENTS + 1`, which means "too many".
     pub sum: u32,
     /// The line at which the sum passed `MOST_STATEMENTS`.
@@ -49,7 +49,7 @@ fn plus(a: u32, b: u32) -> u32
 }
 
 // What is counted after one more statement.
-fn add(before: Tally, line: u32, count: u32) -> Tally
+fn add(before: RunningCount, line: u32, count: u32) -> RunningCount
     ensures { result ≡ after_count before (line, count) }
 {
     let sum = plus(before.sum, count);
@@ -58,7 +58,7 @@ fn add(before: Tally, line: u32, count: u32) -> Tally
     } else {
         None
     };
-    Tally {
+    RunningCount {
         sum,
         passed: before.passed.or(passed),
     }
@@ -90,7 +90,7 @@ fn assigned(names: usize, args: &[Arg]) -> u32
 // What a call counts.
 fn price(prices: &Prices, results: &[Name], callee: &Callee, args: &[Arg]) -> u32
     ensures { (line : ℕ) → result ≡ capped (call_count line results.now callee.now (map tree.argument args.now)
-        (defined (opcodes_of (definitions_of prices.now.library.now) (length prices.now.costs.now)) callee.now)) }
+        (defined (opcodes_priced prices.now.library.now prices.now.costs.now) callee.now)) }
 {
     match prices.library.find(prices.costs.len(), callee) {
         None => 1,
@@ -104,9 +104,9 @@ fn price(prices: &Prices, results: &[Name], callee: &Callee, args: &[Arg]) -> u3
 }
 
 #[cycle(tally)]
-fn after_stmt(before: Tally, prices: &Prices, s: &OrcStmt) -> Tally
+fn after_stmt(before: RunningCount, prices: &Prices, s: &OrcStmt) -> RunningCount
     ensures { result ≡ after_counts before
-        (counts (opcodes_of (definitions_of prices.now.library.now) (length prices.now.costs.now)) (tree.statement s.now)) }
+        (counts (opcodes_priced prices.now.library.now prices.now.costs.now) (tree.statement s.now)) }
 {
     match &s.what {
         StmtWhat::Set(_, _) => add(before, s.line, 1),
@@ -124,9 +124,9 @@ fn after_stmt(before: Tally, prices: &Prices, s: &OrcStmt) -> Tally
 }
 
 #[cycle(tally)]
-fn after_block(before: Tally, prices: &Prices, stmts: &[OrcStmt]) -> Tally
+fn after_block(before: RunningCount, prices: &Prices, stmts: &[OrcStmt]) -> RunningCount
     ensures { result ≡ after_counts before
-        (counts_in (opcodes_of (definitions_of prices.now.library.now) (length prices.now.costs.now)) (tree.block stmts.now)) }
+        (counts_in (opcodes_priced prices.now.library.now prices.now.costs.now) (tree.block stmts.now)) }
 {
     let mut known = before;
     for s in stmts {
@@ -136,11 +136,11 @@ fn after_block(before: Tally, prices: &Prices, stmts: &[OrcStmt]) -> Tally
 }
 
 #[cycle(tally)]
-fn after_arms(before: Tally, prices: &Prices, list: &[Arm]) -> Tally
+fn after_arms(before: RunningCount, prices: &Prices, list: &[Arm]) -> RunningCount
     ensures { (els : tree.Block) → after_counts result
-        (counts_in (opcodes_of (definitions_of prices.now.library.now) (length prices.now.costs.now)) els)
+        (counts_in (opcodes_priced prices.now.library.now prices.now.costs.now) els)
         ≡ after_counts before
-        (counts_in_arms (opcodes_of (definitions_of prices.now.library.now) (length prices.now.costs.now)) (tree.arms els list.now)) }
+        (counts_in_arms (opcodes_priced prices.now.library.now prices.now.costs.now) (tree.arms els list.now)) }
 {
     let mut known = before;
     for a in list {
@@ -150,9 +150,9 @@ fn after_arms(before: Tally, prices: &Prices, list: &[Arm]) -> Tally
 }
 
 #[cycle(tally)]
-fn after_arm(before: Tally, prices: &Prices, a: &Arm) -> Tally
+fn after_arm(before: RunningCount, prices: &Prices, a: &Arm) -> RunningCount
     ensures { result ≡ after_counts before
-        (counts_in (opcodes_of (definitions_of prices.now.library.now) (length prices.now.costs.now)) (tree.block (out-Arm a.now).body.items)) }
+        (counts_in (opcodes_priced prices.now.library.now prices.now.costs.now) (tree.block (out-Arm a.now).body.items)) }
 {
     after_block(before, prices, &a.body)
 }
@@ -160,9 +160,9 @@ fn after_arm(before: Tally, prices: &Prices, a: &Arm) -> Tally
 // What a definition counts where it is called, beside its inputs and results.
 fn cost_of(prices: &Prices, definition: &Udo) -> u32
     ensures { result ≡ capped (weight (template
-        (opcodes_of (definitions_of prices.now.library.now) (length prices.now.costs.now)) (tree.definition definition.now))) }
+        (opcodes_priced prices.now.library.now prices.now.costs.now) (tree.definition definition.now))) }
 {
-    let none = Tally {
+    let none = RunningCount {
         sum: 0,
         passed: None,
     };
@@ -196,13 +196,14 @@ pub fn costs_of(alloc: Global, library: &Library) -> Result<Vec<u32>, OutOfMemor
 fn statements_hit(library: &Library, costs: &[u32], i: &Instr) -> Option<LimitHit>
     requires priced { IsPriced (definitions_of library.now) costs.now }
     requires all { length costs.now ≡ length (definitions_of library.now) }
-    ensures { result ≡ statements_hit (opcodes_before i.now.line (definitions_of library.now)) (tree.block i.now.body.items) }
+    ensures { result
+        ≡ statements_hit (opcodes_before i.now.line (definitions_of library.now)) (tree.block i.now.body.items) }
 {
     let prices = Prices {
         library,
         costs: &costs[..library.before(i.line)],
     };
-    let none = Tally {
+    let none = RunningCount {
         sum: 0,
         passed: None,
     };

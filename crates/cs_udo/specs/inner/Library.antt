@@ -1,5 +1,5 @@
 -- Definitions by their places.
-use Rattle.std.specs.Prelude.{ℕ, List, ◌≡◌, ◌<◌, map, take, slice_get, Option, Some, None}
+use Rattle.std.specs.Prelude.{ℕ, List, ◌≡◌, ◌<◌, length, map, take, slice_get, Option, Some, None}
 use Rattle.cs_grammar.specs.declared.tree.Callee.{Callee}
 use Rattle.cs_grammar.specs.Tree.{Definition, definition}
 use Rattle.cs_udo.specs.declared.library.Found.{Found}
@@ -14,7 +14,12 @@ definitions_of l = map definition l.definitions.now
 abbrev pub opcodes_of : List Definition → ℕ → Opcodes
 opcodes_of ds visible = defining_all no_opcodes (take visible ds)
 
--- what is called where the first `visible` definitions are seen: none of them, or one, which may call those in front of it
+-- those of a library that have a price
+abbrev pub opcodes_priced : Library → List ℕ → Opcodes
+opcodes_priced l costs = opcodes_of (definitions_of l) (length costs)
+
+-- what is called where the first `visible` definitions are seen: none of them, or one, which may call those in front
+-- of it
 abbrev pub IsFound : List Definition → ℕ → Callee → Option Found → Type 0
 IsFound ds visible c None = defined (opcodes_of ds visible) c ≡ None
 IsFound ds visible c (Some f) =

@@ -5,7 +5,7 @@ use Rattle.cs_base.specs.Limits.{most_statements}
 use Rattle.cs_grammar.specs.Tree.{Argument, value, text, Definition}
 use Rattle.cs_udo.specs.Counted.{size_of}
 use Rattle.cs_udo.specs.Expanded.{Template, template}
-use Rattle.cs_udo.specs.declared.tally.Tally.{Tally}
+use Rattle.cs_udo.specs.declared.tally.RunningCount.{RunningCount}
 use Rattle.cs_udo.specs.inner.Library.{opcodes_of}
 
 -- a number, or one more than may be where it is too much
@@ -22,10 +22,10 @@ abbrev pub passed_at : ℕ → ℕ × ℕ → Option ℕ
 passed_at sum count = if nat_lt most_statements (sum + count.1) then Some count.0 else None
 
 -- what is counted after one more
-abbrev pub after_count : Tally → ℕ × ℕ → Tally
+abbrev pub after_count : RunningCount → ℕ × ℕ → RunningCount
 after_count t count = record { sum = capped (t.sum + count.1); passed = option_or t.passed (passed_at t.sum count) }
 
-abbrev pub after_counts : Tally → List (ℕ × ℕ) → Tally
+abbrev pub after_counts : RunningCount → List (ℕ × ℕ) → RunningCount
 after_counts t [] = t
 after_counts t (count ∷ rest) = after_counts (after_count t count) rest
 

@@ -1,7 +1,14 @@
 -- Faults, one after the other.
 use Rattle.std.specs.Prelude.{List, [], ◌∷◌, Option, Some, None}
 use Rattle.cs_base.specs.declared.fault.OrcFault.{OrcFault}
+use Rattle.cs_udo.specs.Expanded.{Opcodes}
 use Rattle.cs_udo.specs.Refused.{uppermost_of}
+use Rattle.cs_udo.specs.declared.refuse.Site.{Site}
+use Rattle.cs_udo.specs.inner.Library.{definitions_of, opcodes_of}
+
+-- what is defined in front of the place of a call
+abbrev pub opcodes_at : Site → Opcodes
+opcodes_at s = opcodes_of (definitions_of s.library.now) s.visible
 
 abbrev pub listed : {A : Type 0} → Option A → List A
 listed None = []
