@@ -11,4 +11,3 @@ pub mod Unchanging
 pub mod Done
 pub mod Fresh
 pub mod Given
-pub mod Narrow

@@ -9,11 +9,12 @@
 //! How registers, units and channels lie in memory, which loop fills a row, in which order cells are read and written,
 //! and how a table is read, may be changed without anyone above noticing.
 //!
-//! Modules in reading order: `rows` (loops over the frames of a cycle), `pairs` (an operator and two operands over
-//! them), `registers`, `compute` (operators and functions over registers), `outputs` (the channels); `places` (areas
-//! and numbers), `area_rows` (an area at once), `zak`, `table` (stores), `live` (reading); `player` (a unit and its
-//! table), `gather` (a player on registers); `state` (what a note keeps, and what it plays in), `values` (numbers,
-//! p-fields, the header), `operate` (operators and functions), `output` (channels, a note's end).
+//! Modules in reading order: `rows` (loops over the frames of a cycle), `quotient` (by a value that is held), `pairs`
+//! (an operator and two operands over the frames), `registers`, `compute` (operators and functions over registers),
+//! `outputs` (the channels); `places` (areas and numbers), `area_rows` (an area at once), `zak`, `table` (stores),
+//! `live` (reading); `player` (a unit and its table), `gather` (a player on registers); `state` (what a note keeps,
+//! and what it plays in), `values` (numbers, p-fields, the header), `operate` (operators and functions), `output`
+//! (channels, a note's end).
 #![tactic(auto)]
 
 mod area_rows;
@@ -26,6 +27,7 @@ mod outputs;
 mod pairs;
 mod places;
 mod player;
+mod quotient;
 mod registers;
 mod rows;
 mod state;

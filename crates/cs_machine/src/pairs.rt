@@ -1,29 +1,30 @@
 // What an operator makes of two operands over the frames of a control cycle.
 //
-// Products are looked at before they are made: by the size of a held factor, or by one pass over the rows, which is
-// vector code. Where all of them fit into 64 bits, the loop that makes them is one of 64 bits and brings nothing into
-// range.
-ghost use Rattle.std.specs.Prelude.{◌≡◌, ◌<◌, ℕ, length, true, unsigned_abs};
-ghost use Rattle.cs_base.specs.Numbers.{floor_div, one, product_of};
+// Where a held factor is below one, products fit into 64 bits and nothing is brought into range. Otherwise one pass
+// multiplies the lower 32 bits of the factors, which is vector code, and joins the sizes of all factors. If these have
+// more than 32 bits, the loop of the definition makes the products anew.
+ghost use Rattle.std.specs.Prelude.{◌≡◌, ◌<◌, ◌≤◌, ◌^◌, ◌*ℤ◌, ℕ, length, true, unsigned_abs};
+ghost use Rattle.cs_base.specs.Numbers.{IsRaw, floor_div, one, product_of};
 ghost use Rattle.cs_ir.specs.Values.{negated};
 ghost use Rattle.cs_ir.specs.Waves.{both};
 ghost use Rattle.cs_machine.specs.Rows.{HasFrames};
-ghost use Rattle.cs_machine.specs.inner.Narrow.{AreNarrow, IsNarrow, size_of};
+ghost use Rattle.cs_machine.specs.inner.Narrow.{AreNarrow, IsNarrow, IsShort};
 ghost use Rattle.cs_signal.specs.Operands.{Lasts, operand_at};
 ghost use Rattle.cs_words.specs.declared.sign.BinOp.TheVariants as op;
 
+use crate::quotient::{divisor_of, quotient};
 use crate::rows::fill;
 use cs_base::Num;
 use cs_ir::combine;
-use cs_signal::Operand;
+use cs_signal::{Divisor, Operand};
 use cs_words::BinOp;
 
-/// Products of numbers of a smaller size fit into 64 bits.
-const FACTOR_BOUND: u64 = 2_147_483_648;
+/// Exclusive upper bound of the sizes of factors that have 32 bits.
+const SIZE_BOUND: u64 = 4_294_967_296;
 
 /// One of the two operands of a loop: a number that is held, or one a frame.
 trait Side {
-    ghost use Rattle.std.specs.Prelude.{ℕ, ℤ};
+    ghost use Rattle.std.specs.Prelude.{ℕ, ℤ, IfSome};
 
     /// What it is at each frame.
     ghost wave: { Self → ℕ → ℤ };
@@ -34,6 +35,10 @@ trait Side {
     /// Whether its size is below one at each frame; it may be so even where this is false.
     fn is_gain(&self) -> bool
         ensures { result ≡ true → (j : ℕ) → unsigned_abs (wave self.now j) < 65536 };
+
+    /// It as a divisor, where it is held and above 0.
+    fn divisor(&self) -> Option<Divisor>
+        ensures { IfSome result (λ d. (j : ℕ) → d.value ≡ wave self.now j) };
 
     fn at(&self, frame: usize) -> Num
         requires { (n : ℕ) × (lasts self.now n × (frame < n)) }
@@ -63,6 +68,11 @@ impl Side for Held {
     }
 
     #[inline(always)]
+    fn divisor(&self) -> Option<Divisor> {
+        divisor_of(self.value)
+    }
+
+    #[inline(always)]
     fn at(&self, frame: usize) -> Num {
         self.value
     }
@@ -79,6 +89,11 @@ impl Side for Row<'_> {
     #[inline(always)]
     fn is_gain(&self) -> bool {
         false
+    }
+
+    #[inline(always)]
+    fn divisor(&self) -> Option<Divisor> {
+        None
     }
 
     #[inline(always)]
@@ -129,7 +144,7 @@ fn by_operator<X: Side, Y: Side>(operator: BinOp, x: &X, y: &Y, out: &mut [Num])
         BinOp::Add => each(BinOp::Add, x, y, out),
         BinOp::Sub => each(BinOp::Sub, x, y, out),
         BinOp::Mul => multiply(x, y, out),
-        BinOp::Div => each(BinOp::Div, x, y, out),
+        BinOp::Div => divide(x, y, out),
         _ => each(operator, x, y, out),
     }
 }
@@ -146,6 +161,34 @@ fn each<X: Side, Y: Side>(operator: BinOp, x: &X, y: &Y, out: &mut [Num])
     }
 }
 
+/// The quotient of two operands.
+#[inline(always)]
+fn divide<X: Side, Y: Side>(x: &X, y: &Y, out: &mut [Num])
+    requires x { X.lasts x.now (length out.old) }
+    requires y { Y.lasts y.now (length out.old) }
+    ensures frames { HasFrames (both op.Div (X.wave x.now) (Y.wave y.now)) out.new }
+    ensures long { length out.new ≡ length out.old }
+{
+    match y.divisor() {
+        Some(divisor) => each_quotient(x, y, divisor, out),
+        None => each(BinOp::Div, x, y, out),
+    }
+}
+
+/// Quotients by a divisor that stays.
+#[inline(always)]
+fn each_quotient<X: Side, Y: Side>(x: &X, y: &Y, divisor: Divisor, out: &mut [Num])
+    requires x { X.lasts x.now (length out.old) }
+    requires y { Y.lasts y.now (length out.old) }
+    requires known { (j : ℕ) → divisor.value ≡ Y.wave y.now j }
+    ensures frames { HasFrames (both op.Div (X.wave x.now) (Y.wave y.now)) out.new }
+    ensures long { length out.new ≡ length out.old }
+{
+    for j in 0..out.len() {
+        out[j] = quotient(x.at(j), y.at(j), divisor);
+    }
+}
+
 /// The product of two operands.
 #[inline(always)]
 fn multiply<X: Side, Y: Side>(x: &X, y: &Y, out: &mut [Num])
@@ -154,11 +197,30 @@ fn multiply<X: Side, Y: Side>(x: &X, y: &Y, out: &mut [Num])
     ensures frames { HasFrames (both op.Mul (X.wave x.now) (Y.wave y.now)) out.new }
     ensures long { length out.new ≡ length out.old }
 {
-    if are_narrow(x, y, out.len()) {
+    if is_by_gain(x, y) {
         each_product(x, y, out);
-    } else {
+    } else if SIZE_BOUND <= each_low(x, y, out) {
         each(BinOp::Mul, x, y, out);
     }
+}
+
+/// Multiplies the lower 32 bits of both operands, and returns the sizes of all factors joined. If these are below 2^32,
+/// `out` has the products.
+#[inline(always)]
+fn each_low<X: Side, Y: Side>(x: &X, y: &Y, out: &mut [Num]) -> u64
+    requires x { X.lasts x.now (length out.old) }
+    requires y { Y.lasts y.now (length out.old) }
+    ensures frames { result < 4294967296 → HasFrames (both op.Mul (X.wave x.now) (Y.wave y.now)) out.new }
+    ensures long { length out.new ≡ length out.old }
+{
+    let mut sizes: u64 = 0;
+    for j in 0..out.len() {
+        let left = x.at(j);
+        let right = y.at(j);
+        sizes |= size(left, right);
+        out[j] = low_product(left, right);
+    }
+    sizes
 }
 
 /// Products that fit into 64 bits.
@@ -192,17 +254,6 @@ fn scaled(product: i64) -> Num
     Num::exact(product >> 16)
 }
 
-/// Whether the product of two operands fits into 64 bits at each of so many frames; it may be so even where this is
-/// false.
-#[inline(always)]
-fn are_narrow<X: Side, Y: Side>(x: &X, y: &Y, count: usize) -> bool
-    requires x { X.lasts x.now count }
-    requires y { Y.lasts y.now count }
-    ensures { result ≡ true → AreNarrow count (X.wave x.now) (Y.wave y.now) }
-{
-    is_by_gain(x, y) || are_small(x, y, count)
-}
-
 /// Whether a factor makes no number larger.
 #[inline(always)]
 fn is_by_gain<X: Side, Y: Side>(x: &X, y: &Y) -> bool
@@ -211,24 +262,43 @@ fn is_by_gain<X: Side, Y: Side>(x: &X, y: &Y) -> bool
     x.is_gain() || y.is_gain()
 }
 
-/// Whether the sizes of two operands tell it, by a look at each frame.
-#[inline(always)]
-fn are_small<X: Side, Y: Side>(x: &X, y: &Y, count: usize) -> bool
-    requires x { X.lasts x.now count }
-    requires y { Y.lasts y.now count }
-    ensures { result ≡ true → AreNarrow count (X.wave x.now) (Y.wave y.now) }
-{
-    let mut sizes: u64 = 0;
-    for j in 0..count {
-        sizes |= size(x.at(j), y.at(j));
-    }
-    sizes < FACTOR_BOUND
-}
-
-/// A number that neither factor is larger than.
+/// Below 2^32 only where both factors have 32 bits.
 #[inline(always)]
 fn size(x: Num, y: Num) -> u64
-    ensures { result ≡ size_of x y }
+    ensures { result < 4294967296 → (IsShort x × IsShort y) }
 {
-    x.raw().unsigned_abs() | y.raw().unsigned_abs()
+    lifted(x.raw()) | lifted(y.raw())
+}
+
+/// Below 2^32 only where the number has 32 bits.
+#[inline(always)]
+fn lifted(x: i64) -> u64
+    requires { IsRaw x }
+    ensures { result < 4294967296 → IsShort x }
+{
+    (x + 2_147_483_648).cast_unsigned()
+}
+
+/// The product of the lower 32 bits of two numbers, which is that of the numbers where these have 32 bits.
+#[inline(always)]
+fn low_product(x: Num, y: Num) -> Num
+    ensures { IsShort x → IsShort y → result ≡ product_of x y }
+{
+    scaled(low_times(x.raw(), y.raw()))
+}
+
+#[inline(always)]
+fn low_times(x: i64, y: i64) -> i64
+    ensures { IsShort x → IsShort y → result ≡ x *ℤ y }
+{
+    low(x) * low(y)
+}
+
+/// The lower 32 bits of a number, with their sign.
+#[inline(always)]
+fn low(x: i64) -> i64
+    ensures value { IsShort x → result ≡ x }
+    ensures small { unsigned_abs result ≤ 2 ^ 31 }
+{
+    x.wrapping_mul(4_294_967_296) >> 32
 }

@@ -1,5 +1,5 @@
 -- Products that fit into 64 bits.
-use Rattle.std.specs.Prelude.{ℕ, ℤ, ◌<◌, ◌^◌, ◌*ℤ◌, bit_or, unsigned_abs}
+use Rattle.std.specs.Prelude.{ℕ, ℤ, pos, neg_ℤ, ◌<◌, ◌^◌, ◌*ℤ◌, ◌≤ℤ◌, ◌<ℤ◌, unsigned_abs}
 use Rattle.cs_base.specs.Numbers.{IsRaw}
 use Rattle.cs_ir.specs.Waves.{Wave}
 
@@ -11,6 +11,6 @@ IsNarrow x y = IsRaw x → IsRaw y → unsigned_abs (x *ℤ y) < 2 ^ 63
 abbrev pub AreNarrow : ℕ → Wave → Wave → Type 0
 AreNarrow n w v = (j : ℕ) → j < n → IsNarrow (w j) (v j)
 
--- a number that neither factor is larger than
-abbrev pub size_of : ℤ → ℤ → ℕ
-size_of x y = bit_or (unsigned_abs x) (unsigned_abs y)
+-- numbers of 32 bits with their sign
+abbrev pub IsShort : ℤ → Type 0
+IsShort z = (neg_ℤ (pos (2 ^ 31)) ≤ℤ z) × (z <ℤ pos (2 ^ 31))
