@@ -9,7 +9,7 @@ ghost use Rattle.cs_words.specs.declared.catalogue.Opcode.{Opcode};
 use crate::shared::{load, save};
 use crate::store::{Storing, store_points};
 use crate::unit::run_unit;
-use crate::zak::{zak_clear, zak_get, zak_mix, zak_put};
+use crate::zak::{Within, zak_clear, zak_get, zak_mix, zak_put};
 use cs_cells::Bank;
 use cs_ir::{Act, Op, Reach, Reg};
 use cs_machine::{Setting, State};
@@ -59,10 +59,12 @@ fn zak<B: Bank>(
 {
     let from = op.from.as_slice();
     match signature_of(opcode).shape() {
-        Shape::ZakGet(space) => zak_get(state, at, space, reach, op.into, one(from), bank),
+        Shape::ZakGet(space) => {
+            zak_get(state, at, Within { space, reach }, op.into, one(from), bank);
+        }
         Shape::ZakPut(space) => {
             let (x, number) = two(from);
-            zak_put(state, at, space, reach, x, number, bank);
+            zak_put(state, at, Within { space, reach }, x, number, bank);
         }
         Shape::ZakMix => {
             let (x, number) = two(from);
@@ -70,7 +72,7 @@ fn zak<B: Bank>(
         }
         Shape::ZakClear(space) => {
             let (first, last) = two(from);
-            zak_clear(state, at, space, reach, first, last, bank);
+            zak_clear(state, at, Within { space, reach }, first, last, bank);
         }
         _ => unreachable!(),
     }

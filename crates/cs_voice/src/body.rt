@@ -13,7 +13,8 @@ use cs_cells::{Bank, Footprint};
 use cs_ir::Code;
 use cs_machine::{Setting, State};
 
-/// What a note performs, and what it has come to.
+/// What a note performs, and what it has come to: the number of its instrument, its age (how many notes were started
+/// before it), what it plays in, its footprint, the code that it runs in each control cycle, its p-fields from p1 on.
 #[derive(Drop)]
 pub(crate) struct Body<'p> {
     pub(crate) number: u32,

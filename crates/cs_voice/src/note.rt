@@ -9,6 +9,7 @@ ghost use Rattle.cs_voice.specs.Starts.{IsStarted, piece_at, sheet_at, started_a
 ghost use Rattle.cs_voice.specs.Tables.{CanAllBePlayed};
 
 use crate::begin::Refusal;
+use crate::body::Body;
 use crate::pass::pass;
 use crate::tables::Finds;
 use crate::{Stage, Voice};
@@ -84,7 +85,16 @@ pub fn start<'p, B: Bank>(
     }
     let number = instrument.number();
     let perf = instrument.perf();
-    let voice = Voice::of(alloc, number, age, stage, foot, perf, fields, state)?;
+    let parts = Body {
+        number,
+        age,
+        stage,
+        foot,
+        code: perf,
+        fields,
+        state,
+    };
+    let voice = Voice::of(alloc, parts)?;
     Ok(Started::Live(voice))
 }
 

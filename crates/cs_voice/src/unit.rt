@@ -16,6 +16,13 @@ use cs_cells::Bank;
 use cs_ir::{Reach, Reg};
 use cs_machine::{Player, Registers, State, block, step};
 
+/// How an op runs a unit: the register that its result comes to, and the tables within reach.
+#[derive(Clone, Copy)]
+struct Call {
+    into: Reg,
+    reach: Reach,
+}
+
 /// Runs the unit of a number for a cycle: the act `Unit`. Its result goes into a
 /// register, of which the rate says how many steps it makes: one a frame, or one for the whole cycle. Where there is no
 /// such unit, or its table is out of reach, the register becomes 0 and the unit stays as it is.
@@ -43,8 +50,7 @@ pub(crate) fn run_unit<B: Bank>(
         unit,
         &mut state.regs,
         &mut state.row,
-        reach,
-        into,
+        Call { into, reach },
         from,
         bank,
     );
@@ -55,27 +61,28 @@ fn run<B: Bank>(
     unit: &mut Option<Player<'_>>,
     regs: &mut Registers,
     row: &mut Vec<Num>,
-    reach: Reach,
-    into: Reg,
+    call: Call,
     from: &[Reg],
     bank: &mut B,
 )
-    requires into { has_register regs.old.counts into ≡ true }
+    requires into { has_register regs.old.counts call.into ≡ true }
     requires from { list_all (has_register regs.old.counts) from.now ≡ true }
     requires row { length row.old.items ≡ regs.old.ksmps }
     requires unit { (p : PlayerData) → unit.old ≡ Some p
-        → MayPlay (B.can_get (B.rest bank.old)) (length (B.cells bank.old)) reach from.now p }
-    ensures unit { unit.new ≡ unit_after regs.old.ksmps into.rate reach (map (values regs.old) from.now)
+        → MayPlay (B.can_get (B.rest bank.old)) (length (B.cells bank.old)) call.reach from.now p }
+    ensures unit { unit.new ≡ unit_after regs.old.ksmps call.into.rate call.reach
+        (map (values regs.old) from.now)
         (cell (B.cells bank.old)) unit.old }
-    ensures values { IsWritten regs.old into (unit_gives regs.old.ksmps into.rate reach (map (values regs.old) from.now)
+    ensures values { IsWritten regs.old call.into (unit_gives regs.old.ksmps call.into.rate call.reach
+        (map (values regs.old) from.now)
         (cell (B.cells bank.old)) unit.old) regs.new }
     ensures row { length row.new.items ≡ regs.old.ksmps }
     ensures same { B.cells bank.new ≡ B.cells bank.old }
     ensures rest { B.rest bank.new ≡ B.rest bank.old }
 {
     match unit {
-        Some(player) => run_within(player, regs, row, reach, into, from, bank),
-        None => regs.hold(into, Num::exact(0), row),
+        Some(player) => run_within(player, regs, row, call, from, bank),
+        None => regs.hold(call.into, Num::exact(0), row),
     }
 }
 
@@ -84,27 +91,28 @@ fn run_within<B: Bank>(
     player: &mut Player<'_>,
     regs: &mut Registers,
     row: &mut Vec<Num>,
-    reach: Reach,
-    into: Reg,
+    call: Call,
     from: &[Reg],
     bank: &mut B,
 )
-    requires into { has_register regs.old.counts into ≡ true }
+    requires into { has_register regs.old.counts call.into ≡ true }
     requires from { list_all (has_register regs.old.counts) from.now ≡ true }
     requires row { length row.old.items ≡ regs.old.ksmps }
-    requires unit { MayPlay (B.can_get (B.rest bank.old)) (length (B.cells bank.old)) reach from.now player.old }
-    ensures unit { Some player.new ≡ unit_after regs.old.ksmps into.rate reach (map (values regs.old) from.now)
+    requires unit { MayPlay (B.can_get (B.rest bank.old)) (length (B.cells bank.old)) call.reach from.now player.old }
+    ensures unit { Some player.new ≡ unit_after regs.old.ksmps call.into.rate call.reach
+        (map (values regs.old) from.now)
         (cell (B.cells bank.old)) (Some player.old) }
-    ensures values { IsWritten regs.old into (unit_gives regs.old.ksmps into.rate reach (map (values regs.old) from.now)
+    ensures values { IsWritten regs.old call.into (unit_gives regs.old.ksmps call.into.rate call.reach
+        (map (values regs.old) from.now)
         (cell (B.cells bank.old)) (Some player.old)) regs.new }
     ensures row { length row.new.items ≡ regs.old.ksmps }
     ensures same { B.cells bank.new ≡ B.cells bank.old }
     ensures rest { B.rest bank.new ≡ B.rest bank.old }
 {
-    if player.may_touch(reach) {
-        play(player, regs, row, into, from, bank);
+    if player.may_touch(call.reach) {
+        play(player, regs, row, call.into, from, bank);
     } else {
-        regs.hold(into, Num::exact(0), row);
+        regs.hold(call.into, Num::exact(0), row);
     }
 }
 

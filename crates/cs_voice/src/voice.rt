@@ -3,14 +3,11 @@ ghost use Rattle.std.specs.Prelude.{◌≡◌, length, IfOk, IfSome, IfNone};
 ghost use Rattle.cs_ir.specs.Waves.{silence};
 ghost use Rattle.cs_machine.specs.Outputs.{outs};
 ghost use Rattle.cs_machine.specs.Rows.{row_wave};
-ghost use Rattle.cs_voice.specs.Memory.{MakeVoice, voice_in};
+ghost use Rattle.cs_voice.specs.Memory.{MakeVoice, data_of};
 
 use crate::body::Body;
-use crate::stage::Stage;
 use cs_base::{Num, OutOfMemory};
 use cs_cells::{Bank, Footprint, Job};
-use cs_ir::Code;
-use cs_machine::State;
 use std::alloc::Global;
 use std::marker::Model;
 
@@ -34,36 +31,18 @@ impl<'p> Model for Voice<'p> {
 }
 
 impl<'p> Voice<'p> {
-    /// The voice of a note that has begun: the number of its instrument, its age (how many notes were started before
-    /// it), what it plays in, its footprint, the code that it runs in each control cycle, its p-fields from p1 on, and
-    /// what it has come to. `OutOfMemory` where there is none for it; then its parts are let go.
-    pub fn of(
-        alloc: Global,
-        number: u32,
-        age: u64,
-        stage: Stage<'p>,
-        foot: &'p Footprint,
-        code: &'p Code,
-        fields: Vec<Num>,
-        state: State<'p>,
-    ) -> Result<Voice<'p>, OutOfMemory>
-        requires { MakeVoice number age stage foot.now code.now fields.items state }
-        ensures { IfOk result (λ v. v ≡ voice_in number age stage.entry foot.now code.now fields.items state.entry) }
+    /// The voice of a note that has begun, of its parts. `OutOfMemory` where there is none for it; then its parts are
+    /// dropped.
+    pub(crate) fn of(alloc: Global, parts: Body<'p>) -> Result<Voice<'p>, OutOfMemory>
+        requires { MakeVoice parts.number parts.age parts.stage parts.foot.now parts.code.now parts.fields.items
+            parts.state }
+        ensures { IfOk result (λ v. v ≡ data_of parts.entry) }
     {
         // What registers and channels have is all that they are.
-        let _ = state.regs.counts();
-        let _ = state.outs.len();
-        let body = Body {
-            number,
-            age,
-            stage,
-            foot,
-            code,
-            fields,
-            state,
-        };
+        let _ = parts.state.regs.counts();
+        let _ = parts.state.outs.len();
         Ok(Voice {
-            body: Box::new(alloc, body)?,
+            body: Box::new(alloc, parts)?,
         })
     }
 

@@ -23,13 +23,19 @@ use cs_ir::{Reach, Reg, places_of, zak_place};
 use cs_machine::{Registers, Setting, State, clear_places, index, mix_row};
 use cs_words::Space;
 
+/// The zak places that an op may touch: those of a space that are within its reach.
+#[derive(Clone, Copy)]
+pub(crate) struct Within {
+    pub space: Space,
+    pub reach: Reach,
+}
+
 /// Reads the zak place that a value names, or 0 where there is none within reach: the act `Zak` of an opcode that reads
 /// one.
 pub(crate) fn zak_get<B: Bank>(
     state: &mut State<'_>,
     at: &Setting<'_>,
-    space: Space,
-    reach: Reach,
+    within: Within,
     into: Reg,
     number: Reg,
     bank: &mut B,
@@ -38,14 +44,15 @@ pub(crate) fn zak_get<B: Bank>(
     requires number { has_register state.old.regs.counts number ≡ true }
     requires room { HasRoom state.old }
     requires sized { AreSized at.now.layout.now state.old.regs.ksmps }
-    requires read { MayReach (B.can_get (B.rest bank.old)) (length (B.cells bank.old)) at.now space reach }
-    ensures does { (opcode : Opcode) → (row_of opcode).shape ≡ shape.ZakGet space → DoesOver at.now
-        (act.Zak opcode reach) into (number ∷ []) state.old
+    requires read { MayReach (B.can_get (B.rest bank.old)) (length (B.cells bank.old)) at.now within.space
+        within.reach }
+    ensures does { (opcode : Opcode) → (row_of opcode).shape ≡ shape.ZakGet within.space → DoesOver at.now
+        (act.Zak opcode within.reach) into (number ∷ []) state.old
         (cell (B.cells bank.old)) state.new (cell (B.cells bank.new)) }
     ensures same { B.cells bank.new ≡ B.cells bank.old }
     ensures rest { B.rest bank.new ≡ B.rest bank.old }
 {
-    match place(at, space, reach, state.regs.first(number)) {
+    match place(at, within.space, within.reach, state.regs.first(number)) {
         Some(res) => {
             let area = area_at(at, res);
             read(
@@ -66,8 +73,7 @@ pub(crate) fn zak_get<B: Bank>(
 pub(crate) fn zak_put<B: Bank>(
     state: &mut State<'_>,
     at: &Setting<'_>,
-    space: Space,
-    reach: Reach,
+    within: Within,
     x: Reg,
     number: Reg,
     bank: &mut B,
@@ -76,14 +82,15 @@ pub(crate) fn zak_put<B: Bank>(
     requires number { has_register state.old.regs.counts number ≡ true }
     requires room { HasRoom state.old }
     requires sized { AreSized at.now.layout.now state.old.regs.ksmps }
-    requires write { MayReach (B.can_set (B.rest bank.old)) (length (B.cells bank.old)) at.now space reach }
-    ensures does { (opcode : Opcode) (into : Reg) → (row_of opcode).shape ≡ shape.ZakPut space → DoesOver at.now
-        (act.Zak opcode reach) into (x ∷ number ∷ [])
+    requires write { MayReach (B.can_set (B.rest bank.old)) (length (B.cells bank.old)) at.now within.space
+        within.reach }
+    ensures does { (opcode : Opcode) (into : Reg) → (row_of opcode).shape ≡ shape.ZakPut within.space → DoesOver at.now
+        (act.Zak opcode within.reach) into (x ∷ number ∷ [])
         state.old (cell (B.cells bank.old)) state.new (cell (B.cells bank.new)) }
     ensures long { length (B.cells bank.new) ≡ length (B.cells bank.old) }
     ensures rest { B.rest bank.new ≡ B.rest bank.old }
 {
-    if let Some(res) = place(at, space, reach, state.regs.first(number)) {
+    if let Some(res) = place(at, within.space, within.reach, state.regs.first(number)) {
         let area = area_at(at, res);
         write(&state.regs, &mut state.row, x, res.rate(), area, bank);
     }
@@ -123,8 +130,7 @@ pub(crate) fn zak_mix<B: Bank>(
 pub(crate) fn zak_clear<B: Bank>(
     state: &mut State<'_>,
     at: &Setting<'_>,
-    space: Space,
-    reach: Reach,
+    within: Within,
     first: Reg,
     last: Reg,
     bank: &mut B,
@@ -133,9 +139,10 @@ pub(crate) fn zak_clear<B: Bank>(
     requires last { has_register state.old.regs.counts last ≡ true }
     requires spaces { AreSpaces at.now.layout.now }
     requires zak { spaces_of at.now.layout.now ≡ at.now.spaces }
-    requires write { MayReach (B.can_set (B.rest bank.old)) (length (B.cells bank.old)) at.now space reach }
-    ensures does { (opcode : Opcode) (into : Reg) → (row_of opcode).shape ≡ shape.ZakClear space → DoesOver at.now
-        (act.Zak opcode reach) into (first ∷ last ∷ [])
+    requires write { MayReach (B.can_set (B.rest bank.old)) (length (B.cells bank.old)) at.now within.space
+        within.reach }
+    ensures does { (opcode : Opcode) (into : Reg) → (row_of opcode).shape ≡ shape.ZakClear within.space
+        → DoesOver at.now (act.Zak opcode within.reach) into (first ∷ last ∷ [])
         state.old (cell (B.cells bank.old)) state.new (cell (B.cells bank.new)) }
     ensures long { length (B.cells bank.new) ≡ length (B.cells bank.old) }
     ensures rest { B.rest bank.new ≡ B.rest bank.old }
@@ -143,8 +150,8 @@ pub(crate) fn zak_clear<B: Bank>(
     clear_places(
         bank,
         at.layout,
-        space,
-        reach,
+        within.space,
+        within.reach,
         state.regs.first(first),
         state.regs.first(last),
     );
