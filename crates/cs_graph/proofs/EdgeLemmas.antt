@@ -86,8 +86,8 @@ module _ (edges : List (ℕ × ℕ)) (ordered : AllPairs ComesBefore edges) wher
       (x.0, subst (λ b. Edge edges f x.0 b) same at_)
 
 -- the range that is kept of a note's edges
-pub range_read : (edges : List (ℕ × ℕ)) (levels : List ℕ) (depth : ℕ) (into : List (ℕ × ℕ)) → AreEnds edges levels depth into
+pub range_read : (edges : List (ℕ × ℕ)) (levels : List ℕ) (into : List (ℕ × ℕ)) → AreEnds edges levels into
     → (t : ℕ) (x : ℕ × ℕ) → t < length levels → x ≡ get_or into t x → AreInto edges t x.0 x.1
-range_read edges levels depth into s t x within is =
+range_read edges levels into s t x within is =
     let low : t < length into = omega (arith, within, s.each) in
     subst (λ y. AreInto edges t y.0 y.1) (read_at into t x (0, 0) low is) (s.ranges t low)

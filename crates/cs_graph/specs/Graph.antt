@@ -39,11 +39,6 @@ pub record IsNextOut (edges : List (ℕ × ℕ)) (p i e : ℕ) : Type 0 where
   pub edge : (t : ℕ) × Edge edges e p t
   pub first : (f t : ℕ) → Edge edges f p t → i ≤ f → e ≤ f
 
--- the depth of a cycle is the greatest level of its notes, and 0 without notes
-pub record IsDepth (levels : List ℕ) (depth : ℕ) : Type 0 where
-  pub above : (t : ℕ) → slice_index levels t ≤ depth
-  pub reached : (depth ≡ 0) ⊎ ((t : ℕ) × (t < length levels) × (slice_index levels t ≡ depth))
-
 -- a way along one or more edges leads from note p to note t
 pub data Reaches (edges : List (ℕ × ℕ)) : ℕ → ℕ → Type 0 where
   step : (e p t : ℕ) → Edge edges e p t → Reaches edges p t

@@ -1,4 +1,5 @@
 pub mod Conflict
+pub mod Cover
 pub mod Examples
 pub mod Graph
 pub mod inner

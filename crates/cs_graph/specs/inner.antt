@@ -1,3 +1,4 @@
+pub mod Covering
 pub mod Growing
 pub mod Index
 pub mod Nearest

@@ -1,11 +1,13 @@
 // The graph of a control cycle's jobs.
 ghost use Rattle.cs_base.specs.Limits.{most_notes};
-ghost use Rattle.std.specs.Prelude.{◌≡◌, ◌*◌, ◌+◌, ◌-◌, ◌<◌, ◌≤◌, ◌^◌, ◌↔◌, ℕ, map, length, slice_index, IfOk, IfSome, IfNone};
+ghost use Rattle.std.specs.Prelude.{◌≡◌, ◌*◌, ◌+◌, ◌<◌, ◌≤◌, ◌↔◌, ℕ, List, map, length, slice_index, IfOk, IfSome, IfNone};
 ghost use Rattle.std.specs.List.{AllPairs};
-ghost use Rattle.cs_graph.specs.Graph.{IsGraphOf, IsFit, IsLevelled, IsDepth, Edge, ComesBefore, LeadsForward, StandTogether, IsNextOut, NoneOut, NoneIn};
+ghost use Rattle.cs_graph.specs.Graph.{IsGraphOf, IsFit, IsLevelled, Edge, ComesBefore, LeadsForward, StandTogether, IsNextOut, NoneOut, NoneIn};
+ghost use Rattle.cs_graph.specs.Cover.{HasCover, AreApart};
 ghost use Rattle.cs_graph.specs.inner.Index.{AreEnds};
 
 use crate::chains::chained;
+use crate::cover::count_chains;
 use crate::growing::{Growing, grow};
 use cs_base::OutOfMemory;
 use cs_cells::Job;
@@ -21,13 +23,14 @@ use std::ops::Range;
 pub struct Graph {
     edges: Vec<(u32, u32)>,
     levels: Vec<u32>,
-    depth: u32,
     /// For each note the first edge into it and the one behind the last.
     into: Vec<(u32, u32)>,
     /// For each note the first edge from it. The number of edges stands for none.
     first_out: Vec<u32>,
     /// For each edge the next one from the same note.
     next_out: Vec<u32>,
+    /// How many chains along edges cover the notes.
+    chains: u32,
 }
 
 impl Model for Graph {
@@ -38,7 +41,7 @@ impl Model for Graph {
 
     ghost view = { λ g. record { edges = g.edges.items; levels = g.levels.items } };
 
-    ghost invariant = { λ g. IsStored g.edges.items g.levels.items g.depth g.into.items g.first_out.items g.next_out.items };
+    ghost invariant = { λ g. IsStored g.edges.items g.levels.items g.into.items g.first_out.items g.next_out.items g.chains };
 }
 
 impl Graph {
@@ -57,25 +60,25 @@ impl Graph {
 
     /// The graph of what is known once all notes are taken in.
     fn link(alloc: Global, growing: Growing) -> Result<Graph, OutOfMemory>
-        requires ends { AreEnds growing.edges.items growing.levels.items growing.depth growing.into.items }
+        requires ends { AreEnds growing.edges.items growing.levels.items growing.into.items }
         ensures edges { IfOk result (λ graph. graph.edges ≡ growing.edges.items) }
         ensures levels { IfOk result (λ graph. graph.levels ≡ growing.levels.items) }
     {
         let Growing {
             edges,
             levels,
-            depth,
             into,
             ..
         } = growing;
+        let chains = count_chains(alloc, &edges, &into)?;
         let (first_out, next_out) = chained(alloc, &edges, levels.len() as u32)?;
         Ok(Graph {
             edges,
             levels,
-            depth,
             into,
             first_out,
             next_out,
+            chains,
         })
     }
 
@@ -95,20 +98,14 @@ impl Graph {
         self.levels[note as usize]
     }
 
-    /// The greatest level, 0 without notes.
-    pub fn depth(&self) -> u32
-        ensures { IsDepth self.now.levels result }
-    {
-        self.depth
-    }
-
-    /// How many workers can have a note to run at once, at most: as many as there are notes, less
-    /// the greatest level.
+    /// How many workers the cycle can use: as many chains along edges cover its notes, and no more of
+    /// them can ever run at once.
     pub fn useful_workers(&self) -> u32
-        ensures { (depth : ℕ) × IsDepth self.now.levels depth
-            × (result + depth ≡ length self.now.levels) }
+        ensures cover { HasCover self.now.edges (length self.now.levels) result }
+        ensures most { (notes : List ℕ) → AreApart self.now.edges (length self.now.levels) notes
+            → length notes ≤ result }
     {
-        self.len() - self.depth
+        self.chains
     }
 
     /// All edges, each from an earlier note to a later one, in the order of the later note and then

@@ -9,19 +9,16 @@ use crate::touched::{SharersByPlace, meet};
 use cs_base::OutOfMemory;
 use cs_cells::Job;
 use std::alloc::Global;
-use std::cmp::max;
 use std::collections::HashMap;
 
 /// What is known of the notes so far: who shares which place, who leads to whom, the edges, the
-/// level of each note and the greatest level, and for each note the first edge into it and the one
-/// behind the last.
+/// level of each note, and for each note the first edge into it and the one behind the last.
 #[derive(Drop)]
 pub struct Growing {
     pub by_place: SharersByPlace,
     pub known: Vec<Known>,
     pub edges: Vec<(u32, u32)>,
     pub levels: Vec<u32>,
-    pub depth: u32,
     pub into: Vec<(u32, u32)>,
 }
 
@@ -37,7 +34,6 @@ impl Growing {
         let first = self.edges.len() as u32;
         add_edges(&mut self.edges, &found.near, note)?;
         self.into.push((first, self.edges.len() as u32))?;
-        self.depth = max(self.depth, found.known.level);
         self.levels.push(found.known.level)?;
         self.known.push(found.known)?;
         Ok(())
@@ -54,7 +50,6 @@ pub fn grow<J: Job>(alloc: Global, jobs: &[J]) -> Result<Growing, OutOfMemory>
         known: Vec::new(alloc),
         edges: Vec::new(alloc),
         levels: Vec::new(alloc),
-        depth: 0,
         into: Vec::new(alloc),
     };
     for note in 0..jobs.len() as u32 {

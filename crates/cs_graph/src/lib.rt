@@ -9,10 +9,12 @@
 //! How conflicts are found, how farther ones are dropped and how edges are chained may change
 //! without anyone above noticing: now each place has the notes so far that touch it, as sets of
 //! bits, and each note the set of notes that lead to it. In reading order: `note_set`, `touched`,
-//! `nearest`, `draw`, `growing`, `chains`, `graph`; `examples` works a small cycle out.
+//! `nearest`, `draw`, `growing`, `chains`, `cover` (how many workers a cycle can use), `graph`;
+//! `examples` works a small cycle out.
 #![tactic(auto)]
 
 mod chains;
+mod cover;
 mod draw;
 mod examples;
 mod graph;

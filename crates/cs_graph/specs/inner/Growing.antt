@@ -4,7 +4,7 @@ use Rattle.std.specs.Prelude.{◌≡◌, ℕ, ◌+◌, ◌*◌, ◌<◌, ◌≤�
 use Rattle.std.specs.List.{All, AllPairs}
 use Rattle.cs_cells.specs.declared.footprint.Footprint.{Footprint}
 use Rattle.cs_graph.specs.Conflict.{Conflict, Leads, Near}
-use Rattle.cs_graph.specs.Graph.{Edge, ComesBefore, IsDepth}
+use Rattle.cs_graph.specs.Graph.{Edge, ComesBefore}
 use Rattle.cs_graph.specs.inner.Index.{HasEdge, AreInto, range_at}
 use Rattle.cs_graph.specs.inner.Nearest.{known_at, LeadsIn}
 use Rattle.cs_graph.specs.inner.Sets.{has}
@@ -42,8 +42,6 @@ pub record IsGrown (feet : List Footprint) (n : ℕ) (growing : Growing) : Type 
   pub known : IsKnown feet n growing.known.items
   pub levels : length growing.levels.items ≡ n
   pub level : (q : ℕ) → q < n → slice_index growing.levels.items q ≡ (known_at growing.known.items q).level
-  pub depth_is : IsDepth growing.levels.items growing.depth
-  pub low : growing.depth ≤ n
   pub into : length growing.into.items ≡ n
   pub ranges : (q : ℕ) → q < n → AreInto growing.edges.items q (range_at growing.into.items q).0 (range_at growing.into.items q).1
   pub ordered : AllPairs ComesBefore growing.edges.items

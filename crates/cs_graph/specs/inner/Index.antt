@@ -2,7 +2,8 @@
 use Rattle.cs_base.specs.Limits.{most_notes}
 use Rattle.std.specs.Prelude.{◌*◌, ◌≡◌, ℕ, ◌+◌, ◌<◌, ◌≤◌, ◌↔◌, List, length, slice_index, slice_index_or}
 use Rattle.std.specs.List.{AllPairs}
-use Rattle.cs_graph.specs.Graph.{Edge, ComesBefore, LeadsForward, IsNextOut, NoneOut, IsDepth}
+use Rattle.cs_graph.specs.Cover.{HasCover}
+use Rattle.cs_graph.specs.Graph.{Edge, ComesBefore, LeadsForward, IsNextOut, NoneOut}
 
 abbrev pub HasEdge : List (ℕ × ℕ) → ℕ → ℕ → Type 0
 HasEdge edges p t = (e : ℕ) × Edge edges e p t
@@ -14,14 +15,12 @@ AreInto edges t first end_ = (e : ℕ) → ((first ≤ e) × (e < end_)) ↔ ((p
 abbrev pub range_at : List (ℕ × ℕ) → ℕ → ℕ × ℕ
 range_at into t = slice_index_or into t (0, 0)
 
--- what is kept of the notes: the edges in order, the greatest level, and for each note the range of the edges into it
-pub record AreEnds (edges : List (ℕ × ℕ)) (levels : List ℕ) (depth : ℕ) (into : List (ℕ × ℕ)) : Type 0 where
+-- what is kept of the notes: the edges in order, and for each note the range of the edges into it
+pub record AreEnds (edges : List (ℕ × ℕ)) (levels : List ℕ) (into : List (ℕ × ℕ)) : Type 0 where
   pub forward : LeadsForward edges (length levels)
   pub ordered : AllPairs ComesBefore edges
   pub each : length into ≡ length levels
   pub ranges : (t : ℕ) → t < length into → AreInto edges t (range_at into t).0 (range_at into t).1
-  pub depth_is : IsDepth levels depth
-  pub low : depth ≤ length levels
   pub notes : length levels ≤ most_notes
   pub few : length edges ≤ most_notes * most_notes
 
@@ -37,7 +36,8 @@ pub record IsChained (edges : List (ℕ × ℕ)) (i : ℕ) (first_out next_out :
   pub next : (e p t : ℕ) → i ≤ e → Edge edges e p t → Points edges p (e + 1) (slice_index next_out e)
 
 -- what holds of the parts of every graph
-pub record IsStored (edges : List (ℕ × ℕ)) (levels : List ℕ) (depth : ℕ) (into : List (ℕ × ℕ)) (first_out next_out : List ℕ) : Type 0 where
-  pub ends : AreEnds edges levels depth into
+pub record IsStored (edges : List (ℕ × ℕ)) (levels : List ℕ) (into : List (ℕ × ℕ)) (first_out next_out : List ℕ) (chains : ℕ) : Type 0 where
+  pub ends : AreEnds edges levels into
   pub outs : length first_out ≡ length levels
   pub chained : IsChained edges 0 first_out next_out
+  pub covered : HasCover edges (length levels) chains

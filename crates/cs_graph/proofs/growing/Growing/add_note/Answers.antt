@@ -1,9 +1,7 @@
-use Rattle.std.proofs.Common.{◌≡◌, ◌∙◌, ◌<◌, ℕ, map, max, ap, length, length-append, ◌∷◌, [], subst, arith}
-use Rattle.std.proofs.lemmas.Grind.{common_steps}
+use Rattle.std.proofs.Common.{◌≡◌, ◌∙◌, ◌<◌, ℕ, map, ap, length, length-append, ◌∷◌, [], subst, arith}
 use Rattle.std.proofs.lemmas.List.{length-map}
 use Rattle.cs_graph.proofs.ConflictLemmas.{IsClosed-known, known_push, level_push, drawn_more}
 use Rattle.cs_graph.proofs.EdgeLemmas.{all_before, ranges_more}
-use Rattle.cs_graph.proofs.GrownLemmas.{depth_push}
 use Rattle.cs_graph.specs.inner.Growing.{AreDrawnTo}
 use Rattle.cs_graph.specs.inner.Nearest.{IsFound}
 use Rattle.cs_graph.proofs.growing.Growing.add_note.Goals as goal
@@ -35,14 +33,11 @@ returns g c =
     let first : c.len-first.result ≡ length old = omega (arith, c.len-first.ensures) in
     let last : c.len.result ≡ length edges = omega (arith, c.len.ensures) in
     let is : range ≡ (length old, length edges) = ap (λ n. (n, c.len.result)) first ∙ ap (λ n. (length old, n)) last in
-    let top : c.max-self.result ≡ max c.args.self.now.depth found.known.level = grind (arith, common_steps, c.max-self.ensures) in
     record {
       touched = c.in_ok-met.ensures.by_place;
       known = rw c.in_ok-push-3.ensures.items (known_push feet t within met known found c.in_ok-met.ensures.met r.known f);
       levels = rw c.in_ok-push-2.ensures.items (omega (arith, r.levels, length-append levels (found.known.level ∷ [])));
       level = rw (c.in_ok-push-2.ensures.items, c.in_ok-push-3.ensures.items) (level_push feet t within met known found c.in_ok-met.ensures.met r.known f levels r.levels r.level);
-      depth_is = rw (c.in_ok-push-2.ensures.items, top) (depth_push levels c.args.self.now.depth found.known.level r.depth_is);
-      low = omega (arith, top, r.low, f.low);
       into = rw c.in_ok-push.ensures.items (omega (arith, r.into, length-append into (range ∷ [])));
       ranges = rw c.in_ok-push.ensures.items (ranges_more old edges found.near t d (λ e a b h. (r.drawn.each a b (e, h)).0) into range r.into is r.ranges);
       ordered = d.ordered;
