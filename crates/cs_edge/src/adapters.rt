@@ -3,9 +3,13 @@
 ghost use Rattle.std.specs.Prelude.{None};
 
 use crate::{Failed, Shelf, Sink};
-use std::io::{Read, Write};
+use std::alloc::Global;
+use std::io::{BufWriter, Read, Write};
 use std::rt::Files;
 use std::{fs, io};
+
+/// Capacity in bytes of the buffer in front of a sound file.
+const FILE_ROOM: usize = 65536;
 
 /// Files of the system to read from; a part of the trusted edge. A file that can't be opened is a fault.
 #[derive(Drop)]
@@ -56,18 +60,24 @@ impl<'a, R: Files> Shelf for FileShelf<'a, R> {
     }
 }
 
-/// A file of the system to write to; a part of the trusted edge. A device that takes nothing is a fault.
+/// A file of the system to write to; a part of the trusted edge. The bytes go through a buffer, which is written when
+/// it is full, at the end, and when the sink is dropped. So a full disk may be told by a later call or by the end; what
+/// the file has is always a front of what was taken. A device that takes nothing is a fault, and so is a begin that is
+/// out of memory for the buffer.
 #[derive(Drop)]
 pub struct FileSink<'a, R: Files> {
     rt: &'a R,
-    file: Option<R::File>,
+    alloc: Global,
+    file: Option<BufWriter<R::File>>,
     faults: u64,
 }
 
 impl<'a, R: Files> FileSink<'a, R> {
-    pub fn new(rt: &'a R) -> FileSink<'a, R> {
+    /// No file is begun. It takes no memory, and keeps `alloc` for the buffer.
+    pub fn new(rt: &'a R, alloc: Global) -> FileSink<'a, R> {
         FileSink {
             rt,
+            alloc,
             file: None,
             faults: 0,
         }
@@ -79,16 +89,14 @@ impl<'a, R: Files> Sink for FileSink<'a, R> {
 
     fn begin(&mut self, name: &str) -> Result<(), Failed> {
         self.file = None;
-        match fs::create(self.rt, name) {
-            Ok(file) => {
+        if let Ok(file) = fs::create(self.rt, name) {
+            if let Ok(file) = BufWriter::with_capacity(self.alloc, FILE_ROOM, file) {
                 self.file = Some(file);
-                Ok(())
-            }
-            Err(_) => {
-                self.faults = self.faults.saturating_add(1);
-                Err(Failed)
+                return Ok(());
             }
         }
+        self.faults = self.faults.saturating_add(1);
+        Err(Failed)
     }
 
     fn write(&mut self, piece: &[u8]) -> Result<usize, Failed> {

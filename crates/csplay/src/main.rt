@@ -59,7 +59,7 @@ fn play<R: Files + Print + AllocGlobal + Threads + Wait + Sync>(
         rt.alloc(),
         words,
         &mut FileShelf::new(rt),
-        &mut FileSink::new(rt),
+        &mut FileSink::new(rt, rt.alloc()),
         &mut TalkOut::new(rt),
         taps,
         &OpenGate::new(),
