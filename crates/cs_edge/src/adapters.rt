@@ -2,6 +2,7 @@
 // error of the system as one, and tells nothing of what a file or a terminal holds.
 ghost use Rattle.std.specs.Prelude.{None};
 
+use crate::line_buffer::LineBuffer;
 use crate::{Failed, Shelf, Sink};
 use std::alloc::Global;
 use std::io::{BufWriter, Read, Write};
@@ -122,16 +123,23 @@ impl<'a, R: Files> Sink for FileSink<'a, R> {
     }
 }
 
-/// Standard output; a part of the trusted edge. A begin does nothing there, and an end neither.
+/// Standard output; a part of the trusted edge. A begin does nothing there. A line is written whole, by the call that
+/// takes its line feed; an end writes what has none.
 #[derive(Drop)]
 pub struct TalkOut<'a, P: Print> {
     rt: &'a P,
+    line: LineBuffer,
     faults: u64,
 }
 
 impl<'a, P: Print> TalkOut<'a, P> {
-    pub fn new(rt: &'a P) -> TalkOut<'a, P> {
-        TalkOut { rt, faults: 0 }
+    /// It takes no memory, and keeps `alloc` for the pieces of a line.
+    pub fn new(rt: &'a P, alloc: Global) -> TalkOut<'a, P> {
+        TalkOut {
+            rt,
+            line: LineBuffer::new(alloc),
+            faults: 0,
+        }
     }
 }
 
@@ -143,16 +151,18 @@ impl<'a, P: Print> Sink for TalkOut<'a, P> {
     }
 
     fn write(&mut self, piece: &[u8]) -> Result<usize, Failed> {
-        match io::writer(self.rt).write(piece) {
-            Ok(n) if n > 0 => Ok(n),
-            _ => {
-                self.faults = self.faults.saturating_add(1);
-                Err(Failed)
-            }
+        if self.line.put(&mut io::writer(self.rt), piece).is_ok() {
+            return Ok(piece.len());
         }
+        self.faults = self.faults.saturating_add(1);
+        Err(Failed)
     }
 
     fn end(&mut self) -> Result<(), Failed> {
-        Ok(())
+        if self.line.flush(&mut io::writer(self.rt)).is_ok() {
+            return Ok(());
+        }
+        self.faults = self.faults.saturating_add(1);
+        Err(Failed)
     }
 }
