@@ -1,4 +1,4 @@
-use Rattle.std.proofs.Common.{◌≡◌, ℕ, List, [], ◌∷◌, ◌++◌, Option, None, Some, refl, ap, subst, sym, ◌∙◌, append_assoc, append-nil, ◌+◌}
+use Rattle.std.proofs.Common.{◌≡◌, ℕ, List, [], ◌∷◌, ◌++◌, Option, None, Some, Result, Ok, Err, OnOk, refl, ap, subst, sym, ◌∙◌, append_assoc, append-nil, ◌+◌}
 use Rattle.std.proofs.lemmas.List.{replicate-append-replicate}
 use Rattle.cs_edge.specs.declared.moves.Move.{Move}
 use Rattle.cs_edge.specs.declared.moves.Move.TheVariants.{Begin}
@@ -70,3 +70,8 @@ front_all l = ([], sym (append-nil l))
 
 pub front_more : {A : Type 0} (front whole more : List A) → IsFront front whole → IsFront front (whole ++ more)
 front_more front whole more f = (f.0 ++ more, ap (λ (l : List _). l ++ more) f.1 ∙ append_assoc front f.0 more)
+
+-- what follows from what a call promises
+pub ok_then : {T E P Q : Type 0} (r : Result T E) → OnOk r P → (P → Q) → OnOk r Q
+ok_then (Ok x) p f = f p
+ok_then (Err e) p f = tt

@@ -1,3 +1,4 @@
+pub mod Buffered
 pub mod Chains
 pub mod Lines
 pub mod Lists

@@ -7,6 +7,10 @@ use Rattle.cs_edge.specs.Told.{IsFront}
 pub rest_whole : {A : Type 0} (at : ℕ) (l : List A) → take (length l - at) (drop at l) ≡ drop at l
 rest_whole at l = take_all (length l - at) (drop at l) (omega (arith, length-drop at l))
 
+-- the first items and what follows them are all of it
+pub parts_whole : {A : Type 0} (at : ℕ) (l : List A) → take at l ++ take (length l - at) (drop at l) ≡ l
+parts_whole at l = ap (λ (rest : List _). take at l ++ rest) (rest_whole at l) ∙ take-append-drop at l
+
 -- the first items, and then the first of what follows
 pub take_on : {A : Type 0} (at n : ℕ) (l : List A)
     → take at l ++ take n (take (length l - at) (drop at l)) ≡ take (at + n) l

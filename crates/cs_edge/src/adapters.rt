@@ -2,10 +2,15 @@
 // error of the system as one, and tells nothing of what a file or a terminal holds.
 ghost use Rattle.std.specs.Prelude.{None};
 
+use crate::line_buffer::LineBuffer;
 use crate::{Failed, Shelf, Sink};
-use std::io::{Read, Write};
+use std::alloc::Global;
+use std::io::{BufWriter, Read, Write};
 use std::rt::Files;
 use std::{fs, io};
+
+/// Capacity in bytes of the buffer in front of a sound file.
+const FILE_ROOM: usize = 65536;
 
 /// Files of the system to read from; a part of the trusted edge. A file that can't be opened is a fault.
 #[derive(Drop)]
@@ -56,18 +61,24 @@ impl<'a, R: Files> Shelf for FileShelf<'a, R> {
     }
 }
 
-/// A file of the system to write to; a part of the trusted edge. A device that takes nothing is a fault.
+/// A file of the system to write to; a part of the trusted edge. The bytes go through a buffer, which is written when
+/// it is full, at the end, and when the sink is dropped. So a full disk may be told by a later call or by the end; what
+/// the file has is always a front of what was taken. A device that takes nothing is a fault, and so is a begin that is
+/// out of memory for the buffer.
 #[derive(Drop)]
 pub struct FileSink<'a, R: Files> {
     rt: &'a R,
-    file: Option<R::File>,
+    alloc: Global,
+    file: Option<BufWriter<R::File>>,
     faults: u64,
 }
 
 impl<'a, R: Files> FileSink<'a, R> {
-    pub fn new(rt: &'a R) -> FileSink<'a, R> {
+    /// No file is begun. It takes no memory, and keeps `alloc` for the buffer.
+    pub fn new(rt: &'a R, alloc: Global) -> FileSink<'a, R> {
         FileSink {
             rt,
+            alloc,
             file: None,
             faults: 0,
         }
@@ -79,16 +90,14 @@ impl<'a, R: Files> Sink for FileSink<'a, R> {
 
     fn begin(&mut self, name: &str) -> Result<(), Failed> {
         self.file = None;
-        match fs::create(self.rt, name) {
-            Ok(file) => {
+        if let Ok(file) = fs::create(self.rt, name) {
+            if let Ok(file) = BufWriter::with_capacity(self.alloc, FILE_ROOM, file) {
                 self.file = Some(file);
-                Ok(())
-            }
-            Err(_) => {
-                self.faults = self.faults.saturating_add(1);
-                Err(Failed)
+                return Ok(());
             }
         }
+        self.faults = self.faults.saturating_add(1);
+        Err(Failed)
     }
 
     fn write(&mut self, piece: &[u8]) -> Result<usize, Failed> {
@@ -114,16 +123,23 @@ impl<'a, R: Files> Sink for FileSink<'a, R> {
     }
 }
 
-/// Standard output; a part of the trusted edge. A begin does nothing there, and an end neither.
+/// Standard output; a part of the trusted edge. A begin does nothing there. A line is written whole, by the call that
+/// takes its line feed; an end writes what has none.
 #[derive(Drop)]
 pub struct TalkOut<'a, P: Print> {
     rt: &'a P,
+    line: LineBuffer,
     faults: u64,
 }
 
 impl<'a, P: Print> TalkOut<'a, P> {
-    pub fn new(rt: &'a P) -> TalkOut<'a, P> {
-        TalkOut { rt, faults: 0 }
+    /// It takes no memory, and keeps `alloc` for the pieces of a line.
+    pub fn new(rt: &'a P, alloc: Global) -> TalkOut<'a, P> {
+        TalkOut {
+            rt,
+            line: LineBuffer::new(alloc),
+            faults: 0,
+        }
     }
 }
 
@@ -135,16 +151,18 @@ impl<'a, P: Print> Sink for TalkOut<'a, P> {
     }
 
     fn write(&mut self, piece: &[u8]) -> Result<usize, Failed> {
-        match io::writer(self.rt).write(piece) {
-            Ok(n) if n > 0 => Ok(n),
-            _ => {
-                self.faults = self.faults.saturating_add(1);
-                Err(Failed)
-            }
+        if self.line.put(&mut io::writer(self.rt), piece).is_ok() {
+            return Ok(piece.len());
         }
+        self.faults = self.faults.saturating_add(1);
+        Err(Failed)
     }
 
     fn end(&mut self) -> Result<(), Failed> {
-        Ok(())
+        if self.line.flush(&mut io::writer(self.rt)).is_ok() {
+            return Ok(());
+        }
+        self.faults = self.faults.saturating_add(1);
+        Err(Failed)
     }
 }

@@ -9,7 +9,8 @@
 //!
 //! In reading order: `moves` (the calls made on an object), `files`, `shelf`, `sink`, `writing` (all of a piece),
 //! `gate`, `tap`; the meter, `digits`, `page` (a line in a buffer), `peak`, `examples` (lines of meters, computed);
-//! `adapters`, the trusted edge; and apart from these `fakes`, the objects that serve tests alone.
+//! `line_buffer` (text that is written in whole lines), `adapters`, the trusted edge; and apart from these `fakes`,
+//! the objects that serve tests alone.
 #![tactic(auto)]
 
 mod adapters;
@@ -18,6 +19,7 @@ mod examples;
 mod fakes;
 mod files;
 mod gate;
+mod line_buffer;
 mod moves;
 mod page;
 mod peak;

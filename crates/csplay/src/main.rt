@@ -3,7 +3,7 @@
 #![tactic(auto)]
 
 use cs_desk::Tally;
-use cs_edge::{FileShelf, FileSink, OpenGate, PeakTap, TalkOut, Tap, write_all};
+use cs_edge::{Failed, FileShelf, FileSink, OpenGate, PeakTap, Sink, TalkOut, Tap, write_all};
 use cs_play::{Status, csplay};
 use std::alloc::AllocError;
 use std::process::ExitCode;
@@ -48,28 +48,38 @@ fn metered<R: Files + Print + AllocGlobal + Threads + Wait + Sync>(
     }
 }
 
-/// Calls `csplay` over the system's files and standard output.
+/// Calls `csplay` over the system's files and standard output, and writes what waits there for its line feed.
 fn play<R: Files + Print + AllocGlobal + Threads + Wait + Sync>(
     rt: &R,
     words: &[String],
     taps: &mut Vec<Box<dyn Tap>>,
 ) -> Status {
-    csplay(
+    let mut talk = TalkOut::new(rt, rt.alloc());
+    let status = csplay(
         rt,
         rt.alloc(),
         words,
         &mut FileShelf::new(rt),
-        &mut FileSink::new(rt),
-        &mut TalkOut::new(rt),
+        &mut FileSink::new(rt, rt.alloc()),
+        &mut talk,
         taps,
         &OpenGate::new(),
         &mut Tally::new(),
-    )
+    );
+    ended(status, talk.end())
+}
+
+/// The status of a run whose talk ended so: a report that isn't written to its end is a TalkFault.
+fn ended(status: Status, last: Result<(), Failed>) -> Status {
+    match (status, last) {
+        (Status::Ok, Err(_)) => Status::TalkFault,
+        _ => status,
+    }
 }
 
 /// Memory was refused before the call.
-fn starved<R: Print>(rt: &R) -> Status {
-    match write_all(&mut TalkOut::new(rt), b"out of memory\n") {
+fn starved<R: Print + AllocGlobal>(rt: &R) -> Status {
+    match write_all(&mut TalkOut::new(rt, rt.alloc()), b"out of memory\n") {
         Ok(()) | Err(_) => Status::OutOfMemory,
     }
 }

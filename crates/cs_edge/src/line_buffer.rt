@@ -1,0 +1,117 @@
+// A buffer in front of a writer, which gets whole lines.
+ghost use Rattle.std.specs.Prelude.{◌≡◌, ◌≢◌, ◌⊎◌, ◌<◌, ◌≤◌, ◌-◌, [], ◌++◌, All, length, drop, slice_index_or, OnOk, OnErr};
+ghost use Rattle.std.specs.Io.KnownBytes.{Appends, append_known};
+ghost use Rattle.cs_base.specs.Lines.{line_feed};
+
+use std::alloc::Global;
+use std::io;
+use std::io::Write;
+use std::marker::Model;
+
+/// The text that has not been written, since its line feed has not come yet.
+#[derive(Drop)]
+pub struct LineBuffer {
+    held: Vec<u8>,
+}
+
+impl Model for LineBuffer {
+    ghost use Rattle.std.specs.Prelude.{ℕ, List, All, ◌≢◌};
+    ghost use Rattle.cs_base.specs.Lines.{line_feed};
+
+    ghost Value = { List ℕ };
+
+    ghost view = { λ t. t.held.items };
+
+    // It has no line feed.
+    ghost invariant = { λ t. All (λ b. b ≢ line_feed) t.held.items };
+}
+
+impl LineBuffer {
+    /// An empty buffer. It takes no memory.
+    pub fn new(alloc: Global) -> LineBuffer
+        ensures { result ≡ [] }
+    {
+        LineBuffer {
+            held: Vec::new(alloc),
+        }
+    }
+
+    /// Takes a piece of text. Writes the buffer and the piece up to its last line feed, in one call of `write_all`, and
+    /// keeps the rest. Where memory is refused, writes what it would keep. Returns the first error of a write; the
+    /// buffer is empty then.
+    pub fn put<W: Write>(&mut self, out: &mut W, piece: &[u8]) -> io::Result<()>
+        // The writer's bytes with the buffer behind them have grown by the piece.
+        ensures taken { OnOk result (Appends (append_known (W.contents out.old) self.old)
+            (append_known (W.contents out.new) self.new) piece.now) }
+        ensures failed { OnErr result (self.new ≡ []) }
+    {
+        let end = lines_len(piece);
+        if end == 0 {
+            return add(out, &mut self.held, piece);
+        }
+        if let Err(error) = add_and_send(out, &mut self.held, &piece[..end]) {
+            return Err(error);
+        }
+        add(out, &mut self.held, &piece[end..])
+    }
+
+    /// Writes the buffer, and empties it, also where the write fails.
+    pub fn flush<W: Write>(&mut self, out: &mut W) -> io::Result<()>
+        ensures written { OnOk result (Appends (W.contents out.old) (W.contents out.new) self.old) }
+        ensures none { self.new ≡ [] }
+    {
+        send(out, &mut self.held)
+    }
+}
+
+/// Adds text to the buffer; where memory is refused, writes both.
+fn add<W: Write>(out: &mut W, held: &mut Vec<u8>, text: &[u8]) -> io::Result<()>
+    ensures taken { OnOk result (Appends (append_known (W.contents out.old) held.old.items)
+        (append_known (W.contents out.new) held.new.items) text.now) }
+    ensures kept { OnOk result ((held.new.items ≡ held.old.items ++ text.now) ⊎ (held.new.items ≡ [])) }
+    ensures failed { OnErr result (held.new.items ≡ []) }
+{
+    if held.extend_from_slice(text).is_ok() {
+        return Ok(());
+    }
+    send(out, held)?;
+    out.write_all(text)
+}
+
+/// Writes the buffer and text behind it, and empties it, also where a write fails.
+fn add_and_send<W: Write>(out: &mut W, held: &mut Vec<u8>, text: &[u8]) -> io::Result<()>
+    ensures written { OnOk result (Appends (append_known (W.contents out.old) held.old.items)
+        (W.contents out.new) text.now) }
+    ensures none { held.new.items ≡ [] }
+{
+    if let Err(error) = add(out, held, text) {
+        return Err(error);
+    }
+    send(out, held)
+}
+
+/// Writes the buffer, and empties it, also where the write fails.
+fn send<W: Write>(out: &mut W, held: &mut Vec<u8>) -> io::Result<()>
+    ensures written { OnOk result (Appends (W.contents out.old) (W.contents out.new) held.old.items) }
+    ensures none { held.new.items ≡ [] }
+{
+    let sent = out.write_all(held.as_slice());
+    held.clear();
+    sent
+}
+
+/// Returns the length of a text up to and including its last line feed; 0 if it has none.
+fn lines_len(text: &[u8]) -> usize
+    ensures within { result ≤ length text.now }
+    ensures feed { 0 < result → slice_index_or text.now (result - 1) 0 ≡ line_feed }
+    ensures rest { All (λ b. b ≢ line_feed) (drop result text.now) }
+{
+    let mut end = text.len();
+    while end > 0 {
+        if text[end - 1] == b'\n' {
+            return end;
+        }
+        end -= 1;
+    }
+    0
+}
