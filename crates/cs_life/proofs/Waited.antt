@@ -1,11 +1,11 @@
 -- Notes that wait are started one by one.
-use Rattle.std.proofs.Common.{◌≡◌, ◌≢◌, ℕ, ℤ, zero, suc, ◌+◌, ◌-◌, ◌<◌, ◌≤◌, ◌==◌, true, false, List, [], ◌∷◌, Some, None, if◌then◌else◌, refl, sym, ◌∙◌, ap, subst, arith}
+use Rattle.std.proofs.Common.{◌≡◌, ◌≢◌, ℕ, zero, suc, ◌+◌, ◌-◌, ◌<◌, ◌≤◌, ◌==◌, true, false, List, [], ◌∷◌, Some, None, cond, get_or, length, if◌then◌else◌, refl, sym, ◌∙◌, ap, subst, arith}
 use Rattle.std.proofs.lemmas.Bool.Decides.{nat_tests}
 use Rattle.cs_base.proofs.Tests.{by_test}
 use Rattle.cs_cells.specs.Cells.{Cells}
 use Rattle.cs_piece_meaning.specs.Moments.{Composition, Moment}
 use Rattle.cs_piece_meaning.specs.Starts.{first_started, start_in, start_of, taken, unless_none, waited}
-use Rattle.cs_sched.specs.Waiting.{IsTaken, Queue, waiting}
+use Rattle.cs_sched.specs.Waiting.{IsTaken, Queue, those_in, waiting}
 use Rattle.cs_sched.specs.declared.due.Due.{Due}
 use Rattle.cs_voice.specs.VoiceData.{VoiceData}
 use Rattle.cs_life.specs.Standing.{Stands}
@@ -42,6 +42,18 @@ taken_out c life q voices cells m now due is h = record {
   started = h.started;
   not_started = h.not_started;
 }
+
+-- the first of those that begin in a cycle begins in it
+first_of : (dues : List Due) (now : ℕ) (due : Due) (rest : List Due) → those_in dues now ≡ due ∷ rest → due.cycle ≡ now
+first_of [] now due rest e = let h : 0 ≡ suc (length rest) = ap length e in absurd (omega (arith, h))
+first_of (d ∷ dues) now due rest e =
+    by_test (d.cycle == now)
+    (λ yes. ap (λ (l : List Due). (get_or l 0 due).cycle)
+    (sym e ∙ ap (λ b. cond b (d ∷ those_in dues now) (those_in dues now)) yes) ∙ equal d.cycle now yes)
+    (λ no. first_of dues now due rest (sym (ap (λ b. cond b (d ∷ those_in dues now) (those_in dues now)) no) ∙ e))
+
+pub begins_now : (q p : Queue) (now : ℕ) (due : Due) → IsTaken now (waiting q) (Some due) (waiting p) → due.cycle ≡ now
+begins_now q p now due is = first_of q.dues now due ((waiting p).due now) is.first
 
 -- and it waited first
 pub first_due : (c : Composition) (life : Life) (q : Queue) (voices : List VoiceData) (cells : Cells) (m : Moment) (now : ℕ) (due : Due)
@@ -118,12 +130,3 @@ most_started all done c now life voices cells m h w =
     let none : all - done ≡ 0 = omega arith in
     let end : waited all c now m ≡ w.at = w.left ∙ ap (λ k. waited k c now w.at) none in
     subst (λ n. Stands c life voices cells n) (sym end) w.stands
-
--- a note that waited, with its number as a call passes it
-pub start_as : (c : Composition) (now : ℕ) (new : Life) (after : List VoiceData) (left : Cells) (due : Due) (number : ℤ) (fields : List ℤ) (m : Moment)
-    → number ≡ due.number → fields ≡ due.fields
-    → Stands c new after left (start_in c now (record { number = number; cycles = due.cycles; fields = fields }) m)
-    → Stands c new after left (start_in c now (start_of due) m)
-start_as c now new after left due number fields m n f h =
-    subst (λ z. Stands c new after left (start_in c now (record { number = z; cycles = due.cycles; fields = due.fields }) m)) n
-    (subst (λ xs. Stands c new after left (start_in c now (record { number = number; cycles = due.cycles; fields = xs }) m)) f h)

@@ -13,8 +13,10 @@ ghost use Rattle.cs_tempo.specs.declared.plot.Event.{Event};
 
 use crate::leaving::Leaving;
 use crate::life::Life;
-use cs_base::{MOST_ASKS, OutOfMemory};
+use crate::tables::GivenTable;
+use cs_base::{MOST_ASKS, Nums, OutOfMemory};
 use cs_cells::Bank;
+use cs_sched::Due;
 use cs_tempo::{Event, EventAct};
 use cs_voice::Voice;
 use std::alloc::Global;
@@ -118,22 +120,28 @@ impl<'t> Life<'t> {
                 fields,
             } => {
                 let fields = fields.as_slice().to_vec(alloc)?;
-                self.start_note(
-                    alloc,
-                    event.cycle,
-                    i64::from(*instr),
-                    *cycles,
-                    fields,
-                    voices,
-                    bank,
-                )
+                let note = Due {
+                    cycle: event.cycle,
+                    cycles: *cycles,
+                    number: i64::from(*instr),
+                    fields: Nums::from_vec(fields),
+                };
+                self.start_note(alloc, note, voices, bank)
             }
             EventAct::Table {
                 number,
                 size,
                 gen_,
                 args,
-            } => { self.make_table(alloc, *number, *size, *gen_, args.as_slice(), bank) }
+            } => {
+                let table = GivenTable {
+                    number: *number,
+                    size: *size,
+                    gen_: *gen_,
+                    args: args.as_slice(),
+                };
+                self.make_table(alloc, table, bank)
+            }
         }
     }
 
@@ -157,15 +165,7 @@ impl<'t> Life<'t> {
             let Some(due) = self.pending.next(cycle) else {
                 return Ok(());
             };
-            self.start_note(
-                alloc,
-                cycle,
-                due.number,
-                due.cycles,
-                due.fields.into_vec(),
-                voices,
-                bank,
-            )?;
+            self.start_note(alloc, due, voices, bank)?;
         }
         Ok(())
     }

@@ -5,7 +5,7 @@ ghost use Rattle.cs_base.specs.Limits.{most_notes};
 ghost use Rattle.cs_cells.specs.Areas.{word_count};
 ghost use Rattle.cs_cells.specs.Cells.{Cells};
 ghost use Rattle.cs_piece_meaning.specs.Moments.{Composition, Moment, clock_of};
-ghost use Rattle.cs_piece_meaning.specs.Starts.{Start, asked, begun, entered, has_room, in_vain, initialised, start_in};
+ghost use Rattle.cs_piece_meaning.specs.Starts.{Start, asked, begun, entered, has_room, in_vain, initialised, start_in, start_of};
 ghost use Rattle.cs_life.specs.Standing.{Stands};
 ghost use Rattle.cs_life.specs.inner.Starting.{IsBegun, Joined, Wait, all_wanted, count_after};
 ghost use Rattle.cs_meaning.specs.Core.{Block};
@@ -17,25 +17,22 @@ ghost use Rattle.cs_piece.specs.Setups.{composition_of};
 ghost use Rattle.cs_voice.specs.VoiceData.{VoiceData};
 
 use crate::life::Life;
-use cs_base::{Head, MOST_NOTES, Num, OutOfMemory};
-use cs_cells::{Bank, Footprint, Job};
-use cs_ir::{Ask, Instrument};
-use cs_sched::{Added, Pending};
+use cs_base::{MOST_NOTES, Num, OutOfMemory};
+use cs_cells::{Bank, Job};
+use cs_ir::Ask;
+use cs_piece::Playable;
+use cs_sched::{Added, Asking, Due, Pending};
 use cs_voice::{Started, Voice, start};
 use std::alloc::Global;
 
 impl<'t> Life<'t> {
-    /// A note of the instrument of this number starts in the cycle `now`, to last `cycles` cycles, with these
-    /// p-fields from p1 on. Where the instrument isn't there, where it would be one note too many, and where its
-    /// initialisation is refused, the start counts as one that started nothing. After want of memory nothing is
-    /// promised of the voices.
+    /// A note starts in its cycle. Where its instrument isn't there, where it would be one note too many, and where
+    /// its initialisation is refused, the start counts as one that started nothing. Where memory is refused, nothing
+    /// is promised of the voices.
     pub(crate) fn start_note<B: Bank>(
         &mut self,
         alloc: Global,
-        now: u32,
-        number: i64,
-        cycles: u32,
-        fields: Vec<Num>,
+        note: Due,
         voices: &mut Vec<Voice<'t>>,
         bank: &mut B,
     ) -> Result<(), OutOfMemory>
@@ -46,33 +43,23 @@ impl<'t> Life<'t> {
         ensures started { OnOk result ((m : Moment)
             → Stands (composition_of self.old.setup.now) self.old voices.old.items (B.cells bank.old) m
             → Stands (composition_of self.old.setup.now) self.new voices.new.items (B.cells bank.new)
-            (start_in (composition_of self.old.setup.now) now
-            (record { number = number; cycles = cycles; fields = fields.items }) m)) }
+            (start_in (composition_of self.old.setup.now) note.cycle (start_of note) m)) }
         ensures setup { self.new.setup.now ≡ self.old.setup.now }
         ensures long { length (B.cells bank.new) ≡ length (B.cells bank.old) }
         ensures rest { B.rest bank.new ≡ B.rest bank.old }
     {
         let setup = self.setup;
-        match setup.instrument(number) {
+        match setup.instrument(note.number) {
             None => {
                 self.start_nothing();
                 Ok(())
             }
             Some(playable) => {
-                if !has_room(cycles, voices.len()) {
+                if !has_room(note.cycles, voices.len()) {
                     self.start_nothing();
                     return Ok(());
                 }
-                self.begin(
-                    alloc,
-                    now,
-                    playable.instrument,
-                    playable.foot,
-                    cycles,
-                    fields,
-                    voices,
-                    bank,
-                )
+                self.begin(alloc, playable, note, voices, bank)
             }
         }
     }
@@ -91,36 +78,46 @@ impl<'t> Life<'t> {
     fn begin<B: Bank>(
         &mut self,
         alloc: Global,
-        now: u32,
-        instrument: &'t Instrument,
-        foot: &'t Footprint,
-        cycles: u32,
-        fields: Vec<Num>,
+        playable: Playable<'t>,
+        note: Due,
         voices: &mut Vec<Voice<'t>>,
         bank: &mut B,
     ) -> Result<(), OutOfMemory>
-        requires instrument { (body : Block) × IsInstrumentOf self.old.stage instrument.now foot.now body }
+        requires instrument { (body : Block)
+            × IsInstrumentOf self.old.stage playable.instrument.now playable.foot.now body }
         requires stands { (m : Moment) × Stands (composition_of self.old.setup.now) self.old voices.old.items
             (B.cells bank.old) m }
         requires get { (a : ℕ) → a < word_count self.old.setup.now.layout → B.can_get (B.rest bank.old) a }
         requires set { (a : ℕ) → a < word_count self.old.setup.now.layout → B.can_set (B.rest bank.old) a }
-        ensures begun { let s : Start = record { number = pos instrument.now.number; cycles = cycles; fields = fields.items } in
+        ensures begun { let s : Start = record {
+          number = pos playable.entry.instrument.now.number;
+          cycles = note.cycles;
+          fields = note.fields;
+        } in
             let c : Composition = composition_of self.old.setup.now in
-            OnOk result ((body : Block) (m : Moment) → IsInstrumentOf self.old.stage instrument.now foot.now body
+            OnOk result ((body : Block) (m : Moment)
+            → IsInstrumentOf self.old.stage playable.entry.instrument.now playable.entry.foot.now body
             → has_room s m ≡ true
             → Stands c self.old voices.old.items (B.cells bank.old) m
             → Stands c self.new voices.new.items (B.cells bank.new)
-            (initialised c now s body (begun c m.made s body m) m)) }
+            (initialised c note.cycle s body (begun c m.made s body m) m)) }
         ensures setup { self.new.setup.now ≡ self.old.setup.now }
         ensures long { length (B.cells bank.new) ≡ length (B.cells bank.old) }
         ensures rest { B.rest bank.new ≡ B.rest bank.old }
     {
+        let Due {
+            cycle,
+            cycles,
+            number: _,
+            fields,
+        } = note;
+        let fields = fields.into_vec();
         let time = time_of(&fields);
         let mut asks = Vec::new(alloc);
         let begun = start(
             alloc,
-            instrument,
-            foot,
+            playable.instrument,
+            playable.foot,
             self.stage,
             &self.made,
             fields,
@@ -128,18 +125,14 @@ impl<'t> Life<'t> {
             &mut asks,
             bank,
         )?;
-        let total = self.setup.plot().cycles;
-        ask_all(
-            alloc,
-            asks,
-            now,
+        let at = Asking {
+            cycle,
             time,
-            self.stage.head,
-            total,
-            &mut self.pending,
-            &mut self.not_started,
-        )?;
-        self.enter(begun, now, cycles, voices)
+            head: *self.stage.head,
+            total: self.setup.plot().cycles,
+        };
+        ask_all(alloc, asks, &at, &mut self.pending, &mut self.not_started)?;
+        self.enter(begun, cycle, cycles, voices)
     }
 
     /// A note that was initialised takes its place, where it lasts any cycle, or has started nothing, where it was
@@ -189,24 +182,20 @@ fn time_of(fields: &[Num]) -> Num
     }
 }
 
-/// What a note with the p2 `time` asks for in the cycle `now` waits, in a piece of `total` cycles; what isn't kept
-/// counts as starts that started nothing.
+/// The notes that a note asks for wait; each that isn't kept counts as a start that started nothing.
 fn ask_all(
     alloc: Global,
     asks: Vec<Ask>,
-    now: u32,
-    time: Num,
-    head: &Head,
-    total: u32,
+    at: &Asking,
     pending: &mut Pending,
     not_started: &mut u64,
 ) -> Result<(), OutOfMemory>
-    ensures { OnOk result ((c : Composition) (m : Moment) → clock_of c ≡ times.clock_of head.now total
+    ensures { OnOk result ((c : Composition) (m : Moment) → clock_of c ≡ times.clock_of at.now.head at.now.total
         → Wait pending.old not_started.old m
-        → Wait pending.new not_started.new (all_wanted c now time asks.items m)) }
+        → Wait pending.new not_started.new (all_wanted c at.now.cycle at.now.time asks.items m)) }
 {
     for ask in asks {
-        ask_one(alloc, ask, now, time, head, total, pending, not_started)?;
+        ask_one(alloc, ask, at, pending, not_started)?;
     }
     Ok(())
 }
@@ -214,18 +203,15 @@ fn ask_all(
 fn ask_one(
     alloc: Global,
     ask: Ask,
-    now: u32,
-    time: Num,
-    head: &Head,
-    total: u32,
+    at: &Asking,
     pending: &mut Pending,
     not_started: &mut u64,
 ) -> Result<(), OutOfMemory>
-    ensures { OnOk result ((c : Composition) (m : Moment) → clock_of c ≡ times.clock_of head.now total
+    ensures { OnOk result ((c : Composition) (m : Moment) → clock_of c ≡ times.clock_of at.now.head at.now.total
         → Wait pending.old not_started.old m
-        → Wait pending.new not_started.new (asked c now time ask m)) }
+        → Wait pending.new not_started.new (asked c at.now.cycle at.now.time ask m)) }
 {
-    let answer = pending.add(alloc, ask, now, time, head, total)?;
+    let answer = pending.add(alloc, ask, *at)?;
     *not_started = count_after(answer, *not_started);
     Ok(())
 }

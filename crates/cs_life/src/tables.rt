@@ -24,34 +24,42 @@ use cs_machine::{area_of, write_row};
 use cs_voice::TableAt;
 use std::alloc::Global;
 
+/// A table as an event of the score gives it.
+#[derive(Clone, Copy)]
+pub(crate) struct GivenTable<'a> {
+    pub number: u32,
+    pub size: i64,
+    pub gen_: i64,
+    pub args: &'a [Num],
+}
+
 impl<'t> Life<'t> {
     /// Makes a table: each of its number has been made from now on, and where the points of the first are cells, they
     /// are its points.
     pub(crate) fn make_table<B: Bank>(
         &mut self,
         alloc: Global,
-        number: u32,
-        size: i64,
-        gen_: i64,
-        args: &[Num],
+        table: GivenTable<'_>,
         bank: &mut B,
     ) -> Result<(), OutOfMemory>
         requires stands { (voices : List VoiceData) × (m : Moment)
             × Stands (composition_of self.old.setup.now) self.old voices (B.cells bank.old) m }
         requires set { (a : ℕ) → a < word_count self.old.setup.now.layout → B.can_set (B.rest bank.old) a }
-        requires table { CanBeMade (composition_of self.old.setup.now) number size gen_ args.now }
+        requires table { CanBeMade (composition_of self.old.setup.now) table.number table.size table.gen_
+            table.args.now }
         ensures made { OnOk result ((voices : List VoiceData) (m : Moment)
             → Stands (composition_of self.old.setup.now) self.old voices (B.cells bank.old) m
             → Stands (composition_of self.old.setup.now) self.new voices (B.cells bank.new)
-            (made_table (composition_of self.old.setup.now) number (points_of size gen_ args.now) m)) }
+            (made_table (composition_of self.old.setup.now) table.entry.number
+            (points_of table.entry.size table.entry.gen_ table.entry.args.now) m)) }
         ensures setup { self.new.setup.now ≡ self.old.setup.now }
         ensures long { length (B.cells bank.new) ≡ length (B.cells bank.old) }
         ensures rest { B.rest bank.new ≡ B.rest bank.old }
     {
-        let number = number as usize;
+        let number = table.number as usize;
         mark(self.stage.tables, number, &mut self.made);
         if has_cells(self.stage.tables, number) {
-            let points = points_of(alloc, size, gen_, args)?;
+            let points = points_of(alloc, table)?;
             put(self.stage.layout, number, points.as_slice(), bank);
         }
         Ok(())
@@ -84,12 +92,12 @@ fn has_cells(tables: &[TableAt<'_>], number: usize) -> bool
 }
 
 /// The points of a table that has no fault.
-fn points_of(alloc: Global, size: i64, gen_: i64, args: &[Num]) -> Result<Points, OutOfMemory>
-    requires { table_fault size gen_ args.now ≡ None }
-    ensures points { IfOk result (λ p. p ≡ points_of size gen_ args.now) }
-    ensures long { IfOk result (λ p. pos (length p) ≡ size) }
+fn points_of(alloc: Global, table: GivenTable<'_>) -> Result<Points, OutOfMemory>
+    requires { table_fault table.size table.gen_ table.args.now ≡ None }
+    ensures points { IfOk result (λ p. p ≡ points_of table.entry.size table.entry.gen_ table.entry.args.now) }
+    ensures long { IfOk result (λ p. pos (length p) ≡ table.entry.size) }
 {
-    match make_table(alloc, size, gen_, args) {
+    match make_table(alloc, table.size, table.gen_, table.args) {
         Ok(points) => Ok(points),
         Err(Or::Fault(_)) => unreachable!(),
         Err(Or::OutOfMemory) => Err(OutOfMemory),

@@ -7,7 +7,7 @@ use cs_ir::Ask;
 use cs_tempo::cycle_of;
 use std::alloc::Global;
 
-/// A note that waits.
+/// A note that is to start.
 #[derive(Drop)]
 pub struct Due {
     /// The control cycle in which it begins, from the start of the piece.

@@ -12,4 +12,4 @@ mod due;
 mod pending;
 
 pub use due::Due;
-pub use pending::{Added, Pending};
+pub use pending::{Added, Asking, Pending};

@@ -12,6 +12,19 @@ use std::alloc::Global;
 use std::collections::VecDeque;
 use std::marker::Model;
 
+/// When a note asks for another, and in which piece.
+#[derive(Clone, Copy)]
+pub struct Asking {
+    /// The control cycle, from the start of the piece.
+    pub cycle: u32,
+    /// The p2 of the note that asks, in seconds.
+    pub time: Num,
+    /// The header of the orchestra.
+    pub head: Head,
+    /// The number of control cycles of the piece.
+    pub total: u32,
+}
+
 /// What became of a note that was asked for.
 #[derive(Clone, Copy)]
 pub enum Added {
@@ -53,36 +66,30 @@ impl Pending {
         }
     }
 
-    /// A note with the p2 `time` asks in cycle `now` for another, in a piece of `total` cycles. The result is the
-    /// first that applies of `Negative`, `TooMany` (past 100,000 in all), `PastEnd` and `Kept`.
-    pub fn add(
-        &mut self,
-        alloc: Global,
-        ask: Ask,
-        now: u32,
-        time: Num,
-        head: &Head,
-        total: u32,
-    ) -> Result<Added, OutOfMemory>
-        ensures answer { IfOk result (λ a. a ≡ answer_to (clock_of head.now total) now ask self.old.kept) }
-        ensures waits { IfOk result (λ a. waiting self.new ≡ with_answer a (due_of (clock_of head.now total) now time ask) (waiting self.old)) }
+    /// Keeps the note that a note asks for, unless an answer of these applies before `Kept`: `Negative`, `TooMany`
+    /// (past 100,000 in all), `PastEnd`. The result is the first that applies. Where memory is refused, nothing has
+    /// changed.
+    pub fn add(&mut self, alloc: Global, ask: Ask, at: Asking) -> Result<Added, OutOfMemory>
+        ensures answer { IfOk result (λ a. a ≡ answer_to (clock_of at.head at.total) at.cycle ask self.old.kept) }
+        ensures waits { IfOk result (λ a. waiting self.new
+            ≡ with_answer a (due_of (clock_of at.head at.total) at.cycle at.time ask) (waiting self.old)) }
         ensures same { OnErr result (self.new ≡ self.old) }
     {
-        let begins = begins_in(head, now, &ask);
+        let begins = begins_in(&at.head, at.cycle, &ask);
         if ask.dur.raw() < 0 {
             return Ok(Added::Negative);
         }
         if self.kept >= MOST_ASKS {
             return Ok(Added::TooMany);
         }
-        if begins >= u128::from(total) {
+        if begins >= u128::from(at.total) {
             return Ok(Added::PastEnd);
         }
         let due = Due {
             cycle: begins as u32,
-            cycles: lasts(head, now, total, &ask),
+            cycles: lasts(&at.head, at.cycle, at.total, &ask),
             number: ask.number,
-            fields: fields_of(alloc, time, &ask)?,
+            fields: fields_of(alloc, at.time, &ask)?,
         };
         self.keep(due)?;
         Ok(Added::Kept)

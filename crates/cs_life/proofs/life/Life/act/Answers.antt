@@ -21,10 +21,10 @@ make_table-requires g c =
 
 pub returns-in_ok-fields-in-Start-clause-done : goal.returns-in_ok-fields-in-Start-clause-done
 returns-in_ok-fields-in-Start-clause-done g c =
-    let same : c.in_ok-fields-in-Start.fields.items ≡ c.in-Start.fields = search rules in
+    let same : c.from_vec.result ≡ c.in-Start.fields = search rules in
     let number : to_z w64 (of_z w64 c.from.result) ≡ pos c.in-Start.instr = search rules in
     on_ok_weaker c.start_note.result
     (λ started. note_done c.args.self.now c.start_note.new.self c.args.voices.now.items c.start_note.new.voices.items (g.B.Bank.cells c.args.bank.now)
     (g.B.Bank.cells c.start_note.new.bank) c.args.event.now.cycle c.in-Start.instr c.in-Start.cycles (to_z w64 (of_z w64 c.from.result))
-    c.in_ok-fields-in-Start.fields.items c.in-Start.fields c.args.event.now.act c.in-Start.is number same started)
+    c.from_vec.result c.in-Start.fields c.args.event.now.act c.in-Start.is number same started)
     c.start_note.ensures.started

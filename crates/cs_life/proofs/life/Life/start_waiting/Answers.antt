@@ -1,4 +1,4 @@
-use Rattle.std.proofs.Common.{◌≡◌, refl, rules, to_z, of_z, w64, subst, ◌∙◌}
+use Rattle.std.proofs.Common.{◌≡◌, refl, subst, ◌∙◌}
 use Rattle.cs_base.specs.Limits.{most_asks}
 use Rattle.cs_piece_meaning.specs.Moments.{Moment}
 use Rattle.cs_piece_meaning.specs.Starts.{start_in, start_of, taken}
@@ -6,7 +6,7 @@ use Rattle.cs_sched.specs.Waiting.{waiting}
 use Rattle.cs_piece.specs.Setups.{SetupData, composition_of}
 use Rattle.cs_life.specs.Standing.{Stands}
 use Rattle.cs_life.proofs.Going.{goes_on}
-use Rattle.cs_life.proofs.Waited.{all_started, most_started, none_started, one_started, start_as, taken_out}
+use Rattle.cs_life.proofs.Waited.{all_started, begins_now, most_started, none_started, one_started, taken_out}
 use Rattle.cs_life.proofs.life.Life.start_waiting.Goals as goal
 
 pub loop-init : goal.loop-init
@@ -33,12 +33,12 @@ pub loop-preserved : goal.loop-preserved
 loop-preserved g c =
     let start = start_of c.in-Some.due in
     let left = record c.loop.self { pending = c.next.new.self } in
-    let number : to_z w64 (of_z w64 c.in-Some.due.number) ≡ c.in-Some.due.number = search rules in
+    let now : c.in-Some.due.cycle ≡ c.args.cycle = begins_now c.loop.self.pending c.next.new.self c.args.cycle c.in-Some.due c.in-Some.ensures in
     let started : (n : Moment) → Stands (composition_of c.loop.self.setup.now) left c.loop.voices.items (g.B.Bank.cells c.loop.bank) n
     → Stands (composition_of c.loop.self.setup.now) c.start_note.new.self c.start_note.new.voices.items (g.B.Bank.cells c.start_note.new.bank)
     (start_in (composition_of c.loop.self.setup.now) c.args.cycle start n) =
-    λ n s. start_as (composition_of c.loop.self.setup.now) c.args.cycle c.start_note.new.self c.start_note.new.voices.items (g.B.Bank.cells c.start_note.new.bank)
-    c.in-Some.due (to_z w64 (of_z w64 c.in-Some.due.number)) c.into_vec.result.items n number c.into_vec.ensures (c.in_ok-start_note.ensures.started n s) in
+    λ n s. subst (λ k. Stands (composition_of c.loop.self.setup.now) c.start_note.new.self c.start_note.new.voices.items (g.B.Bank.cells c.start_note.new.bank)
+    (start_in (composition_of c.loop.self.setup.now) k start n)) now (c.in_ok-start_note.ensures.started n s) in
     record {
       able = goes_on g.B.Bank.can_get g.B.Bank.can_set (g.B.Bank.rest c.loop.bank) (g.B.Bank.rest c.start_note.new.bank) c.start_note.ensures.rest
           (start_in (composition_of c.loop.self.setup.now) c.args.cycle start) left c.loop.voices.items (g.B.Bank.cells c.loop.bank) c.start_note.new.self
