@@ -56,7 +56,7 @@ head_of e none =
     let h : Header = header e.head in
     (made h.sr h.ksmps h.nchnls h.dbfs (frames_within e.head lines) (cycle_within e.head lines (no_second _ _ settings)) (channels_within e.head lines) (scale_within e.head lines), refl)
 
-judged_ok : (f : Option OrcFault) (t o : typed.Orchestra) → Ok o ≡ refused_as why.Orc (judged f t) → (f ≡ None) × (t ≡ o)
+pub judged_ok : (f : Option OrcFault) (t o : typed.Orchestra) → Ok o ≡ refused_as why.Orc (judged f t) → (f ≡ None) × (t ≡ o)
 judged_ok None t o h = (refl, cc)
 judged_ok (Some g) t o h = absurd (cc)
 

@@ -1,4 +1,4 @@
-mod Given
+pub mod Given
 mod Growing
 mod Named
 mod NamedCore

@@ -5,6 +5,7 @@ use Rattle.cs_ugen.specs.Table.{table_of}
 use Rattle.cs_ugen.specs.Units.{gen}
 use Rattle.cs_meaning.specs.Examples.{each, whole}
 use Rattle.cs_tempo.specs.Time.{cycle_of}
+use Rattle.cs_piece_meaning.specs.Counting.{starts_before, starts_from}
 use Rattle.cs_piece_meaning.specs.Course.{closing}
 use Rattle.cs_piece_meaning.specs.Heard.{frames_of}
 use Rattle.cs_piece_meaning.specs.OrderExamples.{asked_in_its_cycle, refused_late, table_made_twice, table_stored_to}
@@ -32,3 +33,7 @@ refused_started = refl
 pub refused_counted : (closing refused_late).not_started ≡ 1
 unfolding cycle_of
 refused_counted = refl
+
+pub refused_starts : starts_before refused_late 3 ≡ 2
+unfolding cycle_of starts_from
+refused_starts = refl

@@ -1,5 +1,6 @@
 pub mod Asked
 pub mod Computed
+pub mod Counting
 pub mod Following
 pub mod Full
 pub mod Initial

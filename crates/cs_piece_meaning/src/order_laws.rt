@@ -1,6 +1,7 @@
 // What holds of the notes of each cycle: calls that do nothing, whose contracts are the laws.
-ghost use Rattle.std.specs.Prelude.{ℕ, suc, Bool, false, ◌≡◌, ◌≢◌, ◌<◌, ◌≤◌, ◌⊎◌, Contains, length, ◌++◌, ◌*◌, pos, flat_map, replicate, []};
+ghost use Rattle.std.specs.Prelude.{ℕ, suc, Bool, false, ◌≡◌, ◌≢◌, ◌<◌, ◌≤◌, ◌⊎◌, Contains, length, ◌++◌, ◌+◌, ◌*◌, pos, flat_map, replicate, []};
 ghost use Rattle.std.specs.List.{AllZip};
+ghost use Rattle.cs_piece_meaning.specs.Counting.{starts_before};
 ghost use Rattle.cs_piece_meaning.specs.Course.{begins, closing, moment_at, played_in};
 ghost use Rattle.cs_piece_meaning.specs.Heard.{frames_of};
 ghost use Rattle.cs_base.specs.Limits.{most_notes};
@@ -46,6 +47,12 @@ pub fn none_waits_beyond_its_cycle()
     ensures { (c : Composition) (n k : ℕ) → k ≤ n → (begins c n (moment_at c n)).waiting.due k ≡ [] }
 {}
 
+/// No start is lost: when the performance has closed, the starts that started a note and those that started nothing are together the
+/// events that start a note and the notes that were asked for, each counted once.
+pub fn no_start_is_lost()
+    ensures { (c : Composition) → (closing c).started + (closing c).not_started ≡ starts_before c (c.cycles + 1) }
+{}
+
 /// Small performances worked out from the definitions: eight frames a second, four a control cycle.
 pub fn orders_worked_by_hand()
     // Of two notes of one instrument the one that was started first is performed first: what it counts the other tells.
@@ -61,4 +68,6 @@ pub fn orders_worked_by_hand()
     ensures refused { frames_of refused_late ≡ each (whole 9) ++ each (whole 0) }
     ensures refused_started { (closing refused_late).started ≡ 1 }
     ensures refused_counted { (closing refused_late).not_started ≡ 1 }
+    // One event starts a note, and one note was asked for.
+    ensures refused_starts { starts_before refused_late 3 ≡ 2 }
 {}

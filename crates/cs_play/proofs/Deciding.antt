@@ -1,39 +1,30 @@
--- What decides how a run ends, and what two runs have in common.
-use Rattle.std.proofs.Common.{◌≡◌, ◌⊎◌, ℕ, ℤ, List, Bool, true, false, not, Option, Result, Some, None, Ok, Err, refl, ap, sym, subst, ◌∙◌, inl, inr}
-use Rattle.cs_base.specs.declared.head.Head.{Head}
-use Rattle.cs_piece_meaning.specs.Heard.{frames_of}
+-- What decides how a run ends.
+use Rattle.std.proofs.Common.{◌≡◌, ◌⊎◌, ℕ, List, Option, Result, Some, None, Ok, Err, refl, ap, sym, subst, inl, inr}
 use Rattle.cs_piece_meaning.specs.Moments.{Composition}
-use Rattle.cs_edge.specs.Moves.{Finished, Held, SinkTold}
-use Rattle.cs_edge.specs.Told.{Follows, Rose}
-use Rattle.cs_perform.specs.Hearing.{IfWritten}
-use Rattle.cs_play.specs.Alike.{AreTexts, AskAlike, HoldAlike, SoundAlike, TellAlike}
-use Rattle.cs_play.specs.Endings.{EndsBy, IsLoaded, IsOk, Reads, WasPerformed, output_of}
+use Rattle.cs_edge.specs.Told.{Rose}
+use Rattle.cs_play.specs.Alike.{AreTexts}
+use Rattle.cs_play.specs.Endings.{EndsBy, IsLoaded, Reads}
 use Rattle.cs_play.specs.Runs.{IsRun}
 use Rattle.cs_play.specs.Scene.{Scene, Sight}
 use Rattle.cs_report.specs.Status.{refusal}
 use Rattle.cs_report.specs.declared.status.Status.{Status}
 use Rattle.cs_report.specs.declared.status.Status.TheVariants as status
-use Rattle.cs_arguments.specs.Reading.{Asked, Piece, Text, reading}
-use Rattle.cs_source.specs.Loaded.{SourceMeans}
+use Rattle.cs_arguments.specs.Reading.{Asked, Text, reading}
 use Rattle.cs_source.specs.Meaning.{Mean}
 use Rattle.cs_source.specs.Texts.{LackWhereTold, Texts}
-use Rattle.cs_base.specs.declared.width.SampleWidth.{SampleWidth}
 use Rattle.cs_base.specs.declared.refusal.Refusal.TheVariants as why
 use Rattle.cs_csd.specs.declared.refused.Refused.{Refused}
 use Rattle.cs_csd.specs.declared.refused.Refused.TheVariants as refused
-use Rattle.cs_typed.specs.Places.{Header}
-use Rattle.cs_typed.specs.TypedTree.{header_of_head}
-use Rattle.cs_wav.specs.Wav.{header_bytes, wav_of}
-use Rattle.cs_play.proofs.Meanings.{NoneLacking, OneMeaning, OnePair, alike_means, known_unread, refused_composition, same_composition, same_refusal, source_lacks, source_means}
+use Rattle.cs_play.proofs.Meanings.{NoneLacking, OneMeaning, OnePair, known_unread, refused_composition, same_refusal, source_lacks, source_means}
 
 one_asked : (o : Option Asked) (a b : Asked) → o ≡ Some a → o ≡ Some b → a ≡ b
 one_asked o a b e h = cc
 
-no_asked : (o : Option Asked) (a : Asked) → o ≡ None → o ≡ Some a → ⊥
+pub no_asked : (o : Option Asked) (a : Asked) → o ≡ None → o ≡ Some a → ⊥
 no_asked o a e h = cc
 
 -- what is so of one thing that the words ask for is so of what they ask for
-the_asked : (words : List Text) (P : Asked → Type 0) (asked : Asked) → reading words ≡ Some asked → Reads words P → P asked
+pub the_asked : (words : List Text) (P : Asked → Type 0) (asked : Asked) → reading words ≡ Some asked → Reads words P → P asked
 the_asked words P asked e r = subst P (one_asked (reading words) r.0 asked r.1 e) r.2
 
 module _ {F K T B : Type 0} (see : Sight F K T B) where
@@ -148,88 +139,3 @@ module _ {F K T B : Type 0} (see : Sight F K T B) where
       → (s ≡ status.Ok) ⊎ (s ≡ status.OutOfMemory)
   sounds m p none words s before now asked t c run e known mean calm still silent =
       sound_ends m p none words s before now asked t c run.ended e known mean calm still silent
-
--- TWO RUNS
-
--- a sink that tells what it holds holds this
-abbrev HoldsWhereTold : Option Held → Held → Type 0
-HoldsWhereTold None h = Unit {0}
-HoldsWhereTold (Some x) h = x ≡ h
-
-held_is : (b n : Option Held) (h : Held) → Follows b n (λ _ x. x ≡ h) → HoldsWhereTold n h
-held_is b None h f = tt
-held_is None (Some x) h f = absurd f
-held_is (Some y) (Some x) h f = f
-
-held_alike : (a b : Option Held) (h : Held) → HoldsWhereTold a h → HoldsWhereTold b h → HoldAlike a b
-held_alike None b h p q = tt
-held_alike (Some x) None h p q = tt
-held_alike (Some x) (Some y) h p q = p ∙ sym q
-
-file_held : (before now : SinkTold) (name bytes : List ℕ) → Finished before now name bytes
-    → HoldsWhereTold now.held (record { name = Some name; bytes = bytes })
-file_held before now name bytes f = held_is before.held now.held (record { name = Some name; bytes = bytes }) f.taken
-
--- the sound file of a run that isn't silent
-written_is : {W : Type 0} (tells : W → SinkTold) (silent : Bool) (before now : W) (P : SinkTold → SinkTold → Type 0) → silent ≡ false
-    → IfWritten tells (output_of silent) before now P → P (tells before) (tells now)
-written_is tells true before now P e w = absurd (let h : true ≡ false = e in cc)
-written_is tells false before now P e w = w
-
--- a file is known by its frames and by the numbers of its header
-same_numbers : (frames : List ℤ) (width : SampleWidth) (a b : Head) → a.sr ≡ b.sr → a.nchnls ≡ b.nchnls → a.dbfs ≡ b.dbfs → wav_of frames a width ≡ wav_of frames b width
-unfolding wav_of header_bytes
-same_numbers frames width a b e f g = cc
-
-same_wav : (frames : List ℤ) (width : SampleWidth) (a b : Head) → header_of_head a ≡ header_of_head b → wav_of frames a width ≡ wav_of frames b width
-same_wav frames width a b e =
-    same_numbers frames width a b (ap (λ (h : Header). h.sr) e) (ap (λ (h : Header). h.nchnls) e) (ap (λ (h : Header). h.dbfs) e)
-
-held_same : (name name' : List ℕ) (bytes bytes' : List ℕ) → name ≡ name' → bytes ≡ bytes'
-    → (let h : Held = record { name = Some name; bytes = bytes } in h) ≡ record { name = Some name'; bytes = bytes' }
-held_same name name' bytes bytes' e f = cc
-
-module _ {F K T B F' K' T' B' : Type 0} (see : Sight F K T B) (see' : Sight F' K' T' B') where
-  one_file : (a b : Asked) (c : Composition) (before now : Scene F K T B) (before' now' : Scene F' K' T' B') → AskAlike a b
-      → WasPerformed see a c before now → WasPerformed see' b c before' now' → a.silent ≡ false
-      → HoldAlike (see.wav now.wav).held (see'.wav now'.wav).held
-  one_file a b c before now before' now' alike p q loud =
-      let first : HoldsWhereTold (see.wav now.wav).held (record { name = Some a.sound_file; bytes = wav_of (frames_of c) p.head a.width }) =
-      file_held (see.wav before.wav) (see.wav now.wav) a.sound_file (wav_of (frames_of c) p.head a.width)
-      (written_is see.wav a.silent before.wav now.wav (λ x y. Finished x y a.sound_file (wav_of (frames_of c) p.head a.width)) loud p.whole.written) in
-      let second : HoldsWhereTold (see'.wav now'.wav).held (record { name = Some b.sound_file; bytes = wav_of (frames_of c) q.head b.width }) =
-      file_held (see'.wav before'.wav) (see'.wav now'.wav) b.sound_file (wav_of (frames_of c) q.head b.width)
-      (written_is see'.wav b.silent before'.wav now'.wav (λ x y. Finished x y b.sound_file (wav_of (frames_of c) q.head b.width)) (sym alike.silent ∙ loud) q.whole.written) in
-      let W : SampleWidth → Type 0 = λ w. wav_of (frames_of c) q.head w ≡ wav_of (frames_of c) p.head a.width in
-      let same : wav_of (frames_of c) q.head b.width ≡ wav_of (frames_of c) p.head a.width =
-      subst W alike.width (same_wav (frames_of c) a.width q.head p.head (q.head_is ∙ sym p.head_is)) in
-      let P : Held → Type 0 = λ h. HoldsWhereTold (see'.wav now'.wav).held h in
-      held_alike (see.wav now.wav).held (see'.wav now'.wav).held (record { name = Some a.sound_file; bytes = wav_of (frames_of c) p.head a.width }) first
-      (subst P (held_same b.sound_file a.sound_file (wav_of (frames_of c) q.head b.width) (wav_of (frames_of c) p.head a.width) (sym alike.sound_file) same) second)
-
-  both_ok : OneMeaning → OnePair → (a b : Asked) (before now : Scene F K T B) (before' now' : Scene F' K' T' B') → AskAlike a b
-      → TellAlike a.piece (see.shelf before.shelf).files (see'.shelf before'.shelf).files → IsOk see a before now → IsOk see' b before' now'
-      → SoundAlike see see' a b before now before' now'
-  both_ok m p a b before now before' now' alike told x y =
-      let Q : Piece → Type 0 = λ l. SourceMeans (see'.shelf before'.shelf) b.width l (Ok y.c) in
-      let W : SampleWidth → Type 0 = λ w. SourceMeans (see'.shelf before'.shelf) w a.piece (Ok y.c) in
-      let means' : SourceMeans (see'.shelf before'.shelf) a.width a.piece (Ok y.c) =
-      subst W (sym alike.width) (subst Q (sym alike.piece) y.loaded.means) in
-      let same : x.c ≡ y.c = same_composition x.c y.c
-      (alike_means m p (see.shelf before.shelf) (see'.shelf before'.shelf) a.width a.piece (Ok x.c) (Ok y.c) told x.loaded.means means') in
-      let C : Composition → Type 0 = λ c. WasPerformed see' b c before' now' in
-      let second : WasPerformed see' b x.c before' now' = subst C (sym same) y.performed in
-      record {
-        c = x.c;
-        performed = x.performed;
-        performed' = second;
-        bytes = one_file a b x.c before now before' now' alike x.performed second;
-      }
-
-  pub alike : OneMeaning → OnePair → (words others : List Text) (a b : Asked) (before now : Scene F K T B) (before' now' : Scene F' K' T' B')
-      → reading words ≡ Some a → reading others ≡ Some b → AskAlike a b
-      → TellAlike a.piece (see.shelf before.shelf).files (see'.shelf before'.shelf).files
-      → IsRun see words status.Ok before now → IsRun see' others status.Ok before' now' → SoundAlike see see' a b before now before' now'
-  alike m p words others a b before now before' now' e h ask told run run' =
-      both_ok m p a b before now before' now' ask told
-      (the_asked words (λ x. IsOk see x before now) a e run.ended) (the_asked others (λ x. IsOk see' x before' now') b h run'.ended)

@@ -1,3 +1,5 @@
 pub mod Deciding
 pub mod Meanings
 pub mod Runs
+pub mod Sounds
+pub mod TwoRuns

@@ -36,12 +36,16 @@ same_texts one None (one_file name) t u known fit have = absurd known
 same_texts one (Some files) (two_files orc sco) t u known fit have = one files (two_files orc sco) t u known have
 same_texts one (Some files) (one_file name) t u known fit have = one files (one_file name) t u known have
 
--- so what they mean is what the source means
+-- so they mean what the source means
+pub known_means : OnePair → (told : ShelfTold) (width : SampleWidth) (piece : Piece) (t : Texts) (r : Result Composition Refused)
+    → AreTexts told.files piece t → SourceMeans told width piece r → Mean width t r
+known_means pair told width piece t r known source =
+    let P : Texts → Type 0 = λ u. Mean width u r in
+    subst P (sym (same_texts pair told.files piece t source.texts known source.fit source.have)) source.mean
+
 pub source_means : OneMeaning → OnePair → (told : ShelfTold) (width : SampleWidth) (piece : Piece) (t : Texts) (r s : Result Composition Refused)
     → AreTexts told.files piece t → Mean width t r → SourceMeans told width piece s → r ≡ s
-source_means meaning pair told width piece t r s known mean source =
-    let P : Texts → Type 0 = λ u. Mean width u r in
-    meaning width source.texts r s (subst P (same_texts pair told.files piece t source.texts known source.fit source.have) mean) source.mean
+source_means meaning pair told width piece t r s known mean source = meaning width t r s mean (known_means pair told width piece t s known source)
 
 -- and none of them is lacking
 known_lack : NoneLacking → (files : Option (List NamedBytes)) (piece : Piece) (t : Texts) (name : List ℕ) → AreTexts files piece t

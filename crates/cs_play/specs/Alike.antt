@@ -1,11 +1,14 @@
 -- What two runs have in common, and what the texts of a run are.
-use Rattle.std.specs.Prelude.{◌≡◌, false, List, Option, Some, None, ⊤}
+use Rattle.std.specs.Prelude.{◌≡◌, false, List, Option, Some, None, Ok, ⊤}
 use Rattle.cs_piece_meaning.specs.Moments.{Composition}
-use Rattle.cs_edge.specs.Moves.{Held}
+use Rattle.cs_edge.specs.Moves.{Held, WroteMore}
+use Rattle.cs_edge.specs.Told.{Rose}
 use Rattle.cs_edge.specs.declared.files.NamedBytes.{NamedBytes}
-use Rattle.cs_play.specs.Endings.{WasPerformed}
+use Rattle.cs_play.specs.Endings.{WasPerformed, report_in}
+use Rattle.cs_play.specs.Report.{meter_lines}
 use Rattle.cs_play.specs.Scene.{Scene, Sight}
 use Rattle.cs_arguments.specs.Reading.{Asked, Piece, demo}
+use Rattle.cs_source.specs.Loaded.{SourceMeans}
 use Rattle.cs_source.specs.Texts.{Texts, Have, demo_notes}
 
 -- The texts of a piece: those of the demo, or those that files have which are told.
@@ -14,28 +17,40 @@ AreTexts files (demo n) texts = texts ≡ demo_notes n
 AreTexts None piece texts = ⊥
 AreTexts (Some files) piece texts = Have files piece texts
 
--- One piece is asked for, one sound file, and one width of its samples. Workers, turns and pool may differ.
+-- One piece is asked for, and one width of its samples. All else may differ: the name of the sound file and whether it is
+-- written, workers, turns and pool.
 pub record AskAlike (a b : Asked) : Type 0 where
   pub piece : a.piece ≡ b.piece
-  pub sound_file : a.sound_file ≡ b.sound_file
   pub width : a.width ≡ b.width
-  pub silent : a.silent ≡ b.silent
 
 -- Two shelves tell the same files. For the demo they may tell what they want.
 abbrev pub TellAlike : Piece → Option (List NamedBytes) → Option (List NamedBytes) → Type 0
 TellAlike (demo n) a b = ⊤
 TellAlike piece a b = (files : List NamedBytes) × (a ≡ Some files) × (b ≡ Some files)
 
--- Two sinks hold the same name and bytes, where both tell what they hold.
+-- Two sinks hold the same bytes, where both tell what they hold.
 abbrev pub HoldAlike : Option Held → Option Held → Type 0
-HoldAlike (Some a) (Some b) = a ≡ b
+HoldAlike (Some a) (Some b) = a.bytes ≡ b.bytes
 HoldAlike _ _ = ⊤
 
--- Two runs performed one composition, so that their meters were told the same frames and their tallies count the
--- same; and where they wrote sound files, the two are the same byte for byte.
+-- Two runs performed one composition, which their texts mean, so that their meters were told the same frames and their
+-- tallies count the same. Each said its report, and the two are the same where turns are asked for alike and the lines of the
+-- meters are the same. Where both wrote sound files, the two are the same byte for byte.
 pub record SoundAlike {F K T B F' K' T' B' : Type 0} (see : Sight F K T B) (see' : Sight F' K' T' B') (a b : Asked)
     (before now : Scene F K T B) (before' now' : Scene F' K' T' B') : Type 0 where
   pub c : Composition
+  pub means : SourceMeans (see.shelf before.shelf) a.width a.piece (Ok c)
+  pub means' : SourceMeans (see'.shelf before'.shelf) b.width b.piece (Ok c)
   pub performed : WasPerformed see a c before now
   pub performed' : WasPerformed see' b c before' now'
-  pub bytes : a.silent ≡ false → HoldAlike (see.wav now.wav).held (see'.wav now'.wav).held
+  pub report : WroteMore (see.talk before.talk) (see.talk now.talk) (report_in see a c now)
+  pub report' : WroteMore (see'.talk before'.talk) (see'.talk now'.talk) (report_in see' b c now')
+  pub same_report : a.turns ≡ b.turns → meter_lines see.line now.taps ≡ meter_lines see'.line now'.taps
+      → report_in see a c now ≡ report_in see' b c now'
+  pub bytes : a.silent ≡ false → b.silent ≡ false → HoldAlike (see.wav now.wav).held (see'.wav now'.wav).held
+
+-- In a run nothing failed that it has to do with: no count of faults rose.
+pub record HadNoFault {F K T B : Type 0} (see : Sight F K T B) (before now : Scene F K T B) : Type 0 where
+  pub shelf : ¬ (Rose (see.shelf before.shelf).faults (see.shelf now.shelf).faults)
+  pub wav : ¬ (Rose (see.wav before.wav).faults (see.wav now.wav).faults)
+  pub talk : ¬ (Rose (see.talk before.talk).faults (see.talk now.talk).faults)

@@ -3,4 +3,5 @@ pub mod Endings
 pub mod Report
 pub mod Runs
 pub mod Scene
+pub mod Sounds
 pub mod inner

@@ -18,7 +18,11 @@ counts_of c width =
     count_lines (c.cycles * c.head.ksmps) c.cycles (kept_count (closing c).started) (kept_count (closing c).not_started)
     (count_by (is_out_of_range width c.head.dbfs) (frames_of c))
 
+-- the lines of meters, one behind the other
+abbrev pub meter_lines : {B : Type 0} → (B → ℕ → List ℕ) → List B → List ℕ
+meter_lines line taps = flat_map (λ tap. line tap line_room) taps
+
 -- the whole report, with the lines of these meters, and with the lines of turns where they are asked for
 abbrev pub report_of : {B : Type 0} → (B → ℕ → List ℕ) → Composition → SampleWidth → TurnLines → List B → List ℕ
 report_of line c width turns taps =
-    counts_of c width ++ flat_map (λ tap. line tap line_room) taps ++ if_told turns (turn_lines_of c)
+    counts_of c width ++ meter_lines line taps ++ if_told turns (turn_lines_of c)

@@ -1,12 +1,15 @@
 // What holds of every two runs, and of every run whose texts are known: calls that do nothing, whose contracts are
 // the laws. The meters that they take stand for those of the runs.
-ghost use Rattle.std.specs.Prelude.{◌≡◌, ◌⊎◌, ℕ, List, Some, None, Ok, Err};
+ghost use Rattle.std.specs.Prelude.{◌≡◌, ◌≢◌, ◌⊎◌, ℕ, false, List, Some, None, Ok, Err};
+ghost use Rattle.cs_base.specs.declared.width.SampleWidth.{SampleWidth};
 ghost use Rattle.cs_piece_meaning.specs.Moments.{Composition};
+ghost use Rattle.cs_edge.specs.Moves.{Held};
 ghost use Rattle.cs_edge.specs.Told.{Rose};
-ghost use Rattle.cs_play.specs.Alike.{AreTexts, AskAlike, SoundAlike, TellAlike};
+ghost use Rattle.cs_play.specs.Alike.{AreTexts, AskAlike, HadNoFault, SoundAlike, TellAlike};
 ghost use Rattle.cs_play.specs.Endings.{Reads};
 ghost use Rattle.cs_play.specs.Runs.{IsRun};
 ghost use Rattle.cs_play.specs.Scene.{Scene, sight};
+ghost use Rattle.cs_play.specs.Sounds.{HoldsSoundFront, IsSoundOf};
 ghost use Rattle.cs_report.specs.Status.{refusal};
 ghost use Rattle.cs_report.specs.declared.status.Status.{Status};
 ghost use Rattle.cs_report.specs.declared.status.Status.TheVariants as status;
@@ -16,13 +19,49 @@ ghost use Rattle.cs_source.specs.Texts.{LackWhereTold, Texts};
 ghost use Rattle.cs_csd.specs.declared.refused.Refused.{Refused};
 
 use cs_edge::{Shelf, Sink, Tap};
+use cs_perform::early_stops_are_fronts;
 use cs_source::{
     files_have_one_pair_of_texts, texts_of_a_source_mean_one, told_files_have_texts_or_lack_a_name,
 };
 
-/// THE HEADLINE. Two runs end Ok; their words ask for one piece, one sound file and one width, whatever `-j`,
-/// `--pool` and `--turns` say; and their shelves tell the same files, or the piece is the demo. Then they performed
-/// one composition, and their sound files are the same byte for byte.
+/// Texts have exactly one sound or exactly one first refusal, and never both, in samples of either width.
+pub fn texts_have_one_sound_or_refusal()
+    ensures some { (t : Texts) (width : SampleWidth)
+        → ((bytes : List ℕ) × IsSoundOf t width bytes) ⊎ ((r : Refused) × Mean width t (Err r)) }
+    ensures one_sound { (t : Texts) (width : SampleWidth) (a b : List ℕ) → IsSoundOf t width a → IsSoundOf t width b
+        → a ≡ b }
+    ensures one_refusal { (t : Texts) (width : SampleWidth) (r s : Refused) → Mean width t (Err r)
+        → Mean width t (Err s) → r ≡ s }
+    ensures never_both { (t : Texts) (width : SampleWidth) (bytes : List ℕ) (r : Refused) → IsSoundOf t width bytes
+        → Mean width t (Err r) → ⊥ }
+{
+    texts_of_a_source_mean_one();
+}
+
+/// THE HEADLINE. The texts of a run are known: those of the files that the shelf tells, or the demo's; and the sound
+/// file tells what it holds. After Ok it holds the sound of the texts, under the name asked for, unless silence is
+/// asked for. After any status it holds what it held before, or nothing where its begin failed, or a front of the sound
+/// of the texts.
+pub fn sound_files_hold_sounds<F: Shelf, K: Sink, T: Sink>(_taps: &[Box<dyn Tap>])
+    ensures ok { (words : List Text) (before now : Scene F K T _) (asked : Asked) (t : Texts) (held : Held)
+        → IsRun (sight F.tells K.tells T.tells (λ t h. stands_for t h)
+        (λ t room. text t room)) words status.Ok before now
+        → reading words ≡ Some asked → AreTexts (F.tells before.shelf).files asked.piece t
+        → (K.tells now.wav).held ≡ Some held → asked.silent ≡ false
+        → (held.name ≡ Some asked.sound_file) × IsSoundOf t asked.width held.bytes }
+    ensures front { (words : List Text) (s : Status) (before now : Scene F K T _) (asked : Asked) (t : Texts)
+        (held : Held)
+        → IsRun (sight F.tells K.tells T.tells (λ t h. stands_for t h) (λ t room. text t room)) words s before now
+        → reading words ≡ Some asked → AreTexts (F.tells before.shelf).files asked.piece t
+        → (K.tells now.wav).held ≡ Some held → HoldsSoundFront t asked (K.tells before.wav).held held }
+{
+    files_have_one_pair_of_texts();
+    early_stops_are_fronts();
+}
+
+/// Two runs end Ok; their words ask for one piece and one width, whatever else they say; and their shelves tell the same
+/// files, or the piece is the demo. Then they performed one composition, that of their texts, each has said its report,
+/// and their sound files are the same byte for byte.
 pub fn same_bytes<F: Shelf, K: Sink, T: Sink, F2: Shelf, K2: Sink, T2: Sink>(_taps: &[Box<dyn Tap>])
     ensures { (words others : List Text) (a b : Asked) (before now : Scene F K T _) (before_2 now_2 : Scene F2 K2 T2 _)
         → reading words ≡ Some a → reading others ≡ Some b → AskAlike a b
@@ -37,6 +76,28 @@ pub fn same_bytes<F: Shelf, K: Sink, T: Sink, F2: Shelf, K2: Sink, T2: Sink>(_ta
 {
     texts_of_a_source_mean_one();
     files_have_one_pair_of_texts();
+}
+
+/// Two runs whose words ask alike and whose shelves tell alike, in which nothing failed and memory sufficed, end by one
+/// status.
+pub fn same_status<F: Shelf, K: Sink, T: Sink, F2: Shelf, K2: Sink, T2: Sink>(
+    _taps: &[Box<dyn Tap>],
+)
+    ensures { (words others : List Text) (s s_2 : Status) (a b : Asked) (before now : Scene F K T _)
+        (before_2 now_2 : Scene F2 K2 T2 _)
+        → reading words ≡ Some a → reading others ≡ Some b → AskAlike a b
+        → TellAlike a.piece (F.tells before.shelf).files (F2.tells before_2.shelf).files
+        → IsRun (sight F.tells K.tells T.tells (λ t h. stands_for t h) (λ t room. text t room)) words s before now
+        → IsRun (sight F2.tells K2.tells T2.tells (λ t h. stands_for t h)
+        (λ t room. text t room)) others s_2 before_2 now_2
+        → HadNoFault (sight F.tells K.tells T.tells (λ t h. stands_for t h) (λ t room. text t room)) before now
+        → HadNoFault (sight F2.tells K2.tells T2.tells (λ t h. stands_for t h)
+        (λ t room. text t room)) before_2 now_2
+        → s ≢ status.OutOfMemory → s_2 ≢ status.OutOfMemory → s ≡ s_2 }
+{
+    texts_of_a_source_mean_one();
+    files_have_one_pair_of_texts();
+    told_files_have_texts_or_lack_a_name();
 }
 
 /// Words without a reading get the usage line, want of memory aside.

@@ -3,8 +3,9 @@
 //! The one contract: `csplay` ends as `IsRun` says (specs/Runs): each status by what has come about (`EndsBy`,
 //! specs/Endings), over what shelf, sound file, talk and meters tell before and after; and the shelf was read by the
 //! source that the words ask for, or not at all. What follows for every two runs and for every run are calls of
-//! `laws`: the same bytes for every number of workers, and that words, a lacking name, a refusal and a sound decide
-//! the status, want of memory aside.
+//! `laws`: texts have one sound or one refusal (`IsSoundOf`, specs/Sounds), the sound file holds it or a front of it,
+//! whatever the number of workers, and words, a lacking name, a refusal and a sound decide the status, want of memory
+//! aside.
 //!
 //! How many workers there are may be changed without anyone noticing; so may whatever `perform` leaves open.
 //!
@@ -16,5 +17,8 @@ mod sounding;
 mod top;
 
 pub use cs_report::Status;
-pub use laws::{lacking_decides, refusals_decide, same_bytes, sounds_decide, words_decide};
+pub use laws::{
+    lacking_decides, refusals_decide, same_bytes, same_status, sound_files_hold_sounds,
+    sounds_decide, texts_have_one_sound_or_refusal, words_decide,
+};
 pub use top::csplay;

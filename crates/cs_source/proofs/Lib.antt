@@ -1,5 +1,6 @@
 pub mod Loads
 pub mod Meanings
+pub mod Meant
 pub mod Moves
 pub mod Pairs
 pub mod Readings

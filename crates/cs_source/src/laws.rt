@@ -1,5 +1,6 @@
 // What holds of the texts of every source: calls that do nothing, whose contracts are the laws.
-ghost use Rattle.std.specs.Prelude.{◌≡◌, ◌⊎◌, ℕ, List, Result};
+ghost use Rattle.std.specs.Prelude.{◌≡◌, ◌⊎◌, ℕ, List, Result, Ok};
+ghost use Rattle.cs_base.specs.declared.head.Head.{Head};
 ghost use Rattle.cs_base.specs.declared.width.SampleWidth.{SampleWidth};
 ghost use Rattle.cs_piece_meaning.specs.Moments.{Composition};
 ghost use Rattle.cs_edge.specs.declared.files.NamedBytes.{NamedBytes};
@@ -7,14 +8,19 @@ ghost use Rattle.cs_arguments.specs.Reading.{Piece};
 ghost use Rattle.cs_source.specs.Meaning.{Mean};
 ghost use Rattle.cs_source.specs.Texts.{Have, Lack, Texts};
 ghost use Rattle.cs_csd.specs.declared.refused.Refused.{Refused};
+ghost use Rattle.cs_typed.specs.TypedTree.{header_of_head};
 
 use cs_compile::texts_have_one_meaning;
 use cs_csd::one_reading;
 
-/// The texts of a source mean one thing.
+/// The texts of a source mean one thing: one composition, whose header has its numbers in the ranges of a head, or one
+/// first refusal.
 pub fn texts_of_a_source_mean_one()
-    ensures { (width : SampleWidth) (t : Texts) (r s : Result Composition Refused) → Mean width t r → Mean width t s
-        → r ≡ s }
+    ensures some { (width : SampleWidth) (t : Texts) → (r : Result Composition Refused) × Mean width t r }
+    ensures one { (width : SampleWidth) (t : Texts) (r s : Result Composition Refused) → Mean width t r
+        → Mean width t s → r ≡ s }
+    ensures head { (width : SampleWidth) (t : Texts) (c : Composition) → Mean width t (Ok c)
+        → (head : Head) × (header_of_head head ≡ c.head) }
 {
     texts_have_one_meaning();
     one_reading();

@@ -10,6 +10,7 @@ use Rattle.cs_piece_meaning.specs.Moments.{Active, Composition}
 use Rattle.cs_graph.specs.Conflict.{foot}
 use Rattle.cs_graph.specs.Graph.{IsLevelled}
 use Rattle.cs_ir.specs.Resources.{Stock}
+use Rattle.cs_meaning.specs.Core.{Block}
 use Rattle.cs_rwset.specs.Footprints.{stock_of}
 use Rattle.cs_turns.specs.Turns.{IsFootOf, Touched, conflict, stock_in, touched, turn_behind, turns_behind, turns_in, turns_of}
 use Rattle.cs_turns.proofs.Clashes.{IsFootFor, clashes, conflicts}
@@ -215,15 +216,18 @@ module _ (areas : List Area) (ts : List Touched) (feet : List Footprint) (levels
       shorter k l notes = let long : length (map (λ (x : Turn). x.0) (paired ts levels)) ≡ length ts = ap (λ (xs : List Touched). length xs) notes in
           omega (arith, l, long, length-map (paired ts levels) (λ (x : Turn). x.0))
 
--- the footprints of notes that play are those of what they touch
+-- a footprint of statements is that of what they touch
+pub foot_for : (areas : List Area) (body : Block) (f : Footprint) → IsFootOf areas body f → IsFootFor areas (touched (stock_of areas) body) f
+foot_for areas body f h = record { uses = h.uses; writes = h.writes; there = h.there; used = written_is_used (stock_of areas) body }
+
+-- so it is with the footprints of notes that play
 feet_for : (areas : List Area) (stock : Stock) (notes : List Active) (feet : List Footprint) → stock_of areas ≡ stock
     → AllZip (λ (a : Active) (f : Footprint). IsFootOf areas a.body f) notes feet → AllZip (IsFootFor areas) (map (λ (a : Active). touched stock a.body) notes) feet
 feet_for areas stock [] [] e h = h
 feet_for areas stock [] (f ∷ feet) e h = h
 feet_for areas stock (a ∷ notes) [] e h = h
 feet_for areas stock (a ∷ notes) (f ∷ feet) e h = (
-  subst (λ (s : Stock). IsFootFor areas (touched s a.body) f) e
-      (record { uses = h.0.uses; writes = h.0.writes; there = h.0.there; used = written_is_used (stock_of areas) a.body }),
+  subst (λ (s : Stock). IsFootFor areas (touched s a.body) f) e (foot_for areas a.body f h.0),
   feet_for areas stock notes feet e h.1,
 )
 

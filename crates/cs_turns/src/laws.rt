@@ -1,17 +1,30 @@
 // What holds of turns: calls that do nothing, whose contracts are the laws.
-ghost use Rattle.std.specs.Prelude.{◌≡◌, ◌∷◌, [], ℕ, List, length};
+ghost use Rattle.std.specs.Prelude.{◌≡◌, ◌∷◌, [], ℕ, true, List, length};
 ghost use Rattle.std.specs.List.{AllZip};
 ghost use Rattle.cs_cells.specs.declared.footprint.Area.{Area};
 ghost use Rattle.cs_cells.specs.declared.footprint.Footprint.{Footprint};
+ghost use Rattle.cs_meaning.specs.Core.{Block};
 ghost use Rattle.cs_piece_meaning.specs.Moments.{Active, Composition};
+ghost use Rattle.cs_graph.specs.Conflict.{Clash};
 ghost use Rattle.cs_graph.specs.Graph.{IsLevelled};
 ghost use Rattle.cs_layout.specs.Layouts.{areas_of};
 ghost use Rattle.cs_rwset.specs.Footprints.{stock_of};
 ghost use Rattle.cs_turns.specs.Examples.{giving_and_taking, turns_of_places};
-ghost use Rattle.cs_turns.specs.Turns.{IsFootOf, line_of, live_tables, notes_in, stock_in, turns_in};
+ghost use Rattle.cs_turns.specs.Turns.{IsFootOf, conflict, line_of, live_tables, notes_in, stock_in, touched, turns_in};
 ghost use Rattle.cs_typed.specs.TypedTree.{SharedNames};
 
 use cs_layout::layouts_are_complete;
+
+/// The footprints of two notes clash exactly where the notes conflict: where what the statements of one of the two may
+/// write in a control cycle meets what those of the other may use.
+pub fn clashes_are_conflicts()
+    ensures conflict { (areas : List Area) (body other : Block) (foot foot_2 : Footprint) → IsFootOf areas body foot
+        → IsFootOf areas other foot_2 → Clash foot foot_2
+        → conflict (touched (stock_of areas) body) (touched (stock_of areas) other) ≡ true }
+    ensures clash { (areas : List Area) (body other : Block) (foot foot_2 : Footprint) → IsFootOf areas body foot
+        → IsFootOf areas other foot_2
+        → conflict (touched (stock_of areas) body) (touched (stock_of areas) other) ≡ true → Clash foot foot_2 }
+{}
 
 /// The levels of notes by their footprints are their turns, in areas with the stock of the piece: whatever way the
 /// levels were found.

@@ -6,12 +6,15 @@
 //! workers did.
 //!
 //! The one contract: the levels of a cycle's graph are these turns (`turns_are_levels`), where the footprints are
-//! those of the notes; `add_turns` adds their line, for each of the first 1,000 cycles. How a line is made may be
-//! changed without anyone above noticing. In reading order: `lines`, `laws`.
+//! those of the notes, and two footprints clash exactly where their notes conflict (`clashes_are_conflicts`);
+//! `add_turns` adds their line, for each of the first 1,000 cycles. How a line is made may be changed without anyone
+//! above noticing. In reading order: `lines`, `laws`.
 #![tactic(auto)]
 
 mod laws;
 mod lines;
 
-pub use laws::{layouts_have_the_stock, turns_are_levels, turns_worked_by_hand};
+pub use laws::{
+    clashes_are_conflicts, layouts_have_the_stock, turns_are_levels, turns_worked_by_hand,
+};
 pub use lines::add_turns;

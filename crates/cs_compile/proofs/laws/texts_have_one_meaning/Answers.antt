@@ -1,6 +1,7 @@
 use Rattle.cs_lex.specs.Lexed.{LexFault, Lexed}
 use Rattle.cs_grammar.specs.Orchestra.{ParseFault, Tree}
 use Rattle.cs_compile.proofs.Once.{means_one, read_one}
+use Rattle.cs_compile.proofs.Pieces.{head_is_there}
 use Rattle.cs_compile.proofs.Some.{means_some, read_some}
 use Rattle.cs_compile.proofs.laws.texts_have_one_meaning.Goals as goal
 
@@ -15,3 +16,6 @@ returns-clause-one c =
     means_one
     (λ text. read_one (Lexed text) (LexFault text) (c.one_reading.ensures.one_list text) (c.one_reading.ensures.one_fault text) (c.one_reading.ensures.not_both text))
     (λ text ts. read_one (Tree text ts) (ParseFault text ts) (c.one_reading-2.ensures.one_tree text ts) (c.one_reading-2.ensures.one_fault text ts) (c.one_reading-2.ensures.not_both text ts))
+
+pub returns-clause-head : goal.returns-clause-head
+returns-clause-head c = head_is_there

@@ -1,4 +1,4 @@
-use Rattle.cs_piece_meaning.proofs.Computed.{asked, made_again, refused, refused_counted, refused_started, stored}
+use Rattle.cs_piece_meaning.proofs.Computed.{asked, made_again, refused, refused_counted, refused_started, refused_starts, stored}
 use Rattle.cs_piece_meaning.proofs.order_laws.orders_worked_by_hand.Goals as goal
 
 pub returns-clause-made_again : goal.returns-clause-made_again
@@ -18,3 +18,6 @@ returns-clause-refused_started c = refused_started
 
 pub returns-clause-refused_counted : goal.returns-clause-refused_counted
 returns-clause-refused_counted c = refused_counted
+
+pub returns-clause-refused_starts : goal.returns-clause-refused_starts
+returns-clause-refused_starts c = refused_starts
