@@ -1,5 +1,4 @@
 pub mod Blocks
-pub mod Filters
 pub mod Formulas
 pub mod Histories
 pub mod Levels

@@ -1,7 +1,7 @@
 // `biquad`: a filter of two zeros and two poles, by whole numbers.
 ghost use Rattle.std.specs.Prelude.{ℕ, IfSome, true, ◌≡◌, ◌≢◌, ◌<◌, ◌≤◌, ◌+◌, ◌^◌, ◌∷◌, [], length, pos, ◌≤ℤ◌, ◌+ℤ◌, ◌-ℤ◌, ◌*ℤ◌, unsigned_abs};
 ghost use Rattle.std.specs.Int.{int_div_euclid};
-ghost use Rattle.cs_base.specs.Numbers.{IsRaw, floor_div, quotient_by_zero};
+ghost use Rattle.cs_base.specs.Numbers.{IsRaw, clamp, floor_div, quotient_by_zero};
 ghost use Rattle.cs_signal.specs.Biquad.{biquad_start, biquad_step, filtered, ratio};
 ghost use Rattle.cs_signal.specs.Operands.{operand_at, Lasts};
 ghost use Rattle.cs_signal.specs.Steps.{run};
@@ -17,6 +17,17 @@ pub struct Biquad {
     x2: Num,
     y1: Num,
     y2: Num,
+}
+
+/// The factors of a step, `a0` among them, by which the sum of the products is divided.
+#[derive(Clone, Copy)]
+struct Factors {
+    b0: Num,
+    b1: Num,
+    b2: Num,
+    a0: Num,
+    a1: Num,
+    a2: Num,
 }
 
 impl Model for Biquad {
@@ -46,26 +57,25 @@ impl Biquad {
     pub fn step(&mut self, x: Num, b0: Num, b1: Num, b2: Num, a0: Num, a1: Num, a2: Num) -> Num
         ensures { (self.new, result) ≡ biquad_step self.old (x ∷ b0 ∷ b1 ∷ b2 ∷ a0 ∷ a1 ∷ a2 ∷ []) }
     {
-        self.step_by(x, b0, b1, b2, a0, a1, a2, None)
+        let by = Factors {
+            b0,
+            b1,
+            b2,
+            a0,
+            a1,
+            a2,
+        };
+        self.step_by(x, &by, None)
     }
 
     // A step, where `a0` may be known as a divisor.
     #[inline(always)]
-    fn step_by(
-        &mut self,
-        x: Num,
-        b0: Num,
-        b1: Num,
-        b2: Num,
-        a0: Num,
-        a1: Num,
-        a2: Num,
-        divisor: Option<Divisor>,
-    ) -> Num
-        requires { IfSome divisor (λ d. d.value ≡ a0) }
-        ensures { (self.new, result) ≡ biquad_step self.old (x ∷ b0 ∷ b1 ∷ b2 ∷ a0 ∷ a1 ∷ a2 ∷ []) }
+    fn step_by(&mut self, x: Num, by: &Factors, divisor: Option<Divisor>) -> Num
+        requires { IfSome divisor (λ d. d.value ≡ by.now.a0) }
+        ensures { (self.new, result) ≡ biquad_step self.old
+            (x ∷ by.now.b0 ∷ by.now.b1 ∷ by.now.b2 ∷ by.now.a0 ∷ by.now.a1 ∷ by.now.a2 ∷ []) }
     {
-        let y = self.answer(x, b0, b1, b2, a0, a1, a2, divisor);
+        let y = self.answer(x, by, divisor);
         self.x2 = self.x1;
         self.x1 = x;
         self.y2 = self.y1;
@@ -88,14 +98,65 @@ impl Biquad {
         requires x { Lasts (length out.old) x.now }
         requires zeros { Lasts (length out.old) b0.now × Lasts (length out.old) b1.now × Lasts (length out.old) b2.now }
         requires poles { Lasts (length out.old) a0.now × Lasts (length out.old) a1.now × Lasts (length out.old) a2.now }
-        ensures { let at = λ (j : ℕ). operand_at x.now j ∷ operand_at b0.now j ∷ operand_at b1.now j ∷ operand_at b2.now j
-            ∷ operand_at a0.now j ∷ operand_at a1.now j ∷ operand_at a2.now j ∷ [] in
+        ensures { let at = λ (j : ℕ). operand_at x.now j ∷ operand_at b0.now j ∷ operand_at b1.now j
+            ∷ operand_at b2.now j ∷ operand_at a0.now j ∷ operand_at a1.now j ∷ operand_at a2.now j ∷ [] in
             (self.new, out.new) ≡ run biquad_step at self.old 0 (length out.old) }
     {
-        let divisor = divisor_of(a0);
+        match (b0, b1, b2, a0, a1, a2) {
+            (
+                Operand::Held(b0),
+                Operand::Held(b1),
+                Operand::Held(b2),
+                Operand::Held(a0),
+                Operand::Held(a1),
+                Operand::Held(a2),
+            ) => {
+                let by = Factors {
+                    b0: *b0,
+                    b1: *b1,
+                    b2: *b2,
+                    a0: *a0,
+                    a1: *a1,
+                    a2: *a2,
+                };
+                self.held(x, &by, above_zero(*a0), out);
+            }
+            _ => self.moving(x, b0, b1, b2, a0, a1, a2, out),
+        }
+    }
+
+    // A step for each frame, by factors that stay.
+    fn held(&mut self, x: &Operand, by: &Factors, divisor: Option<Divisor>, out: &mut [Num])
+        requires { IfSome divisor (λ d. d.value ≡ by.now.a0) }
+        ensures { let at = λ (j : ℕ). operand_at x.now j ∷ by.now.b0 ∷ by.now.b1 ∷ by.now.b2
+            ∷ by.now.a0 ∷ by.now.a1 ∷ by.now.a2 ∷ [] in
+            (self.new, out.new) ≡ run biquad_step at self.old 0 (length out.old) }
+    {
         let mut unit = self.copied();
         for j in 0..out.len() {
-            out[j] = unit.step_by(
+            out[j] = unit.step_by(x.at(j), by, divisor);
+        }
+        *self = unit;
+    }
+
+    // A step for each frame, by factors that may move.
+    fn moving(
+        &mut self,
+        x: &Operand,
+        b0: &Operand,
+        b1: &Operand,
+        b2: &Operand,
+        a0: &Operand,
+        a1: &Operand,
+        a2: &Operand,
+        out: &mut [Num],
+    )
+        ensures { let at = λ (j : ℕ). operand_at x.now j ∷ operand_at b0.now j ∷ operand_at b1.now j
+            ∷ operand_at b2.now j ∷ operand_at a0.now j ∷ operand_at a1.now j ∷ operand_at a2.now j ∷ [] in
+            (self.new, out.new) ≡ run biquad_step at self.old 0 (length out.old) }
+    {
+        for j in 0..out.len() {
+            out[j] = self.step(
                 x.at(j),
                 b0.at(j),
                 b1.at(j),
@@ -103,76 +164,71 @@ impl Biquad {
                 a0.at(j),
                 a1.at(j),
                 a2.at(j),
-                divisor,
             );
         }
-        *self = unit;
     }
 
     // The result of a step.
     #[inline(always)]
-    fn answer(
-        &self,
-        x: Num,
-        b0: Num,
-        b1: Num,
-        b2: Num,
-        a0: Num,
-        a1: Num,
-        a2: Num,
-        divisor: Option<Divisor>,
-    ) -> Num
-        requires { IfSome divisor (λ d. d.value ≡ a0) }
+    fn answer(&self, x: Num, by: &Factors, divisor: Option<Divisor>) -> Num
+        requires { IfSome divisor (λ d. d.value ≡ by.now.a0) }
         ensures { let s = self.now in
-            result ≡ filtered (x ∷ b0 ∷ b1 ∷ b2 ∷ a0 ∷ a1 ∷ a2 ∷ []) s.x1 s.x2 s.y1 s.y2 }
+            result ≡ filtered (x ∷ by.now.b0 ∷ by.now.b1 ∷ by.now.b2 ∷ by.now.a0 ∷ by.now.a1 ∷ by.now.a2 ∷ [])
+            s.x1 s.x2 s.y1 s.y2 }
     {
-        match self.near_sum(x, b0, b1, b2, a1, a2) {
-            Some(sum) => near_ratio(sum, a0, divisor),
-            None => ratio_by(self.wide_sum(x, b0, b1, b2, a1, a2), a0, divisor),
+        match self.near_sum(x, by) {
+            Some(sum) => near_ratio(sum, by.a0, divisor),
+            None => ratio_by(self.wide_sum(x, by), by.a0, divisor),
         }
     }
 
     // What is divided.
     #[inline(always)]
-    fn wide_sum(&self, x: Num, b0: Num, b1: Num, b2: Num, a1: Num, a2: Num) -> i128
+    fn wide_sum(&self, x: Num, by: &Factors) -> i128
         ensures value { let s = self.now in
-            result ≡ ((b0 *ℤ x +ℤ b1 *ℤ s.x1) +ℤ b2 *ℤ s.x2) -ℤ (a1 *ℤ s.y1 +ℤ a2 *ℤ s.y2) }
+            result ≡ ((by.now.b0 *ℤ x +ℤ by.now.b1 *ℤ s.x1) +ℤ by.now.b2 *ℤ s.x2)
+            -ℤ (by.now.a1 *ℤ s.y1 +ℤ by.now.a2 *ℤ s.y2) }
         ensures bounded { unsigned_abs result < 2 ^ 97 }
     {
         less(
-            forward(b0, x, b1, self.x1, b2, self.x2),
-            back(a1, self.y1, a2, self.y2),
+            forward(by.b0, x, by.b1, self.x1, by.b2, self.x2),
+            back(by.a1, self.y1, by.a2, self.y2),
         )
     }
 
-    // The same, where all coefficients are below 2,048 and all signals below 32,768, so that no sum has more than 61 bits.
+    // The same, where all factors are below 2,048 and all signals below 32,768, so that no sum has over 61 bits.
     #[inline(always)]
-    fn near_sum(&self, x: Num, b0: Num, b1: Num, b2: Num, a1: Num, a2: Num) -> Option<i64>
+    fn near_sum(&self, x: Num, by: &Factors) -> Option<i64>
         ensures value { let s = self.now in IfSome result (λ sum.
-            sum ≡ ((b0 *ℤ x +ℤ b1 *ℤ s.x1) +ℤ b2 *ℤ s.x2) -ℤ (a1 *ℤ s.y1 +ℤ a2 *ℤ s.y2)) }
+            sum ≡ ((by.now.b0 *ℤ x +ℤ by.now.b1 *ℤ s.x1) +ℤ by.now.b2 *ℤ s.x2)
+            -ℤ (by.now.a1 *ℤ s.y1 +ℤ by.now.a2 *ℤ s.y2)) }
         ensures bounded { IfSome result (λ sum. unsigned_abs sum < 2 ^ 61) }
     {
-        if are_small(b0, b1, b2, a1, a2) && are_short(x, self.x1, self.x2, self.y1, self.y2) {
-            Some(self.short_sum(x, b0, b1, b2, a1, a2))
+        if are_small(by.b0, by.b1, by.b2, by.a1, by.a2)
+            && are_short(x, self.x1, self.x2, self.y1, self.y2)
+        {
+            Some(self.short_sum(x, by))
         } else {
             None
         }
     }
 
     #[inline(always)]
-    fn short_sum(&self, x: Num, b0: Num, b1: Num, b2: Num, a1: Num, a2: Num) -> i64
-        requires zeros { (unsigned_abs b0 ≤ 2 ^ 27) × (unsigned_abs b1 ≤ 2 ^ 27) × (unsigned_abs b2 ≤ 2 ^ 27) }
-        requires poles { (unsigned_abs a1 ≤ 2 ^ 27) × (unsigned_abs a2 ≤ 2 ^ 27) }
+    fn short_sum(&self, x: Num, by: &Factors) -> i64
+        requires zeros { (unsigned_abs by.now.b0 ≤ 2 ^ 27) × (unsigned_abs by.now.b1 ≤ 2 ^ 27)
+            × (unsigned_abs by.now.b2 ≤ 2 ^ 27) }
+        requires poles { (unsigned_abs by.now.a1 ≤ 2 ^ 27) × (unsigned_abs by.now.a2 ≤ 2 ^ 27) }
         requires inputs { let s = self.now in
             (unsigned_abs x ≤ 2 ^ 31) × (unsigned_abs s.x1 ≤ 2 ^ 31) × (unsigned_abs s.x2 ≤ 2 ^ 31) }
         requires results { (unsigned_abs self.now.y1 ≤ 2 ^ 31) × (unsigned_abs self.now.y2 ≤ 2 ^ 31) }
         ensures value { let s = self.now in
-            result ≡ ((b0 *ℤ x +ℤ b1 *ℤ s.x1) +ℤ b2 *ℤ s.x2) -ℤ (a1 *ℤ s.y1 +ℤ a2 *ℤ s.y2) }
+            result ≡ ((by.now.b0 *ℤ x +ℤ by.now.b1 *ℤ s.x1) +ℤ by.now.b2 *ℤ s.x2)
+            -ℤ (by.now.a1 *ℤ s.y1 +ℤ by.now.a2 *ℤ s.y2) }
         ensures bounded { unsigned_abs result < 2 ^ 61 }
     {
         near_less(
-            near_forward(b0, x, b1, self.x1, b2, self.x2),
-            near_back(a1, self.y1, a2, self.y2),
+            near_forward(by.b0, x, by.b1, self.x1, by.b2, self.x2),
+            near_back(by.a1, self.y1, by.a2, self.y2),
         )
     }
 
@@ -189,16 +245,7 @@ impl Biquad {
     }
 }
 
-// A divisor that is held and above 0.
-fn divisor_of(a0: &Operand) -> Option<Divisor>
-    ensures { IfSome result (λ d. (j : ℕ) → d.value ≡ operand_at a0.now j) }
-{
-    match a0 {
-        Operand::Held(value) => above_zero(*value),
-        Operand::Row(_) => None,
-    }
-}
-
+// A divisor that is above 0.
 fn above_zero(value: Num) -> Option<Divisor>
     ensures { IfSome result (λ d. d.value ≡ value) }
 {
@@ -209,8 +256,8 @@ fn above_zero(value: Num) -> Option<Divisor>
     }
 }
 
-// The quotient, rounded down and brought into range; where the divisor is known and the number fits into 62 bits, without
-// a division.
+// The quotient, rounded down and brought into range; where the divisor is known and the number fits into 62 bits,
+// without a division.
 #[inline(always)]
 fn ratio_by(n: i128, a0: Num, divisor: Option<Divisor>) -> Num
     requires bounded { unsigned_abs n < 2 ^ 97 }
@@ -366,7 +413,27 @@ fn divided(n: i64, a0: Num, divisor: Divisor) -> Num
     requires known { divisor.value ≡ a0 }
     ensures { result ≡ ratio n a0 }
 {
-    Num::of_raw(divisor.divide(n))
+    bounded(divisor.divide(n))
+}
+
+// A quotient brought into range, which it seldom leaves: a test, since the next step waits for it.
+#[inline(always)]
+fn bounded(quotient: i64) -> Num
+    ensures { result ≡ clamp quotient }
+{
+    if -(1 << 47) <= quotient && quotient < 1 << 47 {
+        Num::exact(quotient)
+    } else {
+        far(quotient)
+    }
+}
+
+#[cold]
+#[inline(never)]
+fn far(quotient: i64) -> Num
+    ensures { result ≡ clamp quotient }
+{
+    Num::of_raw(quotient)
 }
 
 // The exact sum.
