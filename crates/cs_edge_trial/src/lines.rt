@@ -49,8 +49,8 @@ impl Print for Counted {
 }
 
 /// Whether a call succeeded, and how many writes and bytes there are then.
-fn after(out: &Counted, result: Result<(), Failed>) -> (bool, u64, u64) {
-    (result.is_ok(), out.writes.get(), out.bytes.get())
+fn after(out: &Counted, said: Result<(), Failed>) -> (bool, u64, u64) {
+    (said.is_ok(), out.writes.get(), out.bytes.get())
 }
 
 /// What is so after each of three pieces of text and after an end, where one write fails.
