@@ -1,4 +1,3 @@
-pub mod Calls
 pub mod Chains
 pub mod Heads
 pub mod Once

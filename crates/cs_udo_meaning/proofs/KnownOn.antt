@@ -1,10 +1,9 @@
 -- What is known goes on being known, and the typed form of statements without a fault is that of what is known at the end.
 use Rattle.std.proofs.Common.{◌≡◌, ◌∙◌, ℕ, suc, ◌-◌, ◌==◌, Bool, true, false, not, ◌&&◌, ◌||◌, if◌then◌else◌, List, [], ◌∷◌, length, map, nat_le, Option, Some, None, arith, refl, sym, ap}
-use Rattle.std.specs.List.{All, list_all}
+use Rattle.std.specs.List.{list_all}
 use Rattle.std.specs.Option.{option_or}
 use Rattle.std.proofs.lemmas.Bool.{and_parts}
 use Rattle.std.proofs.lemmas.Bool.Decides.{nat_tests}
-use Rattle.std.proofs.lemmas.List.Elements.{All-head}
 use Rattle.cs_base.specs.Rates.{within, is_init, is_audio}
 use Rattle.cs_base.specs.declared.resource.Res.TheVariants as res
 use Rattle.cs_base.specs.declared.fault.OrcFault.{OrcFault}
@@ -12,7 +11,7 @@ use Rattle.cs_base.specs.declared.fault.OrcKind.{OrcKind}
 use Rattle.cs_base.specs.declared.fault.OrcKind.TheVariants as orc
 use Rattle.cs_base.specs.declared.resource.Rate.{Rate}
 use Rattle.cs_words.specs.Catalogue.{Row, row_of, takes_count, result_count}
-use Rattle.cs_words.specs.NameSets.{has, place_of, seen}
+use Rattle.cs_words.specs.NameSets.{seen}
 use Rattle.cs_words.specs.Names.{name_rate, is_global}
 use Rattle.cs_words.specs.declared.catalogue.Opcode.{Opcode}
 use Rattle.cs_words.specs.declared.catalogue.Opcode.TheVariants as op
@@ -30,10 +29,8 @@ use Rattle.cs_typing.specs.Settings.{at}
 use Rattle.cs_typing.specs.Statements.{set_fault, condition_fault, known, known_block, known_arms, fault, block_fault, arms_fault, choice_rate, typed_statement, typed_block, typed_arms}
 use Rattle.cs_typing.specs.declared.known.Channel.{Channel}
 use Rattle.cs_typing.specs.declared.known.Channel.TheVariants as channel
-use Rattle.cs_typing.proofs.Naming.{Give, BlockGives, ArmsGive}
-use Rattle.cs_name_laws.proofs.Given.{IsGiven}
-use Rattle.cs_udo_meaning.specs.Numbered.{Numbering, Sharing, channel_by, numbered, expression_by, arguments_by, row_by, call_by, statement_by, block_by, arms_by}
-use Rattle.cs_udo_meaning.proofs.Later.{GoesOn, stays, goes_further, has_on, place_on, seen_on, seen_has, seen_place, TableGoesOn, table_stays, table_further, added_on, added_in, added_place, in_on, place_in_on}
+use Rattle.cs_udo_meaning.specs.Numbered.{Numbering, numbered, expression_by, arguments_by, row_by, call_by, statement_by, block_by, arms_by}
+use Rattle.cs_udo_meaning.proofs.Later.{GoesOn, stays, goes_further, place_on, seen_on, seen_has, seen_place, TableGoesOn, table_stays, table_further, added_on, added_in, added_place, in_on, place_in_on}
 
 -- ---- what is known later
 
@@ -118,101 +115,84 @@ mutual
 pub record HasPlaces (s : Numbering) (t : Table) : Type 0 where
   pub each : (x : List ℕ) → in_table t x ≡ true → s x ≡ place_in t x
 
--- numbers of shared names have the places of what all bodies know
-pub record HasSharedPlaces (g : Sharing) (s : Shared) : Type 0 where
-  pub globals : HasPlaces g.global s.globals
-  pub control : (x : List ℕ) → has s.control x ≡ true → g.control x ≡ place_of s.control x
-  pub sound : (x : List ℕ) → has s.sound x ≡ true → g.sound x ≡ place_of s.sound x
+pub places : (t : Table) → HasPlaces (place_in t) t
+places t = record { each = λ x h. refl }
 
--- numbers have the places of all that is known
-pub record HasNumbers (g : Sharing) (s : Numbering) (m : Known) : Type 0 where
-  pub shared : HasSharedPlaces g m.shared
-  pub locals : HasPlaces s m.locals
+shared_variable : (g h : Table) (x : List ℕ) → h ≡ g
+    → variant.Global (global (name_rate x) (place_in g x)) ≡ variant.Global (global (name_rate x) (place_in h x))
+shared_variable g h x e = ap (λ t. variant.Global (global (name_rate x) (place_in t x))) (sym e)
 
-shared_variable : (g : Sharing) (t u : Table) (x : List ℕ) → u ≡ t → HasPlaces g.global u → in_table u x ≡ true
-    → variant.Global (global (name_rate x) (place_in t x)) ≡ variant.Global (global (name_rate x) (g.global x))
-shared_variable g t u x e p h =
-    ap (λ (k : ℕ). variant.Global (global (name_rate x) k)) (ap (λ w. place_in w x) (sym e) ∙ sym (p.each x h))
-
-pub variable_known : (n m : Known) (g : Sharing) (s : Numbering) (x : List ℕ) → Later n m → HasNumbers g s m → knows n x ≡ true
-    → variable n x ≡ numbered g s x
-variable_known n m g s x l p h = by (is_global x) h
+pub variable_known : (n m : Known) (s : Numbering) (x : List ℕ) → Later n m → HasPlaces s m.locals → knows n x ≡ true
+    → variable n x ≡ numbered m.shared s x
+variable_known n m s x l p h = by (is_global x) h
   where
     by : (b : Bool) → (if b then in_table n.shared.globals x else in_table n.locals x) ≡ true
         → (if b then variant.Global (global (name_rate x) (place_in n.shared.globals x)) else variant.Local (name_rate x) (place_in n.locals x))
-        ≡ (if b then variant.Global (global (name_rate x) (g.global x)) else variant.Local (name_rate x) (s x))
-    by true k =
-        shared_variable g n.shared.globals m.shared.globals x l.shared.globals p.shared.globals (ap (λ t. in_table t x) l.shared.globals ∙ k)
-    by false k = ap (variant.Local (name_rate x)) (sym (p.locals.each x (in_on n.locals m.locals x l.locals k) ∙ place_in_on n.locals m.locals x l.locals k))
+        ≡ (if b then variant.Global (global (name_rate x) (place_in m.shared.globals x)) else variant.Local (name_rate x) (s x))
+    by true k = shared_variable n.shared.globals m.shared.globals x l.shared.globals
+    by false k = ap (variant.Local (name_rate x)) (sym (p.each x (in_on n.locals m.locals x l.locals k) ∙ place_in_on n.locals m.locals x l.locals k))
 
-pub variable_given : (n m : Known) (g : Sharing) (s : Numbering) (x : List ℕ) → IsGiven m.shared.globals x
-    → m.shared.globals ≡ n.shared.globals
+pub variable_given : (n m : Known) (s : Numbering) (x : List ℕ) → m.shared.globals ≡ n.shared.globals
     → TableGoesOn (after_giving n.locals x) m.locals
-    → HasNumbers g s m
-    → variable n x ≡ numbered g s x
-variable_given n m g s x there e l p = by (is_global x) refl l
+    → HasPlaces s m.locals
+    → variable n x ≡ numbered m.shared s x
+variable_given n m s x e l p = by (is_global x) l
   where
-    by : (b : Bool) → is_global x ≡ b → TableGoesOn (if b then n.locals else added n.locals x) m.locals
+    by : (b : Bool) → TableGoesOn (if b then n.locals else added n.locals x) m.locals
         → (if b then variant.Global (global (name_rate x) (place_in n.shared.globals x)) else variant.Local (name_rate x) (place_in n.locals x))
-        ≡ (if b then variant.Global (global (name_rate x) (g.global x)) else variant.Local (name_rate x) (s x))
-    by true is k = shared_variable g n.shared.globals m.shared.globals x e p.shared.globals (there is)
-    by false is k =
-        let known_now : in_table (added n.locals x) x ≡ true = added_in n.locals x in
+        ≡ (if b then variant.Global (global (name_rate x) (place_in m.shared.globals x)) else variant.Local (name_rate x) (s x))
+    by true k = shared_variable n.shared.globals m.shared.globals x e
+    by false k =
+        let there : in_table (added n.locals x) x ≡ true = added_in n.locals x in
         ap (variant.Local (name_rate x))
-        (sym (p.locals.each x (in_on (added n.locals x) m.locals x k known_now) ∙ place_in_on (added n.locals x) m.locals x k known_now ∙ added_place n.locals x))
+        (sym (p.each x (in_on (added n.locals x) m.locals x k there) ∙ place_in_on (added n.locals x) m.locals x k there ∙ added_place n.locals x))
 
-pub expression_same : (n m : Known) (g : Sharing) (s : Numbering) (e : Expression) → Later n m → HasNumbers g s m
+pub expression_same : (n m : Known) (s : Numbering) (e : Expression) → Later n m → HasPlaces s m.locals
     → reads_known n e ≡ true
-    → typed_expression n e ≡ expression_by (numbered g s) e
-expression_same n m g s (number z) l p h = refl
-expression_same n m g s (var x) l p h = ap (typed.var (name_rate x)) (variable_known n m g s x l p h)
-expression_same n m g s (field k) l p h = refl
-expression_same n m g s (head q) l p h = refl
-expression_same n m g s (neg a) l p h = ap (typed.neg (rate_of (neg a))) (expression_same n m g s a l p h)
-expression_same n m g s (pair o a b) l p h =
+    → typed_expression n e ≡ expression_by (numbered m.shared s) e
+expression_same n m s (number z) l p h = refl
+expression_same n m s (var x) l p h = ap (typed.var (name_rate x)) (variable_known n m s x l p h)
+expression_same n m s (field k) l p h = refl
+expression_same n m s (head q) l p h = refl
+expression_same n m s (neg a) l p h = ap (typed.neg (rate_of (neg a))) (expression_same n m s a l p h)
+expression_same n m s (pair o a b) l p h =
     let k = and_parts (reads_known n a) (reads_known n b) h in
-    λ i. typed.pair (rate_of (pair o a b)) o (expression_same n m g s a l p k.0 i) (expression_same n m g s b l p k.1 i)
-expression_same n m g s (pick c a b) l p h =
+    λ i. typed.pair (rate_of (pair o a b)) o (expression_same n m s a l p k.0 i) (expression_same n m s b l p k.1 i)
+expression_same n m s (pick c a b) l p h =
     let j = and_parts (reads_known n c && reads_known n a) (reads_known n b) h in
     let k = and_parts (reads_known n c) (reads_known n a) j.0 in
-    λ i. typed.pick (rate_of (pick c a b)) (expression_same n m g s c l p k.0 i) (expression_same n m g s a l p k.1 i) (expression_same n m g s b l p j.1 i)
-expression_same n m g s (apply f a) l p h = ap (typed.apply (rate_of (apply f a)) f) (expression_same n m g s a l p h)
+    λ i. typed.pick (rate_of (pick c a b)) (expression_same n m s c l p k.0 i) (expression_same n m s a l p k.1 i) (expression_same n m s b l p j.1 i)
+expression_same n m s (apply f a) l p h = ap (typed.apply (rate_of (apply f a)) f) (expression_same n m s a l p h)
 
 -- ---- arguments
 
-plain_same : (n m : Known) (g : Sharing) (s : Numbering) (args : List Argument) → Later n m → HasNumbers g s m
+plain_same : (n m : Known) (s : Numbering) (args : List Argument) → Later n m → HasPlaces s m.locals
     → all_known n args ≡ true
-    → typed_arguments n None args ≡ arguments_by g (numbered g s) None args
-plain_same n m g s [] l p h = refl
-plain_same n m g s (value e ∷ rest) l p h =
+    → typed_arguments n None args ≡ arguments_by m.shared (numbered m.shared s) None args
+plain_same n m s [] l p h = refl
+plain_same n m s (value e ∷ rest) l p h =
     let k = and_parts (reads_known n e) (all_known n rest) h in
-    λ i. typed.value (expression_same n m g s e l p k.0 i) ∷ plain_same n m g s rest l p k.1 i
-plain_same n m g s (text t ∷ rest) l p h = plain_same n m g s rest l p h
+    λ i. typed.value (expression_same n m s e l p k.0 i) ∷ plain_same n m s rest l p k.1 i
+plain_same n m s (text t ∷ rest) l p h = plain_same n m s rest l p h
 
-seen_number : (names later : List (List ℕ)) (own : Numbering) (t : List ℕ) → GoesOn (seen names t) later
-    → ((x : List ℕ) → has later x ≡ true → own x ≡ place_of later x) → place_of names t ≡ own t
-seen_number names later own t l p =
-    sym (seen_place names t) ∙ (sym (place_on (seen names t) later t l (seen_has names t)) ∙ sym (p t (has_on (seen names t) later t l (seen_has names t))))
-
-channel_same : (s r : Shared) (g : Sharing) (kind : Channel) (t : List ℕ) → SharedGoesOn (used s kind t) r → HasSharedPlaces g r
-    → channel_of s kind t ≡ channel_by g kind t
-channel_same s r g channel.Control t l p =
-    ap (λ (k : ℕ). variant.Global (res.Control k)) (seen_number s.control r.control g.control t l.control p.control)
-channel_same s r g channel.Sound t l p =
-    ap (λ (k : ℕ). variant.Global (res.Sound k)) (seen_number s.sound r.sound g.sound t l.sound p.sound)
+channel_same : (s r : Shared) (kind : Channel) (t : List ℕ) → SharedGoesOn (used s kind t) r
+    → channel_of s kind t ≡ channel_of r kind t
+channel_same s r channel.Control t l =
+    ap (λ k. variant.Global (res.Control k)) (sym (seen_place s.control t) ∙ sym (place_on (seen s.control t) r.control t l.control (seen_has s.control t)))
+channel_same s r channel.Sound t l =
+    ap (λ k. variant.Global (res.Sound k)) (sym (seen_place s.sound t) ∙ sym (place_on (seen s.sound t) r.sound t l.sound (seen_has s.sound t)))
 
 -- a text alone, and a value and a text
-text_alone : (n m : Known) (g : Sharing) (s : Numbering) (kind : Channel) (t : List ℕ) → HasNumbers g s m
-    → SharedGoesOn (used n.shared kind t) m.shared
-    → typed_arguments n (Some kind) (text t ∷ []) ≡ arguments_by g (numbered g s) (Some kind) (text t ∷ [])
-text_alone n m g s kind t p l = ap (λ c. typed.text c ∷ []) (channel_same n.shared m.shared g kind t l p.shared)
+text_alone : (n m : Known) (s : Numbering) (kind : Channel) (t : List ℕ) → SharedGoesOn (used n.shared kind t) m.shared
+    → typed_arguments n (Some kind) (text t ∷ []) ≡ arguments_by m.shared (numbered m.shared s) (Some kind) (text t ∷ [])
+text_alone n m s kind t l = ap (λ c. typed.text c ∷ []) (channel_same n.shared m.shared kind t l)
 
-value_text : (n m : Known) (g : Sharing) (s : Numbering) (kind : Channel) (e : Expression) (t : List ℕ) → Later n m
-    → HasNumbers g s m → reads_known n e ≡ true
+value_text : (n m : Known) (s : Numbering) (kind : Channel) (e : Expression) (t : List ℕ) → Later n m
+    → HasPlaces s m.locals → reads_known n e ≡ true
     → SharedGoesOn (used n.shared kind t) m.shared
-    → typed_arguments n (Some kind) (value e ∷ text t ∷ []) ≡ arguments_by g (numbered g s) (Some kind) (value e ∷ text t ∷ [])
-value_text n m g s kind e t l p h on =
-    λ i. typed.value (expression_same n m g s e l p h i) ∷ typed.text (channel_same n.shared m.shared g kind t on p.shared i) ∷ []
+    → typed_arguments n (Some kind) (value e ∷ text t ∷ []) ≡ arguments_by m.shared (numbered m.shared s) (Some kind) (value e ∷ text t ∷ [])
+value_text n m s kind e t l p h on =
+    λ i. typed.value (expression_same n m s e l p h i) ∷ typed.text (channel_same n.shared m.shared kind t on i) ∷ []
 
 past_one : (k : ℕ) → (suc (suc k) - 1 == 0) ≡ false
 past_one k = grind (arith, nat_tests)
@@ -240,37 +220,37 @@ first_known_of : (a b : Bool) → (a && (true && b)) ≡ true → a ≡ true
 first_known_of true b h = refl
 first_known_of false b h = absurd (cc h)
 
-arguments_same : (n m : Known) (g : Sharing) (s : Numbering) (o : Opcode) (b : Rate) (results : List (List ℕ)) (args : List Argument)
-    → Later n m → HasNumbers g s m
+arguments_same : (n m : Known) (s : Numbering) (o : Opcode) (b : Rate) (results : List (List ℕ)) (args : List Argument)
+    → Later n m → HasPlaces s m.locals
     → takes_count (row_of o) (length args) ≡ true → all_fit (row_of o) b 0 args ≡ true → all_known n args ≡ true
     → SharedGoesOn (use_channel n.shared (channel_use (row_of o).shape results args) (text_of args)) m.shared
     → typed_arguments n (channel_use (row_of o).shape results args) args
-    ≡ arguments_by g (numbered g s) (channel_use (row_of o).shape results args) args
-arguments_same n m g s op.Chnget b results [] l p c f h on = absurd (cc c)
-arguments_same n m g s op.Chnget b results (value e ∷ rest) l p c f h on = no_value (is_value e) (all_fit (row_of op.Chnget) b 1 rest) f
-arguments_same n m g s op.Chnget b results (text t ∷ []) l p c f h on = text_alone n m g s (kind_of (is_audio (bound_of results))) t p on
-arguments_same n m g s op.Chnget b results (text t ∷ a ∷ rest) l p c f h on = no_second (length rest) c
-arguments_same n m g s op.Chnset b results [] l p c f h on = absurd (cc c)
-arguments_same n m g s op.Chnset b results (text t ∷ rest) l p c f h on = absurd (cc f)
-arguments_same n m g s op.Chnset b results (value e ∷ []) l p c f h on = absurd (cc c)
-arguments_same n m g s op.Chnset b results (value e ∷ value d ∷ rest) l p c f h on =
+    ≡ arguments_by m.shared (numbered m.shared s) (channel_use (row_of o).shape results args) args
+arguments_same n m s op.Chnget b results [] l p c f h on = absurd (cc c)
+arguments_same n m s op.Chnget b results (value e ∷ rest) l p c f h on = no_value (is_value e) (all_fit (row_of op.Chnget) b 1 rest) f
+arguments_same n m s op.Chnget b results (text t ∷ []) l p c f h on = text_alone n m s (kind_of (is_audio (bound_of results))) t on
+arguments_same n m s op.Chnget b results (text t ∷ a ∷ rest) l p c f h on = no_second (length rest) c
+arguments_same n m s op.Chnset b results [] l p c f h on = absurd (cc c)
+arguments_same n m s op.Chnset b results (text t ∷ rest) l p c f h on = absurd (cc f)
+arguments_same n m s op.Chnset b results (value e ∷ []) l p c f h on = absurd (cc c)
+arguments_same n m s op.Chnset b results (value e ∷ value d ∷ rest) l p c f h on =
     second_no_value (is_value e && true) (is_value d) (all_fit (row_of op.Chnset) b 2 rest) f
-arguments_same n m g s op.Chnset b results (value e ∷ text t ∷ []) l p c f h on =
-    value_text n m g s (kind_of (any_sound (value e ∷ text t ∷ []))) e t l p (first_known_of (reads_known n e) true h) on
-arguments_same n m g s op.Chnset b results (value e ∷ text t ∷ a ∷ rest) l p c f h on = no_third (length rest) c
-arguments_same n m g s op.Chnmix b results [] l p c f h on = absurd (cc c)
-arguments_same n m g s op.Chnmix b results (text t ∷ rest) l p c f h on = absurd (cc f)
-arguments_same n m g s op.Chnmix b results (value e ∷ []) l p c f h on = absurd (cc c)
-arguments_same n m g s op.Chnmix b results (value e ∷ value d ∷ rest) l p c f h on =
+arguments_same n m s op.Chnset b results (value e ∷ text t ∷ []) l p c f h on =
+    value_text n m s (kind_of (any_sound (value e ∷ text t ∷ []))) e t l p (first_known_of (reads_known n e) true h) on
+arguments_same n m s op.Chnset b results (value e ∷ text t ∷ a ∷ rest) l p c f h on = no_third (length rest) c
+arguments_same n m s op.Chnmix b results [] l p c f h on = absurd (cc c)
+arguments_same n m s op.Chnmix b results (text t ∷ rest) l p c f h on = absurd (cc f)
+arguments_same n m s op.Chnmix b results (value e ∷ []) l p c f h on = absurd (cc c)
+arguments_same n m s op.Chnmix b results (value e ∷ value d ∷ rest) l p c f h on =
     second_no_value (is_value e && is_audio (rate_of e)) (is_value d) (all_fit (row_of op.Chnmix) b 2 rest) f
-arguments_same n m g s op.Chnmix b results (value e ∷ text t ∷ []) l p c f h on =
-    value_text n m g s channel.Sound e t l p (first_known_of (reads_known n e) true h) on
-arguments_same n m g s op.Chnmix b results (value e ∷ text t ∷ a ∷ rest) l p c f h on = no_third (length rest) c
-arguments_same n m g s op.Chnclear b results [] l p c f h on = absurd (cc c)
-arguments_same n m g s op.Chnclear b results (value e ∷ rest) l p c f h on = no_value (is_value e) (all_fit (row_of op.Chnclear) b 1 rest) f
-arguments_same n m g s op.Chnclear b results (text t ∷ []) l p c f h on = text_alone n m g s channel.Sound t p on
-arguments_same n m g s op.Chnclear b results (text t ∷ a ∷ rest) l p c f h on = no_second (length rest) c
-arguments_same n m g s o b results args l p c f h on = plain_same n m g s args l p h
+arguments_same n m s op.Chnmix b results (value e ∷ text t ∷ []) l p c f h on =
+    value_text n m s channel.Sound e t l p (first_known_of (reads_known n e) true h) on
+arguments_same n m s op.Chnmix b results (value e ∷ text t ∷ a ∷ rest) l p c f h on = no_third (length rest) c
+arguments_same n m s op.Chnclear b results [] l p c f h on = absurd (cc c)
+arguments_same n m s op.Chnclear b results (value e ∷ rest) l p c f h on = no_value (is_value e) (all_fit (row_of op.Chnclear) b 1 rest) f
+arguments_same n m s op.Chnclear b results (text t ∷ []) l p c f h on = text_alone n m s channel.Sound t on
+arguments_same n m s op.Chnclear b results (text t ∷ a ∷ rest) l p c f h on = no_second (length rest) c
+arguments_same n m s o b results args l p c f h on = plain_same n m s args l p h
 
 -- ---- results: none or one
 
@@ -281,13 +261,12 @@ one_at_most : {A : Type 0} (b : Bool) (k : ℕ) → (suc (suc k) == (if b then 0
 one_at_most true k h = absurd (omega (arith, equal (suc (suc k)) 0 h))
 one_at_most false k h = absurd (omega (arith, equal (suc (suc k)) 1 h))
 
-results_same : (n m : Known) (g : Sharing) (s : Numbering) (row : Row) (results : List (List ℕ)) → (length results == result_count row) ≡ true
-    → All (IsGiven m.shared.globals) results → m.shared.globals ≡ n.shared.globals → TableGoesOn (given_all n results).locals m.locals → HasNumbers g s m
-    → map (variable n) results ≡ map (numbered g s) results
-results_same n m g s row [] c there e l p = refl
-results_same n m g s row (x ∷ []) c there e l p =
-    ap (λ v. v ∷ []) (variable_given n m g s x (All-head (IsGiven m.shared.globals) x [] there) e l p)
-results_same n m g s row (x ∷ y ∷ rest) c there e l p = one_at_most (length row.results == 0) (length rest) c
+results_same : (n m : Known) (s : Numbering) (row : Row) (results : List (List ℕ)) → (length results == result_count row) ≡ true
+    → m.shared.globals ≡ n.shared.globals → TableGoesOn (given_all n results).locals m.locals → HasPlaces s m.locals
+    → map (variable n) results ≡ map (numbered m.shared s) results
+results_same n m s row [] c e l p = refl
+results_same n m s row (x ∷ []) c e l p = ap (λ v. v ∷ []) (variable_given n m s x e l p)
+results_same n m s row (x ∷ y ∷ rest) c e l p = one_at_most (length row.results == 0) (length rest) c
 
 -- ---- calls
 
@@ -300,11 +279,11 @@ no_rule_broken true true false d e h = absurd (cc h)
 no_rule_broken true false c d e h = absurd (cc h)
 no_rule_broken false b c d e h = absurd (cc h)
 
-row_same : (q : Setting) (n m : Known) (g : Sharing) (s : Numbering) (line : ℕ) (o : Opcode) (results : List (List ℕ)) (args : List Argument)
-    → All (IsGiven m.shared.globals) results → row_fault q n (row_of o) results args ≡ None → Later (row_known n (row_of o) results args) m
-    → HasNumbers g s m
-    → typed_row line n o (row_of o) results args ≡ row_by line g (numbered g s) o (row_of o) results args
-row_same q n m g s line o results args there h l p =
+row_same : (q : Setting) (n m : Known) (s : Numbering) (line : ℕ) (o : Opcode) (results : List (List ℕ)) (args : List Argument)
+    → row_fault q n (row_of o) results args ≡ None → Later (row_known n (row_of o) results args) m
+    → HasPlaces s m.locals
+    → typed_row line n o (row_of o) results args ≡ row_by line m.shared (numbered m.shared s) o (row_of o) results args
+row_same q n m s line o results args h l p =
     let row = row_of o in
     let right = no_rule_broken (counts_agree row results args) (all_known n args) (rates_agree q row results args)
     (clashes n.shared (channel_use row.shape results args) (text_of args)) (is_too_wide q row.shape args) h in
@@ -314,15 +293,15 @@ row_same q n m g s line o results args there h l p =
     let outer = and_parts (fit && may && is_even row.shape args) (q.inside || stands_outside row.shape) right.2 in
     let inner = and_parts fit may (and_parts (fit && may) (is_even row.shape args) outer.0).0 in
     let whole : Later n m = later_further n (row_known n row results args) m (row_later n row results args) l in
-    let given_on = results_same n m g s row results counts.0 there whole.shared.globals l.locals p in
-    let made = arguments_same n m g s o (bound_of results) results args whole p counts.1 inner.0 right.1 l.shared in
+    let given_on = results_same n m s row results counts.0 whole.shared.globals l.locals p in
+    let made = arguments_same n m s o (bound_of results) results args whole p counts.1 inner.0 right.1 l.shared in
     λ i. typed.call line (call_rate row.shape results args) (given_on i) o (made i)
 
-call_same : (q : Setting) (n m : Known) (g : Sharing) (s : Numbering) (line : ℕ) (c : Callee) (results : List (List ℕ)) (args : List Argument)
-    → All (IsGiven m.shared.globals) results → call_fault q n c results args ≡ None → Later (call_known n c results args) m → HasNumbers g s m
-    → typed_call line n c results args ≡ call_by line g (numbered g s) c results args
-call_same q n m g s line (callee.Name name) results args there h l p = refl
-call_same q n m g s line (callee.Opcode o) results args there h l p = row_same q n m g s line o results args there h l p
+call_same : (q : Setting) (n m : Known) (s : Numbering) (line : ℕ) (c : Callee) (results : List (List ℕ)) (args : List Argument)
+    → call_fault q n c results args ≡ None → Later (call_known n c results args) m → HasPlaces s m.locals
+    → typed_call line n c results args ≡ call_by line m.shared (numbered m.shared s) c results args
+call_same q n m s line (callee.Name name) results args h l p = refl
+call_same q n m s line (callee.Opcode o) results args h l p = row_same q n m s line o results args h l p
 
 -- ---- statements
 
@@ -351,35 +330,35 @@ condition_known q n line e h =
     nothing_unknown (reads_known n e) (is_condition e && (q.inside || is_init (rate_of e))) (at_none line (condition_fault q n e) h)
 
 mutual
-  pub statement_same : (q : Setting) (n m : Known) (g : Sharing) (s : Numbering) (x : Statement) → Give (IsGiven m.shared.globals) x → fault q n x ≡ None
-      → Later (known n x) m → HasNumbers g s m
-      → typed_statement n x ≡ statement_by g (numbered g s) x
-  statement_same q n m g s (set line x e) there h l p =
+  pub statement_same : (q : Setting) (n m : Known) (s : Numbering) (x : Statement) → fault q n x ≡ None
+      → Later (known n x) m → HasPlaces s m.locals
+      → typed_statement n x ≡ statement_by m.shared (numbered m.shared s) x
+  statement_same q n m s (set line x e) h l p =
       let whole : Later n m = later_further n (given n x) m (given_later n x) l in
-      λ i. typed.set line (name_rate x) (variable_given n m g s x there whole.shared.globals l.locals p i)
-      (expression_same n m g s e whole p (set_known q n line x e h) i)
-  statement_same q n m g s (call line results c args) there h l p =
-      call_same q n m g s line c results args there (at_none line (call_fault q n c results args) h) l p
-  statement_same q n m g s (choose line list) there h l p = ap (typed.choose line (choice_rate list)) (arms_same q n m g s line list there h l p)
+      λ i. typed.set line (name_rate x) (variable_given n m s x whole.shared.globals l.locals p i)
+      (expression_same n m s e whole p (set_known q n line x e h) i)
+  statement_same q n m s (call line results c args) h l p =
+      call_same q n m s line c results args (at_none line (call_fault q n c results args) h) l p
+  statement_same q n m s (choose line list) h l p = ap (typed.choose line (choice_rate list)) (arms_same q n m s line list h l p)
 
-  pub block_same : (q : Setting) (n m : Known) (g : Sharing) (s : Numbering) (b : Block) → BlockGives (IsGiven m.shared.globals) b → block_fault q n b ≡ None
-      → Later (known_block n b) m → HasNumbers g s m
-      → typed_block n b ≡ block_by g (numbered g s) b
-  block_same q n m g s no_stmt there h l p = refl
-  block_same q n m g s (andthen x rest) there h l p =
+  pub block_same : (q : Setting) (n m : Known) (s : Numbering) (b : Block) → block_fault q n b ≡ None
+      → Later (known_block n b) m → HasPlaces s m.locals
+      → typed_block n b ≡ block_by m.shared (numbered m.shared s) b
+  block_same q n m s no_stmt h l p = refl
+  block_same q n m s (andthen x rest) h l p =
       let parts = both_none (fault q n x) (block_fault q (known n x) rest) h in
       let after : Later (known n x) m = later_further (known n x) (known_block (known n x) rest) m (known_block_later (known n x) rest) l in
-      λ i. typed.andthen (statement_same q n m g s x there.0 parts.0 after p i) (block_same q (known n x) m g s rest there.1 parts.1 l p i)
+      λ i. typed.andthen (statement_same q n m s x parts.0 after p i) (block_same q (known n x) m s rest parts.1 l p i)
 
-  pub arms_same : (q : Setting) (n m : Known) (g : Sharing) (s : Numbering) (line : ℕ) (list : Arms) → ArmsGive (IsGiven m.shared.globals) list → arms_fault q n line list ≡ None
+  pub arms_same : (q : Setting) (n m : Known) (s : Numbering) (line : ℕ) (list : Arms) → arms_fault q n line list ≡ None
       → Later (known_arms n list) m
-      → HasNumbers g s m → typed_arms n list ≡ arms_by g (numbered g s) list
-  arms_same q n m g s line (otherwise b) there h l p = ap typed.otherwise (block_same q n m g s b there h l p)
-  arms_same q n m g s line (arm c b rest) there h l p =
+      → HasPlaces s m.locals → typed_arms n list ≡ arms_by m.shared (numbered m.shared s) list
+  arms_same q n m s line (otherwise b) h l p = ap typed.otherwise (block_same q n m s b h l p)
+  arms_same q n m s line (arm c b rest) h l p =
       let parts = both_none (at line (condition_fault q n c)) (option_or (block_fault q n b) (arms_fault q (known_block n b) line rest)) h in
       let more = both_none (block_fault q n b) (arms_fault q (known_block n b) line rest) parts.1 in
       let after : Later (known_block n b) m =
       later_further (known_block n b) (known_arms (known_block n b) rest) m (known_arms_later (known_block n b) rest) l in
       let whole : Later n m = later_further n (known_block n b) m (known_block_later n b) after in
-      λ i. typed.arm (expression_same n m g s c whole p (condition_known q n line c parts.0) i) (block_same q n m g s b there.0 more.0 after p i)
-      (arms_same q (known_block n b) m g s line rest there.1 more.1 l p i)
+      λ i. typed.arm (expression_same n m s c whole p (condition_known q n line c parts.0) i) (block_same q n m s b more.0 after p i)
+      (arms_same q (known_block n b) m s line rest more.1 l p i)

@@ -7,6 +7,7 @@ use Rattle.cs_grammar.specs.Tree.{Definition, Instrument, Orchestra}
 use Rattle.cs_grammar.specs.WellFormed.{WellFormedInstrument, IsWellFormed}
 use Rattle.cs_grammar.specs.declared.scope.Place.TheVariants as place
 use Rattle.cs_typed.specs.TypedTree as typed
+use Rattle.cs_typing.specs.Known.{Shared}
 use Rattle.cs_typing.specs.Typing.{type_fault, typed_of}
 use Rattle.cs_base.specs.declared.spaces.Spaces.{Spaces}
 use Rattle.cs_ir.specs.Worlds.{World}
@@ -19,13 +20,13 @@ use Rattle.cs_udo.specs.Expanding.{within, unless, expanding}
 use Rattle.cs_udo.specs.Refused.{first_fault}
 use Rattle.cs_udo.specs.Counted.{first_limit}
 use Rattle.cs_udo_meaning.specs.Frames.{Framed, new_framed, framed_in, Reading, no_actions, actions_before}
-use Rattle.cs_udo_meaning.specs.Lives.{Cycle, goes_on, begins, performs, goes_on_framed, in_world, reading, MeansFrames, MeanFrames}
-use Rattle.cs_udo_meaning.specs.Numbered.{Numbering, Sharing, Tells, numbered, block_by}
+use Rattle.cs_udo_meaning.specs.Lives.{goes_on, begins, performs, goes_on_framed, reading, MeansFrames}
+use Rattle.cs_udo_meaning.specs.Numbered.{Numbering, Tells, numbered, block_by}
 use Rattle.cs_udo_meaning.specs.Stands.{Fits, Stands}
-use Rattle.cs_udo_meaning.specs.Typed.{IsNumberedInstrument}
+use Rattle.cs_udo_meaning.specs.Typed.{shared_of, IsNumberedInstrument}
 use Rattle.cs_udo_meaning.proofs.Expanding.{all_grow, all_act, nothing_grows, nothing_acts, init_block_stands, perf_block_stands}
 use Rattle.cs_udo_meaning.proofs.Named.{NamedBlock, block_named}
-use Rattle.cs_udo_meaning.proofs.TypedBy.{by_numbers}
+use Rattle.cs_udo_meaning.proofs.TypedBy.{all_numbered}
 
 at_first : 1 ≤ 1
 at_first = omega arith
@@ -64,18 +65,16 @@ new_stands : {W : Type 0} (flat own : Numbering) (x : W) → Stands flat own (ne
 new_stands flat own x = record { locals = λ f y e fits. refl; kept = refl; world = refl }
 
 cycles_alike : {W : Type 0} (m : Reading W) (ds : List Definition) (i : Instrument) (flat : Numbering) (body : core.Block)
-    → ((o : World W) (t : Note W) (u : Framed W) → Stands flat m.number t u
-    → Stands flat m.number (performing.perf_block o start body t) (performs (in_world o m) ds i u))
-    → (cycles : List (Cycle W)) (t : Note W) (u : Framed W) → Stands flat m.number t u
-    → goes_on body cycles t ≡ goes_on_framed m ds i cycles u
+    → ((t : Note W) (u : Framed W) → Stands flat m.number t u → Stands flat m.number (performing.perf_block m.world start body t) (performs m ds i u))
+    → (others : List (W → W)) (t : Note W) (u : Framed W) → Stands flat m.number t u
+    → goes_on m.world body others t ≡ goes_on_framed m ds i others u
 cycles_alike m ds i flat body step [] t u stand = ap (λ x. x ∷ []) stand.world
-cycles_alike m ds i flat body step (c ∷ more) t u stand =
-    let moved = moved_stands flat m.number t u (c.others t.world) (c.others u.world) stand (ap c.others stand.world) in
-    λ j. stand.world j ∷ cycles_alike m ds i flat body step more (performing.perf_block c.world start body (moved_to (c.others t.world) t))
-    (performs (in_world c.world m) ds i (framed_in (c.others u.world) u))
-    (step c.world (moved_to (c.others t.world) t) (framed_in (c.others u.world) u) moved) j
+cycles_alike m ds i flat body step (act ∷ more) t u stand =
+    let moved = moved_stands flat m.number t u (act t.world) (act u.world) stand (ap act stand.world) in
+    λ j. stand.world j ∷ cycles_alike m ds i flat body step more (performing.perf_block m.world start body (moved_to (act t.world) t))
+    (performs m ds i (framed_in (act u.world) u)) (step (moved_to (act t.world) t) (framed_in (act u.world) u) moved) j
 
-instrument_means : (W : Type 0) (ds : List Definition) (g : Sharing) (i : Instrument) (made : typed.Instrument)
+instrument_means : (W : Type 0) (ds : List Definition) (g : Shared) (i : Instrument) (made : typed.Instrument)
     → WellFormedInstrument i
     → IsNumberedInstrument g (expanded_instrument ds i) made → MeansFrames W ds g i made
 instrument_means W ds g i made well h = record {
@@ -85,8 +84,8 @@ instrument_means W ds g i made well h = record {
   apart = h.body.apart;
   begun = starts;
   performed = goes;
-  lived = λ o spaces own to cycles x.
-      cycles_alike (reading o spaces g own) ds i flat (core.core spaces made.body) (λ w. goes w spaces own to) cycles
+  lived = λ o spaces own to others x.
+      cycles_alike (reading o spaces g own) ds i flat (core.core spaces made.body) (goes o spaces own to) others
       (initial.init_block o start (core.core spaces made.body) (new_note x)) (begins (reading o spaces g own) ds i (new_framed x))
       (starts o spaces own to (new_note x) (new_framed x) (new_stands flat own x));
 }
@@ -115,7 +114,7 @@ others_of : (i : Instrument) (list : List Instrument) → All WellFormedInstrume
     → All WellFormedInstrument list
 others_of i list h = λ k d below. h (suc k) d (omega (arith, below))
 
-each_means : (W : Type 0) (ds : List Definition) (g : Sharing) (list : List Instrument) (made : List typed.Instrument)
+each_means : (W : Type 0) (ds : List Definition) (g : Shared) (list : List Instrument) (made : List typed.Instrument)
     → All WellFormedInstrument list
     → AllZip (IsNumberedInstrument g) (map (expanded_instrument ds) list) made → AllZip (MeansFrames W ds g) list made
 each_means W ds g [] [] well h = h
@@ -134,13 +133,9 @@ expanded_is o made h = by (first_fault o) (first_limit o) h
     by (Some f) l e = absurd (cc e)
 
 pub calls_mean_frames : (W : Type 0) (o made : Orchestra) → IsWellFormed o → expanding o ≡ Ok made
-    → type_fault made ≡ None → MeanFrames W o (typed_of made).instrs
+    → type_fault made ≡ None
+    → AllZip (MeansFrames W o.opcodes (shared_of made)) o.instrs (typed_of made).instrs
 calls_mean_frames W o made well h right =
-    let typed_form = by_numbers made right in
-    record {
-      shared = typed_form.shared;
-      apart = typed_form.apart;
-      instruments = each_means W o.opcodes typed_form.shared o.instrs (typed_of made).instrs well.instruments
-          (subst (λ list. AllZip (IsNumberedInstrument typed_form.shared) list (typed_of made).instrs) (ap (λ z. z.instrs) (expanded_is o made h))
-          typed_form.instruments);
-    }
+    each_means W o.opcodes (shared_of made) o.instrs (typed_of made).instrs well.instruments
+    (subst (λ list. AllZip (IsNumberedInstrument (shared_of made)) list (typed_of made).instrs) (ap (λ z. z.instrs) (expanded_is o made h))
+    (all_numbered made right))

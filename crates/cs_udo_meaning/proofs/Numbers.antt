@@ -4,9 +4,9 @@ use Rattle.std.specs.Str.{bytes_eq}
 use Rattle.std.proofs.lemmas.Slice.Eq.{bytes_eq-Decides}
 use Rattle.cs_words.specs.NameSets.{has, place_of}
 use Rattle.cs_words.specs.Names.{name_rate}
-use Rattle.cs_typing.specs.Known.{Shared, Table, of_rate, in_table, place_in}
-use Rattle.cs_udo_meaning.specs.Numbered.{Numbering, Sharing, Tells, TellsShared, pushed, spelled}
-use Rattle.cs_udo_meaning.proofs.KnownOn.{HasPlaces, HasSharedPlaces}
+use Rattle.cs_typing.specs.Known.{Table, of_rate, in_table, place_in}
+use Rattle.cs_udo_meaning.specs.Numbered.{Numbering, Tells, pushed, spelled}
+use Rattle.cs_udo_meaning.proofs.KnownOn.{HasPlaces}
 
 -- ---- a number for every name
 
@@ -89,20 +89,3 @@ number_tells t x y r e =
     let names = of_rate (name_rate x) t in
     numbers_apart names x y
     (e ∙ ap (λ q. if has (of_rate q t) y then place_of (of_rate q t) y else length (of_rate q t) + spelled y) (sym r))
-
--- ---- what notes share: the places of what all bodies know, and after them a number for every other name
-
-abbrev pub number_among : List (List ℕ) → Numbering
-number_among names x = if has names x then place_of names x else length names + spelled x
-
-among_places : (names : List (List ℕ)) (x : List ℕ) → has names x ≡ true → number_among names x ≡ place_of names x
-among_places names x h = ap (λ b. if b then place_of names x else length names + spelled x) h
-
-abbrev pub numbers_of : Shared → Sharing
-numbers_of s = record { global = number_in s.globals; control = number_among s.control; sound = number_among s.sound }
-
-pub shared_places : (s : Shared) → HasSharedPlaces (numbers_of s) s
-shared_places s = record { globals = number_places s.globals; control = among_places s.control; sound = among_places s.sound }
-
-pub shared_tells : (s : Shared) → TellsShared (numbers_of s)
-shared_tells s = record { global = number_tells s.globals; control = numbers_apart s.control; sound = numbers_apart s.sound }

@@ -15,9 +15,10 @@ use Rattle.cs_typed.specs.Places.{is_starting, is_writing}
 use Rattle.cs_typed.specs.TypedTree as typed
 use Rattle.cs_typing.specs.Calls.{bound_of, any_sound, kind_of, channel_use, is_still, call_rate}
 use Rattle.cs_typing.specs.Expressions.{applied_rate, rate_of}
+use Rattle.cs_typing.specs.Known.{Shared}
 use Rattle.cs_typing.specs.declared.known.Channel.{Channel}
 use Rattle.cs_udo.specs.Names.{renamed, renamed_argument}
-use Rattle.cs_udo_meaning.specs.Numbered.{Sharing, Variables, expression_by, argument_by, arguments_by, row_by, statement_by}
+use Rattle.cs_udo_meaning.specs.Numbered.{Variables, expression_by, argument_by, arguments_by, row_by, statement_by}
 
 -- other names of the same rates
 pub record KeepsRates (own : List ℕ → List ℕ) : Type 0 where
@@ -89,14 +90,14 @@ call_rate_kept own k sh [] args =
 call_rate_kept own k sh (x ∷ xs) args = ap (λ q. if is_starting sh then rate.Init else q) (k.rate x)
 
 argument_renamed : (own : List ℕ → List ℕ) → KeepsRates own
-    → (g : Sharing) (v : Variables) (role : Option Channel) (a : Argument)
+    → (g : Shared) (v : Variables) (role : Option Channel) (a : Argument)
     → argument_by g v role (renamed_argument own a) ≡ argument_by g (λ x. v (own x)) role a
 argument_renamed own k g v role (value e) = ap (λ x. typed.value x ∷ []) (expression_renamed own k v e)
 argument_renamed own k g v None (text t) = refl
 argument_renamed own k g v (Some kind) (text t) = refl
 
 arguments_renamed : (own : List ℕ → List ℕ) → KeepsRates own
-    → (g : Sharing) (v : Variables) (role : Option Channel) (args : List Argument)
+    → (g : Shared) (v : Variables) (role : Option Channel) (args : List Argument)
     → arguments_by g v role (map (renamed_argument own) args) ≡ arguments_by g (λ x. v (own x)) role args
 arguments_renamed own k g v role [] = refl
 arguments_renamed own k g v role (a ∷ args) = λ i. argument_renamed own k g v role a i ++ arguments_renamed own k g v role args i
@@ -107,7 +108,7 @@ results_renamed own v [] = refl
 results_renamed own v (x ∷ xs) = ap (λ l. v (own x) ∷ l) (results_renamed own v xs)
 
 row_renamed : (own : List ℕ → List ℕ) → KeepsRates own
-    → (g : Sharing) (v : Variables) (line : ℕ) (o : Opcode) (row : Row) (xs : List (List ℕ)) (args : List Argument)
+    → (g : Shared) (v : Variables) (line : ℕ) (o : Opcode) (row : Row) (xs : List (List ℕ)) (args : List Argument)
     → row_by line g v o row (map own xs) (map (renamed_argument own) args) ≡ row_by line g (λ x. v (own x)) o row xs args
 row_renamed own k g v line o row xs args =
     ap (λ role. typed.call line (call_rate row.shape (map own xs) (map (renamed_argument own) args)) (map v (map own xs)) o
@@ -116,12 +117,12 @@ row_renamed own k g v line o row xs args =
     (arguments_renamed own k g v (channel_use row.shape xs args) args i)
 
 pub set_renamed : (own : List ℕ → List ℕ) → KeepsRates own
-    → (g : Sharing) (v : Variables) (line : ℕ) (x : List ℕ) (e : Expression)
+    → (g : Shared) (v : Variables) (line : ℕ) (x : List ℕ) (e : Expression)
     → statement_by g v (set line (own x) (renamed own e)) ≡ statement_by g (λ y. v (own y)) (set line x e)
 set_renamed own k g v line x e = λ i. typed.set line (k.rate x i) (v (own x)) (expression_renamed own k v e i)
 
 pub call_renamed : (own : List ℕ → List ℕ) → KeepsRates own
-    → (g : Sharing) (v : Variables) (line : ℕ) (xs : List (List ℕ)) (c : Callee) (args : List Argument)
+    → (g : Shared) (v : Variables) (line : ℕ) (xs : List (List ℕ)) (c : Callee) (args : List Argument)
     → statement_by g v (call line (map own xs) c (map (renamed_argument own) args)) ≡ statement_by g (λ y. v (own y)) (call line xs c args)
 call_renamed own k g v line xs (callee.Opcode o) args = row_renamed own k g v line o (row_of o) xs args
 call_renamed own k g v line xs (callee.Name name) args = refl

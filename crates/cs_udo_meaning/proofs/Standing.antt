@@ -16,7 +16,7 @@ use Rattle.cs_typed.specs.declared.tree.Var.{Var as Variable}
 use Rattle.cs_typed.specs.declared.tree.Var.TheVariants.{Local, Global}
 use Rattle.cs_typing.specs.Calls.{channel_use, call_rate}
 use Rattle.cs_typing.specs.Expressions.{rate_of}
-use Rattle.cs_typing.specs.Known.{global}
+use Rattle.cs_typing.specs.Known.{Shared, place_in, global, channel_of}
 use Rattle.cs_typing.specs.declared.known.Channel.{Channel}
 use Rattle.cs_typing.specs.declared.known.Channel.TheVariants as channel
 use Rattle.cs_ir.specs.Machine.{same_reg, put}
@@ -25,7 +25,7 @@ use Rattle.cs_ir.specs.Worlds.{World}
 use Rattle.cs_meaning.specs.Core.{core_stmt}
 use Rattle.cs_meaning.specs.Notes.{Note, reg, look, assign}
 use Rattle.cs_udo_meaning.specs.Frames.{Framed, seen_from, put_back}
-use Rattle.cs_udo_meaning.specs.Numbered.{Sharing, Numbering, Tells, Variables, numbered, expression_by, arguments_by, statement_by, channel_by}
+use Rattle.cs_udo_meaning.specs.Numbered.{Numbering, Tells, Variables, numbered, expression_by, arguments_by, statement_by}
 use Rattle.cs_udo_meaning.specs.Stands.{own_name, Fits, Stands}
 use Rattle.cs_udo_meaning.proofs.Alike.{Alike, alike_number, alike_var, alike_field, alike_head, alike_neg, alike_pair, alike_pick, alike_apply, AlikeVariables, no_variable, more_variables, AlikeArguments, no_argument, more_values, more_texts, AlikeStmt, alike_set, alike_empty, core_alike, Agree}
 use Rattle.cs_udo_meaning.proofs.Fresh.{own_shared, own_rate, own_local, own_apart}
@@ -61,23 +61,23 @@ pub data SameVariable (flat own : Numbering) (f : ℕ) : Variable → Variable �
   both_own : (x : List ℕ) → is_global x ≡ false → Fits f x
       → SameVariable flat own f (Local (name_rate x) (flat (own_name f x))) (Local (name_rate x) (own x))
 
-numbered_shared : (g : Sharing) (s : Numbering) (x : List ℕ) → is_global x ≡ true
-    → numbered g s x ≡ Global (global (name_rate x) (g.global x))
-numbered_shared g s x e = ap (λ b. if b then Global (global (name_rate x) (g.global x)) else Local (name_rate x) (s x)) e
+numbered_shared : (g : Shared) (s : Numbering) (x : List ℕ) → is_global x ≡ true
+    → numbered g s x ≡ Global (global (name_rate x) (place_in g.globals x))
+numbered_shared g s x e = ap (λ b. if b then Global (global (name_rate x) (place_in g.globals x)) else Local (name_rate x) (s x)) e
 
-numbered_own : (g : Sharing) (s : Numbering) (x : List ℕ) → is_global x ≡ false
+numbered_own : (g : Shared) (s : Numbering) (x : List ℕ) → is_global x ≡ false
     → numbered g s x ≡ Local (name_rate x) (s x)
-numbered_own g s x e = ap (λ b. if b then Global (global (name_rate x) (g.global x)) else Local (name_rate x) (s x)) e
+numbered_own g s x e = ap (λ b. if b then Global (global (name_rate x) (place_in g.globals x)) else Local (name_rate x) (s x)) e
 
-pub variable_alike : (g : Sharing) (flat own : Numbering) (f : ℕ) (x : List ℕ) → Fits f x
+pub variable_alike : (g : Shared) (flat own : Numbering) (f : ℕ) (x : List ℕ) → Fits f x
     → SameVariable flat own f (numbered g flat (own_name f x)) (numbered g own x)
 variable_alike g flat own f x fits = by (is_global x) refl
   where
     by : (b : Bool) → is_global x ≡ b → SameVariable flat own f (numbered g flat (own_name f x)) (numbered g own x)
     by true e =
-        let there = Global (global (name_rate x) (g.global x)) in
+        let there = Global (global (name_rate x) (place_in g.globals x)) in
         subst (λ v. SameVariable flat own f v (numbered g own x)) (sym (ap (numbered g flat) (own_shared f x e) ∙ numbered_shared g flat x e))
-        (subst (λ w. SameVariable flat own f there w) (sym (numbered_shared g own x e)) (both_shared (global (name_rate x) (g.global x))))
+        (subst (λ w. SameVariable flat own f there w) (sym (numbered_shared g own x e)) (both_shared (global (name_rate x) (place_in g.globals x))))
     by false e =
         let y = own_name f x in
         let there : numbered g flat y ≡ Local (name_rate x) (flat y) = numbered_own g flat y (own_local f x ∙ e) ∙ ap (λ r. Local r (flat y))
@@ -88,8 +88,8 @@ variable_alike g flat own f x fits = by (is_global x) refl
 -- ---- what is typed with them
 
 channel_alike : (V : Variable → Variable → Type 0) → ((g : Res) → V (Global g) (Global g))
-    → (g : Sharing) (kind : Channel) (t : List ℕ)
-    → V (channel_by g kind t) (channel_by g kind t)
+    → (g : Shared) (kind : Channel) (t : List ℕ)
+    → V (channel_of g kind t) (channel_of g kind t)
 channel_alike V k g channel.Control t = k _
 channel_alike V k g channel.Sound t = k _
 
@@ -106,7 +106,7 @@ module _ {V : Variable → Variable → Type 0} {P : List ℕ → Type 0} (v w :
       alike_pick (rate_of (pick c a b)) _ _ _ _ _ _ (expression_alike c n.0) (expression_alike a n.1) (expression_alike b n.2)
   expression_alike (apply f a) n = alike_apply (rate_of (apply f a)) f _ _ (expression_alike a n)
 
-  arguments_alike : (g : Sharing) (role : Option Channel) (args : List Argument) → NamedArguments P args
+  arguments_alike : (g : Shared) (role : Option Channel) (args : List Argument) → NamedArguments P args
       → AlikeArguments V (arguments_by g v role args) (arguments_by g w role args)
   arguments_alike g role [] n = no_argument
   arguments_alike g role (value e ∷ args) n = more_values _ _ _ _ (expression_alike e n.0) (arguments_alike g role args n.1)
@@ -117,11 +117,11 @@ module _ {V : Variable → Variable → Type 0} {P : List ℕ → Type 0} (v w :
   results_alike [] n = no_variable
   results_alike (x ∷ xs) n = more_variables (v x) (w x) (map v xs) (map w xs) (h x n.0) (results_alike xs n.1)
 
-  pub set_alike : (spaces : _) (g : Sharing) (line : ℕ) (x : List ℕ) (e : Expression) → P x → Named P e
+  pub set_alike : (spaces : _) (g : Shared) (line : ℕ) (x : List ℕ) (e : Expression) → P x → Named P e
       → AlikeStmt V (core_stmt spaces (statement_by g v (set line x e))) (core_stmt spaces (statement_by g w (set line x e)))
   set_alike spaces g line x e n m = alike_set (name_rate x) (v x) (w x) _ _ (h x n) (expression_alike e m)
 
-  pub call_alike : (spaces : _) (g : Sharing) (line : ℕ) (xs : List (List ℕ)) (c : Callee) (args : List Argument)
+  pub call_alike : (spaces : _) (g : Shared) (line : ℕ) (xs : List (List ℕ)) (c : Callee) (args : List Argument)
       → NamedAll P xs → NamedArguments P args
       → AlikeStmt V (core_stmt spaces (statement_by g v (call line xs c args))) (core_stmt spaces (statement_by g w (call line xs c args)))
   call_alike spaces g line xs (callee.Name name) args n m = alike_empty rate.Init

@@ -10,11 +10,11 @@ use Rattle.cs_grammar.specs.Tree.{pair, var, value, Statement, set, call, choose
 use Rattle.cs_meaning.specs.Examples.{small_piece, whole}
 use Rattle.cs_meaning.specs.Plain.{Plain, Piece, plain, fresh, next_cycle}
 use Rattle.cs_ir.specs.Waves.{silence}
+use Rattle.cs_typing.specs.Known.{Shared, no_names}
 use Rattle.cs_udo.specs.Names.{slot}
 use Rattle.cs_udo.specs.Worked.{literal, variable, statements}
 use Rattle.cs_udo_meaning.specs.Frames.{Framed, new_framed, framed_in, Reading}
 use Rattle.cs_udo_meaning.specs.Lives.{begins, performs, reading}
-use Rattle.cs_udo_meaning.specs.Numbered.{Sharing, spelled}
 
 -- a name of two letters
 abbrev k1 : List ℕ
@@ -52,8 +52,8 @@ of_sums = record sevens { generators = record { gen = λ opcode r is h. sum_so_f
 abbrev known_names : List (List ℕ)
 known_names = k1 ∷ k2 ∷ k3 ∷ i1 ∷ a1 ∷ slot 0 rate.Control ∷ slot 1 rate.Control ∷ slot 0 rate.Init ∷ []
 
-abbrev no_shared : Sharing
-no_shared = record { global = spelled; control = spelled; sound = spelled }
+abbrev no_shared : Shared
+no_shared = record { globals = no_names; control = []; sound = [] }
 
 abbrev read_in : Piece → Reading Plain
 read_in piece = reading (plain piece) piece.spaces no_shared (place_of known_names)

@@ -8,6 +8,7 @@ use Rattle.cs_grammar.specs.declared.tree.Callee.TheVariants as callee
 use Rattle.cs_grammar.specs.Tree.{Expression, var, Argument, value, Statement, set, call, choose, Block, no_stmt, andthen, Arms, otherwise, arm, Definition}
 use Rattle.cs_typed.specs.TypedTree as typed
 use Rattle.cs_typed.specs.declared.tree.Var.{Var}
+use Rattle.cs_typing.specs.Known.{Shared}
 use Rattle.cs_typing.specs.Statements.{choice_rate}
 use Rattle.cs_base.specs.declared.spaces.Spaces.{Spaces}
 use Rattle.cs_ir.specs.Values.{holds}
@@ -21,7 +22,7 @@ use Rattle.cs_meaning.specs.Notes.{value as value_of}
 use Rattle.cs_meaning.specs.Performing.{perf_stmt}
 use Rattle.cs_udo.specs.Expanded.{before, whole_body}
 use Rattle.cs_udo.specs.Names.{slots}
-use Rattle.cs_udo_meaning.specs.Numbered.{Numbering, Sharing, numbered, expression_by, statement_by}
+use Rattle.cs_udo_meaning.specs.Numbered.{Numbering, numbered, expression_by, statement_by}
 
 -- A note with frames: the local variables of each frame, frame 0 being the instrument's own; the values that it keeps from its
 -- initialisation, by their number in the text; and the state of the world that it sounds in.
@@ -56,7 +57,7 @@ spot p f = record { place = p; frame = f }
 pub record Reading (W : Type 0) : Type 0 where
   pub world : World W
   pub spaces : Spaces
-  pub shared : Sharing
+  pub shared : Shared
   pub number : Numbering
 
 abbrev pub variable_read : {W : Type 0} → Reading W → List ℕ → Var

@@ -1,5 +1,5 @@
 // What holds of calls of defined opcodes: calls that do nothing, whose contracts are the laws.
-ghost use Rattle.std.specs.List.{All, AllPairs, IsDistinct, flat_map};
+ghost use Rattle.std.specs.List.{All, AllZip, AllPairs, IsDistinct, flat_map};
 ghost use Rattle.std.specs.Prelude.{◌≡◌, ◌≢◌, ◌∷◌, ◌<◌, [], ℕ, List, None, Ok, eqb};
 ghost use Rattle.cs_grammar.specs.Tree.{Block, Definition, Orchestra};
 ghost use Rattle.cs_grammar.specs.WellFormed.{IsWellFormed};
@@ -11,21 +11,19 @@ ghost use Rattle.cs_udo.specs.Expanding.{expanding};
 ghost use Rattle.cs_udo.specs.Worked.{twice, calls_twice, count};
 ghost use Rattle.cs_udo_meaning.specs.Examples.{bump, calls_bump, counted, heard, of_fives, of_sums, sevens, swap, calls_swap, calls_only_first, inc, two, calls_two, turn, calls_turn, half, calls_half};
 ghost use Rattle.cs_udo_meaning.specs.Frames.{Framed, Reading, Spot, acting_all, frames_of_block, init_block, no_actions, past_block, perf_block, units_of_block};
-ghost use Rattle.cs_udo_meaning.specs.Lives.{MeanFrames};
+ghost use Rattle.cs_udo_meaning.specs.Lives.{MeansFrames};
 ghost use Rattle.cs_udo_meaning.specs.Numbered.{Tells, spelled};
-ghost use Rattle.cs_udo_meaning.specs.Typed.{IsByNumbers};
+ghost use Rattle.cs_udo_meaning.specs.Typed.{IsNumbered, IsNumberedInstrument, shared_of};
 ghost use Rattle.cs_udo_meaning.specs.Untouched.{IsOutside};
 
 /// An orchestra with defined opcodes means what its definitions say. Where its calls are expanded and the expansion breaks no rule
 /// of rates and names, each instrument of the typed expansion, as it begins and in every control cycle, does what the instrument
 /// with frames does (specs/Frames): each place of a call has a frame of its own, its inputs are copied in, its body is done over
-/// its frame and what notes share, and its results are given from left to right. Names are read by numbers: those of what notes share
-/// by one numbering for all instruments, which tells them apart; local ones by any. This holds in every world `W`; the states of the
-/// world are equal from the note's beginning on, whatever others do between its cycles, and be it another world in each of them.
-/// Statements outside instruments stay.
+/// its frame and what notes share, and its results are given from left to right. This holds in every world `W`; the states of the
+/// world are equal from the note's beginning on, whatever others do between its cycles. Statements outside instruments stay.
 pub fn expansion_means_calls<W>()
     ensures instruments { (o : Orchestra) → (made : Orchestra) → IsWellFormed o → expanding o ≡ Ok made → type_fault made ≡ None →
-        MeanFrames W o (typed_of made).instrs }
+        AllZip (MeansFrames W o.opcodes (shared_of made)) o.instrs (typed_of made).instrs }
     ensures outside { (o : Orchestra) → (made : Orchestra) → expanding o ≡ Ok made → made.zero ≡ o.zero }
 {}
 
@@ -55,10 +53,13 @@ pub fn calls_have_frames_of_their_own<W>()
         (perf_block m (acting_all m no_actions ds) f p b u).frames g ≡ u.frames g }
 {}
 
-/// The typed form of an orchestra without a fault is its text with a number in place of each name: numberings of global variables and
-/// of channels for the whole text, and one of local variables for each instrument and for the code outside. Each tells names apart.
+/// The typed form of an orchestra without a fault by what is known at the end of its text: shared variables and channels by their
+/// places there, local variables by a number for each name that tells names apart. One numbering for each instrument, and one for
+/// the code outside.
 pub fn typing_is_by_numbers()
-    ensures typed { (o : Orchestra) → type_fault o ≡ None → IsByNumbers o (typed_of o) }
+    ensures instruments { (o : Orchestra) → type_fault o ≡ None →
+        AllZip (IsNumberedInstrument (shared_of o)) o.instrs (typed_of o).instrs }
+    ensures outside { (o : Orchestra) → type_fault o ≡ None → IsNumbered (shared_of o) o.zero (typed_of o).zero }
     ensures spelled { Tells spelled }
 {}
 

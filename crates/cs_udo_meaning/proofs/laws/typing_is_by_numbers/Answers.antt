@@ -1,9 +1,12 @@
 use Rattle.cs_udo_meaning.proofs.Numbers.{spelled_tells}
-use Rattle.cs_udo_meaning.proofs.TypedBy.{by_numbers}
+use Rattle.cs_udo_meaning.proofs.TypedBy.{all_numbered, outside_numbered}
 use Rattle.cs_udo_meaning.proofs.laws.typing_is_by_numbers.Goals as goal
 
-pub returns-clause-typed : goal.returns-clause-typed
-returns-clause-typed c = by_numbers
+pub returns-clause-instruments : goal.returns-clause-instruments
+returns-clause-instruments c = all_numbered
+
+pub returns-clause-outside : goal.returns-clause-outside
+returns-clause-outside c = outside_numbered
 
 pub returns-clause-spelled : goal.returns-clause-spelled
 returns-clause-spelled c = spelled_tells
