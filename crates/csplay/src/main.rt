@@ -1,5 +1,5 @@
-//! The program: it makes the objects of the edge, calls `csplay` with the words behind its name, and ends with the
-//! status's number. All that it promises is the contract of that call.
+//! The program: on a thread with a stack of its own it makes the objects of the edge and calls `csplay` with the words
+//! behind its name; it ends with the status's number. All that it promises is the contract of that call.
 #![tactic(auto)]
 
 use cs_desk::Tally;
@@ -9,11 +9,23 @@ use std::alloc::AllocError;
 use std::process::ExitCode;
 use std::rt::{Env, Files};
 use std::sync::Wait;
-use std::thread::Threads;
+use std::thread::{Builder, Threads};
 use std::{env, io};
 
+/// The bytes of stack that the program's thread has. Five times what the deepest text that was found needs.
+const STACK: usize = 1 << 24;
+
+/// Runs on a thread of its own, so that the stack that the system gives a program doesn't matter; on this one where
+/// none can be started.
 fn main(rt: HostRuntime) -> ExitCode {
-    ExitCode::from(run(&rt).number())
+    let status = match Builder::new()
+        .stack_size(STACK)
+        .spawn(&rt, move || run(&rt))
+    {
+        Ok(thread) => thread.join(&rt),
+        Err(_) => run(&rt),
+    };
+    ExitCode::from(status.number())
 }
 
 /// The words behind the program's name are read, and followed.
