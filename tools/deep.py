@@ -1,0 +1,16 @@
+"""The texts whose trees are deepest within the limits, for bench/texts and tools/test-program."""
+
+
+def nested(depth, inner, word="if p4 == 1 then\n"):
+    """Lines inside of `if`s, one inside another."""
+    return word * depth + inner + "endif\n" * depth
+
+
+def deepest():
+    """An orchestra of 19 opcodes that call one another inside of 99 `if`s each, with 980 signs in the innermost."""
+    inner = "k1=" + "-" * 980 + "k1\n"
+    text = ""
+    for n in range(19):
+        text += f"opcode D{n},0,0\nk1=0\n" + nested(99, inner, "if k1 == 1 then\n") + "endop\n"
+        inner = f"D{n}\n"
+    return text + "instr 1\nD18\nendin\n"
