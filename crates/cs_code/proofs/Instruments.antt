@@ -1,21 +1,23 @@
 -- The codes of a block are what is promised of an instrument, and instruments are added in the order of the text.
 use Rattle.std.proofs.Common.{◌≡◌, ℕ, ◌+◌, ◌<◌, ◌≤◌, max, true, List, [], ◌∷◌, ◌++◌, length, map, take, get_or, refl, sym, ◌∙◌, ap, ap₂, subst, arith, append_assoc, append-nil}
-use Rattle.std.specs.List.{All, AllZip}
+use Rattle.std.specs.List.{All, AllZip, Contains}
 use Rattle.std.proofs.lemmas.Grind.{flat_map-append}
 use Rattle.std.proofs.lemmas.List.{map_more, map-append, get_or-map, length-map}
 use Rattle.cs_base.specs.declared.per_rate.PerRate.{PerRate}
 use Rattle.cs_base.specs.declared.resource.Rate.{Rate}
 use Rattle.cs_base.specs.declared.resource.Rate.TheVariants as rate
+use Rattle.cs_base.specs.declared.resource.Res.{Res}
 use Rattle.cs_ir.specs.Cycles.{are_of_cycle}
 use Rattle.cs_ir.specs.Instruments.{Numbered, numbers_of}
 use Rattle.cs_base.specs.declared.spaces.Spaces.{Spaces}
-use Rattle.cs_ir.specs.Resources.{ops_use, ops_write}
+use Rattle.cs_ir.specs.Resources.{NameTheSame, ops_use, ops_write}
 use Rattle.cs_ir.specs.Validity.{count_of, fine_from}
 use Rattle.cs_ir.specs.declared.op.Code.{Code}
 use Rattle.cs_ir.specs.declared.op.Op.{Op}
 use Rattle.cs_ir.specs.declared.register.Counts.{Counts}
 use Rattle.cs_meaning.specs.Core.{core}
 use Rattle.cs_meaning.specs.Notes.{start, past_block}
+use Rattle.cs_meaning.specs.Uses.{block_begin_writes, block_begins, block_uses, block_writes}
 use Rattle.cs_typed.specs.TypedTree as typed
 use Rattle.cs_typed.specs.Variables.{IsCounted, EachInBlock}
 use Rattle.cs_typed.specs.WellRated.{IsRatedBlock}
@@ -44,6 +46,10 @@ reaches_second : (units : ℕ) (g h : Rate → ℕ) (r : Rate) → h r ≤ count
 reaches_second units g h rate.Init = omega arith
 reaches_second units g h rate.Control = omega arith
 reaches_second units g h rate.Audio = omega arith
+
+-- one list names what it names
+alike : (xs ys : List Res) → xs ≡ ys → NameTheSame xs ys
+alike xs ys e g = (subst (λ l. Contains l g) e, subst (λ l. Contains l g) (sym e))
 
 -- What the making of two codes of a block with these local variables answers.
 pub record Made (spaces : Spaces) (locals : PerRate ℕ) (t : typed.Block) (counts : Counts) (init perf : List Op) : Type 0 where
@@ -98,10 +104,14 @@ module _ (spaces : Spaces) (locals : PerRate ℕ) (s : Setting) (t : typed.Block
     units = ap (λ (c : Counts). c.units) counts_a ∙ units_are ∙ units_counted (core spaces t);
     init_names = subst (AllNamed s.channels (block_units (core spaces t))) (sym (ops_a ∙ made.init_is)) (init_named_rated spaces s t f);
     perf_names = subst (AllNamed s.channels (block_units (core spaces t))) (sym (ops_b ∙ made.perf_is)) (perf_named_rated spaces s t rated f);
-    uses = λ stock. ap (ops_use stock) (ops_b ∙ made.perf_is) ∙ block_use stock f 0 start (core spaces t);
-    writes = λ stock. ap (ops_write stock) (ops_b ∙ made.perf_is) ∙ block_write stock f 0 start (core spaces t);
-    begins = λ stock. ap (ops_use stock) (ops_a ∙ made.init_is) ∙ begins_block_use stock f 0 start (core spaces t);
-    begin_writes = λ stock. ap (ops_write stock) (ops_a ∙ made.init_is) ∙ begins_block_write stock f 0 start (core spaces t);
+    uses = λ stock. alike (ops_use stock b.ops.items) (block_uses stock (core spaces t))
+        (ap (ops_use stock) (ops_b ∙ made.perf_is) ∙ block_use stock f 0 start (core spaces t));
+    writes = λ stock. alike (ops_write stock b.ops.items) (block_writes stock (core spaces t))
+        (ap (ops_write stock) (ops_b ∙ made.perf_is) ∙ block_write stock f 0 start (core spaces t));
+    begins = λ stock. alike (ops_use stock a.ops.items) (block_begins stock (core spaces t))
+        (ap (ops_use stock) (ops_a ∙ made.init_is) ∙ begins_block_use stock f 0 start (core spaces t));
+    begin_writes = λ stock. alike (ops_write stock a.ops.items) (block_begin_writes stock (core spaces t))
+        (ap (ops_write stock) (ops_a ∙ made.init_is) ∙ begins_block_write stock f 0 start (core spaces t));
     perf_cycle = ap are_of_cycle (ops_b ∙ made.perf_is) ∙ perf_in_cycle f 0 start (core spaces t);
   }
 

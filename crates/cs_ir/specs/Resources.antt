@@ -1,6 +1,6 @@
 -- Which of what notes share an op may read or write.
-use Rattle.std.specs.Prelude.{ℕ, Bool, true, false, ◌&&◌, List, [], ◌∷◌, map, nat_le, if◌then◌else◌}
-use Rattle.std.specs.List.{filter, flat_map, range_with_len}
+use Rattle.std.specs.Prelude.{ℕ, Bool, true, false, ◌&&◌, ◌↔◌, List, [], ◌∷◌, map, nat_le, if◌then◌else◌}
+use Rattle.std.specs.List.{Contains, filter, flat_map, range_with_len}
 use Rattle.cs_base.specs.declared.resource.Res.{Res}
 use Rattle.cs_base.specs.declared.resource.Res.TheVariants as res
 use Rattle.cs_base.specs.declared.spaces.Spaces.{Spaces}
@@ -86,3 +86,7 @@ ops_use stock ops = flat_map (λ o. act_uses stock o.act) ops
 
 abbrev pub ops_write : Stock → List Op → List Res
 ops_write stock ops = flat_map (λ o. act_writes stock o.act) ops
+
+-- two lists name the same resources, in whatever order and however often
+abbrev pub NameTheSame : List Res → List Res → Type 0
+NameTheSame xs ys = (g : Res) → Contains xs g ↔ Contains ys g
