@@ -56,38 +56,38 @@ whole_own stock f (field r k) at x d = refl
 whole_own stock f (head r k) at x d = refl
 whole_own stock f (neg r a) at x d =
     last_uses stock (operand_code f true at a d) (op_of act.Neg x (spot f true at a d ∷ [])) (expr_reads a) refl
-    (whole_direct stock f a at (own f true at a (temp f (node_rate a) d) (d + 1)) (whole_own stock f a at (temp f (node_rate a) d) (d + 1)))
+    (whole_direct stock f a at (own f true at a (temp f (node_rate a) d) d) (whole_own stock f a at (temp f (node_rate a) d) d))
 whole_own stock f (pair r b y z) at x d =
     let last : Op = op_of (act.Pair b) x (spots f true at (y ∷ z ∷ []) d) in
     let second : List Op = operand_code f true (past at y) z (d + 1) in
     use_two stock (operand_code f true at y d) (second ++ (last ∷ [])) (expr_reads y) (expr_reads z)
-    (whole_direct stock f y at (own f true at y (temp f (node_rate y) d) (d + 1)) (whole_own stock f y at (temp f (node_rate y) d) (d + 1)))
+    (whole_direct stock f y at (own f true at y (temp f (node_rate y) d) d) (whole_own stock f y at (temp f (node_rate y) d) d))
     (last_uses stock second last (expr_reads z) refl
-    (whole_direct stock f z (past at y) (own f true (past at y) z (temp f (node_rate z) (d + 1)) (d + 1 + 1))
-    (whole_own stock f z (past at y) (temp f (node_rate z) (d + 1)) (d + 1 + 1))))
+    (whole_direct stock f z (past at y) (own f true (past at y) z (temp f (node_rate z) (d + 1)) (d + 1))
+    (whole_own stock f z (past at y) (temp f (node_rate z) (d + 1)) (d + 1))))
 whole_own stock f (pick r c y z) at x d =
     let last : Op = op_of act.Pick x (spots f true at (c ∷ y ∷ z ∷ []) d) in
     let first : List Op = operand_code f true at c d in
     let second : List Op = operand_code f true (past at c) y (d + 1) in
     let third : List Op = operand_code f true (past (past at c) y) z (d + 1 + 1) in
     use_two stock first (second ++ (third ++ (last ∷ []))) (expr_reads c) (expr_reads y ++ expr_reads z)
-    (whole_direct stock f c at (own f true at c (temp f (node_rate c) d) (d + 1)) (whole_own stock f c at (temp f (node_rate c) d) (d + 1)))
+    (whole_direct stock f c at (own f true at c (temp f (node_rate c) d) d) (whole_own stock f c at (temp f (node_rate c) d) d))
     (use_two stock second (third ++ (last ∷ [])) (expr_reads y) (expr_reads z)
-    (whole_direct stock f y (past at c) (own f true (past at c) y (temp f (node_rate y) (d + 1)) (d + 1 + 1))
-    (whole_own stock f y (past at c) (temp f (node_rate y) (d + 1)) (d + 1 + 1)))
+    (whole_direct stock f y (past at c) (own f true (past at c) y (temp f (node_rate y) (d + 1)) (d + 1))
+    (whole_own stock f y (past at c) (temp f (node_rate y) (d + 1)) (d + 1)))
     (last_uses stock third last (expr_reads z) refl
-    (whole_direct stock f z (past (past at c) y) (own f true (past (past at c) y) z (temp f (node_rate z) (d + 1 + 1)) (d + 1 + 1 + 1))
-    (whole_own stock f z (past (past at c) y) (temp f (node_rate z) (d + 1 + 1)) (d + 1 + 1 + 1)))))
+    (whole_direct stock f z (past (past at c) y) (own f true (past (past at c) y) z (temp f (node_rate z) (d + 1 + 1)) (d + 1 + 1))
+    (whole_own stock f z (past (past at c) y) (temp f (node_rate z) (d + 1 + 1)) (d + 1 + 1)))))
 whole_own stock f (apply r g a) at x d =
     last_uses stock (operand_code f true at a d) (op_of (act.Call g) x (spot f true at a d ∷ [])) (expr_reads a) refl
-    (whole_direct stock f a at (own f true at a (temp f (node_rate a) d) (d + 1)) (whole_own stock f a at (temp f (node_rate a) d) (d + 1)))
+    (whole_direct stock f a at (own f true at a (temp f (node_rate a) d) d) (whole_own stock f a at (temp f (node_rate a) d) d))
 
 whole_code : (stock : Stock) (f : Frame) (e : Expression) (at : ℕ) (x : Reg) (d : ℕ) → ops_use stock (code f true at e x d) ≡ expr_reads e
 whole_code stock f e at x d = whole_copied stock f e at x (own f true at e x d) (whole_own stock f e at x d)
 
 whole_operand : (stock : Stock) (f : Frame) (at : ℕ) (e : Expression) (d : ℕ) → ops_use stock (operand_code f true at e d) ≡ expr_reads e
 whole_operand stock f at e d =
-    whole_direct stock f e at (own f true at e (temp f (node_rate e) d) (d + 1)) (whole_own stock f e at (temp f (node_rate e) d) (d + 1))
+    whole_direct stock f e at (own f true at e (temp f (node_rate e) d) d) (whole_own stock f e at (temp f (node_rate e) d) d)
 
 whole_operands : (stock : Stock) (f : Frame) (at : ℕ) (es : List Expression) (d : ℕ) → ops_use stock (operands_code f true at es d) ≡ exprs_read es
 whole_operands stock f at [] d = refl

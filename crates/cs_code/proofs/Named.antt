@@ -152,37 +152,37 @@ module _ (channels : ℕ) (units : List UnitKind) where
   own_named f whole (head r k) at x d = (tt, tt)
   own_named f whole (neg r a) at x d =
       both (operand_code f whole at a d) (op_of act.Neg x (spot f whole at a d ∷ []) ∷ [])
-      (unless_named (direct f whole at a) (own f whole at a (temp f (node_rate a) d) (d + 1)) (own_named f whole a at (temp f (node_rate a) d) (d + 1))) (tt, tt)
+      (unless_named (direct f whole at a) (own f whole at a (temp f (node_rate a) d) d) (own_named f whole a at (temp f (node_rate a) d) d)) (tt, tt)
   own_named f whole (pair r b y z) at x d =
       let last : List Op = op_of (act.Pair b) x (spots f whole at (y ∷ z ∷ []) d) ∷ [] in
       let second : List Op = operand_code f whole (past at y) z (d + 1) in
       both (operand_code f whole at y d) (second ++ last)
-      (unless_named (direct f whole at y) (own f whole at y (temp f (node_rate y) d) (d + 1)) (own_named f whole y at (temp f (node_rate y) d) (d + 1)))
+      (unless_named (direct f whole at y) (own f whole at y (temp f (node_rate y) d) d) (own_named f whole y at (temp f (node_rate y) d) d))
       (both second last
-      (unless_named (direct f whole (past at y) z) (own f whole (past at y) z (temp f (node_rate z) (d + 1)) (d + 1 + 1))
-      (own_named f whole z (past at y) (temp f (node_rate z) (d + 1)) (d + 1 + 1))) (tt, tt))
+      (unless_named (direct f whole (past at y) z) (own f whole (past at y) z (temp f (node_rate z) (d + 1)) (d + 1))
+      (own_named f whole z (past at y) (temp f (node_rate z) (d + 1)) (d + 1))) (tt, tt))
   own_named f whole (pick r c y z) at x d =
       let last : List Op = op_of act.Pick x (spots f whole at (c ∷ y ∷ z ∷ []) d) ∷ [] in
       let second : List Op = operand_code f whole (past at c) y (d + 1) in
       let third : List Op = operand_code f whole (past (past at c) y) z (d + 1 + 1) in
       both (operand_code f whole at c d) (second ++ (third ++ last))
-      (unless_named (direct f whole at c) (own f whole at c (temp f (node_rate c) d) (d + 1)) (own_named f whole c at (temp f (node_rate c) d) (d + 1)))
+      (unless_named (direct f whole at c) (own f whole at c (temp f (node_rate c) d) d) (own_named f whole c at (temp f (node_rate c) d) d))
       (both second (third ++ last)
-      (unless_named (direct f whole (past at c) y) (own f whole (past at c) y (temp f (node_rate y) (d + 1)) (d + 1 + 1))
-      (own_named f whole y (past at c) (temp f (node_rate y) (d + 1)) (d + 1 + 1)))
+      (unless_named (direct f whole (past at c) y) (own f whole (past at c) y (temp f (node_rate y) (d + 1)) (d + 1))
+      (own_named f whole y (past at c) (temp f (node_rate y) (d + 1)) (d + 1)))
       (both third last
-      (unless_named (direct f whole (past (past at c) y) z) (own f whole (past (past at c) y) z (temp f (node_rate z) (d + 1 + 1)) (d + 1 + 1 + 1))
-      (own_named f whole z (past (past at c) y) (temp f (node_rate z) (d + 1 + 1)) (d + 1 + 1 + 1))) (tt, tt)))
+      (unless_named (direct f whole (past (past at c) y) z) (own f whole (past (past at c) y) z (temp f (node_rate z) (d + 1 + 1)) (d + 1 + 1))
+      (own_named f whole z (past (past at c) y) (temp f (node_rate z) (d + 1 + 1)) (d + 1 + 1))) (tt, tt)))
   own_named f whole (apply r g a) at x d =
       both (operand_code f whole at a d) (op_of (act.Call g) x (spot f whole at a d ∷ []) ∷ [])
-      (unless_named (direct f whole at a) (own f whole at a (temp f (node_rate a) d) (d + 1)) (own_named f whole a at (temp f (node_rate a) d) (d + 1))) (tt, tt)
+      (unless_named (direct f whole at a) (own f whole at a (temp f (node_rate a) d) d) (own_named f whole a at (temp f (node_rate a) d) d)) (tt, tt)
 
   code_named : (f : Frame) (whole : Bool) (e : Expression) (at : ℕ) (x : Reg) (d : ℕ) → Each (code f whole at e x d)
   code_named f whole e at x d = copied_named (direct f whole at e) x (own f whole at e x d) (own_named f whole e at x d)
 
   operand_named : (f : Frame) (whole : Bool) (e : Expression) (at d : ℕ) → Each (operand_code f whole at e d)
   operand_named f whole e at d =
-      unless_named (direct f whole at e) (own f whole at e (temp f (node_rate e) d) (d + 1)) (own_named f whole e at (temp f (node_rate e) d) (d + 1))
+      unless_named (direct f whole at e) (own f whole at e (temp f (node_rate e) d) d) (own_named f whole e at (temp f (node_rate e) d) d)
 
   operands_named : (f : Frame) (whole : Bool) (es : List Expression) (at d : ℕ) → Each (operands_code f whole at es d)
   operands_named f whole [] at d = tt

@@ -108,36 +108,36 @@ own_use stock f (field r k) at x d = refl
 own_use stock f (head r k) at x d = refl
 own_use stock f (neg r a) at x d =
     last_uses stock (operand_code f false at a d) (op_of act.Neg x (spot f false at a d ∷ [])) (expr_used cycle a) refl
-    (by_direct stock f a at (own f false at a (temp f (node_rate a) d) (d + 1)) (own_use stock f a at (temp f (node_rate a) d) (d + 1)))
+    (by_direct stock f a at (own f false at a (temp f (node_rate a) d) d) (own_use stock f a at (temp f (node_rate a) d) d))
 own_use stock f (pair r b y z) at x d =
     use_two stock (operand_code f false at y d)
     (operand_code f false (past at y) z (d + 1) ++ (op_of (act.Pair b) x (spot f false at y d ∷ spot f false (past at y) z (d + 1) ∷ []) ∷ []))
     (expr_used cycle y) (expr_used cycle z)
-    (by_direct stock f y at (own f false at y (temp f (node_rate y) d) (d + 1)) (own_use stock f y at (temp f (node_rate y) d) (d + 1)))
+    (by_direct stock f y at (own f false at y (temp f (node_rate y) d) d) (own_use stock f y at (temp f (node_rate y) d) d))
     (last_uses stock (operand_code f false (past at y) z (d + 1))
     (op_of (act.Pair b) x (spot f false at y d ∷ spot f false (past at y) z (d + 1) ∷ [])) (expr_used cycle z) refl
-    (by_direct stock f z (past at y) (own f false (past at y) z (temp f (node_rate z) (d + 1)) (d + 1 + 1))
-    (own_use stock f z (past at y) (temp f (node_rate z) (d + 1)) (d + 1 + 1))))
+    (by_direct stock f z (past at y) (own f false (past at y) z (temp f (node_rate z) (d + 1)) (d + 1))
+    (own_use stock f z (past at y) (temp f (node_rate z) (d + 1)) (d + 1))))
 own_use stock f (pick r c y z) at x d =
     let last : Op = op_of act.Pick x (spots f false at (c ∷ y ∷ z ∷ []) d) in
     let first : List Op = operand_code f false at c d in
     let second : List Op = operand_code f false (past at c) y (d + 1) in
     let third : List Op = operand_code f false (past (past at c) y) z (d + 1 + 1) in
     use_two stock first (second ++ (third ++ (last ∷ []))) (expr_used cycle c) (expr_used cycle y ++ expr_used cycle z)
-    (by_direct stock f c at (own f false at c (temp f (node_rate c) d) (d + 1)) (own_use stock f c at (temp f (node_rate c) d) (d + 1)))
+    (by_direct stock f c at (own f false at c (temp f (node_rate c) d) d) (own_use stock f c at (temp f (node_rate c) d) d))
     (use_two stock second (third ++ (last ∷ [])) (expr_used cycle y) (expr_used cycle z)
-    (by_direct stock f y (past at c) (own f false (past at c) y (temp f (node_rate y) (d + 1)) (d + 1 + 1))
-    (own_use stock f y (past at c) (temp f (node_rate y) (d + 1)) (d + 1 + 1)))
+    (by_direct stock f y (past at c) (own f false (past at c) y (temp f (node_rate y) (d + 1)) (d + 1))
+    (own_use stock f y (past at c) (temp f (node_rate y) (d + 1)) (d + 1)))
     (last_uses stock third last (expr_used cycle z) refl
-    (by_direct stock f z (past (past at c) y) (own f false (past (past at c) y) z (temp f (node_rate z) (d + 1 + 1)) (d + 1 + 1 + 1))
-    (own_use stock f z (past (past at c) y) (temp f (node_rate z) (d + 1 + 1)) (d + 1 + 1 + 1)))))
+    (by_direct stock f z (past (past at c) y) (own f false (past (past at c) y) z (temp f (node_rate z) (d + 1 + 1)) (d + 1 + 1))
+    (own_use stock f z (past (past at c) y) (temp f (node_rate z) (d + 1 + 1)) (d + 1 + 1)))))
 own_use stock f (apply r g a) at x d =
     last_uses stock (operand_code f false at a d) (op_of (act.Call g) x (spot f false at a d ∷ [])) (expr_used cycle a) refl
-    (by_direct stock f a at (own f false at a (temp f (node_rate a) d) (d + 1)) (own_use stock f a at (temp f (node_rate a) d) (d + 1)))
+    (by_direct stock f a at (own f false at a (temp f (node_rate a) d) d) (own_use stock f a at (temp f (node_rate a) d) d))
 
 operand_use : (stock : Stock) (f : Frame) (at : ℕ) (e : Expression) (d : ℕ) → ops_use stock (operand_code f false at e d) ≡ expr_used cycle e
 operand_use stock f at e d =
-    by_direct stock f e at (own f false at e (temp f (node_rate e) d) (d + 1)) (own_use stock f e at (temp f (node_rate e) d) (d + 1))
+    by_direct stock f e at (own f false at e (temp f (node_rate e) d) d) (own_use stock f e at (temp f (node_rate e) d) d)
 
 operands_use : (stock : Stock) (f : Frame) (at : ℕ) (es : List Expression) (d : ℕ) → ops_use stock (operands_code f false at es d) ≡ exprs_used cycle es
 operands_use stock f at [] d = refl
@@ -265,34 +265,34 @@ own_write stock f whole (field r k) at x d = refl
 own_write stock f whole (head r k) at x d = refl
 own_write stock f whole (neg r a) at x d =
     write_two stock (operand_code f whole at a d) (op_of act.Neg x (spot f whole at a d ∷ []) ∷ []) [] []
-    (unless_write stock (direct f whole at a) (own f whole at a (temp f (node_rate a) d) (d + 1)) (own_write stock f whole a at (temp f (node_rate a) d) (d + 1))) refl
+    (unless_write stock (direct f whole at a) (own f whole at a (temp f (node_rate a) d) d) (own_write stock f whole a at (temp f (node_rate a) d) d)) refl
 own_write stock f whole (pair r b y z) at x d =
     let last : List Op = op_of (act.Pair b) x (spots f whole at (y ∷ z ∷ []) d) ∷ [] in
     let second : List Op = operand_code f whole (past at y) z (d + 1) in
     write_two stock (operand_code f whole at y d) (second ++ last) [] []
-    (unless_write stock (direct f whole at y) (own f whole at y (temp f (node_rate y) d) (d + 1)) (own_write stock f whole y at (temp f (node_rate y) d) (d + 1)))
+    (unless_write stock (direct f whole at y) (own f whole at y (temp f (node_rate y) d) d) (own_write stock f whole y at (temp f (node_rate y) d) d))
     (write_two stock second last [] []
-    (unless_write stock (direct f whole (past at y) z) (own f whole (past at y) z (temp f (node_rate z) (d + 1)) (d + 1 + 1))
-    (own_write stock f whole z (past at y) (temp f (node_rate z) (d + 1)) (d + 1 + 1))) refl)
+    (unless_write stock (direct f whole (past at y) z) (own f whole (past at y) z (temp f (node_rate z) (d + 1)) (d + 1))
+    (own_write stock f whole z (past at y) (temp f (node_rate z) (d + 1)) (d + 1))) refl)
 own_write stock f whole (pick r c y z) at x d =
     let last : List Op = op_of act.Pick x (spots f whole at (c ∷ y ∷ z ∷ []) d) ∷ [] in
     let second : List Op = operand_code f whole (past at c) y (d + 1) in
     let third : List Op = operand_code f whole (past (past at c) y) z (d + 1 + 1) in
     write_two stock (operand_code f whole at c d) (second ++ (third ++ last)) [] []
-    (unless_write stock (direct f whole at c) (own f whole at c (temp f (node_rate c) d) (d + 1)) (own_write stock f whole c at (temp f (node_rate c) d) (d + 1)))
+    (unless_write stock (direct f whole at c) (own f whole at c (temp f (node_rate c) d) d) (own_write stock f whole c at (temp f (node_rate c) d) d))
     (write_two stock second (third ++ last) [] []
-    (unless_write stock (direct f whole (past at c) y) (own f whole (past at c) y (temp f (node_rate y) (d + 1)) (d + 1 + 1))
-    (own_write stock f whole y (past at c) (temp f (node_rate y) (d + 1)) (d + 1 + 1)))
+    (unless_write stock (direct f whole (past at c) y) (own f whole (past at c) y (temp f (node_rate y) (d + 1)) (d + 1))
+    (own_write stock f whole y (past at c) (temp f (node_rate y) (d + 1)) (d + 1)))
     (write_two stock third last [] []
-    (unless_write stock (direct f whole (past (past at c) y) z) (own f whole (past (past at c) y) z (temp f (node_rate z) (d + 1 + 1)) (d + 1 + 1 + 1))
-    (own_write stock f whole z (past (past at c) y) (temp f (node_rate z) (d + 1 + 1)) (d + 1 + 1 + 1))) refl))
+    (unless_write stock (direct f whole (past (past at c) y) z) (own f whole (past (past at c) y) z (temp f (node_rate z) (d + 1 + 1)) (d + 1 + 1))
+    (own_write stock f whole z (past (past at c) y) (temp f (node_rate z) (d + 1 + 1)) (d + 1 + 1))) refl))
 own_write stock f whole (apply r g a) at x d =
     write_two stock (operand_code f whole at a d) (op_of (act.Call g) x (spot f whole at a d ∷ []) ∷ []) [] []
-    (unless_write stock (direct f whole at a) (own f whole at a (temp f (node_rate a) d) (d + 1)) (own_write stock f whole a at (temp f (node_rate a) d) (d + 1))) refl
+    (unless_write stock (direct f whole at a) (own f whole at a (temp f (node_rate a) d) d) (own_write stock f whole a at (temp f (node_rate a) d) d)) refl
 
 operand_write : (stock : Stock) (f : Frame) (whole : Bool) (at : ℕ) (e : Expression) (d : ℕ) → ops_write stock (operand_code f whole at e d) ≡ []
 operand_write stock f whole at e d =
-    unless_write stock (direct f whole at e) (own f whole at e (temp f (node_rate e) d) (d + 1)) (own_write stock f whole e at (temp f (node_rate e) d) (d + 1))
+    unless_write stock (direct f whole at e) (own f whole at e (temp f (node_rate e) d) d) (own_write stock f whole e at (temp f (node_rate e) d) d)
 
 pub operands_write : (stock : Stock) (f : Frame) (whole : Bool) (at : ℕ) (es : List Expression) (d : ℕ) → ops_write stock (operands_code f whole at es d) ≡ []
 operands_write stock f whole at [] d = refl
