@@ -10,7 +10,7 @@ use Rattle.cs_base.specs.declared.resource.Res.{Res}
 use Rattle.cs_ir.specs.Cycles.{are_of_cycle}
 use Rattle.cs_ir.specs.Instruments.{Numbered, numbers_of}
 use Rattle.cs_base.specs.declared.spaces.Spaces.{Spaces}
-use Rattle.cs_ir.specs.Resources.{NameTheSame, ops_use, ops_write}
+use Rattle.cs_ir.specs.Resources.{NameTheSame, may_use, may_write, ops_use, ops_write}
 use Rattle.cs_ir.specs.Validity.{count_of, fine_from}
 use Rattle.cs_ir.specs.declared.op.Code.{Code}
 use Rattle.cs_ir.specs.declared.op.Op.{Op}
@@ -30,10 +30,9 @@ use Rattle.cs_code.specs.inner.Code.{init_block_code, perf_block_code}
 use Rattle.cs_code.specs.inner.Counted.{reached, no_registers}
 use Rattle.cs_code.specs.inner.Frames.{Frame, frame_for}
 use Rattle.cs_code.specs.inner.Limits.{ops_limit}
-use Rattle.cs_code.proofs.BeginResources.{begins_block_use, begins_block_write}
 use Rattle.cs_code.proofs.InCycle.{perf_in_cycle}
 use Rattle.cs_code.proofs.Means.{means_its_tree}
-use Rattle.cs_code.proofs.Resources.{block_use, block_write}
+use Rattle.cs_code.proofs.Resources as touching
 use Rattle.cs_code.proofs.Validity.{units_counted, init_valid, perf_valid, init_named_rated, perf_named_rated}
 
 -- counts that reach two codes reach each of them
@@ -105,13 +104,13 @@ module _ (spaces : Spaces) (locals : PerRate ℕ) (s : Setting) (t : typed.Block
     init_names = subst (AllNamed s.channels (block_units (core spaces t))) (sym (ops_a ∙ made.init_is)) (init_named_rated spaces s t f);
     perf_names = subst (AllNamed s.channels (block_units (core spaces t))) (sym (ops_b ∙ made.perf_is)) (perf_named_rated spaces s t rated f);
     uses = λ stock. alike (ops_use stock b.ops.items) (block_uses stock (core spaces t))
-        (ap (ops_use stock) (ops_b ∙ made.perf_is) ∙ block_use stock f 0 start (core spaces t));
+        (ap (ops_use stock) (ops_b ∙ made.perf_is) ∙ touching.block_cycles may_use stock f 0 start (core spaces t));
     writes = λ stock. alike (ops_write stock b.ops.items) (block_writes stock (core spaces t))
-        (ap (ops_write stock) (ops_b ∙ made.perf_is) ∙ block_write stock f 0 start (core spaces t));
+        (ap (ops_write stock) (ops_b ∙ made.perf_is) ∙ touching.block_cycles may_write stock f 0 start (core spaces t));
     begins = λ stock. alike (ops_use stock a.ops.items) (block_begins stock (core spaces t))
-        (ap (ops_use stock) (ops_a ∙ made.init_is) ∙ begins_block_use stock f 0 start (core spaces t));
+        (ap (ops_use stock) (ops_a ∙ made.init_is) ∙ touching.block_begins may_use stock f 0 start (core spaces t));
     begin_writes = λ stock. alike (ops_write stock a.ops.items) (block_begin_writes stock (core spaces t))
-        (ap (ops_write stock) (ops_a ∙ made.init_is) ∙ begins_block_write stock f 0 start (core spaces t));
+        (ap (ops_write stock) (ops_a ∙ made.init_is) ∙ touching.block_begins may_write stock f 0 start (core spaces t));
     perf_cycle = ap are_of_cycle (ops_b ∙ made.perf_is) ∙ perf_in_cycle f 0 start (core spaces t);
   }
 

@@ -1,5 +1,4 @@
 pub mod Arms
-pub mod BeginResources
 pub mod Beginnings
 pub mod Branches
 pub mod Calls
