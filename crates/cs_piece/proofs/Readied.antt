@@ -16,7 +16,7 @@ use Rattle.cs_code.specs.Means.{Plan}
 use Rattle.cs_code.specs.Names.{block_units}
 use Rattle.cs_ir.specs.Instruments.{Numbered}
 use Rattle.cs_base.specs.declared.spaces.Spaces.{Spaces}
-use Rattle.cs_ir.specs.Resources.{Stock, ops_use, ops_write}
+use Rattle.cs_ir.specs.Resources.{Stock, may_use, may_write, ops_use, ops_write}
 use Rattle.cs_layout.proofs.Complete.{there}
 use Rattle.cs_layout.proofs.Counted.{spaces_are}
 use Rattle.cs_layout.specs.Layouts.{areas_of}
@@ -147,9 +147,9 @@ module _ (c : SetupData) (stage : Stage) (is_stage : IsStageOf (composition_of c
     generators = refl;
     placed = is_stage.placed flags fields long;
     init_areas = all_there (HasArea stage.layout.now) (ops_use (stock_of stage.layout.now) i.init.ops.items)
-        (λ g k. begins_there stage.spaces g ((code.begins (stock_of stage.layout.now) g).0 k));
+        (λ g k. begins_there stage.spaces g ((code.touches.begins may_use (stock_of stage.layout.now) g).0 k));
     perf_areas = all_there (HasArea stage.layout.now) (ops_use (stock_of stage.layout.now) i.perf.ops.items)
-        (λ g k. uses_there stage.spaces g ((code.uses (stock_of stage.layout.now) g).0 k));
+        (λ g k. uses_there stage.spaces g ((code.touches.cycles may_use (stock_of stage.layout.now) g).0 k));
     uses = feet.uses;
     writes = feet.writes;
   }
@@ -197,8 +197,8 @@ module _ (c : SetupData) (stage : Stage) (is_stage : IsStageOf (composition_of c
         performs = r.performs;
         footprint = footprint_is;
         there = all_there (HasArea areas) (block_uses (stock_of areas) statements) (uses_there (typed.orchestra c.orchestra).spaces);
-        uses = feet.uses ∙ places_alike areas (ops_use (stock_of areas) i.perf.ops.items) (block_uses (stock_of areas) statements) (code.uses (stock_of areas));
-        writes = feet.writes ∙ places_alike areas (ops_write (stock_of areas) i.perf.ops.items) (block_writes (stock_of areas) statements) (code.writes (stock_of areas));
+        uses = feet.uses ∙ places_alike areas (ops_use (stock_of areas) i.perf.ops.items) (block_uses (stock_of areas) statements) (code.touches.cycles may_use (stock_of areas));
+        writes = feet.writes ∙ places_alike areas (ops_write (stock_of areas) i.perf.ops.items) (block_writes (stock_of areas) statements) (code.touches.cycles may_write (stock_of areas));
       }
 
 -- What a setup hands out is ready on its stage.
