@@ -66,9 +66,9 @@ store_alike : (n : ℕ) (spaces : Spaces) (channels : ℕ) (p : ℕ × typed.Blo
     → codes_store n i ≡ stores_into n (core spaces p.1)
 store_alike n spaces channels p i h =
     ap (λ b. b || ops_store n i.perf.ops.items) (stores_as n i.init.ops.items
-        ∙ among_alike (ops_write (only n) i.init.ops.items) (block_begin_writes (only n) (core spaces p.1)) (h.1.touches.begins may_write (only n)) (res.Table n))
+    ∙ among_alike (ops_write (only n) i.init.ops.items) (block_begin_writes (only n) (core spaces p.1)) (h.1.touches.begins may_write (only n)) (res.Table n))
     ∙ ap (λ b. first || b) (stores_as n i.perf.ops.items
-        ∙ among_alike (ops_write (only n) i.perf.ops.items) (block_writes (only n) (core spaces p.1)) (h.1.touches.cycles may_write (only n)) (res.Table n))
+    ∙ among_alike (ops_write (only n) i.perf.ops.items) (block_writes (only n) (core spaces p.1)) (h.1.touches.cycles may_write (only n)) (res.Table n))
   where
     first : Bool
     first = list_any (same_res (res.Table n)) (block_begin_writes (only n) (core spaces p.1))
