@@ -60,7 +60,7 @@ module _ (t : Touch) (stock : Stock) (f : Frame) where
   two : (a b : List Op) (x y : List Res) → touch a ≡ x → touch b ≡ y → touch (a ++ b) ≡ x ++ y
   two a b x y h k = flat_map-append (λ o. act_touches t stock o.act) a b ∙ ap₂ ◌++◌ h k
 
-  no_reads : (s : Touch) → [] ≡ read_only s []
+  no_reads : (s : Touch) → read_only s [] ≡ []
   no_reads may_use = refl
   no_reads may_write = refl
 
@@ -74,7 +74,7 @@ module _ (t : Touch) (stock : Stock) (f : Frame) where
   by_rate : (r : Rate) (at : ℕ) (make : Option Reg → List Op) (here : Option Reg) (u : List Res)
       → ((q : Reg) → touch (make (Some q)) ≡ []) → touch (make here) ≡ read_only t u
       → touch (make (kept_or f false r at here)) ≡ read_only t (if_init r [] u)
-  by_rate rate.Init at make here u none h = none (kept_reg f at) ∙ no_reads t
+  by_rate rate.Init at make here u none h = none (kept_reg f at) ∙ sym (no_reads t)
   by_rate rate.Control at make here u none h = h
   by_rate rate.Audio at make here u none h = h
 
@@ -82,7 +82,7 @@ module _ (t : Touch) (stock : Stock) (f : Frame) where
       → ((q : Reg) → touch (make (Some q)) ≡ []) → touch (make None) ≡ read_only t (own_reads w e)
       → touch (make (direct f w at e)) ≡ read_only t (reads w e)
   by_there true (number r n) at make none h = h
-  by_there true (var r (Local q n)) at make none h = none (reg q n) ∙ no_reads t
+  by_there true (var r (Local q n)) at make none h = none (reg q n) ∙ sym (no_reads t)
   by_there true (var r (Global g)) at make none h = h
   by_there true (field r k) at make none h = h
   by_there true (head r k) at make none h = h
@@ -92,7 +92,7 @@ module _ (t : Touch) (stock : Stock) (f : Frame) where
   by_there true (apply r g a) at make none h = h
   by_there false (number r n) at make none h = by_rate r at make None [] none h ∙ ap (read_only t) (nothing_read r)
   by_there false (var r (Local q n)) at make none h =
-      by_rate r at make (Some (reg q n)) [] none (none (reg q n) ∙ no_reads t)
+      by_rate r at make (Some (reg q n)) [] none (none (reg q n) ∙ sym (no_reads t))
   by_there false (var r (Global g)) at make none h = by_rate r at make None (g ∷ []) none h
   by_there false (field r k) at make none h = by_rate r at make None [] none h ∙ ap (read_only t) (nothing_read r)
   by_there false (head r k) at make none h = by_rate r at make None [] none h ∙ ap (read_only t) (nothing_read r)
@@ -119,11 +119,11 @@ module _ (t : Touch) (stock : Stock) (f : Frame) where
 
   own_touch : (w : Bool) (e : Expression) (at : ℕ) (x : Reg) (d : ℕ)
       → touch (own f w at e x d) ≡ read_only t (own_reads w e)
-  own_touch w (number r n) at x d = no_reads t
-  own_touch w (var r (Local q n)) at x d = no_reads t
+  own_touch w (number r n) at x d = sym (no_reads t)
+  own_touch w (var r (Local q n)) at x d = sym (no_reads t)
   own_touch w (var r (Global g)) at x d = append-nil (read_only t (g ∷ []))
-  own_touch w (field r k) at x d = no_reads t
-  own_touch w (head r k) at x d = no_reads t
+  own_touch w (field r k) at x d = sym (no_reads t)
+  own_touch w (head r k) at x d = sym (no_reads t)
   own_touch w (neg r a) at x d =
       last (operand_code f w at a d) (op_of act.Neg x (spot f w at a d ∷ [])) (read_only t (reads w a)) refl
       (operand_by w a at d (λ q. own_touch w a at q d))
@@ -162,7 +162,7 @@ module _ (t : Touch) (stock : Stock) (f : Frame) where
 
   operands_touch : (w : Bool) (at : ℕ) (es : List Expression) (d : ℕ)
       → touch (operands_code f w at es d) ≡ read_only t (flat_map (reads w) es)
-  operands_touch w at [] d = no_reads t
+  operands_touch w at [] d = sym (no_reads t)
   operands_touch w at (e ∷ es) d =
       two (operand_code f w at e d) (operands_code f w (past at e) es (d + 1)) (read_only t (reads w e))
       (read_only t (flat_map (reads w) es)) (operand_touch w at e d) (operands_touch w (past at e) es (d + 1))
@@ -190,10 +190,10 @@ module _ (t : Touch) (stock : Stock) (f : Frame) where
   keeps at e rate.Audio parts v k = k
 
   keep_touch : (at : ℕ) (e : Expression) → touch (keep_code f at e) ≡ read_only t (expr_used beginning e)
-  keep_touch at (number r n) = keeps at (number r n) r [] [] (no_reads t) ∙ ap (read_only t) (nothing_read r)
-  keep_touch at (var r v) = keeps at (var r v) r [] [] (no_reads t)
-  keep_touch at (field r k) = keeps at (field r k) r [] [] (no_reads t) ∙ ap (read_only t) (nothing_read r)
-  keep_touch at (head r k) = keeps at (head r k) r [] [] (no_reads t) ∙ ap (read_only t) (nothing_read r)
+  keep_touch at (number r n) = keeps at (number r n) r [] [] (sym (no_reads t)) ∙ ap (read_only t) (nothing_read r)
+  keep_touch at (var r v) = keeps at (var r v) r [] [] (sym (no_reads t))
+  keep_touch at (field r k) = keeps at (field r k) r [] [] (sym (no_reads t)) ∙ ap (read_only t) (nothing_read r)
+  keep_touch at (head r k) = keeps at (head r k) r [] [] (sym (no_reads t)) ∙ ap (read_only t) (nothing_read r)
   keep_touch at (neg r a) = keeps at (neg r a) r (keep_code f at a) (expr_used beginning a) (keep_touch at a)
   keep_touch at (pair r o a b) =
       let kept : Expression → List Res = expr_used beginning in
@@ -216,7 +216,7 @@ module _ (t : Touch) (stock : Stock) (f : Frame) where
 
   keep_all_touch : (at : ℕ) (es : List Expression)
       → touch (keep_all_code f at es) ≡ read_only t (exprs_used beginning es)
-  keep_all_touch at [] = no_reads t
+  keep_all_touch at [] = sym (no_reads t)
   keep_all_touch at (e ∷ es) =
       two (keep_code f at e) (keep_all_code f (past at e) es) (read_only t (expr_used beginning e))
       (read_only t (exprs_used beginning es)) (keep_touch at e) (keep_all_touch (past at e) es)
