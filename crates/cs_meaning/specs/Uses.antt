@@ -9,15 +9,16 @@ use Rattle.cs_typed.specs.declared.tree.Var.{Var as Variable}
 use Rattle.cs_typed.specs.declared.tree.Var.TheVariants.{Local, Global}
 use Rattle.cs_ir.specs.Resources.{Stock, Touch, may_use, may_write, read_only, tables_within, unit_uses, zak_touches}
 use Rattle.cs_ir.specs.Waves.{if_init}
-use Rattle.cs_meaning.specs.Core.{Stmt, Block, Arms, set, unit, zak, store, out, out_at, ask, turnoff, nothing, choose, no_stmt, andthen, otherwise, arm}
+use Rattle.cs_meaning.specs.Core.{Stmt, Block, Arms, set, unit, zak, store, out, out_at, ask, turnoff, nothing, choose}
+use Rattle.cs_meaning.specs.Core.{no_stmt, andthen, otherwise, arm}
 
 -- as a note begins, or in a control cycle
 pub data When : Type 0 where
   beginning : When
   cycle : When
 
--- Of what is done at a rate: as the note begins all of it where it is done once, else what is kept of it; and in a cycle
--- what is done anew in each.
+-- Of what is done at a rate: as the note begins all of it where it is done once, else what is kept of it; and in a
+-- cycle what is done anew in each.
 abbrev pub done_at : When → Rate → List Res → List Res → List Res → List Res
 done_at beginning r once kept each = if_init r once kept
 done_at cycle r once kept each = if_init r [] each
@@ -44,7 +45,8 @@ expr_reads (apply r f a) = expr_reads a
 abbrev pub exprs_read : List Expression → List Res
 exprs_read es = flat_map expr_reads es
 
--- What an expression reads: as the note begins its outermost parts that don't change are worked out, in a cycle the others.
+-- What an expression reads: as the note begins its outermost parts that don't change are worked out, in a cycle the
+-- others.
 abbrev pub expr_used : When → Expression → List Res
 expr_used w (number r n) = []
 expr_used w (var r v) = done_at w r (var_uses v) [] (var_uses v)
