@@ -30,10 +30,9 @@ use Rattle.cs_code.specs.inner.Code.{init_block_code, perf_block_code}
 use Rattle.cs_code.specs.inner.Counted.{reached, no_registers}
 use Rattle.cs_code.specs.inner.Frames.{Frame, frame_for}
 use Rattle.cs_code.specs.inner.Limits.{ops_limit}
-use Rattle.cs_code.proofs.InCycle.{perf_in_cycle}
 use Rattle.cs_code.proofs.Means.{means_its_tree}
 use Rattle.cs_code.proofs.Resources.{block_begins, block_cycles}
-use Rattle.cs_code.proofs.Validity.{units_counted, init_valid, perf_valid, init_named_rated, perf_named_rated}
+use Rattle.cs_code.proofs.Validity.{units_counted, init_valid, perf_valid, init_named_rated, perf_cycles_rated, perf_named_rated}
 
 -- counts that reach two codes reach each of them
 reaches_first : (units : ℕ) (g h : Rate → ℕ) (r : Rate) → g r ≤ count_of (reached (no_registers units) (λ q. max (g q) (h q))) r
@@ -107,7 +106,7 @@ module _ (spaces : Spaces) (locals : PerRate ℕ) (s : Setting) (t : typed.Block
           (init_named_rated spaces s t f);
       perf_names = subst (AllNamed s.channels (block_units (core spaces t))) (sym (ops_b ∙ made.perf_is))
           (perf_named_rated spaces s t rated f);
-      perf_cycle = ap are_of_cycle (ops_b ∙ made.perf_is) ∙ perf_in_cycle f 0 start (core spaces t);
+      perf_cycle = ap are_of_cycle (ops_b ∙ made.perf_is) ∙ perf_cycles_rated spaces s t rated f;
     };
     touches = record {
       begins = λ way stock. alike (ops_touch way stock a.ops.items) (block_touched way beginning stock (core spaces t))

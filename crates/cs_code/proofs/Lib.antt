@@ -5,7 +5,6 @@ pub mod Calls
 pub mod Chains
 pub mod Expressions
 pub mod FromRates
-pub mod InCycle
 pub mod Initialises
 pub mod Inside
 pub mod Instruments

@@ -542,14 +542,14 @@ has_all counts (q ∷ qs) h =
     two (has_register counts q) (list_all (has_register counts) qs) (has_one counts q (λ r. let m = h r in omega arith)) (has_all counts qs (λ r. let m = h r in omega arith))
 
 -- a code is valid where its ops are fine, and there are as many registers and units as it names
-pub fine_valid : (counts : Counts) (channels : ℕ) (units : List UnitKind) (end place : ℕ) (ops : List Op) → length units ≤ counts.units
-    → ((r : Rate) → ops_limit r ops ≤ count_of counts r) → Each channels units ops → Fine end place ops → fine_from counts end place ops ≡ true
-fine_valid counts channels units end place [] low limits named fine = refl
-fine_valid counts channels units end place (op ∷ ops) low limits named fine =
+pub fine_valid : (cycles : Bool) (counts : Counts) (channels : ℕ) (units : List UnitKind) (end place : ℕ) (ops : List Op) → length units ≤ counts.units
+    → ((r : Rate) → ops_limit r ops ≤ count_of counts r) → Each cycles channels units ops → Fine end place ops → fine_from counts end place ops ≡ true
+fine_valid cycles counts channels units end place [] low limits named fine = refl
+fine_valid cycles counts channels units end place (op ∷ ops) low limits named fine =
     two (is_fine counts end place op) (fine_from counts end (place + 1) ops)
     (four (not (writes op.act) || has_register counts op.into) (list_all (has_register counts) op.from) (finds counts end place op.act)
     (takes_from op.act op.into.rate op.from)
     (or_right (not (writes op.act)) (has_register counts op.into) (has_one counts op.into (λ r. let m = limits r in omega arith)))
     (has_all counts op.from (λ r. let m = limits r in omega arith))
-    (finds_right counts channels units end place op.act op.into.rate low named.0 fine.1) fine.0)
-    (fine_valid counts channels units end (place + 1) ops low (λ r. let m = limits r in omega arith) named.1 fine.2)
+    (finds_right counts channels units end place op.act op.into.rate low named.0.0 fine.1) fine.0)
+    (fine_valid cycles counts channels units end (place + 1) ops low (λ r. let m = limits r in omega arith) named.1 fine.2)
