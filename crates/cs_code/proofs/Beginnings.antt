@@ -58,24 +58,24 @@ module _ (b : Bases) (n : ℕ) where
   same_own (field r k) at x d = refl
   same_own (head r h) at x d = refl
   same_own (neg r a) at x d =
-      ap₂ ◌++◌ (operand_by (node_rate a) at d (local_of a) (λ w. own F false at a w (d + 1)) (λ w. own G false at a w (d + 1)) (λ w. same_own a at w (d + 1)))
+      ap₂ ◌++◌ (operand_by (node_rate a) at d (local_of a) (λ w. own F false at a w d) (λ w. own G false at a w d) (λ w. same_own a at w d))
       (ap (λ q. op_of act.Neg x (q ∷ []) ∷ []) (same_spot at a d))
   same_own (pair r o y z) at x d =
-      ap₂ ◌++◌ (operand_by (node_rate y) at d (local_of y) (λ w. own F false at y w (d + 1)) (λ w. own G false at y w (d + 1)) (λ w. same_own y at w (d + 1)))
-      (ap₂ ◌++◌ (operand_by (node_rate z) (past at y) (d + 1) (local_of z) (λ w. own F false (past at y) z w ((d + 1) + 1)) (λ w. own G false (past at y) z w ((d + 1) + 1)) (λ w. same_own z (past at y) w ((d + 1) + 1)))
+      ap₂ ◌++◌ (operand_by (node_rate y) at d (local_of y) (λ w. own F false at y w d) (λ w. own G false at y w d) (λ w. same_own y at w d))
+      (ap₂ ◌++◌ (operand_by (node_rate z) (past at y) (d + 1) (local_of z) (λ w. own F false (past at y) z w (d + 1)) (λ w. own G false (past at y) z w (d + 1)) (λ w. same_own z (past at y) w (d + 1)))
       (ap₂ (λ p q. op_of (act.Pair o) x (p ∷ q ∷ []) ∷ []) (same_spot at y d) (same_spot (past at y) z (d + 1))))
   same_own (pick r c y z) at x d =
-      ap₂ ◌++◌ (operand_by (node_rate c) at d (local_of c) (λ w. own F false at c w (d + 1)) (λ w. own G false at c w (d + 1)) (λ w. same_own c at w (d + 1)))
-      (ap₂ ◌++◌ (operand_by (node_rate y) (past at c) (d + 1) (local_of y) (λ w. own F false (past at c) y w ((d + 1) + 1)) (λ w. own G false (past at c) y w ((d + 1) + 1)) (λ w. same_own y (past at c) w ((d + 1) + 1)))
-      (ap₂ ◌++◌ (operand_by (node_rate z) (past (past at c) y) (d + 1 + 1) (local_of z) (λ w. own F false (past (past at c) y) z w ((d + 1 + 1) + 1)) (λ w. own G false (past (past at c) y) z w ((d + 1 + 1) + 1)) (λ w. same_own z (past (past at c) y) w ((d + 1 + 1) + 1)))
+      ap₂ ◌++◌ (operand_by (node_rate c) at d (local_of c) (λ w. own F false at c w d) (λ w. own G false at c w d) (λ w. same_own c at w d))
+      (ap₂ ◌++◌ (operand_by (node_rate y) (past at c) (d + 1) (local_of y) (λ w. own F false (past at c) y w (d + 1)) (λ w. own G false (past at c) y w (d + 1)) (λ w. same_own y (past at c) w (d + 1)))
+      (ap₂ ◌++◌ (operand_by (node_rate z) (past (past at c) y) (d + 1 + 1) (local_of z) (λ w. own F false (past (past at c) y) z w (d + 1 + 1)) (λ w. own G false (past (past at c) y) z w (d + 1 + 1)) (λ w. same_own z (past (past at c) y) w (d + 1 + 1)))
       (ap (λ qs. op_of act.Pick x qs ∷ []) (ap₂ ◌∷◌ (same_spot at c d) (ap₂ ◌∷◌ (same_spot (past at c) y (d + 1))
       (ap (λ q. q ∷ []) (same_spot (past (past at c) y) z (d + 1 + 1))))))))
   same_own (apply r g a) at x d =
-      ap₂ ◌++◌ (operand_by (node_rate a) at d (local_of a) (λ w. own F false at a w (d + 1)) (λ w. own G false at a w (d + 1)) (λ w. same_own a at w (d + 1)))
+      ap₂ ◌++◌ (operand_by (node_rate a) at d (local_of a) (λ w. own F false at a w d) (λ w. own G false at a w d) (λ w. same_own a at w d))
       (ap (λ q. op_of (act.Call g) x (q ∷ []) ∷ []) (same_spot at a d))
 
   same_operand : (e : Expression) (at d : ℕ) → operand_code F false at e d ≡ operand_code G false at e d
-  same_operand e at d = operand_by (node_rate e) at d (local_of e) (λ w. own F false at e w (d + 1)) (λ w. own G false at e w (d + 1)) (λ w. same_own e at w (d + 1))
+  same_operand e at d = operand_by (node_rate e) at d (local_of e) (λ w. own F false at e w d) (λ w. own G false at e w d) (λ w. same_own e at w d)
 
   same_code : (e : Expression) (at : ℕ) (x : Reg) (d : ℕ) → code F false at e x d ≡ code G false at e x d
   same_code e at x d = ap₂ (λ o l. copied o x l) (direct_by (node_rate e) at (local_of e)) (same_own e at x d)

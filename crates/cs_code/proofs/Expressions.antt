@@ -61,7 +61,7 @@ live_same o f d place more m n l s = record {
   going = ap o.refused s.world ∙ l.going;
 }
 
-wrote_temp : {W : Type 0} (f : Frame) (r : Rate) (d : ℕ) (w : Wave) (m n : Machine W) → Wrote f (temp f r d) (d + 1) w m n → Same f d m n
+wrote_temp : {W : Type 0} (f : Frame) (r : Rate) (d : ℕ) (w : Wave) (m n : Machine W) → Wrote f (temp f r d) d w m n → Same f d m n
 wrote_temp f r d w m n h = record {
   world = h.world;
   next = h.next;
@@ -202,12 +202,12 @@ module _ {W : Type 0} (o : World W) (f : Frame) (lim : Rate → ℕ) (parts : �
   operand_from : (e : Expression) → OwnRuns e → (whole : Bool) (at d place : ℕ) (m : Machine W) → Stands (plan_of f lim parts) t m → Live o place m
       → Inside lim e → Bound whole parts (past at e) → (there : Option Reg) → direct f whole at e ≡ there
       → Spotted f d (reg_or there (temp f (node_rate e) d)) (value o t whole at e) m
-      (run o place (unless_there there (own f whole at e (temp f (node_rate e) d) (d + 1))) m)
+      (run o place (unless_there there (own f whole at e (temp f (node_rate e) d) d)) m)
   operand_from e h whole at d place m s l inside bound (Some q) is =
       let right = direct_right m s whole at e q inside bound is in
       record { here = right.here; low = (let low = right.low in omega arith); same = same_self f d m }
   operand_from e h whole at d place m s l inside bound None is =
-      let done = h.runs whole at (f.base (node_rate e) + d) (d + 1) place m s l inside bound is in
+      let done = h.runs whole at (f.base (node_rate e) + d) d place m s l inside bound is in
       record { here = done.here; low = omega arith; same = wrote_temp f (node_rate e) d (value o t whole at e) m _ done }
 
   ready_more : (e : Expression) (es : List Expression) (whole : Bool) (at d : ℕ) (m n k : Machine W)

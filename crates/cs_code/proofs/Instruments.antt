@@ -1,21 +1,23 @@
 -- The codes of a block are what is promised of an instrument, and instruments are added in the order of the text.
 use Rattle.std.proofs.Common.{◌≡◌, ℕ, ◌+◌, ◌<◌, ◌≤◌, max, true, List, [], ◌∷◌, ◌++◌, length, map, take, get_or, refl, sym, ◌∙◌, ap, ap₂, subst, arith, append_assoc, append-nil}
-use Rattle.std.specs.List.{All, AllZip}
+use Rattle.std.specs.List.{All, AllZip, Contains}
 use Rattle.std.proofs.lemmas.Grind.{flat_map-append}
 use Rattle.std.proofs.lemmas.List.{map_more, map-append, get_or-map, length-map}
 use Rattle.cs_base.specs.declared.per_rate.PerRate.{PerRate}
 use Rattle.cs_base.specs.declared.resource.Rate.{Rate}
 use Rattle.cs_base.specs.declared.resource.Rate.TheVariants as rate
+use Rattle.cs_base.specs.declared.resource.Res.{Res}
 use Rattle.cs_ir.specs.Cycles.{are_of_cycle}
 use Rattle.cs_ir.specs.Instruments.{Numbered, numbers_of}
 use Rattle.cs_base.specs.declared.spaces.Spaces.{Spaces}
-use Rattle.cs_ir.specs.Resources.{ops_use, ops_write}
+use Rattle.cs_ir.specs.Resources.{NameTheSame, ops_touch}
 use Rattle.cs_ir.specs.Validity.{count_of, fine_from}
 use Rattle.cs_ir.specs.declared.op.Code.{Code}
 use Rattle.cs_ir.specs.declared.op.Op.{Op}
 use Rattle.cs_ir.specs.declared.register.Counts.{Counts}
 use Rattle.cs_meaning.specs.Core.{core}
 use Rattle.cs_meaning.specs.Notes.{start, past_block}
+use Rattle.cs_meaning.specs.Uses.{beginning, block_touched, cycle}
 use Rattle.cs_typed.specs.TypedTree as typed
 use Rattle.cs_typed.specs.Variables.{IsCounted, EachInBlock}
 use Rattle.cs_typed.specs.WellRated.{IsRatedBlock}
@@ -28,11 +30,9 @@ use Rattle.cs_code.specs.inner.Code.{init_block_code, perf_block_code}
 use Rattle.cs_code.specs.inner.Counted.{reached, no_registers}
 use Rattle.cs_code.specs.inner.Frames.{Frame, frame_for}
 use Rattle.cs_code.specs.inner.Limits.{ops_limit}
-use Rattle.cs_code.proofs.BeginResources.{begins_block_use, begins_block_write}
-use Rattle.cs_code.proofs.InCycle.{perf_in_cycle}
 use Rattle.cs_code.proofs.Means.{means_its_tree}
-use Rattle.cs_code.proofs.Resources.{block_use, block_write}
-use Rattle.cs_code.proofs.Validity.{units_counted, init_valid, perf_valid, init_named_rated, perf_named_rated}
+use Rattle.cs_code.proofs.Resources.{block_begins, block_cycles}
+use Rattle.cs_code.proofs.Validity.{units_counted, init_valid, perf_valid, init_named_rated, perf_cycles_rated, perf_named_rated}
 
 -- counts that reach two codes reach each of them
 reaches_first : (units : ℕ) (g h : Rate → ℕ) (r : Rate) → g r ≤ count_of (reached (no_registers units) (λ q. max (g q) (h q))) r
@@ -44,6 +44,10 @@ reaches_second : (units : ℕ) (g h : Rate → ℕ) (r : Rate) → h r ≤ count
 reaches_second units g h rate.Init = omega arith
 reaches_second units g h rate.Control = omega arith
 reaches_second units g h rate.Audio = omega arith
+
+-- one list names what it names
+alike : (xs ys : List Res) → xs ≡ ys → NameTheSame xs ys
+alike xs ys e g = (subst (λ l. Contains l g) e, subst (λ l. Contains l g) (sym e))
 
 -- What the making of two codes of a block with these local variables answers.
 pub record Made (spaces : Spaces) (locals : PerRate ℕ) (t : typed.Block) (counts : Counts) (init perf : List Op) : Type 0 where
@@ -89,20 +93,27 @@ module _ (spaces : Spaces) (locals : PerRate ℕ) (s : Setting) (t : typed.Block
   -- the promise of an instrument, of any two codes with these ops and counts
   pub made_code : EachInBlock (IsCounted locals) t → (a b : Code) → a.ops.items ≡ init → a.counts ≡ counts → b.ops.items ≡ perf → b.counts ≡ counts → IsCodeOf spaces s.channels t a b
   made_code counted a b ops_a counts_a ops_b counts_b = record {
-    means = subst (λ ops. Means (core spaces t) ops b.ops.items) (sym ops_a) (subst (λ ops. Means (core spaces t) init ops) (sym ops_b) (made_means counted));
-    init_valid = ap (λ c. fine_from c (length a.ops.items) 0 a.ops.items) counts_a
-        ∙ ap (λ ops. fine_from counts (length ops) 0 ops) ops_a ∙ made_init_valid;
-    perf_valid = ap (λ c. fine_from c (length b.ops.items) 0 b.ops.items) counts_b
-        ∙ ap (λ ops. fine_from counts (length ops) 0 ops) ops_b ∙ made_perf_valid;
-    counts = counts_a ∙ sym counts_b;
-    units = ap (λ (c : Counts). c.units) counts_a ∙ units_are ∙ units_counted (core spaces t);
-    init_names = subst (AllNamed s.channels (block_units (core spaces t))) (sym (ops_a ∙ made.init_is)) (init_named_rated spaces s t f);
-    perf_names = subst (AllNamed s.channels (block_units (core spaces t))) (sym (ops_b ∙ made.perf_is)) (perf_named_rated spaces s t rated f);
-    uses = λ stock. ap (ops_use stock) (ops_b ∙ made.perf_is) ∙ block_use stock f 0 start (core spaces t);
-    writes = λ stock. ap (ops_write stock) (ops_b ∙ made.perf_is) ∙ block_write stock f 0 start (core spaces t);
-    begins = λ stock. ap (ops_use stock) (ops_a ∙ made.init_is) ∙ begins_block_use stock f 0 start (core spaces t);
-    begin_writes = λ stock. ap (ops_write stock) (ops_a ∙ made.init_is) ∙ begins_block_write stock f 0 start (core spaces t);
-    perf_cycle = ap are_of_cycle (ops_b ∙ made.perf_is) ∙ perf_in_cycle f 0 start (core spaces t);
+    means = subst (λ ops. Means (core spaces t) ops b.ops.items) (sym ops_a)
+        (subst (λ ops. Means (core spaces t) init ops) (sym ops_b) (made_means counted));
+    runs = record {
+      init_valid = ap (λ c. fine_from c (length a.ops.items) 0 a.ops.items) counts_a
+          ∙ ap (λ ops. fine_from counts (length ops) 0 ops) ops_a ∙ made_init_valid;
+      perf_valid = ap (λ c. fine_from c (length b.ops.items) 0 b.ops.items) counts_b
+          ∙ ap (λ ops. fine_from counts (length ops) 0 ops) ops_b ∙ made_perf_valid;
+      counts = counts_a ∙ sym counts_b;
+      count = ap (λ (c : Counts). c.units) counts_a ∙ units_are ∙ units_counted (core spaces t);
+      init_names = subst (AllNamed s.channels (block_units (core spaces t))) (sym (ops_a ∙ made.init_is))
+          (init_named_rated spaces s t f);
+      perf_names = subst (AllNamed s.channels (block_units (core spaces t))) (sym (ops_b ∙ made.perf_is))
+          (perf_named_rated spaces s t rated f);
+      perf_cycle = ap are_of_cycle (ops_b ∙ made.perf_is) ∙ perf_cycles_rated spaces s t rated f;
+    };
+    touches = record {
+      begins = λ way stock. alike (ops_touch way stock a.ops.items) (block_touched way beginning stock (core spaces t))
+          (ap (ops_touch way stock) (ops_a ∙ made.init_is) ∙ block_begins way stock f 0 start (core spaces t));
+      cycles = λ way stock. alike (ops_touch way stock b.ops.items) (block_touched way cycle stock (core spaces t))
+          (ap (ops_touch way stock) (ops_b ∙ made.perf_is) ∙ block_cycles way stock f 0 start (core spaces t));
+    };
   }
 
 -- ---- lists side by side

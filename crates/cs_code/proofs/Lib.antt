@@ -1,12 +1,10 @@
 pub mod Arms
-pub mod BeginResources
 pub mod Beginnings
 pub mod Branches
 pub mod Calls
 pub mod Chains
 pub mod Expressions
 pub mod FromRates
-pub mod InCycle
 pub mod Initialises
 pub mod Inside
 pub mod Instruments

@@ -1,10 +1,13 @@
--- What the code of a note names: its units as what they are, and channels that the piece has.
-use Rattle.std.proofs.Common.{◌≡◌, ℕ, zero, suc, ◌+◌, ◌<◌, ◌≤◌, Bool, true, false, List, [], ◌∷◌, ◌++◌, length, Option, Some, None, if◌then◌else◌, slice_get, refl, sym, ◌∙◌, ap, subst, arith, length-append}
+-- What the code of a note names: its units as what they are, and channels that the piece has. And what is done in a
+-- cycle starts no unit, looks for no table and asks for no note.
+use Rattle.std.proofs.Common.{◌≡◌, ℕ, zero, suc, ◌+◌, ◌<◌, ◌≤◌, Bool, true, false, not, ◌||◌, List, [], ◌∷◌, ◌++◌, length, Option, Some, None, if◌then◌else◌, slice_get, refl, sym, ◌∙◌, ap, subst, arith, length-append}
 use Rattle.std.specs.Prelude.{slice_index_or}
+use Rattle.std.proofs.lemmas.Bool.{and_from}
 use Rattle.cs_base.proofs.Rates.{same_rate_is}
 use Rattle.cs_base.specs.Rates.{same_rate}
 use Rattle.cs_base.specs.declared.resource.Rate.{Rate}
 use Rattle.cs_base.specs.declared.resource.Rate.TheVariants as rate
+use Rattle.cs_ir.specs.Cycles.{are_of_cycle, is_of_cycle}
 use Rattle.cs_ir.specs.Waves.{if_init}
 use Rattle.cs_ir.specs.declared.op.Act.{Act}
 use Rattle.cs_ir.specs.declared.op.Act.TheVariants as act
@@ -117,11 +120,15 @@ length_spots : (f : Frame) (whole : Bool) (at : ℕ) (es : List Expression) (d :
 length_spots f whole at [] d = refl
 length_spots f whole at (e ∷ es) d = ap suc (length_spots f whole (past at e) es (d + 1))
 
-module _ (channels : ℕ) (units : List UnitKind) where
-  -- each op names what there is
+-- what is done in a cycle starts no unit, looks for no table and asks for no note; as a note begins anything is done
+abbrev pub suits : Bool → Act → Bool
+suits cycles a = is_of_cycle a || not cycles
+
+module _ (cycles : Bool) (channels : ℕ) (units : List UnitKind) where
+  -- each op names what there is, and is done where it may be
   abbrev pub Each : List Op → Type 0
   Each [] = Unit {0}
-  Each (op ∷ ops) = Names channels units op.act op.into.rate × Each ops
+  Each (op ∷ ops) = (Names channels units op.act op.into.rate × (suits cycles op.act ≡ true)) × Each ops
 
   each_all : (ops : List Op) → Each ops → AllNamed channels units ops
   each_all [] h = λ k d low. absurd (omega arith)
@@ -129,60 +136,60 @@ module _ (channels : ℕ) (units : List UnitKind) where
     where
       at : AllNamed channels units ops → (k : ℕ) (d : Op) → k < length (op ∷ ops)
           → Names channels units (slice_index_or (op ∷ ops) k d).act (slice_index_or (op ∷ ops) k d).into.rate
-      at rest zero d low = h.0
+      at rest zero d low = h.0.0
       at rest (suc k) d low = rest k d (omega arith)
 
   both : (a b : List Op) → Each a → Each b → Each (a ++ b)
   both [] b h k = k
   both (op ∷ a) b h k = (h.0, both a b h.1 k)
 
-  unless_named : (there : Option Reg) (ops : List Op) → Each ops → Each (unless_there there ops)
-  unless_named (Some q) ops h = tt
-  unless_named None ops h = h
+  operand_by : (f : Frame) (whole : Bool) (e : Expression) (at d : ℕ) → ((x : Reg) → Each (own f whole at e x d))
+      → Each (operand_code f whole at e d)
+  operand_by f whole e at d h = by (direct f whole at e)
+    where
+      by : (there : Option Reg) → Each (unless_there there (own f whole at e (temp f (node_rate e) d) d))
+      by (Some q) = tt
+      by None = h (temp f (node_rate e) d)
 
   copied_named : (there : Option Reg) (x : Reg) (ops : List Op) → Each ops → Each (copied there x ops)
-  copied_named (Some q) x ops h = (tt, tt)
+  copied_named (Some q) x ops h = ((tt, refl), tt)
   copied_named None x ops h = h
 
   own_named : (f : Frame) (whole : Bool) (e : Expression) (at : ℕ) (x : Reg) (d : ℕ) → Each (own f whole at e x d)
-  own_named f whole (number r n) at x d = (tt, tt)
-  own_named f whole (var r (Local q n)) at x d = (tt, tt)
-  own_named f whole (var r (Global g)) at x d = (tt, tt)
-  own_named f whole (field r k) at x d = (tt, tt)
-  own_named f whole (head r k) at x d = (tt, tt)
+  own_named f whole (number r n) at x d = ((tt, refl), tt)
+  own_named f whole (var r (Local q n)) at x d = ((tt, refl), tt)
+  own_named f whole (var r (Global g)) at x d = ((tt, refl), tt)
+  own_named f whole (field r k) at x d = ((tt, refl), tt)
+  own_named f whole (head r k) at x d = ((tt, refl), tt)
   own_named f whole (neg r a) at x d =
       both (operand_code f whole at a d) (op_of act.Neg x (spot f whole at a d ∷ []) ∷ [])
-      (unless_named (direct f whole at a) (own f whole at a (temp f (node_rate a) d) (d + 1)) (own_named f whole a at (temp f (node_rate a) d) (d + 1))) (tt, tt)
-  own_named f whole (pair r b y z) at x d =
-      let last : List Op = op_of (act.Pair b) x (spots f whole at (y ∷ z ∷ []) d) ∷ [] in
-      let second : List Op = operand_code f whole (past at y) z (d + 1) in
-      both (operand_code f whole at y d) (second ++ last)
-      (unless_named (direct f whole at y) (own f whole at y (temp f (node_rate y) d) (d + 1)) (own_named f whole y at (temp f (node_rate y) d) (d + 1)))
-      (both second last
-      (unless_named (direct f whole (past at y) z) (own f whole (past at y) z (temp f (node_rate z) (d + 1)) (d + 1 + 1))
-      (own_named f whole z (past at y) (temp f (node_rate z) (d + 1)) (d + 1 + 1))) (tt, tt))
-  own_named f whole (pick r c y z) at x d =
-      let last : List Op = op_of act.Pick x (spots f whole at (c ∷ y ∷ z ∷ []) d) ∷ [] in
-      let second : List Op = operand_code f whole (past at c) y (d + 1) in
-      let third : List Op = operand_code f whole (past (past at c) y) z (d + 1 + 1) in
+      (operand_by f whole a at d (λ q. own_named f whole a at q d)) ((tt, refl), tt)
+  own_named f whole (pair r o a b) at x d =
+      let last : List Op = op_of (act.Pair o) x (spots f whole at (a ∷ b ∷ []) d) ∷ [] in
+      let second : List Op = operand_code f whole (past at a) b (d + 1) in
+      both (operand_code f whole at a d) (second ++ last) (operand_by f whole a at d (λ q. own_named f whole a at q d))
+      (both second last (operand_by f whole b (past at a) (d + 1) (λ q. own_named f whole b (past at a) q (d + 1)))
+      ((tt, refl), tt))
+  own_named f whole (pick r c a b) at x d =
+      let last : List Op = op_of act.Pick x (spots f whole at (c ∷ a ∷ b ∷ []) d) ∷ [] in
+      let next : ℕ = past (past at c) a in
+      let second : List Op = operand_code f whole (past at c) a (d + 1) in
+      let third : List Op = operand_code f whole next b (d + 1 + 1) in
       both (operand_code f whole at c d) (second ++ (third ++ last))
-      (unless_named (direct f whole at c) (own f whole at c (temp f (node_rate c) d) (d + 1)) (own_named f whole c at (temp f (node_rate c) d) (d + 1)))
+      (operand_by f whole c at d (λ q. own_named f whole c at q d))
       (both second (third ++ last)
-      (unless_named (direct f whole (past at c) y) (own f whole (past at c) y (temp f (node_rate y) (d + 1)) (d + 1 + 1))
-      (own_named f whole y (past at c) (temp f (node_rate y) (d + 1)) (d + 1 + 1)))
-      (both third last
-      (unless_named (direct f whole (past (past at c) y) z) (own f whole (past (past at c) y) z (temp f (node_rate z) (d + 1 + 1)) (d + 1 + 1 + 1))
-      (own_named f whole z (past (past at c) y) (temp f (node_rate z) (d + 1 + 1)) (d + 1 + 1 + 1))) (tt, tt)))
+      (operand_by f whole a (past at c) (d + 1) (λ q. own_named f whole a (past at c) q (d + 1)))
+      (both third last (operand_by f whole b next (d + 1 + 1) (λ q. own_named f whole b next q (d + 1 + 1)))
+      ((tt, refl), tt)))
   own_named f whole (apply r g a) at x d =
       both (operand_code f whole at a d) (op_of (act.Call g) x (spot f whole at a d ∷ []) ∷ [])
-      (unless_named (direct f whole at a) (own f whole at a (temp f (node_rate a) d) (d + 1)) (own_named f whole a at (temp f (node_rate a) d) (d + 1))) (tt, tt)
+      (operand_by f whole a at d (λ q. own_named f whole a at q d)) ((tt, refl), tt)
 
   code_named : (f : Frame) (whole : Bool) (e : Expression) (at : ℕ) (x : Reg) (d : ℕ) → Each (code f whole at e x d)
   code_named f whole e at x d = copied_named (direct f whole at e) x (own f whole at e x d) (own_named f whole e at x d)
 
   operand_named : (f : Frame) (whole : Bool) (e : Expression) (at d : ℕ) → Each (operand_code f whole at e d)
-  operand_named f whole e at d =
-      unless_named (direct f whole at e) (own f whole at e (temp f (node_rate e) d) (d + 1)) (own_named f whole e at (temp f (node_rate e) d) (d + 1))
+  operand_named f whole e at d = operand_by f whole e at d (λ q. own_named f whole e at q d)
 
   operands_named : (f : Frame) (whole : Bool) (es : List Expression) (at d : ℕ) → Each (operands_code f whole at es d)
   operands_named f whole [] at d = tt
@@ -225,9 +232,11 @@ module _ (channels : ℕ) (units : List UnitKind) where
           else operand_code f whole at e 0 ++ (op_of act.Copy (reg q n) (spot f whole at e 0 ∷ []) ∷ []))
       by_rate true = code_named f whole e at (reg q n) 0
       by_rate false =
-          both (operand_code f whole at e 0) (op_of act.Copy (reg q n) (spot f whole at e 0 ∷ []) ∷ []) (operand_named f whole e at 0) (tt, tt)
+          both (operand_code f whole at e 0) (op_of act.Copy (reg q n) (spot f whole at e 0 ∷ []) ∷ [])
+          (operand_named f whole e at 0) ((tt, refl), tt)
   set_named f whole at (Global g) e =
-      both (operand_code f whole at e 0) (op_of (act.Save g) (spot f whole at e 0) (spot f whole at e 0 ∷ []) ∷ []) (operand_named f whole e at 0) (tt, tt)
+      both (operand_code f whole at e 0) (op_of (act.Save g) (spot f whole at e 0) (spot f whole at e 0 ∷ []) ∷ [])
+      (operand_named f whole e at 0) ((tt, refl), tt)
 
   given_named : (f : Frame) (r : Rate) (vs : List Variable) → Each (given_code f r vs)
   given_named f r [] = tt
@@ -235,94 +244,96 @@ module _ (channels : ℕ) (units : List UnitKind) where
     where
       by_rate : (b : Bool) → Each (if b then [] else op_of act.Copy (reg q n) (temp f r 0 ∷ []) ∷ [])
       by_rate true = tt
-      by_rate false = (tt, tt)
-  given_named f r (Global g ∷ vs) = (tt, tt)
+      by_rate false = ((tt, refl), tt)
+  given_named f r (Global g ∷ vs) = ((tt, refl), tt)
 
   -- an op that names what there is, on values
-  on_named : (f : Frame) (whole : Bool) (at : ℕ) (a : Act) (into : Reg) (es : List Expression) → Names channels units a into.rate
-      → Each (on_code f whole at a into es)
-  on_named f whole at a into es here =
-      both (operands_code f whole at es 0) (op_of a into (spots f whole at es 0) ∷ []) (operands_named f whole es at 0) (here, tt)
+  on_named : (f : Frame) (whole : Bool) (at : ℕ) (a : Act) (into : Reg) (es : List Expression)
+      → Names channels units a into.rate → suits cycles a ≡ true → Each (on_code f whole at a into es)
+  on_named f whole at a into es here done =
+      both (operands_code f whole at es 0) (op_of a into (spots f whole at es 0) ∷ []) (operands_named f whole es at 0)
+      ((here, done), tt)
 
-  run_named : (f : Frame) (whole : Bool) (at : ℕ) (a : Act) (r : Rate) (vs : List Variable) (xs : List Expression) → Names channels units a r
-      → Each (run_code f whole at a r vs xs)
-  run_named f whole at a r vs xs here =
-      both (operands_code f whole at xs 0) (op_of a (target f r vs) (spots f whole at xs 0) ∷ given_code f r vs) (operands_named f whole xs at 0)
-      (subst (Names channels units a) (sym (target_rate f r vs)) here, given_named f r vs)
+  run_named : (f : Frame) (whole : Bool) (at : ℕ) (a : Act) (r : Rate) (vs : List Variable) (xs : List Expression)
+      → Names channels units a r → suits cycles a ≡ true → Each (run_code f whole at a r vs xs)
+  run_named f whole at a r vs xs here done =
+      both (operands_code f whole at xs 0) (op_of a (target f r vs) (spots f whole at xs 0) ∷ given_code f r vs)
+      (operands_named f whole xs at 0)
+      ((subst (Names channels units a) (sym (target_rate f r vs)) here, done), given_named f r vs)
 
   out_named : (c : ℕ) (qs : List Reg) → c + length qs ≤ channels → Each (out_ops c qs)
   out_named c [] h = tt
-  out_named c (q ∷ qs) h = (omega arith, out_named (c + 1) qs (omega arith))
+  out_named c (q ∷ qs) h = ((omega arith, refl), out_named (c + 1) qs (omega arith))
 
   out_at_named : (qs : List Reg) → Each (out_at_ops qs)
   out_at_named [] = tt
   out_at_named (p ∷ []) = tt
-  out_at_named (p ∷ (q ∷ qs)) = (tt, out_at_named qs)
+  out_at_named (p ∷ (q ∷ qs)) = ((tt, refl), out_at_named qs)
 
   arm_named : (place : ℕ) (before : List Op) (q : Reg) (body rest : List Op) → Each before → Each body → Each rest → Each (arm_code place before q body rest)
   arm_named place before q body rest h k l =
       let jump : Op = op_of (act.Jump (place + length before + 1 + length body + 1 + length rest)) q [] in
       let test : Op = op_of (act.Unless (place + length before + 1 + length body + 1)) q (q ∷ []) in
-      both before (test ∷ (body ++ (jump ∷ rest))) h (tt, both body (jump ∷ rest) k (tt, l))
+      both before (test ∷ (body ++ (jump ∷ rest))) h ((tt, refl), both body (jump ∷ rest) k ((tt, refl), l))
 
   mutual
-    init_named : (f : Frame) (place : ℕ) (p : Place) (s : Stmt) → At units p.unit (stmt_units s) → Each (init_code f place p s)
-    init_named f place p (set r v e) h = when_init r (set_code f true 0 v e) (keep_code f p.part e) (set_named f true 0 v e) (keep_named f e p.part)
-    init_named f place p (unit r vs opcode reach xs is) h =
+    init_named : not cycles ≡ true → (f : Frame) (place : ℕ) (p : Place) (s : Stmt) → At units p.unit (stmt_units s) → Each (init_code f place p s)
+    init_named begin f place p (set r v e) h = when_init r (set_code f true 0 v e) (keep_code f p.part e) (set_named f true 0 v e) (keep_named f e p.part)
+    init_named begin f place p (unit r vs opcode reach xs is) h =
         let here = at_one units p.unit (record { opcode = opcode; rate = r }) h in
-        let begins : List Op = start_code f r opcode p.unit is in
+        let starts : List Op = start_code f r opcode p.unit is in
         let runs : List Op = unit_code f true 0 r vs opcode p.unit reach xs in
-        when_init r (begins ++ runs) (keep_all_code f p.part xs ++ begins)
-        (both begins runs (on_named f true 0 (act.Start opcode p.unit) (reg r 0) is here) (run_named f true 0 (act.Unit opcode p.unit reach) r vs xs here))
-        (both (keep_all_code f p.part xs) begins (keep_all_named f xs p.part) (on_named f true 0 (act.Start opcode p.unit) (reg r 0) is here))
-    init_named f place p (zak r vs opcode reach xs) h =
-        when_init r (zak_code f true 0 r vs opcode reach xs) (keep_all_code f p.part xs) (run_named f true 0 (act.Zak opcode reach) r vs xs tt)
+        when_init r (starts ++ runs) (keep_all_code f p.part xs ++ starts)
+        (both starts runs (on_named f true 0 (act.Start opcode p.unit) (reg r 0) is here begin) (run_named f true 0 (act.Unit opcode p.unit reach) r vs xs here refl))
+        (both (keep_all_code f p.part xs) starts (keep_all_named f xs p.part) (on_named f true 0 (act.Start opcode p.unit) (reg r 0) is here begin))
+    init_named begin f place p (zak r vs opcode reach xs) h =
+        when_init r (zak_code f true 0 r vs opcode reach xs) (keep_all_code f p.part xs) (run_named f true 0 (act.Zak opcode reach) r vs xs tt refl)
         (keep_all_named f xs p.part)
-    init_named f place p (store r opcode reach es is) h =
+    init_named begin f place p (store r opcode reach es is) h =
         let seeks : List Op = seek_code f is in
         let stores : List Op = store_code f true 0 r opcode reach es in
-        let sought = on_named f true 0 act.Seek (reg rate.Init 0) is tt in
+        let sought = on_named f true 0 act.Seek (reg rate.Init 0) is tt begin in
         when_init r (seeks ++ stores) (keep_all_code f p.part es ++ seeks)
-        (both seeks stores sought (on_named f true 0 (act.Store opcode reach) (reg r 0) es tt))
+        (both seeks stores sought (on_named f true 0 (act.Store opcode reach) (reg r 0) es tt refl))
         (both (keep_all_code f p.part es) seeks (keep_all_named f es p.part) sought)
-    init_named f place p (out r es) h = keep_all_named f es p.part
-    init_named f place p (out_at r es) h = keep_all_named f es p.part
-    init_named f place p (ask es) h = on_named f true 0 act.Ask (reg rate.Init 0) es tt
-    init_named f place p (turnoff r) h = tt
-    init_named f place p nothing h = tt
-    init_named f place p (choose r arms) h =
-        when_init r (first_code f place p arms) (all_code f place p arms) (first_named f place p arms h) (all_named f place p arms h)
+    init_named begin f place p (out r es) h = keep_all_named f es p.part
+    init_named begin f place p (out_at r es) h = keep_all_named f es p.part
+    init_named begin f place p (ask es) h = on_named f true 0 act.Ask (reg rate.Init 0) es tt begin
+    init_named begin f place p (turnoff r) h = tt
+    init_named begin f place p nothing h = tt
+    init_named begin f place p (choose r arms) h =
+        when_init r (first_code f place p arms) (all_code f place p arms) (first_named begin f place p arms h) (all_named begin f place p arms h)
 
-    pub init_block_named : (f : Frame) (place : ℕ) (p : Place) (b : Block) → At units p.unit (block_units b) → Each (init_block_code f place p b)
-    init_block_named f place p no_stmt h = tt
-    init_block_named f place p (andthen s b) h =
+    pub init_block_named : not cycles ≡ true → (f : Frame) (place : ℕ) (p : Place) (b : Block) → At units p.unit (block_units b) → Each (init_block_code f place p b)
+    init_block_named begin f place p no_stmt h = tt
+    init_block_named begin f place p (andthen s b) h =
         both (init_code f place p s) (init_block_code f (place + length (init_code f place p s)) (past_stmt p s) b)
-        (init_named f place p s (at_front units p.unit (stmt_units s) (block_units b) h))
-        (init_block_named f (place + length (init_code f place p s)) (past_stmt p s) b
+        (init_named begin f place p s (at_front units p.unit (stmt_units s) (block_units b) h))
+        (init_block_named begin f (place + length (init_code f place p s)) (past_stmt p s) b
         (at_back units p.unit (past_stmt p s).unit (stmt_units s) (block_units b) (stmt_count p s) h))
 
-    first_named : (f : Frame) (place : ℕ) (p : Place) (arms : Arms) → At units p.unit (arms_units arms) → Each (first_code f place p arms)
-    first_named f place p (otherwise b) h = init_block_named f place p b h
-    first_named f place p (arm c b rest) h =
+    first_named : not cycles ≡ true → (f : Frame) (place : ℕ) (p : Place) (arms : Arms) → At units p.unit (arms_units arms) → Each (first_code f place p arms)
+    first_named begin f place p (otherwise b) h = init_block_named begin f place p b h
+    first_named begin f place p (arm c b rest) h =
         let before : List Op = keep_code f p.part c in
         let q : Place = past_parts (past p.part c) p in
         let body : List Op = init_block_code f (place + length before + 1) q b in
         arm_named place before (kept_reg f p.part) body (first_code f (place + length before + 1 + length body + 1) (past_block q b) rest)
         (keep_named f c p.part)
-        (init_block_named f (place + length before + 1) q b (at_front units p.unit (block_units b) (arms_units rest) h))
-        (first_named f (place + length before + 1 + length body + 1) (past_block q b) rest
+        (init_block_named begin f (place + length before + 1) q b (at_front units p.unit (block_units b) (arms_units rest) h))
+        (first_named begin f (place + length before + 1 + length body + 1) (past_block q b) rest
         (at_back units p.unit (past_block q b).unit (block_units b) (arms_units rest) (block_count q b) h))
 
-    all_named : (f : Frame) (place : ℕ) (p : Place) (arms : Arms) → At units p.unit (arms_units arms) → Each (all_code f place p arms)
-    all_named f place p (otherwise b) h = init_block_named f place p b h
-    all_named f place p (arm c b rest) h =
+    all_named : not cycles ≡ true → (f : Frame) (place : ℕ) (p : Place) (arms : Arms) → At units p.unit (arms_units arms) → Each (all_code f place p arms)
+    all_named begin f place p (otherwise b) h = init_block_named begin f place p b h
+    all_named begin f place p (arm c b rest) h =
         let before : List Op = keep_code f p.part c in
         let q : Place = past_parts (past p.part c) p in
         let body : List Op = init_block_code f (place + length before) q b in
         let others : List Op = all_code f (place + length before + length body) (past_block q b) rest in
         both before (body ++ others) (keep_named f c p.part)
-        (both body others (init_block_named f (place + length before) q b (at_front units p.unit (block_units b) (arms_units rest) h))
-        (all_named f (place + length before + length body) (past_block q b) rest
+        (both body others (init_block_named begin f (place + length before) q b (at_front units p.unit (block_units b) (arms_units rest) h))
+        (all_named begin f (place + length before + length body) (past_block q b) rest
         (at_back units p.unit (past_block q b).unit (block_units b) (arms_units rest) (block_count q b) h)))
 
   mutual
@@ -330,11 +341,11 @@ module _ (channels : ℕ) (units : List UnitKind) where
     perf_named f place p (set r v e) h n = when_init r [] (set_code f false p.part v e) tt (set_named f false p.part v e)
     perf_named f place p (unit r vs opcode reach xs is) h n =
         when_init r [] (unit_code f false p.part r vs opcode p.unit reach xs) tt
-        (run_named f false p.part (act.Unit opcode p.unit reach) r vs xs (at_one units p.unit (record { opcode = opcode; rate = r }) h))
+        (run_named f false p.part (act.Unit opcode p.unit reach) r vs xs (at_one units p.unit (record { opcode = opcode; rate = r }) h) refl)
     perf_named f place p (zak r vs opcode reach xs) h n =
-        when_init r [] (zak_code f false p.part r vs opcode reach xs) tt (run_named f false p.part (act.Zak opcode reach) r vs xs tt)
+        when_init r [] (zak_code f false p.part r vs opcode reach xs) tt (run_named f false p.part (act.Zak opcode reach) r vs xs tt refl)
     perf_named f place p (store r opcode reach es is) h n =
-        when_init r [] (store_code f false p.part r opcode reach es) tt (on_named f false p.part (act.Store opcode reach) (reg r 0) es tt)
+        when_init r [] (store_code f false p.part r opcode reach es) tt (on_named f false p.part (act.Store opcode reach) (reg r 0) es tt refl)
     perf_named f place p (out r es) h n =
         both (operands_code f false p.part es 0) (out_ops 0 (spots f false p.part es 0)) (operands_named f false es p.part 0)
         (out_named 0 (spots f false p.part es 0) (let l = length_spots f false p.part es 0 in omega arith))
@@ -342,7 +353,7 @@ module _ (channels : ℕ) (units : List UnitKind) where
         both (operands_code f false p.part es 0) (out_at_ops (spots f false p.part es 0)) (operands_named f false es p.part 0)
         (out_at_named (spots f false p.part es 0))
     perf_named f place p (ask es) h n = tt
-    perf_named f place p (turnoff r) h n = (tt, tt)
+    perf_named f place p (turnoff r) h n = ((tt, refl), tt)
     perf_named f place p nothing h n = tt
     perf_named f place p (choose r arms) h n = perf_arms_named f place p arms h n
 
@@ -373,8 +384,27 @@ whole_at units = λ i x e. ap (slice_get units) (let z : 0 + i ≡ i = omega ari
 
 pub init_names : (channels : ℕ) (f : Frame) (b : Block) → AllNamed channels (block_units b) (init_block_code f 0 start b)
 init_names channels f b =
-    each_all channels (block_units b) (init_block_code f 0 start b) (init_block_named channels (block_units b) f 0 start b (whole_at (block_units b)))
+    each_all false channels (block_units b) (init_block_code f 0 start b)
+    (init_block_named false channels (block_units b) refl f 0 start b (whole_at (block_units b)))
 
-pub perf_names : (channels : ℕ) (f : Frame) (b : Block) → NarrowBlock channels b → AllNamed channels (block_units b) (perf_block_code f 0 start b)
+pub perf_names : (channels : ℕ) (f : Frame) (b : Block) → NarrowBlock channels b
+    → AllNamed channels (block_units b) (perf_block_code f 0 start b)
 perf_names channels f b narrow =
-    each_all channels (block_units b) (perf_block_code f 0 start b) (perf_block_named channels (block_units b) f 0 start b (whole_at (block_units b)) narrow)
+    each_all true channels (block_units b) (perf_block_code f 0 start b)
+    (perf_block_named true channels (block_units b) f 0 start b (whole_at (block_units b)) narrow)
+
+or_none : (b : Bool) → (b || false) ≡ true → b ≡ true
+or_none true h = refl
+or_none false h = absurd (cc)
+
+in_cycle : (channels : ℕ) (units : List UnitKind) (ops : List Op) → Each true channels units ops → are_of_cycle ops ≡ true
+in_cycle channels units [] h = refl
+in_cycle channels units (op ∷ ops) h =
+    and_from (is_of_cycle op.act) (are_of_cycle ops) (or_none (is_of_cycle op.act) h.0.1) (in_cycle channels units ops h.1)
+
+-- the performance of statements starts no unit, looks for no table and asks for no note
+pub perf_cycles : (channels : ℕ) (f : Frame) (b : Block) → NarrowBlock channels b
+    → are_of_cycle (perf_block_code f 0 start b) ≡ true
+perf_cycles channels f b narrow =
+    in_cycle channels (block_units b) (perf_block_code f 0 start b)
+    (perf_block_named true channels (block_units b) f 0 start b (whole_at (block_units b)) narrow)

@@ -27,7 +27,7 @@ rate_of_part r (Call' f p ra a) = refl
 
 -- a value that stands somewhere already, and one that doesn't
 pub there_code : (f : Frame) (w : Bool) (at : ℕ) (e : Expression) (d : ℕ) (q : Reg) → direct f w at e ≡ Some q → operand_code f w at e d ≡ []
-there_code f w at e d q h = ap (λ o. unless_there o (own f w at e (temp f (node_rate e) d) (d + 1))) h
+there_code f w at e d q h = ap (λ o. unless_there o (own f w at e (temp f (node_rate e) d) d)) h
 
 pub there_spot : (f : Frame) (w : Bool) (at : ℕ) (e : Expression) (d : ℕ) (q : Reg) → direct f w at e ≡ Some q → spot f w at e d ≡ q
 there_spot f w at e d q h = ap (λ o. reg_or o (temp f (node_rate e) d)) h
@@ -37,8 +37,8 @@ pub there_copied : (f : Frame) (w : Bool) (at : ℕ) (e : Expression) (x : Reg) 
 there_copied f w at e x d q h = ap (λ o. copied o x (own f w at e x d)) h
 
 pub made_code : (f : Frame) (w : Bool) (at : ℕ) (e : Expression) (d : ℕ) → direct f w at e ≡ None → operand_code f w at e d
-    ≡ own f w at e (temp f (node_rate e) d) (d + 1)
-made_code f w at e d h = ap (λ o. unless_there o (own f w at e (temp f (node_rate e) d) (d + 1))) h
+    ≡ own f w at e (temp f (node_rate e) d) d
+made_code f w at e d h = ap (λ o. unless_there o (own f w at e (temp f (node_rate e) d) d)) h
 
 pub made_spot : (f : Frame) (w : Bool) (at : ℕ) (e : Expression) (d : ℕ) → direct f w at e ≡ None → spot f w at e d ≡ temp f (node_rate e) d
 made_spot f w at e d h = ap (λ o. reg_or o (temp f (node_rate e) d)) h

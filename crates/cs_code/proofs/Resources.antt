@@ -1,398 +1,424 @@
--- The ops of a control cycle use, and may write, exactly what its statements do.
-use Rattle.std.proofs.Common.{◌≡◌, ℕ, ◌+◌, Bool, true, false, List, [], ◌∷◌, ◌++◌, length, Option, Some, None, if◌then◌else◌, refl, sym, ◌∙◌, ap, ap₂, append-nil}
+-- The ops of a note touch exactly what its statements do, as it begins and in a cycle: both what they may use and what
+-- they may write.
+use Rattle.std.proofs.Common.{◌≡◌, ℕ, ◌+◌, Bool, true, false, List, [], ◌∷◌, ◌++◌, length, Option, Some, None}
+use Rattle.std.proofs.Common.{if◌then◌else◌, refl, sym, ◌∙◌, ap, ap₂, append-nil}
+use Rattle.std.specs.List.{flat_map}
 use Rattle.std.proofs.lemmas.Grind.{flat_map-append}
 use Rattle.cs_base.specs.Rates.{same_rate}
 use Rattle.cs_base.specs.declared.resource.Rate.{Rate}
 use Rattle.cs_base.specs.declared.resource.Rate.TheVariants as rate
 use Rattle.cs_base.specs.declared.resource.Res.{Res}
-use Rattle.cs_ir.specs.Resources.{Stock, act_uses, act_writes, ops_use, ops_write, tables_within, unit_uses, zak_uses, zak_writes}
+use Rattle.cs_ir.specs.Resources.{Stock, Touch, may_use, may_write, act_touches, ops_touch, read_only}
+use Rattle.cs_ir.specs.Resources.{tables_within, unit_uses, zak_touches}
 use Rattle.cs_ir.specs.Waves.{if_init}
 use Rattle.cs_ir.specs.declared.op.Act.{Act}
 use Rattle.cs_ir.specs.declared.op.Act.TheVariants as act
 use Rattle.cs_ir.specs.declared.op.Op.{Op}
 use Rattle.cs_ir.specs.declared.register.Reg.{Reg}
-use Rattle.cs_meaning.specs.Core.{Stmt, Block, Arms, set, unit, zak, store, out, out_at, ask, turnoff, nothing, choose, no_stmt, andthen, otherwise, arm}
+use Rattle.cs_meaning.specs.Core.{Stmt, Block, Arms, set, unit, zak, store, out, out_at, ask, turnoff, nothing}
+use Rattle.cs_meaning.specs.Core.{choose, no_stmt, andthen, otherwise, arm}
 use Rattle.cs_meaning.specs.Notes.{Place, reg, past, past_parts, past_stmt, past_block}
-use Rattle.cs_meaning.specs.Uses.{arms_used, arms_written, block_uses, block_writes, cycle, expr_used, exprs_used, stmt_used, stmt_written, var_uses, vars_use}
+use Rattle.cs_meaning.specs.Uses.{arms_touched, block_touched, stmt_touched, beginning, cycle}
+use Rattle.cs_meaning.specs.Uses.{expr_reads, expr_used, exprs_read, exprs_used, var_uses, vars_use}
 use Rattle.cs_typed.specs.TypedTree.{Expression, number, var, field, head, neg, pair, pick, apply}
 use Rattle.cs_typed.specs.WellRated.{node_rate}
 use Rattle.cs_typed.specs.declared.tree.Var.{Var as Variable}
 use Rattle.cs_typed.specs.declared.tree.Var.TheVariants.{Local, Global}
-use Rattle.cs_code.specs.inner.Frames.{Frame, op_of, temp, kept_or, direct, spot, spots}
-use Rattle.cs_code.specs.inner.Code.{unless_there, own, code, copied, operand_code, operands_code, set_code, target, given_code, on_code, run_code, unit_code, zak_code, store_code, out_ops, out_at_ops, arm_code, perf_code, perf_block_code, perf_arms_code}
+use Rattle.cs_code.specs.inner.Frames.{Frame, op_of, kept_reg, temp, kept_or, direct, spot, spots}
+use Rattle.cs_code.specs.inner.Code.{unless_there, own, code, copied, operand_code, operands_code, kept_code, keep_code}
+use Rattle.cs_code.specs.inner.Code.{keep_all_code, set_code, target, given_code, on_code, run_code, start_code}
+use Rattle.cs_code.specs.inner.Code.{unit_code, zak_code, seek_code, store_code, out_ops, out_at_ops, arm_code}
+use Rattle.cs_code.specs.inner.Code.{init_code, init_block_code, first_code, all_code}
+use Rattle.cs_code.specs.inner.Code.{perf_code, perf_block_code, perf_arms_code}
 
--- two codes, one after the other, and what each names
-pub use_two : (stock : Stock) (a b : List Op) (x y : List Res) → ops_use stock a ≡ x → ops_use stock b ≡ y → ops_use stock (a ++ b) ≡ x ++ y
-use_two stock a b x y h k = flat_map-append (λ o. act_uses stock o.act) a b ∙ ap₂ ◌++◌ h k
-
-pub write_two : (stock : Stock) (a b : List Op) (x y : List Res) → ops_write stock a ≡ x → ops_write stock b ≡ y → ops_write stock (a ++ b) ≡ x ++ y
-write_two stock a b x y h k = flat_map-append (λ o. act_writes stock o.act) a b ∙ ap₂ ◌++◌ h k
-
--- ---- what expressions read
-
--- what an expression reads by its own code, where it stands nowhere yet
-abbrev own_uses : Expression → List Res
-own_uses (number r n) = []
-own_uses (var r v) = var_uses v
-own_uses (field r k) = []
-own_uses (head r h) = []
-own_uses (neg r a) = expr_used cycle a
-own_uses (pair r o a b) = expr_used cycle a ++ expr_used cycle b
-own_uses (pick r c a b) = expr_used cycle c ++ (expr_used cycle a ++ expr_used cycle b)
-own_uses (apply r g a) = expr_used cycle a
-
-pub nothing_read : (r : Rate) → if_init {A = List Res} r [] [] ≡ []
+nothing_read : (r : Rate) → if_init {A = List Res} r [] [] ≡ []
 nothing_read rate.Init = refl
 nothing_read rate.Control = refl
 nothing_read rate.Audio = refl
 
--- Of what stands already nothing is read any more: no code is made for it as an operand, and a copy as a value.
-none_there : (stock : Stock) (f : Frame) (r : Rate) (at : ℕ) (ops : List Op) (u : List Res) → ops_use stock ops ≡ u
-    → ops_use stock (unless_there (kept_or f false r at None) ops) ≡ if_init r [] u
-none_there stock f rate.Init at ops u h = refl
-none_there stock f rate.Control at ops u h = h
-none_there stock f rate.Audio at ops u h = h
+-- what an expression reads: as a whole all of it, else what a cycle works out
+abbrev reads : Bool → Expression → List Res
+reads true = expr_reads
+reads false = expr_used cycle
 
-local_there : (stock : Stock) (f : Frame) (r : Rate) (at : ℕ) (q : Reg) (ops : List Op)
-    → ops_use stock (unless_there (kept_or f false r at (Some q)) ops) ≡ if_init r [] []
-local_there stock f rate.Init at q ops = refl
-local_there stock f rate.Control at q ops = refl
-local_there stock f rate.Audio at q ops = refl
+-- what it reads by its own code, where it stands nowhere yet
+abbrev own_reads : Bool → Expression → List Res
+own_reads w (number r n) = []
+own_reads w (var r v) = var_uses v
+own_reads w (field r k) = []
+own_reads w (head r h) = []
+own_reads w (neg r a) = reads w a
+own_reads w (pair r o a b) = reads w a ++ reads w b
+own_reads w (pick r c a b) = reads w c ++ (reads w a ++ reads w b)
+own_reads w (apply r g a) = reads w a
 
-none_copied : (stock : Stock) (f : Frame) (r : Rate) (at : ℕ) (x : Reg) (ops : List Op) (u : List Res) → ops_use stock ops ≡ u
-    → ops_use stock (copied (kept_or f false r at None) x ops) ≡ if_init r [] u
-none_copied stock f rate.Init at x ops u h = refl
-none_copied stock f rate.Control at x ops u h = h
-none_copied stock f rate.Audio at x ops u h = h
+module _ (t : Touch) (stock : Stock) (f : Frame) where
+  abbrev touch : List Op → List Res
+  touch ops = ops_touch t stock ops
 
-local_copied : (stock : Stock) (f : Frame) (r : Rate) (at : ℕ) (q x : Reg) (ops : List Op)
-    → ops_use stock (copied (kept_or f false r at (Some q)) x ops) ≡ if_init r [] []
-local_copied stock f rate.Init at q x ops = refl
-local_copied stock f rate.Control at q x ops = refl
-local_copied stock f rate.Audio at q x ops = refl
+  -- two codes, one after the other, and what each touches
+  two : (a b : List Op) (x y : List Res) → touch a ≡ x → touch b ≡ y → touch (a ++ b) ≡ x ++ y
+  two a b x y h k = flat_map-append (λ o. act_touches t stock o.act) a b ∙ ap₂ ◌++◌ h k
 
-by_direct : (stock : Stock) (f : Frame) (e : Expression) (at : ℕ) (ops : List Op) → ops_use stock ops ≡ own_uses e
-    → ops_use stock (unless_there (direct f false at e) ops) ≡ expr_used cycle e
-by_direct stock f (number r n) at ops h = none_there stock f r at ops [] h ∙ nothing_read r
-by_direct stock f (var r (Local q n)) at ops h = local_there stock f r at (reg q n) ops
-by_direct stock f (var r (Global g)) at ops h = none_there stock f r at ops (g ∷ []) h
-by_direct stock f (field r k) at ops h = none_there stock f r at ops [] h ∙ nothing_read r
-by_direct stock f (head r k) at ops h = none_there stock f r at ops [] h ∙ nothing_read r
-by_direct stock f (neg r a) at ops h = none_there stock f r at ops (own_uses (neg r a)) h
-by_direct stock f (pair r b y z) at ops h = none_there stock f r at ops (own_uses (pair r b y z)) h
-by_direct stock f (pick r c y z) at ops h = none_there stock f r at ops (own_uses (pick r c y z)) h
-by_direct stock f (apply r g a) at ops h = none_there stock f r at ops (own_uses (apply r g a)) h
+  no_reads : (s : Touch) → read_only s [] ≡ []
+  no_reads may_use = refl
+  no_reads may_write = refl
 
-by_copied : (stock : Stock) (f : Frame) (e : Expression) (at : ℕ) (x : Reg) (ops : List Op) → ops_use stock ops ≡ own_uses e
-    → ops_use stock (copied (direct f false at e) x ops) ≡ expr_used cycle e
-by_copied stock f (number r n) at x ops h = none_copied stock f r at x ops [] h ∙ nothing_read r
-by_copied stock f (var r (Local q n)) at x ops h = local_copied stock f r at (reg q n) x ops
-by_copied stock f (var r (Global g)) at x ops h = none_copied stock f r at x ops (g ∷ []) h
-by_copied stock f (field r k) at x ops h = none_copied stock f r at x ops [] h ∙ nothing_read r
-by_copied stock f (head r k) at x ops h = none_copied stock f r at x ops [] h ∙ nothing_read r
-by_copied stock f (neg r a) at x ops h = none_copied stock f r at x ops (own_uses (neg r a)) h
-by_copied stock f (pair r b y z) at x ops h = none_copied stock f r at x ops (own_uses (pair r b y z)) h
-by_copied stock f (pick r c y z) at x ops h = none_copied stock f r at x ops (own_uses (pick r c y z)) h
-by_copied stock f (apply r g a) at x ops h = none_copied stock f r at x ops (own_uses (apply r g a)) h
+  two_reads : (s : Touch) (x y : List Res) → read_only s x ++ read_only s y ≡ read_only s (x ++ y)
+  two_reads may_use x y = refl
+  two_reads may_write x y = refl
 
--- the op of a node reads nothing by itself
-pub last_uses : (stock : Stock) (a : List Op) (op : Op) (u : List Res) → act_uses stock op.act ≡ [] → ops_use stock a ≡ u
-    → ops_use stock (a ++ (op ∷ [])) ≡ u
-last_uses stock a op u none h = use_two stock a (op ∷ []) u [] h (ap (λ l. l ++ []) none) ∙ append-nil u
+  -- ---- what expressions read
 
-own_use : (stock : Stock) (f : Frame) (e : Expression) (at : ℕ) (x : Reg) (d : ℕ) → ops_use stock (own f false at e x d) ≡ own_uses e
-own_use stock f (number r n) at x d = refl
-own_use stock f (var r (Local q n)) at x d = refl
-own_use stock f (var r (Global g)) at x d = refl
-own_use stock f (field r k) at x d = refl
-own_use stock f (head r k) at x d = refl
-own_use stock f (neg r a) at x d =
-    last_uses stock (operand_code f false at a d) (op_of act.Neg x (spot f false at a d ∷ [])) (expr_used cycle a) refl
-    (by_direct stock f a at (own f false at a (temp f (node_rate a) d) (d + 1)) (own_use stock f a at (temp f (node_rate a) d) (d + 1)))
-own_use stock f (pair r b y z) at x d =
-    use_two stock (operand_code f false at y d)
-    (operand_code f false (past at y) z (d + 1) ++ (op_of (act.Pair b) x (spot f false at y d ∷ spot f false (past at y) z (d + 1) ∷ []) ∷ []))
-    (expr_used cycle y) (expr_used cycle z)
-    (by_direct stock f y at (own f false at y (temp f (node_rate y) d) (d + 1)) (own_use stock f y at (temp f (node_rate y) d) (d + 1)))
-    (last_uses stock (operand_code f false (past at y) z (d + 1))
-    (op_of (act.Pair b) x (spot f false at y d ∷ spot f false (past at y) z (d + 1) ∷ [])) (expr_used cycle z) refl
-    (by_direct stock f z (past at y) (own f false (past at y) z (temp f (node_rate z) (d + 1)) (d + 1 + 1))
-    (own_use stock f z (past at y) (temp f (node_rate z) (d + 1)) (d + 1 + 1))))
-own_use stock f (pick r c y z) at x d =
-    let last : Op = op_of act.Pick x (spots f false at (c ∷ y ∷ z ∷ []) d) in
-    let first : List Op = operand_code f false at c d in
-    let second : List Op = operand_code f false (past at c) y (d + 1) in
-    let third : List Op = operand_code f false (past (past at c) y) z (d + 1 + 1) in
-    use_two stock first (second ++ (third ++ (last ∷ []))) (expr_used cycle c) (expr_used cycle y ++ expr_used cycle z)
-    (by_direct stock f c at (own f false at c (temp f (node_rate c) d) (d + 1)) (own_use stock f c at (temp f (node_rate c) d) (d + 1)))
-    (use_two stock second (third ++ (last ∷ [])) (expr_used cycle y) (expr_used cycle z)
-    (by_direct stock f y (past at c) (own f false (past at c) y (temp f (node_rate y) (d + 1)) (d + 1 + 1))
-    (own_use stock f y (past at c) (temp f (node_rate y) (d + 1)) (d + 1 + 1)))
-    (last_uses stock third last (expr_used cycle z) refl
-    (by_direct stock f z (past (past at c) y) (own f false (past (past at c) y) z (temp f (node_rate z) (d + 1 + 1)) (d + 1 + 1 + 1))
-    (own_use stock f z (past (past at c) y) (temp f (node_rate z) (d + 1 + 1)) (d + 1 + 1 + 1)))))
-own_use stock f (apply r g a) at x d =
-    last_uses stock (operand_code f false at a d) (op_of (act.Call g) x (spot f false at a d ∷ [])) (expr_used cycle a) refl
-    (by_direct stock f a at (own f false at a (temp f (node_rate a) d) (d + 1)) (own_use stock f a at (temp f (node_rate a) d) (d + 1)))
+  -- what stands already is read no more: nothing that is made of it touches anything
+  by_rate : (r : Rate) (at : ℕ) (make : Option Reg → List Op) (here : Option Reg) (u : List Res)
+      → ((q : Reg) → touch (make (Some q)) ≡ []) → touch (make here) ≡ read_only t u
+      → touch (make (kept_or f false r at here)) ≡ read_only t (if_init r [] u)
+  by_rate rate.Init at make here u none h = none (kept_reg f at) ∙ sym (no_reads t)
+  by_rate rate.Control at make here u none h = h
+  by_rate rate.Audio at make here u none h = h
 
-operand_use : (stock : Stock) (f : Frame) (at : ℕ) (e : Expression) (d : ℕ) → ops_use stock (operand_code f false at e d) ≡ expr_used cycle e
-operand_use stock f at e d =
-    by_direct stock f e at (own f false at e (temp f (node_rate e) d) (d + 1)) (own_use stock f e at (temp f (node_rate e) d) (d + 1))
+  by_there : (w : Bool) (e : Expression) (at : ℕ) (make : Option Reg → List Op)
+      → ((q : Reg) → touch (make (Some q)) ≡ []) → touch (make None) ≡ read_only t (own_reads w e)
+      → touch (make (direct f w at e)) ≡ read_only t (reads w e)
+  by_there true (number r n) at make none h = h
+  by_there true (var r (Local q n)) at make none h = none (reg q n) ∙ sym (no_reads t)
+  by_there true (var r (Global g)) at make none h = h
+  by_there true (field r k) at make none h = h
+  by_there true (head r k) at make none h = h
+  by_there true (neg r a) at make none h = h
+  by_there true (pair r o a b) at make none h = h
+  by_there true (pick r c a b) at make none h = h
+  by_there true (apply r g a) at make none h = h
+  by_there false (number r n) at make none h = by_rate r at make None [] none h ∙ ap (read_only t) (nothing_read r)
+  by_there false (var r (Local q n)) at make none h =
+      by_rate r at make (Some (reg q n)) [] none (none (reg q n) ∙ sym (no_reads t))
+  by_there false (var r (Global g)) at make none h = by_rate r at make None (g ∷ []) none h
+  by_there false (field r k) at make none h = by_rate r at make None [] none h ∙ ap (read_only t) (nothing_read r)
+  by_there false (head r k) at make none h = by_rate r at make None [] none h ∙ ap (read_only t) (nothing_read r)
+  by_there false (neg r a) at make none h = by_rate r at make None (own_reads false (neg r a)) none h
+  by_there false (pair r o a b) at make none h = by_rate r at make None (own_reads false (pair r o a b)) none h
+  by_there false (pick r c a b) at make none h = by_rate r at make None (own_reads false (pick r c a b)) none h
+  by_there false (apply r g a) at make none h = by_rate r at make None (own_reads false (apply r g a)) none h
 
-operands_use : (stock : Stock) (f : Frame) (at : ℕ) (es : List Expression) (d : ℕ) → ops_use stock (operands_code f false at es d) ≡ exprs_used cycle es
-operands_use stock f at [] d = refl
-operands_use stock f at (e ∷ es) d =
-    use_two stock (operand_code f false at e d) (operands_code f false (past at e) es (d + 1)) (expr_used cycle e) (exprs_used cycle es)
-    (operand_use stock f at e d) (operands_use stock f (past at e) es (d + 1))
+  operand_by : (w : Bool) (e : Expression) (at d : ℕ)
+      → ((x : Reg) → touch (own f w at e x d) ≡ read_only t (own_reads w e))
+      → touch (operand_code f w at e d) ≡ read_only t (reads w e)
+  operand_by w e at d h =
+      by_there w e at (λ q. unless_there q (own f w at e (temp f (node_rate e) d) d)) (λ q. refl)
+      (h (temp f (node_rate e) d))
 
--- ---- what statements read and write
+  code_by : (w : Bool) (e : Expression) (at : ℕ) (x : Reg) → touch (own f w at e x 0) ≡ read_only t (own_reads w e)
+      → touch (code f w at e x 0) ≡ read_only t (reads w e)
+  code_by w e at x h = by_there w e at (λ q. copied q x (own f w at e x 0)) (λ q. refl) h
 
-set_use : (stock : Stock) (f : Frame) (at : ℕ) (v : Variable) (e : Expression) → ops_use stock (set_code f false at v e) ≡ expr_used cycle e ++ var_uses v
-set_use stock f at (Local q n) e = by_rate (same_rate (node_rate e) q)
-  where
-    by_rate : (b : Bool) → ops_use stock (if b then code f false at e (reg q n) 0
-        else operand_code f false at e 0 ++ (op_of act.Copy (reg q n) (spot f false at e 0 ∷ []) ∷ [])) ≡ expr_used cycle e ++ []
-    by_rate true = by_copied stock f e at (reg q n) (own f false at e (reg q n) 0) (own_use stock f e at (reg q n) 0) ∙ sym (append-nil (expr_used cycle e))
-    by_rate false =
-        use_two stock (operand_code f false at e 0) (op_of act.Copy (reg q n) (spot f false at e 0 ∷ []) ∷ []) (expr_used cycle e) [] (operand_use stock f at e 0) refl
-set_use stock f at (Global g) e =
-    use_two stock (operand_code f false at e 0) (op_of (act.Save g) (spot f false at e 0) (spot f false at e 0 ∷ []) ∷ []) (expr_used cycle e) (g ∷ [])
-    (operand_use stock f at e 0) refl
+  -- the op of a node touches nothing by itself
+  last : (a : List Op) (op : Op) (u : List Res) → act_touches t stock op.act ≡ [] → touch a ≡ u
+      → touch (a ++ (op ∷ [])) ≡ u
+  last a op u none h = two a (op ∷ []) u [] h (ap (λ l. l ++ []) none) ∙ append-nil u
 
-pub given_use : (stock : Stock) (f : Frame) (r : Rate) (vs : List Variable) → ops_use stock (given_code f r vs) ≡ vars_use vs
-given_use stock f r [] = refl
-given_use stock f r (Local q n ∷ vs) = by_rate (same_rate q r)
-  where
-    by_rate : (b : Bool) → ops_use stock (if b then [] else op_of act.Copy (reg q n) (temp f r 0 ∷ []) ∷ []) ≡ []
-    by_rate true = refl
-    by_rate false = refl
-given_use stock f r (Global g ∷ vs) = refl
+  own_touch : (w : Bool) (e : Expression) (at : ℕ) (x : Reg) (d : ℕ)
+      → touch (own f w at e x d) ≡ read_only t (own_reads w e)
+  own_touch w (number r n) at x d = sym (no_reads t)
+  own_touch w (var r (Local q n)) at x d = sym (no_reads t)
+  own_touch w (var r (Global g)) at x d = append-nil (read_only t (g ∷ []))
+  own_touch w (field r k) at x d = sym (no_reads t)
+  own_touch w (head r k) at x d = sym (no_reads t)
+  own_touch w (neg r a) at x d =
+      last (operand_code f w at a d) (op_of act.Neg x (spot f w at a d ∷ [])) (read_only t (reads w a)) refl
+      (operand_by w a at d (λ q. own_touch w a at q d))
+  own_touch w (pair r o a b) at x d =
+      let op : Op = op_of (act.Pair o) x (spots f w at (a ∷ b ∷ []) d) in
+      let second : List Op = operand_code f w (past at a) b (d + 1) in
+      two (operand_code f w at a d) (second ++ (op ∷ [])) (read_only t (reads w a)) (read_only t (reads w b))
+      (operand_by w a at d (λ q. own_touch w a at q d))
+      (last second op (read_only t (reads w b)) refl
+      (operand_by w b (past at a) (d + 1) (λ q. own_touch w b (past at a) q (d + 1))))
+      ∙ two_reads t (reads w a) (reads w b)
+  own_touch w (pick r c a b) at x d =
+      let op : Op = op_of act.Pick x (spots f w at (c ∷ a ∷ b ∷ []) d) in
+      let next : ℕ = past (past at c) a in
+      let second : List Op = operand_code f w (past at c) a (d + 1) in
+      let third : List Op = operand_code f w next b (d + 1 + 1) in
+      two (operand_code f w at c d) (second ++ (third ++ (op ∷ []))) (read_only t (reads w c))
+      (read_only t (reads w a) ++ read_only t (reads w b))
+      (operand_by w c at d (λ q. own_touch w c at q d))
+      (two second (third ++ (op ∷ [])) (read_only t (reads w a)) (read_only t (reads w b))
+      (operand_by w a (past at c) (d + 1) (λ q. own_touch w a (past at c) q (d + 1)))
+      (last third op (read_only t (reads w b)) refl
+      (operand_by w b next (d + 1 + 1) (λ q. own_touch w b next q (d + 1 + 1)))))
+      ∙ ap (λ l. read_only t (reads w c) ++ l) (two_reads t (reads w a) (reads w b))
+      ∙ two_reads t (reads w c) (reads w a ++ reads w b)
+  own_touch w (apply r g a) at x d =
+      last (operand_code f w at a d) (op_of (act.Call g) x (spot f w at a d ∷ [])) (read_only t (reads w a)) refl
+      (operand_by w a at d (λ q. own_touch w a at q d))
 
--- an op on values, and what is left to do with its result
-on_use : (stock : Stock) (f : Frame) (at : ℕ) (a : Act) (into : Reg) (es : List Expression)
-    → ops_use stock (on_code f false at a into es) ≡ exprs_used cycle es ++ act_uses stock a
-on_use stock f at a into es =
-    use_two stock (operands_code f false at es 0) (op_of a into (spots f false at es 0) ∷ []) (exprs_used cycle es) (act_uses stock a)
-    (operands_use stock f at es 0) (append-nil (act_uses stock a))
+  operand_touch : (w : Bool) (at : ℕ) (e : Expression) (d : ℕ)
+      → touch (operand_code f w at e d) ≡ read_only t (reads w e)
+  operand_touch w at e d = operand_by w e at d (λ q. own_touch w e at q d)
 
-run_use : (stock : Stock) (f : Frame) (at : ℕ) (a : Act) (r : Rate) (vs : List Variable) (xs : List Expression)
-    → ops_use stock (run_code f false at a r vs xs) ≡ exprs_used cycle xs ++ (act_uses stock a ++ vars_use vs)
-run_use stock f at a r vs xs =
-    use_two stock (operands_code f false at xs 0) (op_of a (target f r vs) (spots f false at xs 0) ∷ given_code f r vs)
-    (exprs_used cycle xs) (act_uses stock a ++ vars_use vs) (operands_use stock f at xs 0)
-    (ap (λ l. act_uses stock a ++ l) (given_use stock f r vs))
+  code_touch : (w : Bool) (at : ℕ) (e : Expression) (x : Reg) → touch (code f w at e x 0) ≡ read_only t (reads w e)
+  code_touch w at e x = code_by w e at x (own_touch w e at x 0)
 
-out_use : (stock : Stock) (c : ℕ) (qs : List Reg) → ops_use stock (out_ops c qs) ≡ []
-out_use stock c [] = refl
-out_use stock c (q ∷ qs) = out_use stock (c + 1) qs
+  operands_touch : (w : Bool) (at : ℕ) (es : List Expression) (d : ℕ)
+      → touch (operands_code f w at es d) ≡ read_only t (flat_map (reads w) es)
+  operands_touch w at [] d = sym (no_reads t)
+  operands_touch w at (e ∷ es) d =
+      two (operand_code f w at e d) (operands_code f w (past at e) es (d + 1)) (read_only t (reads w e))
+      (read_only t (flat_map (reads w) es)) (operand_touch w at e d) (operands_touch w (past at e) es (d + 1))
+      ∙ two_reads t (reads w e) (flat_map (reads w) es)
 
-out_at_use : (stock : Stock) (qs : List Reg) → ops_use stock (out_at_ops qs) ≡ []
-out_at_use stock [] = refl
-out_at_use stock (p ∷ []) = refl
-out_at_use stock (p ∷ (q ∷ qs)) = out_at_use stock qs
+  -- ---- what is kept of expressions
 
-each_use : (stock : Stock) (r : Rate) (ops : List Op) (u : List Res) → ops_use stock ops ≡ u → ops_use stock (if_init r [] ops) ≡ if_init r [] u
-each_use stock rate.Init ops u h = refl
-each_use stock rate.Control ops u h = h
-each_use stock rate.Audio ops u h = h
+  either : (r : Rate) (once each : List Op) (u v : List Res) → touch once ≡ u → touch each ≡ v
+      → touch (if_init r once each) ≡ if_init r u v
+  either rate.Init once each u v h k = h
+  either rate.Control once each u v h k = k
+  either rate.Audio once each u v h k = k
 
-pub arm_use : (stock : Stock) (place : ℕ) (before : List Op) (q : Reg) (body rest : List Op) (u v w : List Res) → ops_use stock before ≡ u
-    → ops_use stock body ≡ v → ops_use stock rest ≡ w → ops_use stock (arm_code place before q body rest) ≡ u ++ (v ++ w)
-arm_use stock place before q body rest u v w h k l =
-    let jump : Op = op_of (act.Jump (place + length before + 1 + length body + 1 + length rest)) q [] in
-    let test : Op = op_of (act.Unless (place + length before + 1 + length body + 1)) q (q ∷ []) in
-    use_two stock before (test ∷ (body ++ (jump ∷ rest))) u (v ++ w) h (use_two stock body (jump ∷ rest) v w k l)
+  same : (r : Rate) (once each : List Op) (u : List Res) → touch once ≡ u → touch each ≡ u
+      → touch (if_init r once each) ≡ u
+  same rate.Init once each u h k = h
+  same rate.Control once each u h k = k
+  same rate.Audio once each u h k = k
 
-mutual
-  stmt_use : (stock : Stock) (f : Frame) (place : ℕ) (p : Place) (s : Stmt) → ops_use stock (perf_code f place p s) ≡ stmt_used cycle stock s
-  stmt_use stock f place p (set r v e) =
-      each_use stock r (set_code f false p.part v e) (expr_used cycle e ++ var_uses v) (set_use stock f p.part v e)
-  stmt_use stock f place p (unit r vs opcode reach xs is) =
-      each_use stock r (unit_code f false p.part r vs opcode p.unit reach xs) (exprs_used cycle xs ++ (unit_uses stock opcode reach ++ vars_use vs))
-      (run_use stock f p.part (act.Unit opcode p.unit reach) r vs xs)
-  stmt_use stock f place p (zak r vs opcode reach xs) =
-      each_use stock r (zak_code f false p.part r vs opcode reach xs) (exprs_used cycle xs ++ (zak_uses stock opcode reach ++ vars_use vs))
-      (run_use stock f p.part (act.Zak opcode reach) r vs xs)
-  stmt_use stock f place p (store r opcode reach es is) =
-      each_use stock r (store_code f false p.part r opcode reach es) (exprs_used cycle es ++ tables_within stock reach)
-      (on_use stock f p.part (act.Store opcode reach) (reg r 0) es)
-  stmt_use stock f place p (out r es) =
-      use_two stock (operands_code f false p.part es 0) (out_ops 0 (spots f false p.part es 0)) (exprs_used cycle es) []
-      (operands_use stock f p.part es 0) (out_use stock 0 (spots f false p.part es 0)) ∙ append-nil (exprs_used cycle es)
-  stmt_use stock f place p (out_at r es) =
-      use_two stock (operands_code f false p.part es 0) (out_at_ops (spots f false p.part es 0)) (exprs_used cycle es) []
-      (operands_use stock f p.part es 0) (out_at_use stock (spots f false p.part es 0)) ∙ append-nil (exprs_used cycle es)
-  stmt_use stock f place p (ask es) = refl
-  stmt_use stock f place p (turnoff r) = refl
-  stmt_use stock f place p nothing = refl
-  stmt_use stock f place p (choose r arms) = arms_use_of stock f place p arms
+  -- of what is kept as a whole, or by its parts
+  keeps : (at : ℕ) (e : Expression) (r : Rate) (parts : List Op) (v : List Res) → touch parts ≡ read_only t v
+      → touch (if_init r (kept_code f at e) parts) ≡ read_only t (if_init r (expr_reads e) v)
+  keeps at e rate.Init parts v k = code_touch true 0 e (kept_reg f at)
+  keeps at e rate.Control parts v k = k
+  keeps at e rate.Audio parts v k = k
 
-  -- the ops of a control cycle use what its statements do
-  pub block_use : (stock : Stock) (f : Frame) (place : ℕ) (p : Place) (b : Block) → ops_use stock (perf_block_code f place p b) ≡ block_uses stock b
-  block_use stock f place p no_stmt = refl
-  block_use stock f place p (andthen s b) =
-      use_two stock (perf_code f place p s) (perf_block_code f (place + length (perf_code f place p s)) (past_stmt p s) b)
-      (stmt_used cycle stock s) (block_uses stock b) (stmt_use stock f place p s)
-      (block_use stock f (place + length (perf_code f place p s)) (past_stmt p s) b)
+  keep_touch : (at : ℕ) (e : Expression) → touch (keep_code f at e) ≡ read_only t (expr_used beginning e)
+  keep_touch at (number r n) = keeps at (number r n) r [] [] (sym (no_reads t)) ∙ ap (read_only t) (nothing_read r)
+  keep_touch at (var r v) = keeps at (var r v) r [] [] (sym (no_reads t))
+  keep_touch at (field r k) = keeps at (field r k) r [] [] (sym (no_reads t)) ∙ ap (read_only t) (nothing_read r)
+  keep_touch at (head r k) = keeps at (head r k) r [] [] (sym (no_reads t)) ∙ ap (read_only t) (nothing_read r)
+  keep_touch at (neg r a) = keeps at (neg r a) r (keep_code f at a) (expr_used beginning a) (keep_touch at a)
+  keep_touch at (pair r o a b) =
+      let kept : Expression → List Res = expr_used beginning in
+      keeps at (pair r o a b) r (keep_code f at a ++ keep_code f (past at a) b) (kept a ++ kept b)
+      (two (keep_code f at a) (keep_code f (past at a) b) (read_only t (kept a)) (read_only t (kept b))
+      (keep_touch at a) (keep_touch (past at a) b) ∙ two_reads t (kept a) (kept b))
+  keep_touch at (pick r c a b) =
+      let kept : Expression → List Res = expr_used beginning in
+      let first : List Op = keep_code f at c in
+      let second : List Op = keep_code f (past at c) a in
+      let third : List Op = keep_code f (past (past at c) a) b in
+      keeps at (pick r c a b) r (first ++ (second ++ third)) (kept c ++ (kept a ++ kept b))
+      (two first (second ++ third) (read_only t (kept c)) (read_only t (kept a) ++ read_only t (kept b))
+      (keep_touch at c)
+      (two second third (read_only t (kept a)) (read_only t (kept b)) (keep_touch (past at c) a)
+      (keep_touch (past (past at c) a) b))
+      ∙ ap (λ l. read_only t (kept c) ++ l) (two_reads t (kept a) (kept b))
+      ∙ two_reads t (kept c) (kept a ++ kept b))
+  keep_touch at (apply r g a) = keeps at (apply r g a) r (keep_code f at a) (expr_used beginning a) (keep_touch at a)
 
-  arms_use_of : (stock : Stock) (f : Frame) (place : ℕ) (p : Place) (arms : Arms) → ops_use stock (perf_arms_code f place p arms) ≡ arms_used cycle stock arms
-  arms_use_of stock f place p (otherwise b) = block_use stock f place p b
-  arms_use_of stock f place p (arm c b rest) =
-      let before : List Op = operand_code f false p.part c 0 in
-      let q : Place = past_parts (past p.part c) p in
-      let body : List Op = perf_block_code f (place + length before + 1) q b in
-      let others : List Op = perf_arms_code f (place + length before + 1 + length body + 1) (past_block q b) rest in
-      arm_use stock place before (spot f false p.part c 0) body others (expr_used cycle c) (block_uses stock b) (arms_used cycle stock rest)
-      (operand_use stock f p.part c 0) (block_use stock f (place + length before + 1) q b)
-      (arms_use_of stock f (place + length before + 1 + length body + 1) (past_block q b) rest)
+  keep_all_touch : (at : ℕ) (es : List Expression)
+      → touch (keep_all_code f at es) ≡ read_only t (exprs_used beginning es)
+  keep_all_touch at [] = sym (no_reads t)
+  keep_all_touch at (e ∷ es) =
+      two (keep_code f at e) (keep_all_code f (past at e) es) (read_only t (expr_used beginning e))
+      (read_only t (exprs_used beginning es)) (keep_touch at e) (keep_all_touch (past at e) es)
+      ∙ two_reads t (expr_used beginning e) (exprs_used beginning es)
 
--- ---- what they may write
+  -- ---- parts of statements
 
-unless_write : (stock : Stock) (there : Option Reg) (ops : List Op) → ops_write stock ops ≡ [] → ops_write stock (unless_there there ops) ≡ []
-unless_write stock (Some q) ops h = refl
-unless_write stock None ops h = h
+  set_touch : (w : Bool) (at : ℕ) (v : Variable) (e : Expression)
+      → touch (set_code f w at v e) ≡ read_only t (reads w e) ++ var_uses v
+  set_touch w at (Local q n) e = by_same (same_rate (node_rate e) q)
+    where
+      copy : List Op
+      copy = operand_code f w at e 0 ++ (op_of act.Copy (reg q n) (spot f w at e 0 ∷ []) ∷ [])
 
-pub copied_write : (stock : Stock) (there : Option Reg) (x : Reg) (ops : List Op) → ops_write stock ops ≡ [] → ops_write stock (copied there x ops) ≡ []
-copied_write stock (Some q) x ops h = refl
-copied_write stock None x ops h = h
+      by_same : (b : Bool) → touch (if b then code f w at e (reg q n) 0 else copy) ≡ read_only t (reads w e) ++ []
+      by_same true = code_touch w at e (reg q n) ∙ sym (append-nil (read_only t (reads w e)))
+      by_same false =
+          two (operand_code f w at e 0) (op_of act.Copy (reg q n) (spot f w at e 0 ∷ []) ∷ [])
+          (read_only t (reads w e)) [] (operand_touch w at e 0) refl
+  set_touch w at (Global g) e =
+      two (operand_code f w at e 0) (op_of (act.Save g) (spot f w at e 0) (spot f w at e 0 ∷ []) ∷ [])
+      (read_only t (reads w e)) (g ∷ []) (operand_touch w at e 0) refl
 
--- what works out values writes nothing that notes share
-pub own_write : (stock : Stock) (f : Frame) (whole : Bool) (e : Expression) (at : ℕ) (x : Reg) (d : ℕ) → ops_write stock (own f whole at e x d) ≡ []
-own_write stock f whole (number r n) at x d = refl
-own_write stock f whole (var r (Local q n)) at x d = refl
-own_write stock f whole (var r (Global g)) at x d = refl
-own_write stock f whole (field r k) at x d = refl
-own_write stock f whole (head r k) at x d = refl
-own_write stock f whole (neg r a) at x d =
-    write_two stock (operand_code f whole at a d) (op_of act.Neg x (spot f whole at a d ∷ []) ∷ []) [] []
-    (unless_write stock (direct f whole at a) (own f whole at a (temp f (node_rate a) d) (d + 1)) (own_write stock f whole a at (temp f (node_rate a) d) (d + 1))) refl
-own_write stock f whole (pair r b y z) at x d =
-    let last : List Op = op_of (act.Pair b) x (spots f whole at (y ∷ z ∷ []) d) ∷ [] in
-    let second : List Op = operand_code f whole (past at y) z (d + 1) in
-    write_two stock (operand_code f whole at y d) (second ++ last) [] []
-    (unless_write stock (direct f whole at y) (own f whole at y (temp f (node_rate y) d) (d + 1)) (own_write stock f whole y at (temp f (node_rate y) d) (d + 1)))
-    (write_two stock second last [] []
-    (unless_write stock (direct f whole (past at y) z) (own f whole (past at y) z (temp f (node_rate z) (d + 1)) (d + 1 + 1))
-    (own_write stock f whole z (past at y) (temp f (node_rate z) (d + 1)) (d + 1 + 1))) refl)
-own_write stock f whole (pick r c y z) at x d =
-    let last : List Op = op_of act.Pick x (spots f whole at (c ∷ y ∷ z ∷ []) d) ∷ [] in
-    let second : List Op = operand_code f whole (past at c) y (d + 1) in
-    let third : List Op = operand_code f whole (past (past at c) y) z (d + 1 + 1) in
-    write_two stock (operand_code f whole at c d) (second ++ (third ++ last)) [] []
-    (unless_write stock (direct f whole at c) (own f whole at c (temp f (node_rate c) d) (d + 1)) (own_write stock f whole c at (temp f (node_rate c) d) (d + 1)))
-    (write_two stock second (third ++ last) [] []
-    (unless_write stock (direct f whole (past at c) y) (own f whole (past at c) y (temp f (node_rate y) (d + 1)) (d + 1 + 1))
-    (own_write stock f whole y (past at c) (temp f (node_rate y) (d + 1)) (d + 1 + 1)))
-    (write_two stock third last [] []
-    (unless_write stock (direct f whole (past (past at c) y) z) (own f whole (past (past at c) y) z (temp f (node_rate z) (d + 1 + 1)) (d + 1 + 1 + 1))
-    (own_write stock f whole z (past (past at c) y) (temp f (node_rate z) (d + 1 + 1)) (d + 1 + 1 + 1))) refl))
-own_write stock f whole (apply r g a) at x d =
-    write_two stock (operand_code f whole at a d) (op_of (act.Call g) x (spot f whole at a d ∷ []) ∷ []) [] []
-    (unless_write stock (direct f whole at a) (own f whole at a (temp f (node_rate a) d) (d + 1)) (own_write stock f whole a at (temp f (node_rate a) d) (d + 1))) refl
+  given_touch : (r : Rate) (vs : List Variable) → touch (given_code f r vs) ≡ vars_use vs
+  given_touch r [] = refl
+  given_touch r (Local q n ∷ vs) = by_same (same_rate q r)
+    where
+      by_same : (b : Bool) → touch (if b then [] else op_of act.Copy (reg q n) (temp f r 0 ∷ []) ∷ []) ≡ []
+      by_same true = refl
+      by_same false = refl
+  given_touch r (Global g ∷ vs) = refl
 
-operand_write : (stock : Stock) (f : Frame) (whole : Bool) (at : ℕ) (e : Expression) (d : ℕ) → ops_write stock (operand_code f whole at e d) ≡ []
-operand_write stock f whole at e d =
-    unless_write stock (direct f whole at e) (own f whole at e (temp f (node_rate e) d) (d + 1)) (own_write stock f whole e at (temp f (node_rate e) d) (d + 1))
+  -- an op on values, and what is left to do with its result
+  on_touch : (w : Bool) (at : ℕ) (a : Act) (into : Reg) (es : List Expression)
+      → touch (on_code f w at a into es) ≡ read_only t (flat_map (reads w) es) ++ act_touches t stock a
+  on_touch w at a into es =
+      two (operands_code f w at es 0) (op_of a into (spots f w at es 0) ∷ []) (read_only t (flat_map (reads w) es))
+      (act_touches t stock a) (operands_touch w at es 0) (append-nil (act_touches t stock a))
 
-pub operands_write : (stock : Stock) (f : Frame) (whole : Bool) (at : ℕ) (es : List Expression) (d : ℕ) → ops_write stock (operands_code f whole at es d) ≡ []
-operands_write stock f whole at [] d = refl
-operands_write stock f whole at (e ∷ es) d =
-    write_two stock (operand_code f whole at e d) (operands_code f whole (past at e) es (d + 1)) [] []
-    (operand_write stock f whole at e d) (operands_write stock f whole (past at e) es (d + 1))
+  -- one that touches nothing by itself
+  alone : (a : Act) (into : Reg) (es : List Expression) → act_touches t stock a ≡ []
+      → touch (on_code f true 0 a into es) ≡ read_only t (exprs_read es)
+  alone a into es none =
+      last (operands_code f true 0 es 0) (op_of a into (spots f true 0 es 0)) (read_only t (exprs_read es)) none
+      (operands_touch true 0 es 0)
 
-pub set_write : (stock : Stock) (f : Frame) (whole : Bool) (at : ℕ) (v : Variable) (e : Expression) → ops_write stock (set_code f whole at v e) ≡ var_uses v
-set_write stock f whole at (Local q n) e = by_rate (same_rate (node_rate e) q)
-  where
-    by_rate : (b : Bool) → ops_write stock (if b then code f whole at e (reg q n) 0
-        else operand_code f whole at e 0 ++ (op_of act.Copy (reg q n) (spot f whole at e 0 ∷ []) ∷ [])) ≡ []
-    by_rate true = copied_write stock (direct f whole at e) (reg q n) (own f whole at e (reg q n) 0) (own_write stock f whole e at (reg q n) 0)
-    by_rate false =
-        write_two stock (operand_code f whole at e 0) (op_of act.Copy (reg q n) (spot f whole at e 0 ∷ []) ∷ []) [] [] (operand_write stock f whole at e 0) refl
-set_write stock f whole at (Global g) e =
-    write_two stock (operand_code f whole at e 0) (op_of (act.Save g) (spot f whole at e 0) (spot f whole at e 0 ∷ []) ∷ []) [] (g ∷ [])
-    (operand_write stock f whole at e 0) refl
+  run_touch : (w : Bool) (at : ℕ) (a : Act) (r : Rate) (vs : List Variable) (xs : List Expression)
+      → touch (run_code f w at a r vs xs)
+      ≡ read_only t (flat_map (reads w) xs) ++ (act_touches t stock a ++ vars_use vs)
+  run_touch w at a r vs xs =
+      two (operands_code f w at xs 0) (op_of a (target f r vs) (spots f w at xs 0) ∷ given_code f r vs)
+      (read_only t (flat_map (reads w) xs)) (act_touches t stock a ++ vars_use vs) (operands_touch w at xs 0)
+      (ap (λ l. act_touches t stock a ++ l) (given_touch r vs))
 
-given_write : (stock : Stock) (f : Frame) (r : Rate) (vs : List Variable) → ops_write stock (given_code f r vs) ≡ vars_use vs
-given_write stock f r [] = refl
-given_write stock f r (Local q n ∷ vs) = by_rate (same_rate q r)
-  where
-    by_rate : (b : Bool) → ops_write stock (if b then [] else op_of act.Copy (reg q n) (temp f r 0 ∷ []) ∷ []) ≡ []
-    by_rate true = refl
-    by_rate false = refl
-given_write stock f r (Global g ∷ vs) = refl
+  out_touch : (c : ℕ) (qs : List Reg) → touch (out_ops c qs) ≡ []
+  out_touch c [] = refl
+  out_touch c (q ∷ qs) = out_touch (c + 1) qs
 
-pub on_write : (stock : Stock) (f : Frame) (whole : Bool) (at : ℕ) (a : Act) (into : Reg) (es : List Expression)
-    → ops_write stock (on_code f whole at a into es) ≡ act_writes stock a
-on_write stock f whole at a into es =
-    write_two stock (operands_code f whole at es 0) (op_of a into (spots f whole at es 0) ∷ []) [] (act_writes stock a)
-    (operands_write stock f whole at es 0) (append-nil (act_writes stock a))
+  out_at_touch : (qs : List Reg) → touch (out_at_ops qs) ≡ []
+  out_at_touch [] = refl
+  out_at_touch (p ∷ []) = refl
+  out_at_touch (p ∷ (q ∷ qs)) = out_at_touch qs
 
-pub run_write : (stock : Stock) (f : Frame) (whole : Bool) (at : ℕ) (a : Act) (r : Rate) (vs : List Variable) (xs : List Expression)
-    → ops_write stock (run_code f whole at a r vs xs) ≡ act_writes stock a ++ vars_use vs
-run_write stock f whole at a r vs xs =
-    write_two stock (operands_code f whole at xs 0) (op_of a (target f r vs) (spots f whole at xs 0) ∷ given_code f r vs)
-    [] (act_writes stock a ++ vars_use vs) (operands_write stock f whole at xs 0)
-    (ap (λ l. act_writes stock a ++ l) (given_write stock f r vs))
+  -- values, and ops on them that touch nothing
+  sent : (at : ℕ) (es : List Expression) (ops : List Op) → touch ops ≡ []
+      → touch (operands_code f false at es 0 ++ ops) ≡ read_only t (exprs_used cycle es)
+  sent at es ops none =
+      two (operands_code f false at es 0) ops (read_only t (exprs_used cycle es)) [] (operands_touch false at es 0) none
+      ∙ append-nil (read_only t (exprs_used cycle es))
 
-out_write : (stock : Stock) (c : ℕ) (qs : List Reg) → ops_write stock (out_ops c qs) ≡ []
-out_write stock c [] = refl
-out_write stock c (q ∷ qs) = out_write stock (c + 1) qs
+  arm_touch : (place : ℕ) (before : List Op) (q : Reg) (body rest : List Op) (u v w : List Res) → touch before ≡ u
+      → touch body ≡ v → touch rest ≡ w → touch (arm_code place before q body rest) ≡ u ++ (v ++ w)
+  arm_touch place before q body rest u v w h k l =
+      let jump : Op = op_of (act.Jump (place + length before + 1 + length body + 1 + length rest)) q [] in
+      let test : Op = op_of (act.Unless (place + length before + 1 + length body + 1)) q (q ∷ []) in
+      two before (test ∷ (body ++ (jump ∷ rest))) u (v ++ w) h (two body (jump ∷ rest) v w k l)
 
-out_at_write : (stock : Stock) (qs : List Reg) → ops_write stock (out_at_ops qs) ≡ []
-out_at_write stock [] = refl
-out_at_write stock (p ∷ []) = refl
-out_at_write stock (p ∷ (q ∷ qs)) = out_at_write stock qs
+  -- ---- statements in a cycle
 
-each_write : (stock : Stock) (r : Rate) (ops : List Op) (u : List Res) → ops_write stock ops ≡ u → ops_write stock (if_init r [] ops) ≡ if_init r [] u
-each_write stock rate.Init ops u h = refl
-each_write stock rate.Control ops u h = h
-each_write stock rate.Audio ops u h = h
+  mutual
+    stmt_cycles : (place : ℕ) (p : Place) (s : Stmt) → touch (perf_code f place p s) ≡ stmt_touched t cycle stock s
+    stmt_cycles place p (set r v e) =
+        either r [] (set_code f false p.part v e) [] (read_only t (expr_used cycle e) ++ var_uses v) refl
+        (set_touch false p.part v e)
+    stmt_cycles place p (unit r vs opcode reach xs is) =
+        either r [] (unit_code f false p.part r vs opcode p.unit reach xs) []
+        (read_only t (exprs_used cycle xs) ++ (read_only t (unit_uses stock opcode reach) ++ vars_use vs)) refl
+        (run_touch false p.part (act.Unit opcode p.unit reach) r vs xs)
+    stmt_cycles place p (zak r vs opcode reach xs) =
+        either r [] (zak_code f false p.part r vs opcode reach xs) []
+        (read_only t (exprs_used cycle xs) ++ (zak_touches t stock opcode reach ++ vars_use vs)) refl
+        (run_touch false p.part (act.Zak opcode reach) r vs xs)
+    stmt_cycles place p (store r opcode reach es is) =
+        either r [] (store_code f false p.part r opcode reach es) []
+        (read_only t (exprs_used cycle es) ++ tables_within stock reach) refl
+        (on_touch false p.part (act.Store opcode reach) (reg r 0) es)
+    stmt_cycles place p (out r es) =
+        sent p.part es (out_ops 0 (spots f false p.part es 0)) (out_touch 0 (spots f false p.part es 0))
+    stmt_cycles place p (out_at r es) =
+        sent p.part es (out_at_ops (spots f false p.part es 0)) (out_at_touch (spots f false p.part es 0))
+    stmt_cycles place p (ask es) = refl
+    stmt_cycles place p (turnoff r) = refl
+    stmt_cycles place p nothing = refl
+    stmt_cycles place p (choose r arms) = arms_cycle place p arms
 
-pub arm_write : (stock : Stock) (place : ℕ) (before : List Op) (q : Reg) (body rest : List Op) (v w : List Res) → ops_write stock before ≡ []
-    → ops_write stock body ≡ v → ops_write stock rest ≡ w → ops_write stock (arm_code place before q body rest) ≡ v ++ w
-arm_write stock place before q body rest v w h k l =
-    let jump : Op = op_of (act.Jump (place + length before + 1 + length body + 1 + length rest)) q [] in
-    let test : Op = op_of (act.Unless (place + length before + 1 + length body + 1)) q (q ∷ []) in
-    write_two stock before (test ∷ (body ++ (jump ∷ rest))) [] (v ++ w) h (write_two stock body (jump ∷ rest) v w k l)
+    -- the ops of a control cycle touch what its statements do
+    pub block_cycles : (place : ℕ) (p : Place) (b : Block)
+        → touch (perf_block_code f place p b) ≡ block_touched t cycle stock b
+    block_cycles place p no_stmt = refl
+    block_cycles place p (andthen s b) =
+        two (perf_code f place p s) (perf_block_code f (place + length (perf_code f place p s)) (past_stmt p s) b)
+        (stmt_touched t cycle stock s) (block_touched t cycle stock b) (stmt_cycles place p s)
+        (block_cycles (place + length (perf_code f place p s)) (past_stmt p s) b)
 
-mutual
-  stmt_write : (stock : Stock) (f : Frame) (place : ℕ) (p : Place) (s : Stmt) → ops_write stock (perf_code f place p s) ≡ stmt_written cycle stock s
-  stmt_write stock f place p (set r v e) = each_write stock r (set_code f false p.part v e) (var_uses v) (set_write stock f false p.part v e)
-  stmt_write stock f place p (unit r vs opcode reach xs is) =
-      each_write stock r (unit_code f false p.part r vs opcode p.unit reach xs) (vars_use vs)
-      (run_write stock f false p.part (act.Unit opcode p.unit reach) r vs xs)
-  stmt_write stock f place p (zak r vs opcode reach xs) =
-      each_write stock r (zak_code f false p.part r vs opcode reach xs) (zak_writes stock opcode reach ++ vars_use vs)
-      (run_write stock f false p.part (act.Zak opcode reach) r vs xs)
-  stmt_write stock f place p (store r opcode reach es is) =
-      each_write stock r (store_code f false p.part r opcode reach es) (tables_within stock reach)
-      (on_write stock f false p.part (act.Store opcode reach) (reg r 0) es)
-  stmt_write stock f place p (out r es) =
-      write_two stock (operands_code f false p.part es 0) (out_ops 0 (spots f false p.part es 0)) [] []
-      (operands_write stock f false p.part es 0) (out_write stock 0 (spots f false p.part es 0))
-  stmt_write stock f place p (out_at r es) =
-      write_two stock (operands_code f false p.part es 0) (out_at_ops (spots f false p.part es 0)) [] []
-      (operands_write stock f false p.part es 0) (out_at_write stock (spots f false p.part es 0))
-  stmt_write stock f place p (ask es) = refl
-  stmt_write stock f place p (turnoff r) = refl
-  stmt_write stock f place p nothing = refl
-  stmt_write stock f place p (choose r arms) = arms_write_of stock f place p arms
+    arms_cycle : (place : ℕ) (p : Place) (arms : Arms)
+        → touch (perf_arms_code f place p arms) ≡ arms_touched t cycle stock arms
+    arms_cycle place p (otherwise b) = block_cycles place p b
+    arms_cycle place p (arm c b rest) =
+        let before : List Op = operand_code f false p.part c 0 in
+        let q : Place = past_parts (past p.part c) p in
+        let body : List Op = perf_block_code f (place + length before + 1) q b in
+        let next : ℕ = place + length before + 1 + length body + 1 in
+        arm_touch place before (spot f false p.part c 0) body (perf_arms_code f next (past_block q b) rest)
+        (read_only t (expr_used cycle c)) (block_touched t cycle stock b) (arms_touched t cycle stock rest)
+        (operand_touch false p.part c 0) (block_cycles (place + length before + 1) q b)
+        (arms_cycle next (past_block q b) rest)
 
-  -- the ops of a control cycle may write what its statements may
-  pub block_write : (stock : Stock) (f : Frame) (place : ℕ) (p : Place) (b : Block) → ops_write stock (perf_block_code f place p b) ≡ block_writes stock b
-  block_write stock f place p no_stmt = refl
-  block_write stock f place p (andthen s b) =
-      write_two stock (perf_code f place p s) (perf_block_code f (place + length (perf_code f place p s)) (past_stmt p s) b)
-      (stmt_written cycle stock s) (block_writes stock b) (stmt_write stock f place p s)
-      (block_write stock f (place + length (perf_code f place p s)) (past_stmt p s) b)
+  -- ---- statements as a note begins
 
-  arms_write_of : (stock : Stock) (f : Frame) (place : ℕ) (p : Place) (arms : Arms) → ops_write stock (perf_arms_code f place p arms) ≡ arms_written cycle stock arms
-  arms_write_of stock f place p (otherwise b) = block_write stock f place p b
-  arms_write_of stock f place p (arm c b rest) =
-      let before : List Op = operand_code f false p.part c 0 in
-      let q : Place = past_parts (past p.part c) p in
-      let body : List Op = perf_block_code f (place + length before + 1) q b in
-      let others : List Op = perf_arms_code f (place + length before + 1 + length body + 1) (past_block q b) rest in
-      arm_write stock place before (spot f false p.part c 0) body others (block_writes stock b) (arms_written cycle stock rest)
-      (operand_write stock f false p.part c 0) (block_write stock f (place + length before + 1) q b)
-      (arms_write_of stock f (place + length before + 1 + length body + 1) (past_block q b) rest)
+  mutual
+    stmt_begins : (place : ℕ) (p : Place) (s : Stmt) → touch (init_code f place p s) ≡ stmt_touched t beginning stock s
+    stmt_begins place p (set r v e) =
+        either r (set_code f true 0 v e) (keep_code f p.part e) (read_only t (expr_reads e) ++ var_uses v)
+        (read_only t (expr_used beginning e)) (set_touch true 0 v e) (keep_touch p.part e)
+    stmt_begins place p (unit r vs opcode reach xs is) =
+        let started : List Op = start_code f r opcode p.unit is in
+        let once : List Op = unit_code f true 0 r vs opcode p.unit reach xs in
+        let kept : List Op = keep_all_code f p.part xs in
+        let settled : List Res = read_only t (exprs_read is) in
+        let moving : List Res = read_only t (exprs_used beginning xs) in
+        let touched : List Res = read_only t (unit_uses stock opcode reach) ++ vars_use vs in
+        let runs : List Res = read_only t (exprs_read xs) ++ touched in
+        let starts = alone (act.Start opcode p.unit) (reg r 0) is refl in
+        either r (started ++ once) (kept ++ started) (settled ++ runs) (moving ++ settled)
+        (two started once settled runs starts (run_touch true 0 (act.Unit opcode p.unit reach) r vs xs))
+        (two kept started moving settled (keep_all_touch p.part xs) starts)
+    stmt_begins place p (zak r vs opcode reach xs) =
+        either r (zak_code f true 0 r vs opcode reach xs) (keep_all_code f p.part xs)
+        (read_only t (exprs_read xs) ++ (zak_touches t stock opcode reach ++ vars_use vs))
+        (read_only t (exprs_used beginning xs)) (run_touch true 0 (act.Zak opcode reach) r vs xs)
+        (keep_all_touch p.part xs)
+    stmt_begins place p (store r opcode reach es is) =
+        let sought : List Op = seek_code f is in
+        let once : List Op = store_code f true 0 r opcode reach es in
+        let kept : List Op = keep_all_code f p.part es in
+        let settled : List Res = read_only t (exprs_read is) in
+        let moving : List Res = read_only t (exprs_used beginning es) in
+        let stores : List Res = read_only t (exprs_read es) ++ tables_within stock reach in
+        let seeks = alone act.Seek (reg rate.Init 0) is refl in
+        either r (sought ++ once) (kept ++ sought) (settled ++ stores) (moving ++ settled)
+        (two sought once settled stores seeks (on_touch true 0 (act.Store opcode reach) (reg r 0) es))
+        (two kept sought moving settled (keep_all_touch p.part es) seeks)
+    stmt_begins place p (out r es) = keep_all_touch p.part es
+    stmt_begins place p (out_at r es) = keep_all_touch p.part es
+    stmt_begins place p (ask es) = alone act.Ask (reg rate.Init 0) es refl
+    stmt_begins place p (turnoff r) = refl
+    stmt_begins place p nothing = refl
+    stmt_begins place p (choose r arms) =
+        same r (first_code f place p arms) (all_code f place p arms) (arms_touched t beginning stock arms)
+        (first_begins place p arms) (all_begin place p arms)
+
+    -- the ops of a note's beginning touch what its statements do then
+    pub block_begins : (place : ℕ) (p : Place) (b : Block)
+        → touch (init_block_code f place p b) ≡ block_touched t beginning stock b
+    block_begins place p no_stmt = refl
+    block_begins place p (andthen s b) =
+        two (init_code f place p s) (init_block_code f (place + length (init_code f place p s)) (past_stmt p s) b)
+        (stmt_touched t beginning stock s) (block_touched t beginning stock b) (stmt_begins place p s)
+        (block_begins (place + length (init_code f place p s)) (past_stmt p s) b)
+
+    first_begins : (place : ℕ) (p : Place) (arms : Arms)
+        → touch (first_code f place p arms) ≡ arms_touched t beginning stock arms
+    first_begins place p (otherwise b) = block_begins place p b
+    first_begins place p (arm c b rest) =
+        let before : List Op = keep_code f p.part c in
+        let q : Place = past_parts (past p.part c) p in
+        let body : List Op = init_block_code f (place + length before + 1) q b in
+        let next : ℕ = place + length before + 1 + length body + 1 in
+        arm_touch place before (kept_reg f p.part) body (first_code f next (past_block q b) rest)
+        (read_only t (expr_used beginning c)) (block_touched t beginning stock b) (arms_touched t beginning stock rest)
+        (keep_touch p.part c) (block_begins (place + length before + 1) q b) (first_begins next (past_block q b) rest)
+
+    all_begin : (place : ℕ) (p : Place) (arms : Arms)
+        → touch (all_code f place p arms) ≡ arms_touched t beginning stock arms
+    all_begin place p (otherwise b) = block_begins place p b
+    all_begin place p (arm c b rest) =
+        let before : List Op = keep_code f p.part c in
+        let q : Place = past_parts (past p.part c) p in
+        let body : List Op = init_block_code f (place + length before) q b in
+        let next : ℕ = place + length before + length body in
+        let others : List Op = all_code f next (past_block q b) rest in
+        two before (body ++ others) (read_only t (expr_used beginning c))
+        (block_touched t beginning stock b ++ arms_touched t beginning stock rest) (keep_touch p.part c)
+        (two body others (block_touched t beginning stock b) (arms_touched t beginning stock rest)
+        (block_begins (place + length before) q b) (all_begin next (past_block q b) rest))

@@ -168,7 +168,7 @@ module _ (end : ℕ) where
   own_fine f whole (head r k) at i d place h = (refl, tt, tt)
   own_fine f whole (neg r a) at i d place h =
       both_fine place (operand_code f whole at a d) (op_of act.Neg (reg r i) (spot f whole at a d ∷ []) ∷ [])
-      (unless_fine place (direct f whole at a) (own f whole at a (temp f (node_rate a) d) (d + 1)) (own_fine f whole a at (f.base (node_rate a) + d) (d + 1) place h.1))
+      (unless_fine place (direct f whole at a) (own f whole at a (temp f (node_rate a) d) d) (own_fine f whole a at (f.base (node_rate a) + d) d place h.1))
       (ap (λ y. within y r) (spot_rate f whole at a d h.1) ∙ h.0, tt, tt)
   own_fine f whole (pair r b y z) at i d place h =
       let p : Reg = spot f whole at y d in
@@ -180,11 +180,11 @@ module _ (end : ℕ) where
       let high : within q.rate r ≡ true = ap (λ x. within x r) (spot_rate f whole (past at y) z (d + 1) h.4) ∙ h.1 in
       let suits : suits_operator b r ≡ true = h.2 in
       both_fine place first (second ++ last)
-      (unless_fine place (direct f whole at y) (own f whole at y (temp f (node_rate y) d) (d + 1))
-      (own_fine f whole y at (f.base (node_rate y) + d) (d + 1) place h.3))
+      (unless_fine place (direct f whole at y) (own f whole at y (temp f (node_rate y) d) d)
+      (own_fine f whole y at (f.base (node_rate y) + d) d place h.3))
       (both_fine (place + length first) second last
-      (unless_fine (place + length first) (direct f whole (past at y) z) (own f whole (past at y) z (temp f (node_rate z) (d + 1)) (d + 1 + 1))
-      (own_fine f whole z (past at y) (f.base (node_rate z) + (d + 1)) (d + 1 + 1) (place + length first) h.4))
+      (unless_fine (place + length first) (direct f whole (past at y) z) (own f whole (past at y) z (temp f (node_rate z) (d + 1)) (d + 1))
+      (own_fine f whole z (past at y) (f.base (node_rate z) + (d + 1)) (d + 1) (place + length first) h.4))
       (three (within p.rate r) (within q.rate r) (suits_operator b r) low high suits, tt, tt))
   own_fine f whole (pick r c y z) at i d place h =
       let o : Reg = spot f whole at c d in
@@ -199,24 +199,24 @@ module _ (end : ℕ) where
       let second_low : within p.rate r ≡ true = ap (λ x. within x r) (spot_rate f whole (past at c) y (d + 1) h.5) ∙ h.2 in
       let third_low : within q.rate r ≡ true = ap (λ x. within x r) (spot_rate f whole (past (past at c) y) z (d + 1 + 1) h.6) ∙ h.3 in
       both_fine place first (second ++ (third ++ last))
-      (unless_fine place (direct f whole at c) (own f whole at c (temp f (node_rate c) d) (d + 1))
-      (own_fine f whole c at (f.base (node_rate c) + d) (d + 1) place h.4))
+      (unless_fine place (direct f whole at c) (own f whole at c (temp f (node_rate c) d) d)
+      (own_fine f whole c at (f.base (node_rate c) + d) d place h.4))
       (both_fine (place + length first) second (third ++ last)
-      (unless_fine (place + length first) (direct f whole (past at c) y) (own f whole (past at c) y (temp f (node_rate y) (d + 1)) (d + 1 + 1))
-      (own_fine f whole y (past at c) (f.base (node_rate y) + (d + 1)) (d + 1 + 1) (place + length first) h.5))
+      (unless_fine (place + length first) (direct f whole (past at c) y) (own f whole (past at c) y (temp f (node_rate y) (d + 1)) (d + 1))
+      (own_fine f whole y (past at c) (f.base (node_rate y) + (d + 1)) (d + 1) (place + length first) h.5))
       (both_fine (place + length first + length second) third last
       (unless_fine (place + length first + length second) (direct f whole (past (past at c) y) z)
-      (own f whole (past (past at c) y) z (temp f (node_rate z) (d + 1 + 1)) (d + 1 + 1 + 1))
-      (own_fine f whole z (past (past at c) y) (f.base (node_rate z) + (d + 1 + 1)) (d + 1 + 1 + 1) (place + length first + length second) h.6))
+      (own f whole (past (past at c) y) z (temp f (node_rate z) (d + 1 + 1)) (d + 1 + 1))
+      (own_fine f whole z (past (past at c) y) (f.base (node_rate z) + (d + 1 + 1)) (d + 1 + 1) (place + length first + length second) h.6))
       (four (not (is_audio o.rate)) (within o.rate r) (within p.rate r) (within q.rate r) (ap not held) one second_low third_low, tt, tt)))
   own_fine f whole (apply r g a) at i d place h =
       both_fine place (operand_code f whole at a d) (op_of (act.Call g) (reg r i) (spot f whole at a d ∷ []) ∷ [])
-      (unless_fine place (direct f whole at a) (own f whole at a (temp f (node_rate a) d) (d + 1)) (own_fine f whole a at (f.base (node_rate a) + d) (d + 1) place h.1))
+      (unless_fine place (direct f whole at a) (own f whole at a (temp f (node_rate a) d) d) (own_fine f whole a at (f.base (node_rate a) + d) d place h.1))
       (ap (suits_function g r) (spot_rate f whole at a d h.1) ∙ h.0, tt, tt)
 
   operand_fine : (f : Frame) (whole : Bool) (e : Expression) (at d place : ℕ) → Ranked e → Fine end place (operand_code f whole at e d)
   operand_fine f whole e at d place h =
-      unless_fine place (direct f whole at e) (own f whole at e (temp f (node_rate e) d) (d + 1)) (own_fine f whole e at (f.base (node_rate e) + d) (d + 1) place h)
+      unless_fine place (direct f whole at e) (own f whole at e (temp f (node_rate e) d) d) (own_fine f whole e at (f.base (node_rate e) + d) d place h)
 
   operands_fine : (f : Frame) (whole : Bool) (es : List Expression) (at d place : ℕ) → AllRanked es → Fine end place (operands_code f whole at es d)
   operands_fine f whole [] at d place h = tt
@@ -542,14 +542,14 @@ has_all counts (q ∷ qs) h =
     two (has_register counts q) (list_all (has_register counts) qs) (has_one counts q (λ r. let m = h r in omega arith)) (has_all counts qs (λ r. let m = h r in omega arith))
 
 -- a code is valid where its ops are fine, and there are as many registers and units as it names
-pub fine_valid : (counts : Counts) (channels : ℕ) (units : List UnitKind) (end place : ℕ) (ops : List Op) → length units ≤ counts.units
-    → ((r : Rate) → ops_limit r ops ≤ count_of counts r) → Each channels units ops → Fine end place ops → fine_from counts end place ops ≡ true
-fine_valid counts channels units end place [] low limits named fine = refl
-fine_valid counts channels units end place (op ∷ ops) low limits named fine =
+pub fine_valid : (cycles : Bool) (counts : Counts) (channels : ℕ) (units : List UnitKind) (end place : ℕ) (ops : List Op) → length units ≤ counts.units
+    → ((r : Rate) → ops_limit r ops ≤ count_of counts r) → Each cycles channels units ops → Fine end place ops → fine_from counts end place ops ≡ true
+fine_valid cycles counts channels units end place [] low limits named fine = refl
+fine_valid cycles counts channels units end place (op ∷ ops) low limits named fine =
     two (is_fine counts end place op) (fine_from counts end (place + 1) ops)
     (four (not (writes op.act) || has_register counts op.into) (list_all (has_register counts) op.from) (finds counts end place op.act)
     (takes_from op.act op.into.rate op.from)
     (or_right (not (writes op.act)) (has_register counts op.into) (has_one counts op.into (λ r. let m = limits r in omega arith)))
     (has_all counts op.from (λ r. let m = limits r in omega arith))
-    (finds_right counts channels units end place op.act op.into.rate low named.0 fine.1) fine.0)
-    (fine_valid counts channels units end (place + 1) ops low (λ r. let m = limits r in omega arith) named.1 fine.2)
+    (finds_right counts channels units end place op.act op.into.rate low named.0.0 fine.1) fine.0)
+    (fine_valid cycles counts channels units end (place + 1) ops low (λ r. let m = limits r in omega arith) named.1 fine.2)

@@ -12,7 +12,7 @@ use Rattle.cs_typed.specs.TypedTree as typed
 use Rattle.cs_typed.specs.Variables.{IsCounted, EachInArgument, EachInBlock}
 use Rattle.cs_typed.specs.WellRated.{IsRatedBlock, IsRatedArgument}
 use Rattle.cs_typed.specs.declared.tree.Var.TheVariants.{Local}
-use Rattle.cs_code.specs.Examples.{counter, counter_init, counter_perf, tone, tone_init, tone_perf, IsMadeOf}
+use Rattle.cs_code.specs.Examples.{counter, counter_init, counter_perf, terms, terms_perf, tone, tone_init, tone_perf, IsMadeOf}
 use Rattle.cs_code.specs.Lowered.{IsCodeOf}
 use Rattle.cs_code.proofs.Instruments.{made_code}
 
@@ -32,6 +32,35 @@ pub counter_code : (spaces : Spaces) (init perf : Code) → IsMadeOf counter_ini
 counter_code spaces init perf a b =
     made_code spaces counter_locals (inside 1) counter counter_rated (record { i = 1; k = 1; a = 0; units = 0 }) counter_init counter_perf
     (record { init_is = refl; perf_is = refl; counts_are = refl }) counter_counted init perf a.0 a.1 b.0 b.1
+
+-- ---- k1 = k1 + k2 + k1 + k2
+
+abbrev terms_locals : PerRate ℕ
+terms_locals = record { init = 0; control = 2; audio = 0 }
+
+terms_rated : IsRatedBlock (inside 1) terms
+terms_rated = (
+  (
+    refl,
+    refl,
+    refl,
+    refl,
+    (refl, refl, (refl, refl, (refl, refl, (refl, refl), (refl, refl)), (refl, refl)), (refl, refl)),
+  ),
+  tt,
+)
+
+terms_counted : EachInBlock (IsCounted terms_locals) terms
+terms_counted =
+    let low : 0 < 2 = omega arith in
+    let high : 1 < 2 = omega arith in
+    ((low, (((low, high), low), high)), tt)
+
+pub terms_code : (spaces : Spaces) (init perf : Code) → IsMadeOf [] (record { i = 0; k = 3; a = 0; units = 0 }) init
+    → IsMadeOf terms_perf (record { i = 0; k = 3; a = 0; units = 0 }) perf → IsCodeOf spaces 1 terms init perf
+terms_code spaces init perf a b =
+    made_code spaces terms_locals (inside 1) terms terms_rated (record { i = 0; k = 3; a = 0; units = 0 }) [] terms_perf
+    (record { init_is = refl; perf_is = refl; counts_are = refl }) terms_counted init perf a.0 a.1 b.0 b.1
 
 -- ---- a1 oscili k1, 440, 1 and out a1
 

@@ -1,4 +1,4 @@
--- Two small instruments, and their codes worked by hand.
+-- Three small instruments, and their codes worked by hand.
 use Rattle.std.specs.Prelude.{ℕ, pos, ◌*ℤ◌, ◌≡◌, List, [], ◌∷◌}
 use Rattle.cs_base.specs.Numbers.{one}
 use Rattle.cs_base.specs.declared.resource.Rate.{Rate}
@@ -30,6 +30,14 @@ tone =
     ∷ typed.value (typed.number rate.Init one) ∷ []))
     (typed.andthen (typed.call 2 rate.Audio [] opcode.Out (typed.value (typed.var rate.Audio (Local rate.Audio 0)) ∷ [])) typed.no_stmt)
 
+-- k1 = k1 + k2 + k1 + k2
+abbrev pub terms : typed.Block
+terms =
+    let first = typed.var rate.Control (Local rate.Control 0) in
+    let second = typed.var rate.Control (Local rate.Control 1) in
+    let plus = typed.pair rate.Control sign.Add in
+    typed.andthen (typed.set 1 rate.Control (Local rate.Control 0) (plus (plus (plus first second) first) second)) typed.no_stmt
+
 abbrev at : Rate → ℕ → Reg
 at r n = record { rate = r; index = n }
 
@@ -42,6 +50,14 @@ counter_init = op (act.Const one) (at rate.Init 0) [] ∷ []
 
 abbrev pub counter_perf : List Op
 counter_perf = op (act.Pair sign.Add) (at rate.Control 0) (at rate.Control 0 ∷ at rate.Init 0 ∷ []) ∷ []
+
+-- Nothing is kept, and one register beside the two variables takes each sum in turn.
+abbrev pub terms_perf : List Op
+terms_perf =
+    op (act.Pair sign.Add) (at rate.Control 2) (at rate.Control 0 ∷ at rate.Control 1 ∷ [])
+    ∷ op (act.Pair sign.Add) (at rate.Control 2) (at rate.Control 2 ∷ at rate.Control 0 ∷ [])
+    ∷ op (act.Pair sign.Add) (at rate.Control 0) (at rate.Control 2 ∷ at rate.Control 1 ∷ [])
+    ∷ []
 
 -- As a note begins the frequency is kept and the unit started on its table, and in each cycle the unit runs and its sound goes out.
 abbrev pub tone_init : List Op

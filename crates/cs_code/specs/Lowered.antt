@@ -5,31 +5,40 @@ use Rattle.std.specs.List.Sorted.{IsPermutation, IsStrictlyIncreasing}
 use Rattle.cs_ir.specs.Cycles.{are_of_cycle}
 use Rattle.cs_ir.specs.Instruments.{Numbered, numbers_of}
 use Rattle.cs_base.specs.declared.spaces.Spaces.{Spaces}
-use Rattle.cs_ir.specs.Resources.{Stock, ops_use, ops_write}
+use Rattle.cs_ir.specs.Resources.{NameTheSame, Stock, Touch, ops_touch}
 use Rattle.cs_ir.specs.Validity.{valid}
 use Rattle.cs_ir.specs.declared.op.Code.{Code}
-use Rattle.cs_meaning.specs.Uses.{block_begin_writes, block_begins, block_uses, block_writes}
-use Rattle.cs_meaning.specs.Core.{core}
+use Rattle.cs_meaning.specs.Core.{Block, core}
+use Rattle.cs_meaning.specs.Uses.{beginning, block_touched, cycle}
 use Rattle.cs_typed.specs.TypedTree as typed
 use Rattle.cs_code.specs.Means.{Means}
-use Rattle.cs_code.specs.Names.{block_units, AllNamed}
+use Rattle.cs_code.specs.Names.{UnitKind, block_units, AllNamed}
 
--- The two codes of a block, in a piece with these zak spaces and this number of channels: they mean its statements, can be run on the
--- same registers and units, name what there is, and use and may write exactly what the statements do: the initialisation what they
--- do as the note begins, and the performance what they do in a cycle, which starts no unit and asks for no note.
-pub record IsCodeOf (spaces : Spaces) (channels : ℕ) (body : typed.Block) (init perf : Code) : Type 0 where
-  pub means : Means (core spaces body) init.ops.items perf.ops.items
+-- Two codes can be run on the same registers and units, in a piece with this number of channels: both are valid, they
+-- name the units and channels that there are, and the performance starts no unit and asks for no note.
+pub record CanBeRun (channels : ℕ) (units : List UnitKind) (init perf : Code) : Type 0 where
   pub init_valid : valid init ≡ true
   pub perf_valid : valid perf ≡ true
   pub counts : init.counts ≡ perf.counts
-  pub units : init.counts.units ≡ length (block_units (core spaces body))
-  pub init_names : AllNamed channels (block_units (core spaces body)) init.ops.items
-  pub perf_names : AllNamed channels (block_units (core spaces body)) perf.ops.items
-  pub uses : (stock : Stock) → ops_use stock perf.ops.items ≡ block_uses stock (core spaces body)
-  pub writes : (stock : Stock) → ops_write stock perf.ops.items ≡ block_writes stock (core spaces body)
-  pub begins : (stock : Stock) → ops_use stock init.ops.items ≡ block_begins stock (core spaces body)
-  pub begin_writes : (stock : Stock) → ops_write stock init.ops.items ≡ block_begin_writes stock (core spaces body)
+  pub count : init.counts.units ≡ length units
+  pub init_names : AllNamed channels units init.ops.items
+  pub perf_names : AllNamed channels units perf.ops.items
   pub perf_cycle : are_of_cycle perf.ops.items ≡ true
+
+-- Two codes use and may write the same resources as statements do, in whatever order: the initialisation those of the
+-- note's beginning, and the performance those of a cycle.
+pub record TouchAlike (body : Block) (init perf : Code) : Type 0 where
+  pub begins : (t : Touch) (stock : Stock)
+      → NameTheSame (ops_touch t stock init.ops.items) (block_touched t beginning stock body)
+  pub cycles : (t : Touch) (stock : Stock)
+      → NameTheSame (ops_touch t stock perf.ops.items) (block_touched t cycle stock body)
+
+-- The two codes of a block, in a piece with these zak spaces and this number of channels: they mean its statements, can
+-- be run, and touch what the statements do.
+pub record IsCodeOf (spaces : Spaces) (channels : ℕ) (body : typed.Block) (init perf : Code) : Type 0 where
+  pub means : Means (core spaces body) init.ops.items perf.ops.items
+  pub runs : CanBeRun channels (block_units (core spaces body)) init perf
+  pub touches : TouchAlike (core spaces body) init perf
 
 -- the numbers of all instruments, and the body of each, in the order of the text
 abbrev pub all_numbers : List typed.Instrument → List ℕ

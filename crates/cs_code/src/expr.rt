@@ -108,7 +108,7 @@ pub fn operand(
         }),
         None => {
             let reg = temp(context.bases, e.rate, d)?;
-            let next = own(ops, context, at, e, reg, add(d, 1)?)?;
+            let next = own(ops, context, at, e, reg, d)?;
             Ok(Spot { reg, next })
         }
     }
@@ -199,7 +199,7 @@ pub fn spot_of(
         }),
         None => {
             let reg = temp(context.bases, rate_of(value), 0)?;
-            let next = made(ops, context, at, value, reg, 1)?;
+            let next = made(ops, context, at, value, reg, 0)?;
             Ok(Spot { reg, next })
         }
     }

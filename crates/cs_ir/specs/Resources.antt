@@ -1,6 +1,6 @@
 -- Which of what notes share an op may read or write.
-use Rattle.std.specs.Prelude.{ℕ, Bool, true, false, ◌&&◌, List, [], ◌∷◌, map, nat_le, if◌then◌else◌}
-use Rattle.std.specs.List.{filter, flat_map, range_with_len}
+use Rattle.std.specs.Prelude.{ℕ, Bool, true, false, ◌&&◌, ◌↔◌, List, [], ◌∷◌, map, nat_le, if◌then◌else◌}
+use Rattle.std.specs.List.{Contains, filter, flat_map, range_with_len}
 use Rattle.cs_base.specs.declared.resource.Res.{Res}
 use Rattle.cs_base.specs.declared.resource.Res.TheVariants as res
 use Rattle.cs_base.specs.declared.spaces.Spaces.{Spaces}
@@ -66,23 +66,45 @@ zak_uses stock opcode r = shape_uses stock (row_of opcode).shape r
 abbrev pub zak_writes : Stock → Opcode → Reach → List Res
 zak_writes stock opcode r = if writes_places (row_of opcode).shape then zak_uses stock opcode r else []
 
--- what an op may read or write, and what it may write
+-- What is asked of what may be touched: what may be read or written, or what may be written alone.
+pub data Touch : Type 0 where
+  may_use : Touch
+  may_write : Touch
+
+-- what is read and not written is used alone
+abbrev pub read_only : Touch → List Res → List Res
+read_only may_use rs = rs
+read_only may_write rs = []
+
+abbrev pub zak_touches : Touch → Stock → Opcode → Reach → List Res
+zak_touches may_use stock opcode r = zak_uses stock opcode r
+zak_touches may_write stock opcode r = zak_writes stock opcode r
+
+-- what an op may touch
+abbrev pub act_touches : Touch → Stock → Act → List Res
+act_touches t stock (act.Load g) = read_only t (g ∷ [])
+act_touches t stock (act.Save g) = g ∷ []
+act_touches t stock (act.Unit opcode u r) = read_only t (unit_uses stock opcode r)
+act_touches t stock (act.Store opcode r) = tables_within stock r
+act_touches t stock (act.Zak opcode r) = zak_touches t stock opcode r
+act_touches t stock _ = []
+
+abbrev pub ops_touch : Touch → Stock → List Op → List Res
+ops_touch t stock ops = flat_map (λ o. act_touches t stock o.act) ops
+
+-- what ops may read or write, and what they may write
 abbrev pub act_uses : Stock → Act → List Res
-act_uses stock (act.Load g) = g ∷ []
-act_uses stock (act.Save g) = g ∷ []
-act_uses stock (act.Unit opcode u r) = unit_uses stock opcode r
-act_uses stock (act.Store opcode r) = tables_within stock r
-act_uses stock (act.Zak opcode r) = zak_uses stock opcode r
-act_uses stock _ = []
+act_uses = act_touches may_use
 
 abbrev pub act_writes : Stock → Act → List Res
-act_writes stock (act.Save g) = g ∷ []
-act_writes stock (act.Store opcode r) = tables_within stock r
-act_writes stock (act.Zak opcode r) = zak_writes stock opcode r
-act_writes stock _ = []
+act_writes = act_touches may_write
 
 abbrev pub ops_use : Stock → List Op → List Res
-ops_use stock ops = flat_map (λ o. act_uses stock o.act) ops
+ops_use = ops_touch may_use
 
 abbrev pub ops_write : Stock → List Op → List Res
-ops_write stock ops = flat_map (λ o. act_writes stock o.act) ops
+ops_write = ops_touch may_write
+
+-- two lists name the same resources, in whatever order and however often
+abbrev pub NameTheSame : List Res → List Res → Type 0
+NameTheSame xs ys = (g : Res) → Contains xs g ↔ Contains ys g

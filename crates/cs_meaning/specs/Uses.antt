@@ -7,17 +7,18 @@ use Rattle.cs_base.specs.declared.resource.Res.{Res}
 use Rattle.cs_typed.specs.TypedTree.{Expression, number, var, field, head, neg, pair, pick, apply}
 use Rattle.cs_typed.specs.declared.tree.Var.{Var as Variable}
 use Rattle.cs_typed.specs.declared.tree.Var.TheVariants.{Local, Global}
-use Rattle.cs_ir.specs.Resources.{Stock, tables_within, unit_uses, zak_uses, zak_writes}
+use Rattle.cs_ir.specs.Resources.{Stock, Touch, may_use, may_write, read_only, tables_within, unit_uses, zak_touches}
 use Rattle.cs_ir.specs.Waves.{if_init}
-use Rattle.cs_meaning.specs.Core.{Stmt, Block, Arms, set, unit, zak, store, out, out_at, ask, turnoff, nothing, choose, no_stmt, andthen, otherwise, arm}
+use Rattle.cs_meaning.specs.Core.{Stmt, Block, Arms, set, unit, zak, store, out, out_at, ask, turnoff, nothing, choose}
+use Rattle.cs_meaning.specs.Core.{no_stmt, andthen, otherwise, arm}
 
 -- as a note begins, or in a control cycle
 pub data When : Type 0 where
   beginning : When
   cycle : When
 
--- Of what is done at a rate: as the note begins all of it where it is done once, else what is kept of it; and in a cycle what is
--- done anew in each.
+-- Of what is done at a rate: as the note begins all of it where it is done once, else what is kept of it; and in a
+-- cycle what is done anew in each.
 abbrev pub done_at : When → Rate → List Res → List Res → List Res → List Res
 done_at beginning r once kept each = if_init r once kept
 done_at cycle r once kept each = if_init r [] each
@@ -44,7 +45,8 @@ expr_reads (apply r f a) = expr_reads a
 abbrev pub exprs_read : List Expression → List Res
 exprs_read es = flat_map expr_reads es
 
--- What an expression reads: as the note begins its outermost parts that don't change are worked out, in a cycle the others.
+-- What an expression reads: as the note begins its outermost parts that don't change are worked out, in a cycle the
+-- others.
 abbrev pub expr_used : When → Expression → List Res
 expr_used w (number r n) = []
 expr_used w (var r v) = done_at w r (var_uses v) [] (var_uses v)
@@ -61,67 +63,51 @@ expr_used w (apply r f a) = done_at w r (expr_reads a) (expr_used w a) (expr_use
 abbrev pub exprs_used : When → List Expression → List Res
 exprs_used w es = flat_map (expr_used w) es
 
--- What statements may read or write, in any branch. Whatever is written counts as used.
+-- What statements may touch, in any branch. Whatever is written counts as used.
 abbrev mutual
-  pub stmt_used : When → Stock → Stmt → List Res
-  stmt_used w stock (set r v e) =
-      done_at w r (expr_reads e ++ var_uses v) (expr_used w e) (expr_used w e ++ var_uses v)
-  stmt_used w stock (unit r vs opcode reach xs is) =
-      let touched = unit_uses stock opcode reach ++ vars_use vs in
-      done_at w r (exprs_read is ++ (exprs_read xs ++ touched)) (exprs_used w xs ++ exprs_read is) (exprs_used w xs ++ touched)
-  stmt_used w stock (zak r vs opcode reach xs) =
-      let touched = zak_uses stock opcode reach ++ vars_use vs in
-      done_at w r (exprs_read xs ++ touched) (exprs_used w xs) (exprs_used w xs ++ touched)
-  stmt_used w stock (store r opcode reach es is) =
+  pub stmt_touched : Touch → When → Stock → Stmt → List Res
+  stmt_touched t w stock (set r v e) =
+      let moving = read_only t (expr_used w e) in
+      done_at w r (read_only t (expr_reads e) ++ var_uses v) moving (moving ++ var_uses v)
+  stmt_touched t w stock (unit r vs opcode reach xs is) =
+      let settled = read_only t (exprs_read is) in
+      let moving = read_only t (exprs_used w xs) in
+      let touched = read_only t (unit_uses stock opcode reach) ++ vars_use vs in
+      done_at w r (settled ++ (read_only t (exprs_read xs) ++ touched)) (moving ++ settled) (moving ++ touched)
+  stmt_touched t w stock (zak r vs opcode reach xs) =
+      let moving = read_only t (exprs_used w xs) in
+      let touched = zak_touches t stock opcode reach ++ vars_use vs in
+      done_at w r (read_only t (exprs_read xs) ++ touched) moving (moving ++ touched)
+  stmt_touched t w stock (store r opcode reach es is) =
+      let settled = read_only t (exprs_read is) in
+      let moving = read_only t (exprs_used w es) in
       let touched = tables_within stock reach in
-      done_at w r (exprs_read is ++ (exprs_read es ++ touched)) (exprs_used w es ++ exprs_read is) (exprs_used w es ++ touched)
-  stmt_used w stock (out r es) = exprs_used w es
-  stmt_used w stock (out_at r es) = exprs_used w es
-  stmt_used w stock (ask es) = done_at w rate.Init (exprs_read es) [] []
-  stmt_used w stock (turnoff r) = []
-  stmt_used w stock nothing = []
-  stmt_used w stock (choose r arms) = arms_used w stock arms
+      done_at w r (settled ++ (read_only t (exprs_read es) ++ touched)) (moving ++ settled) (moving ++ touched)
+  stmt_touched t w stock (out r es) = read_only t (exprs_used w es)
+  stmt_touched t w stock (out_at r es) = read_only t (exprs_used w es)
+  stmt_touched t w stock (ask es) = done_at w rate.Init (read_only t (exprs_read es)) [] []
+  stmt_touched t w stock (turnoff r) = []
+  stmt_touched t w stock nothing = []
+  stmt_touched t w stock (choose r arms) = arms_touched t w stock arms
 
-  pub block_used : When → Stock → Block → List Res
-  block_used w stock no_stmt = []
-  block_used w stock (andthen s b) = stmt_used w stock s ++ block_used w stock b
+  pub block_touched : Touch → When → Stock → Block → List Res
+  block_touched t w stock no_stmt = []
+  block_touched t w stock (andthen s b) = stmt_touched t w stock s ++ block_touched t w stock b
 
-  pub arms_used : When → Stock → Arms → List Res
-  arms_used w stock (otherwise b) = block_used w stock b
-  arms_used w stock (arm c b rest) = expr_used w c ++ (block_used w stock b ++ arms_used w stock rest)
-
--- what statements may write
-abbrev mutual
-  pub stmt_written : When → Stock → Stmt → List Res
-  stmt_written w stock (set r v e) = done_at w r (var_uses v) [] (var_uses v)
-  stmt_written w stock (unit r vs opcode reach xs is) = done_at w r (vars_use vs) [] (vars_use vs)
-  stmt_written w stock (zak r vs opcode reach xs) =
-      let written = zak_writes stock opcode reach ++ vars_use vs in done_at w r written [] written
-  stmt_written w stock (store r opcode reach es is) = done_at w r (tables_within stock reach) [] (tables_within stock reach)
-  stmt_written w stock (out r es) = []
-  stmt_written w stock (out_at r es) = []
-  stmt_written w stock (ask es) = []
-  stmt_written w stock (turnoff r) = []
-  stmt_written w stock nothing = []
-  stmt_written w stock (choose r arms) = arms_written w stock arms
-
-  pub block_written : When → Stock → Block → List Res
-  block_written w stock no_stmt = []
-  block_written w stock (andthen s b) = stmt_written w stock s ++ block_written w stock b
-
-  pub arms_written : When → Stock → Arms → List Res
-  arms_written w stock (otherwise b) = block_written w stock b
-  arms_written w stock (arm c b rest) = block_written w stock b ++ arms_written w stock rest
+  pub arms_touched : Touch → When → Stock → Arms → List Res
+  arms_touched t w stock (otherwise b) = block_touched t w stock b
+  arms_touched t w stock (arm c b rest) =
+      read_only t (expr_used w c) ++ (block_touched t w stock b ++ arms_touched t w stock rest)
 
 -- what a note may read or write, and may write, in a control cycle and as it begins
 abbrev pub block_uses : Stock → Block → List Res
-block_uses = block_used cycle
+block_uses = block_touched may_use cycle
 
 abbrev pub block_writes : Stock → Block → List Res
-block_writes = block_written cycle
+block_writes = block_touched may_write cycle
 
 abbrev pub block_begins : Stock → Block → List Res
-block_begins = block_used beginning
+block_begins = block_touched may_use beginning
 
 abbrev pub block_begin_writes : Stock → Block → List Res
-block_begin_writes = block_written beginning
+block_begin_writes = block_touched may_write beginning

@@ -17,10 +17,10 @@ use Rattle.cs_words.specs.declared.catalogue.Shape.TheVariants as shape
 use Rattle.cs_words.specs.declared.catalogue.Space.{Space}
 use Rattle.cs_words.specs.declared.catalogue.Space.TheVariants as space
 use Rattle.cs_base.specs.declared.spaces.Spaces.{Spaces}
-use Rattle.cs_ir.specs.Resources.{Stock, places_of, zak_place, reaches, tables_within, places_within, shape_uses, unit_uses, zak_uses}
+use Rattle.cs_ir.specs.Resources.{Stock, may_use, places_of, zak_place, reaches, tables_within, places_within, shape_uses, unit_uses, zak_uses}
 use Rattle.cs_ir.specs.declared.op.Reach.{Reach}
 use Rattle.cs_meaning.specs.Core.{Stmt, Block, Arms, set, unit, zak, store, out, out_at, ask, turnoff, nothing, choose, no_stmt, andthen, otherwise, arm, core}
-use Rattle.cs_meaning.specs.Uses.{When, beginning, cycle, done_at, var_uses, vars_use, expr_reads, exprs_read, expr_used, exprs_used, stmt_used, block_used, arms_used, block_uses, block_begins}
+use Rattle.cs_meaning.specs.Uses.{When, beginning, cycle, done_at, var_uses, vars_use, expr_reads, exprs_read, expr_used, exprs_used, stmt_touched, block_touched, arms_touched, block_uses, block_begins}
 use Rattle.cs_typed.specs.TypedTree as typed
 use Rattle.cs_typed.specs.Variables.{EachInExpression}
 use Rattle.cs_typed.specs.TypedTree.{SharedNames, Expression, number, var, field, head, neg, pair, pick, apply}
@@ -185,7 +185,7 @@ zak_there names stock opcode r = shape_there names stock (row_of opcode).shape r
 
 mutual
   stmt_there : (names : SharedNames) (stock : Stock) (w : When) (x : Stmt) → IsNamedCore names x
-      → AreThere names stock (stmt_used w stock x)
+      → AreThere names stock (stmt_touched may_use w stock x)
   stmt_there names stock w (set r v e) h =
       let value = uses_there names stock w e h.1 in
       let variable = var_there names stock v h.0 in
@@ -223,17 +223,17 @@ mutual
   stmt_there names stock w (choose r list) h = arms_there names stock w list h
 
   block_there : (names : SharedNames) (stock : Stock) (w : When) (b : Block) → IsNamedCoreBlock names b
-      → AreThere names stock (block_used w stock b)
+      → AreThere names stock (block_touched may_use w stock b)
   block_there names stock w no_stmt h = none names stock
   block_there names stock w (andthen x rest) h =
-      both names stock (stmt_used w stock x) (block_used w stock rest) (stmt_there names stock w x h.0) (block_there names stock w rest h.1)
+      both names stock (stmt_touched may_use w stock x) (block_touched may_use w stock rest) (stmt_there names stock w x h.0) (block_there names stock w rest h.1)
 
   arms_there : (names : SharedNames) (stock : Stock) (w : When) (list : Arms) → AreNamedCoreArms names list
-      → AreThere names stock (arms_used w stock list)
+      → AreThere names stock (arms_touched may_use w stock list)
   arms_there names stock w (otherwise b) h = block_there names stock w b h
   arms_there names stock w (arm c b rest) h =
-      both names stock (expr_used w c) (block_used w stock b ++ arms_used w stock rest) (uses_there names stock w c h.0)
-      (both names stock (block_used w stock b) (arms_used w stock rest) (block_there names stock w b h.1) (arms_there names stock w rest h.2))
+      both names stock (expr_used w c) (block_touched may_use w stock b ++ arms_touched may_use w stock rest) (uses_there names stock w c h.0)
+      (both names stock (block_touched may_use w stock b) (arms_touched may_use w stock rest) (block_there names stock w b h.1) (arms_there names stock w rest h.2))
 
 pub touched : (names : SharedNames) (b : typed.Block) → IsNamedBlock names b
     → (spaces : Spaces) (stock : Stock) (g : Res)

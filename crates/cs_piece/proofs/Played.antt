@@ -173,10 +173,10 @@ module _ (s : Sheet) (body : typed.Block) (init perf : Code) (h : IsSheetOf s bo
       (covered s.areas (ops_write stock s.perf) g at.0 a at.1 among (ap (λ o. in_area o a) (sym at.1) ∙ inside))
 
   init_named : AllNamed s.piece.head.nchnls units s.init
-  init_named = subst (AllNamed s.piece.head.nchnls units) (sym h.init_ops) h.code.init_names
+  init_named = subst (AllNamed s.piece.head.nchnls units) (sym h.init_ops) h.code.runs.init_names
 
   perf_named : AllNamed s.piece.head.nchnls units s.perf
-  perf_named = subst (AllNamed s.piece.head.nchnls units) (sym h.perf_ops) h.code.perf_names
+  perf_named = subst (AllNamed s.piece.head.nchnls units) (sym h.perf_ops) h.code.runs.perf_names
 
   pub plays_from : IsPlayable s
   plays_from = record {
@@ -184,14 +184,14 @@ module _ (s : Sheet) (body : typed.Block) (init perf : Code) (h : IsSheetOf s bo
     kinds = kinds_of units;
     placed = h.placed;
     init_uses = ops_named stock s.piece.head.nchnls units (HasArea s.areas) init.counts (length init.ops.items) 0 s.init init_named
-        (ap (fine_from init.counts (length init.ops.items) 0) h.init_ops ∙ h.code.init_valid) h.init_areas;
+        (ap (fine_from init.counts (length init.ops.items) 0) h.init_ops ∙ h.code.runs.init_valid) h.init_areas;
     perf_uses = ops_named stock s.piece.head.nchnls units (IsUsed s) perf.counts (length perf.ops.items) 0 s.perf perf_named
-        (ap (fine_from perf.counts (length perf.ops.items) 0) h.perf_ops ∙ h.code.perf_valid)
+        (ap (fine_from perf.counts (length perf.ops.items) 0) h.perf_ops ∙ h.code.runs.perf_valid)
         (all_with (HasArea s.areas) (IsUsed s) (ops_use stock s.perf) used h.perf_areas);
     perf_writes = ops_written stock (IsWritten s) s.perf (all_from (IsWritten s) (ops_write stock s.perf) written);
     init_channels = channels_there s.piece.head.nchnls units s.init init_named;
     perf_channels = channels_there s.piece.head.nchnls units s.perf perf_named;
-    perf_acts = ap are_of_cycle h.perf_ops ∙ h.code.perf_cycle;
+    perf_acts = ap are_of_cycle h.perf_ops ∙ h.code.runs.perf_cycle;
   }
 
   means_so : (piece : Piece) → MeansIn (plain piece) h.code.means.plan (core s.piece.spaces body) s.init s.perf

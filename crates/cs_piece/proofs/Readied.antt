@@ -4,6 +4,7 @@ use Rattle.std.specs.List.{AllZip, Contains, cons_option, filter_map, list_any}
 use Rattle.std.specs.List.Sorted.{IsStrictlyIncreasing}
 use Rattle.std.specs.Option.{is_some, option_map}
 use Rattle.std.proofs.lemmas.Bool.{cases_eq}
+use Rattle.std.proofs.lemmas.List.Elements.{Contains-append_left, Contains-append_right}
 use Rattle.cs_base.proofs.Tests.{by_test, some_is}
 use Rattle.cs_base.specs.Rates.{same_res}
 use Rattle.cs_base.specs.declared.resource.Res.{Res}
@@ -15,12 +16,12 @@ use Rattle.cs_code.specs.Means.{Plan}
 use Rattle.cs_code.specs.Names.{block_units}
 use Rattle.cs_ir.specs.Instruments.{Numbered}
 use Rattle.cs_base.specs.declared.spaces.Spaces.{Spaces}
-use Rattle.cs_ir.specs.Resources.{Stock, ops_use, ops_write}
+use Rattle.cs_ir.specs.Resources.{Stock, may_use, may_write, ops_use, ops_write}
 use Rattle.cs_layout.proofs.Complete.{there}
 use Rattle.cs_layout.proofs.Counted.{spaces_are}
 use Rattle.cs_layout.specs.Layouts.{areas_of}
 use Rattle.cs_layout.specs.declared.areas.LiveTable.{LiveTable}
-use Rattle.cs_meaning.specs.Uses.{block_begins, block_uses}
+use Rattle.cs_meaning.specs.Uses.{block_begins, block_uses, block_writes}
 use Rattle.cs_meaning.specs.Core.{Block, core}
 use Rattle.cs_name_laws.specs.Names.{IsNamedBlock, is_there}
 use Rattle.cs_piece.proofs.Played.{performed_from, plays_from}
@@ -28,7 +29,7 @@ use Rattle.cs_piece.specs.Sheets.{IsSheetOf, kinds_of}
 use Rattle.cs_piece.specs.VoicesOfNotes.{Perform}
 use Rattle.cs_cells.specs.Areas.{IsFootprint}
 use Rattle.cs_rwset.proofs.Covering.{ops_written_is_used}
-use Rattle.cs_rwset.proofs.Placed.{contains_first, contains_rest, places_ascend, places_of_more, places_within_areas}
+use Rattle.cs_rwset.proofs.Placed.{contains_first, contains_rest, places_alike, places_ascend, places_of_more, places_within_areas}
 use Rattle.cs_rwset.specs.Footprints.{places_holding, stock_of, table_number}
 use Rattle.cs_voice_meaning.specs.Follows.{AreNamed}
 use Rattle.cs_voice_meaning.specs.Placing.{HasArea, area_of}
@@ -48,14 +49,6 @@ use Rattle.cs_piece.specs.Tables.{tables_in}
 all_there : (H : Res → Type 0) (gs : List Res) → ((g : Res) → Contains gs g → H g) → AreNamed H gs
 all_there H [] f = tt
 all_there H (g ∷ gs) f = (f g (contains_first g gs), all_there H gs (λ h c. f h (contains_rest g h gs c)))
-
-named_front : (H : Res → Type 0) (gs hs : List Res) → AreNamed H (gs ++ hs) → AreNamed H gs
-named_front H [] hs h = tt
-named_front H (g ∷ gs) hs h = (h.0, named_front H gs hs h.1)
-
-named_back : (H : Res → Type 0) (gs hs : List Res) → AreNamed H (gs ++ hs) → AreNamed H hs
-named_back H [] hs h = h
-named_back H (g ∷ gs) hs h = named_back H gs hs h.1
 
 -- a live table of a layout has its area
 head_area : (a : Area) (areas : List Area) (g : Res) → same_res a.res g ≡ true → HasArea (a ∷ areas) g
@@ -134,8 +127,16 @@ record IsReady (stage : Stage) (i : Numbered) (foot : Footprint) (spaces : Space
 module _ (c : SetupData) (stage : Stage) (is_stage : IsStageOf (composition_of c) stage) (i : Numbered) (foot : Footprint) (body : typed.Block)
     (feet : IsFootOf stage.layout.now i.perf foot)
     (named : (g : Res) → (spaces : Spaces) → Contains (block_uses (stock_of stage.layout.now) (core spaces body) ++ block_begins (stock_of stage.layout.now) (core spaces body)) g → HasArea stage.layout.now g) where
-  all_named : (spaces : Spaces) → AreNamed (HasArea stage.layout.now) (block_uses (stock_of stage.layout.now) (core spaces body) ++ block_begins (stock_of stage.layout.now) (core spaces body))
-  all_named spaces = all_there (HasArea stage.layout.now) (block_uses (stock_of stage.layout.now) (core spaces body) ++ block_begins (stock_of stage.layout.now) (core spaces body)) (λ g. named g spaces)
+  -- what statements use in a cycle, and as a note begins
+  uses_there : (spaces : Spaces) (g : Res) → Contains (block_uses (stock_of stage.layout.now) (core spaces body)) g → HasArea stage.layout.now g
+  uses_there spaces g k =
+      named g spaces (Contains-append_left (block_uses (stock_of stage.layout.now) (core spaces body))
+      (block_begins (stock_of stage.layout.now) (core spaces body)) g k)
+
+  begins_there : (spaces : Spaces) (g : Res) → Contains (block_begins (stock_of stage.layout.now) (core spaces body)) g → HasArea stage.layout.now g
+  begins_there spaces g k =
+      named g spaces (Contains-append_right (block_uses (stock_of stage.layout.now) (core spaces body))
+      (block_begins (stock_of stage.layout.now) (core spaces body)) g k)
 
   sheet_of : IsCodeOf stage.spaces stage.head.now.nchnls body i.init i.perf → (age : ℕ) (flags : List Bool) (fields : List ℤ)
       → length flags ≡ length stage.tables.now → IsSheetOf (sheet_at i age foot stage flags fields) body i.init i.perf
@@ -145,12 +146,10 @@ module _ (c : SetupData) (stage : Stage) (is_stage : IsStageOf (composition_of c
     perf_ops = refl;
     generators = refl;
     placed = is_stage.placed flags fields long;
-    init_areas = subst (AreNamed (HasArea stage.layout.now)) (sym (code.begins (stock_of stage.layout.now)))
-        (named_back (HasArea stage.layout.now) (block_uses (stock_of stage.layout.now) (core stage.spaces body))
-        (block_begins (stock_of stage.layout.now) (core stage.spaces body)) (all_named stage.spaces));
-    perf_areas = subst (AreNamed (HasArea stage.layout.now)) (sym (code.uses (stock_of stage.layout.now)))
-        (named_front (HasArea stage.layout.now) (block_uses (stock_of stage.layout.now) (core stage.spaces body))
-        (block_begins (stock_of stage.layout.now) (core stage.spaces body)) (all_named stage.spaces));
+    init_areas = all_there (HasArea stage.layout.now) (ops_use (stock_of stage.layout.now) i.init.ops.items)
+        (λ g k. begins_there stage.spaces g ((code.touches.begins may_use (stock_of stage.layout.now) g).0 k));
+    perf_areas = all_there (HasArea stage.layout.now) (ops_use (stock_of stage.layout.now) i.perf.ops.items)
+        (λ g k. uses_there stage.spaces g ((code.touches.cycles may_use (stock_of stage.layout.now) g).0 k));
     uses = feet.uses;
     writes = feet.writes;
   }
@@ -188,6 +187,8 @@ module _ (c : SetupData) (stage : Stage) (is_stage : IsStageOf (composition_of c
   pub instrument_is : IsCodeOf (typed.orchestra c.orchestra).spaces c.orchestra.head.nchnls body i.init i.perf
       → IsInstrumentOf stage i foot (core (typed.orchestra c.orchestra).spaces body)
   instrument_is code =
+      let areas : List Area = stage.layout.now in
+      let statements : Block = core (typed.orchestra c.orchestra).spaces body in
       let r = ready_as (typed.orchestra c.orchestra).spaces c.orchestra.head.nchnls is_stage.spaces (ap (λ (h : Header). h.nchnls) is_stage.head) code in
       record {
         plan = r.plan;
@@ -195,10 +196,9 @@ module _ (c : SetupData) (stage : Stage) (is_stage : IsStageOf (composition_of c
         playable = r.playable;
         performs = r.performs;
         footprint = footprint_is;
-        there = named_front (HasArea stage.layout.now) (block_uses (stock_of stage.layout.now) (core (typed.orchestra c.orchestra).spaces body))
-            (block_begins (stock_of stage.layout.now) (core (typed.orchestra c.orchestra).spaces body)) (all_named (typed.orchestra c.orchestra).spaces);
-        uses = feet.uses ∙ ap (places_holding stage.layout.now) (code.uses (stock_of stage.layout.now));
-        writes = feet.writes ∙ ap (places_holding stage.layout.now) (code.writes (stock_of stage.layout.now));
+        there = all_there (HasArea areas) (block_uses (stock_of areas) statements) (uses_there (typed.orchestra c.orchestra).spaces);
+        uses = feet.uses ∙ places_alike areas (ops_use (stock_of areas) i.perf.ops.items) (block_uses (stock_of areas) statements) (code.touches.cycles may_use (stock_of areas));
+        writes = feet.writes ∙ places_alike areas (ops_write (stock_of areas) i.perf.ops.items) (block_writes (stock_of areas) statements) (code.touches.cycles may_write (stock_of areas));
       }
 
 -- What a setup hands out is ready on its stage.

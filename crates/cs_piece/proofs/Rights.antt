@@ -10,15 +10,16 @@ use Rattle.cs_base.specs.declared.resource.Res.TheVariants as res
 use Rattle.cs_code.specs.Lowered.{AreInstrumentsOf, IsNumberedCode, bodies}
 use Rattle.cs_ir.specs.Instruments.{Numbered}
 use Rattle.cs_base.specs.declared.spaces.Spaces.{Spaces}
-use Rattle.cs_ir.specs.Resources.{act_writes, ops_write}
+use Rattle.cs_ir.specs.Resources.{act_writes, may_write, ops_write}
 use Rattle.cs_ir.specs.declared.op.Op.{Op}
-use Rattle.cs_meaning.specs.Uses.{block_begin_writes}
+use Rattle.cs_meaning.specs.Uses.{block_begin_writes, block_writes}
 use Rattle.cs_meaning.specs.Core.{core}
 use Rattle.cs_tempo.specs.Performable.{IsActInRange}
 use Rattle.cs_tempo.specs.declared.plot.Event.{Event}
 use Rattle.cs_tempo.specs.declared.plot.EventAct.{EventAct}
 use Rattle.cs_tempo.specs.declared.plot.EventAct.TheVariants as act
 use Rattle.cs_typed.specs.TypedTree as typed
+use Rattle.cs_rwset.proofs.Placed.{among_alike}
 use Rattle.cs_piece.specs.Tables.{Given, firsts, given_by, given_in, is_frozen, may_be_written, only, stores_into, table_given, table_in, times_given}
 use Rattle.cs_piece.specs.declared.tables.First.{First}
 use Rattle.cs_piece.specs.declared.tables.Firsts.{Firsts}
@@ -64,8 +65,10 @@ stores_as n ops = any_of_parts (same_res (res.Table n)) (λ (o : Op). act_writes
 store_alike : (n : ℕ) (spaces : Spaces) (channels : ℕ) (p : ℕ × typed.Block) (i : Numbered) → IsNumberedCode spaces channels p i
     → codes_store n i ≡ stores_into n (core spaces p.1)
 store_alike n spaces channels p i h =
-    ap (λ b. b || ops_store n i.perf.ops.items) (stores_as n i.init.ops.items ∙ ap (list_any (same_res (res.Table n))) (h.1.begin_writes (only n)))
-    ∙ ap (λ b. first || b) (stores_as n i.perf.ops.items ∙ ap (list_any (same_res (res.Table n))) (h.1.writes (only n)))
+    ap (λ b. b || ops_store n i.perf.ops.items) (stores_as n i.init.ops.items
+    ∙ among_alike (ops_write (only n) i.init.ops.items) (block_begin_writes (only n) (core spaces p.1)) (h.1.touches.begins may_write (only n)) (res.Table n))
+    ∙ ap (λ b. first || b) (stores_as n i.perf.ops.items
+    ∙ among_alike (ops_write (only n) i.perf.ops.items) (block_writes (only n) (core spaces p.1)) (h.1.touches.cycles may_write (only n)) (res.Table n))
   where
     first : Bool
     first = list_any (same_res (res.Table n)) (block_begin_writes (only n) (core spaces p.1))

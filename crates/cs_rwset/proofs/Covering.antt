@@ -22,7 +22,7 @@ use Rattle.cs_rwset.specs.Footprints.{is_among, place_count, places_holding, sto
 use Rattle.cs_rwset.specs.inner.Named.{covers, resources}
 use Rattle.cs_rwset.specs.declared.named.Named.{Named}
 use Rattle.cs_rwset.specs.declared.named.Named.TheVariants as named
-use Rattle.cs_rwset.proofs.Placed.{exact_places, places_exact, among_contains, contains_among, contains_none, contains_first, contains_rest, contains_filter, filter_contains, map_contains, contains_map, contains_range, range_contains}
+use Rattle.cs_rwset.proofs.Placed.{exact_places, places_exact, among_contains, contains_among, contains_none, contains_first, contains_rest, contains_filter, filter_contains, map_contains, contains_map, contains_range, range_contains, same_tests}
 
 -- a table that has an area is live
 number_first : (n : ℕ) (o : Option ℕ) (xs : List ℕ) → o ≡ Some n → Contains (cons_option o xs) n
@@ -113,12 +113,6 @@ ops_written_is_used stock (o ∷ ops) r h =
     ⊎_elim (λ here. Contains-append_left (act_uses stock o.act) (ops_use stock ops) r (act_written_is_used stock o.act r here))
     (λ later. Contains-append_right (act_uses stock o.act) (ops_use stock ops) r (ops_written_is_used stock ops r later))
     (Contains-append_cases (act_writes stock o.act) (ops_write stock ops) r h)
-
--- two tests that pass for one another are the same
-same_tests : (b c : Bool) → (b ≡ true → c ≡ true) → (c ≡ true → b ≡ true) → b ≡ c
-same_tests true c to from = sym (to refl)
-same_tests false true to from = from refl
-same_tests false false to from = refl
 
 or_none : (b : Bool) → (b || false) ≡ true → b ≡ true
 or_none true h = refl

@@ -1,5 +1,5 @@
 -- Which places are listed, of the areas of some resources.
-use Rattle.std.proofs.Common.{◌≡◌, ◌<◌, ◌+◌, ◌⊎◌, ℕ, zero, suc, List, [], ◌∷◌, map, length, get_or, slice_get, Option, Some, None, Bool, true, false, refl, sym, subst, arith, ⊎_elim, inl, inr}
+use Rattle.std.proofs.Common.{◌≡◌, ◌<◌, ◌+◌, ◌⊎◌, ℕ, zero, suc, List, [], ◌∷◌, map, length, get_or, slice_get, Option, Some, None, Bool, true, false, refl, sym, ap, subst, arith, ⊎_elim, inl, inr}
 use Rattle.std.specs.List.{Contains, filter, range_with_len}
 use Rattle.std.specs.List.Sorted.{IsStrictlyIncreasing}
 use Rattle.std.proofs.lemmas.Bool.{cond_both, or_cases, or_left, or_right}
@@ -11,6 +11,7 @@ use Rattle.cs_base.specs.declared.resource.Res.{Res}
 use Rattle.cs_base.proofs.Rates.{same_res_is, same_res_here}
 use Rattle.cs_cells.specs.Areas.{HasPlace}
 use Rattle.cs_cells.specs.declared.footprint.Area.{Area}
+use Rattle.cs_ir.specs.Resources.{NameTheSame}
 use Rattle.cs_rwset.specs.Footprints.{is_among, is_of_one, places_holding}
 
 -- elements of a list that is longer by one
@@ -44,6 +45,18 @@ contains_among (x ∷ rs) r h =
     ⊎_elim (λ e. or_left (same_res r x) (is_among rs r) (subst (λ y. same_res r y ≡ true) (sym e) (same_res_here r)))
     (λ t. or_right (same_res r x) (is_among rs r) (contains_among rs r t))
     (contains_cases x r rs h)
+
+-- two tests that pass for one another are the same
+pub same_tests : (b c : Bool) → (b ≡ true → c ≡ true) → (c ≡ true → b ≡ true) → b ≡ c
+same_tests true c to from = sym (to refl)
+same_tests false true to from = from refl
+same_tests false false to from = refl
+
+-- a resource is among those of one list as of another that names the same
+pub among_alike : (xs ys : List Res) → NameTheSame xs ys → (r : Res) → is_among xs r ≡ is_among ys r
+among_alike xs ys same r =
+    same_tests (is_among xs r) (is_among ys r) (λ h. contains_among ys r ((same r).0 (among_contains xs r h)))
+    (λ h. contains_among xs r ((same r).1 (among_contains ys r h)))
 
 -- elements that pass a test
 module _ {X : Type 0} (test : X → Bool) where
@@ -122,3 +135,13 @@ pub places_of_more : (areas : List Area) (rs more : List Res) (place : ℕ) → 
     → Contains (places_holding areas more) place
 places_of_more areas rs more place up h =
     let e = places_exact areas rs place h in exact_places areas more place e.0 (up e.0 e.1) e.2
+
+-- resources that are named in another order, or more often, have the same places
+pub places_alike : (areas : List Area) (xs ys : List Res) → NameTheSame xs ys
+    → places_holding areas xs ≡ places_holding areas ys
+places_alike areas xs ys same =
+    ap (λ test. filter test (range_with_len 0 (length areas))) (λ i place. one_alike (slice_get areas place) i)
+  where
+    one_alike : (o : Option Area) → is_of_one xs o ≡ is_of_one ys o
+    one_alike None = refl
+    one_alike (Some area) = among_alike xs ys same area.res

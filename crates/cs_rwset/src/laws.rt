@@ -9,20 +9,24 @@ ghost use Rattle.cs_cells.specs.Cells.{covers, in_area};
 ghost use Rattle.cs_cells.specs.declared.footprint.Area.{Area};
 ghost use Rattle.cs_words.specs.declared.catalogue.Opcode.TheVariants.{Tablew, Tablei, Zkw, Zkcl};
 ghost use Rattle.cs_words.specs.declared.catalogue.Space.{Space};
-ghost use Rattle.cs_ir.specs.Resources.{act_uses, act_writes, ops_use, ops_write, places_within, tables_within, zak_place};
+ghost use Rattle.cs_ir.specs.Resources.{NameTheSame, act_uses, act_writes, ops_use, ops_write};
+ghost use Rattle.cs_ir.specs.Resources.{places_within, tables_within, zak_place};
 ghost use Rattle.cs_ir.specs.declared.op.Act.TheVariants.{Load, Save, Store, Unit, Zak};
 ghost use Rattle.cs_ir.specs.declared.op.Op.{Op};
 ghost use Rattle.cs_ir.specs.declared.op.Reach.TheVariants.{Nothing, Span, Any};
 ghost use Rattle.cs_rwset.specs.Examples.{seven_areas, used, written};
 ghost use Rattle.cs_rwset.specs.Footprints.{place_count, places_holding, stock_of};
 
-/// The places of resources in any areas: exactly those whose area is of one of the resources, ascending, each once.
+/// The places of resources in any areas: exactly those whose area is of one of the resources, ascending, each once. In
+/// what order and how often the resources are named makes no difference.
 pub fn places_are_of_resources()
     ensures exact { (areas : List Area) (rs : List Res) (place : ℕ) → Contains (places_holding areas rs) place
         ↔ ((r : Res) × Contains rs r × HasPlace areas r place) }
     ensures ascending { (areas : List Area) (rs : List Res) → IsStrictlyIncreasing (places_holding areas rs) }
     ensures within { (areas : List Area) (rs : List Res) (place : ℕ)
         → Contains (places_holding areas rs) place → place < length areas }
+    ensures alike { (areas : List Area) (xs ys : List Res) → NameTheSame xs ys
+        → places_holding areas xs ≡ places_holding areas ys }
 {}
 
 /// The places of a footprint: exactly those whose resource an op of the code may use, or may write.

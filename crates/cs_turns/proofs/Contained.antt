@@ -5,11 +5,11 @@ use Rattle.std.proofs.lemmas.List.Elements.{Contains-append_left, Contains-appen
 use Rattle.cs_base.specs.declared.resource.Rate.{Rate}
 use Rattle.cs_base.specs.declared.resource.Rate.TheVariants as rate
 use Rattle.cs_base.specs.declared.resource.Res.{Res}
-use Rattle.cs_ir.specs.Resources.{Stock, tables_within, unit_uses, writes_places, zak_uses, zak_writes}
+use Rattle.cs_ir.specs.Resources.{Stock, may_use, may_write, tables_within, unit_uses, writes_places, zak_uses, zak_writes}
 use Rattle.cs_ir.specs.Waves.{if_init}
 use Rattle.cs_ir.specs.declared.op.Reach.{Reach}
 use Rattle.cs_meaning.specs.Core.{Stmt, Block, Arms, set, unit, zak, store, out, out_at, ask, turnoff, nothing, choose, no_stmt, andthen, otherwise, arm}
-use Rattle.cs_meaning.specs.Uses.{arms_used, arms_written, block_uses, block_writes, cycle, expr_used, exprs_used, stmt_used, stmt_written, var_uses, vars_use}
+use Rattle.cs_meaning.specs.Uses.{arms_touched, block_uses, block_writes, cycle, expr_used, exprs_used, stmt_touched, var_uses, vars_use}
 use Rattle.cs_words.specs.Catalogue.{row_of}
 use Rattle.cs_words.specs.declared.catalogue.Opcode.{Opcode}
 use Rattle.cs_rwset.proofs.Placed.{contains_none}
@@ -41,7 +41,7 @@ of_zak stock opcode reach = by (writes_places (row_of opcode).shape) (zak_uses s
     by false us = none_within us
 
 mutual
-  of_stmt : (stock : Stock) (s : Stmt) → Within (stmt_written cycle stock s) (stmt_used cycle stock s)
+  of_stmt : (stock : Stock) (s : Stmt) → Within (stmt_touched may_write cycle stock s) (stmt_touched may_use cycle stock s)
   of_stmt stock (set r v e) = at_rate r (var_uses v) (expr_used cycle e ++ var_uses v) (behind (expr_used cycle e) (var_uses v) (var_uses v) (λ g k. k))
   of_stmt stock (unit r vs opcode reach xs is) =
       at_rate r (vars_use vs) (exprs_used cycle xs ++ (unit_uses stock opcode reach ++ vars_use vs))
@@ -64,10 +64,10 @@ mutual
   pub written_is_used : (stock : Stock) (b : Block) → Within (block_writes stock b) (block_uses stock b)
   written_is_used stock no_stmt = none_within []
   written_is_used stock (andthen s b) =
-      both (stmt_written cycle stock s) (block_writes stock b) (stmt_used cycle stock s) (block_uses stock b) (of_stmt stock s) (written_is_used stock b)
+      both (stmt_touched may_write cycle stock s) (block_writes stock b) (stmt_touched may_use cycle stock s) (block_uses stock b) (of_stmt stock s) (written_is_used stock b)
 
-  of_arms : (stock : Stock) (arms : Arms) → Within (arms_written cycle stock arms) (arms_used cycle stock arms)
+  of_arms : (stock : Stock) (arms : Arms) → Within (arms_touched may_write cycle stock arms) (arms_touched may_use cycle stock arms)
   of_arms stock (otherwise b) = written_is_used stock b
   of_arms stock (arm c b rest) =
-      behind (expr_used cycle c) (block_writes stock b ++ arms_written cycle stock rest) (block_uses stock b ++ arms_used cycle stock rest)
-      (both (block_writes stock b) (arms_written cycle stock rest) (block_uses stock b) (arms_used cycle stock rest) (written_is_used stock b) (of_arms stock rest))
+      behind (expr_used cycle c) (block_writes stock b ++ arms_touched may_write cycle stock rest) (block_uses stock b ++ arms_touched may_use cycle stock rest)
+      (both (block_writes stock b) (arms_touched may_write cycle stock rest) (block_uses stock b) (arms_touched may_use cycle stock rest) (written_is_used stock b) (of_arms stock rest))

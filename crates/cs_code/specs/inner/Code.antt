@@ -32,27 +32,27 @@ abbrev pub look_code : Variable → Reg → List Op
 look_code (Local q n) x = op_of act.Copy x (reg q n ∷ []) ∷ []
 look_code (Global g) x = op_of (act.Load g) x [] ∷ []
 
--- The value of an expression that stands nowhere yet, into a register: its operands first, each where it stands or into the
--- temporary of its rate from d on, and then its own op.
+-- The value of an expression that stands nowhere yet, into a register: its operands first, each where it stands or into
+-- the temporary of its rate from d on, and then its own op. The register may be temporary d itself: it is written last.
 abbrev pub own : Frame → Bool → ℕ → Expression → Reg → ℕ → List Op
 own f whole at (number r n) x d = op_of (act.Const n) x [] ∷ []
 own f whole at (var r v) x d = look_code v x
 own f whole at (field r k) x d = op_of (act.Field k) x [] ∷ []
 own f whole at (head r h) x d = op_of (act.Head h) x [] ∷ []
 own f whole at (neg r a) x d =
-    unless_there (direct f whole at a) (own f whole at a (temp f (node_rate a) d) (d + 1))
+    unless_there (direct f whole at a) (own f whole at a (temp f (node_rate a) d) d)
     ++ (op_of act.Neg x (spot f whole at a d ∷ []) ∷ [])
 own f whole at (pair r b y z) x d =
-    unless_there (direct f whole at y) (own f whole at y (temp f (node_rate y) d) (d + 1))
-    ++ (unless_there (direct f whole (past at y) z) (own f whole (past at y) z (temp f (node_rate z) (d + 1)) (d + 1 + 1))
+    unless_there (direct f whole at y) (own f whole at y (temp f (node_rate y) d) d)
+    ++ (unless_there (direct f whole (past at y) z) (own f whole (past at y) z (temp f (node_rate z) (d + 1)) (d + 1))
     ++ (op_of (act.Pair b) x (spot f whole at y d ∷ spot f whole (past at y) z (d + 1) ∷ []) ∷ []))
 own f whole at (pick r c y z) x d =
-    unless_there (direct f whole at c) (own f whole at c (temp f (node_rate c) d) (d + 1))
-    ++ (unless_there (direct f whole (past at c) y) (own f whole (past at c) y (temp f (node_rate y) (d + 1)) (d + 1 + 1))
-    ++ (unless_there (direct f whole (past (past at c) y) z) (own f whole (past (past at c) y) z (temp f (node_rate z) (d + 1 + 1)) (d + 1 + 1 + 1))
+    unless_there (direct f whole at c) (own f whole at c (temp f (node_rate c) d) d)
+    ++ (unless_there (direct f whole (past at c) y) (own f whole (past at c) y (temp f (node_rate y) (d + 1)) (d + 1))
+    ++ (unless_there (direct f whole (past (past at c) y) z) (own f whole (past (past at c) y) z (temp f (node_rate z) (d + 1 + 1)) (d + 1 + 1))
     ++ (op_of act.Pick x (spot f whole at c d ∷ spot f whole (past at c) y (d + 1) ∷ spot f whole (past (past at c) y) z (d + 1 + 1) ∷ []) ∷ [])))
 own f whole at (apply r g a) x d =
-    unless_there (direct f whole at a) (own f whole at a (temp f (node_rate a) d) (d + 1))
+    unless_there (direct f whole at a) (own f whole at a (temp f (node_rate a) d) d)
     ++ (op_of (act.Call g) x (spot f whole at a d ∷ []) ∷ [])
 
 -- the value of an expression into a register, by a copy where it stands already; and what makes it stand somewhere
@@ -61,7 +61,7 @@ code f whole at e x d = copied (direct f whole at e) x (own f whole at e x d)
 
 abbrev pub operand_code : Frame → Bool → ℕ → Expression → ℕ → List Op
 operand_code f whole at e d =
-    unless_there (direct f whole at e) (own f whole at e (temp f (node_rate e) d) (d + 1))
+    unless_there (direct f whole at e) (own f whole at e (temp f (node_rate e) d) d)
 
 abbrev pub operands_code : Frame → Bool → ℕ → List Expression → ℕ → List Op
 operands_code f whole at [] d = []
