@@ -6,9 +6,9 @@
 //! of statements by a number for each local name, and specs/Typed that this is what typing gives; specs/Untouched which frames
 //! statements leave alone; specs/Examples small instruments.
 //!
-//! Its one contract: `expansion_means_calls`, a law that no other crate cites, and `expansions_can_be_lowered`, on which the
-//! compiling of texts rests. How names are made fresh and how frames are numbered may be changed in cs_udo without anyone above
-//! noticing.
+//! Its one contract: `expansion_means_calls`, which cs_compile takes up to what texts mean (`pieces_mean_their_calls`), and
+//! `expansions_can_be_lowered`, on which the compiling of texts rests. How names are made fresh and how frames are numbered may be
+//! changed in cs_udo without anyone above noticing.
 #![tactic(auto)]
 
 mod laws;
