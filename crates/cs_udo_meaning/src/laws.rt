@@ -20,7 +20,8 @@ ghost use Rattle.cs_udo_meaning.specs.Untouched.{IsOutside};
 /// of rates and names, each instrument of the typed expansion, as it begins and in every control cycle, does what the instrument
 /// with frames does (specs/Frames): each place of a call has a frame of its own, its inputs are copied in, its body is done over
 /// its frame and what notes share, and its results are given from left to right. This holds in every world `W`; the states of the
-/// world are equal from the note's beginning on, whatever others do between its cycles. Statements outside instruments stay.
+/// world are equal from the note's beginning on, whatever others do between its cycles, and be it another world in each of them.
+/// Statements outside instruments stay.
 pub fn expansion_means_calls<W>()
     ensures instruments { (o : Orchestra) → (made : Orchestra) → IsWellFormed o → expanding o ≡ Ok made → type_fault made ≡ None →
         AllZip (MeansFrames W o.opcodes (shared_of made)) o.instrs (typed_of made).instrs }
