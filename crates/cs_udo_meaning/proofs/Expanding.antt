@@ -11,7 +11,9 @@ use Rattle.cs_grammar.specs.declared.tree.Callee.TheVariants as callee
 use Rattle.cs_grammar.specs.Tree.{Expression, Argument, value, text, Statement, set, call, choose, Block, no_stmt, andthen, joins, Arms, otherwise, arm, Definition}
 use Rattle.cs_typed.specs.TypedTree as typed
 use Rattle.cs_typed.specs.declared.tree.Var.{Var as Variable}
+use Rattle.cs_typing.specs.Known.{channel_of}
 use Rattle.cs_typing.specs.Statements.{all_init, choice_rate}
+use Rattle.cs_typing.specs.declared.known.Channel.{Channel}
 use Rattle.cs_ir.specs.Values.{holds}
 use Rattle.cs_ir.specs.Waves.{Wave, if_init}
 use Rattle.cs_meaning.specs.Core as core
@@ -30,7 +32,7 @@ use Rattle.cs_udo_meaning.proofs.Alike.{Alike, AlikeStmt, past_alike, past_stmt_
 use Rattle.cs_udo_meaning.proofs.Fresh.{own_rate}
 use Rattle.cs_udo_meaning.proofs.Named.{Named, NamedAll, NamedArguments, NamedStmt, NamedBlock, NamedArms, any_names, any_arguments, any_block}
 use Rattle.cs_udo_meaning.proofs.Renamed.{KeepsRates, rate_kept, expression_renamed, set_renamed, call_renamed}
-use Rattle.cs_udo_meaning.proofs.Standing.{SameVariable, both_shared, variable_alike, expression_alike, set_alike, call_alike, Seen, to_seen, from_seen, seen_agree}
+use Rattle.cs_udo_meaning.proofs.Standing.{SameVariable, both_shared, variable_alike, channel_alike, expression_alike, set_alike, call_alike, Seen, to_seen, from_seen, seen_agree}
 
 -- ---- orders of frames
 
@@ -152,13 +154,18 @@ module _ {W : Type 0} (m : Reading W) (flat : Numbering) (tf : Tells flat) (to :
       → Alike (Same f) (expression_by v (renamed (own_name f) e)) (expression_read m e)
   alike_expression f e n =
       subst (λ a. Alike (Same f) a (expression_read m e)) (sym (expression_renamed (own_name f) (own_rates f) v e))
-      (expression_alike (λ x. v (own_name f x)) (numbered m.shared m.number) (alike_variable f) both_shared e n)
+      (expression_alike (λ x. v (own_name f x)) (numbered m.shared m.number) (alike_variable f) e n)
+
+  alike_channel : (f : ℕ) (kind : Channel) (t : List ℕ) → Same f (channel_of m.shared kind t) (channel_of m.shared kind t)
+  alike_channel f = channel_alike (Same f) both_shared m.shared
 
   alike_set : (f line : ℕ) (x : List ℕ) (e : Expression) → Fits f x → Named (Fits f) e
       → AlikeStmt (Same f) (flat_stmt (set line (own_name f x) (renamed (own_name f) e))) (read m (set line x e))
   alike_set f line x e n k =
-      subst (λ a. AlikeStmt (Same f) (core.core_stmt m.spaces a) (read m (set line x e))) (sym (set_renamed (own_name f) (own_rates f) m.shared v line x e))
-      (set_alike (λ y. v (own_name f y)) (numbered m.shared m.number) (alike_variable f) both_shared m.spaces m.shared line x e n k)
+      subst (λ a. AlikeStmt (Same f) (core.core_stmt m.spaces a) (read m (set line x e)))
+      (sym (set_renamed (own_name f) (own_rates f) m.shared v line x e))
+      (set_alike (λ y. v (own_name f y)) (numbered m.shared m.number) (alike_variable f) m.shared m.shared (alike_channel f)
+      m.spaces line x e n k)
 
   alike_call : (f line : ℕ) (xs : List (List ℕ)) (c : Callee) (args : List Argument) → NamedAll (Fits f) xs
       → NamedArguments (Fits f) args
@@ -166,9 +173,10 @@ module _ {W : Type 0} (m : Reading W) (flat : Numbering) (tf : Tells flat) (to :
   alike_call f line xs c args n k =
       subst (λ a. AlikeStmt (Same f) (core.core_stmt m.spaces a) (read m (call line xs c args)))
       (sym (call_renamed (own_name f) (own_rates f) m.shared v line xs c args))
-      (call_alike (λ y. v (own_name f y)) (numbered m.shared m.number) (alike_variable f) both_shared m.spaces m.shared line xs c args n k)
+      (call_alike (λ y. v (own_name f y)) (numbered m.shared m.number) (alike_variable f) m.shared m.shared (alike_channel f)
+      m.spaces line xs c args n k)
 
-  agree : (f : ℕ) (u : Framed W) → Agree m.world (Same f) (Seen flat m.number f u)
+  agree : (f : ℕ) (u : Framed W) → Agree m.world m.world (Same f) (Seen flat m.number f u)
   agree f u = seen_agree m.world flat m.number tf to f u
 
   plain_init : (f : ℕ) (p : Place) (x : core.Stmt) (y : core.Stmt) (t : Note W) (u : Framed W) → AlikeStmt (Same f) x y
@@ -176,14 +184,14 @@ module _ {W : Type 0} (m : Reading W) (flat : Numbering) (tf : Tells flat) (to :
       → Stand (initial.init_stmt m.world p x t) (put_back f (initial.init_stmt m.world p y (seen_from f u)) u)
   plain_init f p x y t u a h =
       from_seen flat m.number f (initial.init_stmt m.world p x t) (initial.init_stmt m.world p y (seen_from f u)) u
-      (init_same m.world (Same f) (Seen flat m.number f u) (agree f u) t (seen_from f u) (to_seen flat m.number f t u h) a p)
+      (init_same m.world (λ r. r) (Same f) (Seen flat m.number f u) (agree f u) t (seen_from f u) (to_seen flat m.number f t u h) a p)
 
   plain_perf : (f : ℕ) (p : Place) (x : core.Stmt) (y : core.Stmt) (t : Note W) (u : Framed W) → AlikeStmt (Same f) x y
       → Stand t u
       → Stand (performing.perf_stmt m.world p x t) (put_back f (performing.perf_stmt m.world p y (seen_from f u)) u)
   plain_perf f p x y t u a h =
       from_seen flat m.number f (performing.perf_stmt m.world p x t) (performing.perf_stmt m.world p y (seen_from f u)) u
-      (perf_same m.world (Same f) (Seen flat m.number f u) (agree f u) t (seen_from f u) (to_seen flat m.number f t u h) a p)
+      (perf_same m.world (λ r. r) (Same f) (Seen flat m.number f u) (agree f u) t (seen_from f u) (to_seen flat m.number f t u h) a p)
 
   -- ---- a value, what is kept of it, and a variable that takes it
 
@@ -191,13 +199,13 @@ module _ {W : Type 0} (m : Reading W) (flat : Numbering) (tf : Tells flat) (to :
       → (whole : Bool) (n : ℕ)
       → value_of m.world t whole n a ≡ value_of m.world (seen_from f u) whole n b
   value_stands f a b t u k h whole n =
-      value_same m.world (Same f) (Seen flat m.number f u) (agree f u) t (seen_from f u) (to_seen flat m.number f t u h) k whole n n refl
+      value_same m.world (λ r. r) (Same f) (Seen flat m.number f u) (agree f u) t (seen_from f u) (to_seen flat m.number f t u h) k whole n n refl
 
   keep_stands : (f : ℕ) (a b : typed.Expression) (t : Note W) (u : Framed W) → Alike (Same f) a b → Stand t u → (n : ℕ)
       → Stand (keep m.world n a t) (put_back f (keep m.world n b (seen_from f u)) u)
   keep_stands f a b t u k h n =
       from_seen flat m.number f (keep m.world n a t) (keep m.world n b (seen_from f u)) u
-      (keep_same m.world (Same f) (Seen flat m.number f u) (agree f u) t (seen_from f u) (to_seen flat m.number f t u h) k n n refl)
+      (keep_same m.world (λ r. r) (Same f) (Seen flat m.number f u) (agree f u) t (seen_from f u) (to_seen flat m.number f t u h) k n n refl)
 
   assign_stands : (g : ℕ) (x y : Variable) (t : Note W) (u : Framed W) → Same g x y → Stand t u → (a b : Wave) → a ≡ b
       → Stand (assign m.world x a t) (put_back g (assign m.world y b (seen_from g u)) u)

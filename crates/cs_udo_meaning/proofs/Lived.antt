@@ -77,7 +77,7 @@ cycles_alike m ds i flat body step (c ∷ more) t u stand =
     (performs (in_world c.world m) ds i (framed_in (c.others u.world) u))
     (step c.world (moved_to (c.others t.world) t) (framed_in (c.others u.world) u) moved) j
 
-instrument_means : (W : Type 0) (ds : List Definition) (g : Shared) (i : Instrument) (made : typed.Instrument)
+pub instrument_means : (W : Type 0) (ds : List Definition) (g : Shared) (i : Instrument) (made : typed.Instrument)
     → WellFormedInstrument i
     → IsNumberedInstrument g (expanded_instrument ds i) made → MeansFrames W ds g i made
 instrument_means W ds g i made well h = record {
