@@ -110,12 +110,15 @@ variable_led h g rate.Control x k = ap (λ n. res.Gk n) (led_place h.globals.con
 variable_led h g rate.Audio x k = ap (λ n. res.Ga n) (led_place h.globals.audio g.globals.audio x k)
 
 pub names_lead : (g h : Shared) → HasNames h g → (to : Res → Res) × LeadsTo to h g
-names_lead g h k = (leads h g, record {
-  rate = keeps_rate h g;
-  globals = λ x. variable_led h g (name_rate x) x (k.globals x);
-  control = λ x. ap (λ n. res.Control n) (led_place h.control g.control x (k.control x));
-  sound = λ x. ap (λ n. res.Sound n) (led_place h.sound g.sound x (k.sound x));
-})
+names_lead g h k = (
+  leads h g,
+  record {
+    rate = keeps_rate h g;
+    globals = λ x. variable_led h g (name_rate x) x (k.globals x);
+    control = λ x. ap (λ n. res.Control n) (led_place h.control g.control x (k.control x));
+    sound = λ x. ap (λ n. res.Sound n) (led_place h.sound g.sound x (k.sound x));
+  },
+)
 
 -- ---- statements by either numbers
 
