@@ -1,14 +1,16 @@
-// What holds of the meaning of every two texts: a call that does nothing, whose contract is the law.
+// What holds of the meaning of every two texts: calls that do nothing, whose contracts are the laws.
 ghost use Rattle.std.specs.Prelude.{◌≡◌, ℕ, List, Result, Ok};
 ghost use Rattle.cs_base.specs.declared.head.Head.{Head};
 ghost use Rattle.cs_base.specs.declared.refusal.Refusal.{Refusal};
 ghost use Rattle.cs_base.specs.declared.width.SampleWidth.{SampleWidth};
+ghost use Rattle.cs_compile.specs.Calls.{MeansCalls};
 ghost use Rattle.cs_compile.specs.Meaning.{means};
 ghost use Rattle.cs_piece_meaning.specs.Moments.{Composition};
 ghost use Rattle.cs_typed.specs.TypedTree.{header_of_head};
 
-use cs_grammar::one_reading as one_tree;
+use cs_grammar::{one_reading as one_tree, trees_are_well_formed};
 use cs_lex::one_reading as one_list_of_tokens;
+use cs_udo_meaning::expansion_means_calls;
 
 /// Every two texts have one meaning, in samples of either width: one composition, whose header has its numbers in the
 /// ranges of a head, or one first refusal.
@@ -22,4 +24,15 @@ pub fn texts_have_one_meaning()
 {
     one_list_of_tokens();
     one_tree();
+}
+
+/// Where two texts mean a piece, each of its instruments means the one of that number in the orchestra's text, whose
+/// calls of defined opcodes have frames of their own: as a note begins and in every control cycle the statements of
+/// the piece do what that instrument does (`MeansFrames` of cs_udo_meaning), in every world with states `W`.
+pub fn pieces_mean_their_calls<W>()
+    ensures { (width : SampleWidth) (orchestra score : List ℕ) (c : Composition)
+        → means width orchestra score (Ok c) → MeansCalls W orchestra c }
+{
+    trees_are_well_formed();
+    expansion_means_calls::<W>();
 }

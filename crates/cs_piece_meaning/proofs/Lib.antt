@@ -6,6 +6,7 @@ pub mod Full
 pub mod Initial
 pub mod Lists
 pub mod Standing
+pub mod Started
 pub mod Steps
 pub mod Unended
 pub mod Waits

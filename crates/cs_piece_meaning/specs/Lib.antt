@@ -3,6 +3,7 @@ pub mod Course
 pub mod Examples
 pub mod Heard
 pub mod Moments
+pub mod Started
 pub mod Starts
 pub mod OrderExamples
 pub mod Orders

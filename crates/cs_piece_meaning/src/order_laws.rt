@@ -2,11 +2,12 @@
 ghost use Rattle.std.specs.Prelude.{ℕ, suc, Bool, false, ◌≡◌, ◌≢◌, ◌<◌, ◌≤◌, ◌⊎◌, Contains, length, ◌++◌, ◌+◌, ◌*◌, pos, flat_map, replicate, []};
 ghost use Rattle.std.specs.List.{AllZip};
 ghost use Rattle.cs_piece_meaning.specs.Counting.{starts_before};
-ghost use Rattle.cs_piece_meaning.specs.Course.{begins, closing, moment_at, played_in};
+ghost use Rattle.cs_piece_meaning.specs.Course.{begins, closing, events_in, moment_at, played_in, still};
 ghost use Rattle.cs_piece_meaning.specs.Heard.{frames_of};
 ghost use Rattle.cs_base.specs.Limits.{most_notes};
 ghost use Rattle.cs_piece_meaning.specs.Moments.{Active, Composition, Moment};
-ghost use Rattle.cs_piece_meaning.specs.Starts.{Start, in_vain, start_in};
+ghost use Rattle.cs_piece_meaning.specs.Started.{AreStarted};
+ghost use Rattle.cs_piece_meaning.specs.Starts.{Start, all_done, in_vain, start_in};
 ghost use Rattle.cs_meaning.specs.Examples.{each, whole};
 ghost use Rattle.cs_piece_meaning.specs.OrderExamples.{asked_in_its_cycle, refused_late, table_made_twice, table_stored_to, two_of_one};
 ghost use Rattle.cs_piece_meaning.specs.Orders.{AreInOrder, IsSameNote, notes_in};
@@ -40,6 +41,14 @@ pub fn notes_play_in_one_stretch()
 pub fn full_cycles_start_none()
     ensures { (c : Composition) (now : ℕ) (s : Start) (m : Moment) → length m.active ≡ most_notes → s.cycles ≢ 0
         → start_in c now s m ≡ in_vain m }
+{}
+
+/// Notes that wait for a cycle start once its events are done, in the order in which they were kept, those among them that
+/// are kept meanwhile, until none waits for it (`AreStarted`); this rule leads from a moment to one moment and no other.
+pub fn waiting_notes_start_in_order()
+    ensures rule { (c : Composition) (n : ℕ)
+        → AreStarted c n (all_done c (events_in c n) (still n (moment_at c n))) (begins c n (moment_at c n)) }
+    ensures one { (c : Composition) (now : ℕ) (m a b : Moment) → AreStarted c now m a → AreStarted c now m b → a ≡ b }
 {}
 
 /// No note waits beyond its cycle: once all that begins with a cycle has begun, none waits for it or for an earlier one.

@@ -1,7 +1,9 @@
--- Two typed statements that differ in their variables alone: in two notes where each variable has what the other's has, they do the same.
-use Rattle.std.proofs.Common.{◌≡◌, ℕ, ℤ, ◌+◌, Bool, true, false, if◌then◌else◌, List, [], ◌∷◌, refl, ap, subst}
+-- Two typed statements that differ in their variables alone: in two notes where each variable has what the other's has, they do the
+-- same. Such notes may be in two worlds that differ in the numbers of what notes share.
+use Rattle.std.proofs.Common.{◌≡◌, ◌∙◌, ℕ, ℤ, ◌+◌, Bool, true, false, if◌then◌else◌, List, [], ◌∷◌, refl, ap, subst}
 use Rattle.cs_base.specs.declared.resource.Rate.{Rate}
 use Rattle.cs_base.specs.declared.resource.Rate.TheVariants as rate
+use Rattle.cs_base.specs.declared.resource.Res.{Res}
 use Rattle.cs_words.specs.Catalogue.{Row, row_of, letter_at, is_settled, takes_table}
 use Rattle.cs_words.specs.declared.catalogue.Opcode.{Opcode}
 use Rattle.cs_words.specs.declared.catalogue.Shape.{Shape}
@@ -25,6 +27,7 @@ use Rattle.cs_meaning.specs.Core.{Stmt, set, unit, zak, store, out, out_at, ask,
 use Rattle.cs_meaning.specs.Initialising.{going, put_kept, keep, keep_all, started, sought, init_stmt}
 use Rattle.cs_meaning.specs.Notes.{Note, Place, moved_to, past, past_all, past_parts, past_stmt, look, assign, part, value, values, first_value, given, done, sent, sent_at}
 use Rattle.cs_meaning.specs.Performing.{perf_stmt}
+use Rattle.cs_udo_meaning.specs.Renumbered.{renumbered}
 
 -- ---- alike but for their variables
 
@@ -320,27 +323,49 @@ past_stmt_alike (alike_empty r) p = refl
 
 -- ---- two notes alike
 
--- A relation between notes in which two variables have the same value, and keep having it when both are assigned one.
-pub record Agree {W : Type 0} (o : World W) (V : Variable → Variable → Type 0) (R : Note W → Note W → Type 0) : Type 0 where
+-- A relation between notes of two worlds in which two variables have the same value, and keep having it when both are assigned one.
+pub record Agree {W : Type 0} (o p : World W) (V : Variable → Variable → Type 0) (R : Note W → Note W → Type 0)
+    : Type 0 where
   pub kept : (t u : Note W) → R t u → t.kept ≡ u.kept
   pub world : (t u : Note W) → R t u → t.world ≡ u.world
-  pub looks : (t u : Note W) → R t u → (r : Rate) (v w : Variable) → V v w → look o t r v ≡ look o u r w
-  pub assigns : (t u : Note W) → R t u → (v w : Variable) → V v w → (x : Wave) → R (assign o v x t) (assign o w x u)
+  pub looks : (t u : Note W) → R t u → (r : Rate) (v w : Variable) → V v w → look o t r v ≡ look p u r w
+  pub assigns : (t u : Note W) → R t u → (v w : Variable) → V v w → (x : Wave) → R (assign o v x t) (assign p w x u)
   pub keeps : (t u : Note W) → R t u → (n : ℕ) (z : ℤ) → R (put_kept n z t) (put_kept n z u)
   pub moves : (t u : Note W) → R t u → (x : W) → R (moved_to x t) (moved_to x u)
 
-module _ {W : Type 0} (o : World W) (V : Variable → Variable → Type 0) (R : Note W → Note W → Type 0) (s : Agree o V R) where
+-- what goes out is the same where what notes share has other numbers
+sent_there : {W : Type 0} (to : Res → Res) (o : World W) (c : ℕ) (ws : List Wave) (x : W)
+    → sent o c ws x ≡ sent (renumbered to o) c ws x
+sent_there to o c [] x = refl
+sent_there to o c (w ∷ ws) x = sent_there to o (c + 1) ws (o.out c w x)
+
+sent_at_there : {W : Type 0} (to : Res → Res) (o : World W) (ws : List Wave) (x : W)
+    → sent_at o ws x ≡ sent_at (renumbered to o) ws x
+sent_at_there to o [] x = refl
+sent_at_there to o (k ∷ []) x = refl
+sent_at_there to o (k ∷ w ∷ ws) x = sent_at_there to o ws (o.out_at k w x)
+
+-- The one note is in a world, the other in one with other numbers of what notes share, or in the same.
+module _ {W : Type 0} (o : World W) (to : Res → Res) (V : Variable → Variable → Type 0) (R : Note W → Note W → Type 0)
+    (s : Agree o (renumbered to o) V R) where
+  abbrev there : World W
+  there = renumbered to o
+
   pub value_same : (t u : Note W) → R t u → {a b : Expression} → Alike V a b → (whole : Bool) (n m : ℕ) → n ≡ m
-      → value o t whole n a ≡ value o u whole m b
-  value_same t u h (alike_number r z) whole n m e = λ i. part whole r (s.kept t u h i (e i)) (held o.ksmps r (constant z))
+      → value o t whole n a ≡ value there u whole m b
+  value_same t u h (alike_number r z) whole n m e =
+      λ i. part whole r (s.kept t u h i (e i)) (held o.ksmps r (constant z))
   value_same t u h (alike_var r v w g) whole n m e = λ i. part whole r (s.kept t u h i (e i)) (s.looks t u h r v w g i)
-  value_same t u h (alike_field r k) whole n m e = λ i. part whole r (s.kept t u h i (e i)) (held o.ksmps r (constant (o.field k)))
-  value_same t u h (alike_head r k) whole n m e = λ i. part whole r (s.kept t u h i (e i)) (held o.ksmps r (constant (o.head k)))
+  value_same t u h (alike_field r k) whole n m e =
+      λ i. part whole r (s.kept t u h i (e i)) (held o.ksmps r (constant (o.field k)))
+  value_same t u h (alike_head r k) whole n m e =
+      λ i. part whole r (s.kept t u h i (e i)) (held o.ksmps r (constant (o.head k)))
   value_same t u h (alike_neg r a b g) whole n m e =
       λ i. part whole r (s.kept t u h i (e i)) (held o.ksmps r (λ j. negated (value_same t u h g whole n m e i j)))
   value_same t u h (alike_pair r q a b c d g k) whole n m e =
       λ i. part whole r (s.kept t u h i (e i))
-      (held o.ksmps r (both q (value_same t u h g whole n m e i) (value_same t u h k whole (past n a) (past m b) (past_alike g n m e) i)))
+      (held o.ksmps r (both q (value_same t u h g whole n m e i)
+      (value_same t u h k whole (past n a) (past m b) (past_alike g n m e) i)))
   value_same t u h (alike_pick r a b c d x y g k l) whole n m e =
       let first = past_alike g n m e in
       λ i. part whole r (s.kept t u h i (e i))
@@ -349,22 +374,25 @@ module _ {W : Type 0} (o : World W) (V : Variable → Variable → Type 0) (R : 
   value_same t u h (alike_apply r f a b g) whole n m e =
       λ i. part whole r (s.kept t u h i (e i)) (held o.ksmps r (λ j. applied f (value_same t u h g whole n m e i j)))
 
-  values_same : (t u : Note W) → R t u → {xs ys : List Expression} → AlikeAll V xs ys → (whole : Bool) (n m : ℕ) → n ≡ m
-      → values o t whole n xs ≡ values o u whole m ys
+  values_same : (t u : Note W) → R t u → {xs ys : List Expression} → AlikeAll V xs ys → (whole : Bool) (n m : ℕ)
+      → n ≡ m
+      → values o t whole n xs ≡ values there u whole m ys
   values_same t u h alike_none whole n m e = refl
   values_same t u h (alike_more a b xs ys g more) whole n m e =
-      λ i. value_same t u h g whole n m e i ∷ values_same t u h more whole (past n a) (past m b) (past_alike g n m e) i
+      λ i. value_same t u h g whole n m e i
+      ∷ values_same t u h more whole (past n a) (past m b) (past_alike g n m e) i
 
   keeps_at : (t u : Note W) → R t u → (n m : ℕ) (y z : ℤ) → n ≡ m → y ≡ z → R (put_kept n y t) (put_kept m z u)
   keeps_at t u h n m y z e f =
-      subst (λ k. R (put_kept n y t) (put_kept k z u)) e (subst (λ x. R (put_kept n y t) (put_kept n x u)) f (s.keeps t u h n y))
+      subst (λ k. R (put_kept n y t) (put_kept k z u)) e
+      (subst (λ x. R (put_kept n y t) (put_kept n x u)) f (s.keeps t u h n y))
 
   moves_to : (t u : Note W) → R t u → (x y : W) → x ≡ y → R (moved_to x t) (moved_to y u)
   moves_to t u h x y e = subst (λ z. R (moved_to x t) (moved_to z u)) e (s.moves t u h x)
 
   assigns_to : (t u : Note W) → R t u → (v w : Variable) → V v w → (x y : Wave) → x ≡ y
-      → R (assign o v x t) (assign o w y u)
-  assigns_to t u h v w g x y e = subst (λ z. R (assign o v x t) (assign o w z u)) e (s.assigns t u h v w g x)
+      → R (assign o v x t) (assign there w y u)
+  assigns_to t u h v w g x y e = subst (λ z. R (assign o v x t) (assign there w z u)) e (s.assigns t u h v w g x)
 
   either : (r : Rate) (t u q p : Note W) → R t u → R q p → R (if_init r t q) (if_init r u p)
   either rate.Init t u q p h k = h
@@ -372,11 +400,12 @@ module _ {W : Type 0} (o : World W) (V : Variable → Variable → Type 0) (R : 
   either rate.Audio t u q p h k = k
 
   kept_whole : (t u : Note W) → R t u → {a b : Expression} → Alike V a b → (n m : ℕ) → n ≡ m
-      → R (put_kept n (first_value o t a) t) (put_kept m (first_value o u b) u)
-  kept_whole t u h {a} {b} g n m e = keeps_at t u h n m (first_value o t a) (first_value o u b) e (λ i. value_same t u h g true 0 0 refl i 0)
+      → R (put_kept n (first_value o t a) t) (put_kept m (first_value there u b) u)
+  kept_whole t u h {a} {b} g n m e =
+      keeps_at t u h n m (first_value o t a) (first_value there u b) e (λ i. value_same t u h g true 0 0 refl i 0)
 
   pub keep_same : (t u : Note W) → R t u → {a b : Expression} → Alike V a b → (n m : ℕ) → n ≡ m
-      → R (keep o n a t) (keep o m b u)
+      → R (keep o n a t) (keep there m b u)
   keep_same t u h (alike_number r z) n m e = either r _ _ t u (kept_whole t u h (alike_number r z) n m e) h
   keep_same t u h (alike_var r v w g) n m e = either r _ _ t u (kept_whole t u h (alike_var r v w g) n m e) h
   keep_same t u h (alike_field r k) n m e = either r _ _ t u (kept_whole t u h (alike_field r k) n m e) h
@@ -385,94 +414,105 @@ module _ {W : Type 0} (o : World W) (V : Variable → Variable → Type 0) (R : 
       either r _ _ _ _ (kept_whole t u h (alike_neg r a b g) n m e) (keep_same t u h g n m e)
   keep_same t u h (alike_pair r q a b c d g k) n m e =
       either r _ _ _ _ (kept_whole t u h (alike_pair r q a b c d g k) n m e)
-      (keep_same (keep o n a t) (keep o m b u) (keep_same t u h g n m e) k (past n a) (past m b) (past_alike g n m e))
+      (keep_same (keep o n a t) (keep there m b u) (keep_same t u h g n m e) k (past n a) (past m b) (past_alike g n m e))
   keep_same t u h (alike_pick r a b c d x y g k l) n m e =
       let first = past_alike g n m e in
       let one = keep_same t u h g n m e in
-      let two = keep_same (keep o n a t) (keep o m b u) one k (past n a) (past m b) first in
+      let two = keep_same (keep o n a t) (keep there m b u) one k (past n a) (past m b) first in
       either r _ _ _ _ (kept_whole t u h (alike_pick r a b c d x y g k l) n m e)
-      (keep_same (keep o (past n a) c (keep o n a t)) (keep o (past m b) d (keep o m b u)) two l (past (past n a) c) (past (past m b) d)
-      (past_alike k (past n a) (past m b) first))
+      (keep_same (keep o (past n a) c (keep o n a t)) (keep there (past m b) d (keep there m b u)) two l
+      (past (past n a) c) (past (past m b) d) (past_alike k (past n a) (past m b) first))
   keep_same t u h (alike_apply r f a b g) n m e =
       either r _ _ _ _ (kept_whole t u h (alike_apply r f a b g) n m e) (keep_same t u h g n m e)
 
   keep_all_same : (t u : Note W) → R t u → {xs ys : List Expression} → AlikeAll V xs ys → (n m : ℕ) → n ≡ m
-      → R (keep_all o n xs t) (keep_all o m ys u)
+      → R (keep_all o n xs t) (keep_all there m ys u)
   keep_all_same t u h alike_none n m e = h
   keep_all_same t u h (alike_more a b xs ys g more) n m e =
-      keep_all_same (keep o n a t) (keep o m b u) (keep_same t u h g n m e) more (past n a) (past m b) (past_alike g n m e)
+      keep_all_same (keep o n a t) (keep there m b u) (keep_same t u h g n m e) more (past n a) (past m b)
+      (past_alike g n m e)
 
-  going_same : (t u q p : Note W) → R t u → R q p → R (going o t q) (going o u p)
-  going_same t u q p h k = subst (λ x. R (going o t q) (if o.refused x then u else p)) (s.world t u h) (by (o.refused t.world))
+  going_same : (t u q p : Note W) → R t u → R q p → R (going o t q) (going there u p)
+  going_same t u q p h k =
+      subst (λ x. R (going o t q) (if o.refused x then u else p)) (s.world t u h) (by (o.refused t.world))
     where
       by : (b : Bool) → R (if b then t else q) (if b then u else p)
       by true = h
       by false = k
 
   given_same : (t u : Note W) → R t u → {vs ws : List Variable} → AlikeVariables V vs ws → (w : Wave)
-      → R (given o vs w t) (given o ws w u)
+      → R (given o vs w t) (given there ws w u)
   given_same t u h no_variable w = h
   given_same t u h (more_variables x y xs ys g more) w = s.assigns t u h x y g w
 
   done_same : (t u : Note W) → R t u → {vs ws : List Variable} → AlikeVariables V vs ws → (r : Rate) (d e : W × Wave)
       → d ≡ e
-      → R (done o r vs d t) (done o r ws e u)
-  done_same t u h {vs} {ws} g r d e same = subst (λ z. R (done o r vs d t) (done o r ws z u)) same (by d)
+      → R (done o r vs d t) (done there r ws e u)
+  done_same t u h {vs} {ws} g r d e same = subst (λ z. R (done o r vs d t) (done there r ws z u)) same (by d)
     where
-      by : (z : W × Wave) → R (done o r vs z t) (done o r ws z u)
+      by : (z : W × Wave) → R (done o r vs z t) (done there r ws z u)
       by (x, w) = given_same (moved_to x t) (moved_to x u) (s.moves t u h x) g (held o.ksmps r w)
 
   started_same : (t u : Note W) → R t u → (r : Rate) (q : Opcode) (n : ℕ) {xs ys : List Expression} → AlikeAll V xs ys
-      → R (started o r q n xs t) (started o r q n ys u)
+      → R (started o r q n xs t) (started there r q n ys u)
   started_same t u h r q n g =
       moves_to t u h _ _ (λ i. o.start q r n (first_values (values_same t u h g true 0 0 refl i)) (s.world t u h i))
 
   sought_same : (t u : Note W) → R t u → {xs ys : List Expression} → AlikeAll V xs ys
-      → R (sought o xs t) (sought o ys u)
-  sought_same t u h g = moves_to t u h _ _ (λ i. o.seek (first_values (values_same t u h g true 0 0 refl i)) (s.world t u h i))
+      → R (sought o xs t) (sought there ys u)
+  sought_same t u h g =
+      moves_to t u h _ _ (λ i. o.seek (first_values (values_same t u h g true 0 0 refl i)) (s.world t u h i))
 
   pub init_same : (t u : Note W) → R t u → {x y : Stmt} → AlikeStmt V x y → (p : Place)
-      → R (init_stmt o p x t) (init_stmt o p y u)
+      → R (init_stmt o p x t) (init_stmt there p y u)
   init_same t u h (alike_set r v w a b g k) p =
       going_same t u _ _ h
-      (either r _ _ _ _ (assigns_to t u h v w g (value o t true 0 a) (value o u true 0 b) (value_same t u h k true 0 0 refl))
+      (either r _ _ _ _
+      (assigns_to t u h v w g (value o t true 0 a) (value there u true 0 b) (value_same t u h k true 0 0 refl))
       (keep_same t u h k p.part p.part refl))
   init_same t u h (alike_unit r vs ws q k xs ys is js g l m) p =
       let ready = started_same t u h r q p.unit m in
       let a = started o r q p.unit is t in
-      let b = started o r q p.unit js u in
+      let b = started there r q p.unit js u in
       going_same t u _ _ h
       (either r _ _ _ _
       (going_same a b _ _ ready (done_same a b ready g r _ _
       (λ i. o.does q r p.unit k (values_same a b ready l true 0 0 refl i) (s.world a b ready i))))
-      (started_same (keep_all o p.part xs t) (keep_all o p.part ys u) (keep_all_same t u h l p.part p.part refl) r q p.unit m))
+      (started_same (keep_all o p.part xs t) (keep_all there p.part ys u) (keep_all_same t u h l p.part p.part refl)
+      r q p.unit m))
   init_same t u h (alike_zak r vs ws q k xs ys g l) p =
       going_same t u _ _ h
-      (either r _ _ _ _ (done_same t u h g r _ _ (λ i. o.zak q k (values_same t u h l true 0 0 refl i) (s.world t u h i)))
+      (either r _ _ _ _
+      (done_same t u h g r _ _ (λ i. o.zak q k (values_same t u h l true 0 0 refl i) (s.world t u h i)))
       (keep_all_same t u h l p.part p.part refl))
   init_same t u h (alike_store r q k xs ys is js l m) p =
       let ready = sought_same t u h m in
       let a = sought o is t in
-      let b = sought o js u in
+      let b = sought there js u in
       going_same t u _ _ h
       (either r _ _ _ _
-      (going_same a b _ _ ready (moves_to a b ready _ _ (λ i. o.store q r k (values_same a b ready l true 0 0 refl i) (s.world a b ready i))))
-      (sought_same (keep_all o p.part xs t) (keep_all o p.part ys u) (keep_all_same t u h l p.part p.part refl) m))
+      (going_same a b _ _ ready
+      (moves_to a b ready _ _ (λ i. o.store q r k (values_same a b ready l true 0 0 refl i) (s.world a b ready i))))
+      (sought_same (keep_all o p.part xs t) (keep_all there p.part ys u) (keep_all_same t u h l p.part p.part refl) m))
   init_same t u h (alike_out r xs ys g) p = going_same t u _ _ h (keep_all_same t u h g p.part p.part refl)
   init_same t u h (alike_out_at r xs ys g) p = going_same t u _ _ h (keep_all_same t u h g p.part p.part refl)
   init_same t u h (alike_ask xs ys g) p =
-      going_same t u _ _ h (moves_to t u h _ _ (λ i. o.ask (first_values (values_same t u h g true 0 0 refl i)) (s.world t u h i)))
+      going_same t u _ _ h
+      (moves_to t u h _ _ (λ i. o.ask (first_values (values_same t u h g true 0 0 refl i)) (s.world t u h i)))
   init_same t u h (alike_turnoff r) p = h
   init_same t u h alike_nothing p = h
   init_same t u h (alike_empty r) p = going_same t u _ _ h (either r t u t u h h)
 
   pub perf_same : (t u : Note W) → R t u → {x y : Stmt} → AlikeStmt V x y → (p : Place)
-      → R (perf_stmt o p x t) (perf_stmt o p y u)
+      → R (perf_stmt o p x t) (perf_stmt there p y u)
   perf_same t u h (alike_set r v w a b g k) p =
-      either r t u _ _ h (assigns_to t u h v w g (value o t false p.part a) (value o u false p.part b) (value_same t u h k false p.part p.part refl))
+      either r t u _ _ h
+      (assigns_to t u h v w g (value o t false p.part a) (value there u false p.part b)
+      (value_same t u h k false p.part p.part refl))
   perf_same t u h (alike_unit r vs ws q k xs ys is js g l m) p =
       either r t u _ _ h
-      (done_same t u h g r _ _ (λ i. o.does q r p.unit k (values_same t u h l false p.part p.part refl i) (s.world t u h i)))
+      (done_same t u h g r _ _
+      (λ i. o.does q r p.unit k (values_same t u h l false p.part p.part refl i) (s.world t u h i)))
   perf_same t u h (alike_zak r vs ws q k xs ys g l) p =
       either r t u _ _ h
       (done_same t u h g r _ _ (λ i. o.zak q k (values_same t u h l false p.part p.part refl i) (s.world t u h i)))
@@ -480,9 +520,13 @@ module _ {W : Type 0} (o : World W) (V : Variable → Variable → Type 0) (R : 
       either r t u _ _ h
       (moves_to t u h _ _ (λ i. o.store q r k (values_same t u h l false p.part p.part refl i) (s.world t u h i)))
   perf_same t u h (alike_out r xs ys g) p =
-      moves_to t u h _ _ (λ i. sent o 0 (values_same t u h g false p.part p.part refl i) (s.world t u h i))
+      moves_to t u h (sent o 0 (values o t false p.part xs) t.world) (sent there 0 (values there u false p.part ys) u.world)
+      (sent_there to o 0 (values o t false p.part xs) t.world
+      ∙ λ i. sent there 0 (values_same t u h g false p.part p.part refl i) (s.world t u h i))
   perf_same t u h (alike_out_at r xs ys g) p =
-      moves_to t u h _ _ (λ i. sent_at o (values_same t u h g false p.part p.part refl i) (s.world t u h i))
+      moves_to t u h (sent_at o (values o t false p.part xs) t.world) (sent_at there (values there u false p.part ys) u.world)
+      (sent_at_there to o (values o t false p.part xs) t.world
+      ∙ λ i. sent_at there (values_same t u h g false p.part p.part refl i) (s.world t u h i))
   perf_same t u h (alike_ask xs ys g) p = h
   perf_same t u h (alike_turnoff r) p = moves_to t u h _ _ (λ i. o.turnoff (s.world t u h i))
   perf_same t u h alike_nothing p = h

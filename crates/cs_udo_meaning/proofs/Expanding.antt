@@ -11,7 +11,9 @@ use Rattle.cs_grammar.specs.declared.tree.Callee.TheVariants as callee
 use Rattle.cs_grammar.specs.Tree.{Expression, Argument, value, text, Statement, set, call, choose, Block, no_stmt, andthen, joins, Arms, otherwise, arm, Definition}
 use Rattle.cs_typed.specs.TypedTree as typed
 use Rattle.cs_typed.specs.declared.tree.Var.{Var as Variable}
+use Rattle.cs_typing.specs.Known.{channel_of}
 use Rattle.cs_typing.specs.Statements.{all_init, choice_rate}
+use Rattle.cs_typing.specs.declared.known.Channel.{Channel}
 use Rattle.cs_ir.specs.Values.{holds}
 use Rattle.cs_ir.specs.Waves.{Wave, if_init}
 use Rattle.cs_meaning.specs.Core as core
@@ -23,14 +25,14 @@ use Rattle.cs_meaning.specs.Notes.{value as value_of}
 use Rattle.cs_meaning.specs.Performing as performing
 use Rattle.cs_udo.specs.Expanded.{Template, Opcodes, no_opcodes, defined, assignments, value_in, called, after_called, after, after_block, after_arms, expanded, expanded_block, expanded_arms, whole_body, template, defining, defining_all}
 use Rattle.cs_udo.specs.Names.{in_frame, renamed, renamed_argument}
-use Rattle.cs_udo_meaning.specs.Frames.{Framed, seen_from, put_back, spot, Reading, variable_read, expression_read, read, past_copy, going_on, copied, init_copy, perf_copy, past_copies, init_copies, perf_copies, Action, Actions, no_actions, action_of, values_in, past_call, init_call, perf_call, past_any, init_any, perf_any, past_framed, past_block, past_arms, init_framed, init_block, init_first, init_all, perf_framed, perf_block, perf_arms, action, acting, acting_all}
+use Rattle.cs_udo_meaning.specs.Frames.{Framed, seen_from, put_back, Spot, spot, Reading, variable_read, expression_read, read, past_copy, going_on, copied, init_copy, perf_copy, past_copies, init_copies, perf_copies, Action, Actions, no_actions, action_of, values_in, past_inputs, past_call, past_any, init_any, perf_any, past_framed, past_block, past_arms, init_framed, init_block, init_first, init_all, perf_framed, perf_block, perf_arms, action, acting, acting_all}
 use Rattle.cs_udo_meaning.specs.Numbered.{Numbering, Tells, Variables, numbered, expression_by, statement_by, block_by, arms_by}
 use Rattle.cs_udo_meaning.specs.Stands.{own_name, Fits, Stands}
 use Rattle.cs_udo_meaning.proofs.Alike.{Alike, AlikeStmt, past_alike, past_stmt_alike, value_same, keep_same, init_same, perf_same, Agree}
 use Rattle.cs_udo_meaning.proofs.Fresh.{own_rate}
 use Rattle.cs_udo_meaning.proofs.Named.{Named, NamedAll, NamedArguments, NamedStmt, NamedBlock, NamedArms, any_names, any_arguments, any_block}
 use Rattle.cs_udo_meaning.proofs.Renamed.{KeepsRates, rate_kept, expression_renamed, set_renamed, call_renamed}
-use Rattle.cs_udo_meaning.proofs.Standing.{SameVariable, both_shared, variable_alike, expression_alike, set_alike, call_alike, Seen, to_seen, from_seen, seen_agree}
+use Rattle.cs_udo_meaning.proofs.Standing.{SameVariable, both_shared, variable_alike, channel_alike, expression_alike, set_alike, call_alike, Seen, to_seen, from_seen, seen_agree}
 
 -- ---- orders of frames
 
@@ -152,13 +154,18 @@ module _ {W : Type 0} (m : Reading W) (flat : Numbering) (tf : Tells flat) (to :
       → Alike (Same f) (expression_by v (renamed (own_name f) e)) (expression_read m e)
   alike_expression f e n =
       subst (λ a. Alike (Same f) a (expression_read m e)) (sym (expression_renamed (own_name f) (own_rates f) v e))
-      (expression_alike (λ x. v (own_name f x)) (numbered m.shared m.number) (alike_variable f) both_shared e n)
+      (expression_alike (λ x. v (own_name f x)) (numbered m.shared m.number) (alike_variable f) e n)
+
+  alike_channel : (f : ℕ) (kind : Channel) (t : List ℕ) → Same f (channel_of m.shared kind t) (channel_of m.shared kind t)
+  alike_channel f = channel_alike (Same f) both_shared m.shared
 
   alike_set : (f line : ℕ) (x : List ℕ) (e : Expression) → Fits f x → Named (Fits f) e
       → AlikeStmt (Same f) (flat_stmt (set line (own_name f x) (renamed (own_name f) e))) (read m (set line x e))
   alike_set f line x e n k =
-      subst (λ a. AlikeStmt (Same f) (core.core_stmt m.spaces a) (read m (set line x e))) (sym (set_renamed (own_name f) (own_rates f) m.shared v line x e))
-      (set_alike (λ y. v (own_name f y)) (numbered m.shared m.number) (alike_variable f) both_shared m.spaces m.shared line x e n k)
+      subst (λ a. AlikeStmt (Same f) (core.core_stmt m.spaces a) (read m (set line x e)))
+      (sym (set_renamed (own_name f) (own_rates f) m.shared v line x e))
+      (set_alike (λ y. v (own_name f y)) (numbered m.shared m.number) (alike_variable f) m.shared m.shared (alike_channel f)
+      m.spaces line x e n k)
 
   alike_call : (f line : ℕ) (xs : List (List ℕ)) (c : Callee) (args : List Argument) → NamedAll (Fits f) xs
       → NamedArguments (Fits f) args
@@ -166,9 +173,10 @@ module _ {W : Type 0} (m : Reading W) (flat : Numbering) (tf : Tells flat) (to :
   alike_call f line xs c args n k =
       subst (λ a. AlikeStmt (Same f) (core.core_stmt m.spaces a) (read m (call line xs c args)))
       (sym (call_renamed (own_name f) (own_rates f) m.shared v line xs c args))
-      (call_alike (λ y. v (own_name f y)) (numbered m.shared m.number) (alike_variable f) both_shared m.spaces m.shared line xs c args n k)
+      (call_alike (λ y. v (own_name f y)) (numbered m.shared m.number) (alike_variable f) m.shared m.shared (alike_channel f)
+      m.spaces line xs c args n k)
 
-  agree : (f : ℕ) (u : Framed W) → Agree m.world (Same f) (Seen flat m.number f u)
+  agree : (f : ℕ) (u : Framed W) → Agree m.world m.world (Same f) (Seen flat m.number f u)
   agree f u = seen_agree m.world flat m.number tf to f u
 
   plain_init : (f : ℕ) (p : Place) (x : core.Stmt) (y : core.Stmt) (t : Note W) (u : Framed W) → AlikeStmt (Same f) x y
@@ -176,14 +184,14 @@ module _ {W : Type 0} (m : Reading W) (flat : Numbering) (tf : Tells flat) (to :
       → Stand (initial.init_stmt m.world p x t) (put_back f (initial.init_stmt m.world p y (seen_from f u)) u)
   plain_init f p x y t u a h =
       from_seen flat m.number f (initial.init_stmt m.world p x t) (initial.init_stmt m.world p y (seen_from f u)) u
-      (init_same m.world (Same f) (Seen flat m.number f u) (agree f u) t (seen_from f u) (to_seen flat m.number f t u h) a p)
+      (init_same m.world (λ r. r) (Same f) (Seen flat m.number f u) (agree f u) t (seen_from f u) (to_seen flat m.number f t u h) a p)
 
   plain_perf : (f : ℕ) (p : Place) (x : core.Stmt) (y : core.Stmt) (t : Note W) (u : Framed W) → AlikeStmt (Same f) x y
       → Stand t u
       → Stand (performing.perf_stmt m.world p x t) (put_back f (performing.perf_stmt m.world p y (seen_from f u)) u)
   plain_perf f p x y t u a h =
       from_seen flat m.number f (performing.perf_stmt m.world p x t) (performing.perf_stmt m.world p y (seen_from f u)) u
-      (perf_same m.world (Same f) (Seen flat m.number f u) (agree f u) t (seen_from f u) (to_seen flat m.number f t u h) a p)
+      (perf_same m.world (λ r. r) (Same f) (Seen flat m.number f u) (agree f u) t (seen_from f u) (to_seen flat m.number f t u h) a p)
 
   -- ---- a value, what is kept of it, and a variable that takes it
 
@@ -191,13 +199,13 @@ module _ {W : Type 0} (m : Reading W) (flat : Numbering) (tf : Tells flat) (to :
       → (whole : Bool) (n : ℕ)
       → value_of m.world t whole n a ≡ value_of m.world (seen_from f u) whole n b
   value_stands f a b t u k h whole n =
-      value_same m.world (Same f) (Seen flat m.number f u) (agree f u) t (seen_from f u) (to_seen flat m.number f t u h) k whole n n refl
+      value_same m.world (λ r. r) (Same f) (Seen flat m.number f u) (agree f u) t (seen_from f u) (to_seen flat m.number f t u h) k whole n n refl
 
   keep_stands : (f : ℕ) (a b : typed.Expression) (t : Note W) (u : Framed W) → Alike (Same f) a b → Stand t u → (n : ℕ)
       → Stand (keep m.world n a t) (put_back f (keep m.world n b (seen_from f u)) u)
   keep_stands f a b t u k h n =
       from_seen flat m.number f (keep m.world n a t) (keep m.world n b (seen_from f u)) u
-      (keep_same m.world (Same f) (Seen flat m.number f u) (agree f u) t (seen_from f u) (to_seen flat m.number f t u h) k n n refl)
+      (keep_same m.world (λ r. r) (Same f) (Seen flat m.number f u) (agree f u) t (seen_from f u) (to_seen flat m.number f t u h) k n n refl)
 
   assign_stands : (g : ℕ) (x y : Variable) (t : Note W) (u : Framed W) → Same g x y → Stand t u → (a b : Wave) → a ≡ b
       → Stand (assign m.world x a t) (put_back g (assign m.world y b (seen_from g u)) u)
@@ -355,57 +363,71 @@ module _ {W : Type 0} (m : Reading W) (flat : Numbering) (tf : Tells flat) (to :
       ap (λ q. spot (past_copies m q.place xs given_values) q.frame) (k.past ready n h)
       ∙ ap (λ q. spot q (t.after n)) (sym moved ∙ ap (λ b. note.past_block p (flat_block b)) (sym (called_is f n line xs c args t a h k)))
 
-  call_init : (f n line : ℕ) (p : Place) (xs : List (List ℕ)) (c : Callee) (args : List Argument) (t : Template) (a : Action W)
-      → 1 ≤ n → Acts t a
-      → NamedAll (Fits f) xs → NamedArguments (Fits f) args → (s : Note W) (u : Framed W) → Stand s u
-      → Stand (initial.init_block m.world p (flat_block (called (own_name f) n line xs c args (Some t))) s) (init_call m f (spot p n) a xs args u)
-  call_init f n line p xs c args t a h k fits named s u stand =
-      let given_values = values_in a.results in
-      let one = copies_of line f n a.inputs args in
-      let two = copies_of line n f xs given_values in
-      let ready = past_copies m p a.inputs args in
-      let body = note.past_block ready (flat_block (t.block n)) in
-      let s1 = initial.init_block m.world p (flat_block one) s in
-      let u1 = init_copies m f n p a.inputs args u in
-      let stand1 : Stand s1 u1 = copies_init line f n p a.inputs args s u (any_names (Fits n) (fits_inner n h) a.inputs) named stand in
-      let s2 = initial.init_block m.world ready (flat_block (t.block n)) s1 in
-      let u2 = a.init (spot ready n) u1 in
-      let stand2 : Stand s2 u2 = k.init ready n h s1 u1 stand1 in
-      let last : Stand (initial.init_block m.world body (flat_block two) s2) (init_copies m n f (a.past (spot ready n)).place xs given_values u2) =
-      subst (λ q. Stand (initial.init_block m.world body (flat_block two) s2) (init_copies m n f q.place xs given_values u2)) (sym (k.past ready n h))
-      (copies_init line n f body xs given_values s2 u2 fits (any_arguments (Fits n) (fits_inner n h) given_values) stand2) in
-      let framed = init_call m f (spot p n) a xs args u in
-      subst (λ b. Stand (initial.init_block m.world p (flat_block b) s) framed) (sym (called_is f n line xs c args t a h k))
-      (subst (λ z. Stand z framed)
-      (sym (init_joins p one (joins (t.block n) two) s
-      ∙ ap (λ q. initial.init_block m.world q (flat_block (joins (t.block n) two)) s1) (copies_past line f n p a.inputs args named)
-      ∙ init_joins ready (t.block n) two s1)) last)
+  -- A pass over a note, as it begins or in a cycle: what blocks of the expanded text do, what copies and the body of a defined
+  -- opcode do to the note with frames, and that both stand alike afterwards.
+  record Pass : Type 0 where
+    block : Place → core.Block → Note W → Note W
+    copies : ℕ → ℕ → Place → List (List ℕ) → List Argument → Framed W → Framed W
+    act : Action W → Spot → Framed W → Framed W
+    parted : (p : Place) (a b : Block) (t : Note W)
+        → block p (flat_block (joins a b)) t ≡ block (note.past_block p (flat_block a)) (flat_block b) (block p (flat_block a) t)
+    copied_alike : (line f g : ℕ) (p : Place) (xs : List (List ℕ)) (args : List Argument) (t : Note W) (u : Framed W)
+        → NamedAll (Fits g) xs → NamedArguments (Fits f) args → Stand t u
+        → Stand (block p (flat_block (copies_of line f g xs args)) t) (copies f g p xs args u)
+    acted_alike : (t : Template) (a : Action W) → Acts t a → (p : Place) (n : ℕ) → 1 ≤ n → (q : Note W) (u : Framed W)
+        → Stand q u
+        → Stand (block p (flat_block (t.block n)) q) (act a (spot p n) u)
 
-  call_perf : (f n line : ℕ) (p : Place) (xs : List (List ℕ)) (c : Callee) (args : List Argument) (t : Template) (a : Action W)
-      → 1 ≤ n → Acts t a
+  abbrev as_it_begins : Pass
+  as_it_begins = record {
+    block = initial.init_block m.world;
+    copies = init_copies m;
+    act = λ a. a.init;
+    parted = init_joins;
+    copied_alike = copies_init;
+    acted_alike = λ t a k. k.init;
+  }
+
+  abbrev in_a_cycle : Pass
+  in_a_cycle = record {
+    block = performing.perf_block m.world;
+    copies = perf_copies m;
+    act = λ a. a.perf;
+    parted = perf_joins;
+    copied_alike = copies_perf;
+    acted_alike = λ t a k. k.perf;
+  }
+
+  call_stands : (pass : Pass) (f n line : ℕ) (p : Place) (xs : List (List ℕ)) (c : Callee) (args : List Argument)
+      → (t : Template) (a : Action W) → 1 ≤ n → Acts t a
       → NamedAll (Fits f) xs → NamedArguments (Fits f) args → (s : Note W) (u : Framed W) → Stand s u
-      → Stand (performing.perf_block m.world p (flat_block (called (own_name f) n line xs c args (Some t))) s) (perf_call m f (spot p n) a xs args u)
-  call_perf f n line p xs c args t a h k fits named s u stand =
+      → Stand (pass.block p (flat_block (called (own_name f) n line xs c args (Some t))) s)
+      (pass.copies n f (a.past (past_inputs m (spot p n) a args)).place xs (values_in a.results)
+      (pass.act a (past_inputs m (spot p n) a args) (pass.copies f n p a.inputs args u)))
+  call_stands pass f n line p xs c args t a h k fits named s u stand =
       let given_values = values_in a.results in
       let one = copies_of line f n a.inputs args in
       let two = copies_of line n f xs given_values in
       let ready = past_copies m p a.inputs args in
       let body = note.past_block ready (flat_block (t.block n)) in
-      let s1 = performing.perf_block m.world p (flat_block one) s in
-      let u1 = perf_copies m f n p a.inputs args u in
-      let stand1 : Stand s1 u1 = copies_perf line f n p a.inputs args s u (any_names (Fits n) (fits_inner n h) a.inputs) named stand in
-      let s2 = performing.perf_block m.world ready (flat_block (t.block n)) s1 in
-      let u2 = a.perf (spot ready n) u1 in
-      let stand2 : Stand s2 u2 = k.perf ready n h s1 u1 stand1 in
-      let last : Stand (performing.perf_block m.world body (flat_block two) s2) (perf_copies m n f (a.past (spot ready n)).place xs given_values u2) =
-      subst (λ q. Stand (performing.perf_block m.world body (flat_block two) s2) (perf_copies m n f q.place xs given_values u2)) (sym (k.past ready n h))
-      (copies_perf line n f body xs given_values s2 u2 fits (any_arguments (Fits n) (fits_inner n h) given_values) stand2) in
-      let framed = perf_call m f (spot p n) a xs args u in
-      subst (λ b. Stand (performing.perf_block m.world p (flat_block b) s) framed) (sym (called_is f n line xs c args t a h k))
+      let s1 = pass.block p (flat_block one) s in
+      let u1 = pass.copies f n p a.inputs args u in
+      let stand1 : Stand s1 u1 =
+      pass.copied_alike line f n p a.inputs args s u (any_names (Fits n) (fits_inner n h) a.inputs) named stand in
+      let s2 = pass.block ready (flat_block (t.block n)) s1 in
+      let u2 = pass.act a (spot ready n) u1 in
+      let stand2 : Stand s2 u2 = pass.acted_alike t a k ready n h s1 u1 stand1 in
+      let framed = pass.copies n f (a.past (spot ready n)).place xs given_values u2 in
+      let last : Stand (pass.block body (flat_block two) s2) framed =
+      subst (λ q. Stand (pass.block body (flat_block two) s2) (pass.copies n f q.place xs given_values u2))
+      (sym (k.past ready n h))
+      (pass.copied_alike line n f body xs given_values s2 u2 fits (any_arguments (Fits n) (fits_inner n h) given_values)
+      stand2) in
+      subst (λ b. Stand (pass.block p (flat_block b) s) framed) (sym (called_is f n line xs c args t a h k))
       (subst (λ z. Stand z framed)
-      (sym (perf_joins p one (joins (t.block n) two) s
-      ∙ ap (λ q. performing.perf_block m.world q (flat_block (joins (t.block n) two)) s1) (copies_past line f n p a.inputs args named)
-      ∙ perf_joins ready (t.block n) two s1)) last)
+      (sym (pass.parted p one (joins (t.block n) two) s
+      ∙ ap (λ q. pass.block q (flat_block (joins (t.block n) two)) s1) (copies_past line f n p a.inputs args named)
+      ∙ pass.parted ready (t.block n) two s1)) last)
 
   -- a call of a defined opcode or of another
   any_past : (f n line : ℕ) (p : Place) (xs : List (List ℕ)) (c : Callee) (args : List Argument) (t : Option Template) (a : Option (Action W))
@@ -428,7 +450,8 @@ module _ {W : Type 0} (m : Reading W) (flat : Numbering) (tf : Tells flat) (to :
   any_init f n line p xs c args None None h k fits named s u stand = plain_init f p _ _ s u (alike_call f line xs c args fits named) stand
   any_init f n line p xs c args None (Some a) h k fits named s u stand = absurd k
   any_init f n line p xs c args (Some t) None h k fits named s u stand = absurd k
-  any_init f n line p xs c args (Some t) (Some a) h k fits named s u stand = call_init f n line p xs c args t a h k fits named s u stand
+  any_init f n line p xs c args (Some t) (Some a) h k fits named s u stand =
+      call_stands as_it_begins f n line p xs c args t a h k fits named s u stand
 
   any_perf : (f n line : ℕ) (p : Place) (xs : List (List ℕ)) (c : Callee) (args : List Argument) (t : Option Template) (a : Option (Action W))
       → 1 ≤ n
@@ -439,7 +462,8 @@ module _ {W : Type 0} (m : Reading W) (flat : Numbering) (tf : Tells flat) (to :
   any_perf f n line p xs c args None None h k fits named s u stand = plain_perf f p _ _ s u (alike_call f line xs c args fits named) stand
   any_perf f n line p xs c args None (Some a) h k fits named s u stand = absurd k
   any_perf f n line p xs c args (Some t) None h k fits named s u stand = absurd k
-  any_perf f n line p xs c args (Some t) (Some a) h k fits named s u stand = call_perf f n line p xs c args t a h k fits named s u stand
+  any_perf f n line p xs c args (Some t) (Some a) h k fits named s u stand =
+      call_stands in_a_cycle f n line p xs c args t a h k fits named s u stand
 
   -- ---- statements, in the order of the text
 

@@ -8,6 +8,7 @@ pub mod Lived
 pub mod Named
 pub mod Numbers
 pub mod Renamed
+pub mod Renumbered
 pub mod Standing
 pub mod TypedBy
 pub mod Units

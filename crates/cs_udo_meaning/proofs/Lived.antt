@@ -20,7 +20,7 @@ use Rattle.cs_udo.specs.Expanding.{within, unless, expanding}
 use Rattle.cs_udo.specs.Refused.{first_fault}
 use Rattle.cs_udo.specs.Counted.{first_limit}
 use Rattle.cs_udo_meaning.specs.Frames.{Framed, new_framed, framed_in, Reading, no_actions, actions_before}
-use Rattle.cs_udo_meaning.specs.Lives.{goes_on, begins, performs, goes_on_framed, reading, MeansFrames}
+use Rattle.cs_udo_meaning.specs.Lives.{Cycle, goes_on, begins, performs, goes_on_framed, in_world, reading, MeansFrames}
 use Rattle.cs_udo_meaning.specs.Numbered.{Numbering, Tells, numbered, block_by}
 use Rattle.cs_udo_meaning.specs.Stands.{Fits, Stands}
 use Rattle.cs_udo_meaning.specs.Typed.{shared_of, IsNumberedInstrument}
@@ -65,16 +65,19 @@ new_stands : {W : Type 0} (flat own : Numbering) (x : W) → Stands flat own (ne
 new_stands flat own x = record { locals = λ f y e fits. refl; kept = refl; world = refl }
 
 cycles_alike : {W : Type 0} (m : Reading W) (ds : List Definition) (i : Instrument) (flat : Numbering) (body : core.Block)
-    → ((t : Note W) (u : Framed W) → Stands flat m.number t u → Stands flat m.number (performing.perf_block m.world start body t) (performs m ds i u))
-    → (others : List (W → W)) (t : Note W) (u : Framed W) → Stands flat m.number t u
-    → goes_on m.world body others t ≡ goes_on_framed m ds i others u
+    → ((o : World W) (t : Note W) (u : Framed W) → Stands flat m.number t u
+    → Stands flat m.number (performing.perf_block o start body t) (performs (in_world o m) ds i u))
+    → (cycles : List (Cycle W)) (t : Note W) (u : Framed W) → Stands flat m.number t u
+    → goes_on body cycles t ≡ goes_on_framed m ds i cycles u
 cycles_alike m ds i flat body step [] t u stand = ap (λ x. x ∷ []) stand.world
-cycles_alike m ds i flat body step (act ∷ more) t u stand =
-    let moved = moved_stands flat m.number t u (act t.world) (act u.world) stand (ap act stand.world) in
-    λ j. stand.world j ∷ cycles_alike m ds i flat body step more (performing.perf_block m.world start body (moved_to (act t.world) t))
-    (performs m ds i (framed_in (act u.world) u)) (step (moved_to (act t.world) t) (framed_in (act u.world) u) moved) j
+cycles_alike m ds i flat body step (c ∷ more) t u stand =
+    let moved = moved_stands flat m.number t u (c.others t.world) (c.others u.world) stand (ap c.others stand.world) in
+    λ j. stand.world j
+    ∷ cycles_alike m ds i flat body step more (performing.perf_block c.world start body (moved_to (c.others t.world) t))
+    (performs (in_world c.world m) ds i (framed_in (c.others u.world) u))
+    (step c.world (moved_to (c.others t.world) t) (framed_in (c.others u.world) u) moved) j
 
-instrument_means : (W : Type 0) (ds : List Definition) (g : Shared) (i : Instrument) (made : typed.Instrument)
+pub instrument_means : (W : Type 0) (ds : List Definition) (g : Shared) (i : Instrument) (made : typed.Instrument)
     → WellFormedInstrument i
     → IsNumberedInstrument g (expanded_instrument ds i) made → MeansFrames W ds g i made
 instrument_means W ds g i made well h = record {
@@ -84,8 +87,8 @@ instrument_means W ds g i made well h = record {
   apart = h.body.apart;
   begun = starts;
   performed = goes;
-  lived = λ o spaces own to others x.
-      cycles_alike (reading o spaces g own) ds i flat (core.core spaces made.body) (goes o spaces own to) others
+  lived = λ o spaces own to cycles x.
+      cycles_alike (reading o spaces g own) ds i flat (core.core spaces made.body) (λ w. goes w spaces own to) cycles
       (initial.init_block o start (core.core spaces made.body) (new_note x)) (begins (reading o spaces g own) ds i (new_framed x))
       (starts o spaces own to (new_note x) (new_framed x) (new_stands flat own x));
 }

@@ -7,6 +7,7 @@ use Rattle.cs_base.specs.Rates.{same_rate, res_rate}
 use Rattle.cs_base.specs.declared.resource.Rate.{Rate}
 use Rattle.cs_base.specs.declared.resource.Rate.TheVariants as rate
 use Rattle.cs_base.specs.declared.resource.Res.{Res}
+use Rattle.cs_base.specs.declared.spaces.Spaces.{Spaces}
 use Rattle.cs_words.specs.Catalogue.{row_of}
 use Rattle.cs_words.specs.Names.{name_rate, is_global}
 use Rattle.cs_grammar.specs.declared.tree.Callee.{Callee}
@@ -87,14 +88,13 @@ variable_alike g flat own f x fits = by (is_global x) refl
 
 -- ---- what is typed with them
 
-channel_alike : (V : Variable → Variable → Type 0) → ((g : Res) → V (Global g) (Global g))
+pub channel_alike : (V : Variable → Variable → Type 0) → ((g : Res) → V (Global g) (Global g))
     → (g : Shared) (kind : Channel) (t : List ℕ)
     → V (channel_of g kind t) (channel_of g kind t)
 channel_alike V k g channel.Control t = k _
 channel_alike V k g channel.Sound t = k _
 
-module _ {V : Variable → Variable → Type 0} {P : List ℕ → Type 0} (v w : Variables) (h : (x : List ℕ) → P x → V (v x) (w x))
-    (k : (g : Res) → V (Global g) (Global g)) where
+module _ {V : Variable → Variable → Type 0} {P : List ℕ → Type 0} (v w : Variables) (h : (x : List ℕ) → P x → V (v x) (w x)) where
   pub expression_alike : (e : Expression) → Named P e → Alike V (expression_by v e) (expression_by w e)
   expression_alike (number z) n = alike_number rate.Init z
   expression_alike (var x) n = alike_var (name_rate x) (v x) (w x) (h x n)
@@ -106,28 +106,31 @@ module _ {V : Variable → Variable → Type 0} {P : List ℕ → Type 0} (v w :
       alike_pick (rate_of (pick c a b)) _ _ _ _ _ _ (expression_alike c n.0) (expression_alike a n.1) (expression_alike b n.2)
   expression_alike (apply f a) n = alike_apply (rate_of (apply f a)) f _ _ (expression_alike a n)
 
-  arguments_alike : (g : Shared) (role : Option Channel) (args : List Argument) → NamedArguments P args
-      → AlikeArguments V (arguments_by g v role args) (arguments_by g w role args)
-  arguments_alike g role [] n = no_argument
-  arguments_alike g role (value e ∷ args) n = more_values _ _ _ _ (expression_alike e n.0) (arguments_alike g role args n.1)
-  arguments_alike g None (text t ∷ args) n = arguments_alike g None args n
-  arguments_alike g (Some kind) (text t ∷ args) n = more_texts _ _ _ _ (channel_alike V k g kind t) (arguments_alike g (Some kind) args n)
-
   results_alike : (xs : List (List ℕ)) → NamedAll P xs → AlikeVariables V (map v xs) (map w xs)
   results_alike [] n = no_variable
   results_alike (x ∷ xs) n = more_variables (v x) (w x) (map v xs) (map w xs) (h x n.0) (results_alike xs n.1)
 
-  pub set_alike : (spaces : _) (g : Shared) (line : ℕ) (x : List ℕ) (e : Expression) → P x → Named P e
-      → AlikeStmt V (core_stmt spaces (statement_by g v (set line x e))) (core_stmt spaces (statement_by g w (set line x e)))
-  set_alike spaces g line x e n m = alike_set (name_rate x) (v x) (w x) _ _ (h x n) (expression_alike e m)
+  -- two lists of shared names, by which channels have their numbers
+  module _ (g q : Shared) (k : (kind : Channel) (t : List ℕ) → V (channel_of g kind t) (channel_of q kind t)) where
+    arguments_alike : (role : Option Channel) (args : List Argument) → NamedArguments P args
+        → AlikeArguments V (arguments_by g v role args) (arguments_by q w role args)
+    arguments_alike role [] n = no_argument
+    arguments_alike role (value e ∷ args) n = more_values _ _ _ _ (expression_alike e n.0) (arguments_alike role args n.1)
+    arguments_alike None (text t ∷ args) n = arguments_alike None args n
+    arguments_alike (Some kind) (text t ∷ args) n = more_texts _ _ _ _ (k kind t) (arguments_alike (Some kind) args n)
 
-  pub call_alike : (spaces : _) (g : Shared) (line : ℕ) (xs : List (List ℕ)) (c : Callee) (args : List Argument)
-      → NamedAll P xs → NamedArguments P args
-      → AlikeStmt V (core_stmt spaces (statement_by g v (call line xs c args))) (core_stmt spaces (statement_by g w (call line xs c args)))
-  call_alike spaces g line xs (callee.Name name) args n m = alike_empty rate.Init
-  call_alike spaces g line xs (callee.Opcode o) args n m =
-      core_alike spaces (call_rate (row_of o).shape xs args) o (row_of o).shape (results_alike xs n)
-      (arguments_alike g (channel_use (row_of o).shape xs args) args m)
+    pub set_alike : (spaces : Spaces) (line : ℕ) (x : List ℕ) (e : Expression) → P x → Named P e
+        → AlikeStmt V (core_stmt spaces (statement_by g v (set line x e))) (core_stmt spaces (statement_by q w (set line x e)))
+    set_alike spaces line x e n m = alike_set (name_rate x) (v x) (w x) _ _ (h x n) (expression_alike e m)
+
+    pub call_alike : (spaces : Spaces) (line : ℕ) (xs : List (List ℕ)) (c : Callee) (args : List Argument)
+        → NamedAll P xs → NamedArguments P args
+        → AlikeStmt V (core_stmt spaces (statement_by g v (call line xs c args)))
+        (core_stmt spaces (statement_by q w (call line xs c args)))
+    call_alike spaces line xs (callee.Name name) args n m = alike_empty rate.Init
+    call_alike spaces line xs (callee.Opcode o) args n m =
+        core_alike spaces (call_rate (row_of o).shape xs args) o (row_of o).shape (results_alike xs n)
+        (arguments_alike (channel_use (row_of o).shape xs args) args m)
 
 -- ---- a note, and the note that a frame sees
 
@@ -220,7 +223,7 @@ module _ {W : Type 0} (o : World W) (flat own : Numbering) (tf : Tells flat) (to
   looked t s h r _ _ (both_shared g) = ap (λ x. held o.ksmps r (o.load g x)) h.world
   looked t s h r _ _ (both_own x e fits) = h.mine x e fits
 
-  pub seen_agree : Agree o (SameVariable flat own f) (Seen flat own f u)
+  pub seen_agree : Agree o o (SameVariable flat own f) (Seen flat own f u)
   seen_agree = record {
     kept = λ t s h. h.kept;
     world = λ t s h. h.world;

@@ -1,12 +1,14 @@
 -- Small instruments with defined opcodes, which are worked out by frames.
-use Rattle.std.specs.Prelude.{ℕ, ℤ, pos, ◌+ℤ◌, List, [], ◌∷◌, codes, map}
+use Rattle.std.specs.Prelude.{ℕ, ℤ, pos, ◌+◌, ◌+ℤ◌, List, [], ◌∷◌, codes, map}
 use Rattle.std.specs.List.{range_with_len}
+use Rattle.cs_base.specs.declared.resource.Rate.{Rate}
 use Rattle.cs_base.specs.declared.resource.Rate.TheVariants as rate
 use Rattle.cs_words.specs.NameSets.{place_of}
 use Rattle.cs_words.specs.declared.sign.BinOp.TheVariants as op
+use Rattle.cs_words.specs.declared.catalogue.Opcode.{Opcode}
 use Rattle.cs_words.specs.declared.catalogue.Opcode.TheVariants as opcode
 use Rattle.cs_grammar.specs.declared.tree.Callee.TheVariants as callee
-use Rattle.cs_grammar.specs.Tree.{pair, var, value, Statement, set, call, choose, otherwise, arm, Definition, Instrument}
+use Rattle.cs_grammar.specs.Tree.{Expression, pair, var, Argument, value, Statement, set, call, choose, otherwise, arm, Definition, Instrument}
 use Rattle.cs_meaning.specs.Examples.{small_piece, whole}
 use Rattle.cs_meaning.specs.Plain.{Plain, Piece, plain, fresh, next_cycle}
 use Rattle.cs_ir.specs.Waves.{silence}
@@ -73,29 +75,50 @@ heard piece ds body =
     let i : Instrument = record { line = 8; numbers = 1 ∷ []; body = statements body } in
     two_cycles piece ds i (begins (read_in piece) ds i (new_framed (fresh (λ g. silence))))
 
+-- a call of a defined opcode, and one of an opcode of the catalogue
+abbrev own : ℕ → List (List ℕ) → List ℕ → List Argument → Statement
+own line results name args = call line results (callee.Name name) args
+
+abbrev known : ℕ → List (List ℕ) → Opcode → List Argument → Statement
+known line results o args = call line results (callee.Opcode o) args
+
+-- a1 has a value and goes out
+abbrev sounds : ℕ → Expression → List Statement
+sounds line e = set line a1 e ∷ known (line + 1) [] opcode.Out (variable a1 ∷ []) ∷ []
+
 -- a1 = k1 * 10 + k2 / out a1
+abbrev tens_and_ones : Expression
+tens_and_ones = pair op.Add (pair op.Mul (var k1) (literal 10)) (var k2)
+
 abbrev tells : List Statement
-tells = set 20 a1 (pair op.Add (pair op.Mul (var k1) (literal 10)) (var k2)) ∷ call 21 [] (callee.Opcode opcode.Out) (variable a1 ∷ []) ∷ []
+tells = sounds 20 tens_and_ones
+
+-- an opcode of one result and one input of a rate, whose body has the input by this name
+abbrev of_one : ℕ → List ℕ → Rate → List ℕ → List Statement → Argument → Definition
+of_one start name r input list given = record {
+  line = start;
+  name = name;
+  outs = r ∷ [];
+  ins = r ∷ [];
+  names = input ∷ [];
+  body = statements list;
+  result = given ∷ [];
+}
 
 -- k1 Count / k2 Count / a1 = k1 * 10 + k2 / out a1
+abbrev count_into : ℕ → List ℕ → Statement
+count_into line result = own line (result ∷ []) (codes "Count") []
+
 abbrev pub counted : List Statement
-counted = call 9 (k1 ∷ []) (callee.Name (codes "Count")) [] ∷ call 10 (k2 ∷ []) (callee.Name (codes "Count")) [] ∷ tells
+counted = count_into 9 k1 ∷ count_into 10 k2 ∷ tells
 
 -- opcode Bump, k, k / k1 xin / k1 = k1 + 1 / xout k1 / endop
 abbrev pub bump : Definition
-bump = record {
-  line = 3;
-  name = codes "Bump";
-  outs = rate.Control ∷ [];
-  ins = rate.Control ∷ [];
-  names = k1 ∷ [];
-  body = statements (set 4 k1 (pair op.Add (var k1) (literal 1)) ∷ []);
-  result = variable k1 ∷ [];
-}
+bump = of_one 3 (codes "Bump") rate.Control k1 (set 4 k1 (pair op.Add (var k1) (literal 1)) ∷ []) (variable k1)
 
 -- k1 = 5 / k2 Bump k1
 abbrev pub calls_bump : List Statement
-calls_bump = set 9 k1 (literal 5) ∷ call 10 (k2 ∷ []) (callee.Name (codes "Bump")) (variable k1 ∷ []) ∷ tells
+calls_bump = set 9 k1 (literal 5) ∷ own 10 (k2 ∷ []) (codes "Bump") (variable k1 ∷ []) ∷ tells
 
 -- opcode Swap, kk, kk / k1, k2 xin / xout k2, k1 / endop
 abbrev pub swap : Definition
@@ -112,78 +135,46 @@ swap = record {
 -- k1 = 1 / k2 = 2 / k1, k2 Swap k1, k2
 abbrev pub calls_swap : List Statement
 calls_swap = set 9 k1 (literal 1) ∷ set 10 k2 (literal 2)
-    ∷ call 11 (k1 ∷ k2 ∷ []) (callee.Name (codes "Swap")) (variable k1 ∷ variable k2 ∷ []) ∷ tells
+    ∷ own 11 (k1 ∷ k2 ∷ []) (codes "Swap") (variable k1 ∷ variable k2 ∷ []) ∷ tells
 
 -- k2 Count / if k2 == 1 then k1 Count else k1 = 0 endif / a1 = k1 / out a1
 abbrev pub calls_only_first : List Statement
-calls_only_first = call 9 (k2 ∷ []) (callee.Name (codes "Count")) []
-    ∷ choose 10 (arm (pair op.Equal (var k2) (literal 1)) (statements (call 11 (k1 ∷ []) (callee.Name (codes "Count")) [] ∷ []))
+calls_only_first = count_into 9 k2
+    ∷ choose 10 (arm (pair op.Equal (var k2) (literal 1)) (statements (count_into 11 k1 ∷ []))
     (otherwise (statements (set 13 k1 (literal 0) ∷ []))))
-    ∷ set 15 a1 (var k1) ∷ call 16 [] (callee.Opcode opcode.Out) (variable a1 ∷ []) ∷ []
+    ∷ sounds 15 (var k1)
 
 -- opcode Inc, k, k / k1 xin / k2 init 0 / k2 = k2 + k1 / xout k2 / endop
 abbrev pub inc : Definition
-inc = record {
-  line = 3;
-  name = codes "Inc";
-  outs = rate.Control ∷ [];
-  ins = rate.Control ∷ [];
-  names = k1 ∷ [];
-  body = statements (call 4 (k2 ∷ []) (callee.Opcode opcode.Init) (value (literal 0) ∷ [])
-      ∷ set 5 k2 (pair op.Add (var k2) (var k1)) ∷ []);
-  result = variable k2 ∷ [];
-}
+inc = of_one 3 (codes "Inc") rate.Control k1
+    (known 4 (k2 ∷ []) opcode.Init (value (literal 0) ∷ []) ∷ set 5 k2 (pair op.Add (var k2) (var k1)) ∷ []) (variable k2)
 
 -- opcode Two, k, k / k1 xin / k2 Inc k1 / k3 Inc k1 * 2 / xout k2 * 10 + k3 / endop
 abbrev pub two : Definition
-two = record {
-  line = 6;
-  name = codes "Two";
-  outs = rate.Control ∷ [];
-  ins = rate.Control ∷ [];
-  names = k1 ∷ [];
-  body = statements (call 7 (k2 ∷ []) (callee.Name (codes "Inc")) (variable k1 ∷ [])
-      ∷ call 8 (k3 ∷ []) (callee.Name (codes "Inc")) (value (pair op.Mul (var k1) (literal 2)) ∷ []) ∷ []);
-  result = value (pair op.Add (pair op.Mul (var k2) (literal 10)) (var k3)) ∷ [];
-}
+two = of_one 6 (codes "Two") rate.Control k1
+    (own 7 (k2 ∷ []) (codes "Inc") (variable k1 ∷ [])
+    ∷ own 8 (k3 ∷ []) (codes "Inc") (value (pair op.Mul (var k1) (literal 2)) ∷ []) ∷ [])
+    (value (pair op.Add (pair op.Mul (var k2) (literal 10)) (var k3)))
 
 -- k1 Two 1 / k2 Two 2 / a1 = k1 + k2 / 8 / out a1
 abbrev pub calls_two : List Statement
-calls_two = call 9 (k1 ∷ []) (callee.Name (codes "Two")) (value (literal 1) ∷ [])
-    ∷ call 10 (k2 ∷ []) (callee.Name (codes "Two")) (value (literal 2) ∷ [])
-    ∷ set 11 a1 (pair op.Add (var k1) (pair op.Div (var k2) (literal 8)))
-    ∷ call 12 [] (callee.Opcode opcode.Out) (variable a1 ∷ []) ∷ []
+calls_two = own 9 (k1 ∷ []) (codes "Two") (value (literal 1) ∷ [])
+    ∷ own 10 (k2 ∷ []) (codes "Two") (value (literal 2) ∷ [])
+    ∷ sounds 11 (pair op.Add (var k1) (pair op.Div (var k2) (literal 8)))
 
 -- opcode Turn, k, k / k1 xin / k2 phasor k1 / xout k2 / endop
 abbrev pub turn : Definition
-turn = record {
-  line = 3;
-  name = codes "Turn";
-  outs = rate.Control ∷ [];
-  ins = rate.Control ∷ [];
-  names = k1 ∷ [];
-  body = statements (call 4 (k2 ∷ []) (callee.Opcode opcode.Phasor) (variable k1 ∷ []) ∷ []);
-  result = variable k2 ∷ [];
-}
+turn = of_one 3 (codes "Turn") rate.Control k1 (known 4 (k2 ∷ []) opcode.Phasor (variable k1 ∷ []) ∷ []) (variable k2)
 
 -- k1 Turn 1 / k2 Turn 2
 abbrev pub calls_turn : List Statement
-calls_turn = call 9 (k1 ∷ []) (callee.Name (codes "Turn")) (value (literal 1) ∷ [])
-    ∷ call 10 (k2 ∷ []) (callee.Name (codes "Turn")) (value (literal 2) ∷ []) ∷ tells
+calls_turn = own 9 (k1 ∷ []) (codes "Turn") (value (literal 1) ∷ [])
+    ∷ own 10 (k2 ∷ []) (codes "Turn") (value (literal 2) ∷ []) ∷ tells
 
 -- opcode Half, i, i / i1 xin / xout i1 / 2 / endop
 abbrev pub half : Definition
-half = record {
-  line = 3;
-  name = codes "Half";
-  outs = rate.Init ∷ [];
-  ins = rate.Init ∷ [];
-  names = i1 ∷ [];
-  body = statements [];
-  result = value (pair op.Div (var i1) (literal 2)) ∷ [];
-}
+half = of_one 3 (codes "Half") rate.Init i1 [] (value (pair op.Div (var i1) (literal 2)))
 
 -- i1 Half 8 / a1 = i1 / out a1
 abbrev pub calls_half : List Statement
-calls_half = call 9 (i1 ∷ []) (callee.Name (codes "Half")) (value (literal 8) ∷ [])
-    ∷ set 10 a1 (var i1) ∷ call 11 [] (callee.Opcode opcode.Out) (variable a1 ∷ []) ∷ []
+calls_half = own 9 (i1 ∷ []) (codes "Half") (value (literal 8) ∷ []) ∷ sounds 10 (var i1)

@@ -1,18 +1,23 @@
 // What holds of calls of defined opcodes: calls that do nothing, whose contracts are the laws.
 ghost use Rattle.std.specs.List.{All, AllZip, AllPairs, IsDistinct, flat_map};
-ghost use Rattle.std.specs.Prelude.{◌≡◌, ◌≢◌, ◌∷◌, ◌<◌, [], ℕ, List, None, Ok, eqb};
-ghost use Rattle.cs_grammar.specs.Tree.{Block, Definition, Orchestra};
-ghost use Rattle.cs_grammar.specs.WellFormed.{IsWellFormed};
+ghost use Rattle.std.specs.Prelude.{◌≡◌, ◌≢◌, ◌∷◌, ◌<◌, [], ℕ, List, None, Ok, eqb, map};
+ghost use Rattle.cs_base.specs.declared.resource.Res.{Res};
+ghost use Rattle.cs_base.specs.declared.spaces.Spaces.{Spaces};
+ghost use Rattle.cs_grammar.specs.Tree.{Block, Definition, Instrument, Orchestra};
+ghost use Rattle.cs_grammar.specs.WellFormed.{IsWellFormed, WellFormedInstrument};
+ghost use Rattle.cs_ir.specs.Worlds.{World};
 ghost use Rattle.cs_meaning.specs.Examples.{each, whole};
 ghost use Rattle.cs_typed.specs.TypedTree as typed;
 ghost use Rattle.cs_typed.specs.WellRated.{BlockHasNoZakinit};
+ghost use Rattle.cs_typing.specs.Known.{Shared};
 ghost use Rattle.cs_typing.specs.Typing.{type_fault, typed_of};
 ghost use Rattle.cs_udo.specs.Expanding.{expanding};
 ghost use Rattle.cs_udo.specs.Worked.{twice, calls_twice, count};
 ghost use Rattle.cs_udo_meaning.specs.Examples.{bump, calls_bump, counted, heard, of_fives, of_sums, sevens, swap, calls_swap, calls_only_first, inc, two, calls_two, turn, calls_turn, half, calls_half};
 ghost use Rattle.cs_udo_meaning.specs.Frames.{Framed, Reading, Spot, acting_all, frames_of_block, init_block, no_actions, past_block, perf_block, units_of_block};
-ghost use Rattle.cs_udo_meaning.specs.Lives.{MeansFrames};
-ghost use Rattle.cs_udo_meaning.specs.Numbered.{Tells, spelled};
+ghost use Rattle.cs_udo_meaning.specs.Lives.{Cycle, MeansFrames, life_with_frames, reading};
+ghost use Rattle.cs_udo_meaning.specs.Numbered.{Numbering, Tells, spelled};
+ghost use Rattle.cs_udo_meaning.specs.Renumbered.{HasNames, LeadsTo, renumbered, renumbered_cycle};
 ghost use Rattle.cs_udo_meaning.specs.Typed.{IsNumbered, IsNumberedInstrument, shared_of};
 ghost use Rattle.cs_udo_meaning.specs.Untouched.{IsOutside};
 
@@ -20,11 +25,24 @@ ghost use Rattle.cs_udo_meaning.specs.Untouched.{IsOutside};
 /// of rates and names, each instrument of the typed expansion, as it begins and in every control cycle, does what the instrument
 /// with frames does (specs/Frames): each place of a call has a frame of its own, its inputs are copied in, its body is done over
 /// its frame and what notes share, and its results are given from left to right. This holds in every world `W`; the states of the
-/// world are equal from the note's beginning on, whatever others do between its cycles. Statements outside instruments stay.
+/// world are equal from the note's beginning on, whatever others do between its cycles, and be it another world in each of them.
+/// Statements outside instruments stay.
 pub fn expansion_means_calls<W>()
     ensures instruments { (o : Orchestra) → (made : Orchestra) → IsWellFormed o → expanding o ≡ Ok made → type_fault made ≡ None →
         AllZip (MeansFrames W o.opcodes (shared_of made)) o.instrs (typed_of made).instrs }
     ensures outside { (o : Orchestra) → (made : Orchestra) → expanding o ≡ Ok made → made.zero ≡ o.zero }
+{}
+
+/// Which numbers the names have of what notes share is seen by nobody. Numbers lead from any lists that have every name of
+/// the lists `g` to these. Where numbers lead from lists `h` to lists `g`, an instrument that was read has by `h` the life
+/// that it has by `g` (`life_with_frames`), in worlds whose resources have the numbers of `h`.
+pub fn shared_names_have_any_numbers<W>()
+    ensures numbers { (g : Shared) → (h : Shared) → HasNames h g → (to : Res → Res) × LeadsTo to h g }
+    ensures lives { (to : Res → Res) → (g : Shared) → (h : Shared) → LeadsTo to h g →
+        (ds : List Definition) → (i : Instrument) → WellFormedInstrument i →
+        (o : World W) → (spaces : Spaces) → (own : Numbering) → Tells own → (cycles : List (Cycle W)) → (x : W) →
+        life_with_frames (reading (renumbered to o) spaces h own) ds i (map (renumbered_cycle to) cycles) x
+        ≡ life_with_frames (reading o spaces g own) ds i cycles x }
 {}
 
 /// What an orchestra that was read is expanded to can be lowered once it is typed: no `zakinit` stands in an instrument, and no

@@ -1,0 +1,38 @@
+-- What calls of defined opcodes in an orchestra's text mean for the piece: each of its instruments does what one of the
+-- text does whose calls have frames of their own.
+use Rattle.std.specs.Prelude.{ℕ, ℤ, pos, ◌≡◌, List, Ok, Some}
+use Rattle.std.specs.List.{Contains}
+use Rattle.cs_base.specs.declared.spaces.Spaces.{Spaces}
+use Rattle.cs_compile.specs.Meaning.{IsReadAs}
+use Rattle.cs_grammar.specs.Tree.{Instrument, Orchestra}
+use Rattle.cs_meaning.specs.Core.{Block, core}
+use Rattle.cs_piece_meaning.specs.Moments.{Composition}
+use Rattle.cs_typed.specs.TypedTree as typed
+use Rattle.cs_typing.specs.Known.{Shared}
+use Rattle.cs_udo.specs.Expanding.{expanding}
+use Rattle.cs_udo_meaning.specs.Lives.{MeansFrames}
+use Rattle.cs_udo_meaning.specs.Typed.{shared_of}
+
+-- These statements mean an instrument of this number, as an orchestra was written: in worlds of states W they do what
+-- it does with a frame for each place of a call, where the names that notes share have their places in `shared`.
+pub record MeansInstrument (W : Type 0) (o : Orchestra) (shared : Shared) (spaces : Spaces) (number : ℕ) (body : Block)
+    : Type 0 where
+  pub written : Instrument
+  pub stands : Contains o.instrs written
+  pub numbered : Contains written.numbers number
+  pub made : typed.Instrument
+  pub body_is : body ≡ core spaces made.body
+  pub means : MeansFrames W o.opcodes shared written made
+
+-- The text was read as an orchestra. Each number of its instruments has statements in the piece, and what the piece has
+-- under a number means the instrument of that number. The names that notes share, which no expansion changes, have the
+-- places at which the expanded text gives them.
+pub record MeansCalls (W : Type 0) (text : List ℕ) (c : Composition) : Type 0 where
+  pub orchestra : Orchestra
+  pub read : IsReadAs text (Ok orchestra)
+  pub expansion : Orchestra
+  pub expanded : expanding orchestra ≡ Ok expansion
+  pub there : (i : Instrument) (number : ℕ) → Contains orchestra.instrs i → Contains i.numbers number
+      → (body : Block) × (c.instrument (pos number) ≡ Some body)
+  pub each : (z : ℤ) (body : Block) → c.instrument z ≡ Some body
+      → (number : ℕ) × (z ≡ pos number) × MeansInstrument W orchestra (shared_of expansion) c.spaces number body

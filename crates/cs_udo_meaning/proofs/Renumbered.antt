@@ -1,0 +1,401 @@
+-- The numbers of shared names: longer lists lead to those whose names they have, and by either an instrument has one life.
+use Rattle.std.proofs.Common.{◌≡◌, ◌∙◌, ℕ, zero, suc, ◌+◌, Bool, cond, true, false, not, ◌||◌, if◌then◌else◌, List, [], ◌∷◌, length, map, arith, refl, sym, ap, subst}
+use Rattle.std.specs.Str.{bytes_eq}
+use Rattle.std.proofs.lemmas.Slice.Eq.{bytes_eq-Decides}
+use Rattle.cs_base.specs.Rates.{res_rate}
+use Rattle.cs_base.specs.declared.resource.Rate.{Rate}
+use Rattle.cs_base.specs.declared.resource.Rate.TheVariants as rate
+use Rattle.cs_base.specs.declared.resource.Res.{Res}
+use Rattle.cs_base.specs.declared.resource.Res.TheVariants as res
+use Rattle.cs_base.specs.declared.spaces.Spaces.{Spaces}
+use Rattle.cs_words.specs.NameSets.{has, place_of}
+use Rattle.cs_words.specs.Names.{name_rate, is_global}
+use Rattle.cs_grammar.specs.declared.tree.Callee.{Callee}
+use Rattle.cs_grammar.specs.Tree.{Expression, Argument, Statement, set, call, choose, Block, no_stmt, andthen, Arms, otherwise, arm, Definition, Instrument}
+use Rattle.cs_grammar.specs.WellFormed.{WellFormedInstrument}
+use Rattle.cs_typed.specs.TypedTree as typed
+use Rattle.cs_typed.specs.declared.tree.Var.{Var as Variable}
+use Rattle.cs_typed.specs.declared.tree.Var.TheVariants.{Local, Global}
+use Rattle.cs_typing.specs.Known.{Shared, of_rate, place_in, global, channel_of, no_names, counts_of}
+use Rattle.cs_typing.specs.Statements.{choice_rate}
+use Rattle.cs_typing.specs.declared.known.Channel.{Channel}
+use Rattle.cs_typing.specs.declared.known.Channel.TheVariants as channel
+use Rattle.cs_ir.specs.Values.{holds}
+use Rattle.cs_ir.specs.Waves.{Wave, held, if_init}
+use Rattle.cs_ir.specs.Worlds.{World}
+use Rattle.cs_meaning.specs.Core as core
+use Rattle.cs_meaning.specs.Initialising as initial
+use Rattle.cs_meaning.specs.Initialising.{going, put_kept, keep}
+use Rattle.cs_meaning.specs.Notes as note
+use Rattle.cs_meaning.specs.Notes.{Note, Place, start, new_note, moved_to, past, past_parts, past_stmt, look, assign, reg}
+use Rattle.cs_meaning.specs.Notes.{value as value_of}
+use Rattle.cs_meaning.specs.Performing as performing
+use Rattle.cs_udo.specs.Expanded.{expanded_instrument}
+use Rattle.cs_udo_meaning.specs.Lives.{Cycle, goes_on, life, life_with_frames, reading}
+use Rattle.cs_udo_meaning.specs.Numbered.{Numbering, Tells, spelled, numbered, expression_by, statement_by, block_by, arms_by}
+use Rattle.cs_udo_meaning.specs.Renumbered.{renumbered, renumbered_cycle, LeadsTo, HasNames}
+use Rattle.cs_udo_meaning.specs.Typed.{IsNumberedInstrument}
+use Rattle.cs_udo_meaning.proofs.Alike.{Alike, AlikeStmt, Agree, past_alike, past_stmt_alike, value_same, keep_same, init_same, perf_same}
+use Rattle.cs_udo_meaning.proofs.Lived.{instrument_means}
+use Rattle.cs_udo_meaning.proofs.Named.{any_named, any_names, any_arguments}
+use Rattle.cs_udo_meaning.proofs.Numbers.{spelled_tells}
+use Rattle.cs_udo_meaning.proofs.Standing.{expression_alike, set_alike, call_alike}
+
+-- ---- from place to place
+
+-- the place among other names of the name at a place, or their number where there is none
+abbrev led : List (List ℕ) → List (List ℕ) → ℕ → ℕ
+led [] names n = length names
+led (y ∷ hs) names zero = place_of names y
+led (y ∷ hs) names (suc n) = led hs names n
+
+place_none : (names : List (List ℕ)) (x : List ℕ) → has names x ≡ false → place_of names x ≡ length names
+place_none [] x h = refl
+place_none (y ∷ names) x h = by (bytes_eq x y) h (place_none names x)
+  where
+    by : (b : Bool) → (b || has names x) ≡ false → (has names x ≡ false → place_of names x ≡ length names)
+        → cond (not b) (1 + place_of names x) 0 ≡ suc (length names)
+    by true k f = absurd (cc k)
+    by false k f = omega (arith, f k)
+
+none_there : (names : List (List ℕ)) (x : List ℕ) → (has names x ≡ true → false ≡ true)
+    → length names ≡ place_of names x
+none_there names x h = by (has names x) refl h
+  where
+    by : (b : Bool) → has names x ≡ b → (b ≡ true → false ≡ true) → length names ≡ place_of names x
+    by true e k = absurd (cc (k refl))
+    by false e k = sym (place_none names x e)
+
+one_suc : (n : ℕ) → 1 + n ≡ suc n
+one_suc n = omega arith
+
+led_place : (hs names : List (List ℕ)) (x : List ℕ) → (has names x ≡ true → has hs x ≡ true)
+    → led hs names (place_of hs x) ≡ place_of names x
+led_place [] names x h = none_there names x h
+led_place (y ∷ hs) names x h = by (bytes_eq x y) refl h (led_place hs names x)
+  where
+    by : (b : Bool) → bytes_eq x y ≡ b → (has names x ≡ true → (b || has hs x) ≡ true)
+        → ((has names x ≡ true → has hs x ≡ true) → led hs names (place_of hs x) ≡ place_of names x)
+        → led (y ∷ hs) names (cond (not b) (1 + place_of hs x) 0) ≡ place_of names x
+    by true e k f = ap (place_of names) (sym ((bytes_eq-Decides x y).0 e))
+    by false e k f = ap (led (y ∷ hs) names) (one_suc (place_of hs x)) ∙ f k
+
+-- ---- from resource to resource
+
+abbrev leads : Shared → Shared → Res → Res
+leads h g (res.Gi n) = res.Gi (led h.globals.init g.globals.init n)
+leads h g (res.Gk n) = res.Gk (led h.globals.control g.globals.control n)
+leads h g (res.Ga n) = res.Ga (led h.globals.audio g.globals.audio n)
+leads h g (res.ZakK n) = res.ZakK n
+leads h g (res.ZakA n) = res.ZakA n
+leads h g (res.Control n) = res.Control (led h.control g.control n)
+leads h g (res.Sound n) = res.Sound (led h.sound g.sound n)
+leads h g (res.Table n) = res.Table n
+
+keeps_rate : (h g : Shared) (r : Res) → res_rate (leads h g r) ≡ res_rate r
+keeps_rate h g (res.Gi n) = refl
+keeps_rate h g (res.Gk n) = refl
+keeps_rate h g (res.Ga n) = refl
+keeps_rate h g (res.ZakK n) = refl
+keeps_rate h g (res.ZakA n) = refl
+keeps_rate h g (res.Control n) = refl
+keeps_rate h g (res.Sound n) = refl
+keeps_rate h g (res.Table n) = refl
+
+variable_led : (h g : Shared) (r : Rate) (x : List ℕ)
+    → (has (of_rate r g.globals) x ≡ true → has (of_rate r h.globals) x ≡ true)
+    → leads h g (global r (place_of (of_rate r h.globals) x)) ≡ global r (place_of (of_rate r g.globals) x)
+variable_led h g rate.Init x k = ap (λ n. res.Gi n) (led_place h.globals.init g.globals.init x k)
+variable_led h g rate.Control x k = ap (λ n. res.Gk n) (led_place h.globals.control g.globals.control x k)
+variable_led h g rate.Audio x k = ap (λ n. res.Ga n) (led_place h.globals.audio g.globals.audio x k)
+
+pub names_lead : (g h : Shared) → HasNames h g → (to : Res → Res) × LeadsTo to h g
+names_lead g h k = (
+  leads h g,
+  record {
+    rate = keeps_rate h g;
+    globals = λ x. variable_led h g (name_rate x) x (k.globals x);
+    control = λ x. ap (λ n. res.Control n) (led_place h.control g.control x (k.control x));
+    sound = λ x. ap (λ n. res.Sound n) (led_place h.sound g.sound x (k.sound x));
+  },
+)
+
+-- ---- statements by either numbers
+
+-- a variable by the numbers that are led to, and by those that lead there
+data LedVariable (to : Res → Res) : Variable → Variable → Type 0 where
+  led_local : (r : Rate) (n : ℕ) → LedVariable to (Local r n) (Local r n)
+  led_shared : (r : Res) → LedVariable to (Global (to r)) (Global r)
+
+abbrev Any : List ℕ → Type 0
+Any x = Unit {0}
+
+any : (x : List ℕ) → Any x
+any x = tt
+
+module _ {W : Type 0} (to : Res → Res) (g h : Shared) (lead : LeadsTo to h g) (number : Numbering) (spaces : Spaces)
+    (o : World W) where
+  abbrev Same : Variable → Variable → Type 0
+  Same = LedVariable to
+
+  abbrev other : World W
+  other = renumbered to o
+
+  same_variable : (x : List ℕ) → Any x → Same (numbered g number x) (numbered h number x)
+  same_variable x u = by (is_global x)
+    where
+      by : (b : Bool) → Same
+          (if b then Global (global (name_rate x) (place_in g.globals x)) else Local (name_rate x) (number x))
+          (if b then Global (global (name_rate x) (place_in h.globals x)) else Local (name_rate x) (number x))
+      by true =
+          let there = global (name_rate x) (place_in h.globals x) in
+          subst (λ (r : Res). Same (Global r) (Global there)) (lead.globals x) (led_shared there)
+      by false = led_local (name_rate x) (number x)
+
+  same_channel : (kind : Channel) (t : List ℕ) → Same (channel_of g kind t) (channel_of h kind t)
+  same_channel channel.Control t =
+      subst (λ (r : Res). Same (Global r) (Global (res.Control (place_of h.control t)))) (lead.control t)
+      (led_shared (res.Control (place_of h.control t)))
+  same_channel channel.Sound t =
+      subst (λ (r : Res). Same (Global r) (Global (res.Sound (place_of h.sound t)))) (lead.sound t)
+      (led_shared (res.Sound (place_of h.sound t)))
+
+  -- two notes that are one
+  looks_same : (t u : Note W) → t ≡ u → (r : Rate) (v w : Variable) → Same v w → look o t r v ≡ look other u r w
+  looks_same t u e r _ _ (led_local q n) = ap (λ (z : Note W). z.locals (reg q n)) e
+  looks_same t u e r _ _ (led_shared k) = ap (λ (z : Note W). held o.ksmps r (o.load (to k) z.world)) e
+
+  assigns_same : (t u : Note W) → t ≡ u → (v w : Variable) → Same v w → (a : Wave) → assign o v a t ≡ assign other w a u
+  assigns_same t u e _ _ (led_local q n) a = ap (assign o (Local q n) a) e
+  assigns_same t u e _ _ (led_shared k) a =
+      λ i. moved_to (o.save (to k) (held o.ksmps (lead.rate k i) a) (e i).world) (e i)
+
+  notes_agree : Agree o other Same (λ t u. t ≡ u)
+  notes_agree = record {
+    kept = λ t u e. ap (λ (z : Note W). z.kept) e;
+    world = λ t u e. ap (λ (z : Note W). z.world) e;
+    looks = looks_same;
+    assigns = assigns_same;
+    keeps = λ t u e n z. ap (put_kept n z) e;
+    moves = λ t u e x. ap (moved_to x) e;
+  }
+
+  -- a condition, and a statement without statements in it
+  abbrev here : Expression → typed.Expression
+  here e = expression_by (numbered g number) e
+
+  abbrev there : Expression → typed.Expression
+  there e = expression_by (numbered h number) e
+
+  same_expression : (e : Expression) → Alike Same (here e) (there e)
+  same_expression e = expression_alike (numbered g number) (numbered h number) same_variable e (any_named Any any e)
+
+  abbrev stmt_here : Statement → core.Stmt
+  stmt_here x = core.core_stmt spaces (statement_by g (numbered g number) x)
+
+  abbrev stmt_there : Statement → core.Stmt
+  stmt_there x = core.core_stmt spaces (statement_by h (numbered h number) x)
+
+  same_set : (line : ℕ) (x : List ℕ) (e : Expression)
+      → AlikeStmt Same (stmt_here (set line x e)) (stmt_there (set line x e))
+  same_set line x e =
+      set_alike (numbered g number) (numbered h number) same_variable g h same_channel spaces line x e (any x)
+      (any_named Any any e)
+
+  same_call : (line : ℕ) (xs : List (List ℕ)) (c : Callee) (args : List Argument)
+      → AlikeStmt Same (stmt_here (call line xs c args)) (stmt_there (call line xs c args))
+  same_call line xs c args =
+      call_alike (numbered g number) (numbered h number) same_variable g h same_channel spaces line xs c args
+      (any_names Any any xs) (any_arguments Any any args)
+
+  init_alike : (x y : core.Stmt) → AlikeStmt Same x y → (p : Place) (t : Note W)
+      → initial.init_stmt o p x t ≡ initial.init_stmt other p y t
+  init_alike x y a p t = init_same o to Same (λ t u. t ≡ u) notes_agree t t refl a p
+
+  perf_alike : (x y : core.Stmt) → AlikeStmt Same x y → (p : Place) (t : Note W)
+      → performing.perf_stmt o p x t ≡ performing.perf_stmt other p y t
+  perf_alike x y a p t = perf_same o to Same (λ t u. t ≡ u) notes_agree t t refl a p
+
+  condition_past : (p : Place) (c : Expression)
+      → past_parts (past p.part (here c)) p ≡ past_parts (past p.part (there c)) p
+  condition_past p c = ap (λ n. past_parts n p) (past_alike (same_expression c) p.part p.part refl)
+
+  condition_kept : (p : Place) (c : Expression) (t : Note W) → keep o p.part (here c) t ≡ keep other p.part (there c) t
+  condition_kept p c t = keep_same o to Same (λ t u. t ≡ u) notes_agree t t refl (same_expression c) p.part p.part refl
+
+  condition_now : (p : Place) (c : Expression) (t : Note W)
+      → value_of o t false p.part (here c) ≡ value_of other t false p.part (there c)
+  condition_now p c t =
+      value_same o to Same (λ t u. t ≡ u) notes_agree t t refl (same_expression c) false p.part p.part refl
+
+  -- ---- statements with statements in them
+
+  abbrev block_here : Block → core.Block
+  block_here b = core.core spaces (block_by g (numbered g number) b)
+
+  abbrev block_there : Block → core.Block
+  block_there b = core.core spaces (block_by h (numbered h number) b)
+
+  abbrev arms_here : Arms → core.Arms
+  arms_here list = core.core_arms spaces (arms_by g (numbered g number) list)
+
+  abbrev arms_there : Arms → core.Arms
+  arms_there list = core.core_arms spaces (arms_by h (numbered h number) list)
+
+  mutual
+    past_same : (x : Statement) (p : Place) → past_stmt p (stmt_here x) ≡ past_stmt p (stmt_there x)
+    past_same (set line x e) p = past_stmt_alike (same_set line x e) p
+    past_same (call line xs c args) p = past_stmt_alike (same_call line xs c args) p
+    past_same (choose line list) p = past_arms_same list p
+
+    past_block_same : (b : Block) (p : Place) → note.past_block p (block_here b) ≡ note.past_block p (block_there b)
+    past_block_same no_stmt p = refl
+    past_block_same (andthen x rest) p =
+        ap (λ q. note.past_block q (block_here rest)) (past_same x p)
+        ∙ past_block_same rest (past_stmt p (stmt_there x))
+
+    past_arms_same : (list : Arms) (p : Place) → note.past_arms p (arms_here list) ≡ note.past_arms p (arms_there list)
+    past_arms_same (otherwise b) p = past_block_same b p
+    past_arms_same (arm c b rest) p =
+        let q = past_parts (past p.part (there c)) p in
+        ap (λ z. note.past_arms (note.past_block z (block_here b)) (arms_here rest)) (condition_past p c)
+        ∙ ap (λ z. note.past_arms z (arms_here rest)) (past_block_same b q)
+        ∙ past_arms_same rest (note.past_block q (block_there b))
+
+  mutual
+    init_stmt_same : (x : Statement) (p : Place) (t : Note W)
+        → initial.init_stmt o p (stmt_here x) t ≡ initial.init_stmt other p (stmt_there x) t
+    init_stmt_same (set line x e) p t = init_alike _ _ (same_set line x e) p t
+    init_stmt_same (call line xs c args) p t = init_alike _ _ (same_call line xs c args) p t
+    init_stmt_same (choose line list) p t =
+        λ i. going o t (if_init (choice_rate list) (init_first_same list p t i) (init_all_same list p t i))
+
+    init_block_same : (b : Block) (p : Place) (t : Note W)
+        → initial.init_block o p (block_here b) t ≡ initial.init_block other p (block_there b) t
+    init_block_same no_stmt p t = refl
+    init_block_same (andthen x rest) p t =
+        let now = initial.init_stmt o p (stmt_here x) t in
+        ap (λ q. initial.init_block o q (block_here rest) now) (past_same x p)
+        ∙ ap (λ z. initial.init_block o (past_stmt p (stmt_there x)) (block_here rest) z) (init_stmt_same x p t)
+        ∙ init_block_same rest (past_stmt p (stmt_there x)) (initial.init_stmt other p (stmt_there x) t)
+
+    init_first_same : (list : Arms) (p : Place) (t : Note W)
+        → initial.init_first o p (arms_here list) t ≡ initial.init_first other p (arms_there list) t
+    init_first_same (otherwise b) p t = init_block_same b p t
+    init_first_same (arm c b rest) p t =
+        let q = past_parts (past p.part (there c)) p in
+        let now = keep o p.part (here c) t in
+        let next = keep other p.part (there c) t in
+        ap (λ z. if holds (now.kept p.part) then initial.init_block o z (block_here b) now
+        else initial.init_first o (note.past_block z (block_here b)) (arms_here rest) now) (condition_past p c)
+        ∙ ap (λ (z : Note W). if holds (z.kept p.part) then initial.init_block o q (block_here b) z
+        else initial.init_first o (note.past_block q (block_here b)) (arms_here rest) z) (condition_kept p c t)
+        ∙ ap (λ z. if holds (next.kept p.part) then initial.init_block o q (block_here b) next
+        else initial.init_first o z (arms_here rest) next) (past_block_same b q)
+        ∙ λ i. if holds (next.kept p.part) then init_block_same b q next i
+        else init_first_same rest (note.past_block q (block_there b)) next i
+
+    init_all_same : (list : Arms) (p : Place) (t : Note W)
+        → initial.init_all o p (arms_here list) t ≡ initial.init_all other p (arms_there list) t
+    init_all_same (otherwise b) p t = init_block_same b p t
+    init_all_same (arm c b rest) p t =
+        let q = past_parts (past p.part (there c)) p in
+        let now = keep o p.part (here c) t in
+        let next = keep other p.part (there c) t in
+        let done = initial.init_block other q (block_there b) next in
+        ap (λ z. going o t (initial.init_all o (note.past_block z (block_here b)) (arms_here rest)
+        (initial.init_block o z (block_here b) now))) (condition_past p c)
+        ∙ ap (λ z. going o t (initial.init_all o (note.past_block q (block_here b)) (arms_here rest)
+        (initial.init_block o q (block_here b) z))) (condition_kept p c t)
+        ∙ ap (λ z. going o t (initial.init_all o z (arms_here rest) (initial.init_block o q (block_here b) next)))
+        (past_block_same b q)
+        ∙ ap (λ z. going o t (initial.init_all o (note.past_block q (block_there b)) (arms_here rest) z))
+        (init_block_same b q next)
+        ∙ ap (λ z. going o t z) (init_all_same rest (note.past_block q (block_there b)) done)
+
+  mutual
+    perf_stmt_same : (x : Statement) (p : Place) (t : Note W)
+        → performing.perf_stmt o p (stmt_here x) t ≡ performing.perf_stmt other p (stmt_there x) t
+    perf_stmt_same (set line x e) p t = perf_alike _ _ (same_set line x e) p t
+    perf_stmt_same (call line xs c args) p t = perf_alike _ _ (same_call line xs c args) p t
+    perf_stmt_same (choose line list) p t = perf_arms_same list p t
+
+    perf_block_same : (b : Block) (p : Place) (t : Note W)
+        → performing.perf_block o p (block_here b) t ≡ performing.perf_block other p (block_there b) t
+    perf_block_same no_stmt p t = refl
+    perf_block_same (andthen x rest) p t =
+        let now = performing.perf_stmt o p (stmt_here x) t in
+        ap (λ q. performing.perf_block o q (block_here rest) now) (past_same x p)
+        ∙ ap (λ z. performing.perf_block o (past_stmt p (stmt_there x)) (block_here rest) z) (perf_stmt_same x p t)
+        ∙ perf_block_same rest (past_stmt p (stmt_there x)) (performing.perf_stmt other p (stmt_there x) t)
+
+    perf_arms_same : (list : Arms) (p : Place) (t : Note W)
+        → performing.perf_arms o p (arms_here list) t ≡ performing.perf_arms other p (arms_there list) t
+    perf_arms_same (otherwise b) p t = perf_block_same b p t
+    perf_arms_same (arm c b rest) p t =
+        let q = past_parts (past p.part (there c)) p in
+        let now = value_of o t false p.part (here c) in
+        let next = value_of other t false p.part (there c) in
+        ap (λ z. if holds (now 0) then performing.perf_block o z (block_here b) t
+        else performing.perf_arms o (note.past_block z (block_here b)) (arms_here rest) t) (condition_past p c)
+        ∙ ap (λ (z : Wave). if holds (z 0) then performing.perf_block o q (block_here b) t
+        else performing.perf_arms o (note.past_block q (block_here b)) (arms_here rest) t) (condition_now p c t)
+        ∙ ap (λ z. if holds (next 0) then performing.perf_block o q (block_here b) t
+        else performing.perf_arms o z (arms_here rest) t) (past_block_same b q)
+        ∙ λ i. if holds (next 0) then perf_block_same b q t i
+        else perf_arms_same rest (note.past_block q (block_there b)) t i
+
+-- ---- lives
+
+-- statements by the places of shared names in these lists
+abbrev body_by : Shared → Numbering → Spaces → Block → core.Block
+body_by g number spaces b = core.core spaces (block_by g (numbered g number) b)
+
+module _ {W : Type 0} (to : Res → Res) (g h : Shared) (lead : LeadsTo to h g) (number : Numbering) (spaces : Spaces)
+    (b : Block) where
+  cycles_same : (cycles : List (Cycle W)) (t : Note W)
+      → goes_on (body_by g number spaces b) cycles t
+      ≡ goes_on (body_by h number spaces b) (map (renumbered_cycle to) cycles) t
+  cycles_same [] t = refl
+  cycles_same (c ∷ more) t =
+      let moved = moved_to (c.others t.world) t in
+      ap (λ l. t.world ∷ l)
+      (ap (goes_on (body_by g number spaces b) more) (perf_block_same to g h lead number spaces c.world b start moved)
+      ∙ cycles_same more (performing.perf_block (renumbered to c.world) start (body_by h number spaces b) moved))
+
+  lives_same : (o : World W) (cycles : List (Cycle W)) (x : W)
+      → life o (body_by g number spaces b) cycles x
+      ≡ life (renumbered to o) (body_by h number spaces b) (map (renumbered_cycle to) cycles) x
+  lives_same o cycles x =
+      ap (goes_on (body_by g number spaces b) cycles)
+      (init_block_same to g h lead number spaces o b start (new_note x))
+      ∙ cycles_same cycles (initial.init_block (renumbered to o) start (body_by h number spaces b) (new_note x))
+
+-- the expanded instrument, typed by these lists
+abbrev made_by : List Definition → Shared → Instrument → typed.Instrument
+made_by ds g i = record {
+  line = i.line;
+  numbers = i.numbers;
+  locals = counts_of no_names;
+  body = block_by g (numbered g spelled) (expanded_instrument ds i).body;
+}
+
+is_made : (ds : List Definition) (g : Shared) (i : Instrument)
+    → IsNumberedInstrument g (expanded_instrument ds i) (made_by ds g i)
+is_made ds g i = record {
+  line = refl;
+  numbers = refl;
+  body = record { number = spelled; apart = spelled_tells; is = refl };
+}
+
+pub any_numbers : (W : Type 0) (to : Res → Res) (g h : Shared) → LeadsTo to h g
+    → (ds : List Definition) (i : Instrument) → WellFormedInstrument i
+    → (o : World W) (spaces : Spaces) (own : Numbering) → Tells own → (cycles : List (Cycle W)) (x : W)
+    → life_with_frames (reading (renumbered to o) spaces h own) ds i (map (renumbered_cycle to) cycles) x
+    ≡ life_with_frames (reading o spaces g own) ds i cycles x
+any_numbers W to g h lead ds i well o spaces own tells cycles x =
+    let here = instrument_means W ds g i (made_by ds g i) well (is_made ds g i) in
+    let there = instrument_means W ds h i (made_by ds h i) well (is_made ds h i) in
+    sym (there.lived (renumbered to o) spaces own tells (map (renumbered_cycle to) cycles) x)
+    ∙ sym (lives_same to g h lead spelled spaces (expanded_instrument ds i).body o cycles x)
+    ∙ here.lived o spaces own tells cycles x

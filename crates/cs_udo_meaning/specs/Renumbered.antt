@@ -1,0 +1,32 @@
+-- What notes share under other numbers.
+use Rattle.std.specs.Prelude.{ℕ, true, List, ◌≡◌}
+use Rattle.cs_base.specs.Rates.{res_rate}
+use Rattle.cs_base.specs.declared.resource.Res.{Res}
+use Rattle.cs_base.specs.declared.resource.Res.TheVariants as res
+use Rattle.cs_words.specs.Names.{name_rate}
+use Rattle.cs_words.specs.NameSets.{has, place_of}
+use Rattle.cs_ir.specs.Worlds.{World}
+use Rattle.cs_typing.specs.Known.{Shared, global, in_table, place_in}
+use Rattle.cs_udo_meaning.specs.Lives.{Cycle}
+
+-- A world that has what another has, under other numbers: a resource here is the one there to which its number leads.
+abbrev pub renumbered : {W : Type 0} → (Res → Res) → World W → World W
+renumbered to o = record o { load = λ r. o.load (to r); save = λ r. o.save (to r) }
+
+abbrev pub renumbered_cycle : {W : Type 0} → (Res → Res) → Cycle W → Cycle W
+renumbered_cycle to c = record c { world = renumbered to c.world }
+
+-- Numbers lead from the lists h of shared names to the lists g: from the resource that a name has by h to the one that it
+-- has by g, and from each resource to one of its rate.
+pub record LeadsTo (to : Res → Res) (h g : Shared) : Type 0 where
+  pub rate : (r : Res) → res_rate (to r) ≡ res_rate r
+  pub globals : (x : List ℕ)
+      → to (global (name_rate x) (place_in h.globals x)) ≡ global (name_rate x) (place_in g.globals x)
+  pub control : (x : List ℕ) → to (res.Control (place_of h.control x)) ≡ res.Control (place_of g.control x)
+  pub sound : (x : List ℕ) → to (res.Sound (place_of h.sound x)) ≡ res.Sound (place_of g.sound x)
+
+-- The lists h have every name that the lists g have, at whatever place.
+pub record HasNames (h g : Shared) : Type 0 where
+  pub globals : (x : List ℕ) → in_table g.globals x ≡ true → in_table h.globals x ≡ true
+  pub control : (x : List ℕ) → has g.control x ≡ true → has h.control x ≡ true
+  pub sound : (x : List ℕ) → has g.sound x ≡ true → has h.sound x ≡ true
