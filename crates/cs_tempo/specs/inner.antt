@@ -1,5 +1,6 @@
 -- What private clauses alone cite.
 pub mod Clock
+pub mod Counted
 pub mod Events
 pub mod Queue
 pub mod Stops
