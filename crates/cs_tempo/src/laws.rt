@@ -29,9 +29,9 @@ pub fn time_never_falls()
         → time_of tempo beat ≤ 60000 * beat }
 {}
 
-/// The time along a ramp is its formula over whole numbers with a sign, each part rounded down.
+/// The time along a ramp is its formula over whole numbers with a sign, each part rounded down: that is never below 0.
 pub fn ramps_are_rounded_down()
-    ensures { (first last span x : ℕ) → 1000000 ≤ first → 1000000 ≤ last → 1 ≤ span → x ≤ span
+    ensures { (first last span x : ℕ) → 1000000 ≤ first → 1000000 ≤ last → x ≤ span
         → pos (ramp_time first last span x) ≡ pos (first * x / 1000000)
         +ℤ floor_div ((pos last -ℤ pos first) *ℤ pos (x * x)) (pos (2 * span * 1000000)) }
 {}
