@@ -89,8 +89,8 @@ module _ (P : ScoreWhat → Type 0) (Q : Given → Type 0)
   unfolding events_along
   along_each set earlier [] e = tt
   along_each set earlier (s ∷ ss) e =
-      given_append (events_at set (stop_of earlier ss s.what) s) (events_along set (s ∷ earlier) ss)
-      (turn_each set (stop_of earlier ss s.what) _ s.line s.what e.0) (along_each set (s ∷ earlier) ss e.1)
+      given_append (events_at set (stop_of earlier ss s) s) (events_along set (s ∷ earlier) ss)
+      (turn_each set (stop_of earlier ss s) _ s.line s.what e.0) (along_each set (s ∷ earlier) ss e.1)
 
   from_each : (head : Head) (offset : ℕ) (sections : List (List ScoreStmt)) → Each (Each (λ (s : ScoreStmt). P s.what)) sections
       → Each Q (given_in (events_from head offset sections))

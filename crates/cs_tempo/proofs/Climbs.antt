@@ -127,7 +127,7 @@ along_climbs set low m earlier (s ∷ ss) t r h =
     ⊎_elim
     (λ e. rw e (along_climbs set (beat_of s.what) m (s ∷ earlier) ss t r.1 (omega (arith, up))))
     (λ e. rw e.1 (omega (arith, up), along_climbs set (beat_of s.what) _ (s ∷ earlier) ss t r.1 (omega arith)))
-    (one_act set (stop_of earlier ss s.what) s.what)
+    (one_act set (stop_of earlier ss s) s.what)
 
 abbrev first_cycles : List EventAct → ℕ
 first_cycles [] = 0
@@ -156,11 +156,11 @@ unfolding events_along
 along_within set earlier [] t = tt
 along_within set earlier (s ∷ ss) t =
     let pace : Pace = record { head = set.head; tempo = set.tempo } in
-    let stop = stop_within pace set.cycles earlier ss s.what t.1 in
+    let stop = stop_within pace set.cycles earlier ss s t.1 in
     ⊎_elim
     (λ e. rw e (along_within set (s ∷ earlier) ss t.1))
-    (λ e. rw e.1 (omega (arith, act_within set (stop_of earlier ss s.what) s.what e.0 t.0.range t.0.reach t.0.turn stop e.1), along_within set (s ∷ earlier) ss t.1))
-    (one_act set (stop_of earlier ss s.what) s.what)
+    (λ e. rw e.1 (omega (arith, act_within set (stop_of earlier ss s) s.what e.0 t.0.range t.0.reach t.0.turn stop e.1), along_within set (s ∷ earlier) ss t.1))
+    (one_act set (stop_of earlier ss s) s.what)
 
 -- sections in range
 either_tempo : (tempo : List TempoPoint) (w : ScoreWhat) → IsTempo tempo → HasRange w → IsTempo (or_else tempo (own_points w))

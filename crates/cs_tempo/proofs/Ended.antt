@@ -6,8 +6,8 @@ use Rattle.std.proofs.lemmas.List.{length_push}
 use Rattle.cs_score.specs.declared.statement.ScoreWhat.{ScoreWhat}
 use Rattle.cs_score.specs.declared.statement.ScoreWhat.TheVariants.{Note, Hold, Stop, Table, Extend, Tempo, Section}
 use Rattle.cs_score.specs.declared.statement.ScoreStmt.{ScoreStmt}
-use Rattle.cs_tempo.specs.Pairing.{sounding_after, sounding, own_stop, stops_of, stop_after}
-use Rattle.cs_tempo.specs.Held.{held_after, held, ends_here, or_later, ending_stop}
+use Rattle.cs_tempo.specs.inner.Counted.{sounding_after, sounding, own_stop, stops_of, stop_after}
+use Rattle.cs_tempo.specs.Pairing.{held_after, held, ends_here, or_later, ending_stop}
 use Rattle.cs_tempo.proofs.Sorting.{Each, each_more}
 
 -- one more turn changes places and number alike

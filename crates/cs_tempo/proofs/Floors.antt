@@ -1,13 +1,14 @@
 -- The time along a ramp as its formula with a sign.
-use Rattle.std.proofs.Common.{◌≡◌, ℕ, zero, suc, ◌+◌, ◌-◌, ◌*◌, ◌/◌, ◌<◌, ◌≤◌, pos, neg_ℤ, ◌+ℤ◌, ◌-ℤ◌, ◌*ℤ◌, arith, refl, ap, sym, ◌∙◌, ⊎_elim}
+use Rattle.std.proofs.Common.{◌≡◌, ℕ, ℤ, zero, suc, ◌+◌, ◌-◌, ◌*◌, ◌/◌, ◌<◌, ◌≤◌, pos, neg_ℤ, ◌+ℤ◌, ◌-ℤ◌, ◌*ℤ◌, unsigned_abs, arith, refl, ap, sym, subst, ◌∙◌, ⊎_elim}
 use Rattle.std.specs.Int.{int_div_euclid}
-use Rattle.std.proofs.Math.Nat.{div-le_self}
+use Rattle.std.proofs.Math.Nat.{div-le_self, mul-zero}
 use Rattle.std.proofs.lemmas.Nat.{mul-le}
 use Rattle.std.proofs.lemmas.Int.{ints}
 use Rattle.std.proofs.lemmas.Bool.{cases_lt}
 use Rattle.cs_base.specs.Numbers.{floor_div}
-use Rattle.cs_tempo.specs.Time.{ramp_time, rounded_up}
-use Rattle.cs_tempo.proofs.Ramps.{ramp_up, ramp_down, quotient_below, quotient_above, up_least, up_most, shorter_within}
+use Rattle.cs_tempo.specs.Time.{ramp_time}
+use Rattle.cs_tempo.specs.inner.Ramps.{ramp_in_parts, rounded_up}
+use Rattle.cs_tempo.proofs.Ramps.{ramp_up, ramp_down, ramp_grows, ramp_small, ramp_of_nothing, nothing_shared, quotient_below, quotient_above, up_least, up_most, shorter_within}
 
 times_up : (f l y : ℕ) → f ≤ l → (pos l -ℤ pos f) *ℤ pos y ≡ pos ((l - f) * y)
 times_up f l y h = let e : pos l -ℤ pos f ≡ pos (l - f) = omega (arith, ints) in ap (λ z. z *ℤ pos y) e
@@ -57,8 +58,8 @@ falls_within f l s zero low falls some inside =
     let u : rounded_up ((f - l) * (0 * 0)) (2 * s * 1000000) ≡ 0 = ap (λ m. rounded_up m (2 * s * 1000000)) n ∙ none_up (2 * s * 1000000) (omega arith) in omega (arith, u)
 falls_within f l s (suc x) low falls some inside = shorter_within f l s (suc x) low falls (omega arith) inside
 
-pub ramp_is : (f l s x : ℕ) → 1000000 ≤ f → 1000000 ≤ l → 1 ≤ s → x ≤ s →
-    pos (ramp_time f l s x) ≡ pos (f * x / 1000000) +ℤ floor_div ((pos l -ℤ pos f) *ℤ pos (x * x)) (pos (2 * s * 1000000))
+ramp_is : (f l s x : ℕ) → 1000000 ≤ f → 1000000 ≤ l → 1 ≤ s → x ≤ s →
+    pos (ramp_in_parts f l s x) ≡ pos (f * x / 1000000) +ℤ floor_div ((pos l -ℤ pos f) *ℤ pos (x * x)) (pos (2 * s * 1000000))
 ramp_is f l s x low low' some inside =
     ⊎_elim
     (λ (h : l < f).
@@ -70,3 +71,49 @@ ramp_is f l s x low low' some inside =
     ap pos (sym (ramp_up f l s x h))
     ∙ ap (λ z. pos (f * x / 1000000) +ℤ floor_div z (pos (2 * s * 1000000))) (sym (times_up f l (x * x) h)))
     (cases_lt l f)
+
+-- the formula is the time in parts, at the beginning of a ramp and later
+abbrev pub formula : ℕ → ℕ → ℕ → ℕ → ℤ
+formula f l s x = pos (f * x / 1000000) +ℤ floor_div ((pos l -ℤ pos f) *ℤ pos (x * x)) (pos (2 * s * 1000000))
+
+nothing_times : (f l : ℕ) → (pos l -ℤ pos f) *ℤ pos (0 * 0) ≡ pos 0
+nothing_times f l =
+    ⊎_elim
+    (λ (h : l < f). times_down f l (0 * 0) (omega (arith, h)) ∙ ap (λ n. neg_ℤ (pos n)) (mul-zero (f - l)))
+    (λ (h : f ≤ l). times_up f l (0 * 0) h ∙ ap pos (mul-zero (l - f)))
+    (cases_lt l f)
+
+formula_of_nothing : (f l s : ℕ) → formula f l s 0 ≡ pos 0
+formula_of_nothing f l s =
+    let a : f * 0 / 1000000 ≡ 0 = ap (λ n. n / 1000000) (mul-zero f) in
+    let b : 0 / (2 * s * 1000000) ≡ 0 = nothing_shared (2 * s * 1000000) in
+    ap (λ (z : ℤ). pos (f * 0 / 1000000) +ℤ floor_div z (pos (2 * s * 1000000))) (nothing_times f l)
+    ∙ λ i. pos (a i) +ℤ pos (b i)
+
+pub formula_is : (f l s x : ℕ) → 1000000 ≤ f → 1000000 ≤ l → x ≤ s → formula f l s x ≡ pos (ramp_in_parts f l s x)
+formula_is f l s zero low low' inside = formula_of_nothing f l s ∙ sym (ap pos (ramp_of_nothing f l s))
+formula_is f l s (suc x) low low' inside = sym (ramp_is f l s (suc x) low low' (omega (arith, inside)) inside)
+
+pub ramp_time_of_nothing : (f l s : ℕ) → ramp_time f l s 0 ≡ 0
+unfolding ramp_time
+ramp_time_of_nothing f l s = ap unsigned_abs (formula_of_nothing f l s)
+
+pub ramp_time_is : (f l s x : ℕ) → 1000000 ≤ f → 1000000 ≤ l → x ≤ s → ramp_time f l s x ≡ ramp_in_parts f l s x
+unfolding ramp_time
+ramp_time_is f l s x low low' inside = ap unsigned_abs (formula_is f l s x low low' inside)
+
+pub no_less_than_nothing : (f l s x : ℕ) → 1000000 ≤ f → 1000000 ≤ l → x ≤ s → pos (ramp_time f l s x) ≡ formula f l s x
+no_less_than_nothing f l s x low low' inside =
+    ap pos (ramp_time_is f l s x low low' inside) ∙ sym (formula_is f l s x low low' inside)
+
+-- time never falls along a ramp, and a millionth of a beat takes at most 60,000 nanoseconds
+pub ramp_time_grows : (f l s x y : ℕ) → 1000000 ≤ f → 1000000 ≤ l → x ≤ y → y ≤ s → ramp_time f l s x ≤ ramp_time f l s y
+ramp_time_grows f l s x y low low' order inside =
+    let a = ramp_time_is f l s x low low' (omega (arith, order, inside)) in
+    let b = ramp_time_is f l s y low low' inside in
+    omega (arith, a, b, ramp_grows f l s x y low' order inside)
+
+pub ramp_time_small : (f l s x : ℕ) → 1000000 ≤ f → 1000000 ≤ l → f ≤ 60000000000 → l ≤ 60000000000 → x ≤ s
+    → ramp_time f l s x ≤ 60000 * x
+ramp_time_small f l s x low low' fast fast' inside =
+    omega (arith, ramp_time_is f l s x low low' inside, ramp_small f l s x fast fast' inside)

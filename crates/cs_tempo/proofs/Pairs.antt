@@ -2,7 +2,7 @@
 use Rattle.std.proofs.Common.{◌≡◌, ℕ, ◌+◌, ◌<◌, List, [], ◌∷◌, ◌++◌, take, map, length, get_or, ap, sym, ◌∙◌, append_assoc, append-nil}
 use Rattle.std.proofs.lemmas.List.{map_more}
 use Rattle.cs_score.specs.declared.statement.ScoreStmt.{ScoreStmt}
-use Rattle.cs_tempo.specs.Pairing.{own_stop, stops_of}
+use Rattle.cs_tempo.specs.inner.Counted.{own_stop, stops_of}
 
 pub stops_more : (n : ℕ) (xs : List ScoreStmt) (s : ScoreStmt) → stops_of n xs ++ own_stop n s.what ≡ stops_of n (xs ++ s ∷ [])
 unfolding stops_of

@@ -143,7 +143,7 @@ along_few set earlier (s ∷ ss) =
     ⊎_elim
     (λ e. rw e (omega (arith, more)))
     (λ e. rw e.1 (omega (arith, more)))
-    (one_act set (stop_of earlier ss s.what) s.what)
+    (one_act set (stop_of earlier ss s) s.what)
 
 put_longer : (s : ScoreStmt) (us : List ScoreStmt) → length (put s us) ≡ suc (length us)
 unfolding put
@@ -236,8 +236,8 @@ along_in_range set earlier [] r = tt
 along_in_range set earlier (s ∷ ss) r =
     ⊎_elim
     (λ e. rw e (along_in_range set (s ∷ earlier) ss r.1))
-    (λ e. rw e.1 (act_in_range set (stop_of earlier ss s.what) s.what e.0 r.0 e.1, along_in_range set (s ∷ earlier) ss r.1))
-    (one_act set (stop_of earlier ss s.what) s.what)
+    (λ e. rw e.1 (act_in_range set (stop_of earlier ss s) s.what e.0 r.0 e.1, along_in_range set (s ∷ earlier) ss r.1))
+    (one_act set (stop_of earlier ss s) s.what)
 
 put_each : (P : ScoreStmt → Type 0) (s : ScoreStmt) (us : List ScoreStmt) → P s → Each P us → Each P (put s us)
 unfolding put

@@ -4,7 +4,7 @@ use Rattle.std.proofs.Math.Nat.{mul-le-mul_left, mul-div-le, le_of_mul-le-mul_le
 use Rattle.std.proofs.lemmas.Nat.{le-div, mul-le, mod_below, div_below, div-add-mod'}
 use Rattle.std.proofs.lemmas.Bool.{cases_lt}
 use Rattle.std.proofs.lemmas.Bool.Decides.{nat_tests, leb_tells}
-use Rattle.cs_tempo.specs.Time.{ramp_time, rounded_up}
+use Rattle.cs_tempo.specs.inner.Ramps.{ramp_in_parts, rounded_up}
 
 -- a quotient grows with its number
 pub div_grows : (a b d : ℕ) → a ≤ b → a / d ≤ b / d
@@ -78,8 +78,8 @@ shorter_pays f l s x y low falls some order inside =
     (eq-or-lt_of_le order)
 
 -- time never falls along a ramp
-pub ramp_grows : (f l s x y : ℕ) → 1000000 ≤ l → x ≤ y → y ≤ s → ramp_time f l s x ≤ ramp_time f l s y
-unfolding ramp_time
+pub ramp_grows : (f l s x y : ℕ) → 1000000 ≤ l → x ≤ y → y ≤ s → ramp_in_parts f l s x ≤ ramp_in_parts f l s y
+unfolding ramp_in_parts
 ramp_grows f l s x y low order inside =
     ⊎_elim
     (λ t. rw t.0 (
@@ -97,11 +97,11 @@ ramp_grows f l s x y low order inside =
     (zero_or_more y)))
     (leb_tells f l)
 
-nothing_shared : (d : ℕ) → 0 / d ≡ 0
+pub nothing_shared : (d : ℕ) → 0 / d ≡ 0
 nothing_shared d = omega (arith, div-le_self 0 d)
 
-pub ramp_of_nothing : (f l s : ℕ) → ramp_time f l s 0 ≡ 0
-unfolding ramp_time
+pub ramp_of_nothing : (f l s : ℕ) → ramp_in_parts f l s 0 ≡ 0
+unfolding ramp_in_parts
 ramp_of_nothing f l s =
     let a : f * 0 / 1000000 ≡ 0 = ap (λ n. n / 1000000) (mul-zero f) in
     ⊎_elim
@@ -114,8 +114,8 @@ risen_small f w x a b fast p q =
     let m : (f + w) * x ≤ 60000000000 * x = mul-le (f + w) x 60000000000 x fast (omega arith) in omega (arith, m)
 
 -- a millionth of a beat takes at most 60,000 nanoseconds
-pub ramp_small : (f l s x : ℕ) → f ≤ 60000000000 → l ≤ 60000000000 → x ≤ s → ramp_time f l s x ≤ 60000 * x
-unfolding ramp_time
+pub ramp_small : (f l s x : ℕ) → f ≤ 60000000000 → l ≤ 60000000000 → x ≤ s → ramp_in_parts f l s x ≤ 60000 * x
+unfolding ramp_in_parts
 ramp_small f l s x fast fast' inside =
     let a = quotient_below (f * x) 1000000 in
     ⊎_elim
@@ -141,10 +141,10 @@ shorter_within f l s x low falls some inside =
     let z = up_of_nothing (f - l) (2 * s * 1000000) (omega arith) in
     let n : f * 0 / 1000000 ≡ 0 = ap (λ n. n / 1000000) (mul-zero f) in omega (arith, a, z, n)
 
-pub ramp_up : (f l s x : ℕ) → f ≤ l → f * x / 1000000 + (l - f) * (x * x) / (2 * s * 1000000) ≡ ramp_time f l s x
-unfolding ramp_time
+pub ramp_up : (f l s x : ℕ) → f ≤ l → f * x / 1000000 + (l - f) * (x * x) / (2 * s * 1000000) ≡ ramp_in_parts f l s x
+unfolding ramp_in_parts
 ramp_up f l s x h = grind (arith, nat_tests)
 
-pub ramp_down : (f l s x : ℕ) → l < f → f * x / 1000000 - rounded_up ((f - l) * (x * x)) (2 * s * 1000000) ≡ ramp_time f l s x
-unfolding ramp_time
+pub ramp_down : (f l s x : ℕ) → l < f → f * x / 1000000 - rounded_up ((f - l) * (x * x)) (2 * s * 1000000) ≡ ramp_in_parts f l s x
+unfolding ramp_in_parts
 ramp_down f l s x h = grind (arith, nat_tests)

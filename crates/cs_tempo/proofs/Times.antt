@@ -7,7 +7,8 @@ use Rattle.std.proofs.Math.Nat.{div-le_of_le-mul}
 use Rattle.cs_score.specs.Ranges.{IsTempoPoint, AreRising}
 use Rattle.cs_score.specs.declared.statement.TempoPoint.{TempoPoint}
 use Rattle.cs_tempo.specs.Time.{beat_length, ramp_time, part_of, time_along, time_of, IsTempo, Rises, cycle_of}
-use Rattle.cs_tempo.proofs.Ramps.{div_grows, ramp_grows, ramp_small, steady_small}
+use Rattle.cs_tempo.proofs.Floors.{ramp_time_grows, ramp_time_small}
+use Rattle.cs_tempo.proofs.Ramps.{div_grows, steady_small}
 
 pub beat_slow : (t : ℕ) → 1000000 ≤ t → t ≤ 60000000000 → 1000000 ≤ beat_length t
 unfolding beat_length
@@ -21,7 +22,8 @@ part_small : (p q : TempoPoint) (rest : List TempoPoint) (beat : ℕ) → IsTemp
     part_of p (q ∷ rest) beat ≤ 60000 * (min beat q.beat - p.beat)
 unfolding part_of
 part_small p q rest beat a b order =
-    ramp_small (beat_length p.tempo) (beat_length q.tempo) (q.beat - p.beat) (min beat q.beat - p.beat)
+    ramp_time_small (beat_length p.tempo) (beat_length q.tempo) (q.beat - p.beat) (min beat q.beat - p.beat)
+    (beat_slow p.tempo a.slow a.fast) (beat_slow q.tempo b.slow b.fast)
     (beat_fast p.tempo a.slow) (beat_fast q.tempo b.slow) (omega arith)
 
 last_small : (p : TempoPoint) (beat : ℕ) → IsTempoPoint p → part_of p [] beat ≤ 60000 * (beat - p.beat)
@@ -39,8 +41,8 @@ part_grows : (p q : TempoPoint) (rest : List TempoPoint) (x y : ℕ) → IsTempo
     part_of p (q ∷ rest) x ≤ part_of p (q ∷ rest) y
 unfolding part_of
 part_grows p q rest x y a b order up =
-    ramp_grows (beat_length p.tempo) (beat_length q.tempo) (q.beat - p.beat) (min x q.beat - p.beat) (min y q.beat - p.beat)
-    (beat_slow q.tempo b.slow b.fast) (omega arith) (omega arith)
+    ramp_time_grows (beat_length p.tempo) (beat_length q.tempo) (q.beat - p.beat) (min x q.beat - p.beat) (min y q.beat - p.beat)
+    (beat_slow p.tempo a.slow a.fast) (beat_slow q.tempo b.slow b.fast) (omega arith) (omega arith)
 
 last_grows : (p : TempoPoint) (x y : ℕ) → x ≤ y → part_of p [] x ≤ part_of p [] y
 unfolding part_of

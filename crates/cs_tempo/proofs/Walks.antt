@@ -15,11 +15,13 @@ use Rattle.cs_tempo.specs.declared.plot.Event.{Event}
 use Rattle.cs_tempo.specs.inner.Clock.{Pace}
 use Rattle.cs_tempo.specs.Sections.{cycle_at, end_of, reach_of}
 use Rattle.cs_tempo.specs.Order.{has_turn, beat_of, put, in_order, order_of}
-use Rattle.cs_tempo.specs.Pairing.{own_stop, sounding, sounding_after, stops_of, stop_of}
+use Rattle.cs_tempo.specs.Pairing.{ended_by, stop_of}
+use Rattle.cs_tempo.specs.inner.Counted.{own_stop, sounding, sounding_after, stops_of}
 use Rattle.cs_tempo.specs.inner.Stops.{Shows, Queues, AreQueues, ending}
 use Rattle.cs_tempo.specs.inner.Queue.{Queue}
 use Rattle.cs_tempo.specs.inner.Events.{HasEnd, IsTurnIn}
 use Rattle.cs_tempo.specs.Plot.{Setting, events_at, events_along}
+use Rattle.cs_tempo.proofs.Ended.{first_ended}
 use Rattle.cs_tempo.proofs.Sorting.{Each}
 
 note_within : (pace : Pace) (cycles at len : ℕ) → end_of pace.head pace.tempo at len ≤ cycles → cycle_at pace.head pace.tempo at ≤ cycles
@@ -67,7 +69,7 @@ behind ss k s some at =
     ap reverse (take_more ss k s some ∙ ap (λ x. take k ss ++ x ∷ []) (sym at)) ∙ reverse-append (take k ss) (s ∷ [])
 
 pub events_step : (set : Setting) (ss : List ScoreStmt) (k : ℕ) (s : ScoreStmt) (done : List Event) → k < length ss → s ≡ get_or ss k s →
-    (done ++ events_at set (stop_of (reverse (take k ss)) (drop (k + 1) ss) s.what) s) ++ events_along set (reverse (take (k + 1) ss)) (drop (k + 1) ss)
+    (done ++ events_at set (stop_of (reverse (take k ss)) (drop (k + 1) ss) s) s) ++ events_along set (reverse (take (k + 1) ss)) (drop (k + 1) ss)
     ≡ done ++ events_along set (reverse (take k ss)) (drop k ss)
 unfolding events_along
 events_step set ss k s done some at =
@@ -79,30 +81,39 @@ unfolding events_along
 events_none set ss k done all = rw (drop_all k ss all) (append-nil done)
 
 -- what the queues say of a turn
-ending_of : (w : ScoreWhat) (stops : ℕ → List ℕ) (earlier later : List ScoreStmt) → ((n : ℕ) → stops n ≡ own_stop n w ++ stops_of n later) →
-    ending w stops (λ n. sounding n earlier) ≡ stop_of earlier later w
-ending_of (Hold instr at given more) stops earlier later e = ap (λ xs. slice_get xs (sounding instr earlier)) (e instr)
-ending_of (Note instr at len more) stops earlier later e = refl
-ending_of (Stop instr at) stops earlier later e = refl
-ending_of (Table number at size gen args) stops earlier later e = refl
-ending_of (Extend at) stops earlier later e = refl
-ending_of (Tempo points) stops earlier later e = refl
-ending_of Section stops earlier later e = refl
+module _ (earlier later : List ScoreStmt) (s : ScoreStmt) where
+  ending_of : (w : ScoreWhat) (stops : ℕ → List ℕ) → s.what ≡ w → ((n : ℕ) → stops n ≡ own_stop n w ++ stops_of n later)
+      → ending w stops (λ n. sounding n earlier) ≡ ended_by w (length earlier) (s ∷ earlier) later
+  ending_of (Hold instr at given more) stops is e =
+      ap (λ xs. slice_get xs (sounding instr earlier)) (e instr) ∙ sym (first_ended s instr at given more earlier later is)
+  ending_of (Note instr at len more) stops is e = refl
+  ending_of (Stop instr at) stops is e = refl
+  ending_of (Table number at size gen args) stops is e = refl
+  ending_of (Extend at) stops is e = refl
+  ending_of (Tempo points) stops is e = refl
+  ending_of Section stops is e = refl
 
-pub ending_is : (earlier later : List ScoreStmt) (s : ScoreStmt)
-    → ending s.what (λ n. stops_of n (s ∷ later)) (λ n. sounding n earlier) ≡ stop_of earlier later s.what
-unfolding stops_of
-ending_is earlier later s = ending_of s.what (λ n. stops_of n (s ∷ later)) earlier later (λ n. refl)
+  pub ending_is : ending s.what (λ n. stops_of n (s ∷ later)) (λ n. sounding n earlier) ≡ stop_of earlier later s
+  unfolding stops_of
+  ending_is = ending_of s.what (λ n. stops_of n (s ∷ later)) refl (λ n. refl)
 
-pub stop_within : (pace : Pace) (cycles : ℕ) (earlier later : List ScoreStmt) (w : ScoreWhat) → Each (IsTurnIn pace cycles) later →
-    IfSome (stop_of earlier later w) (HasEnd pace cycles)
-stop_within pace cycles earlier later (Hold instr at given more) e = found_within _ (stops_of instr later) (sounding instr earlier) (stops_within pace cycles instr later e)
-stop_within pace cycles earlier later (Note instr at len more) e = tt
-stop_within pace cycles earlier later (Stop instr at) e = tt
-stop_within pace cycles earlier later (Table number at size gen args) e = tt
-stop_within pace cycles earlier later (Extend at) e = tt
-stop_within pace cycles earlier later (Tempo points) e = tt
-stop_within pace cycles earlier later Section e = tt
+  -- the stop that ends it lies in the section
+  ended_within : (pace : Pace) (cycles : ℕ) (w : ScoreWhat) → s.what ≡ w → Each (IsTurnIn pace cycles) later
+      → IfSome (ended_by w (length earlier) (s ∷ earlier) later) (HasEnd pace cycles)
+  ended_within pace cycles (Hold instr at given more) is e =
+      subst (λ (o : Option ℕ). IfSome o (HasEnd pace cycles)) (sym (first_ended s instr at given more earlier later is))
+      (found_within (HasEnd pace cycles) (stops_of instr later) (sounding instr earlier) (stops_within pace cycles instr later e))
+  ended_within pace cycles (Note instr at len more) is e = tt
+  ended_within pace cycles (Stop instr at) is e = tt
+  ended_within pace cycles (Table number at size gen args) is e = tt
+  ended_within pace cycles (Extend at) is e = tt
+  ended_within pace cycles (Tempo points) is e = tt
+  ended_within pace cycles Section is e = tt
+
+pub stop_within : (pace : Pace) (cycles : ℕ) (earlier later : List ScoreStmt) (s : ScoreStmt)
+    → Each (IsTurnIn pace cycles) later
+    → IfSome (stop_of earlier later s) (HasEnd pace cycles)
+stop_within pace cycles earlier later s e = ended_within earlier later s pace cycles s.what refl e
 
 few_more : (n : ℕ) (w : ScoreWhat) (m k : ℕ) → m ≤ k → sounding_after n w m ≤ suc k
 few_more n (Hold instr at given more) m k h = ⊎_elim (λ t. rw t (omega arith)) (λ f. rw f (omega arith)) (cases_Bool (nat_eq n instr))
@@ -188,7 +199,7 @@ module _ (ss : List ScoreStmt) (k : ℕ) (s : ScoreStmt) (some : k < length ss) 
 
   pub stop_is : (r : Option ℕ) (queues : Queues) → AreQueues queues (reverse (take k ss)) (drop k ss) →
       ((stops : ℕ → List ℕ) (sounds : ℕ → ℕ) → ((n : ℕ) → Shows (get nat_eq queues n) (stops n) (sounds n)) → r ≡ ending s.what stops sounds) →
-      r ≡ stop_of (reverse (take k ss)) (drop (k + 1) ss) s.what
+      r ≡ stop_of (reverse (take k ss)) (drop (k + 1) ss) s
   stop_is r queues a h =
       h (λ n. stops_of n (s ∷ drop (k + 1) ss)) (λ n. sounding n (reverse (take k ss))) (lines_here queues a)
       ∙ ending_is (reverse (take k ss)) (drop (k + 1) ss) s

@@ -1,4 +1,3 @@
-pub mod Held
 pub mod Limits
 pub mod Order
 pub mod Pairing

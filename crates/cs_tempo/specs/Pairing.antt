@@ -1,36 +1,44 @@
--- Which stop ends which held note. Stops and held notes of one instrument are paired in their order.
-use Rattle.std.specs.Prelude.{ℕ, ◌+◌, ◌-◌, ◌==◌, List, [], ◌∷◌, ◌++◌, Option, None, slice_get, if◌then◌else◌}
+-- Which stop ends which held note: a stop ends the first held note of its instrument that sounds.
+use Rattle.std.specs.Prelude.{ℕ, ◌==◌, ◌&&◌, Bool, false, List, [], ◌∷◌, ◌++◌, length, drop, Option, Some, None, if◌then◌else◌}
 use Rattle.cs_score.specs.declared.statement.ScoreWhat.{ScoreWhat}
 use Rattle.cs_score.specs.declared.statement.ScoreWhat.TheVariants.{Hold, Stop}
 use Rattle.cs_score.specs.declared.statement.ScoreStmt.{ScoreStmt}
 
--- how many held notes of an instrument sound after one more turn: a held note sounds, and a stop ends
--- one if any sounds
-abbrev pub sounding_after : ℕ → ScoreWhat → ℕ → ℕ
-sounding_after n (Hold instr at given more) sounding = if n == instr then sounding + 1 else sounding
-sounding_after n (Stop instr at) sounding = if n == instr then sounding - 1 else sounding
-sounding_after n _ sounding = sounding
+-- the held notes of an instrument that sound after one more turn, by their places in the order
+abbrev pub held_after : ℕ → ℕ → ScoreWhat → List ℕ → List ℕ
+held_after n index (Hold instr at given more) held = if n == instr then held ++ index ∷ [] else held
+held_after n index (Stop instr at) held = if n == instr then drop 1 held else held
+held_after n index _ held = held
 
--- how many held notes of an instrument sound after some turns, which stand latest first
-unfoldable pub sounding : ℕ → List ScoreStmt → ℕ
-sounding n [] = 0
-sounding n (s ∷ earlier) = sounding_after n s.what (sounding n earlier)
+-- those that sound after some turns, which stand latest first: a stop has ended the first that sounded
+unfoldable pub held : ℕ → List ScoreStmt → List ℕ
+held n [] = []
+held n (s ∷ earlier) = held_after n (length earlier) s.what (held n earlier)
 
-abbrev pub own_stop : ℕ → ScoreWhat → List ℕ
-own_stop n (Stop instr at) = if n == instr then at ∷ [] else []
-own_stop n _ = []
+abbrev pub is_first : ℕ → List ℕ → Bool
+is_first index [] = false
+is_first index (p ∷ later) = index == p
 
--- the beats of an instrument's stops among some turns
-unfoldable pub stops_of : ℕ → List ScoreStmt → List ℕ
-stops_of n [] = []
-stops_of n (s ∷ later) = own_stop n s.what ++ stops_of n later
+-- the beat of a stop that ends the held note at an index, where that is the first that sounds
+abbrev pub ends_here : ℕ → ℕ → List ℕ → ScoreWhat → Option ℕ
+ends_here n index sounds (Stop instr at) = if n == instr && is_first index sounds then Some at else None
+ends_here n index sounds _ = None
 
--- The beat of the stop that ends a held note: a stop ends the first one that sounds, so where k others
--- of the instrument sound already, the k stops after it end those, and the next one ends it.
-abbrev pub stop_after : ℕ → List ScoreStmt → List ScoreStmt → Option ℕ
-stop_after n earlier later = slice_get (stops_of n later) (sounding n earlier)
+abbrev pub or_later : Option ℕ → Option ℕ → Option ℕ
+or_later None other = other
+or_later (Some beat) other = Some beat
 
--- the same of any turn: only a held note is ended by a stop
-abbrev pub stop_of : List ScoreStmt → List ScoreStmt → ScoreWhat → Option ℕ
-stop_of earlier later (Hold instr at given more) = stop_after instr earlier later
-stop_of earlier later _ = None
+-- the beat of the stop, among some turns behind others, that ends the held note at an index
+unfoldable pub ending_stop : ℕ → ℕ → List ScoreStmt → List ScoreStmt → Option ℕ
+ending_stop n index earlier [] = None
+ending_stop n index earlier (s ∷ later) =
+    or_later (ends_here n index (held n earlier) s.what) (ending_stop n index (s ∷ earlier) later)
+
+-- the beat of the stop that ends a turn with this index: only a held note is ended by a stop
+abbrev pub ended_by : ScoreWhat → ℕ → List ScoreStmt → List ScoreStmt → Option ℕ
+ended_by (Hold instr at given more) index so_far later = ending_stop instr index so_far later
+ended_by _ index so_far later = None
+
+-- the same of a turn behind some, which stand latest first, and before others
+abbrev pub stop_of : List ScoreStmt → List ScoreStmt → ScoreStmt → Option ℕ
+stop_of earlier later s = ended_by s.what (length earlier) (s ∷ earlier) later

@@ -59,7 +59,7 @@ events_at set stop s =
 unfoldable pub events_along : Setting → List ScoreStmt → List ScoreStmt → List Event
 events_along set earlier [] = []
 events_along set earlier (s ∷ later) =
-    events_at set (stop_of earlier later s.what) s ++ events_along set (s ∷ earlier) later
+    events_at set (stop_of earlier later s) s ++ events_along set (s ∷ earlier) later
 
 -- a section that begins at some cycle
 abbrev pub setting_of : Head → ℕ → List ScoreStmt → Setting

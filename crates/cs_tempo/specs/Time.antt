@@ -1,5 +1,6 @@
 -- The time of a beat, in nanoseconds from the start of its section, and the cycle of a time.
-use Rattle.std.specs.Prelude.{ℕ, ◌+◌, ◌-◌, ◌*◌, ◌/◌, ◌^◌, min, nat_le, List, [], ◌∷◌, if◌then◌else◌}
+use Rattle.std.specs.Prelude.{ℕ, pos, ◌-◌, ◌+◌, ◌*◌, ◌/◌, ◌^◌, ◌+ℤ◌, ◌-ℤ◌, ◌*ℤ◌, min, unsigned_abs, List, [], ◌∷◌}
+use Rattle.cs_base.specs.Numbers.{floor_div}
 use Rattle.cs_score.specs.Ranges.{AreTempoPoints, AreRising, IsTempoPoint}
 use Rattle.cs_score.specs.declared.statement.TempoPoint.{TempoPoint}
 
@@ -7,18 +8,13 @@ use Rattle.cs_score.specs.declared.statement.TempoPoint.{TempoPoint}
 unfoldable pub beat_length : ℕ → ℕ
 beat_length tempo = 60 * 10 ^ 15 / tempo
 
--- a quotient rounded up
-abbrev pub rounded_up : ℕ → ℕ → ℕ
-rounded_up n d = (n + (d - 1)) / d
-
 -- The time at x millionths into a ramp that is `span` millionths long, where a beat's duration goes
 -- evenly from `first` to `last`: first * x / 10^6 and (last - first) * x^2 / (2 * span * 10^6), each
--- rounded down. Where beats grow shorter, what is taken away is rounded up.
+-- rounded down. Their sum is never below 0.
 unfoldable pub ramp_time : ℕ → ℕ → ℕ → ℕ → ℕ
 ramp_time first last span x =
-    if nat_le first last
-    then first * x / 1000000 + (last - first) * (x * x) / (2 * span * 1000000)
-    else first * x / 1000000 - rounded_up ((first - last) * (x * x)) (2 * span * 1000000)
+    unsigned_abs (pos (first * x / 1000000)
+    +ℤ floor_div ((pos last -ℤ pos first) *ℤ pos (x * x)) (pos (2 * span * 1000000)))
 
 -- what of the time before a beat lies between a point of the tempo and the next, or after the last
 unfoldable pub part_of : TempoPoint → List TempoPoint → ℕ → ℕ

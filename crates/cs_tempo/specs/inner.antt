@@ -1,7 +1,9 @@
 -- What private clauses alone cite.
 pub mod Clock
+pub mod Counted
 pub mod Events
 pub mod Queue
+pub mod Ramps
 pub mod Stops
 pub mod Sweep
 pub mod Turns

@@ -1,5 +1,5 @@
 // What holds of the definitions for every score: calls that do nothing, whose contracts are the laws.
-ghost use Rattle.std.specs.Prelude.{false, ◌≡◌, ◌≤◌, ◌+◌, ◌*◌, ◌/◌, ◌^◌, ℕ, List, [], ◌∷◌, length, Some, None, ℤ, pos, negsuc, ◌+ℤ◌, ◌-ℤ◌, ◌*ℤ◌};
+ghost use Rattle.std.specs.Prelude.{false, ◌≡◌, ◌≤◌, ◌+◌, ◌*◌, ◌/◌, ◌^◌, ℕ, List, [], ◌∷◌, Some, None, ℤ, pos, negsuc, ◌+ℤ◌, ◌-ℤ◌, ◌*ℤ◌};
 ghost use Rattle.std.specs.List.{All, AllPairs, filter};
 ghost use Rattle.std.specs.Ordering.{is_eq, is_lt};
 ghost use Rattle.std.specs.List.Sorted.{IsNonDecreasingBy};
@@ -10,8 +10,7 @@ ghost use Rattle.cs_score.specs.declared.statement.TempoPoint.{TempoPoint};
 ghost use Rattle.cs_score.specs.declared.statement.ScoreStmt.{ScoreStmt};
 ghost use Rattle.cs_tempo.specs.Time.{IsTempo, ramp_time, time_of, cycle_of, seconds_of};
 ghost use Rattle.cs_score.specs.declared.statement.ScoreWhat.TheVariants as ScoreWhat;
-ghost use Rattle.cs_tempo.specs.Pairing.{stop_after};
-ghost use Rattle.cs_tempo.specs.Held.{ending_stop};
+ghost use Rattle.cs_tempo.specs.Pairing.{ending_stop};
 ghost use Rattle.cs_score.specs.Worked.{at_line, held_note, note, stop, table, whole};
 ghost use Rattle.cs_tempo.specs.Order.{has_turn, in_order, order_of};
 ghost use Rattle.cs_tempo.specs.Plot.{plot_of};
@@ -30,19 +29,11 @@ pub fn time_never_falls()
         → time_of tempo beat ≤ 60000 * beat }
 {}
 
-/// The time along a ramp is its formula over whole numbers with a sign, each part rounded down.
+/// The time along a ramp is its formula over whole numbers with a sign, each part rounded down: that is never below 0.
 pub fn ramps_are_rounded_down()
-    ensures { (first last span x : ℕ) → 1000000 ≤ first → 1000000 ≤ last → 1 ≤ span → x ≤ span
+    ensures { (first last span x : ℕ) → 1000000 ≤ first → 1000000 ≤ last → x ≤ span
         → pos (ramp_time first last span x) ≡ pos (first * x / 1000000)
         +ℤ floor_div ((pos last -ℤ pos first) *ℤ pos (x * x)) (pos (2 * span * 1000000)) }
-{}
-
-/// A stop ends the first held note of its instrument that sounds: a held note's stop is the first one before
-/// which it is the first that sounds.
-pub fn stops_end_the_first()
-    ensures { (h : ScoreStmt) (n at : ℕ) (given : ℤ) (more : List ℤ) (earlier later : List ScoreStmt)
-        → h.what ≡ ScoreWhat.Hold n at given more
-        → ending_stop n (length earlier) (h ∷ earlier) later ≡ stop_after n earlier later }
 {}
 
 /// The order of a section by its own rule: no statement stands before one that comes before it by beat, p1 and p3, and

@@ -23,8 +23,8 @@ mod time;
 
 pub use laws::{
     orders_worked_by_hand, pairings_worked_by_hand, plot_worked_by_hand, plots_are_in_order,
-    ramps_are_rounded_down, scores_within_limits_are_performable, stops_end_the_first,
-    time_never_falls, times_worked_by_hand, turns_are_in_order,
+    ramps_are_rounded_down, scores_within_limits_are_performable, time_never_falls,
+    times_worked_by_hand, turns_are_in_order,
 };
 pub use plot::{Event, EventAct, Events, Plot};
 pub use scheduling::schedule;

@@ -1,7 +1,7 @@
 // Pairs the stops of a section with its held notes, by instrument.
 ghost use Rattle.std.specs.Prelude.{◌≡◌, ◌≢◌, ◌==◌, ℕ, List, ◌+◌, ◌-◌, ◌<◌, ◌^◌, ◌++◌, ◌∷◌, [], map, drop, length, slice_get, nat_eq, IfOk, OnOk, Option, Some, None, if◌then◌else◌};
 ghost use Rattle.std.specs.HashMap.{get};
-ghost use Rattle.cs_tempo.specs.Pairing.{own_stop, sounding, sounding_after, stops_of};
+ghost use Rattle.cs_tempo.specs.inner.Counted.{own_stop, sounding, sounding_after, stops_of};
 ghost use Rattle.cs_tempo.specs.inner.Stops.{Shows, AreQueues, ending};
 ghost use Rattle.cs_tempo.specs.inner.Queue.{Queue};
 

@@ -6,8 +6,8 @@ use Rattle.std.specs.HashMap.{get, HashMap}
 use Rattle.cs_score.specs.declared.statement.ScoreWhat.{ScoreWhat}
 use Rattle.cs_score.specs.declared.statement.ScoreWhat.TheVariants.{Hold}
 use Rattle.cs_score.specs.declared.statement.ScoreStmt.{ScoreStmt}
+use Rattle.cs_tempo.specs.inner.Counted.{sounding, stops_of}
 use Rattle.cs_tempo.specs.inner.Queue.{Queue}
-use Rattle.cs_tempo.specs.Pairing.{sounding, stops_of}
 
 abbrev pub Queues : Type 0
 Queues = HashMap ℕ Queue (BuildHasherDefault FoldHasher)

@@ -18,7 +18,7 @@ take_turn-stop-requires c = λ n queue e.
 
 stop_here : (c : goal.After-take_turn-stop)
     → c.take_turn-stop.result ≡ stop_of (reverse (take c.loop-statement.statement-index (map (λ s. s.now) c.args.order.now)))
-    (drop (c.loop-statement.statement-index + 1) (map (λ s. s.now) c.args.order.now)) c.statement-item.result.now.what
+    (drop (c.loop-statement.statement-index + 1) (map (λ s. s.now) c.args.order.now)) c.statement-item.result.now
 stop_here c =
     let ss : List ScoreStmt = map (λ s. s.now) c.args.order.now in
     let k : ℕ = c.loop-statement.statement-index in
@@ -31,7 +31,7 @@ act_of-requires-clause-stop c =
     let ss : List ScoreStmt = map (λ s. s.now) c.args.order.now in
     let k : ℕ = c.loop-statement.statement-index in
     subst (λ o. IfSome o (HasEnd c.args.clock.now c.args.cycles)) (sym (stop_here c))
-    (stop_within c.args.clock.now c.args.cycles (reverse (take k ss)) (drop (k + 1) ss) c.statement-item.result.now.what
+    (stop_within c.args.clock.now c.args.cycles (reverse (take k ss)) (drop (k + 1) ss) c.statement-item.result.now
     (each_drop (IsTurnIn c.args.clock.now c.args.cycles) ss (k + 1) (each_map (IsTurnIn c.args.clock.now c.args.cycles) (λ s. s.now) c.args.order.now c.requires.turns)))
 
 pub loop-statement-preserved : goal.loop-statement-preserved

@@ -1,5 +1,5 @@
 use Rattle.std.proofs.Common.{refl}
-use Rattle.cs_tempo.specs.Held.{ending_stop, held}
+use Rattle.cs_tempo.specs.Pairing.{ending_stop, held}
 use Rattle.cs_tempo.proofs.laws.pairings_worked_by_hand.Goals as goal
 
 pub returns-clause-first : goal.returns-clause-first

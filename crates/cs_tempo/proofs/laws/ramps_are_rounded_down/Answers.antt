@@ -1,5 +1,5 @@
-use Rattle.cs_tempo.proofs.Floors.{ramp_is}
+use Rattle.cs_tempo.proofs.Floors.{no_less_than_nothing}
 use Rattle.cs_tempo.proofs.laws.ramps_are_rounded_down.Goals as goal
 
 pub returns : goal.returns
-returns c = ramp_is
+returns c = no_less_than_nothing

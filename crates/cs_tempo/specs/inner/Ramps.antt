@@ -1,0 +1,13 @@
+-- The time along a ramp by numbers without a sign.
+use Rattle.std.specs.Prelude.{ℕ, ◌+◌, ◌-◌, ◌*◌, ◌/◌, nat_le, if◌then◌else◌}
+
+-- a quotient rounded up
+abbrev pub rounded_up : ℕ → ℕ → ℕ
+rounded_up n d = (n + (d - 1)) / d
+
+-- where beats grow shorter, what is taken away is rounded up
+unfoldable pub ramp_in_parts : ℕ → ℕ → ℕ → ℕ → ℕ
+ramp_in_parts first last span x =
+    if nat_le first last
+    then first * x / 1000000 + (last - first) * (x * x) / (2 * span * 1000000)
+    else first * x / 1000000 - rounded_up ((first - last) * (x * x)) (2 * span * 1000000)
