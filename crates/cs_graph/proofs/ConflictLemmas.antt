@@ -1,5 +1,6 @@
 -- Chains of conflicts, and what the sets at a note say of them.
-use Rattle.std.proofs.Common.{◌≡◌, ◌⊎◌, ◌↔◌, ℕ, zero, suc, ◌+◌, ◌<◌, ◌≤◌, true, List, [], ◌∷◌, ◌++◌, length, get_or, refl, sym, ◌∙◌, subst, inl, inr, ⊎_elim, arith, length-append}
+use Rattle.std.proofs.Common.{◌≡◌, ◌⊎◌, ◌↔◌, ℕ, zero, suc, ◌+◌, ◌<◌, ◌≤◌, true, List, [], ◌∷◌, ◌++◌, length, get_or}
+use Rattle.std.proofs.Common.{refl, sym, ◌∙◌, subst, inl, inr, ⊎_elim, arith, length-append}
 use Rattle.std.proofs.lemmas.Bool.{cases_eq, cases_lt}
 use Rattle.std.proofs.lemmas.List.{get_or_push, get_or_append_left}
 use Rattle.cs_cells.specs.declared.footprint.Footprint.{Footprint}
@@ -48,7 +49,8 @@ module _ (feet : List Footprint) where
     }
 
     pub found-rest : (p : ℕ) → Conflict feet p t → Has found.near p ⊎ ((q : ℕ) × Leads feet p q × Conflict feet q t)
-    found-rest p c = ⊎_elim (λ h. inl h) (λ w. inr (w.0, (k.leads p w.0 w.1).0 w.3, conflict-met w.0 w.1 w.2)) (f.rest p (omega arith) c.earlier (met-conflict p c))
+    found-rest p c = ⊎_elim (λ h. inl h) (λ w. inr (w.0, (k.leads p w.0 w.1).0 w.3, conflict-met w.0 w.1 w.2))
+        (f.rest p (omega arith) c.earlier (met-conflict p c))
 
     pub near-found : (p : ℕ) → Near feet p t → Has found.near p
     near-found p n = ⊎_elim (λ h. h) (λ w. absurd (n.no_longer_way w.0 w.1 w.2)) (found-rest p n.conflict)
@@ -56,13 +58,15 @@ module _ (feet : List Footprint) where
     pub found-leads : (p : ℕ) → Has found.known.reach p ↔ Leads feet p t
     found-leads p = (
       λ h. let w = f.reach p h in let c = conflict-met w.0 w.2 w.3 in
-          ⊎_elim (λ (same : p ≡ w.0). direct p t (subst (λ x. Conflict feet x t) (sym same) c)) (λ l. beyond p w.0 t ((k.leads p w.0 w.2).0 l) c) w.4,
+          ⊎_elim (λ (same : p ≡ w.0). direct p t (subst (λ x. Conflict feet x t) (sym same) c))
+          (λ l. beyond p w.0 t ((k.leads p w.0 w.2).0 l) c) w.4,
       λ l. leads-found p l,
     )
       where
         leads-found : (p : ℕ) → Leads feet p t → Has found.known.reach p
         leads-found p (direct _ _ c) = f.all p p (omega arith) c.earlier (met-conflict p c) (inl refl)
-        leads-found p (beyond _ q _ l c) = f.all p q (omega arith) c.earlier (met-conflict q c) (inr ((k.leads p q c.earlier).1 l))
+        leads-found p (beyond _ q _ l c) =
+            f.all p q (omega arith) c.earlier (met-conflict q c) (inr ((k.leads p q c.earlier).1 l))
 
     abbrev more : List Known
     more = known ++ found.known ∷ []
@@ -90,12 +94,15 @@ module _ (feet : List Footprint) where
           (λ apart. rw (old_past q (omega arith), old_past p (omega (arith, c.earlier))) (k.above p q (omega arith) c))
           (cases_eq q t);
       greatest = λ q low. ⊎_elim
-          (λ (here : q ≡ t). rw (here, new_past) (λ h. let w = f.greatest h in (w.0, conflict-met w.0 w.2 w.3, rw (old_past w.0 w.2) w.4)))
-          (λ apart. rw (old_past q (omega arith)) (λ h. let w = k.greatest q (omega arith) h in (w.0, w.1, rw (old_past w.0 (omega (arith, w.1.earlier))) w.2)))
+          (λ (here : q ≡ t). rw (here, new_past)
+          (λ h. let w = f.greatest h in (w.0, conflict-met w.0 w.2 w.3, rw (old_past w.0 w.2) w.4)))
+          (λ apart. rw (old_past q (omega arith))
+          (λ h. let w = k.greatest q (omega arith) h in (w.0, w.1, rw (old_past w.0 (omega (arith, w.1.earlier))) w.2)))
           (cases_eq q t);
     }
 
-    pub level_push : (levels : List ℕ) → length levels ≡ t → ((q : ℕ) → q < t → get_or levels q 0 ≡ (known_at known q).level)
+    pub level_push : (levels : List ℕ) → length levels ≡ t
+        → ((q : ℕ) → q < t → get_or levels q 0 ≡ (known_at known q).level)
         → (q : ℕ) → q < t + 1 → get_or (levels ++ found.known.level ∷ []) q 0 ≡ (known_at more q).level
     level_push levels long same q low = ⊎_elim
         (λ (here : q ≡ t). rw (here, new_past) (get_or_push levels found.known.level 0 t long))
@@ -104,14 +111,16 @@ module _ (feet : List Footprint) where
         (cases_eq q t)
 
     pub drawn_more : (old edges : List (ℕ × ℕ)) → IsDrawn feet t old
-        → ((a b : ℕ) → HasEdge edges a b ↔ (HasEdge old a b ⊎ ((b ≡ t) × (a < t) × Has found.near a))) → IsDrawn feet (t + 1) edges
+        → ((a b : ℕ) → HasEdge edges a b ↔ (HasEdge old a b ⊎ ((b ≡ t) × (a < t) × Has found.near a)))
+        → IsDrawn feet (t + 1) edges
     drawn_more old edges d grown = record {
       each = λ p b h. ⊎_elim
           (λ g. let w = d.each p b g in (omega (arith, w.0), w.1))
           (λ g. (omega (arith, g.0), subst (Near feet p) (sym g.0) (found-near p g.2)))
           ((grown p b).0 h);
       near = λ p b low n. ⊎_elim
-          (λ (here : b ≡ t). let n' : Near feet p t = subst (Near feet p) here n in (grown p b).1 (inr (here, n'.conflict.earlier, near-found p n')))
+          (λ (here : b ≡ t). let n' : Near feet p t =
+          subst (Near feet p) here n in (grown p b).1 (inr (here, n'.conflict.earlier, near-found p n')))
           (λ apart. (grown p b).1 (inl (d.near p b (omega arith) n)))
           (cases_eq b t);
       rest = λ p b low c. ⊎_elim
@@ -129,7 +138,8 @@ module _ (feet : List Footprint) where
     Reaches-join p q t a (step e _ _ h) = onward e p q t a h
     Reaches-join p q t a (onward e _ r _ b h) = onward e p r t (Reaches-join p q r a b) h
 
-    Reaches-leads : (m : ℕ) → ((a b : ℕ) → b ≤ a + m → Conflict feet a b → Reaches edges a b) → (p q : ℕ) → q ≤ p + m → Leads feet p q → Reaches edges p q
+    Reaches-leads : (m : ℕ) → ((a b : ℕ) → b ≤ a + m → Conflict feet a b → Reaches edges a b) → (p q : ℕ) → q ≤ p + m
+        → Leads feet p q → Reaches edges p q
     Reaches-leads m ways p q near (direct _ _ c) = ways p q near c
     Reaches-leads m ways p q near (beyond _ r _ l c) = let low : p < r = Leads-earlier p r l in
         Reaches-join p r q (Reaches-leads m ways p r (omega (arith, c.earlier)) l) (ways r q (omega arith) c)
@@ -139,7 +149,8 @@ module _ (feet : List Footprint) where
     Reaches-conflict (suc m) p t near c = ⊎_elim
         (λ h. step h.0 p t h.1)
         (λ w. let low : p < w.0 = Leads-earlier p w.0 w.1 in
-        Reaches-join p w.0 t (Reaches-leads m (Reaches-conflict m) p w.0 (omega (arith, w.2.earlier)) w.1) (Reaches-conflict m w.0 t (omega arith) w.2))
+        Reaches-join p w.0 t (Reaches-leads m (Reaches-conflict m) p w.0 (omega (arith, w.2.earlier)) w.1)
+        (Reaches-conflict m w.0 t (omega arith) w.2))
         (d.rest p t (omega (arith, c.within)) c)
 
     pub IsFit-drawn : IsFit feet edges
@@ -157,7 +168,8 @@ module _ (feet : List Footprint) where
 
     chain_low : (m t : ℕ) → Chain feet m t → m ≤ get_or levels t 0
     chain_low m t (alone _) = omega arith
-    chain_low m t (further n p _ ch c) = let low : n ≤ get_or levels p 0 = chain_low n p ch in omega (arith, r.above p t c)
+    chain_low m t (further n p _ ch c) = let low : n ≤ get_or levels p 0 =
+        chain_low n p ch in omega (arith, r.above p t c)
 
     pub IsLevel-levelled : (t : ℕ) → t < length feet → IsLevel feet t (get_or levels t 0)
     IsLevel-levelled t within = record { chain = chain_to _ t within refl; longest = λ m ch. chain_low m t ch }
@@ -166,7 +178,8 @@ module _ (feet : List Footprint) where
       → ((q : ℕ) → q < length feet → get_or levels q 0 ≡ (known_at known q).level) → IsLevelled feet levels
   levelled_known known levels k same = record {
     none = λ t within no_. ⊎_elim
-        (λ high. absurd (no_ (k.greatest t within (rw (← same t within) high)).0 (k.greatest t within (rw (← same t within) high)).1))
+        (λ high. absurd (no_ (k.greatest t within (rw (← same t within) high)).0
+        (k.greatest t within (rw (← same t within) high)).1))
         (λ low. omega arith)
         (cases_lt 0 (get_or levels t 0));
     above = λ p t c. rw (same p (omega (arith, c.earlier, c.within)), same t c.within) (k.above p t c.within c);

@@ -1,5 +1,7 @@
 -- The notes parted into chains, one by one, and how many may run at once.
-use Rattle.std.proofs.Common.{◌≡◌, ◌≢◌, ◌⊎◌, ℕ, suc, ◌+◌, ◌<◌, ◌≤◌, Bool, true, false, List, length, get_or, set, replicate, cond, eqb, refl, sym, ap, ◌∙◌, subst, inl, inr, ⊎_elim, arith, get_or-set_same, get_or-set_other}
+use Rattle.std.proofs.Common.{◌≡◌, ◌≢◌, ◌⊎◌, ℕ, suc, ◌+◌, ◌<◌, ◌≤◌, Bool, true, false, List, length, get_or, set}
+use Rattle.std.proofs.Common.{replicate, cond, eqb, refl, sym, ap, ◌∙◌, subst, inl, inr, ⊎_elim, arith, get_or-set_same}
+use Rattle.std.proofs.Common.{get_or-set_other}
 use Rattle.std.proofs.lemmas.Bool.{both_ways, cases_eq, cases_lt, eq-eqb, ne_eqb}
 use Rattle.std.proofs.lemmas.List.{get_or-replicate, get_or_past, length-replicate}
 use Rattle.std.proofs.lemmas.Option.{same_Some}
@@ -37,13 +39,15 @@ covered_none edges n = record {
   joined = λ e p t l at_. absurd (omega (arith, l));
 }
 
-module _ (edges : List (ℕ × ℕ)) (m count : ℕ) (continued : List Bool) (chain : ℕ → ℕ) (c : IsCoveredTo edges m continued count chain) where
+module _ (edges : List (ℕ × ℕ)) (m count : ℕ) (continued : List Bool) (chain : ℕ → ℕ)
+    (c : IsCoveredTo edges m continued count chain) where
   -- an earlier note keeps its chain
   stays : (x t : ℕ) → t < m → put chain m x t ≡ chain t
   stays x t l = put_else chain m x t (λ e. omega (arith, l, e))
 
   -- note m begins a chain: those of the notes before it have later ones
-  pub covered_begin : ((e p : ℕ) → Edge edges e p m → goes_on continued p ≡ true) → IsCoveredTo edges (m + 1) continued (count + 1) (put chain m count)
+  pub covered_begin : ((e p : ℕ) → Edge edges e p m → goes_on continued p ≡ true)
+      → IsCoveredTo edges (m + 1) continued (count + 1) (put chain m count)
   covered_begin taken = record {
     within = λ t l. ⊎_elim
         (λ (e : t ≡ m). omega (arith, put_here chain m count t e))
@@ -54,17 +58,28 @@ module _ (edges : List (ℕ × ℕ)) (m count : ℕ) (continued : List Bool) (ch
         (λ n. let w = c.filled k (omega (arith, l, n)) in (w.0, omega (arith, w.1), stays count w.0 w.1 ∙ w.2))
         (cases_eq k count);
     linked = λ p t l h same. ⊎_elim
-        (λ (e : t ≡ m). let low : p < m = omega (arith, l, e) in absurd (omega (arith, stays count p low, put_here chain m count t e, same, c.within p low)))
-        (λ n. let low : t < m = omega (arith, h, n) in let far : p < m = omega (arith, low, l) in c.linked p t l low (sym (stays count p far) ∙ same ∙ stays count t low))
+        (λ (e : t ≡ m). let low : p < m =
+        omega (arith, l, e) in absurd
+        (omega (arith, stays count p low, put_here chain m count t e, same, c.within p low)))
+        (λ n. let low : t < m = omega (arith, h, n) in let far : p < m =
+        omega (arith, low, l) in c.linked p t l low (sym (stays count p far) ∙ same ∙ stays count t low))
         (cases_eq t m);
     last = λ p q l h free same. ⊎_elim
         (λ (e : p ≡ m). omega (arith, e, h))
         (λ n. let low : p < m = omega (arith, l, n) in ⊎_elim
         (λ (f : q ≡ m). absurd (omega (arith, stays count p low, put_here chain m count q f, same, c.within p low)))
-        (λ o. let far : q < m = omega (arith, h, o) in c.last p q low far free (sym (stays count q far) ∙ same ∙ stays count p low))
+        (λ o. let far : q < m = omega (arith, h, o) in c.last p q low far free
+        (sym (stays count q far) ∙ same ∙ stays count p low))
         (cases_eq q m))
         (cases_eq p m);
-    later = λ p goes. let w = c.later p goes in (w.0, w.1, omega (arith, w.2), stays count w.0 w.2 ∙ w.3 ∙ sym (stays count p (omega (arith, w.1, w.2))));
+    later = λ p goes. let w =
+        c.later p goes in (
+          w.0,
+          w.1,
+          omega (arith, w.2),
+          stays count w.0 w.2 ∙ w.3
+              ∙ sym (stays count p (omega (arith, w.1, w.2))),
+        );
     joined = λ e p t l at_. ⊎_elim
         (λ (f : t ≡ m). inl (taken e p (subst (λ x. Edge edges e p x) f at_)))
         (λ n. let low : t < m = omega (arith, l, n) in ⊎_elim
@@ -75,7 +90,8 @@ module _ (edges : List (ℕ × ℕ)) (m count : ℕ) (continued : List Bool) (ch
   }
 
   -- note m goes on with the chain of note p, which had no later note
-  module _ (i p : ℕ) (edge : Edge edges i p m) (before : p < m) (inside : p < length continued) (free : goes_on continued p ≡ false) where
+  module _ (i p : ℕ) (edge : Edge edges i p m) (before : p < m) (inside : p < length continued)
+      (free : goes_on continued p ≡ false) where
     now_goes_on : (a : ℕ) → a ≡ p → goes_on (set continued p true) a ≡ true
     now_goes_on a e = ap (λ x. goes_on (set continued p true) x) e ∙ get_or-set_same continued p true false inside
 
@@ -86,7 +102,8 @@ module _ (edges : List (ℕ × ℕ)) (m count : ℕ) (continued : List Bool) (ch
     reaches : (q : ℕ) → q < m → chain q ≡ chain p → Reaches edges q m
     reaches q l same = ⊎_elim
         (λ (e : q ≡ p). subst (λ x. Reaches edges x m) (sym e) (step i p m edge))
-        (λ n. onward i q p m (c.linked q p (let low : q ≤ p = c.last p q before l free same in omega (arith, low, n)) before same) edge)
+        (λ n. onward i q p m (c.linked q p (let low : q ≤ p = c.last p q before l free same in omega (arith, low, n))
+        before same) edge)
         (cases_eq q p)
 
     pub covered_on : IsCoveredTo edges (m + 1) (set continued p true) count (put chain m (chain p))
@@ -99,8 +116,11 @@ module _ (edges : List (ℕ × ℕ)) (m count : ℕ) (continued : List Bool) (ch
               (cases_eq t m);
           filled = λ k l. let w = c.filled k l in (w.0, omega (arith, w.1), stays x w.0 w.1 ∙ w.2);
           linked = λ q t l h same. ⊎_elim
-              (λ (e : t ≡ m). let low : q < m = omega (arith, l, e) in subst (λ z. Reaches edges q z) (sym e) (reaches q low (sym (stays x q low) ∙ same ∙ put_here chain m x t e)))
-              (λ n. let low : t < m = omega (arith, h, n) in let far : q < m = omega (arith, low, l) in c.linked q t l low (sym (stays x q far) ∙ same ∙ stays x t low))
+              (λ (e : t ≡ m). let low : q < m =
+              omega (arith, l, e) in subst (λ z. Reaches edges q z) (sym e)
+              (reaches q low (sym (stays x q low) ∙ same ∙ put_here chain m x t e)))
+              (λ n. let low : t < m = omega (arith, h, n) in let far : q < m =
+              omega (arith, low, l) in c.linked q t l low (sym (stays x q far) ∙ same ∙ stays x t low))
               (cases_eq t m);
           last = λ a q l h goes same. ⊎_elim
               (λ (e : a ≡ m). omega (arith, e, h))
@@ -111,12 +131,25 @@ module _ (edges : List (ℕ × ℕ)) (m count : ℕ) (continued : List Bool) (ch
               (λ (f : q ≡ m). let one : chain p ≡ chain a = sym (put_here chain m x q f) ∙ same ∙ stays x a low in
               let up : p ≤ a = c.last a p low before was one in
               let down : a ≤ p = c.last p a before low free (sym one) in absurd (other (omega (arith, up, down))))
-              (λ o. let far : q < m = omega (arith, h, o) in c.last a q low far was (sym (stays x q far) ∙ same ∙ stays x a low))
+              (λ o. let far : q < m = omega (arith, h, o) in c.last a q low far was
+              (sym (stays x q far) ∙ same ∙ stays x a low))
               (cases_eq q m))
               (cases_eq a m);
           later = λ a goes. ⊎_elim
-              (λ (e : a ≡ p). (m, omega (arith, e, before), omega arith, put_here chain m x m refl ∙ sym (stays x p before) ∙ ap (put chain m x) (sym e)))
-              (λ n. let w = c.later a (sym (as_before a n) ∙ goes) in (w.0, w.1, omega (arith, w.2), stays x w.0 w.2 ∙ w.3 ∙ sym (stays x a (omega (arith, w.1, w.2)))))
+              (λ (e : a ≡ p). (
+                m,
+                omega (arith, e, before),
+                omega arith,
+                put_here chain m x m refl
+                    ∙ sym (stays x p before) ∙ ap (put chain m x) (sym e),
+              ))
+              (λ n. let w = c.later a (sym (as_before a n) ∙ goes) in (
+                w.0,
+                w.1,
+                omega (arith, w.2),
+                stays x w.0 w.2
+                    ∙ w.3 ∙ sym (stays x a (omega (arith, w.1, w.2))),
+              ))
               (cases_eq a p);
           joined = λ e a t l at_. ⊎_elim
               (λ (f : t ≡ m). inr (p, omega (arith, f, before), stays x p before ∙ sym (put_here chain m x t f)))
@@ -128,8 +161,10 @@ module _ (edges : List (ℕ × ℕ)) (m count : ℕ) (continued : List Bool) (ch
         }
 
 -- note m, whose edges are those of a range
-module _ (edges : List (ℕ × ℕ)) (m count first end_ : ℕ) (into : AreInto edges m first end_) (continued : List Bool) (so_far : ArePartedTo edges m continued count) where
-  pub parted_free : (p : ℕ) → LeadsForward edges (length continued) → IsFree edges continued first end_ p → ArePartedTo edges (m + 1) (set continued p true) count
+module _ (edges : List (ℕ × ℕ)) (m count first end_ : ℕ) (into : AreInto edges m first end_) (continued : List Bool)
+    (so_far : ArePartedTo edges m continued count) where
+  pub parted_free : (p : ℕ) → LeadsForward edges (length continued) → IsFree edges continued first end_ p
+      → ArePartedTo edges (m + 1) (set continued p true) count
   parted_free p forward f =
       let x = (into f.0).0 (f.2, f.3) in
       let same : f.1 ≡ m = ap (λ z. z.1) (same_Some (p, f.1) (x.0, m) (sym f.4 ∙ x.1)) in
@@ -143,11 +178,13 @@ module _ (edges : List (ℕ × ℕ)) (m count first end_ : ℕ) (into : AreInto 
   pub parted_taken : AreTaken edges continued first end_ → ArePartedTo edges (m + 1) continued (count + 1)
   parted_taken t = (
     put so_far.0 m count,
-    covered_begin edges m count continued so_far.0 so_far.1 (λ e p at_. let w = (into e).1 (p, at_) in t e p m w.0 w.1 at_),
+    covered_begin edges m count continued so_far.0 so_far.1
+        (λ e p at_. let w = (into e).1 (p, at_) in t e p m w.0 w.1 at_),
   )
 
 -- all notes are parted
-pub covers : (edges : List (ℕ × ℕ)) (n count : ℕ) (continued : List Bool) (chain : ℕ → ℕ) → LeadsForward edges n → IsCoveredTo edges n continued count chain → IsCover edges n count chain
+pub covers : (edges : List (ℕ × ℕ)) (n count : ℕ) (continued : List Bool) (chain : ℕ → ℕ) → LeadsForward edges n
+    → IsCoveredTo edges n continued count chain → IsCover edges n count chain
 covers edges n count continued chain forward c = record {
   within = c.within;
   filled = c.filled;
@@ -156,7 +193,8 @@ covers edges n count continued chain forward c = record {
 }
 
 -- notes that may run at once are in different chains
-module _ (edges : List (ℕ × ℕ)) (n count : ℕ) (chain : ℕ → ℕ) (c : IsCover edges n count chain) (notes : List ℕ) (a : AreApart edges n notes) where
+module _ (edges : List (ℕ × ℕ)) (n count : ℕ) (chain : ℕ → ℕ) (c : IsCover edges n count chain) (notes : List ℕ)
+    (a : AreApart edges n notes) where
   abbrev place : ℕ → ℕ
   place i = chain (get_or notes i 0)
 
@@ -167,7 +205,8 @@ module _ (edges : List (ℕ × ℕ)) (n count : ℕ) (chain : ℕ → ℕ) (c : 
       let w = a.apart i j 0 l h in
       ⊎_elim
       (λ (up : p < t). w.1 (c.linked p t up (a.within j 0 h) same))
-      (λ (down : t ≤ p). w.2 (c.linked t p (let ne : p ≢ t = w.0 in omega (arith, down, ne)) (a.within i 0 (omega (arith, l, h))) (sym same)))
+      (λ (down : t ≤ p). w.2 (c.linked t p (let ne : p ≢ t = w.0 in omega (arith, down, ne))
+      (a.within i 0 (omega (arith, l, h))) (sym same)))
       (cases_lt p t)
 
   pub no_more_apart : length notes ≤ count

@@ -1,8 +1,10 @@
 -- Edges that are added at the end of a list of edges, and edges in order.
-use Rattle.std.proofs.Common.{◌≡◌, ◌⊎◌, ℕ, zero, suc, ◌+◌, ◌<◌, ◌≤◌, List, [], ◌∷◌, ◌++◌, length, get_or, refl, sym, ap, ◌∙◌, subst, inl, inr, ⊎_elim, arith, slice_get}
+use Rattle.std.proofs.Common.{◌≡◌, ◌⊎◌, ℕ, zero, suc, ◌+◌, ◌<◌, ◌≤◌, List, [], ◌∷◌, ◌++◌, length, get_or, refl, sym, ap}
+use Rattle.std.proofs.Common.{◌∙◌, subst, inl, inr, ⊎_elim, arith, slice_get}
 use Rattle.std.proofs.lemmas.Bool.{cases_eq}
 use Rattle.std.proofs.lemmas.List.{get_or_push, get_or_append_left}
-use Rattle.std.proofs.lemmas.Option.{none-some, some_pair_parts, same_Some, slice_get_within, slice_get-get_or, get_or_from_slice_get}
+use Rattle.std.proofs.lemmas.Option.{none-some, some_pair_parts, same_Some, slice_get_within, slice_get-get_or}
+use Rattle.std.proofs.lemmas.Option.{get_or_from_slice_get}
 use Rattle.std.specs.List.{All, AllPairs}
 use Rattle.cs_graph.specs.Graph.{Edge, ComesBefore, StandTogether}
 use Rattle.cs_graph.specs.inner.Growing.{AreDrawnTo}
@@ -22,7 +24,8 @@ module _ (p t : ℕ) where
   edge_new [] = refl
   edge_new (x ∷ xs) = edge_new xs
 
-  pub edge_cases : (xs : List (ℕ × ℕ)) (e a b : ℕ) → Edge (grown xs) e a b → Edge xs e a b ⊎ ((e ≡ length xs) × (p ≡ a) × (t ≡ b))
+  pub edge_cases : (xs : List (ℕ × ℕ)) (e a b : ℕ) → Edge (grown xs) e a b
+      → Edge xs e a b ⊎ ((e ≡ length xs) × (p ≡ a) × (t ≡ b))
   edge_cases [] zero a b h = let w = some_pair_parts p a t b h in inr (refl, w.0, w.1)
   edge_cases [] (suc e) a b h = absurd (none-some _ h)
   edge_cases (x ∷ xs) zero a b h = inl h
@@ -32,7 +35,8 @@ pub all_before : (xs : List (ℕ × ℕ)) (t : ℕ) → ((e a b : ℕ) → Edge 
 all_before xs t before k d within = before k (get_or xs k d).0 (get_or xs k d).1 (slice_get-get_or xs k d within)
 
 -- the edges into the notes so far, and into one more
-module _ (old edges : List (ℕ × ℕ)) (near : List ℕ) (t : ℕ) (drawn : AreDrawnTo old near t t edges) (before : (e a b : ℕ) → Edge old e a b → b < t) where
+module _ (old edges : List (ℕ × ℕ)) (near : List ℕ) (t : ℕ) (drawn : AreDrawnTo old near t t edges)
+    (before : (e a b : ℕ) → Edge old e a b → b < t) where
   into_old : (q first end_ : ℕ) → q < t → AreInto old q first end_ → AreInto edges q first end_
   into_old q first end_ low into e = (
     λ h. let w = (into e).0 h in (w.0, drawn.kept e w.0 q w.1),
@@ -61,19 +65,24 @@ module _ (old edges : List (ℕ × ℕ)) (near : List ℕ) (t : ℕ) (drawn : Ar
   ranges_more into x long is each q low = ⊎_elim
       (λ (here : q ≡ t). rw (here, get_or_push into x (0, 0) t long, is) into_new)
       (λ apart. let below : q < t = omega arith in
-      rw (get_or_append_left into (x ∷ []) (0, 0) q (omega (arith, long, below))) (into_old q (range_at into q).0 (range_at into q).1 below (each q below)))
+      rw (get_or_append_left into (x ∷ []) (0, 0) q (omega (arith, long, below)))
+      (into_old q (range_at into q).0 (range_at into q).1 below (each q below)))
       (cases_eq q t)
 
 -- edges in order stand together by the later note
 module _ (edges : List (ℕ × ℕ)) (ordered : AllPairs ComesBefore edges) where
   up_to : (e f a b c d : ℕ) → e ≤ f → Edge edges e a b → Edge edges f c d → b ≤ d
   up_to e f a b c d low first last = ⊎_elim
-      (λ (same : e ≡ f). let w = same_Some (a, b) (c, d) (sym first ∙ ap (slice_get edges) same ∙ last) in let s : b ≡ d = ap (λ z. z.1) w in omega (arith, s))
+      (λ (same : e ≡ f). let w =
+      same_Some (a, b) (c, d) (sym first ∙ ap (slice_get edges) same ∙ last) in let s : b ≡ d =
+      ap (λ z. z.1) w in omega (arith, s))
       (λ apart.
       let within : f < length edges = slice_get_within edges f (c, d) last in
       let at_e : get_or edges e (0, 0) ≡ (a, b) = get_or_from_slice_get edges e (a, b) (0, 0) first in
       let at_f : get_or edges f (0, 0) ≡ (c, d) = get_or_from_slice_get edges f (c, d) (0, 0) last in
-      let k : ComesBefore (a, b) (c, d) = subst (λ z. ComesBefore z (c, d)) at_e (subst (λ z. ComesBefore (get_or edges e (0, 0)) z) at_f (ordered e f (0, 0) (omega arith) within)) in
+      let k : ComesBefore (a, b) (c, d) =
+      subst (λ z. ComesBefore z (c, d)) at_e
+      (subst (λ z. ComesBefore (get_or edges e (0, 0)) z) at_f (ordered e f (0, 0) (omega arith) within)) in
       ⊎_elim (λ l. omega (arith, l)) (λ l. omega (arith, l.0)) k)
       (cases_eq e f)
 

@@ -1,5 +1,7 @@
-use Rattle.std.proofs.Common.{◌≡◌, ◌==◌, ◌||◌, ◌&&◌, not, ℕ, ◌+◌, ◌<◌, ◌≤◌, max, true, false, List, refl, sym, ◌∙◌, inl, inr, ⊎_elim, arith}
-use Rattle.std.proofs.lemmas.Bool.{and_parts, both_ways, cases_eq, cases_lt, eqb-true, not-true, or_cases, or_left, or_right}
+use Rattle.std.proofs.Common.{◌≡◌, ◌==◌, ◌||◌, ◌&&◌, not, ℕ, zero, suc, ◌+◌, ◌-◌, ◌*◌, ◌/◌, ◌<◌, ◌≤◌, min, max, true}
+use Rattle.std.proofs.Common.{false, List, refl, sym, ◌∙◌, subst, inl, inr, ⊎_elim, arith}
+use Rattle.std.proofs.lemmas.Bool.{and_parts, both_ways, cases_eq, cases_lt, eqb-true, not-true, or_cases, or_left}
+use Rattle.std.proofs.lemmas.Bool.{or_right}
 use Rattle.std.proofs.lemmas.Bool.Decides.{nat_tests}
 use Rattle.cs_graph.specs.inner.Sets.{has}
 use Rattle.cs_graph.specs.inner.Nearest.{known_at, Has, LeadsIn, IsClosed, IsFound}
@@ -19,21 +21,47 @@ module _ (met : List ℕ) (known : List Known) (t : ℕ) where
     low = omega arith;
   }
 
-  pub found_skip : (q : ℕ) (found : Found) → has met q ≡ false → IsFound met known (q + 1) t found → IsFound met known q t found
+  pub found_skip : (q : ℕ) (found : Found) → has met q ≡ false → IsFound met known (q + 1) t found
+      → IsFound met known q t found
   found_skip q found not_met f = record {
     near = λ p h. let w = f.near p h in (omega arith, w.1, w.2, w.3);
-    rest = λ p a b h. ⊎_elim (λ (same : p ≡ q). absurd (both_ways _ not_met (rw (← same) h))) (λ apart. f.rest p (omega arith) b h) (cases_eq p q);
+    rest = λ p a b h. ⊎_elim (λ (same : p ≡ q). absurd (both_ways _ not_met (rw (← same) h)))
+        (λ apart. f.rest p (omega arith) b h) (cases_eq p q);
     reach = λ p h. let w = f.reach p h in (w.0, omega (arith, w.1), w.2, w.3, w.4);
-    all = λ p r a b h k. ⊎_elim (λ (same : r ≡ q). absurd (both_ways _ not_met (rw (← same) h))) (λ apart. f.all p r (omega arith) b h k) (cases_eq r q);
-    above = λ r a b h. ⊎_elim (λ (same : r ≡ q). absurd (both_ways _ not_met (rw (← same) h))) (λ apart. f.above r (omega arith) b h) (cases_eq r q);
+    all = λ p r a b h k. ⊎_elim (λ (same : r ≡ q). absurd (both_ways _ not_met (rw (← same) h)))
+        (λ apart. f.all p r (omega arith) b h k) (cases_eq r q);
+    above = λ r a b h. ⊎_elim (λ (same : r ≡ q). absurd (both_ways _ not_met (rw (← same) h)))
+        (λ apart. f.above r (omega arith) b h) (cases_eq r q);
     greatest = λ h. let w = f.greatest h in (w.0, omega (arith, w.1), w.2, w.3, w.4);
     low = f.low;
   }
 
-  module _ (closed : IsClosed known t) (q : ℕ) (old new : Found) (within : q < t) (is_met : Has met q) (f : IsFound met known (q + 1) t old) where
+  -- a block of notes of which none is met
+  pub found_past : (q n : ℕ) (found : Found) → ((i : ℕ) → q ≤ i → i < q + n → has met i ≡ false)
+      → IsFound met known (q + n) t found → IsFound met known q t found
+  found_past q zero found none f = subst (λ p. IsFound met known p t found) (let e : q + 0 ≡ q = omega arith in e) f
+  found_past q (suc n) found none f =
+      found_past q n found (λ i low high. none i low (omega (arith, high)))
+      (found_skip (q + n) found (none (q + n) (omega arith) (omega arith))
+      (subst (λ p. IsFound met known p t found) (let e : q + suc n ≡ (q + n) + 1 = omega arith in e) f))
+
+  pub found_clear : (block : ℕ) (found : Found) → block * 64 < t → ((i : ℕ) → i / 64 ≡ block → has met i ≡ false)
+      → IsFound met known (min t ((block + 1) * 64)) t found → IsFound met known (min t (block * 64)) t found
+  found_clear block found low clear f =
+      let n : ℕ = min t ((block + 1) * 64) - block * 64 in
+      let a : block * 64 ≡ min t (block * 64) = omega (arith, low) in
+      let e : min t ((block + 1) * 64) ≡ block * 64 + n = omega (arith, low) in
+      subst (λ q. IsFound met known q t found) a
+      (found_past (block * 64) n found
+      (λ i from to. clear i (let q : i / 64 ≡ block = omega (arith, from, to) in q))
+      (subst (λ q. IsFound met known q t found) e f))
+
+  module _ (closed : IsClosed known t) (q : ℕ) (old new : Found) (within : q < t) (is_met : Has met q)
+      (f : IsFound met known (q + 1) t old) where
     -- a note that is reached from those taken in before is reached from a later one
     reached_by : Has old.known.reach q → (r : ℕ) × (q + 1 ≤ r) × (r < t) × Has met r × LeadsIn known q r
-    reached_by h = let w = f.reach q h in (w.0, w.1, w.2, w.3, ⊎_elim (λ same. absurd (omega (arith, same, w.1))) (λ leads. leads) w.4)
+    reached_by h = let w = f.reach q
+        h in (w.0, w.1, w.2, w.3, ⊎_elim (λ same. absurd (omega (arith, same, w.1))) (λ leads. leads) w.4)
 
     module _ (near : (p : ℕ) → has new.near p ≡ (has old.near p || (p == q && not (has old.known.reach q))))
         (level : new.known.level ≡ max old.known.level ((known_at known q).level + 1)) where
@@ -41,9 +69,12 @@ module _ (met : List ℕ) (known : List Known) (t : ℕ) where
       levels_low = let a : (known_at known q).level ≤ q = closed.low q within in omega (arith, f.low)
 
       levels_above : (r : ℕ) → q ≤ r → r < t → Has met r → (known_at known r).level < new.known.level
-      levels_above r a b h = ⊎_elim (λ (same : r ≡ q). rw same (omega arith)) (λ apart. let k : (known_at known r).level < old.known.level = f.above r (omega arith) b h in omega arith) (cases_eq r q)
+      levels_above r a b h = ⊎_elim (λ (same : r ≡ q). rw same (omega arith))
+          (λ apart. let k : (known_at known r).level < old.known.level = f.above r (omega arith) b h in omega arith)
+          (cases_eq r q)
 
-      levels_greatest : 0 < new.known.level → (r : ℕ) × (q ≤ r) × (r < t) × Has met r × (new.known.level ≡ (known_at known r).level + 1)
+      levels_greatest : 0 < new.known.level
+          → (r : ℕ) × (q ≤ r) × (r < t) × Has met r × (new.known.level ≡ (known_at known r).level + 1)
       levels_greatest h = ⊎_elim
           (λ here. (q, omega arith, within, is_met, omega arith))
           (λ old_. let w = f.greatest (omega arith) in (w.0, omega (arith, w.1), w.2, w.3, omega (arith, w.4)))
@@ -55,7 +86,8 @@ module _ (met : List ℕ) (known : List Known) (t : ℕ) where
       keeps_near : (p : ℕ) → Has old.near p → Has new.near p
       keeps_near p h = rw (near p) (or_left _ _ h)
 
-      pub found_reached : Has old.known.reach q → ((p : ℕ) → has new.known.reach p ≡ has old.known.reach p) → IsFound met known q t new
+      pub found_reached : Has old.known.reach q → ((p : ℕ) → has new.known.reach p ≡ has old.known.reach p)
+          → IsFound met known q t new
       found_reached reached same = record {
         near = λ p h. ⊎_elim
             (λ k. let w = f.near p k in (omega (arith, w.0), w.1, w.2, w.3))
@@ -80,7 +112,8 @@ module _ (met : List ℕ) (known : List Known) (t : ℕ) where
       }
 
       pub found_nearest : has old.known.reach q ≡ false
-          → ((p : ℕ) → has new.known.reach p ≡ (has old.known.reach p || p == q || has (known_at known q).reach p)) → IsFound met known q t new
+          → ((p : ℕ) → has new.known.reach p ≡ (has old.known.reach p || p == q || has (known_at known q).reach p))
+          → IsFound met known q t new
       found_nearest fresh grown = record {
         near = λ p h. ⊎_elim
             (λ k. let w = f.near p k in (omega (arith, w.0), w.1, w.2, w.3))
@@ -107,7 +140,8 @@ module _ (met : List ℕ) (known : List Known) (t : ℕ) where
             (or_cases _ _ (sym (grown p) ∙ h));
         all = λ p r a b h k. grown p ∙ ⊎_elim
             (λ (here : r ≡ q). ⊎_elim
-            (λ (one : p ≡ r). or_left _ _ (or_right (has old.known.reach p) (p == q) (let same : p ≡ q = one ∙ here in grind (arith, nat_tests))))
+            (λ (one : p ≡ r). or_left _ _
+            (or_right (has old.known.reach p) (p == q) (let same : p ≡ q = one ∙ here in grind (arith, nat_tests))))
             (λ leads. or_right _ _ (let k : LeadsIn known p q = rw (← here) leads in k))
             k)
             (λ apart. or_left _ _ (or_left _ _ (f.all p r (omega arith) b h k)))

@@ -44,4 +44,5 @@ one_less f n m one i j p q e =
 pub pigeonhole : (n m : ℕ) (f : ℕ → ℕ) → Into f n m → OneToOne f n → n ≤ m
 pigeonhole zero m f into one = omega arith
 pigeonhole (suc n) zero f into one = absurd (omega (arith, into n (omega arith)))
-pigeonhole (suc n) (suc m) f into one = omega (arith, pigeonhole n m (avoiding f m n) (into_less f n m into one) (one_less f n m one))
+pigeonhole (suc n) (suc m) f into one =
+    omega (arith, pigeonhole n m (avoiding f m n) (into_less f n m into one) (one_less f n m one))

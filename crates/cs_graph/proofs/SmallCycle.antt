@@ -1,5 +1,6 @@
 -- The conflicts, edges and levels of a small cycle, one by one.
-use Rattle.std.proofs.Common.{◌≡◌, ℕ, zero, suc, ◌<◌, ◌≤◌, [], ◌∷◌, slice_index, slice_index_or, refl, subst, inl, inr, ⊎_elim, arith}
+use Rattle.std.proofs.Common.{◌≡◌, ℕ, zero, suc, ◌<◌, ◌≤◌, [], ◌∷◌, slice_index, slice_index_or, refl, subst, inl, inr}
+use Rattle.std.proofs.Common.{⊎_elim, arith}
 use Rattle.std.proofs.lemmas.Option.{none-some, same_Some}
 use Rattle.std.specs.List.{Contains}
 use Rattle.cs_graph.specs.Conflict.{Conflict, Leads, direct, beyond, Near, Chain, alone, further}
@@ -40,22 +41,33 @@ no_way (direct _ _ c) = readers_free c
 no_way (beyond _ q _ l c) = omega (arith, Leads-earlier small_cycle 1 q l, c.earlier)
 
 near_01 : Near small_cycle 0 1
-near_01 = record { conflict = conflict_01; no_longer_way = λ q l c. omega (arith, Leads-earlier small_cycle 0 q l, c.earlier) }
+near_01 = record {
+  conflict = conflict_01;
+  no_longer_way =
+      λ q l c. omega (arith, Leads-earlier small_cycle 0 q l, c.earlier);
+}
 
 near_02 : Near small_cycle 0 2
 near_02 = record {
   conflict = conflict_02;
-  no_longer_way = λ q l c. let e : q ≡ 1 = omega (arith, Leads-earlier small_cycle 0 q l, c.earlier) in readers_free (subst (λ x. Conflict small_cycle x 2) e c);
+  no_longer_way = λ q l c. let e : q ≡ 1 =
+      omega (arith, Leads-earlier small_cycle 0 q l, c.earlier) in readers_free
+      (subst (λ x. Conflict small_cycle x 2) e c);
 }
 
 near_13 : Near small_cycle 1 3
 near_13 = record {
   conflict = conflict_13;
-  no_longer_way = λ q l c. let e : q ≡ 2 = omega (arith, Leads-earlier small_cycle 1 q l, c.earlier) in no_way (subst (λ x. Leads small_cycle 1 x) e l);
+  no_longer_way = λ q l c. let e : q ≡ 2 =
+      omega (arith, Leads-earlier small_cycle 1 q l, c.earlier) in no_way (subst (λ x. Leads small_cycle 1 x) e l);
 }
 
 near_23 : Near small_cycle 2 3
-near_23 = record { conflict = conflict_23; no_longer_way = λ q l c. omega (arith, Leads-earlier small_cycle 2 q l, c.earlier) }
+near_23 = record {
+  conflict = conflict_23;
+  no_longer_way =
+      λ q l c. omega (arith, Leads-earlier small_cycle 2 q l, c.earlier);
+}
 
 edge_near : (e p t : ℕ) → Edge small_graph.edges e p t → Near small_cycle p t
 edge_near zero p t at = subst (λ z. Near small_cycle z.0 z.1) (same_Some (0, 1) (p, t) at) near_01
@@ -65,7 +77,8 @@ edge_near (suc (suc (suc zero))) p t at = subst (λ z. Near small_cycle z.0 z.1)
 edge_near (suc (suc (suc (suc e)))) p t at = absurd (none-some (p, t) at)
 
 -- what holds of each conflict
-by_conflict : (P : ℕ → ℕ → Type 0) → P 0 1 → P 0 2 → P 0 3 → P 1 3 → P 2 3 → (p t : ℕ) → Conflict small_cycle p t → P p t
+by_conflict : (P : ℕ → ℕ → Type 0) → P 0 1 → P 0 2 → P 0 3 → P 1 3 → P 2 3 → (p t : ℕ) → Conflict small_cycle p t
+    → P p t
 by_conflict P a b c d e p zero h = absurd (omega (arith, h.earlier))
 by_conflict P a b c d e zero (suc zero) h = a
 by_conflict P a b c d e (suc p) (suc zero) h = absurd (omega (arith, h.earlier))
@@ -83,7 +96,8 @@ near_edge p t n = by_conflict (λ x y. Near small_cycle x y → HasEdge small_gr
     (λ m. (0, refl)) (λ m. (1, refl)) (λ m. absurd (farther m)) (λ m. (2, refl)) (λ m. (3, refl)) p t n.conflict n
 
 rises : (p t : ℕ) → Conflict small_cycle p t → slice_index small_graph.levels p < slice_index small_graph.levels t
-rises = by_conflict (λ x y. slice_index small_graph.levels x < slice_index small_graph.levels y) (omega arith) (omega arith) (omega arith) (omega arith) (omega arith)
+rises = by_conflict (λ x y. slice_index small_graph.levels x < slice_index small_graph.levels y) (omega arith)
+    (omega arith) (omega arith) (omega arith) (omega arith)
 
 longest : (n t : ℕ) → Chain small_cycle n t → n ≤ slice_index small_graph.levels t
 longest _ t (alone _) = omega arith
@@ -99,7 +113,8 @@ chain (suc (suc zero)) l = further 0 0 2 (alone 0) conflict_02
 chain (suc (suc (suc zero))) l = further 1 1 3 to_1 conflict_13
 chain (suc (suc (suc (suc t)))) l = absurd (omega arith)
 
-ordered : (i j : ℕ) (d : ℕ × ℕ) → i < j → j < 4 → ComesBefore (slice_index_or small_graph.edges i d) (slice_index_or small_graph.edges j d)
+ordered : (i j : ℕ) (d : ℕ × ℕ) → i < j → j < 4
+    → ComesBefore (slice_index_or small_graph.edges i d) (slice_index_or small_graph.edges j d)
 ordered i zero d l m = absurd (omega arith)
 ordered zero (suc zero) d l m = inl (omega arith)
 ordered (suc i) (suc zero) d l m = absurd (omega arith)

@@ -1,4 +1,5 @@
-use Rattle.std.proofs.Common.{◌≡◌, ◌==◌, ◌≢◌, ◌||◌, ◌&&◌, ◌↔◌, ℕ, ◌+◌, ◌<◌, Bool, true, false, cond, List, length, get_or, take, nat_lt, refl, sym, ap, ◌∙◌, subst, inl, inr, ⊎_elim, arith}
+use Rattle.std.proofs.Common.{◌≡◌, ◌==◌, ◌≢◌, ◌||◌, ◌&&◌, ◌↔◌, ℕ, ◌+◌, ◌<◌, Bool, true, false, cond, List, length}
+use Rattle.std.proofs.Common.{get_or, take, nat_lt, refl, sym, ap, ◌∙◌, subst, inl, inr, ⊎_elim, arith}
 use Rattle.std.proofs.lemmas.Bool.Decides.{nat_tests}
 use Rattle.std.proofs.lemmas.List.Folds.{Any-from_list_any, list_any-from_Any, list_any_more}
 use Rattle.std.specs.List.{list_any, Contains}
@@ -20,10 +21,12 @@ any-found f xs r h k = list_any-from_Any f xs (h.0, r, h.1, h.2, k)
 module _ (F G : Footprint) (w u : ℕ → Bool) (writes : (y : ℕ) → w y ≡ lists F.writes y)
     (uses : (y : ℕ) → u y ≡ (lists F.uses y || lists F.writes y)) where
   used : (y : ℕ) → u y ≡ true → UsesResource F y
-  used y h = ⊎_elim (λ k. inl (Contains-from_test F.uses y k)) (λ k. inr (Contains-from_test F.writes y k)) (or_cases _ _ (sym (uses y) ∙ h))
+  used y h = ⊎_elim (λ k. inl (Contains-from_test F.uses y k)) (λ k. inr (Contains-from_test F.writes y k))
+      (or_cases _ _ (sym (uses y) ∙ h))
 
   used' : (y : ℕ) → UsesResource F y → u y ≡ true
-  used' y h = uses y ∙ ⊎_elim (λ k. or_left _ _ (test-from_Contains F.uses y k)) (λ k. or_right _ _ (test-from_Contains F.writes y k)) h
+  used' y h = uses y ∙ ⊎_elim (λ k. or_left _ _ (test-from_Contains F.uses y k))
+      (λ k. or_right _ _ (test-from_Contains F.writes y k)) h
 
   clash-tested : (list_any w G.uses || list_any u G.writes) ≡ true ↔ Clash F G
   clash-tested = (
@@ -41,7 +44,8 @@ module _ (F G : Footprint) (w u : ℕ → Bool) (writes : (y : ℕ) → w y ≡ 
         h.1,
   )
 
-  pub clash-met : (b : Bool) (us ws : List ℕ) → us ≡ G.uses → ws ≡ G.writes → b ≡ (list_any w us || list_any u ws) → (b ≡ true) ↔ Clash F G
+  pub clash-met : (b : Bool) (us ws : List ℕ) → us ≡ G.uses → ws ≡ G.writes → b ≡ (list_any w us || list_any u ws)
+      → (b ≡ true) ↔ Clash F G
   clash-met b us ws a a' e = let k : b ≡ (list_any w G.uses || list_any u G.writes) = rw (← a, ← a') e in
       (λ h. clash-tested.0 (sym k ∙ h), λ h. k ∙ clash-tested.1 h)
 
@@ -61,9 +65,11 @@ pub others_same : (a b t : Bool) (p note : ℕ) → p ≢ note → t ≡ (a || (
 others_same a b t p note apart e = grind (arith, nat_tests)
 
 -- one more place is met
-pub met_more : (f : ℕ → Bool) (xs : List ℕ) (i : ℕ) (m0 m m' u : Bool) → i < length xs → m' ≡ (m || u) → u ≡ f (get_or xs i 0)
+pub met_more : (f : ℕ → Bool) (xs : List ℕ) (i : ℕ) (m0 m m' u : Bool) → i < length xs → m' ≡ (m || u)
+    → u ≡ f (get_or xs i 0)
     → m ≡ (m0 || list_any f (take i xs)) → m' ≡ (m0 || list_any f (take (i + 1) xs))
-met_more f xs i m0 m m' u within e k before = rw (e, k, before, list_any_more f xs i 0 within) (or_assoc m0 (list_any f (take i xs)) (f (get_or xs i 0)))
+met_more f xs i m0 m m' u within e k before =
+    rw (e, k, before, list_any_more f xs i 0 within) (or_assoc m0 (list_any f (take i xs)) (f (get_or xs i 0)))
 
 pub others_same_where : (a w b t : Bool) (p note : ℕ) → p ≢ note → t ≡ (a || (w && (b && p == note))) → t ≡ a
 others_same_where a true b t p note apart e = others_same a b t p note apart e

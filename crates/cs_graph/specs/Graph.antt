@@ -22,7 +22,8 @@ LeadsForward edges n = (e p t : ℕ) → Edge edges e p t → (p < t) × (t < n)
 
 -- between two edges into note t there are only edges into it
 abbrev pub StandTogether : List (ℕ × ℕ) → ℕ → Type 0
-StandTogether edges t = (e f g p q : ℕ) → Edge edges e p t → Edge edges g q t → e ≤ f → f ≤ g → (r : ℕ) × Edge edges f r t
+StandTogether edges t = (e f g p q : ℕ) → Edge edges e p t → Edge edges g q t → e ≤ f → f ≤ g
+    → (r : ℕ) × Edge edges f r t
 
 -- no edge from number i on leads from note p
 abbrev pub NoneOut : List (ℕ × ℕ) → ℕ → ℕ → Type 0

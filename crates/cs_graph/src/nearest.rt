@@ -5,7 +5,7 @@ ghost use Rattle.std.specs.Prelude.{◌≡◌, ◌==◌, ◌||◌, ◌&&◌, not
 ghost use Rattle.cs_graph.specs.inner.Nearest.{IsClosed, IsFound};
 ghost use Rattle.cs_graph.specs.inner.Sets.{has};
 
-use crate::note_set::NoteSet;
+use crate::note_set::{BLOCK, NoteSet};
 use std::cmp::max;
 
 /// What is known of a note once it is sorted in: the earlier notes from which a chain of conflicts
@@ -69,10 +69,32 @@ pub fn nearest(met: &NoteSet, note: u32, known: &[Known]) -> Found
     ensures { IsFound met.now known.now 0 note result }
 {
     let mut found = Found::new();
-    for q in (0..note).rev() {
+    for block in (0..note.div_ceil(BLOCK)).rev() {
+        if !met.is_clear(block) {
+            sort_block(
+                &mut found,
+                met,
+                known,
+                block * BLOCK,
+                note.min(block * BLOCK + BLOCK),
+            );
+        }
+    }
+    found
+}
+
+/// Sorts in those of the earlier notes from one on and below another, from the latest down, once those from there on
+/// are.
+fn sort_block(found: &mut Found, met: &NoteSet, known: &[Known], from: u32, to: u32)
+    requires small { length known.now < most_notes }
+    requires range { (from ≤ to) × (to ≤ length known.now) }
+    requires closed { IsClosed known.now (length known.now) }
+    requires found { IsFound met.now known.now to (length known.now) found.old }
+    ensures { IsFound met.now known.now from (length known.now) found.new }
+{
+    for q in (from..to).rev() {
         if met.contains(q) {
             found.take_in(q, &known[q as usize]);
         }
     }
-    found
 }

@@ -1,6 +1,6 @@
 // A set of the notes of a cycle, one bit each.
 ghost use Rattle.cs_base.specs.Limits.{most_notes};
-ghost use Rattle.std.specs.Prelude.{◌≡◌, ◌==◌, ◌||◌, ℕ, ◌<◌, false};
+ghost use Rattle.std.specs.Prelude.{◌≡◌, ◌==◌, ◌||◌, ◌/◌, ℕ, ◌<◌, true, false};
 ghost use Rattle.cs_graph.specs.inner.Sets.{has};
 
 use cs_base::MOST_NOTES;
@@ -8,6 +8,9 @@ use std::marker::Model;
 
 /// How many words have a bit for each note.
 const WORDS: usize = MOST_NOTES / 64;
+
+/// How many notes have their bits in one word. A block of so many is passed over where it has no member.
+pub const BLOCK: u32 = 64;
 
 /// A set of the notes that a cycle may have, as bits of words. Contracts see the words, and ask for
 /// a member by `has`.
@@ -41,6 +44,14 @@ impl NoteSet {
         ensures { result ≡ has self.now note }
     {
         self.words[(note / 64) as usize] >> (note % 64) & 1 == 1
+    }
+
+    /// Whether none of the 64 notes from 64 times `block` on is a member.
+    pub fn is_clear(&self, block: u32) -> bool
+        requires { block < 8 }
+        ensures { result ≡ true → (i : ℕ) → i / 64 ≡ block → has self.now i ≡ false }
+    {
+        self.words[block as usize] == 0
     }
 
     pub fn insert(&mut self, note: u32)

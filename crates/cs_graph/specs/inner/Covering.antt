@@ -20,7 +20,8 @@ ArePartedTo edges m continued count = (chain : ℕ → ℕ) × IsCoveredTo edges
 
 -- an edge of these numbers leads from note p, whose chain has no later note yet
 abbrev pub IsFree : List (ℕ × ℕ) → List Bool → ℕ → ℕ → ℕ → Type 0
-IsFree edges continued first end_ p = (e : ℕ) × (t : ℕ) × (first ≤ e) × (e < end_) × Edge edges e p t × (goes_on continued p ≡ false)
+IsFree edges continued first end_ p =
+    (e : ℕ) × (t : ℕ) × (first ≤ e) × (e < end_) × Edge edges e p t × (goes_on continued p ≡ false)
 
 -- the chain of each note from which an edge of these numbers leads has a later one
 abbrev pub AreTaken : List (ℕ × ℕ) → List Bool → ℕ → ℕ → Type 0

@@ -43,7 +43,8 @@ pub record IsGrown (feet : List Footprint) (n : ℕ) (growing : Growing) : Type 
   pub levels : length growing.levels.items ≡ n
   pub level : (q : ℕ) → q < n → slice_index growing.levels.items q ≡ (known_at growing.known.items q).level
   pub into : length growing.into.items ≡ n
-  pub ranges : (q : ℕ) → q < n → AreInto growing.edges.items q (range_at growing.into.items q).0 (range_at growing.into.items q).1
+  pub ranges : (q : ℕ) → q < n
+      → AreInto growing.edges.items q (range_at growing.into.items q).0 (range_at growing.into.items q).1
   pub ordered : AllPairs ComesBefore growing.edges.items
   pub drawn : IsDrawn feet n growing.edges.items
   pub few : length growing.edges.items ≤ most_notes * n

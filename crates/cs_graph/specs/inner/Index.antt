@@ -36,7 +36,8 @@ pub record IsChained (edges : List (ℕ × ℕ)) (i : ℕ) (first_out next_out :
   pub next : (e p t : ℕ) → i ≤ e → Edge edges e p t → Points edges p (e + 1) (slice_index next_out e)
 
 -- what holds of the parts of every graph
-pub record IsStored (edges : List (ℕ × ℕ)) (levels : List ℕ) (into : List (ℕ × ℕ)) (first_out next_out : List ℕ) (chains : ℕ) : Type 0 where
+pub record IsStored (edges : List (ℕ × ℕ)) (levels : List ℕ) (into : List (ℕ × ℕ)) (first_out next_out : List ℕ)
+    (chains : ℕ) : Type 0 where
   pub ends : AreEnds edges levels into
   pub outs : length first_out ≡ length levels
   pub chained : IsChained edges 0 first_out next_out

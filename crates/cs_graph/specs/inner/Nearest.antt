@@ -1,4 +1,5 @@
--- The work at one note, over plain sets: the earlier notes that it meets, and for each earlier note those that lead to it.
+-- The work at one note, over plain sets: the earlier notes that it meets, and for each earlier note those that lead to
+-- it.
 use Rattle.std.specs.Prelude.{◌≡◌, ℕ, ◌<◌, ◌≤◌, ◌+◌, ◌⊎◌, true, List, [], slice_index_or}
 use Rattle.cs_graph.specs.inner.Sets.{has}
 use Rattle.cs_graph.specs.declared.nearest.Known.{Known}

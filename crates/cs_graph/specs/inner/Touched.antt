@@ -35,5 +35,6 @@ lists places r = list_any (λ y. r == y) places
 
 -- the rows tell of each of the first t notes what places it uses and writes
 pub record IsTouchedBy (feet : List Footprint) (t : ℕ) (by_place : SharersByPlace) : Type 0 where
-  pub users : (r p : ℕ) → uses_so_far by_place r p ≡ (nat_lt p t && (lists (foot feet p).uses r || lists (foot feet p).writes r))
+  pub users : (r p : ℕ) → uses_so_far by_place r
+      p ≡ (nat_lt p t && (lists (foot feet p).uses r || lists (foot feet p).writes r))
   pub writers : (r p : ℕ) → writes_so_far by_place r p ≡ (nat_lt p t && lists (foot feet p).writes r)

@@ -11,6 +11,8 @@ returns-clause-chained c =
     let at_ = slice_get-get_or c.args.edges.now c.args.edge (0, 0) c.requires.within in
     let way = c.requires.forward c.args.edge ends.0 ends.1 at_ in
     let low : ends.0 < length c.args.first_out.now.items = omega (arith, way.0, way.1) in
-    subst (λ x. IsChained c.args.edges.now c.args.edge (slice_set c.args.first_out.now.items ends.0 c.args.edge) (slice_set c.args.next_out.now.items c.args.edge x))
+    subst (λ x. IsChained c.args.edges.now c.args.edge (slice_set c.args.first_out.now.items ends.0 c.args.edge)
+    (slice_set c.args.next_out.now.items c.args.edge x))
     (get_or_default c.args.first_out.now.items ends.0 0 c.index.result.now low ∙ sym c.index.ensures)
-    (links c.args.edges.now c.args.edge ends.0 ends.1 at_ c.args.first_out.now.items c.args.next_out.now.items low c.requires.chained)
+    (links c.args.edges.now c.args.edge ends.0 ends.1 at_ c.args.first_out.now.items c.args.next_out.now.items low
+    c.requires.chained)

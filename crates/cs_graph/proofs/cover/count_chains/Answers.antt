@@ -14,7 +14,8 @@ loop-note-init c = (
   omega arith,
   (
     λ t. t,
-    subst (λ xs. IsCoveredTo c.args.edges.now 0 xs 0 (λ t. t)) (sym (c.in_ok-continued.ensures.items_if_clones_equal (λ y e. e))) (covered_none c.args.edges.now _),
+    subst (λ xs. IsCoveredTo c.args.edges.now 0 xs 0 (λ t. t))
+        (sym (c.in_ok-continued.ensures.items_if_clones_equal (λ y e. e))) (covered_none c.args.edges.now _),
   ),
 )
 
@@ -38,18 +39,29 @@ loop-note-preserved c =
     elim c.match-free_before.branch [
       | in-Some w ↦
           let p : ℕ = w.in-Some.earlier in
-          let f : IsFree edges xs first end_ p = subst (λ ys. IsFree edges ys first end_ p) c.deref.ensures.value w.in-Some.ensures.some in
-          rw (w.continued-is, w.count-is) (length-set xs p true ∙ inv.0, omega (arith, inv.1), parted_free edges m c.loop-note.count first end_ range xs inv.2 p forward f)
+          let f : IsFree edges xs first end_ p =
+          subst (λ ys. IsFree edges ys first end_ p) c.deref.ensures.value w.in-Some.ensures.some in
+          rw (w.continued-is, w.count-is) (
+            length-set xs p true ∙ inv.0,
+            omega (arith, inv.1),
+            parted_free edges m c.loop-note.count first end_ range xs
+                inv.2 p forward f,
+          )
       | in-None w ↦
-          let t : AreTaken edges xs first end_ = subst (λ ys. AreTaken edges ys first end_) c.deref.ensures.value w.in-None.ensures.none in
-          rw (w.continued-is, w.count-is) (inv.0, omega (arith, inv.1), parted_taken edges m c.loop-note.count first end_ range xs inv.2 t)
+          let t : AreTaken edges xs first end_ =
+          subst (λ ys. AreTaken edges ys first end_) c.deref.ensures.value w.in-None.ensures.none in
+          rw (w.continued-is, w.count-is)
+          (inv.0, omega (arith, inv.1), parted_taken edges m c.loop-note.count first end_ range xs inv.2 t)
     ]
 
 pub returns : goal.returns
 returns c =
     let inv = c.loop-note.invariant in
-    let all : c.loop-note.note ≡ length c.args.into.now = omega (arith, c.loop-note-test.false, c.loop-note.auto.note-end) in (
+    let all : c.loop-note.note ≡ length c.args.into.now =
+    omega (arith, c.loop-note-test.false, c.loop-note.auto.note-end) in (
       inv.2.0,
-      covers c.args.edges.now (length c.args.into.now) c.loop-note.count c.loop-note.continued.items inv.2.0 c.requires.forward
-          (subst (λ k. IsCoveredTo c.args.edges.now k c.loop-note.continued.items c.loop-note.count inv.2.0) all inv.2.1),
+      covers c.args.edges.now (length c.args.into.now) c.loop-note.count c.loop-note.continued.items inv.2.0
+          c.requires.forward
+          (subst (λ k. IsCoveredTo c.args.edges.now k c.loop-note.continued.items c.loop-note.count inv.2.0) all
+          inv.2.1),
     )

@@ -1,5 +1,7 @@
+use Rattle.std.proofs.Common.{ℕ, ◌*◌}
+use Rattle.std.specs.Prelude.{min}
 use Rattle.cs_graph.specs.inner.Growing.{AreDrawnTo}
 use Rattle.cs_graph.proofs.draw.add_edges.Given as goal
 
-abbrev pub invariant-loop-earlier : goal.invariant-loop-earlier
-invariant-loop-earlier l = AreDrawnTo l.initial.edges.items l.near l.note l.earlier l.edges.items
+abbrev pub invariant-loop-block : goal.invariant-loop-block
+invariant-loop-block l = AreDrawnTo l.initial.edges.items l.near l.note (min l.note (l.block * 64)) l.edges.items

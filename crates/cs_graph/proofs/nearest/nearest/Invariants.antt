@@ -1,5 +1,7 @@
+use Rattle.std.proofs.Common.{ℕ, ◌*◌}
+use Rattle.std.specs.Prelude.{min}
 use Rattle.cs_graph.specs.inner.Nearest.{IsFound}
 use Rattle.cs_graph.proofs.nearest.nearest.Given as goal
 
-abbrev pub invariant-loop-q : goal.invariant-loop-q
-invariant-loop-q l = IsFound l.met l.known l.q l.note l.found
+abbrev pub invariant-loop-block : goal.invariant-loop-block
+invariant-loop-block l = IsFound l.met l.known (min l.note (l.block * 64)) l.note l.found

@@ -15,5 +15,8 @@ returns-clause-met g c = λ p earlier.
     rw here (clash-met (foot feet p) c.footprint-foot.result.now
     (λ y. writes_so_far c.args.by_place.now y p) (λ y. uses_so_far c.touch_places.new.by_place y p)
     (λ y. of_earlier _ _ p c.args.note earlier (c.requires.by_place.writers y p))
-    (λ y. others_same _ _ _ p c.args.note apart (c.in_ok-touch_places.ensures.users y p) ∙ of_earlier _ _ p c.args.note earlier (c.requires.by_place.users y p))
-    _ _ _ c.as_slice.ensures c.as_slice-2.ensures (c.in_ok-touch_places-2.ensures.met p apart ∙ or_with _ _ _ (c.in_ok-touch_places.ensures.met p apart ∙ or_with _ _ _ (c.new-met.ensures p))))
+    (λ y. others_same _ _ _ p c.args.note apart (c.in_ok-touch_places.ensures.users y p)
+    ∙ of_earlier _ _ p c.args.note earlier (c.requires.by_place.users y p))
+    _ _ _ c.as_slice.ensures c.as_slice-2.ensures
+    (c.in_ok-touch_places-2.ensures.met p apart
+    ∙ or_with _ _ _ (c.in_ok-touch_places.ensures.met p apart ∙ or_with _ _ _ (c.new-met.ensures p))))

@@ -7,4 +7,5 @@ pub returns-clause-most : goal.returns-clause-most
 returns-clause-most c notes =
     let covered = c.self.invariant.covered in
     subst (λ g. AreApart g.edges (length g.levels) notes → length notes ≤ c.self.inside.chains) c.self.view_is
-    (λ a. no_more_apart c.self.inside.edges.items (length c.self.inside.levels.items) c.self.inside.chains covered.0 covered.1 notes a)
+    (λ a. no_more_apart c.self.inside.edges.items (length c.self.inside.levels.items) c.self.inside.chains covered.0
+    covered.1 notes a)

@@ -8,7 +8,9 @@ use Rattle.cs_graph.proofs.growing.Growing.add_note.Goals as goal
 
 pub nearest-found-requires-clause-closed : goal.nearest-found-requires-clause-closed
 nearest-found-requires-clause-closed g c =
-    rw c.deref.ensures.value (IsClosed-known (map g.J.Job.means.foot c.args.jobs.now) c.args.note c.args.self.now.known.items c.requires.grown.known)
+    rw c.deref.ensures.value
+    (IsClosed-known (map g.J.Job.means.foot c.args.jobs.now) c.args.note c.args.self.now.known.items
+    c.requires.grown.known)
 
 pub add_edges-requires-clause-before : goal.add_edges-requires-clause-before
 add_edges-requires-clause-before g c =
@@ -27,7 +29,8 @@ returns g c =
     let edges = c.add_edges.new.edges.items in
     let met = c.in_ok-met.met in
     let found = c.nearest-found.result in
-    let f : IsFound met known 0 t found = subst (λ l. IsFound met l 0 t found) c.deref.ensures.value c.nearest-found.ensures in
+    let f : IsFound met known 0 t found =
+    subst (λ l. IsFound met l 0 t found) c.deref.ensures.value c.nearest-found.ensures in
     let d : AreDrawnTo old found.near t t edges = c.in_ok-add_edges.ensures in
     let range : ℕ × ℕ = (c.len-first.result, c.len.result) in
     let first : c.len-first.result ≡ length old = omega (arith, c.len-first.ensures) in
@@ -35,11 +38,14 @@ returns g c =
     let is : range ≡ (length old, length edges) = ap (λ n. (n, c.len.result)) first ∙ ap (λ n. (length old, n)) last in
     record {
       touched = c.in_ok-met.ensures.by_place;
-      known = rw c.in_ok-push-3.ensures.items (known_push feet t within met known found c.in_ok-met.ensures.met r.known f);
+      known = rw c.in_ok-push-3.ensures.items
+          (known_push feet t within met known found c.in_ok-met.ensures.met r.known f);
       levels = rw c.in_ok-push-2.ensures.items (omega (arith, r.levels, length-append levels (found.known.level ∷ [])));
-      level = rw (c.in_ok-push-2.ensures.items, c.in_ok-push-3.ensures.items) (level_push feet t within met known found c.in_ok-met.ensures.met r.known f levels r.levels r.level);
+      level = rw (c.in_ok-push-2.ensures.items, c.in_ok-push-3.ensures.items)
+          (level_push feet t within met known found c.in_ok-met.ensures.met r.known f levels r.levels r.level);
       into = rw c.in_ok-push.ensures.items (omega (arith, r.into, length-append into (range ∷ [])));
-      ranges = rw c.in_ok-push.ensures.items (ranges_more old edges found.near t d (λ e a b h. (r.drawn.each a b (e, h)).0) into range r.into is r.ranges);
+      ranges = rw c.in_ok-push.ensures.items
+          (ranges_more old edges found.near t d (λ e a b h. (r.drawn.each a b (e, h)).0) into range r.into is r.ranges);
       ordered = d.ordered;
       drawn = drawn_more feet t within met known found c.in_ok-met.ensures.met r.known f old edges r.drawn d.ends;
       few = omega (arith, d.few, r.few, c.requires.small);

@@ -5,6 +5,8 @@ use Rattle.cs_graph.proofs.note_set.NoteSet.join.Given as goal
 abbrev pub invariant-loop-k : goal.invariant-loop-k
 invariant-loop-k l = record {
   long : length l.self-inside.words ≡ 8;
-  done : (j : ℕ) → j < l.k → get_or l.self-inside.words j 0 ≡ bit_or (get_or l.initial.self-inside.words j 0) (get_or l.other-inside.words j 0);
+  done : (j : ℕ) → j < l.k
+      → get_or l.self-inside.words j 0 ≡ bit_or (get_or l.initial.self-inside.words j 0)
+      (get_or l.other-inside.words j 0);
   left : (j : ℕ) → l.k ≤ j → get_or l.self-inside.words j 0 ≡ get_or l.initial.self-inside.words j 0;
 }
