@@ -15,7 +15,7 @@ use Rattle.cs_ir.specs.Waves.{Wave}
 use Rattle.cs_meaning.specs.Plain.{Piece, Table}
 use Rattle.cs_piece.specs.VoicesOfNotes.{GoesOn, Hold, IsVoiceOf, next_note}
 use Rattle.cs_piece.specs.Ready.{IsStageOf}
-use Rattle.cs_voice_meaning.specs.VoiceWorld.{pace_of, the_generators}
+use Rattle.cs_ugen.specs.Generators.{pace_of, the_generators}
 use Rattle.cs_voice_meaning.specs.Voices.{Sheet, Sounding, left_by}
 use Rattle.cs_voice_meaning.specs.Voices as sounding
 use Rattle.cs_voice.specs.Starts.{piece_at, sheet_at}

@@ -10,6 +10,7 @@ use Rattle.cs_base.specs.declared.resource.Res.{Res}
 use Rattle.cs_base.specs.declared.resource.Res.TheVariants as res
 use Rattle.cs_base.specs.declared.spaces.Spaces.{Spaces}
 use Rattle.cs_words.specs.Catalogue.{takes_table}
+use Rattle.cs_words.specs.Generators.{Generators}
 use Rattle.cs_words.specs.declared.catalogue.Opcode.{Opcode}
 use Rattle.cs_words.specs.declared.catalogue.Opcode.TheVariants as op
 use Rattle.cs_words.specs.declared.catalogue.Space.{Space}
@@ -23,12 +24,6 @@ use Rattle.cs_typed.specs.Places.{Header}
 use Rattle.cs_ir.specs.Resources.{places_of, zak_place, reaches}
 use Rattle.cs_ir.specs.Waves.{Wave}
 use Rattle.cs_ir.specs.declared.op.Reach.{Reach}
-
--- What opcodes with a state do: what one gives at its last step, by its rate, its settled values and all inputs so far; and how
--- many samples a delay of a time in raw seconds keeps.
-pub record Generators : Type 0 where
-  pub gen : Opcode → Rate → List ℤ → List (List ℤ) → ℤ
-  pub delay : ℤ → ℕ
 
 -- A table: its number, its size, its points where they are frozen, and whether it has been made by now.
 pub record Table : Type 0 where

@@ -22,7 +22,8 @@ use Rattle.cs_meaning.specs.Notes.{Note}
 use Rattle.cs_meaning.specs.Plain.{Piece, Plain, Cause, plain, fresh, next_cycle}
 use Rattle.cs_code.specs.Means.{Plan, Stands, Means, MeansIn}
 use Rattle.cs_voice_meaning.specs.Placing.{area_of, wave_of, HasArea}
-use Rattle.cs_voice_meaning.specs.VoiceWorld.{VoiceState, pace_of, the_generators, fresh_voice}
+use Rattle.cs_ugen.specs.Generators.{pace_of, the_generators}
+use Rattle.cs_voice_meaning.specs.VoiceWorld.{VoiceState, fresh_voice}
 use Rattle.cs_voice_meaning.specs.Follows.{Kinds, ActNamed, AreNamed, OpsNamed, SameState, Alike}
 use Rattle.cs_voice_meaning.specs.Voices.{Sheet, Sounding, IsPlayable, IsUsed, initialised, begins, cycle, voice_of, performed, left_by}
 use Rattle.cs_voice_meaning.proofs.Notes.{do_alike, begins_same}

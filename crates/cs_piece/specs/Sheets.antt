@@ -11,7 +11,7 @@ use Rattle.cs_code.specs.Lowered.{IsCodeOf}
 use Rattle.cs_code.specs.Names.{UnitKind}
 use Rattle.cs_rwset.specs.Footprints.{stock_of, places_holding}
 use Rattle.cs_voice_meaning.specs.Placing.{HasArea, IsPlaced}
-use Rattle.cs_voice_meaning.specs.VoiceWorld.{the_generators, pace_of}
+use Rattle.cs_ugen.specs.Generators.{pace_of, the_generators}
 use Rattle.cs_voice_meaning.specs.Follows.{Kinds, AreNamed}
 use Rattle.cs_voice_meaning.specs.Voices.{Sheet}
 

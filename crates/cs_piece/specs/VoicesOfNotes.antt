@@ -15,7 +15,7 @@ use Rattle.cs_meaning.specs.Performing.{perf_block}
 use Rattle.cs_meaning.specs.Plain.{Piece, Plain, plain, fresh, next_cycle}
 use Rattle.cs_code.specs.Means.{Plan}
 use Rattle.cs_voice_meaning.specs.Placing.{area_of, wave_of, HasArea}
-use Rattle.cs_voice_meaning.specs.VoiceWorld.{pace_of}
+use Rattle.cs_ugen.specs.Generators.{pace_of}
 use Rattle.cs_voice_meaning.specs.Follows.{Kinds, SameUnit}
 use Rattle.cs_voice_meaning.specs.Voices.{Sheet, Sounding, initialised, voice_of, performed, left_by}
 

@@ -2,7 +2,7 @@
 ghost use Rattle.std.specs.Prelude.{◌≡◌};
 ghost use Rattle.cs_meaning.specs.Core.{Block, core};
 ghost use Rattle.cs_code.specs.Means.{Means};
-ghost use Rattle.cs_voice_meaning.specs.VoiceWorld.{the_generators, pace_of};
+ghost use Rattle.cs_ugen.specs.Generators.{pace_of, the_generators};
 ghost use Rattle.cs_voice_meaning.specs.Voices.{Sheet, IsPlayable};
 ghost use Rattle.cs_typed.specs.TypedTree as typed;
 ghost use Rattle.cs_ir.specs.declared.op.Code.{Code};

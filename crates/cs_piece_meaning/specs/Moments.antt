@@ -10,7 +10,7 @@ use Rattle.cs_meaning.specs.Notes.{Note}
 use Rattle.cs_meaning.specs.Plain.{Piece, Plain, Table}
 use Rattle.cs_sched.specs.Times.{Clock}
 use Rattle.cs_sched.specs.Waiting.{Waiting}
-use Rattle.cs_voice_meaning.specs.VoiceWorld.{pace_of, the_generators}
+use Rattle.cs_ugen.specs.Generators.{pace_of, the_generators}
 use Rattle.cs_tempo.specs.declared.plot.Event.{Event}
 
 -- What two accepted texts ask for: the header, the zak spaces, the statements outside instruments, those of the instrument of each

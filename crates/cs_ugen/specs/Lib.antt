@@ -1,3 +1,4 @@
+pub mod Generators
 pub mod Inputs
 pub mod Oscil
 pub mod Oscili

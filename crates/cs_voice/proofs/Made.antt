@@ -9,7 +9,8 @@ use Rattle.cs_ir.specs.declared.op.Code.{Code}
 use Rattle.cs_ir.specs.declared.register.Counts.{Counts}
 use Rattle.cs_cells.specs.declared.footprint.Area.{Area}
 use Rattle.cs_cells.specs.declared.footprint.Footprint.{Footprint}
-use Rattle.cs_meaning.specs.Pieces.{Generators, Piece, Table, find_table}
+use Rattle.cs_words.specs.Generators.{Generators}
+use Rattle.cs_meaning.specs.Pieces.{Piece, Table, find_table}
 use Rattle.cs_machine.specs.Outputs.{outs, refilled}
 use Rattle.cs_machine.specs.Registers.{filled, values}
 use Rattle.cs_machine.specs.Players.{PlayerData, playing}

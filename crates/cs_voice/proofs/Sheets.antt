@@ -20,7 +20,8 @@ use Rattle.cs_ir.specs.declared.op.Reach.{Reach}
 use Rattle.cs_ir.specs.declared.register.Reg.{Reg}
 use Rattle.cs_cells.specs.declared.footprint.Area.{Area}
 use Rattle.cs_meaning.specs.Model.{has_run, store_at, store_into, unit_does, unit_points, zak_does}
-use Rattle.cs_meaning.specs.Pieces.{Generators, Piece, Table, find_table, index, may_touch, read_points}
+use Rattle.cs_words.specs.Generators.{Generators}
+use Rattle.cs_meaning.specs.Pieces.{Piece, Table, find_table, index, may_touch, read_points}
 use Rattle.cs_voice_meaning.specs.VoiceWorld.{Playing, VoiceState, has_played, played, read_cells, voice_model, voice_world}
 use Rattle.cs_voice.specs.VoiceData.{made}
 

@@ -24,7 +24,8 @@ use Rattle.cs_meaning.specs.Pieces.{Piece, Table, find_table, is_there, is_delay
 use Rattle.cs_machine.specs.Registers.{values}
 use Rattle.cs_machine.specs.Outputs.{outs}
 use Rattle.cs_voice_meaning.specs.Placing.{area_of}
-use Rattle.cs_voice_meaning.specs.VoiceWorld.{Playing, VoiceState, pace_of, voice_model}
+use Rattle.cs_ugen.specs.Generators.{pace_of}
+use Rattle.cs_voice_meaning.specs.VoiceWorld.{Playing, VoiceState, voice_model}
 use Rattle.cs_voice_meaning.specs.Follows.{Kinds}
 use Rattle.cs_machine.specs.Players.{PlayerData, playing}
 use Rattle.cs_machine.specs.States.{machine_of, unit_at, IsStateIn, IsPlayerOf}

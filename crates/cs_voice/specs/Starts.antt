@@ -6,7 +6,8 @@ use Rattle.cs_ir.specs.Machine.{Machine}
 use Rattle.cs_cells.specs.declared.footprint.Footprint.{Footprint}
 use Rattle.cs_meaning.specs.Model.{no_table, delay_too_long}
 use Rattle.cs_meaning.specs.Pieces.{Piece}
-use Rattle.cs_voice_meaning.specs.VoiceWorld.{VoiceState, pace_of, the_generators}
+use Rattle.cs_ugen.specs.Generators.{pace_of, the_generators}
+use Rattle.cs_voice_meaning.specs.VoiceWorld.{VoiceState}
 use Rattle.cs_voice_meaning.specs.Voices.{Sheet, voice_of}
 use Rattle.cs_typed.specs.TypedTree.{header_of_head}
 use Rattle.cs_voice.specs.VoiceData.{VoiceData, IsOn, sounding_on}

@@ -10,7 +10,8 @@ use Rattle.cs_cells.specs.declared.footprint.Footprint.{Footprint}
 use Rattle.cs_meaning.specs.Pieces.{Piece, Table}
 use Rattle.cs_machine.specs.Outputs.{ChannelFile, outs, refilled}
 use Rattle.cs_machine.specs.Registers.{RegisterFile, filled, values}
-use Rattle.cs_voice_meaning.specs.VoiceWorld.{Playing, pace_of, the_generators}
+use Rattle.cs_ugen.specs.Generators.{pace_of, the_generators}
+use Rattle.cs_voice_meaning.specs.VoiceWorld.{Playing}
 use Rattle.cs_voice_meaning.specs.Voices.{Sheet, Sounding}
 
 -- A voice: the number of its instrument and its age; the header, the zak spaces, the tables and the areas that it

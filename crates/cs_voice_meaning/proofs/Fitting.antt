@@ -30,7 +30,8 @@ use Rattle.cs_cells.specs.Cells.{Cells, cell}
 use Rattle.cs_cells.specs.declared.footprint.Area.{Area}
 use Rattle.cs_meaning.specs.Model.{Model, with_value, put_unit, unit_points, has_run, unit_does, store_into, store_at, zak_does, lacks_table, begun, delayed, starts, out_to, out_to_numbered}
 use Rattle.cs_meaning.specs.Pieces.{Piece, Table, find_table, table_number, is_there, is_delay, is_live, index, may_touch, at_place, has_place, added}
-use Rattle.cs_voice_meaning.specs.VoiceWorld.{Playing, VoiceState, played, has_played, voice_model, voice_world, pace_of, fresh_voice}
+use Rattle.cs_ugen.specs.Generators.{pace_of}
+use Rattle.cs_voice_meaning.specs.VoiceWorld.{Playing, VoiceState, played, has_played, voice_model, voice_world, fresh_voice}
 use Rattle.cs_voice_meaning.specs.Voices.{Sheet, Sounding, IsPlayable, IsSound, begins, seen, initialised, voice_of, performed, has_channel, have_channels}
 use Rattle.cs_voice_meaning.specs.Room.{FitsIn, VoiceFits}
 

@@ -8,7 +8,8 @@ use Rattle.cs_ir.specs.Waves.{Wave}
 use Rattle.cs_cells.specs.declared.footprint.Area.{Area}
 use Rattle.cs_meaning.specs.Plain.{Plain, plain, fresh, next_cycle}
 use Rattle.cs_voice_meaning.specs.Placing.{area_of, HasArea, wave_of}
-use Rattle.cs_voice_meaning.specs.VoiceWorld.{VoiceState, fresh_voice, next_voice, pace_of, voice_world}
+use Rattle.cs_ugen.specs.Generators.{pace_of}
+use Rattle.cs_voice_meaning.specs.VoiceWorld.{VoiceState, fresh_voice, next_voice, voice_world}
 use Rattle.cs_voice_meaning.specs.Follows.{Kinds, SameState, DoAlike}
 use Rattle.cs_voice_meaning.proofs.Alikes.{run_alike}
 use Rattle.cs_voice_meaning.proofs.VoiceFollows.{voice_follows}

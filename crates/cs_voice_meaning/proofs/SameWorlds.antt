@@ -24,7 +24,8 @@ use Rattle.cs_cells.specs.declared.footprint.Area.{Area}
 use Rattle.cs_meaning.specs.Model.{Model, Cause, no_table, delay_too_long, loaded, with_value, saved, put_unit, unit_points, has_run, unit_does, store_into, store_at, cleared, zak_does, lacks_table, refused_for, begun, delayed, starts, out_to, out_to_numbered}
 use Rattle.cs_meaning.specs.Pieces.{Piece, Table, find_table, table_number, is_there, is_delay, is_live, index, is_cleared, added, stored, places_of_indices, steps_of, read_points, points_of, may_touch, at_place, has_place}
 use Rattle.cs_voice_meaning.specs.Placing.{area_of, wave_of, with_wave, IsPlaced}
-use Rattle.cs_voice_meaning.specs.VoiceWorld.{Playing, VoiceState, played, has_played, lies_cleared, voice_model, voice_world, pace_of}
+use Rattle.cs_ugen.specs.Generators.{pace_of}
+use Rattle.cs_voice_meaning.specs.VoiceWorld.{Playing, VoiceState, played, has_played, lies_cleared, voice_model, voice_world}
 use Rattle.cs_voice_meaning.specs.Follows.{Kinds, AreNamed}
 use Rattle.cs_voice_meaning.proofs.Alikes.{Follows}
 use Rattle.cs_voice_meaning.proofs.Naming.{place_named}

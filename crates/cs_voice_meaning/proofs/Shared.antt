@@ -20,7 +20,8 @@ use Rattle.cs_meaning.specs.Model.{loaded, with_value, saved, cleared}
 use Rattle.cs_meaning.specs.Pieces.{Piece}
 use Rattle.cs_meaning.specs.Plain.{Plain, plain_model, shared_with}
 use Rattle.cs_voice_meaning.specs.Placing.{area_of, wave_in, wave_of, with_wave, IsPlaced}
-use Rattle.cs_voice_meaning.specs.VoiceWorld.{VoiceState, lies_cleared, pace_of, voice_model}
+use Rattle.cs_ugen.specs.Generators.{pace_of}
+use Rattle.cs_voice_meaning.specs.VoiceWorld.{VoiceState, lies_cleared, voice_model}
 use Rattle.cs_voice_meaning.specs.Follows.{Kinds, SameState}
 use Rattle.cs_voice_meaning.proofs.Placed.{Roomy, Fits, area_at, wave_same, wave_written, wave_kept}
 

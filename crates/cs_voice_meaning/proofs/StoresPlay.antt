@@ -18,7 +18,8 @@ use Rattle.cs_meaning.specs.Model.{loaded, with_value, store_into, store_at}
 use Rattle.cs_meaning.specs.Pieces.{Piece, Table, find_table, stored, places_of_indices, steps_of, is_live, at_place, has_place}
 use Rattle.cs_meaning.specs.Plain.{Plain, plain_model}
 use Rattle.cs_voice_meaning.specs.Placing.{area_of, wave_of, IsPlaced, IsTablePlaced}
-use Rattle.cs_voice_meaning.specs.VoiceWorld.{VoiceState, pace_of, voice_model}
+use Rattle.cs_ugen.specs.Generators.{pace_of}
+use Rattle.cs_voice_meaning.specs.VoiceWorld.{VoiceState, voice_model}
 use Rattle.cs_voice_meaning.specs.Follows.{Kinds, AreNamed, SameState}
 use Rattle.cs_voice_meaning.proofs.Naming.{place_named, no_table}
 use Rattle.cs_voice_meaning.proofs.Placed.{Fits}

@@ -21,10 +21,12 @@ use Rattle.cs_ir.specs.Waves.{Wave, held, silence}
 use Rattle.cs_ir.specs.declared.op.Reach.{Reach}
 use Rattle.cs_cells.specs.declared.footprint.Area.{Area}
 use Rattle.cs_meaning.specs.Model.{loaded, put_unit, unit_points, has_run, unit_does}
-use Rattle.cs_meaning.specs.Pieces.{Generators, Piece, Table, find_table, table_number, read_points, points_of, steps_of, step_at, may_touch}
+use Rattle.cs_words.specs.Generators.{Generators}
+use Rattle.cs_meaning.specs.Pieces.{Piece, Table, find_table, table_number, read_points, points_of, steps_of, step_at, may_touch}
 use Rattle.cs_meaning.specs.Plain.{Plain, History, inputs_of, has_had, generated, plain_model}
 use Rattle.cs_voice_meaning.specs.Placing.{IsPlaced}
-use Rattle.cs_voice_meaning.specs.VoiceWorld.{Playing, VoiceState, inputs_at, played, has_played, the_generators, pace_of, voice_model}
+use Rattle.cs_ugen.specs.Generators.{pace_of, the_generators}
+use Rattle.cs_voice_meaning.specs.VoiceWorld.{Playing, VoiceState, inputs_at, played, has_played, voice_model}
 use Rattle.cs_voice_meaning.specs.Follows.{Kinds, AreNamed, Plays, SameUnit, SameState}
 use Rattle.cs_voice_meaning.proofs.Naming.{named_among, found_number}
 

@@ -20,7 +20,8 @@ use Rattle.cs_meaning.specs.Model.{Cause, no_table, delay_too_long, loaded, save
 use Rattle.cs_meaning.specs.Pieces.{Piece, find_table, table_number, is_there, is_delay, index, is_cleared, added}
 use Rattle.cs_meaning.specs.Plain.{Plain, History, plain, plain_model}
 use Rattle.cs_voice_meaning.specs.Placing.{area_of, IsPlaced}
-use Rattle.cs_voice_meaning.specs.VoiceWorld.{Playing, VoiceState, the_generators, pace_of, voice_model, voice_world}
+use Rattle.cs_ugen.specs.Generators.{pace_of, the_generators}
+use Rattle.cs_voice_meaning.specs.VoiceWorld.{Playing, VoiceState, voice_model, voice_world}
 use Rattle.cs_voice_meaning.specs.Follows.{Kinds, AreNamed, Plays, SameState}
 use Rattle.cs_voice_meaning.proofs.Alikes.{Follows}
 use Rattle.cs_voice_meaning.proofs.Shared.{held_state, cleared_state}

@@ -14,7 +14,8 @@ use Rattle.cs_ir.specs.declared.register.Reg.{Reg}
 use Rattle.cs_cells.specs.Cells.{Cells}
 use Rattle.cs_cells.specs.declared.footprint.Area.{Area}
 use Rattle.cs_meaning.specs.Plain.{Piece}
-use Rattle.cs_voice_meaning.specs.VoiceWorld.{VoiceState, the_generators}
+use Rattle.cs_ugen.specs.Generators.{the_generators}
+use Rattle.cs_voice_meaning.specs.VoiceWorld.{VoiceState}
 use Rattle.cs_voice_meaning.specs.Voices.{Sheet, Sounding, initialised, voice_of, performed}
 
 abbrev pub whole : ℕ → ℤ

@@ -16,7 +16,8 @@ use Rattle.cs_cells.specs.declared.footprint.Area.{Area}
 use Rattle.cs_meaning.specs.Pieces.{Piece, table_number}
 use Rattle.cs_meaning.specs.Plain.{Plain, History, plain}
 use Rattle.cs_voice_meaning.specs.Placing.{HasArea, IsPlaced}
-use Rattle.cs_voice_meaning.specs.VoiceWorld.{Playing, VoiceState, read_cells, pace_of, the_generators, voice_world}
+use Rattle.cs_ugen.specs.Generators.{pace_of, the_generators}
+use Rattle.cs_voice_meaning.specs.VoiceWorld.{Playing, VoiceState, read_cells, voice_world}
 
 -- each of some resources is named
 abbrev pub AreNamed : (Res → Type 0) → List Res → Type 0

@@ -4,30 +4,19 @@ use Rattle.std.specs.List.{list_any}
 use Rattle.cs_base.specs.Rates.{res_rate}
 use Rattle.cs_base.specs.declared.resource.Rate.{Rate}
 use Rattle.cs_base.specs.declared.resource.Res.{Res}
-use Rattle.cs_typed.specs.Places.{Header}
 use Rattle.cs_signal.specs.Delay.{delay_length}
 use Rattle.cs_signal.specs.Operands.{argument}
-use Rattle.cs_signal.specs.Pace.{Pace}
 use Rattle.cs_signal.specs.Steps.{run}
-use Rattle.cs_ugen.specs.Units.{gen, unit_start, unit_step}
+use Rattle.cs_ugen.specs.Generators.{pace_of}
+use Rattle.cs_ugen.specs.Units.{unit_start, unit_step}
 use Rattle.cs_ugen.specs.declared.unit.Kind.{Kind}
 use Rattle.cs_ir.specs.Waves.{Wave, silence}
 use Rattle.cs_ir.specs.Worlds.{World}
 use Rattle.cs_cells.specs.Cells.{in_area}
 use Rattle.cs_cells.specs.declared.footprint.Area.{Area}
 use Rattle.cs_meaning.specs.Model.{State, Model, fresh_state, world_of}
-use Rattle.cs_meaning.specs.Pieces.{Generators, Piece, steps_of, step_at, table_number}
+use Rattle.cs_meaning.specs.Pieces.{Piece, steps_of, step_at, table_number}
 use Rattle.cs_voice_meaning.specs.Placing.{area_of, wave_of, with_wave}
-
--- the units of cs_ugen as the meaning's parameter, and the pace of a piece
-abbrev pub pace_of : Header → Pace
-pace_of h = record { sr = h.sr; ksmps = h.ksmps }
-
-abbrev pub the_generators : Pace → Generators
-the_generators pace = record {
-  gen = λ opcode r settled inputs. gen opcode r pace settled inputs;
-  delay = delay_length pace;
-}
 
 -- A unit as it plays: the number of the table that it was started with, and the state that it has come to.
 pub record Playing : Type 0 where

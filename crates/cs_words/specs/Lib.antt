@@ -1,5 +1,6 @@
 pub mod inner
 pub mod Catalogue
+pub mod Generators
 pub mod NameSets
 pub mod Names
 pub mod Signs
