@@ -1,5 +1,5 @@
--- Two typed statements that differ in their variables alone: in two notes where each variable has what the other's has, they do the
--- same. Such notes may be in two worlds that differ in the numbers of what notes share.
+-- Two typed statements that differ in their variables alone: in two notes where each variable has what the other's has,
+-- they do the same. Such notes may be in two worlds that differ in the numbers of what notes share.
 use Rattle.std.proofs.Common.{◌≡◌, ◌∙◌, ℕ, ℤ, ◌+◌, Bool, true, false, if◌then◌else◌, List, [], ◌∷◌, refl, ap, subst}
 use Rattle.cs_base.specs.declared.resource.Rate.{Rate}
 use Rattle.cs_base.specs.declared.resource.Rate.TheVariants as rate
@@ -23,9 +23,12 @@ use Rattle.cs_ir.specs.Waves.{Wave, held, constant, both, chosen, if_init, first
 use Rattle.cs_ir.specs.Worlds.{World}
 use Rattle.cs_ir.specs.declared.op.Reach.{Reach}
 use Rattle.cs_ir.specs.declared.op.Reach.TheVariants as reach
-use Rattle.cs_meaning.specs.Core.{Stmt, set, unit, zak, store, out, out_at, ask, turnoff, nothing, choose, no_stmt, otherwise, values_of, settled, moving, table_reach, place_reach, span_reach, unit_reach, zak_reach, plus, unit_call, store_call, zak_call, core_call}
+use Rattle.cs_meaning.specs.Core.{Stmt, set, unit, zak, store, out, out_at, ask, turnoff, nothing, choose, no_stmt}
+use Rattle.cs_meaning.specs.Core.{otherwise, values_of, settled, moving, table_reach, place_reach, span_reach}
+use Rattle.cs_meaning.specs.Core.{unit_reach, zak_reach, plus, unit_call, store_call, zak_call, core_call}
 use Rattle.cs_meaning.specs.Initialising.{going, put_kept, keep, keep_all, started, sought, init_stmt}
-use Rattle.cs_meaning.specs.Notes.{Note, Place, moved_to, past, past_all, past_parts, past_stmt, look, assign, part, value, values, first_value, given, done, sent, sent_at}
+use Rattle.cs_meaning.specs.Notes.{Note, Place, moved_to, past, past_all, past_parts, past_stmt, look, assign, part}
+use Rattle.cs_meaning.specs.Notes.{value, values, first_value, given, done, sent, sent_at}
 use Rattle.cs_meaning.specs.Performing.{perf_stmt}
 use Rattle.cs_udo_meaning.specs.Renumbered.{renumbered}
 
@@ -90,10 +93,12 @@ settled_alike : {V : Variable → Variable → Type 0} {xs ys : List typed.Argum
     → AlikeArguments V xs ys
     → AlikeAll V (settled row n xs) (settled row n ys)
 settled_alike row n no_argument = alike_none
-settled_alike {V} row n (more_values a b xs ys h more) = by (is_settled (letter_at row n)) (settled_alike row (n + 1) more)
+settled_alike {V} row n (more_values a b xs ys h more) =
+    by (is_settled (letter_at row n)) (settled_alike row (n + 1) more)
   where
     by : (c : Bool) → AlikeAll V (settled row (n + 1) xs) (settled row (n + 1) ys)
-        → AlikeAll V (if c then a ∷ settled row (n + 1) xs else settled row (n + 1) xs) (if c then b ∷ settled row (n + 1) ys else settled row (n + 1) ys)
+        → AlikeAll V (if c then a ∷ settled row (n + 1) xs else settled row (n + 1) xs)
+        (if c then b ∷ settled row (n + 1) ys else settled row (n + 1) ys)
     by true g = alike_more a b (settled row (n + 1) xs) (settled row (n + 1) ys) h g
     by false g = g
 settled_alike row n (more_texts v w xs ys h more) = settled_alike row (n + 1) more
@@ -102,10 +107,12 @@ moving_alike : {V : Variable → Variable → Type 0} {xs ys : List typed.Argume
     → AlikeArguments V xs ys
     → AlikeAll V (moving row n xs) (moving row n ys)
 moving_alike row n no_argument = alike_none
-moving_alike {V} row n (more_values a b xs ys h more) = by (is_settled (letter_at row n)) (moving_alike row (n + 1) more)
+moving_alike {V} row n (more_values a b xs ys h more) =
+    by (is_settled (letter_at row n)) (moving_alike row (n + 1) more)
   where
     by : (c : Bool) → AlikeAll V (moving row (n + 1) xs) (moving row (n + 1) ys)
-        → AlikeAll V (if c then moving row (n + 1) xs else a ∷ moving row (n + 1) xs) (if c then moving row (n + 1) ys else b ∷ moving row (n + 1) ys)
+        → AlikeAll V (if c then moving row (n + 1) xs else a ∷ moving row (n + 1) xs)
+        (if c then moving row (n + 1) ys else b ∷ moving row (n + 1) ys)
     by true g = g
     by false g = alike_more a b (moving row (n + 1) xs) (moving row (n + 1) ys) h g
 moving_alike row n (more_texts v w xs ys h more) = moving_alike row (n + 1) more
@@ -162,13 +169,16 @@ zak_reach_alike spaces (shape.ZakGet s) alike_none = refl
 zak_reach_alike spaces (shape.ZakGet s) (alike_more a b xs ys h more) = place_alike (places_of spaces s) h
 zak_reach_alike spaces (shape.ZakPut s) alike_none = refl
 zak_reach_alike spaces (shape.ZakPut s) (alike_more a b _ _ h alike_none) = refl
-zak_reach_alike spaces (shape.ZakPut s) (alike_more a b _ _ h (alike_more c d xs ys j more)) = place_alike (places_of spaces s) j
+zak_reach_alike spaces (shape.ZakPut s) (alike_more a b _ _ h (alike_more c d xs ys j more)) =
+    place_alike (places_of spaces s) j
 zak_reach_alike spaces shape.ZakMix alike_none = refl
 zak_reach_alike spaces shape.ZakMix (alike_more a b _ _ h alike_none) = refl
-zak_reach_alike spaces shape.ZakMix (alike_more a b _ _ h (alike_more c d xs ys j more)) = place_alike (places_of spaces space.Audio) j
+zak_reach_alike spaces shape.ZakMix (alike_more a b _ _ h (alike_more c d xs ys j more)) =
+    place_alike (places_of spaces space.Audio) j
 zak_reach_alike spaces (shape.ZakClear s) alike_none = refl
 zak_reach_alike spaces (shape.ZakClear s) (alike_more a b _ _ h alike_none) = refl
-zak_reach_alike spaces (shape.ZakClear s) (alike_more a b _ _ h (alike_more c d xs ys j more)) = span_alike (places_of spaces s) h j
+zak_reach_alike spaces (shape.ZakClear s) (alike_more a b _ _ h (alike_more c d xs ys j more)) =
+    span_alike (places_of spaces s) h j
 zak_reach_alike spaces shape.Unit p = refl
 zak_reach_alike spaces shape.Store p = refl
 zak_reach_alike spaces shape.Init p = refl
@@ -190,7 +200,8 @@ unit_alike {V} {vs} {ws} {xs} {ys} r o given args =
     let m = moving_alike row 0 args in
     let s = settled_alike row 0 args in
     let made = unit_reach o (settled row 0 xs) in
-    subst (λ k. AlikeStmt V (unit r vs o made (moving row 0 xs) (settled row 0 xs)) (unit r ws o k (moving row 0 ys) (settled row 0 ys)))
+    subst (λ k. AlikeStmt V (unit r vs o made (moving row 0 xs) (settled row 0 xs))
+    (unit r ws o k (moving row 0 ys) (settled row 0 ys)))
     (ap (λ k. if takes_table o then k else reach.Nothing) (table_alike s))
     (alike_unit r vs ws o made (moving row 0 xs) (moving row 0 ys) (settled row 0 xs) (settled row 0 ys) given m s)
 
@@ -201,7 +212,8 @@ store_alike {V} {xs} {ys} r o args =
     let row = row_of o in
     let s = settled_alike row 0 args in
     let made = table_reach (settled row 0 xs) in
-    subst (λ k. AlikeStmt V (store r o made (values_of xs) (settled row 0 xs)) (store r o k (values_of ys) (settled row 0 ys))) (table_alike s)
+    subst (λ k. AlikeStmt V (store r o made (values_of xs) (settled row 0 xs))
+    (store r o k (values_of ys) (settled row 0 ys))) (table_alike s)
     (alike_store r o made (values_of xs) (values_of ys) (settled row 0 xs) (settled row 0 ys) (values_alike args) s)
 
 zak_alike : {V : Variable → Variable → Type 0} {vs ws : List Variable} {xs ys : List typed.Argument}
@@ -212,7 +224,8 @@ zak_alike {V} {vs} {ws} {xs} {ys} spaces r o sh given args =
     let row = row_of o in
     let m = moving_alike row 0 args in
     let made = zak_reach spaces sh (moving row 0 xs) in
-    subst (λ k. AlikeStmt V (zak r vs o made (moving row 0 xs)) (zak r ws o k (moving row 0 ys))) (zak_reach_alike spaces sh m)
+    subst (λ k. AlikeStmt V (zak r vs o made (moving row 0 xs)) (zak r ws o k (moving row 0 ys)))
+    (zak_reach_alike spaces sh m)
     (alike_zak r vs ws o made (moving row 0 xs) (moving row 0 ys) given m)
 
 pub core_alike : {V : Variable → Variable → Type 0} {vs ws : List Variable} {xs ys : List typed.Argument}
@@ -223,45 +236,59 @@ core_alike spaces r o shape.Init no_variable no_argument = alike_nothing
 core_alike spaces r o shape.Init no_variable (more_values a b xs ys h more) = alike_nothing
 core_alike spaces r o shape.Init no_variable (more_texts v w xs ys h more) = alike_nothing
 core_alike spaces r o shape.Init (more_variables x y vs ws g rest) no_argument = alike_nothing
-core_alike spaces r o shape.Init (more_variables x y vs ws g rest) (more_values a b xs ys h more) = alike_set rate.Init x y a b g h
+core_alike spaces r o shape.Init (more_variables x y vs ws g rest) (more_values a b xs ys h more) =
+    alike_set rate.Init x y a b g h
 core_alike spaces r o shape.Init (more_variables x y vs ws g rest) (more_texts v w xs ys h more) = alike_nothing
 core_alike spaces r o shape.ChannelGet no_variable no_argument = alike_nothing
 core_alike spaces r o shape.ChannelGet no_variable (more_values a b xs ys h more) = alike_nothing
 core_alike spaces r o shape.ChannelGet no_variable (more_texts v w xs ys h more) = alike_nothing
 core_alike spaces r o shape.ChannelGet (more_variables x y vs ws g rest) no_argument = alike_nothing
 core_alike spaces r o shape.ChannelGet (more_variables x y vs ws g rest) (more_values a b xs ys h more) = alike_nothing
-core_alike spaces r o shape.ChannelGet (more_variables x y vs ws g rest) (more_texts v w xs ys h more) = alike_set r x y (var r v) (var r w) g
+core_alike spaces r o shape.ChannelGet (more_variables x y vs ws g rest) (more_texts v w xs ys h more) =
+    alike_set r x y (var r v) (var r w) g
     (alike_var r v w h)
 core_alike spaces r o shape.ChannelPut no_variable no_argument = alike_nothing
 core_alike spaces r o shape.ChannelPut (more_variables x y vs ws g rest) no_argument = alike_nothing
 core_alike spaces r o shape.ChannelPut no_variable (more_texts v w xs ys h more) = alike_nothing
 core_alike spaces r o shape.ChannelPut (more_variables x y vs ws g rest) (more_texts v w xs ys h more) = alike_nothing
 core_alike spaces r o shape.ChannelPut no_variable (more_values a b _ _ h no_argument) = alike_nothing
-core_alike spaces r o shape.ChannelPut (more_variables x y vs ws g rest) (more_values a b _ _ h no_argument) = alike_nothing
-core_alike spaces r o shape.ChannelPut no_variable (more_values a b _ _ h (more_values c d xs ys j more)) = alike_nothing
-core_alike spaces r o shape.ChannelPut (more_variables x y vs ws g rest) (more_values a b _ _ h (more_values c d xs ys j more)) = alike_nothing
-core_alike spaces r o shape.ChannelPut no_variable (more_values a b _ _ h (more_texts v w xs ys j more)) = alike_set r v w a b j h
-core_alike spaces r o shape.ChannelPut (more_variables x y vs ws g rest) (more_values a b _ _ h (more_texts v w xs ys j more)) = alike_set r v w a b j h
+core_alike spaces r o shape.ChannelPut (more_variables x y vs ws g rest) (more_values a b _ _ h no_argument) =
+    alike_nothing
+core_alike spaces r o shape.ChannelPut no_variable (more_values a b _ _ h (more_values c d xs ys j more)) =
+    alike_nothing
+core_alike spaces r o shape.ChannelPut (more_variables x y vs ws g rest)
+    (more_values a b _ _ h (more_values c d xs ys j more)) = alike_nothing
+core_alike spaces r o shape.ChannelPut no_variable (more_values a b _ _ h (more_texts v w xs ys j more)) =
+    alike_set r v w a b j h
+core_alike spaces r o shape.ChannelPut (more_variables x y vs ws g rest)
+    (more_values a b _ _ h (more_texts v w xs ys j more)) = alike_set r v w a b j h
 core_alike spaces r o shape.ChannelMix no_variable no_argument = alike_nothing
 core_alike spaces r o shape.ChannelMix (more_variables x y vs ws g rest) no_argument = alike_nothing
 core_alike spaces r o shape.ChannelMix no_variable (more_texts v w xs ys h more) = alike_nothing
 core_alike spaces r o shape.ChannelMix (more_variables x y vs ws g rest) (more_texts v w xs ys h more) = alike_nothing
 core_alike spaces r o shape.ChannelMix no_variable (more_values a b _ _ h no_argument) = alike_nothing
-core_alike spaces r o shape.ChannelMix (more_variables x y vs ws g rest) (more_values a b _ _ h no_argument) = alike_nothing
-core_alike spaces r o shape.ChannelMix no_variable (more_values a b _ _ h (more_values c d xs ys j more)) = alike_nothing
-core_alike spaces r o shape.ChannelMix (more_variables x y vs ws g rest) (more_values a b _ _ h (more_values c d xs ys j more)) = alike_nothing
+core_alike spaces r o shape.ChannelMix (more_variables x y vs ws g rest) (more_values a b _ _ h no_argument) =
+    alike_nothing
+core_alike spaces r o shape.ChannelMix no_variable (more_values a b _ _ h (more_values c d xs ys j more)) =
+    alike_nothing
+core_alike spaces r o shape.ChannelMix (more_variables x y vs ws g rest)
+    (more_values a b _ _ h (more_values c d xs ys j more)) = alike_nothing
 core_alike spaces r o shape.ChannelMix no_variable (more_values a b _ _ h (more_texts v w xs ys j more)) =
     alike_set r v w (plus rate.Audio v a) (plus rate.Audio w b) j
     (alike_pair rate.Audio op.Add (var rate.Audio v) (var rate.Audio w) a b (alike_var rate.Audio v w j) h)
-core_alike spaces r o shape.ChannelMix (more_variables x y vs ws g rest) (more_values a b _ _ h (more_texts v w xs ys j more)) =
+core_alike spaces r o shape.ChannelMix (more_variables x y vs ws g rest)
+    (more_values a b _ _ h (more_texts v w xs ys j more)) =
     alike_set r v w (plus rate.Audio v a) (plus rate.Audio w b) j
     (alike_pair rate.Audio op.Add (var rate.Audio v) (var rate.Audio w) a b (alike_var rate.Audio v w j) h)
 core_alike spaces r o shape.ChannelClear no_variable no_argument = alike_nothing
 core_alike spaces r o shape.ChannelClear (more_variables x y vs ws g rest) no_argument = alike_nothing
 core_alike spaces r o shape.ChannelClear no_variable (more_values a b xs ys h more) = alike_nothing
-core_alike spaces r o shape.ChannelClear (more_variables x y vs ws g rest) (more_values a b xs ys h more) = alike_nothing
-core_alike spaces r o shape.ChannelClear no_variable (more_texts v w xs ys h more) = alike_set r v w _ _ h (alike_number rate.Init _)
-core_alike spaces r o shape.ChannelClear (more_variables x y vs ws g rest) (more_texts v w xs ys h more) = alike_set r v w _ _ h (alike_number rate.Init _)
+core_alike spaces r o shape.ChannelClear (more_variables x y vs ws g rest) (more_values a b xs ys h more) =
+    alike_nothing
+core_alike spaces r o shape.ChannelClear no_variable (more_texts v w xs ys h more) =
+    alike_set r v w _ _ h (alike_number rate.Init _)
+core_alike spaces r o shape.ChannelClear (more_variables x y vs ws g rest) (more_texts v w xs ys h more) =
+    alike_set r v w _ _ h (alike_number rate.Init _)
 core_alike spaces r o shape.Out no_variable args = alike_out r _ _ (values_alike args)
 core_alike spaces r o shape.Out (more_variables x y vs ws g rest) args = alike_out r _ _ (values_alike args)
 core_alike spaces r o shape.OutAt no_variable args = alike_out_at r _ _ (values_alike args)
@@ -273,17 +300,22 @@ core_alike spaces r o shape.ZakInit (more_variables x y vs ws g rest) args = ali
 core_alike spaces r o shape.Ask no_variable args = alike_ask _ _ (values_alike args)
 core_alike spaces r o shape.Ask (more_variables x y vs ws g rest) args = alike_ask _ _ (values_alike args)
 core_alike spaces r o shape.Unit no_variable args = unit_alike r o no_variable args
-core_alike spaces r o shape.Unit (more_variables x y vs ws g rest) args = unit_alike r o (more_variables x y vs ws g rest) args
+core_alike spaces r o shape.Unit (more_variables x y vs ws g rest) args =
+    unit_alike r o (more_variables x y vs ws g rest) args
 core_alike spaces r o shape.Store no_variable args = store_alike r o args
 core_alike spaces r o shape.Store (more_variables x y vs ws g rest) args = store_alike r o args
 core_alike spaces r o (shape.ZakGet s) no_variable args = zak_alike spaces r o (shape.ZakGet s) no_variable args
-core_alike spaces r o (shape.ZakGet s) (more_variables x y vs ws g rest) args = zak_alike spaces r o (shape.ZakGet s) (more_variables x y vs ws g rest) args
+core_alike spaces r o (shape.ZakGet s) (more_variables x y vs ws g rest) args =
+    zak_alike spaces r o (shape.ZakGet s) (more_variables x y vs ws g rest) args
 core_alike spaces r o (shape.ZakPut s) no_variable args = zak_alike spaces r o (shape.ZakPut s) no_variable args
-core_alike spaces r o (shape.ZakPut s) (more_variables x y vs ws g rest) args = zak_alike spaces r o (shape.ZakPut s) (more_variables x y vs ws g rest) args
+core_alike spaces r o (shape.ZakPut s) (more_variables x y vs ws g rest) args =
+    zak_alike spaces r o (shape.ZakPut s) (more_variables x y vs ws g rest) args
 core_alike spaces r o shape.ZakMix no_variable args = zak_alike spaces r o shape.ZakMix no_variable args
-core_alike spaces r o shape.ZakMix (more_variables x y vs ws g rest) args = zak_alike spaces r o shape.ZakMix (more_variables x y vs ws g rest) args
+core_alike spaces r o shape.ZakMix (more_variables x y vs ws g rest) args =
+    zak_alike spaces r o shape.ZakMix (more_variables x y vs ws g rest) args
 core_alike spaces r o (shape.ZakClear s) no_variable args = zak_alike spaces r o (shape.ZakClear s) no_variable args
-core_alike spaces r o (shape.ZakClear s) (more_variables x y vs ws g rest) args = zak_alike spaces r o (shape.ZakClear s) (more_variables x y vs ws g rest) args
+core_alike spaces r o (shape.ZakClear s) (more_variables x y vs ws g rest) args =
+    zak_alike spaces r o (shape.ZakClear s) (more_variables x y vs ws g rest) args
 
 -- ---- places
 
@@ -294,9 +326,11 @@ past_alike (alike_var r v w h) n m e = λ i. if_init r (e i + 1) (e i)
 past_alike (alike_field r k) n m e = λ i. if_init r (e i + 1) (e i)
 past_alike (alike_head r h) n m e = λ i. if_init r (e i + 1) (e i)
 past_alike (alike_neg r a b h) n m e = λ i. if_init r (e i + 1) (past_alike h n m e i)
-past_alike (alike_pair r o a b c d h j) n m e = λ i. if_init r (e i + 1) (past_alike j (past n a) (past m b) (past_alike h n m e) i)
+past_alike (alike_pair r o a b c d h j) n m e =
+    λ i. if_init r (e i + 1) (past_alike j (past n a) (past m b) (past_alike h n m e) i)
 past_alike (alike_pick r a b c d x y h j k) n m e =
-    λ i. if_init r (e i + 1) (past_alike k (past (past n a) c) (past (past m b) d) (past_alike j (past n a) (past m b) (past_alike h n m e)) i)
+    λ i. if_init r (e i + 1)
+    (past_alike k (past (past n a) c) (past (past m b) d) (past_alike j (past n a) (past m b) (past_alike h n m e)) i)
 past_alike (alike_apply r f a b h) n m e = λ i. if_init r (e i + 1) (past_alike h n m e i)
 
 past_all_alike : {V : Variable → Variable → Type 0} {xs ys : List Expression} → AlikeAll V xs ys → (n m : ℕ) → n ≡ m
@@ -312,8 +346,10 @@ past_stmt_alike (alike_unit r vs ws o k xs ys is js g h j) p = λ i. record {
       (past_all_alike h p.part p.part refl i);
   unit = p.unit + 1;
 }
-past_stmt_alike (alike_zak r vs ws o k xs ys g h) p = λ i. past_parts (if_init r p.part (past_all_alike h p.part p.part refl i)) p
-past_stmt_alike (alike_store r o k xs ys is js h j) p = λ i. past_parts (if_init r p.part (past_all_alike h p.part p.part refl i)) p
+past_stmt_alike (alike_zak r vs ws o k xs ys g h) p =
+    λ i. past_parts (if_init r p.part (past_all_alike h p.part p.part refl i)) p
+past_stmt_alike (alike_store r o k xs ys is js h j) p =
+    λ i. past_parts (if_init r p.part (past_all_alike h p.part p.part refl i)) p
 past_stmt_alike (alike_out r xs ys h) p = λ i. past_parts (past_all_alike h p.part p.part refl i) p
 past_stmt_alike (alike_out_at r xs ys h) p = λ i. past_parts (past_all_alike h p.part p.part refl i) p
 past_stmt_alike (alike_ask xs ys h) p = refl
@@ -323,7 +359,8 @@ past_stmt_alike (alike_empty r) p = refl
 
 -- ---- two notes alike
 
--- A relation between notes of two worlds in which two variables have the same value, and keep having it when both are assigned one.
+-- A relation between notes of two worlds in which two variables have the same value, and keep having it when both are
+-- assigned one.
 pub record Agree {W : Type 0} (o p : World W) (V : Variable → Variable → Type 0) (R : Note W → Note W → Type 0)
     : Type 0 where
   pub kept : (t u : Note W) → R t u → t.kept ≡ u.kept
@@ -369,7 +406,8 @@ module _ {W : Type 0} (o : World W) (to : Res → Res) (V : Variable → Variabl
   value_same t u h (alike_pick r a b c d x y g k l) whole n m e =
       let first = past_alike g n m e in
       λ i. part whole r (s.kept t u h i (e i))
-      (held o.ksmps r (chosen (value_same t u h g whole n m e i) (value_same t u h k whole (past n a) (past m b) first i)
+      (held o.ksmps r (chosen (value_same t u h g whole n m e i)
+      (value_same t u h k whole (past n a) (past m b) first i)
       (value_same t u h l whole (past (past n a) c) (past (past m b) d) (past_alike k (past n a) (past m b) first) i)))
   value_same t u h (alike_apply r f a b g) whole n m e =
       λ i. part whole r (s.kept t u h i (e i)) (held o.ksmps r (λ j. applied f (value_same t u h g whole n m e i j)))
@@ -414,7 +452,8 @@ module _ {W : Type 0} (o : World W) (to : Res → Res) (V : Variable → Variabl
       either r _ _ _ _ (kept_whole t u h (alike_neg r a b g) n m e) (keep_same t u h g n m e)
   keep_same t u h (alike_pair r q a b c d g k) n m e =
       either r _ _ _ _ (kept_whole t u h (alike_pair r q a b c d g k) n m e)
-      (keep_same (keep o n a t) (keep there m b u) (keep_same t u h g n m e) k (past n a) (past m b) (past_alike g n m e))
+      (keep_same (keep o n a t) (keep there m b u) (keep_same t u h g n m e) k (past n a) (past m b)
+      (past_alike g n m e))
   keep_same t u h (alike_pick r a b c d x y g k l) n m e =
       let first = past_alike g n m e in
       let one = keep_same t u h g n m e in
@@ -520,11 +559,13 @@ module _ {W : Type 0} (o : World W) (to : Res → Res) (V : Variable → Variabl
       either r t u _ _ h
       (moves_to t u h _ _ (λ i. o.store q r k (values_same t u h l false p.part p.part refl i) (s.world t u h i)))
   perf_same t u h (alike_out r xs ys g) p =
-      moves_to t u h (sent o 0 (values o t false p.part xs) t.world) (sent there 0 (values there u false p.part ys) u.world)
+      moves_to t u h (sent o 0 (values o t false p.part xs) t.world)
+      (sent there 0 (values there u false p.part ys) u.world)
       (sent_there to o 0 (values o t false p.part xs) t.world
       ∙ λ i. sent there 0 (values_same t u h g false p.part p.part refl i) (s.world t u h i))
   perf_same t u h (alike_out_at r xs ys g) p =
-      moves_to t u h (sent_at o (values o t false p.part xs) t.world) (sent_at there (values there u false p.part ys) u.world)
+      moves_to t u h (sent_at o (values o t false p.part xs) t.world)
+      (sent_at there (values there u false p.part ys) u.world)
       (sent_at_there to o (values o t false p.part xs) t.world
       ∙ λ i. sent_at there (values_same t u h g false p.part p.part refl i) (s.world t u h i))
   perf_same t u h (alike_ask xs ys g) p = h

@@ -1,5 +1,6 @@
 -- Expanded statements do what the statements do with frames.
-use Rattle.std.proofs.Common.{◌≡◌, ◌∙◌, ℕ, zero, suc, ◌+◌, ◌≤◌, ◌&&◌, Bool, true, false, if◌then◌else◌, List, [], ◌∷◌, map, Option, Some, None, arith, refl, sym, ap, subst}
+use Rattle.std.proofs.Common.{◌≡◌, ◌∙◌, ℕ, zero, suc, ◌+◌, ◌≤◌, ◌&&◌, Bool, true, false, if◌then◌else◌, List, [], ◌∷◌}
+use Rattle.std.proofs.Common.{map, Option, Some, None, arith, refl, sym, ap, subst}
 use Rattle.std.specs.Option.{option_or}
 use Rattle.std.specs.Str.{bytes_eq}
 use Rattle.cs_base.specs.Rates.{is_init}
@@ -8,7 +9,8 @@ use Rattle.cs_base.specs.declared.resource.Rate.TheVariants as rate
 use Rattle.cs_words.specs.Names.{name_rate}
 use Rattle.cs_grammar.specs.declared.tree.Callee.{Callee}
 use Rattle.cs_grammar.specs.declared.tree.Callee.TheVariants as callee
-use Rattle.cs_grammar.specs.Tree.{Expression, Argument, value, text, Statement, set, call, choose, Block, no_stmt, andthen, joins, Arms, otherwise, arm, Definition}
+use Rattle.cs_grammar.specs.Tree.{Expression, Argument, value, text, Statement, set, call, choose, Block, no_stmt}
+use Rattle.cs_grammar.specs.Tree.{andthen, joins, Arms, otherwise, arm, Definition}
 use Rattle.cs_typed.specs.TypedTree as typed
 use Rattle.cs_typed.specs.declared.tree.Var.{Var as Variable}
 use Rattle.cs_typing.specs.Known.{channel_of}
@@ -23,16 +25,27 @@ use Rattle.cs_meaning.specs.Notes as note
 use Rattle.cs_meaning.specs.Notes.{Note, Place, past, past_parts, past_stmt, assign}
 use Rattle.cs_meaning.specs.Notes.{value as value_of}
 use Rattle.cs_meaning.specs.Performing as performing
-use Rattle.cs_udo.specs.Expanded.{Template, Opcodes, no_opcodes, defined, assignments, value_in, called, after_called, after, after_block, after_arms, expanded, expanded_block, expanded_arms, whole_body, template, defining, defining_all}
+use Rattle.cs_udo.specs.Expanded.{Template, Opcodes, no_opcodes, defined, assignments, value_in, called, after_called}
+use Rattle.cs_udo.specs.Expanded.{after, after_block, after_arms, expanded, expanded_block, expanded_arms, whole_body}
+use Rattle.cs_udo.specs.Expanded.{template, defining, defining_all}
 use Rattle.cs_udo.specs.Names.{in_frame, renamed, renamed_argument}
-use Rattle.cs_udo_meaning.specs.Frames.{Framed, seen_from, put_back, Spot, spot, Reading, variable_read, expression_read, read, past_copy, going_on, copied, init_copy, perf_copy, past_copies, init_copies, perf_copies, Action, Actions, no_actions, action_of, values_in, past_inputs, past_call, past_any, init_any, perf_any, past_framed, past_block, past_arms, init_framed, init_block, init_first, init_all, perf_framed, perf_block, perf_arms, action, acting, acting_all}
-use Rattle.cs_udo_meaning.specs.Numbered.{Numbering, Tells, Variables, numbered, expression_by, statement_by, block_by, arms_by}
+use Rattle.cs_udo_meaning.specs.Frames.{Framed, seen_from, put_back, Spot, spot, Reading, variable_read}
+use Rattle.cs_udo_meaning.specs.Frames.{expression_read, read, past_copy, going_on, copied, init_copy, perf_copy}
+use Rattle.cs_udo_meaning.specs.Frames.{past_copies, init_copies, perf_copies, Action, Actions, no_actions, action_of}
+use Rattle.cs_udo_meaning.specs.Frames.{values_in, past_inputs, past_call, past_any, init_any, perf_any, past_framed}
+use Rattle.cs_udo_meaning.specs.Frames.{past_block, past_arms, init_framed, init_block, init_first, init_all}
+use Rattle.cs_udo_meaning.specs.Frames.{perf_framed, perf_block, perf_arms, action, acting, acting_all}
+use Rattle.cs_udo_meaning.specs.Numbered.{Numbering, Tells, Variables, numbered, expression_by, statement_by, block_by}
+use Rattle.cs_udo_meaning.specs.Numbered.{arms_by}
 use Rattle.cs_udo_meaning.specs.Stands.{own_name, Fits, Stands}
-use Rattle.cs_udo_meaning.proofs.Alike.{Alike, AlikeStmt, past_alike, past_stmt_alike, value_same, keep_same, init_same, perf_same, Agree}
+use Rattle.cs_udo_meaning.proofs.Alike.{Alike, AlikeStmt, past_alike, past_stmt_alike, value_same, keep_same, init_same}
+use Rattle.cs_udo_meaning.proofs.Alike.{perf_same, Agree}
 use Rattle.cs_udo_meaning.proofs.Fresh.{own_rate}
-use Rattle.cs_udo_meaning.proofs.Named.{Named, NamedAll, NamedArguments, NamedStmt, NamedBlock, NamedArms, any_names, any_arguments, any_block}
+use Rattle.cs_udo_meaning.proofs.Named.{Named, NamedAll, NamedArguments, NamedStmt, NamedBlock, NamedArms, any_names}
+use Rattle.cs_udo_meaning.proofs.Named.{any_arguments, any_block}
 use Rattle.cs_udo_meaning.proofs.Renamed.{KeepsRates, rate_kept, expression_renamed, set_renamed, call_renamed}
-use Rattle.cs_udo_meaning.proofs.Standing.{SameVariable, both_shared, variable_alike, channel_alike, expression_alike, set_alike, call_alike, Seen, to_seen, from_seen, seen_agree}
+use Rattle.cs_udo_meaning.proofs.Standing.{SameVariable, both_shared, variable_alike, channel_alike, expression_alike}
+use Rattle.cs_udo_meaning.proofs.Standing.{set_alike, call_alike, Seen, to_seen, from_seen, seen_agree}
 
 -- ---- orders of frames
 
@@ -72,7 +85,8 @@ mutual
   pub after_arms_grows : (opcodes : Opcodes) → Grows opcodes → (n : ℕ) (list : Arms) → n ≤ after_arms opcodes n list
   after_arms_grows opcodes g n (otherwise b) = after_block_grows opcodes g n b
   after_arms_grows opcodes g n (arm c b rest) =
-      chain n (after_block opcodes n b) (after_arms opcodes (after_block opcodes n b) rest) (after_block_grows opcodes g n b)
+      chain n (after_block opcodes n b) (after_arms opcodes (after_block opcodes n b) rest)
+      (after_block_grows opcodes g n b)
       (after_arms_grows opcodes g (after_block opcodes n b) rest)
 
 -- ---- rates
@@ -132,15 +146,19 @@ module _ {W : Type 0} (m : Reading W) (flat : Numbering) (tf : Tells flat) (to :
 
   init_joins : (p : Place) (a b : Block) (t : Note W)
       → initial.init_block m.world p (flat_block (joins a b)) t
-      ≡ initial.init_block m.world (note.past_block p (flat_block a)) (flat_block b) (initial.init_block m.world p (flat_block a) t)
+      ≡ initial.init_block m.world (note.past_block p (flat_block a)) (flat_block b)
+      (initial.init_block m.world p (flat_block a) t)
   init_joins p no_stmt b t = refl
-  init_joins p (andthen x rest) b t = init_joins (past_stmt p (flat_stmt x)) rest b (initial.init_stmt m.world p (flat_stmt x) t)
+  init_joins p (andthen x rest) b t =
+      init_joins (past_stmt p (flat_stmt x)) rest b (initial.init_stmt m.world p (flat_stmt x) t)
 
   perf_joins : (p : Place) (a b : Block) (t : Note W)
       → performing.perf_block m.world p (flat_block (joins a b)) t
-      ≡ performing.perf_block m.world (note.past_block p (flat_block a)) (flat_block b) (performing.perf_block m.world p (flat_block a) t)
+      ≡ performing.perf_block m.world (note.past_block p (flat_block a)) (flat_block b)
+      (performing.perf_block m.world p (flat_block a) t)
   perf_joins p no_stmt b t = refl
-  perf_joins p (andthen x rest) b t = perf_joins (past_stmt p (flat_stmt x)) rest b (performing.perf_stmt m.world p (flat_stmt x) t)
+  perf_joins p (andthen x rest) b t =
+      perf_joins (past_stmt p (flat_stmt x)) rest b (performing.perf_stmt m.world p (flat_stmt x) t)
 
   -- ---- a statement without calls of defined opcodes
 
@@ -156,7 +174,8 @@ module _ {W : Type 0} (m : Reading W) (flat : Numbering) (tf : Tells flat) (to :
       subst (λ a. Alike (Same f) a (expression_read m e)) (sym (expression_renamed (own_name f) (own_rates f) v e))
       (expression_alike (λ x. v (own_name f x)) (numbered m.shared m.number) (alike_variable f) e n)
 
-  alike_channel : (f : ℕ) (kind : Channel) (t : List ℕ) → Same f (channel_of m.shared kind t) (channel_of m.shared kind t)
+  alike_channel : (f : ℕ) (kind : Channel) (t : List ℕ)
+      → Same f (channel_of m.shared kind t) (channel_of m.shared kind t)
   alike_channel f = channel_alike (Same f) both_shared m.shared
 
   alike_set : (f line : ℕ) (x : List ℕ) (e : Expression) → Fits f x → Named (Fits f) e
@@ -164,16 +183,19 @@ module _ {W : Type 0} (m : Reading W) (flat : Numbering) (tf : Tells flat) (to :
   alike_set f line x e n k =
       subst (λ a. AlikeStmt (Same f) (core.core_stmt m.spaces a) (read m (set line x e)))
       (sym (set_renamed (own_name f) (own_rates f) m.shared v line x e))
-      (set_alike (λ y. v (own_name f y)) (numbered m.shared m.number) (alike_variable f) m.shared m.shared (alike_channel f)
+      (set_alike (λ y. v (own_name f y)) (numbered m.shared m.number) (alike_variable f) m.shared m.shared
+      (alike_channel f)
       m.spaces line x e n k)
 
   alike_call : (f line : ℕ) (xs : List (List ℕ)) (c : Callee) (args : List Argument) → NamedAll (Fits f) xs
       → NamedArguments (Fits f) args
-      → AlikeStmt (Same f) (flat_stmt (call line (map (own_name f) xs) c (map (renamed_argument (own_name f)) args))) (read m (call line xs c args))
+      → AlikeStmt (Same f) (flat_stmt (call line (map (own_name f) xs) c (map (renamed_argument (own_name f)) args)))
+      (read m (call line xs c args))
   alike_call f line xs c args n k =
       subst (λ a. AlikeStmt (Same f) (core.core_stmt m.spaces a) (read m (call line xs c args)))
       (sym (call_renamed (own_name f) (own_rates f) m.shared v line xs c args))
-      (call_alike (λ y. v (own_name f y)) (numbered m.shared m.number) (alike_variable f) m.shared m.shared (alike_channel f)
+      (call_alike (λ y. v (own_name f y)) (numbered m.shared m.number) (alike_variable f) m.shared m.shared
+      (alike_channel f)
       m.spaces line xs c args n k)
 
   agree : (f : ℕ) (u : Framed W) → Agree m.world m.world (Same f) (Seen flat m.number f u)
@@ -184,14 +206,17 @@ module _ {W : Type 0} (m : Reading W) (flat : Numbering) (tf : Tells flat) (to :
       → Stand (initial.init_stmt m.world p x t) (put_back f (initial.init_stmt m.world p y (seen_from f u)) u)
   plain_init f p x y t u a h =
       from_seen flat m.number f (initial.init_stmt m.world p x t) (initial.init_stmt m.world p y (seen_from f u)) u
-      (init_same m.world (λ r. r) (Same f) (Seen flat m.number f u) (agree f u) t (seen_from f u) (to_seen flat m.number f t u h) a p)
+      (init_same m.world (λ r. r) (Same f) (Seen flat m.number f u) (agree f u) t (seen_from f u)
+      (to_seen flat m.number f t u h) a p)
 
   plain_perf : (f : ℕ) (p : Place) (x : core.Stmt) (y : core.Stmt) (t : Note W) (u : Framed W) → AlikeStmt (Same f) x y
       → Stand t u
       → Stand (performing.perf_stmt m.world p x t) (put_back f (performing.perf_stmt m.world p y (seen_from f u)) u)
   plain_perf f p x y t u a h =
-      from_seen flat m.number f (performing.perf_stmt m.world p x t) (performing.perf_stmt m.world p y (seen_from f u)) u
-      (perf_same m.world (λ r. r) (Same f) (Seen flat m.number f u) (agree f u) t (seen_from f u) (to_seen flat m.number f t u h) a p)
+      from_seen flat m.number f (performing.perf_stmt m.world p x t) (performing.perf_stmt m.world p y (seen_from f u))
+      u
+      (perf_same m.world (λ r. r) (Same f) (Seen flat m.number f u) (agree f u) t (seen_from f u)
+      (to_seen flat m.number f t u h) a p)
 
   -- ---- a value, what is kept of it, and a variable that takes it
 
@@ -199,13 +224,15 @@ module _ {W : Type 0} (m : Reading W) (flat : Numbering) (tf : Tells flat) (to :
       → (whole : Bool) (n : ℕ)
       → value_of m.world t whole n a ≡ value_of m.world (seen_from f u) whole n b
   value_stands f a b t u k h whole n =
-      value_same m.world (λ r. r) (Same f) (Seen flat m.number f u) (agree f u) t (seen_from f u) (to_seen flat m.number f t u h) k whole n n refl
+      value_same m.world (λ r. r) (Same f) (Seen flat m.number f u) (agree f u) t (seen_from f u)
+      (to_seen flat m.number f t u h) k whole n n refl
 
   keep_stands : (f : ℕ) (a b : typed.Expression) (t : Note W) (u : Framed W) → Alike (Same f) a b → Stand t u → (n : ℕ)
       → Stand (keep m.world n a t) (put_back f (keep m.world n b (seen_from f u)) u)
   keep_stands f a b t u k h n =
       from_seen flat m.number f (keep m.world n a t) (keep m.world n b (seen_from f u)) u
-      (keep_same m.world (λ r. r) (Same f) (Seen flat m.number f u) (agree f u) t (seen_from f u) (to_seen flat m.number f t u h) k n n refl)
+      (keep_same m.world (λ r. r) (Same f) (Seen flat m.number f u) (agree f u) t (seen_from f u)
+      (to_seen flat m.number f t u h) k n n refl)
 
   assign_stands : (g : ℕ) (x y : Variable) (t : Note W) (u : Framed W) → Same g x y → Stand t u → (a b : Wave) → a ≡ b
       → Stand (assign m.world x a t) (put_back g (assign m.world y b (seen_from g u)) u)
@@ -222,7 +249,8 @@ module _ {W : Type 0} (m : Reading W) (flat : Numbering) (tf : Tells flat) (to :
 
   going_stands : (t q : Note W) (u w : Framed W) → Stand t u → Stand q w
       → Stand (going m.world t q) (going_on m.world u w)
-  going_stands t q u w h k = subst (λ x. Stand (going m.world t q) (if m.world.refused x then u else w)) h.world (by (m.world.refused t.world))
+  going_stands t q u w h k =
+      subst (λ x. Stand (going m.world t q) (if m.world.refused x then u else w)) h.world (by (m.world.refused t.world))
     where
       by : (b : Bool) → Stand (if b then t else q) (if b then u else w)
       by true = h
@@ -249,7 +277,8 @@ module _ {W : Type 0} (m : Reading W) (flat : Numbering) (tf : Tells flat) (to :
       (put_back f (keep m.world p.part b (seen_from f u)) u)))) (own_rate g x)
       (going_stands t _ u _ h
       (either_stands (name_rate (own_name g x)) _ _ _ _
-      (assign_stands g (v (own_name g x)) (variable_read m x) t u (alike_variable g x fits) h _ _ (value_stands f a b t u k h true 0))
+      (assign_stands g (v (own_name g x)) (variable_read m x) t u (alike_variable g x fits) h _ _
+      (value_stands f a b t u k h true 0))
       (keep_stands f a b t u k h p.part)))
 
   copy_perf : (line f g : ℕ) (p : Place) (x : List ℕ) (e : Expression) (t : Note W) (u : Framed W) → Fits g x
@@ -262,7 +291,8 @@ module _ {W : Type 0} (m : Reading W) (flat : Numbering) (tf : Tells flat) (to :
       subst (λ r. Stand (performing.perf_stmt m.world p (flat_stmt (copy_of line f g x e)) t)
       (if_init r u (copied m g x (value_of m.world (seen_from f u) false p.part b) u))) (own_rate g x)
       (either_stands (name_rate (own_name g x)) t _ u _ h
-      (assign_stands g (v (own_name g x)) (variable_read m x) t u (alike_variable g x fits) h _ _ (value_stands f a b t u k h false p.part)))
+      (assign_stands g (v (own_name g x)) (variable_read m x) t u (alike_variable g x fits) h _ _
+      (value_stands f a b t u k h false p.part)))
 
   -- ---- copies, one after another
 
@@ -290,11 +320,13 @@ module _ {W : Type 0} (m : Reading W) (flat : Numbering) (tf : Tells flat) (to :
       let now = initial.init_stmt m.world p (flat_stmt (copy_of line f g x e)) t in
       subst (λ q. Stand (initial.init_block m.world q (flat_block (copies_of line f g xs args)) now)
       (init_copies m f g (past_copy m p x e) xs args (init_copy m f g p x e u))) (sym (copy_past line f g p x e n.0))
-      (copies_init line f g (past_copy m p x e) xs args now (init_copy m f g p x e u) fits.1 n.1 (copy_init line f g p x e t u fits.0 n.0 h))
+      (copies_init line f g (past_copy m p x e) xs args now (init_copy m f g p x e u) fits.1 n.1
+      (copy_init line f g p x e t u fits.0 n.0 h))
 
   copies_perf : (line f g : ℕ) (p : Place) (xs : List (List ℕ)) (args : List Argument) (t : Note W) (u : Framed W)
       → NamedAll (Fits g) xs → NamedArguments (Fits f) args → Stand t u
-      → Stand (performing.perf_block m.world p (flat_block (copies_of line f g xs args)) t) (perf_copies m f g p xs args u)
+      → Stand (performing.perf_block m.world p (flat_block (copies_of line f g xs args)) t)
+      (perf_copies m f g p xs args u)
   copies_perf line f g p [] [] t u fits n h = h
   copies_perf line f g p [] (a ∷ args) t u fits n h = h
   copies_perf line f g p (x ∷ xs) [] t u fits n h = h
@@ -303,7 +335,8 @@ module _ {W : Type 0} (m : Reading W) (flat : Numbering) (tf : Tells flat) (to :
       let now = performing.perf_stmt m.world p (flat_stmt (copy_of line f g x e)) t in
       subst (λ q. Stand (performing.perf_block m.world q (flat_block (copies_of line f g xs args)) now)
       (perf_copies m f g (past_copy m p x e) xs args (perf_copy m f g p x e u))) (sym (copy_past line f g p x e n.0))
-      (copies_perf line f g (past_copy m p x e) xs args now (perf_copy m f g p x e u) fits.1 n.1 (copy_perf line f g p x e t u fits.0 n.0 h))
+      (copies_perf line f g (past_copy m p x e) xs args now (perf_copy m f g p x e u) fits.1 n.1
+      (copy_perf line f g p x e t u fits.0 n.0 h))
 
   -- ---- what a defined opcode does
 
@@ -340,37 +373,44 @@ module _ {W : Type 0} (m : Reading W) (flat : Numbering) (tf : Tells flat) (to :
   called_is f n line xs c args t a h k =
       let inner_is = inner_name n h in
       let given_results : map (value_in n) t.results ≡ map (renamed_argument (own_name n)) (values_in a.results) =
-      ap (λ l. map (value_in n) l) k.results ∙ results_in n a.results ∙ ap (λ g. map (renamed_argument g) (values_in a.results)) (sym inner_is) in
-      let inputs : map (in_frame n) t.inputs ≡ map (own_name n) a.inputs = ap (λ l. map (in_frame n) l) k.inputs ∙ ap (λ g. map g a.inputs) (sym inner_is) in
+      ap (λ l. map (value_in n) l) k.results ∙ results_in n a.results
+      ∙ ap (λ g. map (renamed_argument g) (values_in a.results)) (sym inner_is) in
+      let inputs : map (in_frame n) t.inputs ≡ map (own_name n) a.inputs =
+      ap (λ l. map (in_frame n) l) k.inputs ∙ ap (λ g. map g a.inputs) (sym inner_is) in
       λ i. joins (assignments line (inputs i) (map (renamed_argument (own_name f)) args))
       (joins (t.block n) (assignments line (map (own_name f) xs) (given_results i)))
 
-  call_past : (f n line : ℕ) (p : Place) (xs : List (List ℕ)) (c : Callee) (args : List Argument) (t : Template) (a : Action W)
+  call_past : (f n line : ℕ) (p : Place) (xs : List (List ℕ)) (c : Callee) (args : List Argument) (t : Template)
+      (a : Action W)
       → 1 ≤ n → Acts t a
       → NamedArguments (Fits f) args
-      → past_call m (spot p n) a xs args ≡ spot (note.past_block p (flat_block (called (own_name f) n line xs c args (Some t)))) (t.after n)
+      → past_call m (spot p n) a xs args ≡ spot
+      (note.past_block p (flat_block (called (own_name f) n line xs c args (Some t)))) (t.after n)
   call_past f n line p xs c args t a h k named =
       let given_values = values_in a.results in
       let one = copies_of line f n a.inputs args in
       let two = copies_of line n f xs given_values in
       let ready = past_copies m p a.inputs args in
       let body = note.past_block ready (flat_block (t.block n)) in
-      let moved : note.past_block p (flat_block (joins one (joins (t.block n) two))) ≡ past_copies m body xs given_values =
+      let moved : note.past_block p (flat_block (joins one (joins (t.block n) two))) ≡ past_copies m body xs
+      given_values =
       past_joins p one (joins (t.block n) two)
       ∙ ap (λ q. note.past_block q (flat_block (joins (t.block n) two))) (copies_past line f n p a.inputs args named)
       ∙ past_joins ready (t.block n) two
       ∙ copies_past line n f body xs given_values (any_arguments (Fits n) (fits_inner n h) given_values) in
       ap (λ q. spot (past_copies m q.place xs given_values) q.frame) (k.past ready n h)
-      ∙ ap (λ q. spot q (t.after n)) (sym moved ∙ ap (λ b. note.past_block p (flat_block b)) (sym (called_is f n line xs c args t a h k)))
+      ∙ ap (λ q. spot q (t.after n))
+      (sym moved ∙ ap (λ b. note.past_block p (flat_block b)) (sym (called_is f n line xs c args t a h k)))
 
-  -- A pass over a note, as it begins or in a cycle: what blocks of the expanded text do, what copies and the body of a defined
-  -- opcode do to the note with frames, and that both stand alike afterwards.
+  -- A pass over a note, as it begins or in a cycle: what blocks of the expanded text do, what copies and the body of a
+  -- defined opcode do to the note with frames, and that both stand alike afterwards.
   record Pass : Type 0 where
     block : Place → core.Block → Note W → Note W
     copies : ℕ → ℕ → Place → List (List ℕ) → List Argument → Framed W → Framed W
     act : Action W → Spot → Framed W → Framed W
     parted : (p : Place) (a b : Block) (t : Note W)
-        → block p (flat_block (joins a b)) t ≡ block (note.past_block p (flat_block a)) (flat_block b) (block p (flat_block a) t)
+        → block p (flat_block (joins a b)) t ≡ block (note.past_block p (flat_block a)) (flat_block b)
+        (block p (flat_block a) t)
     copied_alike : (line f g : ℕ) (p : Place) (xs : List (List ℕ)) (args : List Argument) (t : Note W) (u : Framed W)
         → NamedAll (Fits g) xs → NamedArguments (Fits f) args → Stand t u
         → Stand (block p (flat_block (copies_of line f g xs args)) t) (copies f g p xs args u)
@@ -430,36 +470,42 @@ module _ {W : Type 0} (m : Reading W) (flat : Numbering) (tf : Tells flat) (to :
       ∙ pass.parted ready (t.block n) two s1)) last)
 
   -- a call of a defined opcode or of another
-  any_past : (f n line : ℕ) (p : Place) (xs : List (List ℕ)) (c : Callee) (args : List Argument) (t : Option Template) (a : Option (Action W))
+  any_past : (f n line : ℕ) (p : Place) (xs : List (List ℕ)) (c : Callee) (args : List Argument) (t : Option Template)
+      (a : Option (Action W))
       → 1 ≤ n
       → ActsIf t a
       → NamedAll (Fits f) xs → NamedArguments (Fits f) args
       → past_any m (spot p n) (call line xs c args) xs args a
       ≡ spot (note.past_block p (flat_block (called (own_name f) n line xs c args t))) (after_called n t)
-  any_past f n line p xs c args None None h k fits named = ap (λ q. spot q n) (sym (past_stmt_alike (alike_call f line xs c args fits named) p))
+  any_past f n line p xs c args None None h k fits named =
+      ap (λ q. spot q n) (sym (past_stmt_alike (alike_call f line xs c args fits named) p))
   any_past f n line p xs c args None (Some a) h k fits named = absurd k
   any_past f n line p xs c args (Some t) None h k fits named = absurd k
   any_past f n line p xs c args (Some t) (Some a) h k fits named = call_past f n line p xs c args t a h k named
 
-  any_init : (f n line : ℕ) (p : Place) (xs : List (List ℕ)) (c : Callee) (args : List Argument) (t : Option Template) (a : Option (Action W))
+  any_init : (f n line : ℕ) (p : Place) (xs : List (List ℕ)) (c : Callee) (args : List Argument) (t : Option Template)
+      (a : Option (Action W))
       → 1 ≤ n
       → ActsIf t a
       → NamedAll (Fits f) xs → NamedArguments (Fits f) args → (s : Note W) (u : Framed W) → Stand s u
       → Stand (initial.init_block m.world p (flat_block (called (own_name f) n line xs c args t)) s)
       (init_any m f (spot p n) (call line xs c args) xs args a u)
-  any_init f n line p xs c args None None h k fits named s u stand = plain_init f p _ _ s u (alike_call f line xs c args fits named) stand
+  any_init f n line p xs c args None None h k fits named s u stand =
+      plain_init f p _ _ s u (alike_call f line xs c args fits named) stand
   any_init f n line p xs c args None (Some a) h k fits named s u stand = absurd k
   any_init f n line p xs c args (Some t) None h k fits named s u stand = absurd k
   any_init f n line p xs c args (Some t) (Some a) h k fits named s u stand =
       call_stands as_it_begins f n line p xs c args t a h k fits named s u stand
 
-  any_perf : (f n line : ℕ) (p : Place) (xs : List (List ℕ)) (c : Callee) (args : List Argument) (t : Option Template) (a : Option (Action W))
+  any_perf : (f n line : ℕ) (p : Place) (xs : List (List ℕ)) (c : Callee) (args : List Argument) (t : Option Template)
+      (a : Option (Action W))
       → 1 ≤ n
       → ActsIf t a
       → NamedAll (Fits f) xs → NamedArguments (Fits f) args → (s : Note W) (u : Framed W) → Stand s u
       → Stand (performing.perf_block m.world p (flat_block (called (own_name f) n line xs c args t)) s)
       (perf_any m f (spot p n) (call line xs c args) xs args a u)
-  any_perf f n line p xs c args None None h k fits named s u stand = plain_perf f p _ _ s u (alike_call f line xs c args fits named) stand
+  any_perf f n line p xs c args None None h k fits named s u stand =
+      plain_perf f p _ _ s u (alike_call f line xs c args fits named) stand
   any_perf f n line p xs c args None (Some a) h k fits named s u stand = absurd k
   any_perf f n line p xs c args (Some t) None h k fits named s u stand = absurd k
   any_perf f n line p xs c args (Some t) (Some a) h k fits named s u stand =
@@ -468,7 +514,8 @@ module _ {W : Type 0} (m : Reading W) (flat : Numbering) (tf : Tells flat) (to :
   -- ---- statements, in the order of the text
 
   condition_past : (f : ℕ) (p : Place) (c : Expression) → Named (Fits f) c
-      → past_parts (past p.part (expression_by v (renamed (own_name f) c))) p ≡ past_parts (past p.part (expression_read m c)) p
+      → past_parts (past p.part (expression_by v (renamed (own_name f) c))) p ≡ past_parts
+      (past p.part (expression_read m c)) p
   condition_past f p c named = ap (λ n. past_parts n p) (past_alike (alike_expression f c named) p.part p.part refl)
 
   choose_stands : (b c : Bool) → b ≡ c → (t q : Note W) (u w : Framed W) → Stand t u → Stand q w
@@ -498,9 +545,11 @@ module _ {W : Type 0} (m : Reading W) (flat : Numbering) (tf : Tells flat) (to :
     mutual
       past_stands : (n : ℕ) → 1 ≤ n → (p : Place) (x : Statement) → NamedStmt (Fits f) x
           → past_framed m env (spot p n) x ≡ spot (note.past_block p (text_of n x)) (after opcodes n x)
-      past_stands n h p (set line x e) named = ap (λ q. spot q n) (sym (past_stmt_alike (alike_set f line x e named.0 named.1) p))
+      past_stands n h p (set line x e) named =
+          ap (λ q. spot q n) (sym (past_stmt_alike (alike_set f line x e named.0 named.1) p))
       past_stands n h p (call line xs c args) named =
-          any_past f n line p xs c args (defined opcodes c) (action_of env c) h (acts_called opcodes env k c) named.0 named.1
+          any_past f n line p xs c args (defined opcodes c) (action_of env c) h (acts_called opcodes env k c) named.0
+          named.1
       past_stands n h p (choose line list) named = past_arms_stand n h p list named
 
       pub past_block_stands : (n : ℕ) → 1 ≤ n → (p : Place) (b : Block) → NamedBlock (Fits f) b
@@ -510,7 +559,8 @@ module _ {W : Type 0} (m : Reading W) (flat : Numbering) (tf : Tells flat) (to :
           ap (λ q. past_block m env q rest) (past_stands n h p x named.0)
           ∙ past_block_stands (after opcodes n x) (at_least n x h) (note.past_block p (text_of n x)) rest named.1
           ∙ ap (λ q. spot q (after_block opcodes (after opcodes n x) rest))
-          (sym (past_joins p (expanded opcodes (own_name f) n x) (expanded_block opcodes (own_name f) (after opcodes n x) rest)))
+          (sym (past_joins p (expanded opcodes (own_name f) n x)
+          (expanded_block opcodes (own_name f) (after opcodes n x) rest)))
 
       past_arms_stand : (n : ℕ) → 1 ≤ n → (p : Place) (list : Arms) → NamedArms (Fits f) list
           → past_arms m env (spot p n) list ≡ spot (note.past_arms p (arms_of n list)) (after_arms opcodes n list)
@@ -518,7 +568,8 @@ module _ {W : Type 0} (m : Reading W) (flat : Numbering) (tf : Tells flat) (to :
       past_arms_stand n h p (arm c b rest) named =
           let q = past_parts (past p.part (expression_read m c)) p in
           ap (λ z. past_arms m env z rest) (past_block_stands n h q b named.1)
-          ∙ past_arms_stand (after_block opcodes n b) (block_at_least n b h) (note.past_block q (texts_of n b)) rest named.2
+          ∙ past_arms_stand (after_block opcodes n b) (block_at_least n b h) (note.past_block q (texts_of n b)) rest
+          named.2
           ∙ ap (λ z. spot (note.past_arms (note.past_block z (texts_of n b)) (arms_of (after_block opcodes n b) rest))
           (after_arms opcodes (after_block opcodes n b) rest)) (sym (condition_past f p c named.0))
 
@@ -526,15 +577,19 @@ module _ {W : Type 0} (m : Reading W) (flat : Numbering) (tf : Tells flat) (to :
       init_stands : (n : ℕ) → 1 ≤ n → (p : Place) (x : Statement) → NamedStmt (Fits f) x → (t : Note W) (u : Framed W)
           → Stand t u
           → Stand (initial.init_block m.world p (text_of n x) t) (init_framed m env f (spot p n) x u)
-      init_stands n h p (set line x e) named t u stand = plain_init f p _ _ t u (alike_set f line x e named.0 named.1) stand
+      init_stands n h p (set line x e) named t u stand =
+          plain_init f p _ _ t u (alike_set f line x e named.0 named.1) stand
       init_stands n h p (call line xs c args) named t u stand =
-          any_init f n line p xs c args (defined opcodes c) (action_of env c) h (acts_called opcodes env k c) named.0 named.1 t u stand
+          any_init f n line p xs c args (defined opcodes c) (action_of env c) h (acts_called opcodes env k c) named.0
+          named.1 t u stand
       init_stands n h p (choose line list) named t u stand =
           let made = expanded_arms opcodes (own_name f) n list in
           subst (λ r. Stand (initial.init_block m.world p (text_of n (choose line list)) t)
-          (going_on m.world u (if_init r (init_first m env f (spot p n) list u) (init_all m env f (spot p n) list u)))) (choice_kept opcodes f n list)
+          (going_on m.world u (if_init r (init_first m env f (spot p n) list u) (init_all m env f (spot p n) list u))))
+          (choice_kept opcodes f n list)
           (going_stands t _ u _ stand
-          (either_stands (choice_rate made) _ _ _ _ (first_stands n h p list named t u stand) (all_stand n h p list named t u stand)))
+          (either_stands (choice_rate made) _ _ _ _ (first_stands n h p list named t u stand)
+          (all_stand n h p list named t u stand)))
 
       pub init_block_stands : (n : ℕ) → 1 ≤ n → (p : Place) (b : Block) → NamedBlock (Fits f) b
           → (t : Note W) (u : Framed W) → Stand t u
@@ -546,9 +601,11 @@ module _ {W : Type 0} (m : Reading W) (flat : Numbering) (tf : Tells flat) (to :
           let now = initial.init_block m.world p (text_of n x) t in
           let next = init_framed m env f (spot p n) x u in
           subst (λ z. Stand z (init_block m env f (spot p n) (andthen x rest) u)) (sym (init_joins p first other t))
-          (subst (λ q. Stand (initial.init_block m.world (note.past_block p (text_of n x)) (flat_block other) now) (init_block m env f q rest next))
+          (subst (λ q. Stand (initial.init_block m.world (note.past_block p (text_of n x)) (flat_block other) now)
+          (init_block m env f q rest next))
           (sym (past_stands n h p x named.0))
-          (init_block_stands (after opcodes n x) (at_least n x h) (note.past_block p (text_of n x)) rest named.1 now next
+          (init_block_stands (after opcodes n x) (at_least n x h) (note.past_block p (text_of n x)) rest named.1 now
+          next
           (init_stands n h p x named.0 t u stand)))
 
       first_stands : (n : ℕ) → 1 ≤ n → (p : Place) (list : Arms) → NamedArms (Fits f) list → (t : Note W) (u : Framed W)
@@ -561,16 +618,20 @@ module _ {W : Type 0} (m : Reading W) (flat : Numbering) (tf : Tells flat) (to :
           let next = put_back f (keep m.world p.part (expression_read m c) (seen_from f u)) u in
           let q = past_parts (past p.part (expression_read m c)) p in
           let further = after_block opcodes n b in
-          let kept_now : Stand now next = keep_stands f flat_c (expression_read m c) t u (alike_expression f c named.0) stand p.part in
+          let kept_now : Stand now next =
+          keep_stands f flat_c (expression_read m c) t u (alike_expression f c named.0) stand p.part in
           let one = init_block_stands n h q b named.1 now next kept_now in
-          let two = subst (λ z. Stand (initial.init_first m.world (note.past_block q (texts_of n b)) (arms_of further rest) now)
+          let two = subst (λ z. Stand
+          (initial.init_first m.world (note.past_block q (texts_of n b)) (arms_of further rest) now)
           (init_first m env f z rest next))
           (sym (past_block_stands n h q b named.1))
-          (first_stands further (block_at_least n b h) (note.past_block q (texts_of n b)) rest named.2 now next kept_now) in
+          (first_stands further (block_at_least n b h) (note.past_block q (texts_of n b)) rest named.2 now next
+          kept_now) in
           subst (λ z. Stand (if holds (now.kept p.part) then initial.init_block m.world z (texts_of n b) now
           else initial.init_first m.world (note.past_block z (texts_of n b)) (arms_of further rest) now)
           (init_first m env f (spot p n) (arm c b rest) u)) (sym (condition_past f p c named.0))
-          (choose_stands (holds (now.kept p.part)) (holds (next.kept p.part)) (ap (λ z. holds (z p.part)) kept_now.kept) _ _ _ _ one two)
+          (choose_stands (holds (now.kept p.part)) (holds (next.kept p.part)) (ap (λ z. holds (z p.part)) kept_now.kept)
+          _ _ _ _ one two)
 
       all_stand : (n : ℕ) → 1 ≤ n → (p : Place) (list : Arms) → NamedArms (Fits f) list → (t : Note W) (u : Framed W)
           → Stand t u
@@ -582,25 +643,32 @@ module _ {W : Type 0} (m : Reading W) (flat : Numbering) (tf : Tells flat) (to :
           let next = put_back f (keep m.world p.part (expression_read m c) (seen_from f u)) u in
           let q = past_parts (past p.part (expression_read m c)) p in
           let further = after_block opcodes n b in
-          let kept_now : Stand now next = keep_stands f flat_c (expression_read m c) t u (alike_expression f c named.0) stand p.part in
+          let kept_now : Stand now next =
+          keep_stands f flat_c (expression_read m c) t u (alike_expression f c named.0) stand p.part in
           let after_t = initial.init_block m.world q (texts_of n b) now in
           let after_u = init_block m env f (spot q n) b next in
           let one : Stand after_t after_u = init_block_stands n h q b named.1 now next kept_now in
-          let two = subst (λ z. Stand (initial.init_all m.world (note.past_block q (texts_of n b)) (arms_of further rest) after_t)
+          let two = subst (λ z. Stand
+          (initial.init_all m.world (note.past_block q (texts_of n b)) (arms_of further rest) after_t)
           (init_all m env f z rest after_u))
           (sym (past_block_stands n h q b named.1))
-          (all_stand further (block_at_least n b h) (note.past_block q (texts_of n b)) rest named.2 after_t after_u one) in
-          subst (λ z. Stand (going m.world t (initial.init_all m.world (note.past_block z (texts_of n b)) (arms_of further rest)
-          (initial.init_block m.world z (texts_of n b) now))) (init_all m env f (spot p n) (arm c b rest) u)) (sym (condition_past f p c named.0))
+          (all_stand further (block_at_least n b h) (note.past_block q (texts_of n b)) rest named.2 after_t after_u
+          one) in
+          subst (λ z. Stand (going m.world t
+          (initial.init_all m.world (note.past_block z (texts_of n b)) (arms_of further rest)
+          (initial.init_block m.world z (texts_of n b) now))) (init_all m env f (spot p n) (arm c b rest) u))
+          (sym (condition_past f p c named.0))
           (going_stands t _ u _ stand two)
 
     mutual
       perf_stands : (n : ℕ) → 1 ≤ n → (p : Place) (x : Statement) → NamedStmt (Fits f) x → (t : Note W) (u : Framed W)
           → Stand t u
           → Stand (performing.perf_block m.world p (text_of n x) t) (perf_framed m env f (spot p n) x u)
-      perf_stands n h p (set line x e) named t u stand = plain_perf f p _ _ t u (alike_set f line x e named.0 named.1) stand
+      perf_stands n h p (set line x e) named t u stand =
+          plain_perf f p _ _ t u (alike_set f line x e named.0 named.1) stand
       perf_stands n h p (call line xs c args) named t u stand =
-          any_perf f n line p xs c args (defined opcodes c) (action_of env c) h (acts_called opcodes env k c) named.0 named.1 t u stand
+          any_perf f n line p xs c args (defined opcodes c) (action_of env c) h (acts_called opcodes env k c) named.0
+          named.1 t u stand
       perf_stands n h p (choose line list) named t u stand = perf_arms_stand n h p list named t u stand
 
       pub perf_block_stands : (n : ℕ) → 1 ≤ n → (p : Place) (b : Block) → NamedBlock (Fits f) b
@@ -613,9 +681,11 @@ module _ {W : Type 0} (m : Reading W) (flat : Numbering) (tf : Tells flat) (to :
           let now = performing.perf_block m.world p (text_of n x) t in
           let next = perf_framed m env f (spot p n) x u in
           subst (λ z. Stand z (perf_block m env f (spot p n) (andthen x rest) u)) (sym (perf_joins p first other t))
-          (subst (λ q. Stand (performing.perf_block m.world (note.past_block p (text_of n x)) (flat_block other) now) (perf_block m env f q rest next))
+          (subst (λ q. Stand (performing.perf_block m.world (note.past_block p (text_of n x)) (flat_block other) now)
+          (perf_block m env f q rest next))
           (sym (past_stands n h p x named.0))
-          (perf_block_stands (after opcodes n x) (at_least n x h) (note.past_block p (text_of n x)) rest named.1 now next
+          (perf_block_stands (after opcodes n x) (at_least n x h) (note.past_block p (text_of n x)) rest named.1 now
+          next
           (perf_stands n h p x named.0 t u stand)))
 
       perf_arms_stand : (n : ℕ) → 1 ≤ n → (p : Place) (list : Arms) → NamedArms (Fits f) list
@@ -627,9 +697,12 @@ module _ {W : Type 0} (m : Reading W) (flat : Numbering) (tf : Tells flat) (to :
           let q = past_parts (past p.part (expression_read m c)) p in
           let further = after_block opcodes n b in
           let a = value_of m.world t false p.part flat_c 0 in
-          let same = value_stands f flat_c (expression_read m c) t u (alike_expression f c named.0) stand false p.part in
+          let same = value_stands f flat_c (expression_read m c) t u (alike_expression f c named.0) stand false
+          p.part in
           let one = perf_block_stands n h q b named.1 t u stand in
-          let two = subst (λ z. Stand (performing.perf_arms m.world (note.past_block q (texts_of n b)) (arms_of further rest) t) (perf_arms m env f z rest u))
+          let two = subst (λ z. Stand
+          (performing.perf_arms m.world (note.past_block q (texts_of n b)) (arms_of further rest) t)
+          (perf_arms m env f z rest u))
           (sym (past_block_stands n h q b named.1))
           (perf_arms_stand further (block_at_least n b h) (note.past_block q (texts_of n b)) rest named.2 t u stand) in
           subst (λ z. Stand (if holds a then performing.perf_block m.world z (texts_of n b) t
@@ -659,14 +732,21 @@ module _ {W : Type 0} (m : Reading W) (flat : Numbering) (tf : Tells flat) (to :
     inputs = refl;
     results = refl;
     past = λ p n h. named_as n h (λ own. past_block m env (spot p (n + 1)) (whole_body d)
-        ≡ spot (note.past_block p (flat_block (expanded_block opcodes own (n + 1) (whole_body d)))) (after_block opcodes (n + 1) (whole_body d)))
-        (past_block_stands opcodes env g k n (n + 1) (more n) p (whole_body d) (any_block (Fits n) (fits_inner n h) (whole_body d)));
-    init = λ p n h t u stand. named_as n h (λ own. Stand (initial.init_block m.world p (flat_block (expanded_block opcodes own (n + 1) (whole_body d))) t)
+        ≡ spot (note.past_block p (flat_block (expanded_block opcodes own (n + 1) (whole_body d))))
+        (after_block opcodes (n + 1) (whole_body d)))
+        (past_block_stands opcodes env g k n (n + 1) (more n) p (whole_body d)
+        (any_block (Fits n) (fits_inner n h) (whole_body d)));
+    init = λ p n h t u stand. named_as n h
+        (λ own. Stand (initial.init_block m.world p (flat_block (expanded_block opcodes own (n + 1) (whole_body d))) t)
         (init_block m env n (spot p (n + 1)) (whole_body d) u))
-        (init_block_stands opcodes env g k n (n + 1) (more n) p (whole_body d) (any_block (Fits n) (fits_inner n h) (whole_body d)) t u stand);
-    perf = λ p n h t u stand. named_as n h (λ own. Stand (performing.perf_block m.world p (flat_block (expanded_block opcodes own (n + 1) (whole_body d))) t)
+        (init_block_stands opcodes env g k n (n + 1) (more n) p (whole_body d)
+        (any_block (Fits n) (fits_inner n h) (whole_body d)) t u stand);
+    perf = λ p n h t u stand. named_as n h
+        (λ own. Stand (performing.perf_block m.world p (flat_block (expanded_block opcodes own (n + 1) (whole_body d)))
+        t)
         (perf_block m env n (spot p (n + 1)) (whole_body d) u))
-        (perf_block_stands opcodes env g k n (n + 1) (more n) p (whole_body d) (any_block (Fits n) (fits_inner n h) (whole_body d)) t u stand);
+        (perf_block_stands opcodes env g k n (n + 1) (more n) p (whole_body d)
+        (any_block (Fits n) (fits_inner n h) (whole_body d)) t u stand);
   }
     where
       more : (n : ℕ) → 1 ≤ n + 1
@@ -677,10 +757,12 @@ module _ {W : Type 0} (m : Reading W) (flat : Numbering) (tf : Tells flat) (to :
 
   defining_acts : (opcodes : Opcodes) (env : Actions W) → Grows opcodes → Act opcodes env → (d : Definition)
       → Act (defining opcodes d) (acting m env d)
-  defining_acts opcodes env g k d = record { each = λ name. by (opcodes name) (env name) (k.each name) (bytes_eq name d.name) }
+  defining_acts opcodes env g k d =
+      record { each = λ name. by (opcodes name) (env name) (k.each name) (bytes_eq name d.name) }
     where
       by : (t : Option Template) (a : Option (Action W)) → ActsIf t a → (b : Bool)
-          → ActsIf (option_or t (if b then Some (template opcodes d) else None)) (option_or a (if b then Some (action m env d) else None))
+          → ActsIf (option_or t (if b then Some (template opcodes d) else None))
+          (option_or a (if b then Some (action m env d) else None))
       by None None h true = template_acts opcodes env g k d
       by None None h false = tt
       by None (Some a) h b = absurd h
@@ -694,7 +776,8 @@ module _ {W : Type 0} (m : Reading W) (flat : Numbering) (tf : Tells flat) (to :
   pub all_act : (opcodes : Opcodes) (env : Actions W) → Grows opcodes → Act opcodes env → (ds : List Definition)
       → Act (defining_all opcodes ds) (acting_all m env ds)
   all_act opcodes env g k [] = k
-  all_act opcodes env g k (d ∷ ds) = all_act (defining opcodes d) (acting m env d) (defining_grows opcodes g d) (defining_acts opcodes env g k d) ds
+  all_act opcodes env g k (d ∷ ds) =
+      all_act (defining opcodes d) (acting m env d) (defining_grows opcodes g d) (defining_acts opcodes env g k d) ds
 
   pub nothing_grows : Grows no_opcodes
   nothing_grows = record { each = λ name. tt }

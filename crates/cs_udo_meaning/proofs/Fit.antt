@@ -1,5 +1,6 @@
 -- Expanded instruments call no `zakinit`, and each number is of one instrument.
-use Rattle.std.proofs.Common.{◌≡◌, ◌≢◌, ℕ, ◌+◌, eqb, Bool, true, false, if◌then◌else◌, nat_lt, List, [], ◌∷◌, ◌++◌, map, Option, Some, None, Ok, refl, sym, ap, subst, ◌∙◌}
+use Rattle.std.proofs.Common.{◌≡◌, ◌≢◌, ℕ, ◌+◌, eqb, Bool, true, false, if◌then◌else◌, nat_lt, List, [], ◌∷◌, ◌++◌, map}
+use Rattle.std.proofs.Common.{Option, Some, None, Ok, refl, sym, ap, subst, ◌∙◌}
 use Rattle.std.specs.Option.{option_or}
 use Rattle.std.specs.Str.{bytes_eq}
 use Rattle.std.specs.List.{All, IsDistinct, flat_map}
@@ -12,17 +13,22 @@ use Rattle.cs_base.specs.declared.limit.LimitHit.{LimitHit}
 use Rattle.cs_grammar.specs.declared.scope.Place.TheVariants as place
 use Rattle.cs_grammar.specs.declared.tree.Callee.{Callee}
 use Rattle.cs_grammar.specs.declared.tree.Callee.TheVariants as callee
-use Rattle.cs_grammar.specs.Tree.{Argument, value, text, Statement, set, call, choose, Block, no_stmt, andthen, joins, Arms, otherwise, arm, Definition, Instrument, Orchestra}
-use Rattle.cs_grammar.specs.WellFormed.{WellFormedStmt, WellFormedBlock, WellFormedArms, WellFormedInstrument, WellFormedDefinition, IsWellFormed, all_numbers}
+use Rattle.cs_grammar.specs.Tree.{Argument, value, text, Statement, set, call, choose, Block, no_stmt, andthen, joins}
+use Rattle.cs_grammar.specs.Tree.{Arms, otherwise, arm, Definition, Instrument, Orchestra}
+use Rattle.cs_grammar.specs.WellFormed.{WellFormedStmt, WellFormedBlock, WellFormedArms, WellFormedInstrument}
+use Rattle.cs_grammar.specs.WellFormed.{WellFormedDefinition, IsWellFormed, all_numbers}
 use Rattle.cs_udo.specs.Names.{as_it_is, in_frame, renamed_argument, slots}
-use Rattle.cs_udo.specs.Expanded.{Template, Opcodes, no_opcodes, defined, assignments, value_in, called, after, after_block, expanded, expanded_block, expanded_arms, whole_body, template, defining, defining_all, before, opcodes_before, expanded_instrument, expanded_orchestra}
+use Rattle.cs_udo.specs.Expanded.{Template, Opcodes, no_opcodes, defined, assignments, value_in, called, after}
+use Rattle.cs_udo.specs.Expanded.{after_block, expanded, expanded_block, expanded_arms, whole_body, template, defining}
+use Rattle.cs_udo.specs.Expanded.{defining_all, before, opcodes_before, expanded_instrument, expanded_orchestra}
 use Rattle.cs_udo.specs.Counted.{first_limit}
 use Rattle.cs_udo.specs.Refused.{first_fault}
 use Rattle.cs_udo.specs.Expanding.{within, unless, expanding}
 use Rattle.cs_typing.specs.Calls.{typed_call}
 use Rattle.cs_typing.specs.Known.{Known}
 use Rattle.cs_typing.specs.Statements.{known, known_block, typed_statement, typed_block, typed_arms}
-use Rattle.cs_typing.specs.Typing.{alone, body, items, from, entered, known_item, first_known, typed_instruments, typed_of}
+use Rattle.cs_typing.specs.Typing.{alone, body, items, from, entered, known_item, first_known, typed_instruments}
+use Rattle.cs_typing.specs.Typing.{typed_of}
 use Rattle.cs_typing.specs.Typing.{before as before_line}
 use Rattle.cs_typed.specs.TypedTree as typed
 use Rattle.cs_typed.specs.WellRated.{HasNoZakinit, BlockHasNoZakinit, ArmsHaveNoZakinit}
@@ -63,11 +69,13 @@ mutual
 
   calm_block_in_instrument : (depth : ℕ) (b : Block) → WellFormedBlock place.Instrument [] depth b → CalmBlock b
   calm_block_in_instrument depth no_stmt h = tt
-  calm_block_in_instrument depth (andthen x rest) h = (calm_in_instrument depth x h.0, calm_block_in_instrument depth rest h.1)
+  calm_block_in_instrument depth (andthen x rest) h =
+      (calm_in_instrument depth x h.0, calm_block_in_instrument depth rest h.1)
 
   calm_arms_in_instrument : (depth : ℕ) (list : Arms) → WellFormedArms place.Instrument [] depth list → CalmArms list
   calm_arms_in_instrument depth (otherwise b) h = calm_block_in_instrument depth b h
-  calm_arms_in_instrument depth (arm c b rest) h = (calm_block_in_instrument depth b h.1, calm_arms_in_instrument depth rest h.2)
+  calm_arms_in_instrument depth (arm c b rest) h =
+      (calm_block_in_instrument depth b h.1, calm_arms_in_instrument depth rest h.2)
 
 mutual
   calm_in_definition : (own : List ℕ) (depth : ℕ) (x : Statement) → WellFormedStmt place.Definition own depth x → Calm x
@@ -100,7 +108,8 @@ called_calm : (opcodes : Opcodes) → AllCalm opcodes → (c : Callee) → CalmI
 called_calm opcodes k (callee.Opcode o) = tt
 called_calm opcodes k (callee.Name name) = k.each name
 
-calm_called : (own : List ℕ → List ℕ) (f line : ℕ) (xs : List (List ℕ)) (c : Callee) (args : List Argument) (found : Option Template)
+calm_called : (own : List ℕ → List ℕ) (f line : ℕ) (xs : List (List ℕ)) (c : Callee) (args : List Argument)
+    (found : Option Template)
     → c ≢ callee.Opcode op.Zakinit → CalmIf found → CalmBlock (called own f line xs c args found)
 calm_called own f line xs c args None h k = (h, tt)
 calm_called own f line xs c args (Some t) h k =
@@ -114,7 +123,8 @@ mutual
   calm_expanded : (opcodes : Opcodes) → AllCalm opcodes → (own : List ℕ → List ℕ) (f : ℕ) (x : Statement) → Calm x
       → CalmBlock (expanded opcodes own f x)
   calm_expanded opcodes k own f (set line x e) h = (tt, tt)
-  calm_expanded opcodes k own f (call line xs c args) h = calm_called own f line xs c args (defined opcodes c) h (called_calm opcodes k c)
+  calm_expanded opcodes k own f (call line xs c args) h =
+      calm_called own f line xs c args (defined opcodes c) h (called_calm opcodes k c)
   calm_expanded opcodes k own f (choose line list) h = (calm_expanded_arms opcodes k own f list h, tt)
 
   calm_expanded_block : (opcodes : Opcodes) → AllCalm opcodes → (own : List ℕ → List ℕ) (f : ℕ) (b : Block)
@@ -153,7 +163,8 @@ calm_before : (opcodes : Opcodes) → AllCalm opcodes → (line : ℕ) (ds : Lis
 calm_before opcodes k line [] h = k
 calm_before opcodes k line (d ∷ ds) h =
     by (nat_lt d.line line)
-    (calm_before (defining opcodes d) (calm_defining opcodes k d (All-head WellFormedDefinition d ds h)) line ds (All-tail WellFormedDefinition d ds h))
+    (calm_before (defining opcodes d) (calm_defining opcodes k d (All-head WellFormedDefinition d ds h)) line ds
+    (All-tail WellFormedDefinition d ds h))
   where
     by : (b : Bool) → AllCalm (defining_all (defining opcodes d) (before line ds))
         → AllCalm (defining_all opcodes (if b then d ∷ before line ds else []))
@@ -199,9 +210,11 @@ instruments_lack : (n : Known) (outside : Block) (list : List Instrument)
 instruments_lack n outside [] h = All-nil (λ (i : typed.Instrument). BlockHasNoZakinit i.body)
 instruments_lack n outside (i ∷ rest) h =
     let m = known_item n (alone (before_line i.line outside)) in
-    All-cons (λ (x : typed.Instrument). BlockHasNoZakinit x.body) _ (typed_instruments (known_item m (body i)) (items (from i.line outside) rest))
+    All-cons (λ (x : typed.Instrument). BlockHasNoZakinit x.body) _
+    (typed_instruments (known_item m (body i)) (items (from i.line outside) rest))
     (block_lacks (entered m) i.body (All-head (λ (x : Instrument). CalmBlock x.body) i rest h))
-    (instruments_lack (known_item m (body i)) (from i.line outside) rest (All-tail (λ (x : Instrument). CalmBlock x.body) i rest h))
+    (instruments_lack (known_item m (body i)) (from i.line outside) rest
+    (All-tail (λ (x : Instrument). CalmBlock x.body) i rest h))
 
 -- ---- numbers
 

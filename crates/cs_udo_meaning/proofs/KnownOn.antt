@@ -1,5 +1,7 @@
--- What is known goes on being known, and the typed form of statements without a fault is that of what is known at the end.
-use Rattle.std.proofs.Common.{◌≡◌, ◌∙◌, ℕ, suc, ◌-◌, ◌==◌, Bool, true, false, not, ◌&&◌, ◌||◌, if◌then◌else◌, List, [], ◌∷◌, length, map, nat_le, Option, Some, None, arith, refl, sym, ap}
+-- What is known goes on being known, and the typed form of statements without a fault is that of what is known at the
+-- end.
+use Rattle.std.proofs.Common.{◌≡◌, ◌∙◌, ℕ, suc, ◌-◌, ◌==◌, Bool, true, false, not, ◌&&◌, ◌||◌, if◌then◌else◌, List, []}
+use Rattle.std.proofs.Common.{◌∷◌, length, map, nat_le, Option, Some, None, arith, refl, sym, ap}
 use Rattle.std.specs.List.{list_all}
 use Rattle.std.specs.Option.{option_or}
 use Rattle.std.proofs.lemmas.Bool.{and_parts}
@@ -17,20 +19,28 @@ use Rattle.cs_words.specs.declared.catalogue.Opcode.{Opcode}
 use Rattle.cs_words.specs.declared.catalogue.Opcode.TheVariants as op
 use Rattle.cs_grammar.specs.declared.tree.Callee.{Callee}
 use Rattle.cs_grammar.specs.declared.tree.Callee.TheVariants as callee
-use Rattle.cs_grammar.specs.Tree.{Expression, number, var, field, head, neg, pair, pick, apply, Argument, value, text, Statement, set, call, choose, Block, no_stmt, andthen, Arms, otherwise, arm}
+use Rattle.cs_grammar.specs.Tree.{Expression, number, var, field, head, neg, pair, pick, apply, Argument, value, text}
+use Rattle.cs_grammar.specs.Tree.{Statement, set, call, choose, Block, no_stmt, andthen, Arms, otherwise, arm}
 use Rattle.cs_typed.specs.Places.{stands_outside}
 use Rattle.cs_typed.specs.TypedTree as typed
 use Rattle.cs_typed.specs.declared.setting.Setting.{Setting}
 use Rattle.cs_typed.specs.declared.tree.Var.TheVariants as variant
-use Rattle.cs_typing.specs.Calls.{all_fit, bound_of, may_result, is_even, kind_of, any_sound, channel_use, text_of, is_too_wide, all_known, rates_agree, counts_agree, row_fault, call_fault, row_known, call_known, call_rate, typed_arguments, typed_row, typed_call}
+use Rattle.cs_typing.specs.Calls.{all_fit, bound_of, may_result, is_even, kind_of, any_sound, channel_use, text_of}
+use Rattle.cs_typing.specs.Calls.{is_too_wide, all_known, rates_agree, counts_agree, row_fault, call_fault, row_known}
+use Rattle.cs_typing.specs.Calls.{call_known, call_rate, typed_arguments, typed_row, typed_call}
 use Rattle.cs_typing.specs.Expressions.{is_value, is_condition, rate_of, reads_known, typed_expression}
-use Rattle.cs_typing.specs.Known.{Table, in_table, place_in, added, Shared, Known, knows, after_giving, given, given_all, used, use_channel, clashes, global, variable, channel_of}
+use Rattle.cs_typing.specs.Known.{Table, in_table, place_in, added, Shared, Known, knows, after_giving, given}
+use Rattle.cs_typing.specs.Known.{given_all, used, use_channel, clashes, global, variable, channel_of}
 use Rattle.cs_typing.specs.Settings.{at}
-use Rattle.cs_typing.specs.Statements.{set_fault, condition_fault, known, known_block, known_arms, fault, block_fault, arms_fault, choice_rate, typed_statement, typed_block, typed_arms}
+use Rattle.cs_typing.specs.Statements.{set_fault, condition_fault, known, known_block, known_arms, fault, block_fault}
+use Rattle.cs_typing.specs.Statements.{arms_fault, choice_rate, typed_statement, typed_block, typed_arms}
 use Rattle.cs_typing.specs.declared.known.Channel.{Channel}
 use Rattle.cs_typing.specs.declared.known.Channel.TheVariants as channel
-use Rattle.cs_udo_meaning.specs.Numbered.{Numbering, numbered, expression_by, arguments_by, row_by, call_by, statement_by, block_by, arms_by}
-use Rattle.cs_udo_meaning.proofs.Later.{GoesOn, stays, goes_further, place_on, seen_on, seen_has, seen_place, TableGoesOn, table_stays, table_further, added_on, added_in, added_place, in_on, place_in_on}
+use Rattle.cs_udo_meaning.specs.Numbered.{Numbering, numbered, expression_by, arguments_by, row_by, call_by}
+use Rattle.cs_udo_meaning.specs.Numbered.{statement_by, block_by, arms_by}
+use Rattle.cs_udo_meaning.proofs.Later.{GoesOn, stays, goes_further, place_on, seen_on, seen_has, seen_place}
+use Rattle.cs_udo_meaning.proofs.Later.{TableGoesOn, table_stays, table_further, added_on, added_in, added_place, in_on}
+use Rattle.cs_udo_meaning.proofs.Later.{place_in_on}
 
 -- ---- what is known later
 
@@ -74,7 +84,8 @@ given_later n x = record { shared = shared_stays n.shared; locals = giving_on n.
 
 given_all_later : (n : Known) (xs : List (List ℕ)) → Later n (given_all n xs)
 given_all_later n [] = later_same n
-given_all_later n (x ∷ xs) = later_further n (given n x) (given_all (given n x) xs) (given_later n x) (given_all_later (given n x) xs)
+given_all_later n (x ∷ xs) =
+    later_further n (given n x) (given_all (given n x) xs) (given_later n x) (given_all_later (given n x) xs)
 
 used_on : (s : Shared) (kind : Option Channel) (x : List ℕ) → SharedGoesOn s (use_channel s kind x)
 used_on s None x = shared_stays s
@@ -107,7 +118,8 @@ mutual
   pub known_arms_later : (n : Known) (list : Arms) → Later n (known_arms n list)
   known_arms_later n (otherwise b) = known_block_later n b
   known_arms_later n (arm c b rest) =
-      later_further n (known_block n b) (known_arms (known_block n b) rest) (known_block_later n b) (known_arms_later (known_block n b) rest)
+      later_further n (known_block n b) (known_arms (known_block n b) rest) (known_block_later n b)
+      (known_arms_later (known_block n b) rest)
 
 -- ---- variables
 
@@ -127,10 +139,13 @@ pub variable_known : (n m : Known) (s : Numbering) (x : List ℕ) → Later n m 
 variable_known n m s x l p h = by (is_global x) h
   where
     by : (b : Bool) → (if b then in_table n.shared.globals x else in_table n.locals x) ≡ true
-        → (if b then variant.Global (global (name_rate x) (place_in n.shared.globals x)) else variant.Local (name_rate x) (place_in n.locals x))
-        ≡ (if b then variant.Global (global (name_rate x) (place_in m.shared.globals x)) else variant.Local (name_rate x) (s x))
+        → (if b then variant.Global (global (name_rate x) (place_in n.shared.globals x)) else variant.Local
+        (name_rate x) (place_in n.locals x))
+        ≡ (if b then variant.Global (global (name_rate x) (place_in m.shared.globals x)) else variant.Local
+        (name_rate x) (s x))
     by true k = shared_variable n.shared.globals m.shared.globals x l.shared.globals
-    by false k = ap (variant.Local (name_rate x)) (sym (p.each x (in_on n.locals m.locals x l.locals k) ∙ place_in_on n.locals m.locals x l.locals k))
+    by false k = ap (variant.Local (name_rate x))
+        (sym (p.each x (in_on n.locals m.locals x l.locals k) ∙ place_in_on n.locals m.locals x l.locals k))
 
 pub variable_given : (n m : Known) (s : Numbering) (x : List ℕ) → m.shared.globals ≡ n.shared.globals
     → TableGoesOn (after_giving n.locals x) m.locals
@@ -139,13 +154,16 @@ pub variable_given : (n m : Known) (s : Numbering) (x : List ℕ) → m.shared.g
 variable_given n m s x e l p = by (is_global x) l
   where
     by : (b : Bool) → TableGoesOn (if b then n.locals else added n.locals x) m.locals
-        → (if b then variant.Global (global (name_rate x) (place_in n.shared.globals x)) else variant.Local (name_rate x) (place_in n.locals x))
-        ≡ (if b then variant.Global (global (name_rate x) (place_in m.shared.globals x)) else variant.Local (name_rate x) (s x))
+        → (if b then variant.Global (global (name_rate x) (place_in n.shared.globals x)) else variant.Local
+        (name_rate x) (place_in n.locals x))
+        ≡ (if b then variant.Global (global (name_rate x) (place_in m.shared.globals x)) else variant.Local
+        (name_rate x) (s x))
     by true k = shared_variable n.shared.globals m.shared.globals x e
     by false k =
         let there : in_table (added n.locals x) x ≡ true = added_in n.locals x in
         ap (variant.Local (name_rate x))
-        (sym (p.each x (in_on (added n.locals x) m.locals x k there) ∙ place_in_on (added n.locals x) m.locals x k there ∙ added_place n.locals x))
+        (sym (p.each x (in_on (added n.locals x) m.locals x k there) ∙ place_in_on (added n.locals x) m.locals x k there
+        ∙ added_place n.locals x))
 
 pub expression_same : (n m : Known) (s : Numbering) (e : Expression) → Later n m → HasPlaces s m.locals
     → reads_known n e ≡ true
@@ -161,7 +179,8 @@ expression_same n m s (pair o a b) l p h =
 expression_same n m s (pick c a b) l p h =
     let j = and_parts (reads_known n c && reads_known n a) (reads_known n b) h in
     let k = and_parts (reads_known n c) (reads_known n a) j.0 in
-    λ i. typed.pick (rate_of (pick c a b)) (expression_same n m s c l p k.0 i) (expression_same n m s a l p k.1 i) (expression_same n m s b l p j.1 i)
+    λ i. typed.pick (rate_of (pick c a b)) (expression_same n m s c l p k.0 i) (expression_same n m s a l p k.1 i)
+    (expression_same n m s b l p j.1 i)
 expression_same n m s (apply f a) l p h = ap (typed.apply (rate_of (apply f a)) f) (expression_same n m s a l p h)
 
 -- ---- arguments
@@ -178,19 +197,23 @@ plain_same n m s (text t ∷ rest) l p h = plain_same n m s rest l p h
 channel_same : (s r : Shared) (kind : Channel) (t : List ℕ) → SharedGoesOn (used s kind t) r
     → channel_of s kind t ≡ channel_of r kind t
 channel_same s r channel.Control t l =
-    ap (λ k. variant.Global (res.Control k)) (sym (seen_place s.control t) ∙ sym (place_on (seen s.control t) r.control t l.control (seen_has s.control t)))
+    ap (λ k. variant.Global (res.Control k))
+    (sym (seen_place s.control t) ∙ sym (place_on (seen s.control t) r.control t l.control (seen_has s.control t)))
 channel_same s r channel.Sound t l =
-    ap (λ k. variant.Global (res.Sound k)) (sym (seen_place s.sound t) ∙ sym (place_on (seen s.sound t) r.sound t l.sound (seen_has s.sound t)))
+    ap (λ k. variant.Global (res.Sound k))
+    (sym (seen_place s.sound t) ∙ sym (place_on (seen s.sound t) r.sound t l.sound (seen_has s.sound t)))
 
 -- a text alone, and a value and a text
 text_alone : (n m : Known) (s : Numbering) (kind : Channel) (t : List ℕ) → SharedGoesOn (used n.shared kind t) m.shared
-    → typed_arguments n (Some kind) (text t ∷ []) ≡ arguments_by m.shared (numbered m.shared s) (Some kind) (text t ∷ [])
+    → typed_arguments n (Some kind) (text t ∷ []) ≡ arguments_by m.shared (numbered m.shared s) (Some kind)
+    (text t ∷ [])
 text_alone n m s kind t l = ap (λ c. typed.text c ∷ []) (channel_same n.shared m.shared kind t l)
 
 value_text : (n m : Known) (s : Numbering) (kind : Channel) (e : Expression) (t : List ℕ) → Later n m
     → HasPlaces s m.locals → reads_known n e ≡ true
     → SharedGoesOn (used n.shared kind t) m.shared
-    → typed_arguments n (Some kind) (value e ∷ text t ∷ []) ≡ arguments_by m.shared (numbered m.shared s) (Some kind) (value e ∷ text t ∷ [])
+    → typed_arguments n (Some kind) (value e ∷ text t ∷ []) ≡ arguments_by m.shared (numbered m.shared s) (Some kind)
+    (value e ∷ text t ∷ [])
 value_text n m s kind e t l p h on =
     λ i. typed.value (expression_same n m s e l p h i) ∷ typed.text (channel_same n.shared m.shared kind t on i) ∷ []
 
@@ -202,11 +225,13 @@ past_two k = grind (arith, nat_tests)
 
 no_second : {A : Type 0} (k : ℕ) → (nat_le 1 (suc (suc k)) && (suc (suc k) - 1 == 0)) ≡ true → A
 no_second k h =
-    let never : false ≡ true = sym (past_one k) ∙ (and_parts (nat_le 1 (suc (suc k))) (suc (suc k) - 1 == 0) h).1 in absurd (cc never)
+    let never : false ≡ true =
+    sym (past_one k) ∙ (and_parts (nat_le 1 (suc (suc k))) (suc (suc k) - 1 == 0) h).1 in absurd (cc never)
 
 no_third : {A : Type 0} (k : ℕ) → (nat_le 2 (suc (suc (suc k))) && (suc (suc (suc k)) - 2 == 0)) ≡ true → A
 no_third k h =
-    let never : false ≡ true = sym (past_two k) ∙ (and_parts (nat_le 2 (suc (suc (suc k)))) (suc (suc (suc k)) - 2 == 0) h).1 in absurd (cc never)
+    let never : false ≡ true =
+    sym (past_two k) ∙ (and_parts (nat_le 2 (suc (suc (suc k)))) (suc (suc (suc k)) - 2 == 0) h).1 in absurd (cc never)
 
 no_value : {A : Type 0} (a b : Bool) → ((a && false) && b) ≡ true → A
 no_value true b h = absurd (cc h)
@@ -227,8 +252,10 @@ arguments_same : (n m : Known) (s : Numbering) (o : Opcode) (b : Rate) (results 
     → typed_arguments n (channel_use (row_of o).shape results args) args
     ≡ arguments_by m.shared (numbered m.shared s) (channel_use (row_of o).shape results args) args
 arguments_same n m s op.Chnget b results [] l p c f h on = absurd (cc c)
-arguments_same n m s op.Chnget b results (value e ∷ rest) l p c f h on = no_value (is_value e) (all_fit (row_of op.Chnget) b 1 rest) f
-arguments_same n m s op.Chnget b results (text t ∷ []) l p c f h on = text_alone n m s (kind_of (is_audio (bound_of results))) t on
+arguments_same n m s op.Chnget b results (value e ∷ rest) l p c f h on =
+    no_value (is_value e) (all_fit (row_of op.Chnget) b 1 rest) f
+arguments_same n m s op.Chnget b results (text t ∷ []) l p c f h on =
+    text_alone n m s (kind_of (is_audio (bound_of results))) t on
 arguments_same n m s op.Chnget b results (text t ∷ a ∷ rest) l p c f h on = no_second (length rest) c
 arguments_same n m s op.Chnset b results [] l p c f h on = absurd (cc c)
 arguments_same n m s op.Chnset b results (text t ∷ rest) l p c f h on = absurd (cc f)
@@ -247,7 +274,8 @@ arguments_same n m s op.Chnmix b results (value e ∷ text t ∷ []) l p c f h o
     value_text n m s channel.Sound e t l p (first_known_of (reads_known n e) true h) on
 arguments_same n m s op.Chnmix b results (value e ∷ text t ∷ a ∷ rest) l p c f h on = no_third (length rest) c
 arguments_same n m s op.Chnclear b results [] l p c f h on = absurd (cc c)
-arguments_same n m s op.Chnclear b results (value e ∷ rest) l p c f h on = no_value (is_value e) (all_fit (row_of op.Chnclear) b 1 rest) f
+arguments_same n m s op.Chnclear b results (value e ∷ rest) l p c f h on =
+    no_value (is_value e) (all_fit (row_of op.Chnclear) b 1 rest) f
 arguments_same n m s op.Chnclear b results (text t ∷ []) l p c f h on = text_alone n m s channel.Sound t on
 arguments_same n m s op.Chnclear b results (text t ∷ a ∷ rest) l p c f h on = no_second (length rest) c
 arguments_same n m s o b results args l p c f h on = plain_same n m s args l p h
@@ -261,7 +289,8 @@ one_at_most : {A : Type 0} (b : Bool) (k : ℕ) → (suc (suc k) == (if b then 0
 one_at_most true k h = absurd (omega (arith, equal (suc (suc k)) 0 h))
 one_at_most false k h = absurd (omega (arith, equal (suc (suc k)) 1 h))
 
-results_same : (n m : Known) (s : Numbering) (row : Row) (results : List (List ℕ)) → (length results == result_count row) ≡ true
+results_same : (n m : Known) (s : Numbering) (row : Row) (results : List (List ℕ))
+    → (length results == result_count row) ≡ true
     → m.shared.globals ≡ n.shared.globals → TableGoesOn (given_all n results).locals m.locals → HasPlaces s m.locals
     → map (variable n) results ≡ map (numbered m.shared s) results
 results_same n m s row [] c e l p = refl
@@ -272,14 +301,16 @@ results_same n m s row (x ∷ y ∷ rest) c e l p = one_at_most (length row.resu
 
 no_rule_broken : (a b c d e : Bool)
     → (if not a then Some orc.ArgCount else (if not b then Some orc.Undefined else
-    (if not c then Some orc.RateMismatch else (if d then Some orc.ChannelRate else (if e then Some orc.OutCount else None))))) ≡ None
+    (if not c then Some orc.RateMismatch else
+    (if d then Some orc.ChannelRate else (if e then Some orc.OutCount else None))))) ≡ None
     → (a ≡ true) × (b ≡ true) × (c ≡ true)
 no_rule_broken true true true d e h = (refl, refl, refl)
 no_rule_broken true true false d e h = absurd (cc h)
 no_rule_broken true false c d e h = absurd (cc h)
 no_rule_broken false b c d e h = absurd (cc h)
 
-row_same : (q : Setting) (n m : Known) (s : Numbering) (line : ℕ) (o : Opcode) (results : List (List ℕ)) (args : List Argument)
+row_same : (q : Setting) (n m : Known) (s : Numbering) (line : ℕ) (o : Opcode) (results : List (List ℕ))
+    (args : List Argument)
     → row_fault q n (row_of o) results args ≡ None → Later (row_known n (row_of o) results args) m
     → HasPlaces s m.locals
     → typed_row line n o (row_of o) results args ≡ row_by line m.shared (numbered m.shared s) o (row_of o) results args
@@ -297,7 +328,8 @@ row_same q n m s line o results args h l p =
     let made = arguments_same n m s o (bound_of results) results args whole p counts.1 inner.0 right.1 l.shared in
     λ i. typed.call line (call_rate row.shape results args) (given_on i) o (made i)
 
-call_same : (q : Setting) (n m : Known) (s : Numbering) (line : ℕ) (c : Callee) (results : List (List ℕ)) (args : List Argument)
+call_same : (q : Setting) (n m : Known) (s : Numbering) (line : ℕ) (c : Callee) (results : List (List ℕ))
+    (args : List Argument)
     → call_fault q n c results args ≡ None → Later (call_known n c results args) m → HasPlaces s m.locals
     → typed_call line n c results args ≡ call_by line m.shared (numbered m.shared s) c results args
 call_same q n m s line (callee.Name name) results args h l p = refl
@@ -321,13 +353,15 @@ nothing_unknown false c h = absurd (cc h)
 set_known : (q : Setting) (n : Known) (line : ℕ) (x : List ℕ) (e : Expression) → at line (set_fault q n x e) ≡ None
     → reads_known n e ≡ true
 set_known q n line x e h =
-    nothing_unknown (reads_known n e) (is_value e && within (rate_of e) (name_rate x) && (q.inside || is_init (name_rate x)))
+    nothing_unknown (reads_known n e)
+    (is_value e && within (rate_of e) (name_rate x) && (q.inside || is_init (name_rate x)))
     (at_none line (set_fault q n x e) h)
 
 condition_known : (q : Setting) (n : Known) (line : ℕ) (e : Expression) → at line (condition_fault q n e) ≡ None
     → reads_known n e ≡ true
 condition_known q n line e h =
-    nothing_unknown (reads_known n e) (is_condition e && (q.inside || is_init (rate_of e))) (at_none line (condition_fault q n e) h)
+    nothing_unknown (reads_known n e) (is_condition e && (q.inside || is_init (rate_of e)))
+    (at_none line (condition_fault q n e) h)
 
 mutual
   pub statement_same : (q : Setting) (n m : Known) (s : Numbering) (x : Statement) → fault q n x ≡ None
@@ -339,7 +373,8 @@ mutual
       (expression_same n m s e whole p (set_known q n line x e h) i)
   statement_same q n m s (call line results c args) h l p =
       call_same q n m s line c results args (at_none line (call_fault q n c results args) h) l p
-  statement_same q n m s (choose line list) h l p = ap (typed.choose line (choice_rate list)) (arms_same q n m s line list h l p)
+  statement_same q n m s (choose line list) h l p =
+      ap (typed.choose line (choice_rate list)) (arms_same q n m s line list h l p)
 
   pub block_same : (q : Setting) (n m : Known) (s : Numbering) (b : Block) → block_fault q n b ≡ None
       → Later (known_block n b) m → HasPlaces s m.locals
@@ -347,7 +382,8 @@ mutual
   block_same q n m s no_stmt h l p = refl
   block_same q n m s (andthen x rest) h l p =
       let parts = both_none (fault q n x) (block_fault q (known n x) rest) h in
-      let after : Later (known n x) m = later_further (known n x) (known_block (known n x) rest) m (known_block_later (known n x) rest) l in
+      let after : Later (known n x) m =
+      later_further (known n x) (known_block (known n x) rest) m (known_block_later (known n x) rest) l in
       λ i. typed.andthen (statement_same q n m s x parts.0 after p i) (block_same q (known n x) m s rest parts.1 l p i)
 
   pub arms_same : (q : Setting) (n m : Known) (s : Numbering) (line : ℕ) (list : Arms) → arms_fault q n line list ≡ None
@@ -355,10 +391,13 @@ mutual
       → HasPlaces s m.locals → typed_arms n list ≡ arms_by m.shared (numbered m.shared s) list
   arms_same q n m s line (otherwise b) h l p = ap typed.otherwise (block_same q n m s b h l p)
   arms_same q n m s line (arm c b rest) h l p =
-      let parts = both_none (at line (condition_fault q n c)) (option_or (block_fault q n b) (arms_fault q (known_block n b) line rest)) h in
+      let parts = both_none (at line (condition_fault q n c))
+      (option_or (block_fault q n b) (arms_fault q (known_block n b) line rest)) h in
       let more = both_none (block_fault q n b) (arms_fault q (known_block n b) line rest) parts.1 in
       let after : Later (known_block n b) m =
-      later_further (known_block n b) (known_arms (known_block n b) rest) m (known_arms_later (known_block n b) rest) l in
+      later_further (known_block n b) (known_arms (known_block n b) rest) m (known_arms_later (known_block n b) rest)
+      l in
       let whole : Later n m = later_further n (known_block n b) m (known_block_later n b) after in
-      λ i. typed.arm (expression_same n m s c whole p (condition_known q n line c parts.0) i) (block_same q n m s b more.0 after p i)
+      λ i. typed.arm (expression_same n m s c whole p (condition_known q n line c parts.0) i)
+      (block_same q n m s b more.0 after p i)
       (arms_same q (known_block n b) m s line rest more.1 l p i)

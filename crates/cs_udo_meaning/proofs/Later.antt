@@ -1,5 +1,6 @@
 -- Names that are known stay known, each at its place.
-use Rattle.std.proofs.Common.{◌≡◌, ◌∙◌, ℕ, ◌+◌, Bool, cond, true, false, not, ◌||◌, if◌then◌else◌, List, [], ◌∷◌, ◌++◌, append_assoc, refl, sym, ap}
+use Rattle.std.proofs.Common.{◌≡◌, ◌∙◌, ℕ, ◌+◌, Bool, cond, true, false, not, ◌||◌, if◌then◌else◌, List, [], ◌∷◌, ◌++◌}
+use Rattle.std.proofs.Common.{append_assoc, refl, sym, ap}
 use Rattle.std.specs.Str.{bytes_eq}
 use Rattle.std.proofs.lemmas.List.{append-nil}
 use Rattle.std.proofs.lemmas.Slice.Eq.{bytes_eq-Decides}
@@ -94,7 +95,8 @@ pub table_stays : (t : Table) → TableGoesOn t t
 table_stays t = record { each = λ r. stays (of_rate r t) }
 
 pub table_further : (t u v : Table) → TableGoesOn t u → TableGoesOn u v → TableGoesOn t v
-table_further t u v a b = record { each = λ r. goes_further (of_rate r t) (of_rate r u) (of_rate r v) (a.each r) (b.each r) }
+table_further t u v a b =
+    record { each = λ r. goes_further (of_rate r t) (of_rate r u) (of_rate r v) (a.each r) (b.each r) }
 
 with_name_on : (q : Rate) (t : Table) (x : List ℕ) (r : Rate) → GoesOn (of_rate r t) (of_rate r (with_name q t x))
 with_name_on rate.Init t x rate.Init = seen_on t.init x

@@ -24,7 +24,8 @@ use Rattle.cs_udo_meaning.specs.Lives.{Cycle, goes_on, begins, performs, goes_on
 use Rattle.cs_udo_meaning.specs.Numbered.{Numbering, Tells, numbered, block_by}
 use Rattle.cs_udo_meaning.specs.Stands.{Fits, Stands}
 use Rattle.cs_udo_meaning.specs.Typed.{shared_of, IsNumberedInstrument}
-use Rattle.cs_udo_meaning.proofs.Expanding.{all_grow, all_act, nothing_grows, nothing_acts, init_block_stands, perf_block_stands}
+use Rattle.cs_udo_meaning.proofs.Expanding.{all_grow, all_act, nothing_grows, nothing_acts, init_block_stands}
+use Rattle.cs_udo_meaning.proofs.Expanding.{perf_block_stands}
 use Rattle.cs_udo_meaning.proofs.Named.{NamedBlock, block_named}
 use Rattle.cs_udo_meaning.proofs.TypedBy.{all_numbered}
 
@@ -34,27 +35,32 @@ at_first = omega arith
 named_in : (i : Instrument) → WellFormedInstrument i → NamedBlock (Fits 0) i.body
 named_in i well = block_named (Fits 0) (λ x h e. h) place.Instrument [] 0 i.body well.body
 
-module _ {W : Type 0} (ds : List Definition) (i : Instrument) (well : WellFormedInstrument i) (flat : Numbering) (tf : Tells flat) where
+module _ {W : Type 0} (ds : List Definition) (i : Instrument) (well : WellFormedInstrument i) (flat : Numbering)
+    (tf : Tells flat) where
   expanded_begins : (m : Reading W) → Tells m.number → (t : Note W) (u : Framed W) → Stands flat m.number t u
       → Stands flat m.number
-      (initial.init_block m.world start (core.core m.spaces (block_by m.shared (numbered m.shared flat) (expanded_instrument ds i).body)) t)
+      (initial.init_block m.world start
+      (core.core m.spaces (block_by m.shared (numbered m.shared flat) (expanded_instrument ds i).body)) t)
       (begins m ds i u)
   expanded_begins m to t u stand =
       let own = before i.line ds in
       init_block_stands m flat tf to (opcodes_before i.line ds) (actions_before m i.line ds)
       (all_grow m flat tf to no_opcodes (nothing_grows m flat tf to) own)
-      (all_act m flat tf to no_opcodes no_actions (nothing_grows m flat tf to) (nothing_acts m flat tf to) own) 0 1 at_first start i.body
+      (all_act m flat tf to no_opcodes no_actions (nothing_grows m flat tf to) (nothing_acts m flat tf to) own) 0 1
+      at_first start i.body
       (named_in i well) t u stand
 
   expanded_performs : (m : Reading W) → Tells m.number → (t : Note W) (u : Framed W) → Stands flat m.number t u
       → Stands flat m.number
-      (performing.perf_block m.world start (core.core m.spaces (block_by m.shared (numbered m.shared flat) (expanded_instrument ds i).body)) t)
+      (performing.perf_block m.world start
+      (core.core m.spaces (block_by m.shared (numbered m.shared flat) (expanded_instrument ds i).body)) t)
       (performs m ds i u)
   expanded_performs m to t u stand =
       let own = before i.line ds in
       perf_block_stands m flat tf to (opcodes_before i.line ds) (actions_before m i.line ds)
       (all_grow m flat tf to no_opcodes (nothing_grows m flat tf to) own)
-      (all_act m flat tf to no_opcodes no_actions (nothing_grows m flat tf to) (nothing_acts m flat tf to) own) 0 1 at_first start i.body
+      (all_act m flat tf to no_opcodes no_actions (nothing_grows m flat tf to) (nothing_acts m flat tf to) own) 0 1
+      at_first start i.body
       (named_in i well) t u stand
 
 moved_stands : {W : Type 0} (flat own : Numbering) (t : Note W) (u : Framed W) (x y : W) → Stands flat own t u → x ≡ y
@@ -64,7 +70,8 @@ moved_stands flat own t u x y h e = record { locals = h.locals; kept = h.kept; w
 new_stands : {W : Type 0} (flat own : Numbering) (x : W) → Stands flat own (new_note x) (new_framed x)
 new_stands flat own x = record { locals = λ f y e fits. refl; kept = refl; world = refl }
 
-cycles_alike : {W : Type 0} (m : Reading W) (ds : List Definition) (i : Instrument) (flat : Numbering) (body : core.Block)
+cycles_alike : {W : Type 0} (m : Reading W) (ds : List Definition) (i : Instrument) (flat : Numbering)
+    (body : core.Block)
     → ((o : World W) (t : Note W) (u : Framed W) → Stands flat m.number t u
     → Stands flat m.number (performing.perf_block o start body t) (performs (in_world o m) ds i u))
     → (cycles : List (Cycle W)) (t : Note W) (u : Framed W) → Stands flat m.number t u
@@ -89,7 +96,8 @@ instrument_means W ds g i made well h = record {
   performed = goes;
   lived = λ o spaces own to cycles x.
       cycles_alike (reading o spaces g own) ds i flat (core.core spaces made.body) (λ w. goes w spaces own to) cycles
-      (initial.init_block o start (core.core spaces made.body) (new_note x)) (begins (reading o spaces g own) ds i (new_framed x))
+      (initial.init_block o start (core.core spaces made.body) (new_note x))
+      (begins (reading o spaces g own) ds i (new_framed x))
       (starts o spaces own to (new_note x) (new_framed x) (new_stands flat own x));
 }
   where
@@ -98,16 +106,20 @@ instrument_means W ds g i made well h = record {
 
     starts : (o : World W) (spaces : Spaces) (own : Numbering) → Tells own → (t : Note W) (u : Framed W)
         → Stands flat own t u
-        → Stands flat own (initial.init_block o start (core.core spaces made.body) t) (begins (reading o spaces g own) ds i u)
+        → Stands flat own (initial.init_block o start (core.core spaces made.body) t)
+        (begins (reading o spaces g own) ds i u)
     starts o spaces own to t u stand =
-        subst (λ b. Stands flat own (initial.init_block o start (core.core spaces b) t) (begins (reading o spaces g own) ds i u)) (sym h.body.is)
+        subst (λ b. Stands flat own (initial.init_block o start (core.core spaces b) t)
+        (begins (reading o spaces g own) ds i u)) (sym h.body.is)
         (expanded_begins ds i well flat h.body.apart (reading o spaces g own) to t u stand)
 
     goes : (o : World W) (spaces : Spaces) (own : Numbering) → Tells own → (t : Note W) (u : Framed W)
         → Stands flat own t u
-        → Stands flat own (performing.perf_block o start (core.core spaces made.body) t) (performs (reading o spaces g own) ds i u)
+        → Stands flat own (performing.perf_block o start (core.core spaces made.body) t)
+        (performs (reading o spaces g own) ds i u)
     goes o spaces own to t u stand =
-        subst (λ b. Stands flat own (performing.perf_block o start (core.core spaces b) t) (performs (reading o spaces g own) ds i u)) (sym h.body.is)
+        subst (λ b. Stands flat own (performing.perf_block o start (core.core spaces b) t)
+        (performs (reading o spaces g own) ds i u)) (sym h.body.is)
         (expanded_performs ds i well flat h.body.apart (reading o spaces g own) to t u stand)
 
 first_of : (i : Instrument) (list : List Instrument) → All WellFormedInstrument (i ∷ list) → WellFormedInstrument i
@@ -140,5 +152,6 @@ pub calls_mean_frames : (W : Type 0) (o made : Orchestra) → IsWellFormed o →
     → AllZip (MeansFrames W o.opcodes (shared_of made)) o.instrs (typed_of made).instrs
 calls_mean_frames W o made well h right =
     each_means W o.opcodes (shared_of made) o.instrs (typed_of made).instrs well.instruments
-    (subst (λ list. AllZip (IsNumberedInstrument (shared_of made)) list (typed_of made).instrs) (ap (λ z. z.instrs) (expanded_is o made h))
+    (subst (λ list. AllZip (IsNumberedInstrument (shared_of made)) list (typed_of made).instrs)
+    (ap (λ z. z.instrs) (expanded_is o made h))
     (all_numbered made right))

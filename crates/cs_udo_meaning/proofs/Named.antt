@@ -1,8 +1,10 @@
 -- The names of variables in statements.
 use Rattle.std.proofs.Common.{ℕ, suc, ◌+◌, List, [], ◌∷◌, arith}
 use Rattle.std.specs.List.{All}
-use Rattle.cs_grammar.specs.Tree.{Expression, number, var, field, head, neg, pair, pick, apply, Argument, value, text, Statement, set, call, choose, Block, no_stmt, andthen, Arms, otherwise, arm}
-use Rattle.cs_grammar.specs.WellFormed.{HasNoStop, IsVariable, WellFormedExpr, WellFormedArg, WellFormedStmt, WellFormedBlock, WellFormedArms}
+use Rattle.cs_grammar.specs.Tree.{Expression, number, var, field, head, neg, pair, pick, apply, Argument, value, text}
+use Rattle.cs_grammar.specs.Tree.{Statement, set, call, choose, Block, no_stmt, andthen, Arms, otherwise, arm}
+use Rattle.cs_grammar.specs.WellFormed.{HasNoStop, IsVariable, WellFormedExpr, WellFormedArg, WellFormedStmt}
+use Rattle.cs_grammar.specs.WellFormed.{WellFormedBlock, WellFormedArms}
 use Rattle.cs_grammar.specs.declared.scope.Place.{Place}
 
 abbrev pub Named : (List ℕ → Type 0) → Expression → Type 0
@@ -97,8 +99,11 @@ module _ (P : List ℕ → Type 0) (k : (x : List ℕ) → HasNoStop x → P x) 
 
   arguments_named : (args : List Argument) → All WellFormedArg args → NamedArguments P args
   arguments_named [] h = tt
-  arguments_named (value e ∷ args) h =
-      (expression_named e (head_of WellFormedArg (value e) args h), arguments_named args (tail_of WellFormedArg (value e) args h))
+  arguments_named (value e ∷ args) h = (
+    expression_named e (head_of WellFormedArg (value e) args h),
+    arguments_named args
+        (tail_of WellFormedArg (value e) args h),
+  )
   arguments_named (text t ∷ args) h = arguments_named args (tail_of WellFormedArg (text t) args h)
 
   mutual
@@ -113,4 +118,5 @@ module _ (P : List ℕ → Type 0) (k : (x : List ℕ) → HasNoStop x → P x) 
 
     arms_named : (p : Place) (own : List ℕ) (d : ℕ) (list : Arms) → WellFormedArms p own d list → NamedArms P list
     arms_named p own d (otherwise b) h = block_named p own d b h
-    arms_named p own d (arm c b rest) h = (expression_named c h.0, block_named p own d b h.1, arms_named p own d rest h.2)
+    arms_named p own d (arm c b rest) h =
+        (expression_named c h.0, block_named p own d b h.1, arms_named p own d rest h.2)

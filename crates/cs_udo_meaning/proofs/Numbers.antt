@@ -1,5 +1,6 @@
 -- Numberings that tell all names apart.
-use Rattle.std.proofs.Common.{◌≡◌, ◌∙◌, ℕ, zero, suc, ◌+◌, ◌<◌, Bool, cond, true, false, not, ◌||◌, if◌then◌else◌, List, [], ◌∷◌, length, arith, refl, sym, ap}
+use Rattle.std.proofs.Common.{◌≡◌, ◌∙◌, ℕ, zero, suc, ◌+◌, ◌<◌, Bool, cond, true, false, not, ◌||◌, if◌then◌else◌, List}
+use Rattle.std.proofs.Common.{[], ◌∷◌, length, arith, refl, sym, ap}
 use Rattle.std.specs.Str.{bytes_eq}
 use Rattle.std.proofs.lemmas.Slice.Eq.{bytes_eq-Decides}
 use Rattle.cs_words.specs.NameSets.{has, place_of}
@@ -69,15 +70,18 @@ abbrev pub number_in : Table → Numbering
 number_in t x = if in_table t x then place_in t x else length (of_rate (name_rate x) t) + spelled x
 
 pub number_places : (t : Table) → HasPlaces (number_in t) t
-number_places t = record { each = λ x h. ap (λ b. if b then place_in t x else length (of_rate (name_rate x) t) + spelled x) h }
+number_places t = record
+    { each = λ x h. ap (λ b. if b then place_in t x else length (of_rate (name_rate x) t) + spelled x) h }
 
 numbers_apart : (names : List (List ℕ)) (x y : List ℕ)
-    → (if has names x then place_of names x else length names + spelled x) ≡ (if has names y then place_of names y else length names + spelled y)
+    → (if has names x then place_of names x else length names + spelled x)
+    ≡ (if has names y then place_of names y else length names + spelled y)
     → x ≡ y
 numbers_apart names x y e = by (has names x) (has names y) refl refl e
   where
     by : (b c : Bool) → has names x ≡ b → has names y ≡ c
-        → (if b then place_of names x else length names + spelled x) ≡ (if c then place_of names y else length names + spelled y)
+        → (if b then place_of names x else length names + spelled x)
+        ≡ (if c then place_of names y else length names + spelled y)
         → x ≡ y
     by true true p q e = place_apart names x y p q e
     by true false p q e = absurd (omega (arith, e, place_low names x p))

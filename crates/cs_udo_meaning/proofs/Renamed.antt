@@ -1,5 +1,6 @@
 -- Statements with other names of the same rates: their typed form is theirs, with the variables of the other names.
-use Rattle.std.proofs.Common.{◌≡◌, ◌∙◌, ℕ, true, false, ◌&&◌, ◌||◌, if◌then◌else◌, List, [], ◌∷◌, ◌++◌, map, Option, Some, None, refl, ap}
+use Rattle.std.proofs.Common.{◌≡◌, ◌∙◌, ℕ, true, false, ◌&&◌, ◌||◌, if◌then◌else◌, List, [], ◌∷◌, ◌++◌, map, Option}
+use Rattle.std.proofs.Common.{Some, None, refl, ap}
 use Rattle.std.specs.List.{list_all}
 use Rattle.cs_base.specs.Rates.{faster, is_init, is_audio}
 use Rattle.cs_base.specs.declared.resource.Rate.TheVariants as rate
@@ -10,7 +11,8 @@ use Rattle.cs_words.specs.declared.catalogue.Shape.{Shape}
 use Rattle.cs_words.specs.declared.catalogue.Shape.TheVariants as shape
 use Rattle.cs_grammar.specs.declared.tree.Callee.{Callee}
 use Rattle.cs_grammar.specs.declared.tree.Callee.TheVariants as callee
-use Rattle.cs_grammar.specs.Tree.{Expression, number, var, field, head, neg, pair, pick, apply, Argument, value, text, set, call}
+use Rattle.cs_grammar.specs.Tree.{Expression, number, var, field, head, neg, pair, pick, apply, Argument, value, text}
+use Rattle.cs_grammar.specs.Tree.{set, call}
 use Rattle.cs_typed.specs.Places.{is_starting, is_writing}
 use Rattle.cs_typed.specs.TypedTree as typed
 use Rattle.cs_typing.specs.Calls.{bound_of, any_sound, kind_of, channel_use, is_still, call_rate}
@@ -44,8 +46,10 @@ expression_renamed own k v (neg a) = λ i. typed.neg (rate_kept own k (neg a) i)
 expression_renamed own k v (pair o a b) =
     λ i. typed.pair (rate_kept own k (pair o a b) i) o (expression_renamed own k v a i) (expression_renamed own k v b i)
 expression_renamed own k v (pick c a b) =
-    λ i. typed.pick (rate_kept own k (pick c a b) i) (expression_renamed own k v c i) (expression_renamed own k v a i) (expression_renamed own k v b i)
-expression_renamed own k v (apply f a) = λ i. typed.apply (rate_kept own k (apply f a) i) f (expression_renamed own k v a i)
+    λ i. typed.pick (rate_kept own k (pick c a b) i) (expression_renamed own k v c i) (expression_renamed own k v a i)
+    (expression_renamed own k v b i)
+expression_renamed own k v (apply f a) =
+    λ i. typed.apply (rate_kept own k (apply f a) i) f (expression_renamed own k v a i)
 
 sound_kept : (own : List ℕ → List ℕ) → KeepsRates own → (args : List Argument)
     → any_sound (map (renamed_argument own) args) ≡ any_sound args
@@ -86,7 +90,8 @@ call_rate_kept : (own : List ℕ → List ℕ) → KeepsRates own → (sh : Shap
     → call_rate sh (map own xs) (map (renamed_argument own) args) ≡ call_rate sh xs args
 call_rate_kept own k sh [] args =
     λ i. if is_starting sh then rate.Init else
-    (if is_writing sh && still_kept own k args i then rate.Init else (if sound_kept own k args i then rate.Audio else rate.Control))
+    (if is_writing sh && still_kept own k args i then rate.Init else
+    (if sound_kept own k args i then rate.Audio else rate.Control))
 call_rate_kept own k sh (x ∷ xs) args = ap (λ q. if is_starting sh then rate.Init else q) (k.rate x)
 
 argument_renamed : (own : List ℕ → List ℕ) → KeepsRates own
@@ -100,7 +105,8 @@ arguments_renamed : (own : List ℕ → List ℕ) → KeepsRates own
     → (g : Shared) (v : Variables) (role : Option Channel) (args : List Argument)
     → arguments_by g v role (map (renamed_argument own) args) ≡ arguments_by g (λ x. v (own x)) role args
 arguments_renamed own k g v role [] = refl
-arguments_renamed own k g v role (a ∷ args) = λ i. argument_renamed own k g v role a i ++ arguments_renamed own k g v role args i
+arguments_renamed own k g v role (a ∷ args) =
+    λ i. argument_renamed own k g v role a i ++ arguments_renamed own k g v role args i
 
 results_renamed : (own : List ℕ → List ℕ) (v : Variables) (xs : List (List ℕ))
     → map v (map own xs) ≡ map (λ x. v (own x)) xs
@@ -109,9 +115,11 @@ results_renamed own v (x ∷ xs) = ap (λ l. v (own x) ∷ l) (results_renamed o
 
 row_renamed : (own : List ℕ → List ℕ) → KeepsRates own
     → (g : Shared) (v : Variables) (line : ℕ) (o : Opcode) (row : Row) (xs : List (List ℕ)) (args : List Argument)
-    → row_by line g v o row (map own xs) (map (renamed_argument own) args) ≡ row_by line g (λ x. v (own x)) o row xs args
+    → row_by line g v o row (map own xs) (map (renamed_argument own) args) ≡ row_by line g (λ x. v (own x)) o row xs
+    args
 row_renamed own k g v line o row xs args =
-    ap (λ role. typed.call line (call_rate row.shape (map own xs) (map (renamed_argument own) args)) (map v (map own xs)) o
+    ap (λ role. typed.call line (call_rate row.shape (map own xs) (map (renamed_argument own) args))
+    (map v (map own xs)) o
     (arguments_by g v role (map (renamed_argument own) args))) (use_kept own k row.shape xs args)
     ∙ λ i. typed.call line (call_rate_kept own k row.shape xs args i) (results_renamed own v xs i) o
     (arguments_renamed own k g v (channel_use row.shape xs args) args i)
@@ -123,6 +131,7 @@ set_renamed own k g v line x e = λ i. typed.set line (k.rate x i) (v (own x)) (
 
 pub call_renamed : (own : List ℕ → List ℕ) → KeepsRates own
     → (g : Shared) (v : Variables) (line : ℕ) (xs : List (List ℕ)) (c : Callee) (args : List Argument)
-    → statement_by g v (call line (map own xs) c (map (renamed_argument own) args)) ≡ statement_by g (λ y. v (own y)) (call line xs c args)
+    → statement_by g v (call line (map own xs) c (map (renamed_argument own) args)) ≡ statement_by g (λ y. v (own y))
+    (call line xs c args)
 call_renamed own k g v line xs (callee.Opcode o) args = row_renamed own k g v line o (row_of o) xs args
 call_renamed own k g v line xs (callee.Name name) args = refl

@@ -1,5 +1,7 @@
--- The numbers of shared names: longer lists lead to those whose names they have, and by either an instrument has one life.
-use Rattle.std.proofs.Common.{◌≡◌, ◌∙◌, ℕ, zero, suc, ◌+◌, Bool, cond, true, false, not, ◌||◌, if◌then◌else◌, List, [], ◌∷◌, length, map, arith, refl, sym, ap, subst}
+-- The numbers of shared names: longer lists lead to those whose names they have, and by either an instrument has one
+-- life.
+use Rattle.std.proofs.Common.{◌≡◌, ◌∙◌, ℕ, zero, suc, ◌+◌, Bool, cond, true, false, not, ◌||◌, if◌then◌else◌, List, []}
+use Rattle.std.proofs.Common.{◌∷◌, length, map, arith, refl, sym, ap, subst}
 use Rattle.std.specs.Str.{bytes_eq}
 use Rattle.std.proofs.lemmas.Slice.Eq.{bytes_eq-Decides}
 use Rattle.cs_base.specs.Rates.{res_rate}
@@ -11,7 +13,8 @@ use Rattle.cs_base.specs.declared.spaces.Spaces.{Spaces}
 use Rattle.cs_words.specs.NameSets.{has, place_of}
 use Rattle.cs_words.specs.Names.{name_rate, is_global}
 use Rattle.cs_grammar.specs.declared.tree.Callee.{Callee}
-use Rattle.cs_grammar.specs.Tree.{Expression, Argument, Statement, set, call, choose, Block, no_stmt, andthen, Arms, otherwise, arm, Definition, Instrument}
+use Rattle.cs_grammar.specs.Tree.{Expression, Argument, Statement, set, call, choose, Block, no_stmt, andthen, Arms}
+use Rattle.cs_grammar.specs.Tree.{otherwise, arm, Definition, Instrument}
 use Rattle.cs_grammar.specs.WellFormed.{WellFormedInstrument}
 use Rattle.cs_typed.specs.TypedTree as typed
 use Rattle.cs_typed.specs.declared.tree.Var.{Var as Variable}
@@ -27,15 +30,18 @@ use Rattle.cs_meaning.specs.Core as core
 use Rattle.cs_meaning.specs.Initialising as initial
 use Rattle.cs_meaning.specs.Initialising.{going, put_kept, keep}
 use Rattle.cs_meaning.specs.Notes as note
-use Rattle.cs_meaning.specs.Notes.{Note, Place, start, new_note, moved_to, past, past_parts, past_stmt, look, assign, reg}
+use Rattle.cs_meaning.specs.Notes.{Note, Place, start, new_note, moved_to, past, past_parts, past_stmt, look, assign}
+use Rattle.cs_meaning.specs.Notes.{reg}
 use Rattle.cs_meaning.specs.Notes.{value as value_of}
 use Rattle.cs_meaning.specs.Performing as performing
 use Rattle.cs_udo.specs.Expanded.{expanded_instrument}
 use Rattle.cs_udo_meaning.specs.Lives.{Cycle, goes_on, life, life_with_frames, reading}
-use Rattle.cs_udo_meaning.specs.Numbered.{Numbering, Tells, spelled, numbered, expression_by, statement_by, block_by, arms_by}
+use Rattle.cs_udo_meaning.specs.Numbered.{Numbering, Tells, spelled, numbered, expression_by, statement_by, block_by}
+use Rattle.cs_udo_meaning.specs.Numbered.{arms_by}
 use Rattle.cs_udo_meaning.specs.Renumbered.{renumbered, renumbered_cycle, LeadsTo, HasNames}
 use Rattle.cs_udo_meaning.specs.Typed.{IsNumberedInstrument}
-use Rattle.cs_udo_meaning.proofs.Alike.{Alike, AlikeStmt, Agree, past_alike, past_stmt_alike, value_same, keep_same, init_same, perf_same}
+use Rattle.cs_udo_meaning.proofs.Alike.{Alike, AlikeStmt, Agree, past_alike, past_stmt_alike, value_same, keep_same}
+use Rattle.cs_udo_meaning.proofs.Alike.{init_same, perf_same}
 use Rattle.cs_udo_meaning.proofs.Lived.{instrument_means}
 use Rattle.cs_udo_meaning.proofs.Named.{any_named, any_names, any_arguments}
 use Rattle.cs_udo_meaning.proofs.Numbers.{spelled_tells}

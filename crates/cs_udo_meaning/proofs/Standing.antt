@@ -1,5 +1,6 @@
 -- A note that stands as one with frames does: what a statement of a frame does to the one and to the other.
-use Rattle.std.proofs.Common.{◌≡◌, ◌∙◌, ℕ, ◌==◌, Bool, true, false, if◌then◌else◌, List, [], ◌∷◌, map, Option, Some, None, arith, refl, sym, ap, subst}
+use Rattle.std.proofs.Common.{◌≡◌, ◌∙◌, ℕ, ◌==◌, Bool, true, false, if◌then◌else◌, List, [], ◌∷◌, map, Option, Some}
+use Rattle.std.proofs.Common.{None, arith, refl, sym, ap, subst}
 use Rattle.std.proofs.lemmas.Bool.{and_parts}
 use Rattle.std.proofs.lemmas.Bool.Decides.{nat_tests}
 use Rattle.cs_base.proofs.Rates.{same_rate_is}
@@ -12,7 +13,8 @@ use Rattle.cs_words.specs.Catalogue.{row_of}
 use Rattle.cs_words.specs.Names.{name_rate, is_global}
 use Rattle.cs_grammar.specs.declared.tree.Callee.{Callee}
 use Rattle.cs_grammar.specs.declared.tree.Callee.TheVariants as callee
-use Rattle.cs_grammar.specs.Tree.{Expression, number, var, field, head, neg, pair, pick, apply, Argument, value, text, set, call}
+use Rattle.cs_grammar.specs.Tree.{Expression, number, var, field, head, neg, pair, pick, apply, Argument, value, text}
+use Rattle.cs_grammar.specs.Tree.{set, call}
 use Rattle.cs_typed.specs.declared.tree.Var.{Var as Variable}
 use Rattle.cs_typed.specs.declared.tree.Var.TheVariants.{Local, Global}
 use Rattle.cs_typing.specs.Calls.{channel_use, call_rate}
@@ -26,9 +28,13 @@ use Rattle.cs_ir.specs.Worlds.{World}
 use Rattle.cs_meaning.specs.Core.{core_stmt}
 use Rattle.cs_meaning.specs.Notes.{Note, reg, look, assign}
 use Rattle.cs_udo_meaning.specs.Frames.{Framed, seen_from, put_back}
-use Rattle.cs_udo_meaning.specs.Numbered.{Numbering, Tells, Variables, numbered, expression_by, arguments_by, statement_by}
+use Rattle.cs_udo_meaning.specs.Numbered.{Numbering, Tells, Variables, numbered, expression_by, arguments_by}
+use Rattle.cs_udo_meaning.specs.Numbered.{statement_by}
 use Rattle.cs_udo_meaning.specs.Stands.{own_name, Fits, Stands}
-use Rattle.cs_udo_meaning.proofs.Alike.{Alike, alike_number, alike_var, alike_field, alike_head, alike_neg, alike_pair, alike_pick, alike_apply, AlikeVariables, no_variable, more_variables, AlikeArguments, no_argument, more_values, more_texts, AlikeStmt, alike_set, alike_empty, core_alike, Agree}
+use Rattle.cs_udo_meaning.proofs.Alike.{Alike, alike_number, alike_var, alike_field, alike_head, alike_neg, alike_pair}
+use Rattle.cs_udo_meaning.proofs.Alike.{alike_pick, alike_apply, AlikeVariables, no_variable, more_variables}
+use Rattle.cs_udo_meaning.proofs.Alike.{AlikeArguments, no_argument, more_values, more_texts, AlikeStmt, alike_set}
+use Rattle.cs_udo_meaning.proofs.Alike.{alike_empty, core_alike, Agree}
 use Rattle.cs_udo_meaning.proofs.Fresh.{own_shared, own_rate, own_local, own_apart}
 use Rattle.cs_udo_meaning.proofs.Named.{Named, NamedAll, NamedArguments}
 
@@ -48,7 +54,8 @@ same_reg_is r s n m h =
     let parts = and_parts (same_rate r s) (n == m) h in (same_rate_is r s parts.0, equal_tests n m parts.1)
 
 same_reg_here : (r s : Rate) (n m : ℕ) → r ≡ s → n ≡ m → same_reg (reg r n) (reg s m) ≡ true
-same_reg_here r s n m e f = ap (λ q. same_reg (reg q n) (reg s m)) e ∙ ap (λ k. same_reg (reg s k) (reg s m)) f ∙ here s m
+same_reg_here r s n m e f =
+    ap (λ q. same_reg (reg q n) (reg s m)) e ∙ ap (λ k. same_reg (reg s k) (reg s m)) f ∙ here s m
   where
     here : (q : Rate) (k : ℕ) → same_reg (reg q k) (reg q k) ≡ true
     here rate.Init k = test_here k
@@ -64,11 +71,13 @@ pub data SameVariable (flat own : Numbering) (f : ℕ) : Variable → Variable �
 
 numbered_shared : (g : Shared) (s : Numbering) (x : List ℕ) → is_global x ≡ true
     → numbered g s x ≡ Global (global (name_rate x) (place_in g.globals x))
-numbered_shared g s x e = ap (λ b. if b then Global (global (name_rate x) (place_in g.globals x)) else Local (name_rate x) (s x)) e
+numbered_shared g s x e =
+    ap (λ b. if b then Global (global (name_rate x) (place_in g.globals x)) else Local (name_rate x) (s x)) e
 
 numbered_own : (g : Shared) (s : Numbering) (x : List ℕ) → is_global x ≡ false
     → numbered g s x ≡ Local (name_rate x) (s x)
-numbered_own g s x e = ap (λ b. if b then Global (global (name_rate x) (place_in g.globals x)) else Local (name_rate x) (s x)) e
+numbered_own g s x e = ap
+    (λ b. if b then Global (global (name_rate x) (place_in g.globals x)) else Local (name_rate x) (s x)) e
 
 pub variable_alike : (g : Shared) (flat own : Numbering) (f : ℕ) (x : List ℕ) → Fits f x
     → SameVariable flat own f (numbered g flat (own_name f x)) (numbered g own x)
@@ -77,14 +86,18 @@ variable_alike g flat own f x fits = by (is_global x) refl
     by : (b : Bool) → is_global x ≡ b → SameVariable flat own f (numbered g flat (own_name f x)) (numbered g own x)
     by true e =
         let there = Global (global (name_rate x) (place_in g.globals x)) in
-        subst (λ v. SameVariable flat own f v (numbered g own x)) (sym (ap (numbered g flat) (own_shared f x e) ∙ numbered_shared g flat x e))
-        (subst (λ w. SameVariable flat own f there w) (sym (numbered_shared g own x e)) (both_shared (global (name_rate x) (place_in g.globals x))))
+        subst (λ v. SameVariable flat own f v (numbered g own x))
+        (sym (ap (numbered g flat) (own_shared f x e) ∙ numbered_shared g flat x e))
+        (subst (λ w. SameVariable flat own f there w) (sym (numbered_shared g own x e))
+        (both_shared (global (name_rate x) (place_in g.globals x))))
     by false e =
         let y = own_name f x in
-        let there : numbered g flat y ≡ Local (name_rate x) (flat y) = numbered_own g flat y (own_local f x ∙ e) ∙ ap (λ r. Local r (flat y))
+        let there : numbered g flat y ≡ Local (name_rate x) (flat y) =
+        numbered_own g flat y (own_local f x ∙ e) ∙ ap (λ r. Local r (flat y))
         (own_rate f x) in
         subst (λ v. SameVariable flat own f v (numbered g own x)) (sym there)
-        (subst (λ w. SameVariable flat own f (Local (name_rate x) (flat y)) w) (sym (numbered_own g own x e)) (both_own x e fits))
+        (subst (λ w. SameVariable flat own f (Local (name_rate x) (flat y)) w) (sym (numbered_own g own x e))
+        (both_own x e fits))
 
 -- ---- what is typed with them
 
@@ -94,16 +107,19 @@ pub channel_alike : (V : Variable → Variable → Type 0) → ((g : Res) → V 
 channel_alike V k g channel.Control t = k _
 channel_alike V k g channel.Sound t = k _
 
-module _ {V : Variable → Variable → Type 0} {P : List ℕ → Type 0} (v w : Variables) (h : (x : List ℕ) → P x → V (v x) (w x)) where
+module _ {V : Variable → Variable → Type 0} {P : List ℕ → Type 0} (v w : Variables)
+    (h : (x : List ℕ) → P x → V (v x) (w x)) where
   pub expression_alike : (e : Expression) → Named P e → Alike V (expression_by v e) (expression_by w e)
   expression_alike (number z) n = alike_number rate.Init z
   expression_alike (var x) n = alike_var (name_rate x) (v x) (w x) (h x n)
   expression_alike (field j) n = alike_field rate.Init j
   expression_alike (head q) n = alike_head rate.Init q
   expression_alike (neg a) n = alike_neg (rate_of (neg a)) _ _ (expression_alike a n)
-  expression_alike (pair o a b) n = alike_pair (rate_of (pair o a b)) o _ _ _ _ (expression_alike a n.0) (expression_alike b n.1)
+  expression_alike (pair o a b) n =
+      alike_pair (rate_of (pair o a b)) o _ _ _ _ (expression_alike a n.0) (expression_alike b n.1)
   expression_alike (pick c a b) n =
-      alike_pick (rate_of (pick c a b)) _ _ _ _ _ _ (expression_alike c n.0) (expression_alike a n.1) (expression_alike b n.2)
+      alike_pick (rate_of (pick c a b)) _ _ _ _ _ _ (expression_alike c n.0) (expression_alike a n.1)
+      (expression_alike b n.2)
   expression_alike (apply f a) n = alike_apply (rate_of (apply f a)) f _ _ (expression_alike a n)
 
   results_alike : (xs : List (List ℕ)) → NamedAll P xs → AlikeVariables V (map v xs) (map w xs)
@@ -115,12 +131,14 @@ module _ {V : Variable → Variable → Type 0} {P : List ℕ → Type 0} (v w :
     arguments_alike : (role : Option Channel) (args : List Argument) → NamedArguments P args
         → AlikeArguments V (arguments_by g v role args) (arguments_by q w role args)
     arguments_alike role [] n = no_argument
-    arguments_alike role (value e ∷ args) n = more_values _ _ _ _ (expression_alike e n.0) (arguments_alike role args n.1)
+    arguments_alike role (value e ∷ args) n =
+        more_values _ _ _ _ (expression_alike e n.0) (arguments_alike role args n.1)
     arguments_alike None (text t ∷ args) n = arguments_alike None args n
     arguments_alike (Some kind) (text t ∷ args) n = more_texts _ _ _ _ (k kind t) (arguments_alike (Some kind) args n)
 
     pub set_alike : (spaces : Spaces) (line : ℕ) (x : List ℕ) (e : Expression) → P x → Named P e
-        → AlikeStmt V (core_stmt spaces (statement_by g v (set line x e))) (core_stmt spaces (statement_by q w (set line x e)))
+        → AlikeStmt V (core_stmt spaces (statement_by g v (set line x e)))
+        (core_stmt spaces (statement_by q w (set line x e)))
     set_alike spaces line x e n m = alike_set (name_rate x) (v x) (w x) _ _ (h x n) (expression_alike e m)
 
     pub call_alike : (spaces : Spaces) (line : ℕ) (xs : List (List ℕ)) (c : Callee) (args : List Argument)
@@ -144,23 +162,28 @@ pub record Seen {W : Type 0} (flat own : Numbering) (f : ℕ) (u : Framed W) (t 
 
 pub to_seen : {W : Type 0} (flat own : Numbering) (f : ℕ) (t : Note W) (u : Framed W) → Stands flat own t u
     → Seen flat own f u t (seen_from f u)
-to_seen flat own f t u h = record { mine = h.locals f; others = λ g x apart. h.locals g x; kept = h.kept; world = h.world }
+to_seen flat own f t u h =
+    record { mine = h.locals f; others = λ g x apart. h.locals g x; kept = h.kept; world = h.world }
 
 pub from_seen : {W : Type 0} (flat own : Numbering) (f : ℕ) (t s : Note W) (u : Framed W) → Seen flat own f u t s
     → Stands flat own t (put_back f s u)
 from_seen {W} flat own f t s u h = record { locals = each; kept = h.kept; world = h.world }
   where
     each : (g : ℕ) (x : List ℕ) → is_global x ≡ false → Fits g x
-        → t.locals (reg (name_rate x) (flat (own_name g x))) ≡ (if g == f then s.locals else u.frames g) (reg (name_rate x) (own x))
+        → t.locals (reg (name_rate x) (flat (own_name g x))) ≡ (if g == f then s.locals else u.frames g)
+        (reg (name_rate x) (own x))
     each g x e fits = by (g == f) refl
       where
-        by : (b : Bool) → (g == f) ≡ b → t.locals (reg (name_rate x) (flat (own_name g x))) ≡ (if b then s.locals else u.frames g) (reg (name_rate x) (own x))
+        by : (b : Bool) → (g == f) ≡ b
+            → t.locals (reg (name_rate x) (flat (own_name g x))) ≡ (if b then s.locals else u.frames g)
+            (reg (name_rate x) (own x))
         by true same =
             let one : g ≡ f = equal_tests g f same in
             ap (λ n. t.locals (reg (name_rate x) (flat (own_name n x)))) one ∙ h.mine x e (λ k. fits (one ∙ k))
         by false other = h.others g x other e fits
 
-module _ {W : Type 0} (o : World W) (flat own : Numbering) (tf : Tells flat) (to : Tells own) (f : ℕ) (u : Framed W) where
+module _ {W : Type 0} (o : World W) (flat own : Numbering) (tf : Tells flat) (to : Tells own) (f : ℕ)
+    (u : Framed W) where
   mine_put : (t s : Note W) → Seen flat own f u t s → (x y : List ℕ) → is_global x ≡ false → is_global y ≡ false
       → Fits f x → Fits f y → (a : Wave)
       → put t.locals (reg (name_rate x) (flat (own_name f x))) a (reg (name_rate y) (flat (own_name f y)))
@@ -183,19 +206,22 @@ module _ {W : Type 0} (o : World W) (flat own : Numbering) (tf : Tells flat) (to
       back e =
           let k = same_reg_is (name_rate y) (name_rate x) (own y) (own x) e in
           let one = to y x k.0 k.1 in
-          same_reg_here (name_rate y) (name_rate x) (flat (own_name f y)) (flat (own_name f x)) k.0 (ap (λ z. flat (own_name f z)) one)
+          same_reg_here (name_rate y) (name_rate x) (flat (own_name f y)) (flat (own_name f x)) k.0
+          (ap (λ z. flat (own_name f z)) one)
 
   others_put : (t s : Note W) → Seen flat own f u t s → (x : List ℕ) → is_global x ≡ false → Fits f x
       → (a : Wave) (g : ℕ) (y : List ℕ)
       → (g == f) ≡ false → is_global y ≡ false → Fits g y
-      → put t.locals (reg (name_rate x) (flat (own_name f x))) a (reg (name_rate y) (flat (own_name g y))) ≡ u.frames g (reg (name_rate y) (own y))
+      → put t.locals (reg (name_rate x) (flat (own_name f x))) a (reg (name_rate y) (flat (own_name g y))) ≡ u.frames g
+      (reg (name_rate y) (own y))
   others_put t s h x ex fx a g y apart ey fy = by p refl
     where
       p : Bool
       p = same_reg (reg (name_rate y) (flat (own_name g y))) (reg (name_rate x) (flat (own_name f x)))
 
       by : (b : Bool) → p ≡ b
-          → (if b then a else t.locals (reg (name_rate y) (flat (own_name g y)))) ≡ u.frames g (reg (name_rate y) (own y))
+          → (if b then a else t.locals (reg (name_rate y) (flat (own_name g y)))) ≡ u.frames g
+          (reg (name_rate y) (own y))
       by true e =
           let k = same_reg_is (name_rate y) (name_rate x) (flat (own_name g y)) (flat (own_name f x)) e in
           let names = tf (own_name g y) (own_name f x) (own_rate g y ∙ k.0 ∙ sym (own_rate f x)) k.1 in

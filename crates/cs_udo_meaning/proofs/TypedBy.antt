@@ -7,10 +7,13 @@ use Rattle.cs_typed.specs.TypedTree as typed
 use Rattle.cs_typing.specs.Known.{Shared, Known, known_with}
 use Rattle.cs_typing.specs.Settings.{header, settings_fault}
 use Rattle.cs_typing.specs.Statements.{block_fault, known_block, typed_block}
-use Rattle.cs_typing.specs.Typing.{line_of, before, from, Item, alone, body, items, entered, known_item, known_items, item_fault, items_fault, first_known, type_fault, typed_outside, typed_instrument, typed_instruments, typed_of}
+use Rattle.cs_typing.specs.Typing.{line_of, before, from, Item, alone, body, items, entered, known_item, known_items}
+use Rattle.cs_typing.specs.Typing.{item_fault, items_fault, first_known, type_fault, typed_outside, typed_instrument}
+use Rattle.cs_typing.specs.Typing.{typed_instruments, typed_of}
 use Rattle.cs_udo_meaning.specs.Numbered.{Numbering, Variables, numbered, statement_by, block_by}
 use Rattle.cs_udo_meaning.specs.Typed.{shared_of, IsNumbered, IsNumberedInstrument}
-use Rattle.cs_udo_meaning.proofs.KnownOn.{SharedGoesOn, shared_stays, shared_further, Later, later_same, later_further, known_block_later, HasPlaces, both_none, block_same}
+use Rattle.cs_udo_meaning.proofs.KnownOn.{SharedGoesOn, shared_stays, shared_further, Later, later_same, later_further}
+use Rattle.cs_udo_meaning.proofs.KnownOn.{known_block_later, HasPlaces, both_none, block_same}
 use Rattle.cs_udo_meaning.proofs.Later.{table_stays}
 use Rattle.cs_udo_meaning.proofs.Numbers.{number_in, number_places, number_tells}
 
@@ -21,7 +24,8 @@ item_later n (body i) = record { shared = (known_block_later (entered n) i.body)
 pub items_later : (n : Known) (list : List Item) → Later n (known_items n list)
 items_later n [] = later_same n
 items_later n (x ∷ rest) =
-    later_further n (known_item n x) (known_items (known_item n x) rest) (item_later n x) (items_later (known_item n x) rest)
+    later_further n (known_item n x) (known_items (known_item n x) rest) (item_later n x)
+    (items_later (known_item n x) rest)
 
 -- ---- instruments
 
@@ -53,11 +57,15 @@ instruments_numbered channels n b (i ∷ rest) g h l =
     let m = known_block n first in
     let more = items other rest in
     let parts = both_none (item_fault channels n (alone first)) (items_fault channels m (body i ∷ more)) h in
-    let halves = both_none (item_fault channels m (body i)) (items_fault channels (known_item m (body i)) more) parts.1 in
+    let halves = both_none (item_fault channels m (body i)) (items_fault channels (known_item m (body i)) more)
+    parts.1 in
     let here : SharedGoesOn (known_block (entered m) i.body).shared g =
     shared_further (known_block (entered m) i.body).shared (known_items (known_item m (body i)) more).shared g
-    (items_later (known_item m (body i)) more).shared l in
-    (instrument_numbered channels m i g halves.0 here, instruments_numbered channels (known_item m (body i)) other rest g halves.1 l)
+    (items_later (known_item m (body i)) more).shared l in (
+      instrument_numbered channels m i g halves.0 here,
+      instruments_numbered channels (known_item m (body i)) other rest
+          g halves.1 l,
+    )
 
 -- ---- statements outside
 
@@ -72,7 +80,8 @@ cut g v line (andthen x rest) = by (nat_lt (line_of x) line) (cut g v line rest)
   where
     by : (c : Bool)
         → typed.then_block (block_by g v (before line rest)) (block_by g v (from line rest)) ≡ block_by g v rest
-        → typed.then_block (block_by g v (if c then andthen x (before line rest) else no_stmt)) (block_by g v (if c then from line rest else andthen x rest))
+        → typed.then_block (block_by g v (if c then andthen x (before line rest) else no_stmt))
+        (block_by g v (if c then from line rest else andthen x rest))
         ≡ typed.andthen (statement_by g v x) (block_by g v rest)
     by true h = ap (typed.andthen (statement_by g v x)) h
     by false h = refl
@@ -92,13 +101,16 @@ outside_same channels n b (i ∷ rest) m s h l p =
     let next = known_item k (body i) in
     let parts = both_none (item_fault channels n (alone first)) (items_fault channels k (body i ∷ more)) h in
     let halves = both_none (item_fault channels k (body i)) (items_fault channels next more) parts.1 in
-    let here : Later k m = later_further k next m (item_later k (body i)) (later_further next (known_items next more) m (items_later next more) l) in
-    (λ j. typed.then_block (block_same (outside channels) n m s first parts.0 here p j) (outside_same channels next other rest m s halves.1 l p j))
+    let here : Later k m = later_further k next m (item_later k (body i))
+    (later_further next (known_items next more) m (items_later next more) l) in
+    (λ j. typed.then_block (block_same (outside channels) n m s first parts.0 here p j)
+    (outside_same channels next other rest m s halves.1 l p j))
     ∙ cut m.shared (numbered m.shared s) i.line b
 
 no_fault : (o : Orchestra) → type_fault o ≡ None
     → items_fault (header o.head).nchnls (first_known o) (items o.zero o.instrs) ≡ None
-no_fault o h = (both_none (settings_fault o.head o.zero) (items_fault (header o.head).nchnls (first_known o) (items o.zero o.instrs)) h).1
+no_fault o h = (both_none (settings_fault o.head o.zero)
+    (items_fault (header o.head).nchnls (first_known o) (items o.zero o.instrs)) h).1
 
 pub outside_numbered : (o : Orchestra) → type_fault o ≡ None → IsNumbered (shared_of o) o.zero (typed_of o).zero
 outside_numbered o h =
@@ -106,11 +118,13 @@ outside_numbered o h =
     record {
       number = number_in known.locals;
       apart = number_tells known.locals;
-      is = outside_same (header o.head).nchnls (first_known o) o.zero o.instrs known (number_in known.locals) (no_fault o h) (later_same known)
+      is = outside_same (header o.head).nchnls (first_known o) o.zero o.instrs known (number_in known.locals)
+          (no_fault o h) (later_same known)
           (number_places known.locals);
     }
 
 pub all_numbered : (o : Orchestra) → type_fault o ≡ None
     → AllZip (IsNumberedInstrument (shared_of o)) o.instrs (typed_of o).instrs
 all_numbered o h =
-    instruments_numbered (header o.head).nchnls (first_known o) o.zero o.instrs (shared_of o) (no_fault o h) (shared_stays (shared_of o))
+    instruments_numbered (header o.head).nchnls (first_known o) o.zero o.instrs (shared_of o) (no_fault o h)
+    (shared_stays (shared_of o))

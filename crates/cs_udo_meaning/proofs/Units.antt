@@ -1,16 +1,21 @@
 -- The numbers of the units of a note with frames ascend in the order of the text.
-use Rattle.std.proofs.Common.{◌≡◌, ℕ, ◌≤◌, ◌<◌, Bool, true, false, if◌then◌else◌, List, [], ◌∷◌, Option, Some, None, arith, refl, sym, subst}
+use Rattle.std.proofs.Common.{◌≡◌, ℕ, ◌≤◌, ◌<◌, Bool, true, false, if◌then◌else◌, List, [], ◌∷◌, Option, Some, None}
+use Rattle.std.proofs.Common.{arith, refl, sym, subst}
 use Rattle.std.specs.List.{AllPairs}
 use Rattle.std.specs.Option.{option_or}
 use Rattle.std.specs.Str.{bytes_eq}
 use Rattle.cs_grammar.specs.declared.tree.Callee.{Callee}
 use Rattle.cs_grammar.specs.declared.tree.Callee.TheVariants as callee
-use Rattle.cs_grammar.specs.Tree.{Argument, value, text, Statement, set, call, choose, Block, no_stmt, andthen, Arms, otherwise, arm, Definition}
+use Rattle.cs_grammar.specs.Tree.{Argument, value, text, Statement, set, call, choose, Block, no_stmt, andthen, Arms}
+use Rattle.cs_grammar.specs.Tree.{otherwise, arm, Definition}
 use Rattle.cs_meaning.specs.Core as core
 use Rattle.cs_meaning.specs.Notes as note
 use Rattle.cs_meaning.specs.Notes.{Place, past, past_parts, past_stmt}
 use Rattle.cs_udo.specs.Expanded.{whole_body}
-use Rattle.cs_udo_meaning.specs.Frames.{Spot, Reading, read, past_copy, past_copies, Action, Actions, no_actions, action_of, values_in, past_inputs, past_call, past_any, past_condition, past_framed, past_block, past_arms, unit_of, units_of_call, units_of, units_of_block, units_of_arms, inner, action, acting, acting_all}
+use Rattle.cs_udo_meaning.specs.Frames.{Spot, Reading, read, past_copy, past_copies, Action, Actions, no_actions}
+use Rattle.cs_udo_meaning.specs.Frames.{action_of, values_in, past_inputs, past_call, past_any, past_condition}
+use Rattle.cs_udo_meaning.specs.Frames.{past_framed, past_block, past_arms, unit_of, units_of_call, units_of}
+use Rattle.cs_udo_meaning.specs.Frames.{units_of_block, units_of_arms, inner, action, acting, acting_all}
 use Rattle.cs_udo_meaning.proofs.Untouched.{Ascend, joined, ascending}
 
 chain : (a b c : ℕ) → a ≤ b → b ≤ c → a ≤ c
@@ -32,7 +37,8 @@ mutual
   block_grows : (p : Place) (b : core.Block) → p.unit ≤ (note.past_block p b).unit
   block_grows p core.no_stmt = omega arith
   block_grows p (core.andthen s b) =
-      chain p.unit (past_stmt p s).unit (note.past_block (past_stmt p s) b).unit (stmt_grows p s) (block_grows (past_stmt p s) b)
+      chain p.unit (past_stmt p s).unit (note.past_block (past_stmt p s) b).unit (stmt_grows p s)
+      (block_grows (past_stmt p s) b)
 
   arms_grow : (p : Place) (list : core.Arms) → p.unit ≤ (note.past_arms p list).unit
   arms_grow p (core.otherwise b) = block_grows p b
@@ -78,13 +84,15 @@ module _ {W : Type 0} (m : Reading W) where
   called_rises p x xs args (Some a) h =
       let q = past_inputs m p a args in
       subst (λ n. Ascend n (past_call m p a xs args).place.unit (a.units q)) (copies_unit p.place a.inputs args)
-      (subst (λ n. Ascend q.place.unit n (a.units q)) (sym (copies_unit (a.past q).place xs (values_in a.results))) (h q))
+      (subst (λ n. Ascend q.place.unit n (a.units q)) (sym (copies_unit (a.past q).place xs (values_in a.results)))
+      (h q))
 
   module _ (env : Actions W) (k : AllRising env) where
     mutual
       rises : (p : Spot) (x : Statement) → Ascend p.place.unit (past_framed m env p x).place.unit (units_of m env p x)
       rises p (set line x e) = omega arith
-      rises p (call line xs c args) = called_rises p (call line xs c args) xs args (action_of env c) (called_rising env k c)
+      rises p (call line xs c args) =
+          called_rises p (call line xs c args) xs args (action_of env c) (called_rising env k c)
       rises p (choose line list) = arms_rise p list
 
       block_rises : (p : Spot) (b : Block)
@@ -92,7 +100,8 @@ module _ {W : Type 0} (m : Reading W) where
       block_rises p no_stmt = omega arith
       block_rises p (andthen x rest) =
           let q = past_framed m env p x in
-          joined p.place.unit q.place.unit (past_block m env q rest).place.unit (units_of m env p x) (units_of_block m env q rest) (rises p x)
+          joined p.place.unit q.place.unit (past_block m env q rest).place.unit (units_of m env p x)
+          (units_of_block m env q rest) (rises p x)
           (block_rises q rest)
 
       arms_rise : (p : Spot) (list : Arms)
@@ -101,11 +110,13 @@ module _ {W : Type 0} (m : Reading W) where
       arms_rise p (arm c b rest) =
           let q = past_condition m p c in
           let r = past_block m env q b in
-          joined p.place.unit r.place.unit (past_arms m env r rest).place.unit (units_of_block m env q b) (units_of_arms m env r rest) (block_rises q b)
+          joined p.place.unit r.place.unit (past_arms m env r rest).place.unit (units_of_block m env q b)
+          (units_of_arms m env r rest) (block_rises q b)
           (arms_rise r rest)
 
     pub units_differ : (p : Spot) (b : Block) → AllPairs (λ f g. f < g) (units_of_block m env p b)
-    units_differ p b = ascending p.place.unit (past_block m env p b).place.unit (units_of_block m env p b) (block_rises p b)
+    units_differ p b = ascending p.place.unit (past_block m env p b).place.unit (units_of_block m env p b)
+        (block_rises p b)
 
   acting_rises : (env : Actions W) → AllRising env → (d : Definition) → AllRising (acting m env d)
   acting_rises env k d = record { each = λ name. by (env name) (k.each name) (bytes_eq name d.name) }

@@ -1,5 +1,7 @@
--- What statements of a frame leave as it was: every frame but theirs and those of the calls in them. And the frames of calls ascend.
-use Rattle.std.proofs.Common.{◌≡◌, ◌≢◌, ◌∙◌, ℕ, ◌+◌, ◌≤◌, ◌<◌, ◌==◌, Bool, true, false, if◌then◌else◌, List, [], ◌∷◌, ◌++◌, Option, Some, None, inl, inr, arith, refl, ap}
+-- What statements of a frame leave as it was: every frame but theirs and those of the calls in them. And the frames of
+-- calls ascend.
+use Rattle.std.proofs.Common.{◌≡◌, ◌≢◌, ◌∙◌, ℕ, ◌+◌, ◌≤◌, ◌<◌, ◌==◌, Bool, true, false, if◌then◌else◌, List, [], ◌∷◌}
+use Rattle.std.proofs.Common.{◌++◌, Option, Some, None, inl, inr, arith, refl, ap}
 use Rattle.std.specs.List.{All, AllPairs}
 use Rattle.std.specs.Option.{option_or}
 use Rattle.std.specs.Str.{bytes_eq}
@@ -12,7 +14,8 @@ use Rattle.cs_base.specs.declared.resource.Rate.TheVariants as rate
 use Rattle.cs_words.specs.Names.{name_rate}
 use Rattle.cs_grammar.specs.declared.tree.Callee.{Callee}
 use Rattle.cs_grammar.specs.declared.tree.Callee.TheVariants as callee
-use Rattle.cs_grammar.specs.Tree.{Expression, Argument, value, text, Statement, set, call, choose, Block, no_stmt, andthen, Arms, otherwise, arm, Definition}
+use Rattle.cs_grammar.specs.Tree.{Expression, Argument, value, text, Statement, set, call, choose, Block, no_stmt}
+use Rattle.cs_grammar.specs.Tree.{andthen, Arms, otherwise, arm, Definition}
 use Rattle.cs_typing.specs.Statements.{choice_rate}
 use Rattle.cs_ir.specs.Values.{holds}
 use Rattle.cs_ir.specs.Waves.{if_init}
@@ -21,7 +24,13 @@ use Rattle.cs_meaning.specs.Performing.{perf_stmt}
 use Rattle.cs_meaning.specs.Notes.{Note, Place, assign}
 use Rattle.cs_meaning.specs.Notes.{value as value_of}
 use Rattle.cs_udo.specs.Expanded.{whole_body}
-use Rattle.cs_udo_meaning.specs.Frames.{Framed, seen_from, put_back, Spot, Reading, variable_read, expression_read, read, past_copy, going_on, init_copy, perf_copy, init_copies, perf_copies, Action, Actions, no_actions, action_of, values_in, past_inputs, past_call, init_call, perf_call, past_any, init_any, perf_any, past_condition, past_framed, past_block, past_arms, init_framed, init_block, init_first, init_all, perf_framed, perf_block, perf_arms, inner, action, acting, acting_all, frames_of_call, frames_of, frames_of_block, frames_of_arms}
+use Rattle.cs_udo_meaning.specs.Frames.{Framed, seen_from, put_back, Spot, Reading, variable_read, expression_read}
+use Rattle.cs_udo_meaning.specs.Frames.{read, past_copy, going_on, init_copy, perf_copy, init_copies, perf_copies}
+use Rattle.cs_udo_meaning.specs.Frames.{Action, Actions, no_actions, action_of, values_in, past_inputs, past_call}
+use Rattle.cs_udo_meaning.specs.Frames.{init_call, perf_call, past_any, init_any, perf_any, past_condition, past_framed}
+use Rattle.cs_udo_meaning.specs.Frames.{past_block, past_arms, init_framed, init_block, init_first, init_all}
+use Rattle.cs_udo_meaning.specs.Frames.{perf_framed, perf_block, perf_arms, inner, action, acting, acting_all}
+use Rattle.cs_udo_meaning.specs.Frames.{frames_of_call, frames_of, frames_of_block, frames_of_arms}
 use Rattle.cs_udo_meaning.specs.Untouched.{IsOutside}
 
 chain : (a b c : ℕ) → a ≤ b → b ≤ c → a ≤ c
@@ -57,7 +66,8 @@ joined n j k (x ∷ xs) ys a b = (a.0, joined (x + 1) j k xs ys a.1 b)
 all_above : (n k : ℕ) (xs : List ℕ) → Ascend (n + 1) k xs → All (λ y. n < y) xs
 all_above n k [] a = All-nil (λ y. n < y)
 all_above n k (x ∷ xs) a =
-    All-cons (λ y. n < y) x xs (omega (arith, a.0)) (all_above n k xs (from_lower (n + 1) (x + 1) k xs (omega (arith, a.0)) a.1))
+    All-cons (λ y. n < y) x xs (omega (arith, a.0))
+    (all_above n k xs (from_lower (n + 1) (x + 1) k xs (omega (arith, a.0)) a.1))
 
 pub ascending : (n k : ℕ) (xs : List ℕ) → Ascend n k xs → AllPairs (λ f g. f < g) xs
 ascending n k [] a = λ i j d p q. absurd (omega (arith, q))
@@ -106,10 +116,12 @@ module _ {W : Type 0} (m : Reading W) where
   chosen true g x y u h k = h
   chosen false g x y u h k = k
 
-  init_copy_kept : (f h g : ℕ) → (g == f) ≡ false → (g == h) ≡ false → (p : Place) (x : List ℕ) (e : Expression) (u : Framed W)
+  init_copy_kept : (f h g : ℕ) → (g == f) ≡ false → (g == h) ≡ false
+      → (p : Place) (x : List ℕ) (e : Expression) (u : Framed W)
       → (init_copy m f h p x e u).frames g ≡ u.frames g
   init_copy_kept f h g nf nh p x e u =
-      let a = assign m.world (variable_read m x) (value_of m.world (seen_from f u) true 0 (expression_read m e)) (seen_from h u) in
+      let a = assign m.world (variable_read m x) (value_of m.world (seen_from f u) true 0 (expression_read m e))
+      (seen_from h u) in
       let b = keep m.world p.part (expression_read m e) (seen_from f u) in
       going_kept g u (if_init (name_rate x) (put_back h a u) (put_back f b u))
       (either_kept (name_rate x) g (put_back h a u) (put_back f b u) u (elsewhere h g nh a u) (elsewhere f g nf b u))
@@ -117,19 +129,23 @@ module _ {W : Type 0} (m : Reading W) where
   perf_copy_kept : (f h g : ℕ) → (g == h) ≡ false → (p : Place) (x : List ℕ) (e : Expression) (u : Framed W)
       → (perf_copy m f h p x e u).frames g ≡ u.frames g
   perf_copy_kept f h g nh p x e u =
-      let a = assign m.world (variable_read m x) (value_of m.world (seen_from f u) false p.part (expression_read m e)) (seen_from h u) in
+      let a = assign m.world (variable_read m x) (value_of m.world (seen_from f u) false p.part (expression_read m e))
+      (seen_from h u) in
       either_kept (name_rate x) g u (put_back h a u) u refl (elsewhere h g nh a u)
 
-  init_copies_kept : (f h g : ℕ) → (g == f) ≡ false → (g == h) ≡ false → (p : Place) (xs : List (List ℕ)) (args : List Argument) (u : Framed W)
+  init_copies_kept : (f h g : ℕ) → (g == f) ≡ false → (g == h) ≡ false
+      → (p : Place) (xs : List (List ℕ)) (args : List Argument) (u : Framed W)
       → (init_copies m f h p xs args u).frames g ≡ u.frames g
   init_copies_kept f h g nf nh p [] [] u = refl
   init_copies_kept f h g nf nh p [] (a ∷ args) u = refl
   init_copies_kept f h g nf nh p (x ∷ xs) [] u = refl
   init_copies_kept f h g nf nh p (x ∷ xs) (text t ∷ args) u = refl
   init_copies_kept f h g nf nh p (x ∷ xs) (value e ∷ args) u =
-      init_copies_kept f h g nf nh (past_copy m p x e) xs args (init_copy m f h p x e u) ∙ init_copy_kept f h g nf nh p x e u
+      init_copies_kept f h g nf nh (past_copy m p x e) xs args (init_copy m f h p x e u)
+      ∙ init_copy_kept f h g nf nh p x e u
 
-  perf_copies_kept : (f h g : ℕ) → (g == h) ≡ false → (p : Place) (xs : List (List ℕ)) (args : List Argument) (u : Framed W)
+  perf_copies_kept : (f h g : ℕ) → (g == h) ≡ false
+      → (p : Place) (xs : List (List ℕ)) (args : List Argument) (u : Framed W)
       → (perf_copies m f h p xs args u).frames g ≡ u.frames g
   perf_copies_kept f h g nh p [] [] u = refl
   perf_copies_kept f h g nh p [] (a ∷ args) u = refl
@@ -162,9 +178,11 @@ module _ {W : Type 0} (m : Reading W) where
   any_grows : (p : Spot) (x : Statement) (xs : List (List ℕ)) (args : List Argument) (a : Option (Action W)) → AloneIf a
       → p.frame ≤ (past_any m p x xs args a).frame
   any_grows p x xs args None k = omega arith
-  any_grows p x xs args (Some a) k = one_further p.frame (past_call m p a xs args).frame (k.grows (past_inputs m p a args))
+  any_grows p x xs args (Some a) k =
+      one_further p.frame (past_call m p a xs args).frame (k.grows (past_inputs m p a args))
 
-  init_call_kept : (f g : ℕ) → (g == f) ≡ false → (p : Spot) (a : Action W) (xs : List (List ℕ)) (args : List Argument) → Alone a → (u : Framed W)
+  init_call_kept : (f g : ℕ) → (g == f) ≡ false → (p : Spot) (a : Action W) (xs : List (List ℕ)) (args : List Argument)
+      → Alone a → (u : Framed W)
       → IsOutside g p.frame (past_call m p a xs args).frame → (init_call m f p a xs args u).frames g ≡ u.frames g
   init_call_kept f g nf p a xs args k u o =
       let q = past_inputs m p a args in
@@ -174,7 +192,8 @@ module _ {W : Type 0} (m : Reading W) where
       ∙ k.init q ready g o
       ∙ init_copies_kept f p.frame g nf nh p.place a.inputs args u
 
-  perf_call_kept : (f g : ℕ) → (g == f) ≡ false → (p : Spot) (a : Action W) (xs : List (List ℕ)) (args : List Argument) → Alone a → (u : Framed W)
+  perf_call_kept : (f g : ℕ) → (g == f) ≡ false → (p : Spot) (a : Action W) (xs : List (List ℕ)) (args : List Argument)
+      → Alone a → (u : Framed W)
       → IsOutside g p.frame (past_call m p a xs args).frame → (perf_call m f p a xs args u).frames g ≡ u.frames g
   perf_call_kept f g nf p a xs args k u o =
       let q = past_inputs m p a args in
@@ -184,16 +203,20 @@ module _ {W : Type 0} (m : Reading W) where
       ∙ k.perf q ready g o
       ∙ perf_copies_kept f p.frame g nh p.place a.inputs args u
 
-  init_any_kept : (f g : ℕ) → (g == f) ≡ false → (p : Spot) (x : Statement) (xs : List (List ℕ)) (args : List Argument) (a : Option (Action W))
+  init_any_kept : (f g : ℕ) → (g == f) ≡ false
+      → (p : Spot) (x : Statement) (xs : List (List ℕ)) (args : List Argument) (a : Option (Action W))
       → AloneIf a → (u : Framed W)
       → IsOutside g p.frame (past_any m p x xs args a).frame → (init_any m f p x xs args a u).frames g ≡ u.frames g
-  init_any_kept f g nf p x xs args None k u o = elsewhere f g nf (init_stmt m.world p.place (read m x) (seen_from f u)) u
+  init_any_kept f g nf p x xs args None k u o =
+      elsewhere f g nf (init_stmt m.world p.place (read m x) (seen_from f u)) u
   init_any_kept f g nf p x xs args (Some a) k u o = init_call_kept f g nf p a xs args k u o
 
-  perf_any_kept : (f g : ℕ) → (g == f) ≡ false → (p : Spot) (x : Statement) (xs : List (List ℕ)) (args : List Argument) (a : Option (Action W))
+  perf_any_kept : (f g : ℕ) → (g == f) ≡ false
+      → (p : Spot) (x : Statement) (xs : List (List ℕ)) (args : List Argument) (a : Option (Action W))
       → AloneIf a → (u : Framed W)
       → IsOutside g p.frame (past_any m p x xs args a).frame → (perf_any m f p x xs args a u).frames g ≡ u.frames g
-  perf_any_kept f g nf p x xs args None k u o = elsewhere f g nf (perf_stmt m.world p.place (read m x) (seen_from f u)) u
+  perf_any_kept f g nf p x xs args None k u o =
+      elsewhere f g nf (perf_stmt m.world p.place (read m x) (seen_from f u)) u
   perf_any_kept f g nf p x xs args (Some a) k u o = perf_call_kept f g nf p a xs args k u o
 
   -- ---- statements
@@ -202,7 +225,8 @@ module _ {W : Type 0} (m : Reading W) where
     mutual
       past_grows : (p : Spot) (x : Statement) → p.frame ≤ (past_framed m env p x).frame
       past_grows p (set line x e) = omega arith
-      past_grows p (call line xs c args) = any_grows p (call line xs c args) xs args (action_of env c) (called_alone env k c)
+      past_grows p (call line xs c args) =
+          any_grows p (call line xs c args) xs args (action_of env c) (called_alone env k c)
       past_grows p (choose line list) = past_arms_grow p list
 
       pub past_block_grows : (p : Spot) (b : Block) → p.frame ≤ (past_block m env p b).frame
@@ -215,28 +239,36 @@ module _ {W : Type 0} (m : Reading W) where
       past_arms_grow p (otherwise b) = past_block_grows p b
       past_arms_grow p (arm c b rest) =
           let q = past_block m env (past_condition m p c) b in
-          chain p.frame q.frame (past_arms m env q rest).frame (past_block_grows (past_condition m p c) b) (past_arms_grow q rest)
+          chain p.frame q.frame (past_arms m env q rest).frame (past_block_grows (past_condition m p c) b)
+          (past_arms_grow q rest)
 
     mutual
-      init_kept : (f g : ℕ) → (g == f) ≡ false → (p : Spot) (x : Statement) (u : Framed W) → IsOutside g p.frame (past_framed m env p x).frame
+      init_kept : (f g : ℕ) → (g == f) ≡ false → (p : Spot) (x : Statement) (u : Framed W)
+          → IsOutside g p.frame (past_framed m env p x).frame
           → (init_framed m env f p x u).frames g ≡ u.frames g
-      init_kept f g nf p (set line x e) u o = elsewhere f g nf (init_stmt m.world p.place (read m (set line x e)) (seen_from f u)) u
-      init_kept f g nf p (call line xs c args) u o = init_any_kept f g nf p (call line xs c args) xs args (action_of env c) (called_alone env k c) u o
+      init_kept f g nf p (set line x e) u o =
+          elsewhere f g nf (init_stmt m.world p.place (read m (set line x e)) (seen_from f u)) u
+      init_kept f g nf p (call line xs c args) u o =
+          init_any_kept f g nf p (call line xs c args) xs args (action_of env c) (called_alone env k c) u o
       init_kept f g nf p (choose line list) u o =
           let a = init_first m env f p list u in
           let b = init_all m env f p list u in
-          going_kept g u (if_init (choice_rate list) a b) (either_kept (choice_rate list) g a b u (first_kept f g nf p list u o) (all_kept f g nf p list u o))
+          going_kept g u (if_init (choice_rate list) a b)
+          (either_kept (choice_rate list) g a b u (first_kept f g nf p list u o) (all_kept f g nf p list u o))
 
-      pub init_block_kept : (f g : ℕ) → (g == f) ≡ false → (p : Spot) (b : Block) (u : Framed W) → IsOutside g p.frame (past_block m env p b).frame
+      pub init_block_kept : (f g : ℕ) → (g == f) ≡ false → (p : Spot) (b : Block) (u : Framed W)
+          → IsOutside g p.frame (past_block m env p b).frame
           → (init_block m env f p b u).frames g ≡ u.frames g
       init_block_kept f g nf p no_stmt u o = refl
       init_block_kept f g nf p (andthen x rest) u o =
           let q = past_framed m env p x in
           let end = (past_block m env q rest).frame in
-          init_block_kept f g nf q rest (init_framed m env f p x u) (upper_part g p.frame q.frame end (past_grows p x) o)
+          init_block_kept f g nf q rest (init_framed m env f p x u)
+          (upper_part g p.frame q.frame end (past_grows p x) o)
           ∙ init_kept f g nf p x u (lower_part g p.frame q.frame end (past_block_grows q rest) o)
 
-      first_kept : (f g : ℕ) → (g == f) ≡ false → (p : Spot) (list : Arms) (u : Framed W) → IsOutside g p.frame (past_arms m env p list).frame
+      first_kept : (f g : ℕ) → (g == f) ≡ false → (p : Spot) (list : Arms) (u : Framed W)
+          → IsOutside g p.frame (past_arms m env p list).frame
           → (init_first m env f p list u).frames g ≡ u.frames g
       first_kept f g nf p (otherwise b) u o = init_block_kept f g nf p b u o
       first_kept f g nf p (arm c b rest) u o =
@@ -246,10 +278,12 @@ module _ {W : Type 0} (m : Reading W) where
           let end = (past_arms m env r rest).frame in
           let one = init_block_kept f g nf q b now (lower_part g p.frame r.frame end (past_arms_grow r rest) o) in
           let two = first_kept f g nf r rest now (upper_part g p.frame r.frame end (past_block_grows q b) o) in
-          chosen (holds (now.kept p.place.part)) g (init_block m env f q b now) (init_first m env f r rest now) now one two
+          chosen (holds (now.kept p.place.part)) g (init_block m env f q b now) (init_first m env f r rest now) now one
+          two
           ∙ elsewhere f g nf (keep m.world p.place.part (expression_read m c) (seen_from f u)) u
 
-      all_kept : (f g : ℕ) → (g == f) ≡ false → (p : Spot) (list : Arms) (u : Framed W) → IsOutside g p.frame (past_arms m env p list).frame
+      all_kept : (f g : ℕ) → (g == f) ≡ false → (p : Spot) (list : Arms) (u : Framed W)
+          → IsOutside g p.frame (past_arms m env p list).frame
           → (init_all m env f p list u).frames g ≡ u.frames g
       all_kept f g nf p (otherwise b) u o = init_block_kept f g nf p b u o
       all_kept f g nf p (arm c b rest) u o =
@@ -260,32 +294,40 @@ module _ {W : Type 0} (m : Reading W) where
           let next = init_block m env f q b now in
           let one = init_block_kept f g nf q b now (lower_part g p.frame r.frame end (past_arms_grow r rest) o) in
           let two = all_kept f g nf r rest next (upper_part g p.frame r.frame end (past_block_grows q b) o) in
-          going_kept g u (init_all m env f r rest next) (two ∙ one ∙ elsewhere f g nf (keep m.world p.place.part (expression_read m c) (seen_from f u)) u)
+          going_kept g u (init_all m env f r rest next)
+          (two ∙ one ∙ elsewhere f g nf (keep m.world p.place.part (expression_read m c) (seen_from f u)) u)
 
     mutual
-      perf_kept : (f g : ℕ) → (g == f) ≡ false → (p : Spot) (x : Statement) (u : Framed W) → IsOutside g p.frame (past_framed m env p x).frame
+      perf_kept : (f g : ℕ) → (g == f) ≡ false → (p : Spot) (x : Statement) (u : Framed W)
+          → IsOutside g p.frame (past_framed m env p x).frame
           → (perf_framed m env f p x u).frames g ≡ u.frames g
-      perf_kept f g nf p (set line x e) u o = elsewhere f g nf (perf_stmt m.world p.place (read m (set line x e)) (seen_from f u)) u
-      perf_kept f g nf p (call line xs c args) u o = perf_any_kept f g nf p (call line xs c args) xs args (action_of env c) (called_alone env k c) u o
+      perf_kept f g nf p (set line x e) u o =
+          elsewhere f g nf (perf_stmt m.world p.place (read m (set line x e)) (seen_from f u)) u
+      perf_kept f g nf p (call line xs c args) u o =
+          perf_any_kept f g nf p (call line xs c args) xs args (action_of env c) (called_alone env k c) u o
       perf_kept f g nf p (choose line list) u o = perf_arms_kept f g nf p list u o
 
-      pub perf_block_kept : (f g : ℕ) → (g == f) ≡ false → (p : Spot) (b : Block) (u : Framed W) → IsOutside g p.frame (past_block m env p b).frame
+      pub perf_block_kept : (f g : ℕ) → (g == f) ≡ false → (p : Spot) (b : Block) (u : Framed W)
+          → IsOutside g p.frame (past_block m env p b).frame
           → (perf_block m env f p b u).frames g ≡ u.frames g
       perf_block_kept f g nf p no_stmt u o = refl
       perf_block_kept f g nf p (andthen x rest) u o =
           let q = past_framed m env p x in
           let end = (past_block m env q rest).frame in
-          perf_block_kept f g nf q rest (perf_framed m env f p x u) (upper_part g p.frame q.frame end (past_grows p x) o)
+          perf_block_kept f g nf q rest (perf_framed m env f p x u)
+          (upper_part g p.frame q.frame end (past_grows p x) o)
           ∙ perf_kept f g nf p x u (lower_part g p.frame q.frame end (past_block_grows q rest) o)
 
-      perf_arms_kept : (f g : ℕ) → (g == f) ≡ false → (p : Spot) (list : Arms) (u : Framed W) → IsOutside g p.frame (past_arms m env p list).frame
+      perf_arms_kept : (f g : ℕ) → (g == f) ≡ false → (p : Spot) (list : Arms) (u : Framed W)
+          → IsOutside g p.frame (past_arms m env p list).frame
           → (perf_arms m env f p list u).frames g ≡ u.frames g
       perf_arms_kept f g nf p (otherwise b) u o = perf_block_kept f g nf p b u o
       perf_arms_kept f g nf p (arm c b rest) u o =
           let q = past_condition m p c in
           let r = past_block m env q b in
           let end = (past_arms m env r rest).frame in
-          chosen (holds (value_of m.world (seen_from f u) false p.place.part (expression_read m c) 0)) g (perf_block m env f q b u)
+          chosen (holds (value_of m.world (seen_from f u) false p.place.part (expression_read m c) 0)) g
+          (perf_block m env f q b u)
           (perf_arms m env f r rest u) u
           (perf_block_kept f g nf q b u (lower_part g p.frame r.frame end (past_arms_grow r rest) o))
           (perf_arms_kept f g nf r rest u (upper_part g p.frame r.frame end (past_block_grows q b) o))
@@ -301,14 +343,16 @@ module _ {W : Type 0} (m : Reading W) where
     mutual
       frames_ascend : (p : Spot) (x : Statement) → Ascend p.frame (past_framed m env p x).frame (frames_of m env p x)
       frames_ascend p (set line x e) = omega arith
-      frames_ascend p (call line xs c args) = called_ascends p (call line xs c args) xs args (action_of env c) (called_alone env k c)
+      frames_ascend p (call line xs c args) =
+          called_ascends p (call line xs c args) xs args (action_of env c) (called_alone env k c)
       frames_ascend p (choose line list) = arms_ascend p list
 
       block_ascends : (p : Spot) (b : Block) → Ascend p.frame (past_block m env p b).frame (frames_of_block m env p b)
       block_ascends p no_stmt = omega arith
       block_ascends p (andthen x rest) =
           let q = past_framed m env p x in
-          joined p.frame q.frame (past_block m env q rest).frame (frames_of m env p x) (frames_of_block m env q rest) (frames_ascend p x)
+          joined p.frame q.frame (past_block m env q rest).frame (frames_of m env p x) (frames_of_block m env q rest)
+          (frames_ascend p x)
           (block_ascends q rest)
 
       arms_ascend : (p : Spot) (list : Arms)
@@ -317,7 +361,8 @@ module _ {W : Type 0} (m : Reading W) where
       arms_ascend p (arm c b rest) =
           let q = past_condition m p c in
           let r = past_block m env q b in
-          joined p.frame r.frame (past_arms m env r rest).frame (frames_of_block m env q b) (frames_of_arms m env r rest) (block_ascends q b)
+          joined p.frame r.frame (past_arms m env r rest).frame (frames_of_block m env q b)
+          (frames_of_arms m env r rest) (block_ascends q b)
           (arms_ascend r rest)
 
     pub frames_differ : (p : Spot) (b : Block) → AllPairs (λ f g. f < g) (frames_of_block m env p b)
@@ -332,11 +377,13 @@ module _ {W : Type 0} (m : Reading W) where
     init = λ p u g o.
         let end = (past_block m env (inner p) (whole_body d)).frame in
         let up = past_block_grows env k (inner p) (whole_body d) in
-        init_block_kept env k p.frame g (test_apart g p.frame (not_first g p.frame end up o)) (inner p) (whole_body d) u (body_part g p.frame end up o);
+        init_block_kept env k p.frame g (test_apart g p.frame (not_first g p.frame end up o)) (inner p) (whole_body d) u
+        (body_part g p.frame end up o);
     perf = λ p u g o.
         let end = (past_block m env (inner p) (whole_body d)).frame in
         let up = past_block_grows env k (inner p) (whole_body d) in
-        perf_block_kept env k p.frame g (test_apart g p.frame (not_first g p.frame end up o)) (inner p) (whole_body d) u (body_part g p.frame end up o);
+        perf_block_kept env k p.frame g (test_apart g p.frame (not_first g p.frame end up o)) (inner p) (whole_body d) u
+        (body_part g p.frame end up o);
   }
 
   acting_alone : (env : Actions W) → AllAlone env → (d : Definition) → AllAlone (acting m env d)

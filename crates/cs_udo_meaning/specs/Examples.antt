@@ -8,7 +8,8 @@ use Rattle.cs_words.specs.declared.sign.BinOp.TheVariants as op
 use Rattle.cs_words.specs.declared.catalogue.Opcode.{Opcode}
 use Rattle.cs_words.specs.declared.catalogue.Opcode.TheVariants as opcode
 use Rattle.cs_grammar.specs.declared.tree.Callee.TheVariants as callee
-use Rattle.cs_grammar.specs.Tree.{Expression, pair, var, Argument, value, Statement, set, call, choose, otherwise, arm, Definition, Instrument}
+use Rattle.cs_grammar.specs.Tree.{Expression, pair, var, Argument, value, Statement, set, call, choose, otherwise, arm}
+use Rattle.cs_grammar.specs.Tree.{Definition, Instrument}
 use Rattle.cs_meaning.specs.Examples.{small_piece, whole}
 use Rattle.cs_meaning.specs.Plain.{Plain, Piece, plain, fresh, next_cycle}
 use Rattle.cs_ir.specs.Waves.{silence}
@@ -147,7 +148,8 @@ calls_only_first = count_into 9 k2
 -- opcode Inc, k, k / k1 xin / k2 init 0 / k2 = k2 + k1 / xout k2 / endop
 abbrev pub inc : Definition
 inc = of_one 3 (codes "Inc") rate.Control k1
-    (known 4 (k2 ∷ []) opcode.Init (value (literal 0) ∷ []) ∷ set 5 k2 (pair op.Add (var k2) (var k1)) ∷ []) (variable k2)
+    (known 4 (k2 ∷ []) opcode.Init (value (literal 0) ∷ []) ∷ set 5 k2 (pair op.Add (var k2) (var k1)) ∷ [])
+    (variable k2)
 
 -- opcode Two, k, k / k1 xin / k2 Inc k1 / k3 Inc k1 * 2 / xout k2 * 10 + k3 / endop
 abbrev pub two : Definition

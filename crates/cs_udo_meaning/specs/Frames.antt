@@ -5,7 +5,8 @@ use Rattle.std.specs.Str.{bytes_eq}
 use Rattle.cs_words.specs.Names.{name_rate}
 use Rattle.cs_grammar.specs.declared.tree.Callee.{Callee}
 use Rattle.cs_grammar.specs.declared.tree.Callee.TheVariants as callee
-use Rattle.cs_grammar.specs.Tree.{Expression, var, Argument, value, Statement, set, call, choose, Block, no_stmt, andthen, Arms, otherwise, arm, Definition}
+use Rattle.cs_grammar.specs.Tree.{Expression, var, Argument, value, Statement, set, call, choose, Block, no_stmt}
+use Rattle.cs_grammar.specs.Tree.{andthen, Arms, otherwise, arm, Definition}
 use Rattle.cs_typed.specs.TypedTree as typed
 use Rattle.cs_typed.specs.declared.tree.Var.{Var}
 use Rattle.cs_typing.specs.Known.{Shared}
@@ -24,8 +25,8 @@ use Rattle.cs_udo.specs.Expanded.{before, whole_body}
 use Rattle.cs_udo.specs.Names.{slots}
 use Rattle.cs_udo_meaning.specs.Numbered.{Numbering, numbered, expression_by, statement_by}
 
--- A note with frames: the local variables of each frame, frame 0 being the instrument's own; the values that it keeps from its
--- initialisation, by their number in the text; and the state of the world that it sounds in.
+-- A note with frames: the local variables of each frame, frame 0 being the instrument's own; the values that it keeps
+-- from its initialisation, by their number in the text; and the state of the world that it sounds in.
 pub record Framed (W : Type 0) : Type 0 where
   pub frames : ℕ → Reg → Wave
   pub kept : ℕ → ℤ
@@ -53,7 +54,8 @@ pub record Spot : Type 0 where
 abbrev pub spot : Place → ℕ → Spot
 spot p f = record { place = p; frame = f }
 
--- How statements are read: in a world, with its zak spaces, by the names that notes share and the numbers of local variables.
+-- How statements are read: in a world, with its zak spaces, by the names that notes share and the numbers of local
+-- variables.
 pub record Reading (W : Type 0) : Type 0 where
   pub world : World W
   pub spaces : Spaces
@@ -79,8 +81,8 @@ init_plain m f p x u = put_back f (init_stmt m.world p.place (read m x) (seen_fr
 abbrev pub perf_plain : {W : Type 0} → Reading W → ℕ → Spot → Statement → Framed W → Framed W
 perf_plain m f p x u = put_back f (perf_stmt m.world p.place (read m x) (seen_from f u)) u
 
--- A variable of frame g takes the value of an expression in frame f: a variable of rate Init as the note begins, any other in
--- each cycle.
+-- A variable of frame g takes the value of an expression in frame f: a variable of rate Init as the note begins, any
+-- other in each cycle.
 abbrev pub past_copy : {W : Type 0} → Reading W → Place → List ℕ → Expression → Place
 past_copy m p x e = past_parts (if_init (name_rate x) p.part (past p.part (expression_read m e))) p
 
@@ -105,15 +107,18 @@ past_copies m p (x ∷ xs) (value e ∷ args) = past_copies m (past_copy m p x e
 past_copies m p xs args = p
 
 abbrev pub init_copies : {W : Type 0} → Reading W → ℕ → ℕ → Place → List (List ℕ) → List Argument → Framed W → Framed W
-init_copies m f g p (x ∷ xs) (value e ∷ args) u = init_copies m f g (past_copy m p x e) xs args (init_copy m f g p x e u)
+init_copies m f g p (x ∷ xs) (value e ∷ args) u =
+    init_copies m f g (past_copy m p x e) xs args (init_copy m f g p x e u)
 init_copies m f g p xs args u = u
 
 abbrev pub perf_copies : {W : Type 0} → Reading W → ℕ → ℕ → Place → List (List ℕ) → List Argument → Framed W → Framed W
-perf_copies m f g p (x ∷ xs) (value e ∷ args) u = perf_copies m f g (past_copy m p x e) xs args (perf_copy m f g p x e u)
+perf_copies m f g p (x ∷ xs) (value e ∷ args) u =
+    perf_copies m f g (past_copy m p x e) xs args (perf_copy m f g p x e u)
 perf_copies m f g p xs args u = u
 
--- What a defined opcode is to its callers: the names of its inputs and of its results, and what its body does in the frame of a
--- spot, as the note begins and in a cycle; the spot after it; and the frames of the calls and the numbers of the units in it.
+-- What a defined opcode is to its callers: the names of its inputs and of its results, and what its body does in the
+-- frame of a spot, as the note begins and in a cycle; the spot after it; and the frames of the calls and the numbers of
+-- the units in it.
 pub record Action (W : Type 0) : Type 0 where
   pub inputs : List (List ℕ)
   pub results : List (List ℕ)
@@ -139,8 +144,8 @@ action_of env (callee.Name name) = env name
 abbrev pub values_in : List (List ℕ) → List Argument
 values_in xs = map (λ x. value (var x)) xs
 
--- A call from frame f: its frame is the next one. The inputs take the values of the arguments; the body is done; the results take
--- the values of `xout`.
+-- A call from frame f: its frame is the next one. The inputs take the values of the arguments; the body is done; the
+-- results take the values of `xout`.
 abbrev pub past_inputs : {W : Type 0} → Reading W → Spot → Action W → List Argument → Spot
 past_inputs m p a args = spot (past_copies m p.place a.inputs args) p.frame
 
@@ -198,7 +203,8 @@ abbrev mutual
   past_arms m env p (otherwise b) = past_block m env p b
   past_arms m env p (arm c b rest) = past_arms m env (past_block m env (past_condition m p c) b) rest
 
--- The frames of the calls in statements, in the order of the text: that of a call, and then those of the calls in its body.
+-- The frames of the calls in statements, in the order of the text: that of a call, and then those of the calls in its
+-- body.
 abbrev pub frames_of_call : {W : Type 0} → Reading W → Spot → List Argument → Option (Action W) → List ℕ
 frames_of_call m p args None = []
 frames_of_call m p args (Some a) = p.frame ∷ a.calls (past_inputs m p a args)
@@ -218,8 +224,8 @@ abbrev mutual
   frames_of_arms m env p (arm c b rest) =
       let q = past_condition m p c in frames_of_block m env q b ++ frames_of_arms m env (past_block m env q b) rest
 
--- The numbers of the units in statements, in the order of the text, those in the bodies of calls too: by its number a unit has its
--- inputs so far.
+-- The numbers of the units in statements, in the order of the text, those in the bodies of calls too: by its number a
+-- unit has its inputs so far.
 abbrev pub unit_of : Place → Stmt → List ℕ
 unit_of p (unit r vs opcode reach xs is) = p.unit ∷ []
 unit_of p _ = []
@@ -243,8 +249,8 @@ abbrev mutual
   units_of_arms m env p (arm c b rest) =
       let q = past_condition m p c in units_of_block m env q b ++ units_of_arms m env (past_block m env q b) rest
 
--- What statements of frame f do as the note begins. An `if` whose conditions are all known then is decided once; of any other all
--- arms are initialised.
+-- What statements of frame f do as the note begins. An `if` whose conditions are all known then is decided once; of any
+-- other all arms are initialised.
 abbrev mutual
   pub init_framed : {W : Type 0} → Reading W → Actions W → ℕ → Spot → Statement → Framed W → Framed W
   init_framed m env f p (set line x e) u = init_plain m f p (set line x e) u
@@ -289,8 +295,8 @@ abbrev mutual
       if holds (value_of m.world (seen_from f u) false p.place.part (expression_read m c) 0)
       then perf_block m env f q b u else perf_arms m env f (past_block m env q b) rest u
 
--- What a definition does in the frame of a spot: its statements, and then the values of `xout`, which go into places of the frame.
--- The calls in it have the frames from the next one on.
+-- What a definition does in the frame of a spot: its statements, and then the values of `xout`, which go into places of
+-- the frame. The calls in it have the frames from the next one on.
 abbrev pub inner : Spot → Spot
 inner p = spot p.place (p.frame + 1)
 

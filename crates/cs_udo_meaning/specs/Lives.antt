@@ -9,7 +9,8 @@ use Rattle.cs_meaning.specs.Core as core
 use Rattle.cs_meaning.specs.Initialising as initial
 use Rattle.cs_meaning.specs.Notes.{Note, start, new_note, moved_to}
 use Rattle.cs_meaning.specs.Performing as performing
-use Rattle.cs_udo_meaning.specs.Frames.{Framed, new_framed, framed_in, Reading, spot, actions_before, init_block, perf_block}
+use Rattle.cs_udo_meaning.specs.Frames.{Framed, new_framed, framed_in, Reading, spot, actions_before, init_block}
+use Rattle.cs_udo_meaning.specs.Frames.{perf_block}
 use Rattle.cs_udo_meaning.specs.Numbered.{Numbering, Tells}
 use Rattle.cs_udo_meaning.specs.Stands.{Stands}
 
@@ -27,7 +28,8 @@ goes_on body (c ∷ more) t =
 abbrev pub life : {W : Type 0} → World W → core.Block → List (Cycle W) → W → List W
 life o body cycles x = goes_on body cycles (initial.init_block o start body (new_note x))
 
--- An instrument with frames: its own frame is 0, and its calls have the frames from 1 on. It may call what is defined in front of it.
+-- An instrument with frames: its own frame is 0, and its calls have the frames from 1 on. It may call what is defined
+-- in front of it.
 abbrev pub begins : {W : Type 0} → Reading W → List Definition → Instrument → Framed W → Framed W
 begins m ds i u = init_block m (actions_before m i.line ds) 0 (spot start 1) i.body u
 
@@ -50,19 +52,22 @@ life_with_frames m ds i cycles x = goes_on_framed m ds i cycles (begins m ds i (
 abbrev pub reading : {W : Type 0} → World W → Spaces → Shared → Numbering → Reading W
 reading o spaces shared number = record { world = o; spaces = spaces; shared = shared; number = number }
 
--- An instrument of the expanded and typed orchestra means the instrument with frames, in every world and by any numbers of local
--- names: it begins and goes on alike from notes that stand alike; so its life is the same, whatever others do between its cycles,
--- and be its world another in each of them.
-pub record MeansFrames (W : Type 0) (ds : List Definition) (shared : Shared) (i : Instrument) (made : typed.Instrument) : Type 0 where
+-- An instrument of the expanded and typed orchestra means the instrument with frames, in every world and by any numbers
+-- of local names: it begins and goes on alike from notes that stand alike; so its life is the same, whatever others do
+-- between its cycles, and be its world another in each of them.
+pub record MeansFrames (W : Type 0) (ds : List Definition) (shared : Shared) (i : Instrument)
+    (made : typed.Instrument) : Type 0 where
   pub line : made.line ≡ i.line
   pub numbers : made.numbers ≡ i.numbers
   pub register : Numbering
   pub apart : Tells register
   pub begun : (o : World W) (spaces : Spaces) (own : Numbering) → Tells own → (t : Note W) (u : Framed W)
       → Stands register own t u
-      → Stands register own (initial.init_block o start (core.core spaces made.body) t) (begins (reading o spaces shared own) ds i u)
+      → Stands register own (initial.init_block o start (core.core spaces made.body) t)
+      (begins (reading o spaces shared own) ds i u)
   pub performed : (o : World W) (spaces : Spaces) (own : Numbering) → Tells own → (t : Note W) (u : Framed W)
       → Stands register own t u
-      → Stands register own (performing.perf_block o start (core.core spaces made.body) t) (performs (reading o spaces shared own) ds i u)
+      → Stands register own (performing.perf_block o start (core.core spaces made.body) t)
+      (performs (reading o spaces shared own) ds i u)
   pub lived : (o : World W) (spaces : Spaces) (own : Numbering) → Tells own → (cycles : List (Cycle W)) (x : W)
       → life o (core.core spaces made.body) cycles x ≡ life_with_frames (reading o spaces shared own) ds i cycles x

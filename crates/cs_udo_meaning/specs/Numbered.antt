@@ -1,4 +1,5 @@
--- The typed form of statements where a variable is given for each name: what typing gives where all names of a text are known.
+-- The typed form of statements where a variable is given for each name: what typing gives where all names of a text are
+-- known.
 use Rattle.std.specs.Prelude.{ℕ, zero, suc, ◌+◌, List, [], ◌∷◌, ◌++◌, ◌≡◌, map, Option, Some, None, if◌then◌else◌}
 use Rattle.cs_base.specs.declared.resource.Rate.TheVariants as rate
 use Rattle.cs_words.specs.Catalogue.{Row, row_of}
@@ -6,7 +7,8 @@ use Rattle.cs_words.specs.Names.{name_rate, is_global}
 use Rattle.cs_words.specs.declared.catalogue.Opcode.{Opcode}
 use Rattle.cs_grammar.specs.declared.tree.Callee.{Callee}
 use Rattle.cs_grammar.specs.declared.tree.Callee.TheVariants as callee
-use Rattle.cs_grammar.specs.Tree.{Expression, number, var, field, head, neg, pair, pick, apply, Argument, value, text, Statement, set, call, choose, Block, no_stmt, andthen, Arms, otherwise, arm}
+use Rattle.cs_grammar.specs.Tree.{Expression, number, var, field, head, neg, pair, pick, apply, Argument, value, text}
+use Rattle.cs_grammar.specs.Tree.{Statement, set, call, choose, Block, no_stmt, andthen, Arms, otherwise, arm}
 use Rattle.cs_typed.specs.TypedTree as typed
 use Rattle.cs_typed.specs.declared.tree.Var.{Var}
 use Rattle.cs_typed.specs.declared.tree.Var.TheVariants as variant

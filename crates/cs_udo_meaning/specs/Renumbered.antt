@@ -16,8 +16,8 @@ renumbered to o = record o { load = λ r. o.load (to r); save = λ r. o.save (to
 abbrev pub renumbered_cycle : {W : Type 0} → (Res → Res) → Cycle W → Cycle W
 renumbered_cycle to c = record c { world = renumbered to c.world }
 
--- Numbers lead from the lists h of shared names to the lists g: from the resource that a name has by h to the one that it
--- has by g, and from each resource to one of its rate.
+-- Numbers lead from the lists h of shared names to the lists g: from the resource that a name has by h to the one that
+-- it has by g, and from each resource to one of its rate.
 pub record LeadsTo (to : Res → Res) (h g : Shared) : Type 0 where
   pub rate : (r : Res) → res_rate (to r) ≡ res_rate r
   pub globals : (x : List ℕ)

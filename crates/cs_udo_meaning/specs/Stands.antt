@@ -16,8 +16,8 @@ own_name (suc f) x = in_frame (suc f) x
 abbrev pub Fits : ℕ → List ℕ → Type 0
 Fits f x = f ≡ 0 → HasNoStop x
 
--- The note stands as the note with frames does: the local variables of each frame under the names that they have in the expanded
--- text, the same values kept, the same state of the world. Two numberings tell which registers the names have.
+-- The note stands as the note with frames does: the local variables of each frame under the names that they have in the
+-- expanded text, the same values kept, the same state of the world. Two numberings tell which registers the names have.
 pub record Stands {W : Type 0} (flat own : Numbering) (t : Note W) (u : Framed W) : Type 0 where
   pub locals : (f : ℕ) (x : List ℕ) → is_global x ≡ false → Fits f x
       → t.locals (reg (name_rate x) (flat (own_name f x))) ≡ u.frames f (reg (name_rate x) (own x))
