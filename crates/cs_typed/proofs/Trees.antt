@@ -2,7 +2,9 @@
 use Rattle.std.proofs.Common.{◌≡◌, rules}
 use mathlib.Core.Former.{Count}
 use Rattle.cs_typed.specs.declared.tree.TypedArm.{TypedArm'}
-use Rattle.cs_typed.specs.declared.tree.TypedWhat.{Row_of-TypedArm, end_of-TypedArm, more_of-TypedArm, Row_of-TypedStmt, end_of-TypedStmt, more_of-TypedStmt, items-the_row-TypedStmt, items-the_row-TypedArm}
+use Rattle.cs_typed.specs.declared.tree.TypedWhat.{Row_of-TypedArm, end_of-TypedArm, more_of-TypedArm, Row_of-TypedStmt}
+use Rattle.cs_typed.specs.declared.tree.TypedWhat.{end_of-TypedStmt, more_of-TypedStmt, items-the_row-TypedStmt}
+use Rattle.cs_typed.specs.declared.tree.TypedWhat.{items-the_row-TypedArm}
 use Rattle.cs_typed.specs.declared.tree.TypedWhat.TheViews.{the_lemmas}
 use Rattle.cs_typed.specs.TypedTree.{Block, block, arms, of_block, of_arms}
 
@@ -10,6 +12,8 @@ pub typed_block_is : (n : Count) (row : Row_of-TypedStmt n) → of_block row ≡
 typed_block_is _ end_of-TypedStmt = search (rules, the_lemmas)
 typed_block_is _ (more_of-TypedStmt line r what rest) = search (rules, the_lemmas, typed_block_is _ rest)
 
-pub typed_arms_is : (n : Count) (els : Block) (row : Row_of-TypedArm n) → of_arms els row ≡ arms els (items-the_row-TypedArm n row)
+pub typed_arms_is : (n : Count) (els : Block) (row : Row_of-TypedArm n)
+    → of_arms els row ≡ arms els (items-the_row-TypedArm n row)
 typed_arms_is _ els end_of-TypedArm = search (rules, the_lemmas)
-typed_arms_is _ els (more_of-TypedArm (TypedArm' cond s body) rest) = search (rules, the_lemmas, typed_block_is, typed_arms_is _ els rest)
+typed_arms_is _ els (more_of-TypedArm (TypedArm' cond s body) rest) =
+    search (rules, the_lemmas, typed_block_is, typed_arms_is _ els rest)

@@ -1,6 +1,8 @@
 -- What holds of each variable of a typed tree.
 use Rattle.std.proofs.lemmas.List.Elements.{All-weaker}
-use Rattle.cs_typed.specs.TypedTree.{Expression, number, var, field, head, neg, pair, pick, apply, Argument, value, text, Statement, set, call, choose, Block, no_stmt, andthen, Arms, otherwise, arm, then_block}
+use Rattle.cs_typed.specs.TypedTree.{Expression, number, var, field, head, neg, pair, pick, apply, Argument, value}
+use Rattle.cs_typed.specs.TypedTree.{text, Statement, set, call, choose, Block, no_stmt, andthen, Arms, otherwise, arm}
+use Rattle.cs_typed.specs.TypedTree.{then_block}
 use Rattle.cs_typed.specs.Variables.{EachInExpression, EachInArgument, EachInStatement, EachInBlock, EachInArms}
 use Rattle.cs_typed.specs.declared.tree.Var.{Var as Variable}
 
@@ -35,6 +37,7 @@ module _ (P Q : Variable → Type 0) (weaker : (v : Variable) → P v → Q v) w
     arms_weaker (arm c b rest) h = (expression_weaker c h.0, block_weaker b h.1, arms_weaker rest h.2)
 
 -- of the statements of one block and then those of another
-pub each_then : (P : Variable → Type 0) (a b : Block) → EachInBlock P a → EachInBlock P b → EachInBlock P (then_block a b)
+pub each_then : (P : Variable → Type 0) (a b : Block) → EachInBlock P a → EachInBlock P b
+    → EachInBlock P (then_block a b)
 each_then P no_stmt b p q = q
 each_then P (andthen x rest) b p q = (p.0, each_then P rest b p.1 q)

@@ -1,11 +1,12 @@
--- What the rules of rates ask of a call, said once for the tree of the grammar and for the typed tree: of an argument its rate alone,
--- which a text has none of, and of a result its rate.
-use Rattle.std.specs.Prelude.{Bool, true, false, not, List, [], ◌∷◌, ◌&&◌, length, nat_lt, Option, Some, None, if◌then◌else◌}
+-- What the rules of rates ask of a call, said once for the tree of the grammar and for the typed tree: of an argument
+-- its rate alone, which a text has none of, and of a result its rate.
+use Rattle.std.specs.Prelude.{ℕ, Bool, true, false, not, List, [], ◌∷◌, ◌&&◌, ◌+◌, length, nat_lt, Option, Some, None}
+use Rattle.std.specs.Prelude.{if◌then◌else◌}
 use Rattle.std.specs.List.{list_any, list_all}
 use Rattle.cs_base.specs.Rates.{is_init, is_audio, same_rate}
 use Rattle.cs_base.specs.declared.resource.Rate.{Rate}
 use Rattle.cs_base.specs.declared.resource.Rate.TheVariants as rate
-use Rattle.cs_words.specs.Catalogue.{Row, takes, is_text}
+use Rattle.cs_words.specs.Catalogue.{Row, letter_at, takes, is_text}
 use Rattle.cs_words.specs.declared.catalogue.Letter.{Letter}
 use Rattle.cs_words.specs.declared.catalogue.Shape.{Shape}
 use Rattle.cs_words.specs.declared.catalogue.Shape.TheVariants as shape
@@ -26,6 +27,11 @@ stands_still None = true
 abbrev pub accepts : Letter → Rate → Option Rate → Bool
 accepts l bound (Some r) = takes l bound r
 accepts l bound None = is_text l
+
+-- each argument from a place on has with its letter what is asked
+abbrev pub all_meet : {A : Type 0} → (Letter → A → Bool) → Row → ℕ → List A → Bool
+all_meet asked row n [] = true
+all_meet asked row n (a ∷ rest) = asked (letter_at row n) a && all_meet asked row (n + 1) rest
 
 -- the rate of the result, which bounds arguments; no result bounds nothing
 abbrev pub bound_from : {V : Type 0} → (V → Rate) → List V → Rate
@@ -48,8 +54,8 @@ abbrev pub exceeds : {A : Type 0} → Setting → Shape → List A → Bool
 exceeds s shape.Out args = nat_lt s.channels (length args)
 exceeds s _ args = false
 
--- How often a call is done: once where its opcode works as the note begins, or as often as its result changes; and without a result
--- once where it writes what is known when the note begins, or else as often as its arguments change.
+-- How often a call is done: once where its opcode works as the note begins, or as often as its result changes; and
+-- without a result once where it writes what is known when the note begins, or else as often as its arguments change.
 abbrev pub rate_without_result : {A : Type 0} → (A → Option Rate) → Shape → List A → Rate
 rate_without_result seen sh args =
     if is_writing sh && list_all (λ a. stands_still (seen a)) args then rate.Init

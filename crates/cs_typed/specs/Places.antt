@@ -4,7 +4,8 @@ use Rattle.cs_words.specs.declared.catalogue.Shape.{Shape}
 use Rattle.cs_words.specs.declared.catalogue.Shape.TheVariants as shape
 use Rattle.cs_typed.specs.declared.setting.Setting.{Setting}
 
--- What holds for a whole piece: frames a second, frames a control cycle, channels, and the value of full scale in 65,536ths.
+-- What holds for a whole piece: frames a second, frames a control cycle, channels, and the value of full scale in
+-- 65,536ths.
 pub record Header : Type 0 where
   pub sr : ℕ
   pub ksmps : ℕ

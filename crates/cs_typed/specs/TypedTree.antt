@@ -17,13 +17,16 @@ use Rattle.cs_typed.specs.declared.tree.TypedExpr.{TypedExpr}
 use Rattle.cs_typed.specs.declared.tree.TypedInstr.{TypedInstr}
 use Rattle.cs_typed.specs.declared.tree.TypedOrc.{TypedOrc}
 use Rattle.cs_typed.specs.declared.tree.TypedPart.{TypedPart}
-use Rattle.cs_typed.specs.declared.tree.TypedPart.TheVariants.{Number, Var, Field, Head as HeadName', Neg', Pair', Pick', Call'}
+use Rattle.cs_typed.specs.declared.tree.TypedPart.TheVariants.{Number, Var, Field, Head as HeadName', Neg', Pair'}
+use Rattle.cs_typed.specs.declared.tree.TypedPart.TheVariants.{Pick', Call'}
 use Rattle.cs_typed.specs.declared.tree.TypedStmt.{TypedStmt}
-use Rattle.cs_typed.specs.declared.tree.TypedWhat.{TypedWhat, Row_of-TypedArm, end_of-TypedArm, more_of-TypedArm, Row_of-TypedStmt, end_of-TypedStmt, more_of-TypedStmt}
+use Rattle.cs_typed.specs.declared.tree.TypedWhat.{TypedWhat, Row_of-TypedArm, end_of-TypedArm, more_of-TypedArm}
+use Rattle.cs_typed.specs.declared.tree.TypedWhat.{Row_of-TypedStmt, end_of-TypedStmt, more_of-TypedStmt}
 use Rattle.cs_typed.specs.declared.tree.TypedWhat.TheVariants.{Set, Call, Choose'}
 use Rattle.cs_typed.specs.declared.tree.Var.{Var as Variable}
 
--- The typed tree as the definitions see it, without boxes' addresses and vectors' capacities. An expression has its rate first.
+-- The typed tree as the definitions see it, without boxes' addresses and vectors' capacities. An expression has its
+-- rate first.
 pub data Expression : Type 0 where
   number : Rate → ℤ → Expression
   var : Rate → Variable → Expression
@@ -69,7 +72,8 @@ pub record SharedNames : Type 0 where
   pub control : List (List ℕ)
   pub sound : List (List ℕ)
 
--- a typed orchestra, with the numbers of places of the two zak spaces; the statements outside instruments have local variables too
+-- a typed orchestra, with the numbers of places of the two zak spaces; the statements outside instruments have local
+-- variables too
 pub record Orchestra : Type 0 where
   pub head : Header
   pub spaces : Spaces

@@ -1,11 +1,12 @@
 -- The rules of rates that a typed tree keeps.
-use Rattle.std.specs.Prelude.{ℕ, Bool, true, false, not, List, [], ◌∷◌, ◌≡◌, ◌≢◌, ◌+◌, ◌&&◌, ◌||◌, length, Option, Some, None, if◌then◌else◌}
+use Rattle.std.specs.Prelude.{ℕ, Bool, true, false, not, List, [], ◌∷◌, ◌≡◌, ◌≢◌, ◌+◌, ◌&&◌, ◌||◌, length, Option, Some}
+use Rattle.std.specs.Prelude.{None, if◌then◌else◌}
 use Rattle.std.specs.List.{All, list_all}
 use Rattle.cs_base.specs.Rates.{is_init, is_control, is_audio, within, faster, res_rate}
 use Rattle.cs_base.specs.declared.resource.Rate.{Rate}
 use Rattle.cs_base.specs.declared.resource.Rate.TheVariants as rate
 use Rattle.cs_base.specs.declared.resource.Res.TheVariants as res
-use Rattle.cs_words.specs.Catalogue.{Row, row_of, letter_at, takes_count, result_count}
+use Rattle.cs_words.specs.Catalogue.{Row, row_of, takes_count, result_count}
 use Rattle.cs_words.specs.Signs.{is_arithmetic}
 use Rattle.cs_words.specs.declared.catalogue.Letter.{Letter}
 use Rattle.cs_words.specs.declared.catalogue.Opcode.{Opcode}
@@ -16,7 +17,8 @@ use Rattle.cs_words.specs.declared.word.Func.TheVariants as func
 use Rattle.cs_typed.specs.declared.setting.Setting.{Setting}
 use Rattle.cs_typed.specs.declared.tree.Var.{Var}
 use Rattle.cs_typed.specs.declared.tree.Var.TheVariants as var
-use Rattle.cs_typed.specs.Calls.{sounds, stands_still, accepts, bound_from, may_have, are_even, exceeds, rate_of_call, rate_of_choice}
+use Rattle.cs_typed.specs.Calls.{sounds, stands_still, accepts, all_meet, bound_from, may_have, are_even, exceeds}
+use Rattle.cs_typed.specs.Calls.{rate_of_call, rate_of_choice}
 use Rattle.cs_typed.specs.Places.{outside, inside, stands_outside}
 use Rattle.cs_typed.specs.TypedTree as typed
 use Rattle.cs_typed.specs.Variables.{IsCounted, EachInBlock}
@@ -64,7 +66,8 @@ IsRated (typed.neg r a) = (r ≡ node_rate a) × IsRated a
 IsRated (typed.pair r o a b) =
     (r ≡ faster (node_rate a) (node_rate b)) × ((is_arithmetic o || not (is_audio r)) ≡ true) × IsRated a × IsRated b
 IsRated (typed.pick r c a b) =
-    (r ≡ faster (node_rate c) (faster (node_rate a) (node_rate b))) × (is_audio (node_rate c) ≡ false) × IsRated c × IsRated a × IsRated b
+    (r ≡ faster (node_rate c) (faster (node_rate a) (node_rate b))) × (is_audio (node_rate c) ≡ false) × IsRated c
+    × IsRated a × IsRated b
 IsRated (typed.apply r func.I a) = (r ≡ rate.Init) × (is_read_once a ≡ true) × IsRated a
 IsRated (typed.apply r func.Cpspch a) = (r ≡ node_rate a) × (is_audio r ≡ false) × IsRated a
 IsRated (typed.apply r f a) = (r ≡ node_rate a) × IsRated a
@@ -74,10 +77,12 @@ abbrev pub IsRatedArgument : typed.Argument → Type 0
 IsRatedArgument (typed.value e) = IsRated e
 IsRatedArgument (typed.text v) = is_channel v ≡ true
 
--- A variable takes a value that changes no more often than itself; outside instruments it is known when the note begins.
+-- A variable takes a value that changes no more often than itself; outside instruments it is known when the note
+-- begins.
 abbrev pub IsRatedSet : Setting → Rate → Var → typed.Expression → Type 0
 IsRatedSet s r v e =
-    (r ≡ var_rate v) × (is_variable v ≡ true) × (within (node_rate e) r ≡ true) × ((s.inside || is_init r) ≡ true) × IsRated e
+    (r ≡ var_rate v) × (is_variable v ≡ true) × (within (node_rate e) r ≡ true) × ((s.inside || is_init r) ≡ true)
+    × IsRated e
 
 -- the row of a call's arguments: the text of `event_i` leaves no trace, and what is left is read as by `schedule`
 abbrev pub row_left : Opcode → Row
@@ -94,8 +99,7 @@ abbrev pub fits_letter : Letter → Rate → typed.Argument → Bool
 fits_letter l bound a = accepts l bound (rate_in a)
 
 abbrev pub fit_letters : Row → Rate → ℕ → List typed.Argument → Bool
-fit_letters row bound n [] = true
-fit_letters row bound n (a ∷ rest) = fits_letter (letter_at row n) bound a && fit_letters row bound (n + 1) rest
+fit_letters row bound n args = all_meet (λ l a. fits_letter l bound a) row n args
 
 abbrev pub bound_by : List Var → Rate
 bound_by vs = bound_from var_rate vs
@@ -133,7 +137,8 @@ suits_channel shape.ChannelClear vs (typed.text c ∷ rest) = is_audio (var_rate
 suits_channel _ vs args = true
 
 -- A call agrees with the row of its opcode.
-pub record IsRatedCall (s : Setting) (r : Rate) (vs : List Var) (opcode : Opcode) (args : List typed.Argument) : Type 0 where
+pub record IsRatedCall (s : Setting) (r : Rate) (vs : List Var) (opcode : Opcode)
+    (args : List typed.Argument) : Type 0 where
   pub done : r ≡ done_at (row_of opcode).shape vs args
   pub results : length vs ≡ result_count (row_of opcode)
   pub given : list_all (may_give (row_of opcode)) vs ≡ true
@@ -150,7 +155,8 @@ abbrev pub all_still : typed.Arms → Bool
 all_still (typed.otherwise b) = true
 all_still (typed.arm c b rest) = is_init (node_rate c) && all_still rest
 
--- Statements agree with the rules of rates. An `if` is done once exactly where all its conditions are known when the note begins.
+-- Statements agree with the rules of rates. An `if` is done once exactly where all its conditions are known when the
+-- note begins.
 abbrev mutual
   pub IsRatedStatement : Setting → typed.Statement → Type 0
   IsRatedStatement s (typed.set line r v e) = IsRatedSet s r v e
@@ -165,10 +171,11 @@ abbrev mutual
   pub IsRatedArms : Setting → typed.Arms → Type 0
   IsRatedArms s (typed.otherwise b) = IsRatedBlock s b
   IsRatedArms s (typed.arm c b rest) =
-      IsRated c × (is_audio (node_rate c) ≡ false) × ((s.inside || is_init (node_rate c)) ≡ true) × IsRatedBlock s b × IsRatedArms s rest
+      IsRated c × (is_audio (node_rate c) ≡ false) × ((s.inside || is_init (node_rate c)) ≡ true) × IsRatedBlock s b
+      × IsRatedArms s rest
 
--- An orchestra agrees with the rules of rates, outside instruments and in each instrument; and each local variable is one of those
--- that are counted there.
+-- An orchestra agrees with the rules of rates, outside instruments and in each instrument; and each local variable is
+-- one of those that are counted there.
 pub record IsWellRated (o : typed.Orchestra) : Type 0 where
   pub zero : IsRatedBlock (outside o.head.nchnls) o.zero
   pub zero_locals : EachInBlock (IsCounted o.zero_locals) o.zero

@@ -1,10 +1,10 @@
-//! The typed tree of an orchestra: variables in place of names, opcodes in place of opcodes' names, and a rate beside each
-//! expression and each statement.
+//! The typed tree of an orchestra: variables in place of names, opcodes in place of opcodes' names, and a rate beside
+//! each expression and each statement.
 //!
-//! It has no calls: it is what the reading of an orchestra makes and what the code of notes is made from, so that either is
-//! built and proved without the other. The tree as the definitions see it stands in specs/TypedTree.antt, and the rules of
-//! rates that a typed tree keeps in specs/WellRated.antt (`IsWellRated`), over its variables (specs/Variables.antt). A further
-//! part of the tree changes both sides.
+//! It has no calls: it is what the reading of an orchestra makes and what the code of notes is made from, so that
+//! either is built and proved without the other. The tree as the definitions see it stands in specs/TypedTree.antt, and
+//! the rules of rates that a typed tree keeps in specs/WellRated.antt (`IsWellRated`), over its variables
+//! (specs/Variables.antt). A further part of the tree changes both sides.
 //!
 //! Modules in reading order: `tree`, `setting` (where a statement stands).
 #![tactic(auto)]

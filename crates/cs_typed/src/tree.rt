@@ -44,7 +44,8 @@ pub enum TypedArg {
 
 pub type TypedArgs = Vec<TypedArg>;
 
-/// A statement, with the line of its first token and its rate: a statement of rate `Init` is done once, as the note begins.
+/// A statement, with the line of its first token and its rate: a statement of rate `Init` is done once, as the note
+/// begins.
 #[derive(Drop)]
 #[cycle(stmt)]
 pub struct TypedStmt {
@@ -86,8 +87,8 @@ pub struct TypedInstr {
     pub body: TypedStmts,
 }
 
-/// The names of what notes share, each list in the order in which they were first seen: variables by rate, control channels and
-/// sound channels.
+/// The names of what notes share, each list in the order in which they were first seen: variables by rate, control
+/// channels and sound channels.
 #[derive(Drop)]
 pub struct Globals {
     pub gi: Names,

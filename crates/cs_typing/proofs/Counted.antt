@@ -1,5 +1,6 @@
 -- The local variables of an orchestra without a fault are below the numbers that are counted.
-use Rattle.std.proofs.Common.{◌≡◌, ◌≤◌, ◌<◌, ◌+◌, ◌++◌, ℕ, Bool, true, false, List, [], ◌∷◌, length, length-append, None, arith, ap, if◌then◌else◌}
+use Rattle.std.proofs.Common.{◌≡◌, ◌≤◌, ◌<◌, ◌+◌, ◌++◌, ℕ, Bool, true, false, List, [], ◌∷◌, length, length-append}
+use Rattle.std.proofs.Common.{None, arith, ap, if◌then◌else◌}
 use Rattle.std.specs.List.{All}
 use Rattle.std.proofs.lemmas.List.Elements.{All-cons, All-nil}
 use Rattle.std.proofs.lemmas.Option.{slice_get_within}
@@ -17,9 +18,11 @@ use Rattle.cs_typed.specs.TypedTree as typed
 use Rattle.cs_typed.specs.Variables.{IsCounted, EachInBlock}
 use Rattle.cs_typed.specs.declared.tree.Var.TheVariants.{Local, Global}
 use Rattle.cs_typed.proofs.Variables.{each_then}
-use Rattle.cs_typing.specs.Known.{Table, Shared, Known, of_rate, counts_of, with_name, in_table, place_in, added, knows, given, variable, channel_of, global}
+use Rattle.cs_typing.specs.Known.{Table, Shared, Known, of_rate, counts_of, with_name, in_table, place_in, added, knows}
+use Rattle.cs_typing.specs.Known.{given, variable, channel_of, global}
 use Rattle.cs_typing.specs.Statements.{known_block, typed_block}
-use Rattle.cs_typing.specs.Typing.{Item, alone, body, entered, known_item, known_items, item_fault, items_fault, typed_outside, typed_instrument, typed_instruments}
+use Rattle.cs_typing.specs.Typing.{Item, alone, body, entered, known_item, known_items, item_fault, items_fault}
+use Rattle.cs_typing.specs.Typing.{typed_outside, typed_instrument, typed_instruments}
 use Rattle.cs_typing.specs.declared.known.Channel.{Channel}
 use Rattle.cs_typing.specs.declared.known.Channel.TheVariants as channel
 use Rattle.cs_typing.proofs.Naming.{Tells, Give, BlockGives, ArmsGive, block_before, block_named}
@@ -42,12 +45,14 @@ seen_low names name = by_test (has names name) there new
   where
     there : has names name ≡ true → place_of names name < length (seen names name)
     there e =
-        let same : length (seen names name) ≡ length names = ap (λ b. length (if b then names else names ++ name ∷ [])) e in
+        let same : length (seen names name) ≡ length names =
+        ap (λ b. length (if b then names else names ++ name ∷ [])) e in
         omega (arith, low names name e, same)
 
     new : has names name ≡ false → place_of names name < length (seen names name)
     new e =
-        let more : length (seen names name) ≡ length (names ++ name ∷ []) = ap (λ b. length (if b then names else names ++ name ∷ [])) e in
+        let more : length (seen names name) ≡ length (names ++ name ∷ []) =
+        ap (λ b. length (if b then names else names ++ name ∷ [])) e in
         omega (arith, past_all names name e, more, length-append names (name ∷ []))
 
 -- ---- local variables
@@ -67,7 +72,8 @@ longer rate.Audio rate.Init t name = omega arith
 longer rate.Audio rate.Control t name = omega arith
 longer rate.Audio rate.Audio t name = seen_longer t.audio name
 
-place_low : (r : Rate) (t : Table) (name : List ℕ) → place_of (of_rate r t) name < length (of_rate r (with_name r t name))
+place_low : (r : Rate) (t : Table) (name : List ℕ)
+    → place_of (of_rate r t) name < length (of_rate r (with_name r t name))
 place_low rate.Init t name = seen_low t.init name
 place_low rate.Control t name = seen_low t.control name
 place_low rate.Audio t name = seen_low t.audio name
@@ -75,27 +81,33 @@ place_low rate.Audio t name = seen_low t.audio name
 given_within : (counts : PerRate ℕ) (n : Known) (name : List ℕ) → IsWithin counts (given n name) → IsWithin counts n
 given_within counts n name = by (is_global name)
   where
-    by : (b : Bool) → ((r : Rate) → length (of_rate r (if b then n.locals else added n.locals name)) ≤ at_rate counts r) → IsWithin counts n
+    by : (b : Bool) → ((r : Rate) → length (of_rate r (if b then n.locals else added n.locals name)) ≤ at_rate counts r)
+        → IsWithin counts n
     by true h = h
     by false h = λ r. omega (arith, h r, longer r (name_rate name) n.locals name)
 
-known_counted : (counts : PerRate ℕ) (n : Known) (name : List ℕ) → IsWithin counts n → knows n name ≡ true → IsCounted counts (variable n name)
+known_counted : (counts : PerRate ℕ) (n : Known) (name : List ℕ) → IsWithin counts n → knows n name ≡ true
+    → IsCounted counts (variable n name)
 known_counted counts n name h = by (is_global name)
   where
     by : (b : Bool) → (if b then in_table n.shared.globals name else in_table n.locals name) ≡ true
-        → IsCounted counts (if b then Global (global (name_rate name) (place_in n.shared.globals name)) else Local (name_rate name) (place_in n.locals name))
+        → IsCounted counts (if b then Global (global (name_rate name) (place_in n.shared.globals name)) else Local
+        (name_rate name) (place_in n.locals name))
     by true k = tt
     by false k = omega (arith, low (of_rate (name_rate name) n.locals) name k, h (name_rate name))
 
-given_counted : (counts : PerRate ℕ) (n : Known) (name : List ℕ) → IsWithin counts (given n name) → Unit {0} → IsCounted counts (variable n name)
+given_counted : (counts : PerRate ℕ) (n : Known) (name : List ℕ) → IsWithin counts (given n name) → Unit {0}
+    → IsCounted counts (variable n name)
 given_counted counts n name h u = by (is_global name) h
   where
     by : (b : Bool) → ((r : Rate) → length (of_rate r (if b then n.locals else added n.locals name)) ≤ at_rate counts r)
-        → IsCounted counts (if b then Global (global (name_rate name) (place_in n.shared.globals name)) else Local (name_rate name) (place_in n.locals name))
+        → IsCounted counts (if b then Global (global (name_rate name) (place_in n.shared.globals name)) else Local
+        (name_rate name) (place_in n.locals name))
     by true k = tt
     by false k = omega (arith, place_low (name_rate name) n.locals name, k (name_rate name))
 
-channel_counted : (counts : PerRate ℕ) (s : Shared) (kind : Channel) (name : List ℕ) → IsCounted counts (channel_of s kind name)
+channel_counted : (counts : PerRate ℕ) (s : Shared) (kind : Channel) (name : List ℕ)
+    → IsCounted counts (channel_of s kind name)
 channel_counted counts s channel.Control name = tt
 channel_counted counts s channel.Sound name = tt
 
@@ -127,13 +139,16 @@ mutual
 
 -- ---- the parts of an orchestra
 
-items_before : (counts : PerRate ℕ) (n : Known) (list : List Item) → IsWithin counts (known_items n list) → IsWithin counts n
+items_before : (counts : PerRate ℕ) (n : Known) (list : List Item) → IsWithin counts (known_items n list)
+    → IsWithin counts n
 items_before counts n [] h = h
 items_before counts n (alone b ∷ rest) h =
-    block_before (IsCounted counts) (IsWithin counts) Anything (counted counts) n b (items_before counts (known_block n b) rest h)
+    block_before (IsCounted counts) (IsWithin counts) Anything (counted counts) n b
+    (items_before counts (known_block n b) rest h)
 items_before counts n (body i ∷ rest) h = items_before counts (known_item n (body i)) rest h
 
-pub outside_counted : (channels : ℕ) (counts : PerRate ℕ) (n : Known) (list : List Item) → items_fault channels n list ≡ None
+pub outside_counted : (channels : ℕ) (counts : PerRate ℕ) (n : Known) (list : List Item)
+    → items_fault channels n list ≡ None
     → IsWithin counts (known_items n list) → EachInBlock (IsCounted counts) (typed_outside n list)
 outside_counted channels counts n [] h within = tt
 outside_counted channels counts n (alone b ∷ rest) h within =
@@ -165,6 +180,7 @@ instruments_counted channels n (body i ∷ rest) h =
     let last = known_block (entered n) i.body in
     let counts = counts_of last.locals in
     All-cons IsCountedInstrument (typed_instrument n i) (typed_instruments (known_item n (body i)) rest)
-    (block_named (IsCounted counts) (IsWithin counts) Anything (counted counts) (inside channels) (entered n) i.body parts.0 (all_within last)
+    (block_named (IsCounted counts) (IsWithin counts) Anything (counted counts) (inside channels) (entered n) i.body
+    parts.0 (all_within last)
     (block_gives i.body))
     (instruments_counted channels (known_item n (body i)) rest parts.1)

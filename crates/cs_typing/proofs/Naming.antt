@@ -1,6 +1,7 @@
--- What the typed form of statements without a fault reads and gives by name: a property that the variables and channels have which
--- are known after a statement is one of each that stands in it.
-use Rattle.std.proofs.Common.{◌≡◌, ◌∙◌, ◌-◌, ◌==◌, ℕ, suc, Bool, true, false, not, ◌&&◌, ◌||◌, nat_le, List, [], ◌∷◌, length, map, Option, Some, None, arith, refl, sym, subst, if◌then◌else◌}
+-- What the typed form of statements without a fault reads and gives by name: a property that the variables and channels
+-- have which are known after a statement is one of each that stands in it.
+use Rattle.std.proofs.Common.{◌≡◌, ◌∙◌, ◌-◌, ◌==◌, ℕ, suc, Bool, true, false, not, ◌&&◌, ◌||◌, nat_le, List, [], ◌∷◌}
+use Rattle.std.proofs.Common.{length, map, Option, Some, None, arith, refl, sym, subst, if◌then◌else◌}
 use Rattle.std.specs.List.{All, list_all}
 use Rattle.std.specs.Option.{option_or}
 use Rattle.std.proofs.lemmas.Bool.{and_parts}
@@ -11,7 +12,8 @@ use Rattle.cs_base.specs.declared.fault.OrcKind.TheVariants as orc
 use Rattle.cs_words.specs.Catalogue.{row_of, takes_count, result_count}
 use Rattle.cs_words.specs.declared.catalogue.Opcode.{Opcode}
 use Rattle.cs_words.specs.declared.catalogue.Opcode.TheVariants as op
-use Rattle.cs_grammar.specs.Tree.{Expression, number, var, field, head, neg, pair, pick, apply, Argument, value, text, Statement, set, call, choose, Block, no_stmt, andthen, Arms, otherwise, arm}
+use Rattle.cs_grammar.specs.Tree.{Expression, number, var, field, head, neg, pair, pick, apply, Argument, value, text}
+use Rattle.cs_grammar.specs.Tree.{Statement, set, call, choose, Block, no_stmt, andthen, Arms, otherwise, arm}
 use Rattle.cs_grammar.specs.declared.tree.Callee.{Callee}
 use Rattle.cs_grammar.specs.declared.tree.Callee.TheVariants as callee
 use Rattle.cs_typed.specs.Places.{stands_outside}
@@ -19,11 +21,15 @@ use Rattle.cs_typed.specs.TypedTree as typed
 use Rattle.cs_typed.specs.Variables.{EachInExpression, EachInArgument, EachInStatement, EachInBlock, EachInArms}
 use Rattle.cs_typed.specs.declared.setting.Setting.{Setting}
 use Rattle.cs_typed.specs.declared.tree.Var.{Var as Variable}
-use Rattle.cs_typing.specs.Calls.{all_fit, bound_of, may_result, is_even, kind_of, any_sound, channel_use, text_of, is_too_wide, all_known, rates_agree, counts_agree, call_fault, call_known, typed_arguments, typed_call}
+use Rattle.cs_typing.specs.Calls.{all_fit, bound_of, may_result, is_even, kind_of, any_sound, channel_use, text_of}
+use Rattle.cs_typing.specs.Calls.{is_too_wide, all_known, rates_agree, counts_agree, call_fault, call_known}
+use Rattle.cs_typing.specs.Calls.{typed_arguments, typed_call}
 use Rattle.cs_typing.specs.Expressions.{is_condition, rate_of, reads_known, typed_expression}
-use Rattle.cs_typing.specs.Known.{Table, Shared, Known, known_with, knows, after_giving, given, given_all, used, use_channel, clashes, variable, channel_of}
+use Rattle.cs_typing.specs.Known.{Table, Shared, Known, known_with, knows, after_giving, given, given_all, used}
+use Rattle.cs_typing.specs.Known.{use_channel, clashes, variable, channel_of}
 use Rattle.cs_typing.specs.Settings.{at}
-use Rattle.cs_typing.specs.Statements.{may_set, set_fault, condition_fault, fault, block_fault, arms_fault, known, known_block, known_arms, typed_statement, typed_block, typed_arms}
+use Rattle.cs_typing.specs.Statements.{may_set, set_fault, condition_fault, fault, block_fault, arms_fault, known}
+use Rattle.cs_typing.specs.Statements.{known_block, known_arms, typed_statement, typed_block, typed_arms}
 use Rattle.cs_typing.specs.declared.known.Channel.{Channel}
 use Rattle.cs_typing.specs.declared.known.Channel.TheVariants as channel
 use Rattle.cs_typing.proofs.Rated.{at_none, both_none}
@@ -43,28 +49,33 @@ abbrev mutual
   ArmsGive G (otherwise b) = BlockGives G b
   ArmsGive G (arm c b rest) = BlockGives G b × ArmsGive G rest
 
--- What is asked of a property P of variables, of a property S of what is known, and of a property G of the names that are given: S
--- of what is known after a name was given, or a channel used, is S of what was known before, and there P holds of what is read, of
--- what is given and of the channel.
+-- What is asked of a property P of variables, of a property S of what is known, and of a property G of the names that
+-- are given: S of what is known after a name was given, or a channel used, is S of what was known before, and there P
+-- holds of what is read, of what is given and of the channel.
 pub record Tells (P : Variable → Type 0) (S : Known → Type 0) (G : List ℕ → Type 0) : Type 0 where
   pub before_given : (n : Known) (name : List ℕ) → S (given n name) → S n
-  pub before_used : (n : Known) (kind : Channel) (name : List ℕ) → S (known_with (used n.shared kind name) n.locals) → S n
+  pub before_used : (n : Known) (kind : Channel) (name : List ℕ) → S (known_with (used n.shared kind name) n.locals)
+      → S n
   pub reads : (n : Known) (name : List ℕ) → S n → knows n name ≡ true → P (variable n name)
   pub gives : (n : Known) (name : List ℕ) → S (given n name) → G name → P (variable n name)
-  pub uses : (n : Known) (kind : Channel) (name : List ℕ) → S (known_with (used n.shared kind name) n.locals) → P (channel_of n.shared kind name)
+  pub uses : (n : Known) (kind : Channel) (name : List ℕ) → S (known_with (used n.shared kind name) n.locals)
+      → P (channel_of n.shared kind name)
 
 -- a variable is given whatever is known of channels
-same_locals : (s t : Shared) (l : Table) (names : List (List ℕ)) → known_with s (given_all (known_with t l) names).locals ≡ given_all (known_with s l) names
+same_locals : (s t : Shared) (l : Table) (names : List (List ℕ))
+    → known_with s (given_all (known_with t l) names).locals ≡ given_all (known_with s l) names
 same_locals s t l [] = refl
 same_locals s t l (name ∷ names) = same_locals s t (after_giving l name) names
 
-reads_right : (b c : Bool) → (if not b then Some orc.Undefined else (if not c then Some orc.RateMismatch else None)) ≡ None → b ≡ true
+reads_right : (b c : Bool)
+    → (if not b then Some orc.Undefined else (if not c then Some orc.RateMismatch else None)) ≡ None → b ≡ true
 reads_right true c h = refl
 reads_right false c h = absurd (cc h)
 
 no_rule_broken : (a b c d e : Bool)
     → (if not a then Some orc.ArgCount else (if not b then Some orc.Undefined else
-    (if not c then Some orc.RateMismatch else (if d then Some orc.ChannelRate else (if e then Some orc.OutCount else None))))) ≡ None → (a ≡ true) ×
+    (if not c then Some orc.RateMismatch else
+    (if d then Some orc.ChannelRate else (if e then Some orc.OutCount else None))))) ≡ None → (a ≡ true) ×
     (b ≡ true) × (c ≡ true)
 no_rule_broken true true true d e h = (refl, refl, refl)
 no_rule_broken true true false d e h = absurd (cc h)
@@ -89,18 +100,21 @@ module _ (P : Variable → Type 0) (S : Known → Type 0) (G : List ℕ → Type
   all_before n [] h = h
   all_before n (name ∷ names) h = w.before_given n name (all_before (given n name) names h)
 
-  channel_before : (n : Known) (role : Option Channel) (name : List ℕ) → S (known_with (use_channel n.shared role name) n.locals) → S n
+  channel_before : (n : Known) (role : Option Channel) (name : List ℕ)
+      → S (known_with (use_channel n.shared role name) n.locals) → S n
   channel_before n None name h = h
   channel_before n (Some kind) name h = w.before_used n kind name h
 
   -- the locals of a call, and then its channel
   channel_alone : (n : Known) (role : Option Channel) (name : List ℕ) (results : List (List ℕ))
-      → S (known_with (use_channel n.shared role name) (given_all n results).locals) → S (known_with (use_channel n.shared role name) n.locals)
+      → S (known_with (use_channel n.shared role name) (given_all n results).locals)
+      → S (known_with (use_channel n.shared role name) n.locals)
   channel_alone n role name results h =
       let t = use_channel n.shared role name in
       all_before (known_with t n.locals) results (subst S (same_locals t n.shared n.locals results) h)
 
-  call_before : (n : Known) (c : Callee) (results : List (List ℕ)) (args : List Argument) → S (call_known n c results args) → S n
+  call_before : (n : Known) (c : Callee) (results : List (List ℕ)) (args : List Argument)
+      → S (call_known n c results args) → S n
   call_before n (callee.Opcode o) results args h =
       let role = channel_use (row_of o).shape results args in
       channel_before n role (text_of args) (channel_alone n role (text_of args) results h)
@@ -143,10 +157,12 @@ module _ (P : Variable → Type 0) (S : Known → Type 0) (G : List ℕ → Type
   ArgumentsNamed n role args = All (EachInArgument P) (typed_arguments n role args)
 
   one_value : (n : Known) (role : Option Channel) (e : Expression) (rest : List Argument) → S n
-      → all_known n (value e ∷ rest) ≡ true → (all_known n rest ≡ true → ArgumentsNamed n role rest) → ArgumentsNamed n role (value e ∷ rest)
+      → all_known n (value e ∷ rest) ≡ true → (all_known n rest ≡ true → ArgumentsNamed n role rest)
+      → ArgumentsNamed n role (value e ∷ rest)
   one_value n role e rest s h more =
       let parts = and_parts (reads_known n e) (all_known n rest) h in
-      All-cons (EachInArgument P) (typed.value (typed_expression n e)) (typed_arguments n role rest) (named n e s parts.0) (more parts.1)
+      All-cons (EachInArgument P) (typed.value (typed_expression n e)) (typed_arguments n role rest)
+      (named n e s parts.0) (more parts.1)
 
   -- where no text leaves a trace
   plain_named : (n : Known) (args : List Argument) → S n → all_known n args ≡ true → ArgumentsNamed n None args
@@ -157,11 +173,14 @@ module _ (P : Variable → Type 0) (S : Known → Type 0) (G : List ℕ → Type
   one_text : (n : Known) (kind : Channel) (name : List ℕ) → S (known_with (used n.shared kind name) n.locals)
       → ArgumentsNamed n (Some kind) (text name ∷ [])
   one_text n kind name u =
-      All-cons (EachInArgument P) (typed.text (channel_of n.shared kind name)) [] (w.uses n kind name u) (All-nil (EachInArgument P))
+      All-cons (EachInArgument P) (typed.text (channel_of n.shared kind name)) [] (w.uses n kind name u)
+      (All-nil (EachInArgument P))
 
   -- an opcode that takes a text alone
-  text_alone : (n : Known) (kind : Channel) (args : List Argument) → (nat_le 1 (length args) && (length args - 1 == 0)) ≡ true
-      → S n → S (known_with (used n.shared kind (text_of args)) n.locals) → all_known n args ≡ true → ArgumentsNamed n (Some kind) args
+  text_alone : (n : Known) (kind : Channel) (args : List Argument)
+      → (nat_le 1 (length args) && (length args - 1 == 0)) ≡ true
+      → S n → S (known_with (used n.shared kind (text_of args)) n.locals) → all_known n args ≡ true
+      → ArgumentsNamed n (Some kind) args
   text_alone n kind [] c s u h = All-nil (EachInArgument P)
   text_alone n kind (value e ∷ []) c s u h = one_value n (Some kind) e [] s h (λ k. All-nil (EachInArgument P))
   text_alone n kind (text name ∷ []) c s u h = one_text n kind name u
@@ -178,11 +197,14 @@ module _ (P : Variable → Type 0) (S : Known → Type 0) (G : List ℕ → Type
       → ArgumentsNamed n (Some kind) (value e ∷ args)
   text_behind n kind e [] c s u h = one_value n (Some kind) e [] s h (λ k. All-nil (EachInArgument P))
   text_behind n kind e (value f ∷ []) c s u h =
-      one_value n (Some kind) e (value f ∷ []) s h (λ k. one_value n (Some kind) f [] s k (λ m. All-nil (EachInArgument P)))
-  text_behind n kind e (text name ∷ []) c s u h = one_value n (Some kind) e (text name ∷ []) s h (λ k. one_text n kind name u)
+      one_value n (Some kind) e (value f ∷ []) s h
+      (λ k. one_value n (Some kind) f [] s k (λ m. All-nil (EachInArgument P)))
+  text_behind n kind e (text name ∷ []) c s u h =
+      one_value n (Some kind) e (text name ∷ []) s h (λ k. one_text n kind name u)
   text_behind n kind e (a ∷ b ∷ rest) c s u h =
       let m = length rest in
-      let none : (suc (suc (suc m)) - 2 == 0) ≡ true = (and_parts (nat_le 2 (suc (suc (suc m)))) (suc (suc (suc m)) - 2 == 0) c).1 in
+      let none : (suc (suc (suc m)) - 2 == 0) ≡ true =
+      (and_parts (nat_le 2 (suc (suc (suc m)))) (suc (suc (suc m)) - 2 == 0) c).1 in
       let never : false ≡ true = sym (past_two m) ∙ none in
       absurd (cc never)
 
@@ -190,11 +212,13 @@ module _ (P : Variable → Type 0) (S : Known → Type 0) (G : List ℕ → Type
       → takes_count (row_of o) (length args) ≡ true → all_fit (row_of o) (bound_of results) 0 args ≡ true
       → S n → S (known_with (use_channel n.shared (channel_use (row_of o).shape results args) (text_of args)) n.locals)
       → all_known n args ≡ true → ArgumentsNamed n (channel_use (row_of o).shape results args) args
-  arguments_named n op.Chnget results args c fit s u h = text_alone n (kind_of (is_audio (bound_of results))) args c s u h
+  arguments_named n op.Chnget results args c fit s u h =
+      text_alone n (kind_of (is_audio (bound_of results))) args c s u h
   arguments_named n op.Chnclear results args c fit s u h = text_alone n channel.Sound args c s u h
   arguments_named n op.Chnset results [] c fit s u h = absurd (cc c)
   arguments_named n op.Chnset results (text name ∷ rest) c fit s u h = absurd (cc fit)
-  arguments_named n op.Chnset results (value e ∷ rest) c fit s u h = text_behind n (kind_of (any_sound (value e ∷ rest))) e rest c s u h
+  arguments_named n op.Chnset results (value e ∷ rest) c fit s u h =
+      text_behind n (kind_of (any_sound (value e ∷ rest))) e rest c s u h
   arguments_named n op.Chnmix results [] c fit s u h = absurd (cc c)
   arguments_named n op.Chnmix results (text name ∷ rest) c fit s u h = absurd (cc fit)
   arguments_named n op.Chnmix results (value e ∷ rest) c fit s u h = text_behind n channel.Sound e rest c s u h
@@ -204,15 +228,18 @@ module _ (P : Variable → Type 0) (S : Known → Type 0) (G : List ℕ → Type
 
   results_named : (n : Known) (role : Option Channel) (name : List ℕ) (none : Bool) (results : List (List ℕ))
       → (length results == (if none then 0 else 1)) ≡ true
-      → S (known_with (use_channel n.shared role name) (given_all n results).locals) → All G results → All P (map (variable n) results)
+      → S (known_with (use_channel n.shared role name) (given_all n results).locals) → All G results
+      → All P (map (variable n) results)
   results_named n role name none [] c h g = All-nil P
   results_named n role name none (x ∷ []) c h g =
-      All-cons P (variable n x) [] (w.gives n x (channel_before (given n x) role name h) (All-head G x [] g)) (All-nil P)
+      All-cons P (variable n x) [] (w.gives n x (channel_before (given n x) role name h) (All-head G x [] g))
+      (All-nil P)
   results_named n role name none (x ∷ y ∷ rest) c h g =
       let never : false ≡ true = sym (one_result (length rest) none) ∙ c in absurd (cc never)
 
   call_named : (s : Setting) (n : Known) (line : ℕ) (c : Callee) (results : List (List ℕ)) (args : List Argument)
-      → call_fault s n c results args ≡ None → S (call_known n c results args) → All G results → EachInStatement P (typed_call line n c results args)
+      → call_fault s n c results args ≡ None → S (call_known n c results args) → All G results
+      → EachInStatement P (typed_call line n c results args)
   call_named s n line (callee.Name name) results args h after g = absurd (cc h)
   call_named s n line (callee.Opcode o) results args h after g =
       let row = row_of o in
@@ -233,7 +260,8 @@ module _ (P : Variable → Type 0) (S : Known → Type 0) (G : List ℕ → Type
   -- ---- statements
 
   mutual
-    stmt_named : (s : Setting) (n : Known) (x : Statement) → fault s n x ≡ None → S (known n x) → Give G x → EachInStatement P (typed_statement n x)
+    stmt_named : (s : Setting) (n : Known) (x : Statement) → fault s n x ≡ None → S (known n x) → Give G x
+        → EachInStatement P (typed_statement n x)
     stmt_named s n (set line name e) h after g =
         let right = reads_right (reads_known n e) (may_set s name e) (at_none line (set_fault s n name e) h) in
         (w.gives n name after g, named n e (w.before_given n name after) right)
@@ -241,20 +269,27 @@ module _ (P : Variable → Type 0) (S : Known → Type 0) (G : List ℕ → Type
         call_named s n line c results args (at_none line (call_fault s n c results args) h) after g
     stmt_named s n (choose line list) h after g = arms_named s n line list h after g
 
-    pub block_named : (s : Setting) (n : Known) (b : Block) → block_fault s n b ≡ None → S (known_block n b) → BlockGives G b
+    pub block_named : (s : Setting) (n : Known) (b : Block) → block_fault s n b ≡ None → S (known_block n b)
+        → BlockGives G b
         → EachInBlock P (typed_block n b)
     block_named s n no_stmt h after g = tt
     block_named s n (andthen x rest) h after g =
-        let parts = both_none (fault s n x) (block_fault s (known n x) rest) h in
-        (stmt_named s n x parts.0 (block_before (known n x) rest after) g.0, block_named s (known n x) rest parts.1 after g.1)
+        let parts = both_none (fault s n x) (block_fault s (known n x) rest) h in (
+          stmt_named s n x parts.0 (block_before (known n x) rest after) g.0,
+          block_named s (known n x) rest parts.1
+              after g.1,
+        )
 
-    arms_named : (s : Setting) (n : Known) (line : ℕ) (list : Arms) → arms_fault s n line list ≡ None → S (known_arms n list) → ArmsGive G list
+    arms_named : (s : Setting) (n : Known) (line : ℕ) (list : Arms) → arms_fault s n line list ≡ None
+        → S (known_arms n list) → ArmsGive G list
         → EachInArms P (typed_arms n list)
     arms_named s n line (otherwise b) h after g = block_named s n b h after g
     arms_named s n line (arm c b rest) h after g =
-        let parts = both_none (at line (condition_fault s n c)) (option_or (block_fault s n b) (arms_fault s (known_block n b) line rest)) h in
+        let parts = both_none (at line (condition_fault s n c))
+        (option_or (block_fault s n b) (arms_fault s (known_block n b) line rest)) h in
         let more = both_none (block_fault s n b) (arms_fault s (known_block n b) line rest) parts.1 in
-        let right = reads_right (reads_known n c) (is_condition c && (s.inside || is_init (rate_of c))) (at_none line (condition_fault s n c) parts.0) in
+        let right = reads_right (reads_known n c) (is_condition c && (s.inside || is_init (rate_of c)))
+        (at_none line (condition_fault s n c) parts.0) in
         let first = arms_before (known_block n b) rest after in (
           named n c (block_before n b first) right,
           block_named s n b more.0 first g.0,

@@ -1,5 +1,6 @@
 -- What an orchestra without a fault becomes agrees with the rules of rates.
-use Rattle.std.proofs.Common.{◌≡◌, ◌∙◌, ℕ, Bool, true, false, not, ◌&&◌, ◌||◌, if◌then◌else◌, List, [], ◌∷◌, Option, Some, None, refl, sym, ap}
+use Rattle.std.proofs.Common.{◌≡◌, ◌∙◌, ℕ, Bool, true, false, not, ◌&&◌, ◌||◌, if◌then◌else◌, List, [], ◌∷◌, Option}
+use Rattle.std.proofs.Common.{Some, None, refl, sym, ap}
 use Rattle.std.specs.List.{All}
 use Rattle.std.specs.Option.{option_or}
 use Rattle.std.proofs.lemmas.Bool.{and_parts}
@@ -10,15 +11,18 @@ use Rattle.cs_base.specs.declared.fault.OrcKind.{OrcKind}
 use Rattle.cs_base.specs.declared.fault.OrcKind.TheVariants as orc
 use Rattle.cs_base.specs.declared.resource.Rate.TheVariants as rate
 use Rattle.cs_words.specs.Names.{name_rate}
-use Rattle.cs_grammar.specs.Tree.{Expression, Statement, set, call, choose, Block, no_stmt, andthen, Arms, otherwise, arm}
+use Rattle.cs_grammar.specs.Tree.{Expression, Statement, set, call, choose, Block, no_stmt, andthen, Arms, otherwise}
+use Rattle.cs_grammar.specs.Tree.{arm}
 use Rattle.cs_typed.specs.Places.{outside, inside}
 use Rattle.cs_typed.specs.declared.setting.Setting.{Setting}
 use Rattle.cs_typing.specs.Calls.{call_fault}
 use Rattle.cs_typing.specs.Expressions.{is_value, is_condition, rate_of, reads_known, typed_expression}
 use Rattle.cs_typing.specs.Known.{Known, variable}
 use Rattle.cs_typing.specs.Settings.{at}
-use Rattle.cs_typing.specs.Statements.{set_fault, condition_fault, fault, block_fault, arms_fault, known, known_block, all_init, typed_statement, typed_block, typed_arms}
-use Rattle.cs_typing.specs.Typing.{Item, alone, body, entered, known_item, item_fault, items_fault, typed_outside, typed_instrument, typed_instruments}
+use Rattle.cs_typing.specs.Statements.{set_fault, condition_fault, fault, block_fault, arms_fault, known, known_block}
+use Rattle.cs_typing.specs.Statements.{all_init, typed_statement, typed_block, typed_arms}
+use Rattle.cs_typing.specs.Typing.{Item, alone, body, entered, known_item, item_fault, items_fault, typed_outside}
+use Rattle.cs_typing.specs.Typing.{typed_instrument, typed_instruments}
 use Rattle.cs_typed.specs.TypedTree as typed
 use Rattle.cs_typed.specs.WellRated.{node_rate, IsRatedSet, all_still, IsRatedStatement, IsRatedBlock, IsRatedArms}
 use Rattle.cs_typing.proofs.RatedExpressions.{node_is, variable_rate, no_sound, value_rated, condition_rated}
@@ -32,13 +36,16 @@ pub both_none : (f g : Option OrcFault) → option_or f g ≡ None → (f ≡ No
 both_none None g h = (refl, h)
 both_none (Some f) g h = absurd (cc h)
 
-no_rule_broken : (b c : Bool) → (if not b then Some orc.Undefined else (if not c then Some orc.RateMismatch else None)) ≡ None → c ≡ true
+no_rule_broken : (b c : Bool)
+    → (if not b then Some orc.Undefined else (if not c then Some orc.RateMismatch else None)) ≡ None → c ≡ true
 no_rule_broken true true h = refl
 no_rule_broken true false h = absurd (cc h)
 no_rule_broken false c h = absurd (cc h)
 
-set_rated : (s : Setting) (n : Known) (name : List ℕ) (e : Expression) → is_value e ≡ true → within (rate_of e) (name_rate name) ≡ true
-    → (s.inside || is_init (name_rate name)) ≡ true → IsRatedSet s (name_rate name) (variable n name) (typed_expression n e)
+set_rated : (s : Setting) (n : Known) (name : List ℕ) (e : Expression) → is_value e ≡ true
+    → within (rate_of e) (name_rate name) ≡ true
+    → (s.inside || is_init (name_rate name)) ≡ true
+    → IsRatedSet s (name_rate name) (variable n name) (typed_expression n e)
 set_rated s n name e v w p = (
   sym (variable_rate n name).0,
   (variable_rate n name).1,
@@ -54,11 +61,14 @@ still_arms n (arm c b rest) =
     ∙ ap (λ x. is_init (node_rate (typed_expression n c)) && x) (still_arms (known_block n b) rest)
 
 mutual
-  pub stmt_rated : (s : Setting) (n : Known) (x : Statement) → fault s n x ≡ None → IsRatedStatement s (typed_statement n x)
+  pub stmt_rated : (s : Setting) (n : Known) (x : Statement) → fault s n x ≡ None
+      → IsRatedStatement s (typed_statement n x)
   stmt_rated s n (set line name e) h =
-      let may = no_rule_broken (reads_known n e) (is_value e && within (rate_of e) (name_rate name) && (s.inside || is_init (name_rate name)))
+      let may = no_rule_broken (reads_known n e)
+      (is_value e && within (rate_of e) (name_rate name) && (s.inside || is_init (name_rate name)))
       (at_none line (set_fault s n name e) h) in
-      let parts = and_parts (is_value e && within (rate_of e) (name_rate name)) (s.inside || is_init (name_rate name)) may in
+      let parts = and_parts (is_value e && within (rate_of e) (name_rate name)) (s.inside || is_init (name_rate name))
+      may in
       let first = and_parts (is_value e) (within (rate_of e) (name_rate name)) parts.0 in
       set_rated s n name e first.0 first.1 parts.1
   stmt_rated s n (call line results callee args) h =
@@ -72,12 +82,15 @@ mutual
       let parts = both_none (fault s n x) (block_fault s (known n x) rest) h in
       (stmt_rated s n x parts.0, block_rated s (known n x) rest parts.1)
 
-  arms_rated : (s : Setting) (n : Known) (line : ℕ) (list : Arms) → arms_fault s n line list ≡ None → IsRatedArms s (typed_arms n list)
+  arms_rated : (s : Setting) (n : Known) (line : ℕ) (list : Arms) → arms_fault s n line list ≡ None
+      → IsRatedArms s (typed_arms n list)
   arms_rated s n line (otherwise b) h = block_rated s n b h
   arms_rated s n line (arm c b rest) h =
-      let parts = both_none (at line (condition_fault s n c)) (option_or (block_fault s n b) (arms_fault s (known_block n b) line rest)) h in
+      let parts = both_none (at line (condition_fault s n c))
+      (option_or (block_fault s n b) (arms_fault s (known_block n b) line rest)) h in
       let more = both_none (block_fault s n b) (arms_fault s (known_block n b) line rest) parts.1 in
-      let may = no_rule_broken (reads_known n c) (is_condition c && (s.inside || is_init (rate_of c))) (at_none line (condition_fault s n c) parts.0) in
+      let may = no_rule_broken (reads_known n c) (is_condition c && (s.inside || is_init (rate_of c)))
+      (at_none line (condition_fault s n c) parts.0) in
       let both = and_parts (is_condition c) (s.inside || is_init (rate_of c)) may in (
         condition_rated n c both.0,
         ap is_audio (node_is n c) ∙ no_sound c both.0,
@@ -86,12 +99,14 @@ mutual
         arms_rated s (known_block n b) line rest more.1,
       )
 
-then_rated : (s : Setting) (a b : typed.Block) → IsRatedBlock s a → IsRatedBlock s b → IsRatedBlock s (typed.then_block a b)
+then_rated : (s : Setting) (a b : typed.Block) → IsRatedBlock s a → IsRatedBlock s b
+    → IsRatedBlock s (typed.then_block a b)
 then_rated s typed.no_stmt b p q = q
 then_rated s (typed.andthen x rest) b p q = (p.0, then_rated s rest b p.1 q)
 
 pub items_rated : (channels : ℕ) (n : Known) (list : List Item) → items_fault channels n list ≡ None
-    → IsRatedBlock (outside channels) (typed_outside n list) × All (λ i. IsRatedBlock (inside channels) i.body) (typed_instruments n list)
+    → IsRatedBlock (outside channels) (typed_outside n list)
+    × All (λ i. IsRatedBlock (inside channels) i.body) (typed_instruments n list)
 items_rated channels n [] h = (tt, All-nil (λ i. IsRatedBlock (inside channels) i.body))
 items_rated channels n (alone b ∷ rest) h =
     let parts = both_none (item_fault channels n (alone b)) (items_fault channels (known_item n (alone b)) rest) h in
@@ -104,6 +119,7 @@ items_rated channels n (body i ∷ rest) h =
     let parts = both_none (item_fault channels n (body i)) (items_fault channels (known_item n (body i)) rest) h in
     let after = items_rated channels (known_item n (body i)) rest parts.1 in (
       after.0,
-      All-cons (λ x. IsRatedBlock (inside channels) x.body) (typed_instrument n i) (typed_instruments (known_item n (body i)) rest)
+      All-cons (λ x. IsRatedBlock (inside channels) x.body) (typed_instrument n i)
+          (typed_instruments (known_item n (body i)) rest)
           (block_rated (inside channels) (entered n) i.body parts.0) after.1,
     )

@@ -1,5 +1,7 @@
 -- The typed form of a call without a fault agrees with the row of its opcode.
-use Rattle.std.proofs.Common.{◌≡◌, ◌∙◌, ℕ, zero, suc, ◌+◌, ◌-◌, ◌%◌, ◌==◌, Bool, true, false, not, ◌&&◌, ◌||◌, nat_lt, nat_le, if◌then◌else◌, List, [], ◌∷◌, length, map, slice_get, Option, Some, None, arith, refl, sym, ap}
+use Rattle.std.proofs.Common.{◌≡◌, ◌∙◌, ℕ, zero, suc, ◌+◌, ◌-◌, ◌%◌, ◌==◌, Bool, true, false, not, ◌&&◌, ◌||◌, nat_lt}
+use Rattle.std.proofs.Common.{nat_le, if◌then◌else◌, List, [], ◌∷◌, length, map, slice_get, Option, Some, None, arith}
+use Rattle.std.proofs.Common.{refl, sym, ap}
 use Rattle.std.specs.List.{All, list_any, list_all}
 use Rattle.std.specs.Option.{unwrap_or}
 use Rattle.std.proofs.Math.Numerals.{add-one}
@@ -27,11 +29,15 @@ use Rattle.cs_typed.specs.Places.{stands_outside, is_starting, is_writing}
 use Rattle.cs_typed.specs.declared.setting.Setting.{Setting}
 use Rattle.cs_typing.specs.declared.known.Channel.{Channel}
 use Rattle.cs_typing.specs.declared.known.Channel.TheVariants as channel
-use Rattle.cs_typing.specs.Calls.{fits, all_fit, bound_of, may_result, is_sound, is_even, kind_of, any_sound, channel_use, text_of, is_too_wide, all_known, rates_agree, counts_agree, row_fault, call_fault, is_still, call_rate, typed_arguments, typed_call}
+use Rattle.cs_typing.specs.Calls.{fits, all_fit, bound_of, may_result, is_sound, is_even, kind_of, any_sound}
+use Rattle.cs_typing.specs.Calls.{channel_use, text_of, is_too_wide, all_known, rates_agree, counts_agree, row_fault}
+use Rattle.cs_typing.specs.Calls.{call_fault, is_still, call_rate, typed_arguments, typed_call}
 use Rattle.cs_typing.specs.Expressions.{is_value, rate_of, typed_expression}
 use Rattle.cs_typing.specs.Known.{Known, Shared, variable, channel_of, clashes}
 use Rattle.cs_typed.specs.TypedTree as typed
-use Rattle.cs_typed.specs.WellRated.{var_rate, is_variable, is_channel, node_rate, IsRatedArgument, row_left, fits_letter, fit_letters, bound_by, may_give, goes_beyond, stores_evenly, suits_channel, keeps_still, is_of_sound, done_at, IsRatedCall, IsRatedStatement}
+use Rattle.cs_typed.specs.WellRated.{var_rate, is_variable, is_channel, node_rate, IsRatedArgument, row_left}
+use Rattle.cs_typed.specs.WellRated.{fits_letter, fit_letters, bound_by, may_give, goes_beyond, stores_evenly}
+use Rattle.cs_typed.specs.WellRated.{suits_channel, keeps_still, is_of_sound, done_at, IsRatedCall, IsRatedStatement}
 use Rattle.cs_typing.proofs.RatedExpressions.{node_is, variable_rate, not_true, value_rated}
 
 -- ---- letters that take no text
@@ -39,8 +45,10 @@ use Rattle.cs_typing.proofs.RatedExpressions.{node_is, variable_rate, not_true, 
 at_fixed : (ls : List Letter) (l : Letter) (j : ℕ) → list_all (λ m. not (is_text m)) ls ≡ true → is_text l ≡ false
     → is_text (unwrap_or (slice_get ls j) l) ≡ false
 at_fixed [] l j h k = k
-at_fixed (m ∷ ls) l zero h k = not_true (is_text m) (and_parts (not (is_text m)) (list_all (λ p. not (is_text p)) ls) h).0
-at_fixed (m ∷ ls) l (suc j) h k = at_fixed ls l j (and_parts (not (is_text m)) (list_all (λ p. not (is_text p)) ls) h).1 k
+at_fixed (m ∷ ls) l zero h k =
+    not_true (is_text m) (and_parts (not (is_text m)) (list_all (λ p. not (is_text p)) ls) h).0
+at_fixed (m ∷ ls) l (suc j) h k =
+    at_fixed ls l j (and_parts (not (is_text m)) (list_all (λ p. not (is_text p)) ls) h).1 k
 
 abbrev no_text_after : More → Bool
 no_text_after more.Nothing = true
@@ -60,17 +68,22 @@ at_further (more.Pairs l m) j h =
     let parts = and_parts (not (is_text l)) (not (is_text m)) h in
     one_of (j % 2 == 0) l m (not_true (is_text l) parts.0) (not_true (is_text m) parts.1)
 
-no_text : (row : Row) → list_all (λ m. not (is_text m)) row.fixed ≡ true → no_text_after row.more ≡ true → (j : ℕ) → is_text (letter_at row j) ≡ false
-no_text row h k j = at_fixed row.fixed (further row.more (j - length row.fixed)) j h (at_further row.more (j - length row.fixed) k)
+no_text : (row : Row) → list_all (λ m. not (is_text m)) row.fixed ≡ true → no_text_after row.more ≡ true → (j : ℕ)
+    → is_text (letter_at row j) ≡ false
+no_text row h k j = at_fixed row.fixed (further row.more (j - length row.fixed)) j h
+    (at_further row.more (j - length row.fixed) k)
 
 -- ---- arguments where no text leaves a trace
 
-fits_value : (n : Known) (l m : Letter) (b : Rate) (e : _) → l ≡ m → takes l b (rate_of e) ≡ true → takes m b (node_rate (typed_expression n e)) ≡ true
-fits_value n l m b e same h = ap (λ p. takes p b (node_rate (typed_expression n e))) (sym same) ∙ ap (λ r. takes l b r) (node_is n e) ∙ h
+fits_value : (n : Known) (l m : Letter) (b : Rate) (e : _) → l ≡ m → takes l b (rate_of e) ≡ true
+    → takes m b (node_rate (typed_expression n e)) ≡ true
+fits_value n l m b e same h =
+    ap (λ p. takes p b (node_rate (typed_expression n e))) (sym same) ∙ ap (λ r. takes l b r) (node_is n e) ∙ h
 
 -- letters of a row from a place on, as another row has them
 plain_letters : (n : Known) (row left : Row) (b : Rate) (d : ℕ) → ((j : ℕ) → letter_at row (j + d) ≡ letter_at left j)
-    → ((j : ℕ) → is_text (letter_at left j) ≡ false) → (args : List Argument) (m k : ℕ) → m ≡ k + d → all_fit row b m args ≡ true
+    → ((j : ℕ) → is_text (letter_at left j) ≡ false) → (args : List Argument) (m k : ℕ) → m ≡ k + d
+    → all_fit row b m args ≡ true
     → (fit_letters left b k (typed_arguments n None args) ≡ true) × (length (typed_arguments n None args) ≡ length args)
 plain_letters n row left b d same none [] m k e h = (refl, refl)
 plain_letters n row left b d same none (value x ∷ rest) m k e h =
@@ -78,7 +91,8 @@ plain_letters n row left b d same none (value x ∷ rest) m k e h =
     let first = and_parts (is_value x) (takes (letter_at row m) b (rate_of x)) parts.0 in
     let after = plain_letters n row left b d same none rest (m + 1) (k + 1) (omega (arith, e)) parts.1 in
     let letter = ap (λ j. letter_at row j) e ∙ same k in (
-      and_from (fits_letter (letter_at left k) b (typed.value (typed_expression n x))) (fit_letters left b (k + 1) (typed_arguments n None rest))
+      and_from (fits_letter (letter_at left k) b (typed.value (typed_expression n x)))
+          (fit_letters left b (k + 1) (typed_arguments n None rest))
           (fits_value n (letter_at row m) (letter_at left k) b x letter first.1) after.0,
       ap (λ j. suc j) after.1,
     )
@@ -91,21 +105,26 @@ plain_letters n row left b d same none (text name ∷ rest) m k e h =
 and_none : (j : ℕ) → j + 0 ≡ j
 and_none j = omega arith
 
-plain_row : (n : Known) (row : Row) (b : Rate) (args : List Argument) → list_all (λ m. not (is_text m)) row.fixed ≡ true → no_text_after row.more ≡ true
-    → all_fit row b 0 args ≡ true → (fit_letters row b 0 (typed_arguments n None args) ≡ true) × (length (typed_arguments n None args) ≡ length args)
+plain_row : (n : Known) (row : Row) (b : Rate) (args : List Argument) → list_all (λ m. not (is_text m)) row.fixed ≡ true
+    → no_text_after row.more ≡ true
+    → all_fit row b 0 args ≡ true
+    → (fit_letters row b 0 (typed_arguments n None args) ≡ true) × (length (typed_arguments n None args) ≡ length args)
 plain_row n row b args f g h =
     plain_letters n row row b 0 (λ j. ap (λ i. letter_at row i) (and_none j)) (no_text row f g) args 0 0 refl h
 
 -- ---- arguments where a text is a channel
 
-kept_letters : (n : Known) (kind : Channel) (row : Row) (b : Rate) (args : List Argument) (k : ℕ) → all_fit row b k args ≡ true
-    → (fit_letters row b k (typed_arguments n (Some kind) args) ≡ true) × (length (typed_arguments n (Some kind) args) ≡ length args)
+kept_letters : (n : Known) (kind : Channel) (row : Row) (b : Rate) (args : List Argument) (k : ℕ)
+    → all_fit row b k args ≡ true
+    → (fit_letters row b k (typed_arguments n (Some kind) args) ≡ true)
+    × (length (typed_arguments n (Some kind) args) ≡ length args)
 kept_letters n kind row b [] k h = (refl, refl)
 kept_letters n kind row b (value x ∷ rest) k h =
     let parts = and_parts (fits (letter_at row k) b (value x)) (all_fit row b (k + 1) rest) h in
     let first = and_parts (is_value x) (takes (letter_at row k) b (rate_of x)) parts.0 in
     let after = kept_letters n kind row b rest (k + 1) parts.1 in (
-      and_from (fits_letter (letter_at row k) b (typed.value (typed_expression n x))) (fit_letters row b (k + 1) (typed_arguments n (Some kind) rest))
+      and_from (fits_letter (letter_at row k) b (typed.value (typed_expression n x)))
+          (fit_letters row b (k + 1) (typed_arguments n (Some kind) rest))
           (fits_value n (letter_at row k) (letter_at row k) b x refl first.1) after.0,
       ap (λ j. suc j) after.1,
     )
@@ -140,40 +159,52 @@ event_letters n b (value x ∷ rest) c h =
     let parts = and_parts (is_value x && false) (all_fit (row_of op.EventI) b 1 rest) h in
     absurd (cc (and_parts (is_value x) false parts.0).1)
 event_letters n b (text name ∷ rest) c h =
-    let after = plain_letters n (row_of op.EventI) (row_of op.Schedule) b 1 asked (no_text (row_of op.Schedule) refl refl) rest 1 0 refl h in
+    let after = plain_letters n (row_of op.EventI) (row_of op.Schedule) b 1 asked
+    (no_text (row_of op.Schedule) refl refl) rest 1 0 refl h in
     (after.0, ap (λ m. takes_count (row_of op.Schedule) m) after.1 ∙ one_less (length rest) c)
 
 -- ---- any opcode
 
-plain : (n : Known) (row : Row) (b : Rate) (args : List Argument) → list_all (λ m. not (is_text m)) row.fixed ≡ true → no_text_after row.more ≡ true
+plain : (n : Known) (row : Row) (b : Rate) (args : List Argument) → list_all (λ m. not (is_text m)) row.fixed ≡ true
+    → no_text_after row.more ≡ true
     → takes_count row (length args) ≡ true → all_fit row b 0 args ≡ true
-    → (fit_letters row b 0 (typed_arguments n None args) ≡ true) × (takes_count row (length (typed_arguments n None args)) ≡ true)
+    → (fit_letters row b 0 (typed_arguments n None args) ≡ true)
+    × (takes_count row (length (typed_arguments n None args)) ≡ true)
 plain n row b args f g c h =
     let made = plain_row n row b args f g h in (made.0, ap (λ m. takes_count row m) made.1 ∙ c)
 
-kept : (n : Known) (kind : Channel) (row : Row) (b : Rate) (args : List Argument) → takes_count row (length args) ≡ true → all_fit row b 0 args ≡ true
-    → (fit_letters row b 0 (typed_arguments n (Some kind) args) ≡ true) × (takes_count row (length (typed_arguments n (Some kind) args)) ≡ true)
+kept : (n : Known) (kind : Channel) (row : Row) (b : Rate) (args : List Argument) → takes_count row (length args) ≡ true
+    → all_fit row b 0 args ≡ true
+    → (fit_letters row b 0 (typed_arguments n (Some kind) args) ≡ true)
+    × (takes_count row (length (typed_arguments n (Some kind) args)) ≡ true)
 kept n kind row b args c h =
     let made = kept_letters n kind row b args 0 h in (made.0, ap (λ m. takes_count row m) made.1 ∙ c)
 
-letters_right : (n : Known) (o : Opcode) (b : Rate) (results : List (List ℕ)) (args : List Argument) → takes_count (row_of o) (length args) ≡ true
+letters_right : (n : Known) (o : Opcode) (b : Rate) (results : List (List ℕ)) (args : List Argument)
+    → takes_count (row_of o) (length args) ≡ true
     → all_fit (row_of o) b 0 args ≡ true
     → (fit_letters (row_left o) b 0 (typed_arguments n (channel_use (row_of o).shape results args) args) ≡ true) ×
     (takes_count (row_left o) (length (typed_arguments n (channel_use (row_of o).shape results args) args)) ≡ true)
-letters_right n op.Chnget b results args c h = kept n (kind_of (is_audio (bound_of results))) (row_of op.Chnget) b args c h
+letters_right n op.Chnget b results args c h =
+    kept n (kind_of (is_audio (bound_of results))) (row_of op.Chnget) b args c h
 letters_right n op.Chnset b results args c h = kept n (kind_of (any_sound args)) (row_of op.Chnset) b args c h
 letters_right n op.Chnmix b results args c h = kept n channel.Sound (row_of op.Chnmix) b args c h
 letters_right n op.Chnclear b results args c h = kept n channel.Sound (row_of op.Chnclear) b args c h
 letters_right n op.EventI b results args c h = event_letters n b args c h
 letters_right n o b results args c h = plain n (row_of o) b args refl refl c h
 
-channels_right : (n : Known) (s : Setting) (o : Opcode) (b : Rate) (results : List (List ℕ)) (args : List Argument) → all_fit (row_of o) b 0 args ≡ true
-    → is_too_wide s (row_of o).shape args ≡ false → goes_beyond s (row_of o).shape (typed_arguments n (channel_use (row_of o).shape results args) args) ≡ false
-channels_right n s op.Out b results args h wide = ap (λ m. nat_lt s.channels m) (plain_row n (row_of op.Out) b args refl refl h).1 ∙ wide
-channels_right n s op.Outs b results args h wide = ap (λ m. nat_lt s.channels m) (plain_row n (row_of op.Outs) b args refl refl h).1 ∙ wide
+channels_right : (n : Known) (s : Setting) (o : Opcode) (b : Rate) (results : List (List ℕ)) (args : List Argument)
+    → all_fit (row_of o) b 0 args ≡ true
+    → is_too_wide s (row_of o).shape args ≡ false
+    → goes_beyond s (row_of o).shape (typed_arguments n (channel_use (row_of o).shape results args) args) ≡ false
+channels_right n s op.Out b results args h wide =
+    ap (λ m. nat_lt s.channels m) (plain_row n (row_of op.Out) b args refl refl h).1 ∙ wide
+channels_right n s op.Outs b results args h wide =
+    ap (λ m. nat_lt s.channels m) (plain_row n (row_of op.Outs) b args refl refl h).1 ∙ wide
 channels_right n s o b results args h wide = refl
 
-even_right : (n : Known) (b : Rate) (args : List Argument) → all_fit (row_of op.Tablew) b 0 args ≡ true → is_even shape.Store args ≡ true
+even_right : (n : Known) (b : Rate) (args : List Argument) → all_fit (row_of op.Tablew) b 0 args ≡ true
+    → is_even shape.Store args ≡ true
     → stores_evenly shape.Store (typed_arguments n None args) ≡ true
 even_right n b [] h e = refl
 even_right n b (text name ∷ rest) h e = absurd (cc (and_parts false (all_fit (row_of op.Tablew) b 1 rest) h).0)
@@ -187,8 +218,10 @@ even_right n b (value x ∷ value y ∷ rest) h e =
     ∙ ap (λ r. if is_audio (rate_of x) then is_audio r else not (is_audio r)) (node_is n y)
     ∙ e
 
-stores_right : (n : Known) (o : Opcode) (b : Rate) (results : List (List ℕ)) (args : List Argument) → all_fit (row_of o) b 0 args ≡ true
-    → is_even (row_of o).shape args ≡ true → stores_evenly (row_of o).shape (typed_arguments n (channel_use (row_of o).shape results args) args) ≡ true
+stores_right : (n : Known) (o : Opcode) (b : Rate) (results : List (List ℕ)) (args : List Argument)
+    → all_fit (row_of o) b 0 args ≡ true
+    → is_even (row_of o).shape args ≡ true
+    → stores_evenly (row_of o).shape (typed_arguments n (channel_use (row_of o).shape results args) args) ≡ true
 stores_right n op.Tablew b results args h e = even_right n b args h e
 stores_right n o b results args h e = refl
 
@@ -196,19 +229,24 @@ channel_made : (s : Shared) (kind : Channel) (name : List ℕ) → is_channel (c
 channel_made s channel.Control name = refl
 channel_made s channel.Sound name = refl
 
-parts_rated : (n : Known) (role : Option Channel) (row : Row) (b : Rate) (args : List Argument) (k : ℕ) → all_fit row b k args ≡ true
+parts_rated : (n : Known) (role : Option Channel) (row : Row) (b : Rate) (args : List Argument) (k : ℕ)
+    → all_fit row b k args ≡ true
     → All IsRatedArgument (typed_arguments n role args)
 parts_rated n role row b [] k h = All-nil IsRatedArgument
 parts_rated n role row b (value x ∷ rest) k h =
     let parts = and_parts (fits (letter_at row k) b (value x)) (all_fit row b (k + 1) rest) h in
     let first = and_parts (is_value x) (takes (letter_at row k) b (rate_of x)) parts.0 in
-    All-cons IsRatedArgument (typed.value (typed_expression n x)) (typed_arguments n role rest) (value_rated n x first.0)
+    All-cons IsRatedArgument (typed.value (typed_expression n x)) (typed_arguments n role rest)
+    (value_rated n x first.0)
     (parts_rated n role row b rest (k + 1) parts.1)
 parts_rated n None row b (text name ∷ rest) k h =
-    parts_rated n None row b rest (k + 1) (and_parts (fits (letter_at row k) b (text name)) (all_fit row b (k + 1) rest) h).1
+    parts_rated n None row b rest (k + 1)
+    (and_parts (fits (letter_at row k) b (text name)) (all_fit row b (k + 1) rest) h).1
 parts_rated n (Some kind) row b (text name ∷ rest) k h =
-    All-cons IsRatedArgument (typed.text (channel_of n.shared kind name)) (typed_arguments n (Some kind) rest) (channel_made n.shared kind name)
-    (parts_rated n (Some kind) row b rest (k + 1) (and_parts (fits (letter_at row k) b (text name)) (all_fit row b (k + 1) rest) h).1)
+    All-cons IsRatedArgument (typed.text (channel_of n.shared kind name)) (typed_arguments n (Some kind) rest)
+    (channel_made n.shared kind name)
+    (parts_rated n (Some kind) row b rest (k + 1)
+    (and_parts (fits (letter_at row k) b (text name)) (all_fit row b (k + 1) rest) h).1)
 
 given_right : (n : Known) (row : Row) (results : List (List ℕ)) → list_all (may_result row) results ≡ true
     → list_all (may_give row) (map (variable n) results) ≡ true
@@ -224,17 +262,21 @@ bound_right : (n : Known) (results : List (List ℕ)) → bound_of results ≡ b
 bound_right n [] = refl
 bound_right n (name ∷ rest) = sym (variable_rate n name).0
 
-still_right : (n : Known) (role : Option Channel) (args : List Argument) → list_all keeps_still (typed_arguments n role args) ≡ list_all is_still args
+still_right : (n : Known) (role : Option Channel) (args : List Argument)
+    → list_all keeps_still (typed_arguments n role args) ≡ list_all is_still args
 still_right n role [] = refl
 still_right n role (value x ∷ rest) =
-    ap (λ r. is_init r && list_all keeps_still (typed_arguments n role rest)) (node_is n x) ∙ ap (λ b. is_init (rate_of x) && b) (still_right n role rest)
+    ap (λ r. is_init r && list_all keeps_still (typed_arguments n role rest)) (node_is n x)
+    ∙ ap (λ b. is_init (rate_of x) && b) (still_right n role rest)
 still_right n None (text name ∷ rest) = still_right n None rest
 still_right n (Some kind) (text name ∷ rest) = still_right n (Some kind) rest
 
-sound_right : (n : Known) (role : Option Channel) (args : List Argument) → list_any is_of_sound (typed_arguments n role args) ≡ list_any is_sound args
+sound_right : (n : Known) (role : Option Channel) (args : List Argument)
+    → list_any is_of_sound (typed_arguments n role args) ≡ list_any is_sound args
 sound_right n role [] = refl
 sound_right n role (value x ∷ rest) =
-    ap (λ r. is_audio r || list_any is_of_sound (typed_arguments n role rest)) (node_is n x) ∙ ap (λ b. is_audio (rate_of x) || b) (sound_right n role rest)
+    ap (λ r. is_audio r || list_any is_of_sound (typed_arguments n role rest)) (node_is n x)
+    ∙ ap (λ b. is_audio (rate_of x) || b) (sound_right n role rest)
 sound_right n None (text name ∷ rest) = sound_right n None rest
 sound_right n (Some kind) (text name ∷ rest) = sound_right n (Some kind) rest
 
@@ -243,10 +285,13 @@ done_right : (n : Known) (role : Option Channel) (sh : Shape) (results : List (L
 done_right n role sh [] args =
     let made = typed_arguments n role args in
     sym (ap (λ b. if is_starting sh then rate.Init else
-    (if is_writing sh && b then rate.Init else (if list_any is_of_sound made then rate.Audio else rate.Control))) (still_right n role args)
+    (if is_writing sh && b then rate.Init else (if list_any is_of_sound made then rate.Audio else rate.Control)))
+    (still_right n role args)
     ∙ ap (λ b. if is_starting sh then rate.Init else
-    (if is_writing sh && list_all is_still args then rate.Init else (if b then rate.Audio else rate.Control))) (sound_right n role args))
-done_right n role sh (name ∷ rest) args = ap (λ r. if is_starting sh then rate.Init else r) (sym (variable_rate n name).0)
+    (if is_writing sh && list_all is_still args then rate.Init else (if b then rate.Audio else rate.Control)))
+    (sound_right n role args))
+done_right n role sh (name ∷ rest) args =
+    ap (λ r. if is_starting sh then rate.Init else r) (sym (variable_rate n name).0)
 
 -- ---- a channel suits its use
 
@@ -265,8 +310,10 @@ or_none false = refl
 past_two : (m : ℕ) → (suc (suc (suc m)) - 2 == 0) ≡ false
 past_two m = grind (arith, nat_tests)
 
-suits_right : (n : Known) (o : Opcode) (results : List (List ℕ)) (args : List Argument) → takes_count (row_of o) (length args) ≡ true
-    → suits_channel (row_of o).shape (map (variable n) results) (typed_arguments n (channel_use (row_of o).shape results args) args) ≡ true
+suits_right : (n : Known) (o : Opcode) (results : List (List ℕ)) (args : List Argument)
+    → takes_count (row_of o) (length args) ≡ true
+    → suits_channel (row_of o).shape (map (variable n) results)
+    (typed_arguments n (channel_use (row_of o).shape results args) args) ≡ true
 suits_right n op.Chnget [] args c = refl
 suits_right n op.Chnget (name ∷ names) [] c = refl
 suits_right n op.Chnget (name ∷ names) (value x ∷ rest) c = refl
@@ -280,11 +327,13 @@ suits_right n op.Chnset results (value x ∷ []) c = refl
 suits_right n op.Chnset results (value x ∷ value y ∷ rest) c = refl
 suits_right n op.Chnset results (value x ∷ text t ∷ []) c =
     let sound = any_sound (value x ∷ text t ∷ []) in
-    sound_agrees (is_audio (node_rate (typed_expression n x))) (is_audio (var_rate (channel_of n.shared (kind_of sound) t)))
+    sound_agrees (is_audio (node_rate (typed_expression n x)))
+    (is_audio (var_rate (channel_of n.shared (kind_of sound) t)))
     (channel_rate n.shared sound t ∙ or_none (is_audio (rate_of x)) ∙ sym (ap is_audio (node_is n x)))
 suits_right n op.Chnset results (value x ∷ text t ∷ a ∷ rest) c =
     let m = length rest in
-    let none : (suc (suc (suc m)) - 2 == 0) ≡ true = (and_parts (nat_le 2 (suc (suc (suc m)))) (suc (suc (suc m)) - 2 == 0) c).1 in
+    let none : (suc (suc (suc m)) - 2 == 0) ≡ true =
+    (and_parts (nat_le 2 (suc (suc (suc m)))) (suc (suc (suc m)) - 2 == 0) c).1 in
     let never : false ≡ true = sym (past_two m) ∙ none in
     absurd (cc never)
 suits_right n op.Chnmix results [] c = refl
@@ -301,7 +350,8 @@ suits_right n o results args c = refl
 
 no_rule_broken : (a b c d e : Bool)
     → (if not a then Some orc.ArgCount else (if not b then Some orc.Undefined else
-    (if not c then Some orc.RateMismatch else (if d then Some orc.ChannelRate else (if e then Some orc.OutCount else None))))) ≡ None → (a ≡ true) ×
+    (if not c then Some orc.RateMismatch else
+    (if d then Some orc.ChannelRate else (if e then Some orc.OutCount else None))))) ≡ None → (a ≡ true) ×
     (c ≡ true) × (e ≡ false)
 no_rule_broken true true true false false h = (refl, refl, refl)
 no_rule_broken true true true false true h = absurd (cc h)
@@ -313,8 +363,10 @@ no_rule_broken false b c d e h = absurd (cc h)
 equal : (i j : ℕ) → (i == j) ≡ true → i ≡ j
 equal i j h = grind (arith, nat_tests)
 
-row_rated : (s : Setting) (n : Known) (o : Opcode) (results : List (List ℕ)) (args : List Argument) → row_fault s n (row_of o) results args ≡ None
-    → IsRatedCall s (call_rate (row_of o).shape results args) (map (variable n) results) o (typed_arguments n (channel_use (row_of o).shape results args) args)
+row_rated : (s : Setting) (n : Known) (o : Opcode) (results : List (List ℕ)) (args : List Argument)
+    → row_fault s n (row_of o) results args ≡ None
+    → IsRatedCall s (call_rate (row_of o).shape results args) (map (variable n) results) o
+    (typed_arguments n (channel_use (row_of o).shape results args) args)
 row_rated s n o results args h =
     let row = row_of o in
     let role = channel_use row.shape results args in
@@ -332,7 +384,8 @@ row_rated s n o results args h =
       results = length-map results (variable n) ∙ equal (length results) (result_count row) counts.0;
       given = given_right n row results inner.1;
       count = letters.1;
-      letters = ap (λ b. fit_letters (row_left o) b 0 (typed_arguments n role args)) (sym (bound_right n results)) ∙ letters.0;
+      letters = ap (λ b. fit_letters (row_left o) b 0 (typed_arguments n role args)) (sym (bound_right n results))
+          ∙ letters.0;
       parts = parts_rated n role row (bound_of results) args 0 inner.0;
       channels = channels_right n s o (bound_of results) results args inner.0 right.2;
       suits = suits_right n o results args counts.1;

@@ -37,8 +37,10 @@ either_rate true r j k = global_rate r j
 either_rate false r j k = (refl, refl)
 
 -- a variable changes as often as its name says
-pub variable_rate : (n : Known) (name : List ℕ) → (var_rate (variable n name) ≡ name_rate name) × (is_variable (variable n name) ≡ true)
-variable_rate n name = either_rate (is_global name) (name_rate name) (place_in n.shared.globals name) (place_in n.locals name)
+pub variable_rate : (n : Known) (name : List ℕ)
+    → (var_rate (variable n name) ≡ name_rate name) × (is_variable (variable n name) ≡ true)
+variable_rate n name = either_rate (is_global name) (name_rate name) (place_in n.shared.globals name)
+    (place_in n.locals name)
 
 pub not_true : (b : Bool) → not b ≡ true → b ≡ false
 not_true true h = absurd (cc h)
@@ -81,7 +83,8 @@ no_sound (pair o a b) h =
     let parts = and_parts (is_condition a) (is_condition b) (then_part (is_logic o) both other yes h) in
     not_faster (rate_of a) (rate_of b) (no_sound a parts.0) (no_sound b parts.1))
     (λ no.
-    let parts = and_parts (not (is_arithmetic o)) (is_value a && is_value b && not fast) (else_part (is_logic o) both other no h) in
+    let parts = and_parts (not (is_arithmetic o)) (is_value a && is_value b && not fast)
+    (else_part (is_logic o) both other no h) in
     not_true fast (and_parts (is_value a && is_value b) (not fast) parts.1).1)
 no_sound (number v) h = absurd (cc h)
 no_sound (var name) h = absurd (cc h)
@@ -91,17 +94,21 @@ no_sound (neg a) h = absurd (cc h)
 no_sound (pick c a b) h = absurd (cc h)
 no_sound (apply f a) h = absurd (cc h)
 
-fast_is : (n : Known) (a b : Expression) → faster (rate_of a) (rate_of b) ≡ faster (node_rate (typed_expression n a)) (node_rate (typed_expression n b))
+fast_is : (n : Known) (a b : Expression)
+    → faster (rate_of a) (rate_of b) ≡ faster (node_rate (typed_expression n a)) (node_rate (typed_expression n b))
 fast_is n a b =
-    ap (λ r. faster r (rate_of b)) (sym (node_is n a)) ∙ ap (λ r. faster (node_rate (typed_expression n a)) r) (sym (node_is n b))
+    ap (λ r. faster r (rate_of b)) (sym (node_is n a))
+    ∙ ap (λ r. faster (node_rate (typed_expression n a)) r) (sym (node_is n b))
 
 fastest_is : (n : Known) (c a b : Expression)
     → faster (rate_of c) (faster (rate_of a) (rate_of b)) ≡ faster (node_rate (typed_expression n c))
     (faster (node_rate (typed_expression n a)) (node_rate (typed_expression n b)))
 fastest_is n c a b =
-    ap (λ r. faster r (faster (rate_of a) (rate_of b))) (sym (node_is n c)) ∙ ap (λ r. faster (node_rate (typed_expression n c)) r) (fast_is n a b)
+    ap (λ r. faster r (faster (rate_of a) (rate_of b))) (sym (node_is n c))
+    ∙ ap (λ r. faster (node_rate (typed_expression n c)) r) (fast_is n a b)
 
-read_once : (n : Known) (a : Expression) → is_control_name a ≡ true → (is_read_once (typed_expression n a) ≡ true) × IsRated (typed_expression n a)
+read_once : (n : Known) (a : Expression) → is_control_name a ≡ true
+    → (is_read_once (typed_expression n a) ≡ true) × IsRated (typed_expression n a)
 read_once n (var name) h = (h, (sym (variable_rate n name).0, (variable_rate n name).1))
 read_once n (number v) h = absurd (cc h)
 read_once n (field k) h = absurd (cc h)
@@ -155,7 +162,8 @@ mutual
       let parts = and_parts (is_condition a) (is_condition b) (then_part (is_logic o) both other yes h) in
       (condition_rated n a parts.0, condition_rated n b parts.1))
       (λ no.
-      let parts = and_parts (not (is_arithmetic o)) (is_value a && is_value b && not fast) (else_part (is_logic o) both other no h) in
+      let parts = and_parts (not (is_arithmetic o)) (is_value a && is_value b && not fast)
+      (else_part (is_logic o) both other no h) in
       let first = and_parts (is_value a && is_value b) (not fast) parts.1 in
       let values = and_parts (is_value a) (is_value b) first.0 in
       (value_rated n a values.0, value_rated n b values.1))

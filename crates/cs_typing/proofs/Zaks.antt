@@ -1,5 +1,6 @@
 -- What is known after several `zakinit`s.
-use Rattle.std.proofs.Common.{◌≡◌, ℕ, ◌+◌, ◌<◌, length, get_or, drop, sym, true, false, if◌then◌else◌, List, [], ◌∷◌, ◌++◌, Option, Some, None, ap, ◌∙◌, refl}
+use Rattle.std.proofs.Common.{◌≡◌, ℕ, ◌+◌, ◌<◌, length, get_or, drop, sym, true, false, if◌then◌else◌, List, [], ◌∷◌}
+use Rattle.std.proofs.Common.{◌++◌, Option, Some, None, ap, ◌∙◌, refl}
 use Rattle.std.specs.Option.{option_or}
 use Rattle.std.proofs.lemmas.List.{drop_more}
 use Rattle.cs_base.specs.declared.fault.OrcFault.{OrcFault}
@@ -8,7 +9,8 @@ use Rattle.cs_typing.specs.Settings.{at, Zak, zak_fault, zaks_fault, sizes, no_s
 use Rattle.cs_typing.specs.inner.Settled.{after_zak, after_zaks}
 
 -- what is left of a list, and what is left after its first
-pub dropped : {A : Type 0} (xs : List A) (i : ℕ) (x : A) → i < length xs → x ≡ get_or xs i x → drop i xs ≡ x ∷ drop (i + 1) xs
+pub dropped : {A : Type 0} (xs : List A) (i : ℕ) (x : A) → i < length xs → x ≡ get_or xs i x
+    → drop i xs ≡ x ∷ drop (i + 1) xs
 dropped xs i x lt e = drop_more xs i x lt ∙ ap (λ y. y ∷ drop (i + 1) xs) (sym e)
 
 -- those of one list, and then those of another
@@ -26,11 +28,13 @@ or_or (Some f) g h = refl
 
 pub fault_after : (s : Zaks) (zs : List Zak) → (after_zaks s zs).fault ≡ option_or s.fault (zaks_fault s.seen zs)
 fault_after s [] = or_none s.fault
-fault_after s (z ∷ zs) = fault_after (after_zak s z) zs ∙ or_or s.fault (at z.line (zak_fault s.seen z)) (zaks_fault true zs)
+fault_after s (z ∷ zs) =
+    fault_after (after_zak s z) zs ∙ or_or s.fault (at z.line (zak_fault s.seen z)) (zaks_fault true zs)
 
 spaces_after : (s : Zaks) (zs : List Zak) → s.seen ≡ true → (after_zaks s zs).spaces ≡ s.spaces
 spaces_after s [] seen = refl
-spaces_after s (z ∷ zs) seen = spaces_after (after_zak s z) zs refl ∙ ap (λ b. if b then s.spaces else sizes z.args) seen
+spaces_after s (z ∷ zs) seen =
+    spaces_after (after_zak s z) zs refl ∙ ap (λ b. if b then s.spaces else sizes z.args) seen
 
 -- before any
 abbrev pub none_seen : Zaks

@@ -1,12 +1,13 @@
 -- Calls of opcodes: what may be called with what, and the typed form of a call.
-use Rattle.std.specs.Prelude.{ℕ, Bool, true, false, not, List, [], ◌∷◌, ◌++◌, ◌&&◌, ◌||◌, ◌+◌, ◌==◌, length, map, nat_lt, Option, Some, None, if◌then◌else◌}
+use Rattle.std.specs.Prelude.{ℕ, Bool, true, false, not, List, [], ◌∷◌, ◌++◌, ◌&&◌, ◌||◌, ◌+◌, ◌==◌, length, map}
+use Rattle.std.specs.Prelude.{nat_lt, Option, Some, None, if◌then◌else◌}
 use Rattle.std.specs.List.{list_any, list_all}
 use Rattle.cs_base.specs.Rates.{is_audio}
 use Rattle.cs_base.specs.declared.fault.OrcKind.{OrcKind}
 use Rattle.cs_base.specs.declared.fault.OrcKind.TheVariants as orc
 use Rattle.cs_base.specs.declared.resource.Rate.{Rate}
 use Rattle.cs_base.specs.declared.resource.Rate.TheVariants as rate
-use Rattle.cs_words.specs.Catalogue.{Row, row_of, letter_at, takes_count, result_count}
+use Rattle.cs_words.specs.Catalogue.{Row, row_of, takes_count, result_count}
 use Rattle.cs_words.specs.Names.{name_rate}
 use Rattle.cs_words.specs.declared.catalogue.Letter.{Letter}
 use Rattle.cs_words.specs.declared.catalogue.Opcode.{Opcode}
@@ -15,11 +16,12 @@ use Rattle.cs_words.specs.declared.catalogue.Shape.TheVariants as shape
 use Rattle.cs_grammar.specs.Tree.{Argument, value, text}
 use Rattle.cs_grammar.specs.declared.tree.Callee.{Callee}
 use Rattle.cs_grammar.specs.declared.tree.Callee.TheVariants as callee
-use Rattle.cs_typed.specs.Calls.{sounds, stands_still, accepts, bound_from, may_have, are_even, exceeds, rate_without_result, rate_of_call}
+use Rattle.cs_typed.specs.Calls.{sounds, stands_still, accepts, all_meet, bound_from, may_have, are_even, exceeds}
+use Rattle.cs_typed.specs.Calls.{rate_without_result, rate_of_call}
 use Rattle.cs_typed.specs.Places.{stands_outside}
 use Rattle.cs_typed.specs.declared.setting.Setting.{Setting}
-use Rattle.cs_typing.specs.Expressions.{is_value, rate_of, reads_known, typed_expression}
-use Rattle.cs_typing.specs.Known.{Known, known_with, given_all, use_channel, clashes, channel_of, variable}
+use Rattle.cs_typing.specs.Expressions.{is_value, rate_of, reads_known, Variables, expression_by}
+use Rattle.cs_typing.specs.Known.{Known, Shared, known_with, given_all, use_channel, clashes, channel_of, variable}
 use Rattle.cs_typed.specs.TypedTree as typed
 use Rattle.cs_typing.specs.declared.known.Channel.{Channel}
 use Rattle.cs_typing.specs.declared.known.Channel.TheVariants as channel
@@ -39,8 +41,7 @@ fits l bound a = is_argument a && accepts l bound (rate_in a)
 
 -- each argument from a place on fits its letter
 abbrev pub all_fit : Row → Rate → ℕ → List Argument → Bool
-all_fit row bound n [] = true
-all_fit row bound n (a ∷ rest) = fits (letter_at row n) bound a && all_fit row bound (n + 1) rest
+all_fit row bound n args = all_meet (λ l a. fits l bound a) row n args
 
 abbrev pub bound_of : List (List ℕ) → Rate
 bound_of results = bound_from name_rate results
@@ -135,23 +136,36 @@ plain_rate sh args = rate_without_result rate_in sh args
 abbrev pub call_rate : Shape → List (List ℕ) → List Argument → Rate
 call_rate sh results args = rate_of_call name_rate rate_in sh results args
 
--- the typed form of an argument: a text is the channel that it names, and is left out where it names none
+-- Arguments with their variables: a text is the channel that it names, and is left out where the call uses none.
+abbrev pub argument_by : Shared → Variables → Option Channel → Argument → List typed.Argument
+argument_by g v role (value e) = typed.value (expression_by v e) ∷ []
+argument_by g v None (text name) = []
+argument_by g v (Some kind) (text name) = typed.text (channel_of g kind name) ∷ []
+
+abbrev pub arguments_by : Shared → Variables → Option Channel → List Argument → List typed.Argument
+arguments_by g v role [] = []
+arguments_by g v role (a ∷ rest) = argument_by g v role a ++ arguments_by g v role rest
+
+-- a call of an opcode of the catalogue, with its variables
+abbrev pub row_by : ℕ → Shared → Variables → Opcode → Row → List (List ℕ) → List Argument → typed.Statement
+row_by line g v opcode row results args =
+    typed.call line (call_rate row.shape results args) (map v results) opcode
+    (arguments_by g v (channel_use row.shape results args) args)
+
+-- any call: one of a name that is no opcode has a fault, and so its form has no meaning
+abbrev pub call_by : ℕ → Shared → Variables → Callee → List (List ℕ) → List Argument → typed.Statement
+call_by line g v (callee.Opcode o) results args = row_by line g v o (row_of o) results args
+call_by line g v (callee.Name name) results args = typed.choose line rate.Init (typed.otherwise typed.no_stmt)
+
+-- the typed forms, by what is known
 abbrev pub typed_argument : Known → Option Channel → Argument → List typed.Argument
-typed_argument n role (value e) = typed.value (typed_expression n e) ∷ []
-typed_argument n None (text name) = []
-typed_argument n (Some kind) (text name) = typed.text (channel_of n.shared kind name) ∷ []
+typed_argument n role a = argument_by n.shared (variable n) role a
 
 abbrev pub typed_arguments : Known → Option Channel → List Argument → List typed.Argument
-typed_arguments n role [] = []
-typed_arguments n role (a ∷ rest) = typed_argument n role a ++ typed_arguments n role rest
+typed_arguments n role args = arguments_by n.shared (variable n) role args
 
--- the typed form of a call of an opcode
 abbrev pub typed_row : ℕ → Known → Opcode → Row → List (List ℕ) → List Argument → typed.Statement
-typed_row line n opcode row results args =
-    typed.call line (call_rate row.shape results args) (map (variable n) results) opcode
-    (typed_arguments n (channel_use row.shape results args) args)
+typed_row line n opcode row results args = row_by line n.shared (variable n) opcode row results args
 
--- The typed form of a call. A call of a name has a fault, and so its form has no meaning.
 abbrev pub typed_call : ℕ → Known → Callee → List (List ℕ) → List Argument → typed.Statement
-typed_call line n (callee.Opcode o) results args = typed_row line n o (row_of o) results args
-typed_call line n (callee.Name name) results args = typed.choose line rate.Init (typed.otherwise typed.no_stmt)
+typed_call line n c results args = call_by line n.shared (variable n) c results args

@@ -9,7 +9,8 @@ use Rattle.cs_words.specs.declared.word.HeadName.{HeadName}
 use Rattle.cs_words.specs.declared.word.HeadName.TheVariants as head
 use Rattle.cs_grammar.specs.declared.tree.Callee.TheVariants as callee
 use Rattle.cs_grammar.specs.declared.tree.HeadLine.{HeadLine}
-use Rattle.cs_grammar.specs.Tree.{Expression, number, pair, Argument, value, Statement, call, choose, Block, no_stmt, andthen, otherwise, arm, Instrument, Orchestra}
+use Rattle.cs_grammar.specs.Tree.{Expression, number, pair, Argument, value, Statement, call, choose, Block, no_stmt}
+use Rattle.cs_grammar.specs.Tree.{andthen, otherwise, arm, Instrument, Orchestra}
 
 -- a header line, an instrument of one number at its line, an orchestra without definitions
 abbrev pub line : ℕ → HeadName → ℤ → HeadLine
@@ -66,4 +67,5 @@ abbrev pub zak_of_one_and_two : ℕ → Statement
 zak_of_one_and_two k = zak k (value (lit 1)) (value (lit 2))
 
 abbrev pub zak_in_an_if : Orchestra
-zak_in_an_if = outside_of (choose 1 (arm (pair op.Less (lit 1) (lit 0)) (one (zak_of_one_and_two 2)) (otherwise no_stmt)))
+zak_in_an_if =
+    outside_of (choose 1 (arm (pair op.Less (lit 1) (lit 0)) (one (zak_of_one_and_two 2)) (otherwise no_stmt)))

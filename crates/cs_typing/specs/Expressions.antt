@@ -1,5 +1,5 @@
 -- Expressions: their rates, which are values and conditions, and their typed form.
-use Rattle.std.specs.Prelude.{Bool, true, false, not, ◌&&◌, if◌then◌else◌}
+use Rattle.std.specs.Prelude.{ℕ, Bool, true, false, not, List, ◌&&◌, if◌then◌else◌}
 use Rattle.cs_base.specs.Rates.{is_control, is_audio, faster}
 use Rattle.cs_base.specs.declared.resource.Rate.{Rate}
 use Rattle.cs_base.specs.declared.resource.Rate.TheVariants as rate
@@ -10,6 +10,7 @@ use Rattle.cs_words.specs.declared.word.Func.TheVariants as func
 use Rattle.cs_grammar.specs.Tree.{Expression, number, var, field, head, neg, pair, pick, apply}
 use Rattle.cs_typing.specs.Known.{Known, knows, variable}
 use Rattle.cs_typed.specs.TypedTree as typed
+use Rattle.cs_typed.specs.declared.tree.Var.{Var}
 
 -- the rate of a function's value: `i` of a variable is known when the note begins
 abbrev pub applied_rate : Func → Rate → Rate
@@ -32,8 +33,8 @@ abbrev pub is_control_name : Expression → Bool
 is_control_name (var name) = is_control (name_rate name)
 is_control_name _ = false
 
--- An expression that is a value, and one that is a condition: each with values and conditions where they are wanted. Conditions
--- and `cpspch` take no sound, and `i` takes the name of a variable of the control rate.
+-- An expression that is a value, and one that is a condition: each with values and conditions where they are wanted.
+-- Conditions and `cpspch` take no sound, and `i` takes the name of a variable of the control rate.
 abbrev mutual
   pub is_value : Expression → Bool
   is_value (number v) = true
@@ -64,14 +65,22 @@ reads_known n (pair o a b) = reads_known n a && reads_known n b
 reads_known n (pick c a b) = reads_known n c && reads_known n a && reads_known n b
 reads_known n (apply f a) = reads_known n a
 
--- the typed form: variables in place of names, and each part's rate beside it
+-- the variable of each name
+abbrev pub Variables : Type 0
+Variables = List ℕ → Var
+
+-- an expression with its variables in place of names, and each part's rate beside it
+abbrev pub expression_by : Variables → Expression → typed.Expression
+expression_by v (number z) = typed.number rate.Init z
+expression_by v (var name) = typed.var (name_rate name) (v name)
+expression_by v (field k) = typed.field rate.Init k
+expression_by v (head h) = typed.head rate.Init h
+expression_by v (neg a) = typed.neg (rate_of (neg a)) (expression_by v a)
+expression_by v (pair o a b) = typed.pair (rate_of (pair o a b)) o (expression_by v a) (expression_by v b)
+expression_by v (pick c a b) =
+    typed.pick (rate_of (pick c a b)) (expression_by v c) (expression_by v a) (expression_by v b)
+expression_by v (apply f a) = typed.apply (rate_of (apply f a)) f (expression_by v a)
+
+-- the typed form, by the variables that are known
 abbrev pub typed_expression : Known → Expression → typed.Expression
-typed_expression n (number v) = typed.number rate.Init v
-typed_expression n (var name) = typed.var (name_rate name) (variable n name)
-typed_expression n (field k) = typed.field rate.Init k
-typed_expression n (head h) = typed.head rate.Init h
-typed_expression n (neg a) = typed.neg (rate_of (neg a)) (typed_expression n a)
-typed_expression n (pair o a b) = typed.pair (rate_of (pair o a b)) o (typed_expression n a) (typed_expression n b)
-typed_expression n (pick c a b) =
-    typed.pick (rate_of (pick c a b)) (typed_expression n c) (typed_expression n a) (typed_expression n b)
-typed_expression n (apply f a) = typed.apply (rate_of (apply f a)) f (typed_expression n a)
+typed_expression n e = expression_by (variable n) e

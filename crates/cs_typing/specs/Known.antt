@@ -43,14 +43,15 @@ place_in t name = place_of (of_rate (name_rate name) t) name
 abbrev pub added : Table → List ℕ → Table
 added t name = with_name (name_rate name) t name
 
--- What all bodies of an orchestra know alike: the global variables that any statement gives, and the channels that are used
--- before, control channels and sound channels.
+-- What all bodies of an orchestra know alike: the global variables that any statement gives, and the channels that are
+-- used before, control channels and sound channels.
 pub record Shared : Type 0 where
   pub globals : Table
   pub control : List (List ℕ)
   pub sound : List (List ℕ)
 
--- what is known at a place of the text: what all bodies know, and the local variables that a statement of the body before gives
+-- what is known at a place of the text: what all bodies know, and the local variables that a statement of the body
+-- before gives
 pub record Known : Type 0 where
   pub shared : Shared
   pub locals : Table

@@ -1,7 +1,8 @@
 -- Other names for local variables.
 use Rattle.std.specs.Prelude.{ℕ, false, List, map, ◌≡◌, if◌then◌else◌}
 use Rattle.cs_words.specs.Names.{name_rate, is_global}
-use Rattle.cs_grammar.specs.Tree.{Expression, number, var, field, head, neg, pair, pick, apply, Argument, value, text, Statement, set, call, choose, Block, no_stmt, andthen, Arms, otherwise, arm}
+use Rattle.cs_grammar.specs.Tree.{Expression, number, var, field, head, neg, pair, pick, apply, Argument, value, text}
+use Rattle.cs_grammar.specs.Tree.{Statement, set, call, choose, Block, no_stmt, andthen, Arms, otherwise, arm}
 use Rattle.cs_typing.specs.Known.{Table, Known, known_with}
 
 -- Other names for local variables: of the same rates, local too, and never one for two.

@@ -1,5 +1,6 @@
 -- What holds for a whole piece: header lines and `zakinit`s, the first rule that they break, and what they say.
-use Rattle.std.specs.Prelude.{ℕ, ℤ, pos, negsuc, Bool, true, false, not, List, [], ◌∷◌, ◌++◌, ◌&&◌, ◌==◌, ◌+◌, ◌*◌, ◌/◌, ◌%◌, nat_le, nat_lt, Option, Some, None, if◌then◌else◌}
+use Rattle.std.specs.Prelude.{ℕ, ℤ, pos, negsuc, Bool, true, false, not, List, [], ◌∷◌, ◌++◌, ◌&&◌, ◌==◌, ◌+◌, ◌*◌, ◌/◌}
+use Rattle.std.specs.Prelude.{◌%◌, nat_le, nat_lt, Option, Some, None, if◌then◌else◌}
 use Rattle.std.specs.List.{list_any, list_all}
 use Rattle.std.specs.Option.{option_or}
 use Rattle.cs_base.specs.Limits.{greatest_sr, greatest_ksmps, most_channels, greatest_zak_size}
@@ -13,7 +14,8 @@ use Rattle.cs_words.specs.declared.word.HeadName.TheVariants as head
 use Rattle.cs_grammar.specs.declared.tree.Callee.{Callee}
 use Rattle.cs_grammar.specs.declared.tree.Callee.TheVariants as callee
 use Rattle.cs_grammar.specs.declared.tree.HeadLine.{HeadLine}
-use Rattle.cs_grammar.specs.Tree.{number, Argument, value, text, Statement, set, call, choose, Block, no_stmt, andthen, Arms, otherwise, arm}
+use Rattle.cs_grammar.specs.Tree.{number, Argument, value, text, Statement, set, call, choose, Block, no_stmt, andthen}
+use Rattle.cs_grammar.specs.Tree.{Arms, otherwise, arm}
 use Rattle.cs_typed.specs.Places.{Header}
 
 -- a kind of fault at a line
@@ -108,7 +110,8 @@ kr_agrees sr ksmps kr = nat_le 1 ksmps && nat_le ksmps greatest_ksmps && is_prod
 -- `kr` must fit the other header values
 abbrev pub kr_fault : Header → Option HeadLine → Option OrcFault
 kr_fault h None = None
-kr_fault h (Some kr) = if kr_agrees h.sr h.ksmps kr.value then None else Some (record { line = kr.line; kind = orc.HeaderValue })
+kr_fault h (Some kr) =
+    if kr_agrees h.sr h.ksmps kr.value then None else Some (record { line = kr.line; kind = orc.HeaderValue })
 
 -- a `zakinit`: its line and its arguments
 pub record Zak : Type 0 where

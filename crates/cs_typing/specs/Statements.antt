@@ -7,7 +7,8 @@ use Rattle.cs_base.specs.declared.fault.OrcKind.{OrcKind}
 use Rattle.cs_base.specs.declared.fault.OrcKind.TheVariants as orc
 use Rattle.cs_base.specs.declared.resource.Rate.{Rate}
 use Rattle.cs_words.specs.Names.{name_rate}
-use Rattle.cs_grammar.specs.Tree.{Expression, Statement, set, call, choose, Block, no_stmt, andthen, Arms, otherwise, arm}
+use Rattle.cs_grammar.specs.Tree.{Expression, Statement, set, call, choose, Block, no_stmt, andthen, Arms, otherwise}
+use Rattle.cs_grammar.specs.Tree.{arm}
 use Rattle.cs_typed.specs.Calls.{rate_of_choice}
 use Rattle.cs_typed.specs.declared.setting.Setting.{Setting}
 use Rattle.cs_typing.specs.Calls.{call_fault, call_known, typed_call}
@@ -47,8 +48,8 @@ abbrev mutual
   known_arms n (otherwise b) = known_block n b
   known_arms n (arm c b rest) = known_arms (known_block n b) rest
 
--- The first rule that statements break, in the order of the text. The condition of an arm is judged at its place, after the bodies
--- of the arms before it, and its fault has the line of the `if`.
+-- The first rule that statements break, in the order of the text. The condition of an arm is judged at its place, after
+-- the bodies of the arms before it, and its fault has the line of the `if`.
 abbrev mutual
   pub fault : Setting → Known → Statement → Option OrcFault
   fault s n (set line name e) = at line (set_fault s n name e)

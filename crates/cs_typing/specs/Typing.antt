@@ -3,7 +3,8 @@ use Rattle.std.specs.Prelude.{ℕ, List, [], ◌∷◌, nat_lt, Option, Some, No
 use Rattle.std.specs.Option.{option_or}
 use Rattle.cs_base.specs.declared.fault.OrcFault.{OrcFault}
 use Rattle.cs_words.specs.Names.{is_global}
-use Rattle.cs_grammar.specs.Tree.{Statement, set, call, choose, Block, no_stmt, andthen, Arms, otherwise, arm, Instrument, Orchestra}
+use Rattle.cs_grammar.specs.Tree.{Statement, set, call, choose, Block, no_stmt, andthen, Arms, otherwise, arm}
+use Rattle.cs_grammar.specs.Tree.{Instrument, Orchestra}
 use Rattle.cs_typed.specs.Places.{outside, inside}
 use Rattle.cs_typing.specs.Known.{Table, no_names, counts_of, added, Shared, Known, known_with, first_with}
 use Rattle.cs_typing.specs.Settings.{header, settings_fault, zaks_of_block, zak_spaces}
@@ -94,7 +95,8 @@ first_known o = first_with (all_globals o)
 -- the first rule of rates, names and types that an orchestra breaks
 abbrev pub type_fault : Orchestra → Option OrcFault
 type_fault o =
-    option_or (settings_fault o.head o.zero) (items_fault (header o.head).nchnls (first_known o) (items o.zero o.instrs))
+    option_or (settings_fault o.head o.zero)
+    (items_fault (header o.head).nchnls (first_known o) (items o.zero o.instrs))
 
 -- the typed statements outside instruments, all together
 abbrev pub typed_outside : Known → List Item → typed.Block

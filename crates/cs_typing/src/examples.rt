@@ -28,22 +28,26 @@ pub fn types_worked_by_hand()
         ≡ broken 2 orc.Undefined }
     ensures sum_of_sound { type_fault (body_of (two (calls 2 (codes "k1" ∷ []) opcode.Init (value (lit 1) ∷ []))
         (set 3 (codes "k1") (pair op.Add (var (codes "k1")) (number (pos 1)))))) ≡ None }
-    // Code outside instruments is one body, though an instrument stands between its lines; instruments are bodies of their own.
+    // Code outside instruments is one body, though an instrument stands between its lines; instruments are bodies of
+    // their own.
     ensures one_body_outside { type_fault (orchestra []
         (two (set 1 (codes "i1") (lit 1)) (set 5 (codes "i2") (var (codes "i1"))))
         (instr 2 1 (one (set 3 (codes "k1") (lit 1))) ∷ [])) ≡ None }
     ensures bodies_apart { type_fault (orchestra [] no_stmt (instr 1 1 (one (set 2 (codes "i1") (lit 1)))
         ∷ instr 4 2 (one (set 5 (codes "i2") (var (codes "i1")))) ∷ [])) ≡ broken 5 orc.Undefined }
-    ensures global_given_later { type_fault (orchestra [] no_stmt (instr 1 1 (one (set 2 (codes "k1") (var (codes "gk1"))))
+    ensures global_given_later { type_fault (orchestra [] no_stmt
+        (instr 1 1 (one (set 2 (codes "k1") (var (codes "gk1"))))
         ∷ instr 4 2 (one (set 5 (codes "gk1") (lit 1))) ∷ [])) ≡ None }
     // Opcodes: unknown, with too few arguments, with half a pair, of other rates, without their text.
-    ensures no_such_opcode { type_fault (body_of (one (call 2 (codes "k1" ∷ []) (callee.Name (codes "nosuch")) (value (lit 1) ∷ []))))
+    ensures no_such_opcode { type_fault (body_of (one
+        (call 2 (codes "k1" ∷ []) (callee.Name (codes "nosuch")) (value (lit 1) ∷ []))))
         ≡ broken 2 orc.UnknownOpcode }
     ensures too_few { type_fault (body_of (one (calls 2 (codes "a1" ∷ []) opcode.Oscil (value (lit 1) ∷ []))))
         ≡ broken 2 orc.ArgCount }
     ensures half_a_pair { type_fault (body_of (one (calls 2 (codes "a1" ∷ []) opcode.Linseg
         (value (lit 0) ∷ value (lit 1) ∷ value (lit 1) ∷ value (lit 2) ∷ [])))) ≡ broken 2 orc.ArgCount }
-    ensures out_of_a_number { type_fault (body_of (one (calls 2 [] opcode.Out (value (lit 1) ∷ [])))) ≡ broken 2 orc.RateMismatch }
+    ensures out_of_a_number { type_fault (body_of (one (calls 2 [] opcode.Out (value (lit 1) ∷ []))))
+        ≡ broken 2 orc.RateMismatch }
     ensures event_needs_four { type_fault (body_of (one (calls 2 [] opcode.EventI
         (value (lit 1) ∷ value (lit 0) ∷ value (lit 1) ∷ [])))) ≡ broken 2 orc.ArgCount }
     ensures event_needs_text { type_fault (body_of (one (calls 2 [] opcode.EventI
@@ -67,21 +71,25 @@ pub fn settings_worked_by_hand()
     ensures by_kr_with_a_fraction { (header (line 1 head.Kr (pos 90316800) ∷ [])).ksmps ≡ 32 }
     ensures never_rounded { settings_fault (line 7 head.Kr (whole 4000) ∷ []) no_stmt ≡ broken 7 orc.HeaderValue }
     ensures no_cycles { settings_fault (line 3 head.Kr (pos 0) ∷ []) no_stmt ≡ broken 3 orc.HeaderValue }
-    ensures cycles_below_zero { settings_fault (line 3 head.Kr (negsuc 655359999) ∷ line 4 head.Ksmps (whole 4) ∷ []) no_stmt
-        ≡ broken 3 orc.HeaderValue }
+    ensures cycles_below_zero { settings_fault
+        (line 3 head.Kr (negsuc 655359999) ∷ line 4 head.Ksmps (whole 4) ∷ []) no_stmt ≡ broken 3 orc.HeaderValue }
     ensures cycle_too_long { settings_fault (line 1 head.Kr (whole 10) ∷ line 2 head.Sr (whole 40970) ∷ []) no_stmt
         ≡ broken 1 orc.HeaderValue }
-    ensures longest_cycle { settings_fault (line 1 head.Kr (whole 10) ∷ line 2 head.Sr (whole 40960) ∷ []) no_stmt ≡ None }
+    ensures longest_cycle { settings_fault (line 1 head.Kr (whole 10) ∷ line 2 head.Sr (whole 40960) ∷ []) no_stmt
+        ≡ None }
     ensures kr_broken { settings_fault (three (whole 4410)) no_stmt ≡ broken 2 orc.HeaderValue }
     ensures kr_exact { settings_fault (three (pos 90316800)) no_stmt ≡ None }
     // The ends of each range, and what lies past them.
     ensures ends { (in_range head.Sr (whole 1) ≡ true) × (in_range head.Sr (whole 192000) ≡ true)
-        × (in_range head.Ksmps (whole 4096) ≡ true) × (in_range head.Nchnls (whole 16) ≡ true) × (in_range head.Dbfs (pos 1) ≡ true) }
+        × (in_range head.Ksmps (whole 4096) ≡ true) × (in_range head.Nchnls (whole 16) ≡ true)
+        × (in_range head.Dbfs (pos 1) ≡ true) }
     ensures past_the_ends { (in_range head.Sr (whole 0) ≡ false) × (in_range head.Sr (whole 192001) ≡ false)
-        × (in_range head.Ksmps (whole 4097) ≡ false) × (in_range head.Nchnls (whole 17) ≡ false) × (in_range head.Dbfs (pos 0) ≡ false) }
+        × (in_range head.Ksmps (whole 4097) ≡ false) × (in_range head.Nchnls (whole 17) ≡ false)
+        × (in_range head.Dbfs (pos 0) ≡ false) }
     ensures fraction_of_a_frame { in_range head.Sr (pos (44100 * 65536 + 1)) ≡ false }
     // A value is judged before a name that is given twice, and `kr` after all other settings, whatever its line.
-    ensures twice { settings_fault (line 1 head.Sr (whole 8) ∷ line 2 head.Sr (whole 8) ∷ []) no_stmt ≡ broken 2 orc.HeaderTwice }
+    ensures twice { settings_fault (line 1 head.Sr (whole 8) ∷ line 2 head.Sr (whole 8) ∷ []) no_stmt
+        ≡ broken 2 orc.HeaderTwice }
     ensures range_before_twice { settings_fault (line 1 head.Sr (whole 8) ∷ line 2 head.Sr (pos 0) ∷ []) no_stmt
         ≡ broken 2 orc.HeaderValue }
     ensures sixth { settings_fault (line 1 head.Sr (whole 8) ∷ line 2 head.Kr (whole 2) ∷ line 3 head.Ksmps (whole 4)
@@ -90,25 +98,31 @@ pub fn settings_worked_by_hand()
     ensures kr_last { settings_fault (line 1 head.Kr (whole 7) ∷ line 9 head.Nchnls (whole 17) ∷ []) no_stmt
         ≡ broken 9 orc.HeaderValue }
     // Header lines and `zakinit`s in the order of the text.
-    ensures header_line_first { settings_fault (line 2 head.Sr (whole 0) ∷ []) (one (zak 3 (value (lit 0)) (value (lit 1))))
-        ≡ broken 2 orc.HeaderValue }
+    ensures header_line_first { settings_fault (line 2 head.Sr (whole 0) ∷ [])
+        (one (zak 3 (value (lit 0)) (value (lit 1)))) ≡ broken 2 orc.HeaderValue }
     ensures size_first { settings_fault (line 4 head.Sr (whole 0) ∷ []) (one (zak 3 (value (lit 0)) (value (lit 1))))
         ≡ broken 3 orc.HeaderValue }
     // A space has the places from 0 to its size; the first size is that of the space of sounds.
-    ensures sizes { zak_spaces (zaks_of_block (one (zak 1 (value (lit 1000)) (value (lit 1))))) ≡ record { control = 2; audio = 1001 } }
+    ensures sizes { zak_spaces (zaks_of_block (one (zak 1 (value (lit 1000)) (value (lit 1)))))
+        ≡ record { control = 2; audio = 1001 } }
     ensures greatest_size { settings_fault [] (one (zak 1 (value (lit 1000)) (value (lit 1)))) ≡ None }
-    ensures size_too_great { settings_fault [] (one (zak 1 (value (lit 1)) (value (lit 1001)))) ≡ broken 1 orc.HeaderValue }
-    ensures size_with_a_sign { settings_fault [] (one (zak 1 (value (neg (lit 1))) (value (lit 1)))) ≡ broken 1 orc.HeaderValue }
-    // A size is judged with the settings; a text in its place waits for its statement.
-    ensures size_before_count { type_fault (outside_of (calls 1 [] opcode.Zakinit (value (pair op.Add (lit 1) (lit 1)) ∷ [])))
+    ensures size_too_great { settings_fault [] (one (zak 1 (value (lit 1)) (value (lit 1001))))
         ≡ broken 1 orc.HeaderValue }
-    ensures text_waits_for_count { type_fault (outside_of (calls 1 [] opcode.Zakinit (text (codes "a") ∷ []))) ≡ broken 1 orc.ArgCount }
-    ensures text_waits_for_rates { type_fault (outside_of (calls 1 [] opcode.Zakinit (text (codes "a") ∷ value (lit 1) ∷ [])))
-        ≡ broken 1 orc.RateMismatch }
+    ensures size_with_a_sign { settings_fault [] (one (zak 1 (value (neg (lit 1))) (value (lit 1))))
+        ≡ broken 1 orc.HeaderValue }
+    // A size is judged with the settings; a text in its place waits for its statement.
+    ensures size_before_count { type_fault (outside_of
+        (calls 1 [] opcode.Zakinit (value (pair op.Add (lit 1) (lit 1)) ∷ []))) ≡ broken 1 orc.HeaderValue }
+    ensures text_waits_for_count { type_fault (outside_of (calls 1 [] opcode.Zakinit (text (codes "a") ∷ [])))
+        ≡ broken 1 orc.ArgCount }
+    ensures text_waits_for_rates { type_fault (outside_of
+        (calls 1 [] opcode.Zakinit (text (codes "a") ∷ value (lit 1) ∷ []))) ≡ broken 1 orc.RateMismatch }
     // In an `if` too: it counts, and the second has the line of the second.
     ensures zak_in_if { type_fault zak_in_an_if ≡ None }
     ensures zak_in_if_counts { zak_spaces (zaks_of_block zak_in_an_if.zero) ≡ record { control = 3; audio = 2 } }
-    ensures zak_twice { type_fault (orchestra [] (two (zak_of_one_and_two 1) (zak_of_one_and_two 2)) []) ≡ broken 2 orc.HeaderTwice }
-    ensures zak_twice_in_if { settings_fault [] (one (choose 1 (arm (pair op.Less (lit 1) (lit 0)) (one (zak_of_one_and_two 2))
+    ensures zak_twice { type_fault (orchestra [] (two (zak_of_one_and_two 1) (zak_of_one_and_two 2)) [])
+        ≡ broken 2 orc.HeaderTwice }
+    ensures zak_twice_in_if { settings_fault [] (one (choose 1
+        (arm (pair op.Less (lit 1) (lit 0)) (one (zak_of_one_and_two 2))
         (otherwise (one (zak_of_one_and_two 4)))))) ≡ broken 4 orc.HeaderTwice }
 {}

@@ -2,6 +2,7 @@
 ghost use Rattle.std.specs.Prelude.{◌≡◌, IfOk};
 ghost use Rattle.cs_grammar.specs.Tree.{expression};
 ghost use Rattle.std.specs.Box.{box_value};
+ghost use Rattle.cs_base.specs.Rates.{faster};
 ghost use Rattle.cs_base.specs.declared.resource.Rate.TheVariants as rate;
 ghost use Rattle.cs_typing.specs.Expressions.{rate_of, applied_rate, is_control_name, is_value, is_condition, reads_known, typed_expression};
 ghost use Rattle.cs_typed.specs.TypedTree as typed;
@@ -11,7 +12,7 @@ use crate::making::in_box;
 use cs_base::{OutOfMemory, Rate};
 use cs_grammar::Expr;
 use cs_typed::{TypedExpr, TypedPart};
-use cs_words::{Func, name_rate};
+use cs_words::{BinOp, Func, name_rate};
 
 /// The rate of an expression: the fastest of its parts.
 pub fn rate_of(e: &Expr) -> Rate
@@ -102,37 +103,67 @@ pub fn typed_expression<'t>(names: &KnownNames<'t>, e: &Expr) -> Result<TypedExp
             rate: name_rate(name.as_slice()),
             what: TypedPart::Var(names.variable(name.as_slice())),
         }),
-        Expr::Neg(a) => {
-            let a = boxed(names, a)?;
-            Ok(TypedExpr {
-                rate: a.rate,
-                what: TypedPart::Neg(a),
-            })
-        }
+        Expr::Neg(a) => Ok(negated(boxed(names, a)?)),
         Expr::Pair(op, a, b) => {
             let a = boxed(names, a)?;
-            let b = boxed(names, b)?;
-            Ok(TypedExpr {
-                rate: a.rate.faster(b.rate),
-                what: TypedPart::Pair(*op, a, b),
-            })
+            Ok(paired(*op, a, boxed(names, b)?))
         }
         Expr::Pick(c, a, b) => {
             let c = boxed(names, c)?;
             let a = boxed(names, a)?;
-            let b = boxed(names, b)?;
-            Ok(TypedExpr {
-                rate: c.rate.faster(a.rate.faster(b.rate)),
-                what: TypedPart::Pick(c, a, b),
-            })
+            Ok(picked(c, a, boxed(names, b)?))
         }
-        Expr::Call(func, a) => {
-            let a = boxed(names, a)?;
-            Ok(TypedExpr {
-                rate: applied_rate(*func, a.rate),
-                what: TypedPart::Call(*func, a),
-            })
-        }
+        Expr::Call(func, a) => Ok(applied(*func, boxed(names, a)?)),
+    }
+}
+
+// The negation of a part.
+fn negated(a: Box<TypedExpr>) -> TypedExpr
+    ensures form { typed.expression result
+        ≡ typed.neg (box_value a).rate (typed.expression (box_value a)) }
+    ensures rate { result.rate ≡ (box_value a).rate }
+{
+    TypedExpr {
+        rate: a.rate,
+        what: TypedPart::Neg(a),
+    }
+}
+
+// An operator of two parts.
+fn paired(op: BinOp, a: Box<TypedExpr>, b: Box<TypedExpr>) -> TypedExpr
+    ensures form { typed.expression result
+        ≡ typed.pair (faster (box_value a).rate (box_value b).rate) op
+        (typed.expression (box_value a)) (typed.expression (box_value b)) }
+    ensures rate { result.rate ≡ faster (box_value a).rate (box_value b).rate }
+{
+    TypedExpr {
+        rate: a.rate.faster(b.rate),
+        what: TypedPart::Pair(op, a, b),
+    }
+}
+
+// A choice: its condition, the value where it holds, and the value where it doesn't.
+fn picked(c: Box<TypedExpr>, a: Box<TypedExpr>, b: Box<TypedExpr>) -> TypedExpr
+    ensures form { typed.expression result
+        ≡ typed.pick (faster (box_value c).rate (faster (box_value a).rate (box_value b).rate))
+        (typed.expression (box_value c)) (typed.expression (box_value a)) (typed.expression (box_value b)) }
+    ensures rate { result.rate ≡ faster (box_value c).rate (faster (box_value a).rate (box_value b).rate) }
+{
+    TypedExpr {
+        rate: c.rate.faster(a.rate.faster(b.rate)),
+        what: TypedPart::Pick(c, a, b),
+    }
+}
+
+// A function of a part.
+fn applied(func: Func, a: Box<TypedExpr>) -> TypedExpr
+    ensures form { typed.expression result
+        ≡ typed.apply (applied_rate func (box_value a).rate) func (typed.expression (box_value a)) }
+    ensures rate { result.rate ≡ applied_rate func (box_value a).rate }
+{
+    TypedExpr {
+        rate: applied_rate(func, a.rate),
+        what: TypedPart::Call(func, a),
     }
 }
 

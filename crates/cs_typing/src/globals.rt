@@ -1,4 +1,5 @@
-// The global variables of an orchestra, in the order in which statements first give them: those outside instruments first.
+// The global variables of an orchestra, in the order in which statements first give them: those outside instruments
+// first.
 ghost use Rattle.std.specs.Prelude.{◌≡◌, OnOk, map};
 ghost use Rattle.cs_grammar.specs.Tree as tree;
 ghost use Rattle.cs_grammar.specs.declared.tree.Arm.{out-Arm};

@@ -5,7 +5,7 @@ ghost use Rattle.cs_typing.specs.Settings.{at, raw_of, whole, is_whole_to, is_ab
 ghost use Rattle.cs_typed.specs.TypedTree.{header_of_head};
 ghost use Rattle.cs_typing.specs.inner.Settled.{is_given};
 
-use cs_base::{GREATEST_KSMPS, GREATEST_SR, Head, MOST_CHANNELS, Num, OrcFault, OrcKind};
+use cs_base::{GREATEST_KSMPS, GREATEST_SR, Head, MOST_CHANNELS, Num, ONE, OrcFault, OrcKind};
 use cs_grammar::HeadLine;
 use cs_words::HeadName;
 
@@ -26,7 +26,7 @@ pub fn whole(value: Num) -> u32
     ensures value { result ≡ whole value }
     ensures bounded { result < 2 ^ 31 }
 {
-    (raw_of(value) / 65536) as u32
+    (raw_of(value) / ONE as u64) as u32
 }
 
 /// Whether a number is whole, from 1 to the greatest.
@@ -34,7 +34,7 @@ pub fn is_whole_to(most: u32, value: Num) -> bool
     ensures { result ≡ is_whole_to most value }
 {
     let raw = raw_of(value);
-    raw % 65536 == 0 && 1 <= raw / 65536 && raw / 65536 <= u64::from(most)
+    raw % ONE as u64 == 0 && 1 <= raw / ONE as u64 && raw / ONE as u64 <= u64::from(most)
 }
 
 fn is_above_zero(value: Num) -> bool
@@ -150,7 +150,7 @@ fn quotient(sr: u32, kr: Num) -> u64
     if kr == 0 {
         0
     } else {
-        u64::from(sr) * 65536 / kr
+        u64::from(sr) * ONE as u64 / kr
     }
 }
 
@@ -182,7 +182,7 @@ fn is_product(sr: u32, ksmps: u64, kr: Num) -> bool
     requires { ksmps ≤ 4096 }
     ensures { result ≡ is_product sr ksmps kr }
 {
-    raw_of(kr) * ksmps == u64::from(sr) * 65536
+    raw_of(kr) * ksmps == u64::from(sr) * ONE as u64
 }
 
 fn kr_agrees(sr: u32, ksmps: u64, kr: Num) -> bool
@@ -241,7 +241,7 @@ fn full_scale(lines: &[HeadLine]) -> Num
     ensures value { result ≡ (header lines.now).dbfs }
     ensures in_range { pos 0 <ℤ result }
 {
-    value_or(Num::exact(32768 * 65536), header_of(HeadName::Dbfs, lines))
+    value_or(Num::exact(32_768 * ONE), header_of(HeadName::Dbfs, lines))
 }
 
 /// What header lines without a fault say together.

@@ -146,7 +146,8 @@ impl<'t> Typing<'t> {
     // What is made, with the names that its notes share.
     fn finished(&mut self, settings: Settings) -> Result<TypedOrc, OutOfMemory>
         ensures { IfOk result (λ t. typed.orchestra t
-            ≡ made_from (settings_of settings) self.old.names (made_of self.old.made).zero (made_of self.old.made).instrs) }
+            ≡ made_from (settings_of settings) self.old.names (made_of self.old.made).zero
+            (made_of self.old.made).instrs) }
     {
         let globals = self.names.shared_names()?;
         let made = replace(&mut self.made, Done::new(self.names.alloc()));
@@ -225,8 +226,8 @@ fn settled(alloc: Global, settings: Settings, orc: &Orc) -> Result<TypedOrc, Or<
     lend(Typing::new(alloc), |typing| typing.typed(settings, orc))
 }
 
-/// Judges rates, names and types of an orchestra, and gives its typed form; or its first fault, which is of the kinds 12 to 19.
-/// Header lines and `zakinit`s are judged first, then `kr`, and then each statement in the order of the text.
+/// Judges rates, names and types of an orchestra, and gives its typed form; or its first fault, which is of the kinds
+/// 12 to 19. Header lines and `zakinit`s are judged first, then `kr`, and then each statement in the order of the text.
 ///
 /// Defined opcodes are not looked at.
 pub fn type_orc(alloc: Global, orc: &Orc) -> Result<TypedOrc, Or<OrcFault>>

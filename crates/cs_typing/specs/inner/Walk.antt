@@ -5,14 +5,16 @@ use Rattle.cs_base.specs.declared.fault.Or.TheVariants as or
 use Rattle.cs_base.specs.declared.fault.OrcFault.{OrcFault}
 use Rattle.cs_typing.specs.Known.{counts_of, Known}
 use Rattle.cs_typing.specs.Statements.{known_block, typed_block}
-use Rattle.cs_typing.specs.Typing.{Item, alone, body, items, items_fault, known_item, known_items, first_known, shared_names, typed_instrument, typed_outside, typed_instruments}
+use Rattle.cs_typing.specs.Typing.{Item, alone, body, items, items_fault, known_item, known_items, first_known}
+use Rattle.cs_typing.specs.Typing.{shared_names, typed_instrument, typed_outside, typed_instruments}
 use Rattle.cs_grammar.specs.Tree.{Orchestra}
 use Rattle.cs_typed.specs.declared.tree.TypedOrc.{TypedOrc}
 use Rattle.cs_typed.specs.TypedTree as typed
 use Rattle.cs_typing.specs.declared.orc.Done.{Done}
 use Rattle.cs_typing.specs.inner.Settled.{Told}
 
--- what is made of the parts of an orchestra so far: the typed statements of the code outside instruments, and the instruments
+-- what is made of the parts of an orchestra so far: the typed statements of the code outside instruments, and the
+-- instruments
 pub record Made : Type 0 where
   pub zero : typed.Block
   pub instrs : List typed.Instrument
@@ -45,7 +47,8 @@ Judged (Err or.OutOfMemory) fault = Unit {0}
 abbrev pub parts_fault : ℕ → Orchestra → Option OrcFault
 parts_fault channels o = items_fault channels (first_known o) (items o.zero o.instrs)
 
--- the typed form of an orchestra, from its settings, what is known at its end, the statements outside instruments, the instruments
+-- the typed form of an orchestra, from its settings, what is known at its end, the statements outside instruments, the
+-- instruments
 abbrev pub made_from : Told → Known → typed.Block → List typed.Instrument → typed.Orchestra
 made_from t n zero instrs = record {
   head = t.head;

@@ -8,7 +8,8 @@ use Rattle.cs_typing.proofs.globals.+globals.Goals as goal
 pub globals_of_stmt-returns-in_ok-globals_of_arms-in-Choose : goal.globals_of_stmt-returns-in_ok-globals_of_arms-in-Choose
 globals_of_stmt-returns-in_ok-globals_of_arms-in-Choose t c =
     let els = tree.block c.in-Choose.els.items in
-    let seen : tree.statement c.args.s.now ≡ tree.choose c.args.s.now.line (tree.arms els c.in-Choose.list.items) = search
+    let seen : tree.statement c.args.s.now ≡ tree.choose c.args.s.now.line (tree.arms els c.in-Choose.list.items) =
+    search
     (rules, the_lemmas, block_is, arms_is, c.in-Choose.is) in
     subst (λ x. OnOk c.globals_of_block.result (c.globals_of_block.new.t ≡ x))
     (ap (λ xs. globals_of_block c.globals_of_arms.new.t (tree.block xs)) c.deref-in-Choose.ensures.value

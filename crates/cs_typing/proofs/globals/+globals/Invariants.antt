@@ -10,4 +10,5 @@ invariant-globals_of_block-loop-s l =
 
 abbrev pub invariant-globals_of_arms-loop-a : goal.invariant-globals_of_arms-loop-a
 invariant-globals_of_arms-loop-a l =
-    (els : tree.Block) → globals_of_arms l.t (tree.arms els (drop l.a-index l.list)) ≡ globals_of_arms l.initial.t (tree.arms els l.list)
+    (els : tree.Block) → globals_of_arms l.t (tree.arms els (drop l.a-index l.list)) ≡ globals_of_arms l.initial.t
+    (tree.arms els l.list)

@@ -4,4 +4,5 @@ use Rattle.cs_typing.proofs.headers.headers_fault.Given as goal
 
 abbrev pub invariant-loop-line : goal.invariant-loop-line
 invariant-loop-line l =
-    (l.n ≡ l.line-index) × (headers_fault (take l.line-index l.lines) (drop l.line-index l.lines) ≡ headers_fault [] l.lines)
+    (l.n ≡ l.line-index) × (headers_fault (take l.line-index l.lines) (drop l.line-index l.lines) ≡ headers_fault []
+    l.lines)

@@ -1,4 +1,5 @@
-use Rattle.cs_typing.proofs.Renaming.{statement_kept, block_kept, known_renamed, known_block_renamed, fault_kept, block_fault_kept}
+use Rattle.cs_typing.proofs.Renaming.{statement_kept, block_kept, known_renamed, known_block_renamed, fault_kept}
+use Rattle.cs_typing.proofs.Renaming.{block_fault_kept}
 use Rattle.cs_typing.proofs.laws.local_names_dont_matter.Goals as goal
 
 pub returns-clause-typed : goal.returns-clause-typed

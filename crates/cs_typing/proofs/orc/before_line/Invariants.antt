@@ -5,4 +5,5 @@ use Rattle.cs_typing.proofs.orc.before_line.Given as goal
 abbrev pub invariant-loop-s : goal.invariant-loop-s
 invariant-loop-s l =
     (l.count ≡ l.s-index)
-    × (l.count + prefix_len (λ s. nat_lt s.line l.line) (drop l.s-index l.stmts) ≡ prefix_len (λ s. nat_lt s.line l.line) l.stmts)
+    × (l.count + prefix_len (λ s. nat_lt s.line l.line) (drop l.s-index l.stmts) ≡ prefix_len
+    (λ s. nat_lt s.line l.line) l.stmts)

@@ -11,7 +11,8 @@ use Rattle.cs_typing.proofs.zak.+zaks.Goals as goal
 pub after_stmt-returns-in-Choose : goal.after_stmt-returns-in-Choose
 after_stmt-returns-in-Choose t c =
     let els = tree.block c.in-Choose.els.items in
-    let seen : tree.statement c.args.s.now ≡ tree.choose c.args.s.now.line (tree.arms els c.in-Choose.list.items) = search
+    let seen : tree.statement c.args.s.now ≡ tree.choose c.args.s.now.line (tree.arms els c.in-Choose.list.items) =
+    search
     (rules, the_lemmas, block_is, arms_is, c.in-Choose.is) in
     c.after_block.ensures
     ∙ ap (λ xs. after_zaks c.after_arms.result (zaks_of_block (tree.block xs))) c.deref-in-Choose-2.ensures.value
@@ -35,6 +36,7 @@ after_arms-loop-a-preserved t c els =
     let rest = drop (c.loop-a.a-index + 1) c.args.list.now in
     let split = dropped c.args.list.now c.loop-a.a-index x (omega arith) c.a-item.is in
     ap (λ s. after_zaks s (zaks_of_arms (tree.arms els rest))) c.after_arm-known.ensures
-    ∙ sym (after_both c.loop-a.known (zaks_of_block (tree.block (out-Arm x).body.items)) (zaks_of_arms (tree.arms els rest)))
+    ∙ sym (after_both c.loop-a.known (zaks_of_block (tree.block (out-Arm x).body.items))
+    (zaks_of_arms (tree.arms els rest)))
     ∙ sym (ap (λ xs. after_zaks c.loop-a.known (zaks_of_arms (tree.arms els xs))) split)
     ∙ c.loop-a.invariant els

@@ -7,9 +7,11 @@ use Rattle.cs_typing.proofs.zak.+zaks.Given as goal
 -- the rest tells what the whole tells
 abbrev pub invariant-after_block-loop-s : goal.invariant-after_block-loop-s
 invariant-after_block-loop-s l =
-    after_zaks l.known (zaks_of_block (tree.block (drop l.s-index l.stmts))) ≡ after_zaks l.fn.before (zaks_of_block (tree.block l.stmts))
+    after_zaks l.known (zaks_of_block (tree.block (drop l.s-index l.stmts))) ≡ after_zaks l.fn.before
+    (zaks_of_block (tree.block l.stmts))
 
 abbrev pub invariant-after_arms-loop-a : goal.invariant-after_arms-loop-a
 invariant-after_arms-loop-a l =
-    (els : tree.Block) → after_zaks l.known (zaks_of_arms (tree.arms els (drop l.a-index l.list))) ≡ after_zaks l.fn.before
+    (els : tree.Block) → after_zaks l.known (zaks_of_arms (tree.arms els (drop l.a-index l.list))) ≡ after_zaks
+    l.fn.before
     (zaks_of_arms (tree.arms els l.list))

@@ -13,7 +13,8 @@ returns-clause-zero c =
     let is : lent ≡ items (tree.block c.args.orc.now.zero.items) (map tree.instrument c.args.orc.now.instrs.items) =
     λ i. items (tree.block (c.deref.ensures.value i)) (map tree.instrument (c.deref-2.ensures.value i)) in
     on_ok c.add_parts.result c.add_parts.ensures.made
-    (λ e. all_zero n (made_of c.add_parts.new.self.made) lent (e ∙ ap (λ m. after_items n m lent) c.requires) ∙ ap (typed_outside n) is)
+    (λ e. all_zero n (made_of c.add_parts.new.self.made) lent (e ∙ ap (λ m. after_items n m lent) c.requires)
+    ∙ ap (typed_outside n) is)
 
 pub returns-clause-instrs : goal.returns-clause-instrs
 returns-clause-instrs c =
@@ -22,4 +23,5 @@ returns-clause-instrs c =
     let is : lent ≡ items (tree.block c.args.orc.now.zero.items) (map tree.instrument c.args.orc.now.instrs.items) =
     λ i. items (tree.block (c.deref.ensures.value i)) (map tree.instrument (c.deref-2.ensures.value i)) in
     on_ok c.add_parts.result c.add_parts.ensures.made
-    (λ e. all_instrs n (made_of c.add_parts.new.self.made) lent (e ∙ ap (λ m. after_items n m lent) c.requires) ∙ ap (typed_instruments n) is)
+    (λ e. all_instrs n (made_of c.add_parts.new.self.made) lent (e ∙ ap (λ m. after_items n m lent) c.requires)
+    ∙ ap (typed_instruments n) is)
