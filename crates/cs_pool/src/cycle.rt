@@ -134,12 +134,14 @@ impl<'e, J: Job + Send + Drop, R: Threads + Wait + Sync, G: Gate + Sync> Pool<'e
     {
         match Arc::new(self.alloc, board) {
             Ok(board) => {
+                let shift = Shift {
+                    rt: self.rt,
+                    gate: self.gate,
+                    alloc: self.alloc,
+                    cycle,
+                };
                 let lines = self.lines.as_mut_slice();
-                let mut begun = false;
-                share(
-                    self.rt, self.gate, self.alloc, lines, others, &board, &mut first, cycle,
-                    &mut begun,
-                );
+                let begun = share(&shift, lines, others, &board, &mut first);
                 self.sparing.learn(begun);
                 (sole(self.rt, board), first)
             }
@@ -152,20 +154,25 @@ impl<'e, J: Job + Send + Drop, R: Threads + Wait + Sync, G: Gate + Sync> Pool<'e
     }
 }
 
-/// The caller and so many others work at the board, or as many others as there are helpers: each of
-/// these gets a seat of its own and gives it back. `begun` becomes true where one of them has begun
-/// before the caller was done.
-fn share<J: Job + Drop, R: Wait, G: Gate>(
-    rt: &R,
-    gate: &G,
+/// What each worker of a cycle works with, and whence a helper's part has its memory.
+#[derive(Drop)]
+struct Shift<'a, R, G> {
+    rt: &'a R,
+    gate: &'a G,
     alloc: Global,
+    cycle: u32,
+}
+
+/// The caller and `others` helpers work at the board, or as many helpers as there are: each of these
+/// gets a seat of its own and gives it back. Returns whether one of them had begun before the caller
+/// was done.
+fn share<J: Job + Drop, R: Wait, G: Gate>(
+    shift: &Shift<'_, R, G>,
     lines: &mut [Line<J>],
     others: u32,
     board: &Arc<Board<J>, Global>,
     first: &mut BoardSeat<J>,
-    cycle: u32,
-    begun: &mut bool,
-)
+) -> bool
     requires idle { All (λ line. IsIdle line) lines.old }
     requires ready { IsReady J.means (arc_value board.now) first.old }
     requires leads { IsFirst (view first.old).made (view first.old) }
@@ -174,38 +181,29 @@ fn share<J: Job + Drop, R: Wait, G: Gate>(
     ensures leads { IsFirst (view first.old).made (view first.new) }
 {
     if others == 0 {
-        work(rt, board, first, cycle, gate);
-        return;
+        work(shift.rt, board, first, shift.cycle, shift.gate);
+        return false;
     }
     let Some((line, rest)) = lines.split_first_mut() else {
-        work(rt, board, first, cycle, gate);
-        return;
+        work(shift.rt, board, first, shift.cycle, shift.gate);
+        return false;
     };
-    let Ok((part, member)) = line.part_in(alloc, board) else {
-        work(rt, board, first, cycle, gate);
-        return;
+    let Ok((part, member)) = line.part_in(shift.alloc, board) else {
+        work(shift.rt, board, first, shift.cycle, shift.gate);
+        return false;
     };
     let seat = board.split(first);
     line.give(Task {
         board: part,
         seat,
-        cycle,
+        cycle: shift.cycle,
         member,
     });
-    share(
-        rt,
-        gate,
-        alloc,
-        rest,
-        others - 1,
-        board,
-        first,
-        cycle,
-        begun,
-    );
-    *begun |= line.has_begun();
-    let seat = line.await_seat(rt);
+    let others_begun = share(shift, rest, others - 1, board, first);
+    let begun = line.has_begun();
+    let seat = line.await_seat(shift.rt);
     board.join(first, seat);
+    begun || others_begun
 }
 
 /// The board, once nobody else has a share of it. Each helper let its share go before it gave its

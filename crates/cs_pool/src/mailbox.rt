@@ -129,7 +129,7 @@ impl<J: Job + Drop> Mailbox<J> {
         let Letter::Task(task) = letter else {
             unreachable!()
         };
-        Some(task.into_seat())
+        Some(task.into_seat(self, end))
     }
 
     /// There will be no further task: the helper ends when it finds that.
