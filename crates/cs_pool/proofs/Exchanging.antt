@@ -1,5 +1,5 @@
 -- Each kind of step on a mailbox keeps its rule, and tells what it promises.
-use Rattle.std.proofs.Common.{◌≡◌, ◌≢◌, ◌⊎◌, ℕ, inl, inr, ⊎_elim, List, [], ◌∷◌, ◌++◌, Option, Some, None, refl, sym, ap, ◌∙◌, subst, arith, slice_index, slice_set, eqb, eq-eqb, ne_eqb}
+use Rattle.std.proofs.Common.{◌≡◌, ◌≢◌, ◌⊎◌, ◌+◌, ℕ, inl, inr, ⊎_elim, List, [], ◌∷◌, ◌++◌, Option, Some, None, refl, sym, ap, ◌∙◌, subst, arith, slice_index, slice_set, eqb, eq-eqb, ne_eqb}
 use Rattle.std.specs.Prelude.{MatchOption}
 use Rattle.std.specs.Arc.{arc_value}
 use Rattle.std.proofs.lemmas.Bool.{cases_eq}
@@ -90,30 +90,30 @@ module _ {J : Type 0} (M : Meaning J) where
       )
 
   -- the helper's end is split off
-  pub parts : (id : ℕ) → Splits (Always M) id (beginning Holder) (caller None) (helper None)
+  pub parts : (id : ℕ) → Splits (Always M) id (beginning Holder) (caller 0 None) (helper None)
   parts id s a here =
       let b = of_holder M s id (beginning Holder) refl a here in
       inr (inr (record {
         word = EMPTY;
         home = none;
-        caller = caller None;
+        caller = caller 0 None;
         helper = helper None;
         words = b.1.words;
         homes = b.1.homes;
-        views = ap (λ i. slice_set s.views i (caller None) ++ helper None ∷ []) b.0 ∙ ap (λ vs. slice_set vs 0 (caller None) ++ helper None ∷ []) b.1.views;
+        views = ap (λ i. slice_set s.views i (caller 0 None) ++ helper None ∷ []) b.0 ∙ ap (λ vs. slice_set vs 0 (caller 0 None) ++ helper None ∷ []) b.1.views;
         facts = record { roles = (refl, refl); out = record { word = inl refl; home = refl }; duty = λ e. omega (arith, e) };
       }))
 
   -- a task is handed out
-  pub hands_out : (n id : ℕ) (t : Task J) → IsDone M (arc_value t.board) t.seat
-      → Allows (Always M) n id (caller None, (0, letter.Task t) ∷ []) 0 (λ _. GIVEN) (λ _. gave (step n 0 GIVEN 0 none) (caller None, (0, letter.Task t) ∷ []) GIVEN)
-  hands_out n id t done s a long here fits =
-      let c = of_caller M s id (caller None) refl a here in
-      let v' : Knows J = caller (Some (errand_of t)) in (
+  pub hands_out : (n id k : ℕ) (t : Task J) → IsDone M (arc_value t.board) t.seat
+      → Allows (Always M) n id (caller k None, (0, letter.Task t) ∷ []) 0 (λ _. GIVEN) (λ _. gave (step n 0 GIVEN 0 none) (caller k None, (0, letter.Task t) ∷ []) GIVEN)
+  hands_out n id k t done s a long here fits =
+      let c = of_caller M s id (caller k None) refl a here in
+      let v' : Knows J = caller k (Some (errand_of t)) in (
         v',
         gives,
         tt,
-        caller_stepped s id (caller None) c (slice_set s.words 0 GIVEN) (slice_set s.homes 0 (some (letter.Task t))) GIVEN (some (letter.Task t)) v'
+        caller_stepped s id (caller k None) c (slice_set s.words 0 GIVEN) (slice_set s.homes 0 (some (letter.Task t))) GIVEN (some (letter.Task t)) v'
             (ap (λ ws. slice_set ws 0 GIVEN) c.words) (ap (λ hs. slice_set hs 0 (some (letter.Task t))) c.homes)
             (record {
               roles = (refl, c.facts.roles.1);
@@ -190,15 +190,15 @@ module _ {J : Type 0} (M : Meaning J) where
   is_home w is = record { word = is; home = refl }
 
   -- the answer is taken, or there is none
-  pub collects : (n id : ℕ) (e : Errand J) → Allows (Always M) n id (caller (Some e), []) 0 (λ y. either (eqb y BACK) EMPTY y) (collected M (step n 0 BACK EMPTY none) (caller (Some e), []))
-  collects n id e s a long here fits =
-      exchanged x BACK EMPTY (λ y. (w : Knows J) × (b : Act (Letter J)) × Valid s.homes [] b × Always M (stepped s 0 y id [] w b) × collected M (step n 0 BACK EMPTY none) (caller (Some e), []) x (w, carried_after [] b))
+  pub collects : (n id k : ℕ) (e : Errand J) → Allows (Always M) n id (caller k (Some e), []) 0 (λ y. either (eqb y BACK) EMPTY y) (collected M (step n 0 BACK EMPTY none) (caller k (Some e), []))
+  collects n id k e s a long here fits =
+      exchanged x BACK EMPTY (λ y. (w : Knows J) × (b : Act (Letter J)) × Valid s.homes [] b × Always M (stepped s 0 y id [] w b) × collected M (step n 0 BACK EMPTY none) (caller k (Some e), []) x (w, carried_after [] b))
       (λ hit.
       let g : IsBack M c.word c.home e = back (word_is ∙ hit) in (
-        caller None,
+        caller (k + 1) None,
         takes 0 (letter.Answer g.answer),
         ap (λ hs. get_elem? hs 0) c.homes ∙ ap some g.home,
-        caller_stepped s id (caller (Some e)) c (slice_set s.words 0 EMPTY) (slice_set s.homes 0 none) EMPTY none (caller None)
+        caller_stepped s id (caller k (Some e)) c (slice_set s.words 0 EMPTY) (slice_set s.homes 0 none) EMPTY none (caller (k + 1) None)
             (ap (λ ws. slice_set ws 0 EMPTY) c.words) (ap (λ hs. slice_set hs 0 none) c.homes)
             (record {
               roles = (refl, c.facts.roles.1);
@@ -207,13 +207,13 @@ module _ {J : Type 0} (M : Meaning J) where
             }),
         ((λ y. (g.answer, refl, g.through)), (λ y. absurd (y hit))),
       ))
-      (λ miss. (caller (Some e), keeps, tt, caller_again s id (caller (Some e)) c, ((λ y. absurd (miss y)), (λ y. refl))))
+      (λ miss. (caller k (Some e), keeps, tt, caller_again s id (caller k (Some e)) c, ((λ y. absurd (miss y)), (λ y. refl))))
     where
       x : ℕ
       x = slice_index s.words 0
 
-      c : OfCaller M s id (caller (Some e))
-      c = of_caller M s id (caller (Some e)) refl a here
+      c : OfCaller M s id (caller k (Some e))
+      c = of_caller M s id (caller k (Some e)) refl a here
 
       word_is : c.word ≡ x
       word_is = sym (ap (λ ws. slice_index ws 0) c.words)
@@ -222,15 +222,15 @@ module _ {J : Type 0} (M : Meaning J) where
       back is = ⊎_elim (λ g. absurd (omega (arith, is, g.word))) (⊎_elim (λ t. absurd (omega (arith, is, t.word))) (λ b. b)) c.facts.out
 
   -- the task is taken back, or the helper has it
-  pub withdraws : (n id : ℕ) (e : Errand J) → Allows (Always M) n id (caller (Some e), []) 0 (λ y. either (eqb y GIVEN) EMPTY y) (withdrew M (step n 0 GIVEN EMPTY none) (caller (Some e), []))
-  withdraws n id e s a long here fits =
-      exchanged x GIVEN EMPTY (λ y. (w : Knows J) × (b : Act (Letter J)) × Valid s.homes [] b × Always M (stepped s 0 y id [] w b) × withdrew M (step n 0 GIVEN EMPTY none) (caller (Some e), []) x (w, carried_after [] b))
+  pub withdraws : (n id k : ℕ) (e : Errand J) → Allows (Always M) n id (caller k (Some e), []) 0 (λ y. either (eqb y GIVEN) EMPTY y) (withdrew M (step n 0 GIVEN EMPTY none) (caller k (Some e), []))
+  withdraws n id k e s a long here fits =
+      exchanged x GIVEN EMPTY (λ y. (w : Knows J) × (b : Act (Letter J)) × Valid s.homes [] b × Always M (stepped s 0 y id [] w b) × withdrew M (step n 0 GIVEN EMPTY none) (caller k (Some e), []) x (w, carried_after [] b))
       (λ hit.
       let g : IsGiven M c.word c.home e = given (word_is ∙ hit) in (
-        caller None,
+        caller k None,
         takes 0 (letter.Task g.task),
         ap (λ hs. get_elem? hs 0) c.homes ∙ ap some g.home,
-        caller_stepped s id (caller (Some e)) c (slice_set s.words 0 EMPTY) (slice_set s.homes 0 none) EMPTY none (caller None)
+        caller_stepped s id (caller k (Some e)) c (slice_set s.words 0 EMPTY) (slice_set s.homes 0 none) EMPTY none (caller k None)
             (ap (λ ws. slice_set ws 0 EMPTY) c.words) (ap (λ hs. slice_set hs 0 none) c.homes)
             (record {
               roles = (refl, c.facts.roles.1);
@@ -239,13 +239,13 @@ module _ {J : Type 0} (M : Meaning J) where
             }),
         ((λ y. (g.task, refl, (ap (λ z. z.seat) g.same, g.ready))), (λ y. absurd (y hit))),
       ))
-      (λ miss. (caller (Some e), keeps, tt, caller_again s id (caller (Some e)) c, ((λ y. absurd (miss y)), (λ y. refl))))
+      (λ miss. (caller k (Some e), keeps, tt, caller_again s id (caller k (Some e)) c, ((λ y. absurd (miss y)), (λ y. refl))))
     where
       x : ℕ
       x = slice_index s.words 0
 
-      c : OfCaller M s id (caller (Some e))
-      c = of_caller M s id (caller (Some e)) refl a here
+      c : OfCaller M s id (caller k (Some e))
+      c = of_caller M s id (caller k (Some e)) refl a here
 
       word_is : c.word ≡ x
       word_is = sym (ap (λ ws. slice_index ws 0) c.words)
@@ -254,13 +254,13 @@ module _ {J : Type 0} (M : Meaning J) where
       given is = ⊎_elim (λ g. g) (⊎_elim (λ t. absurd (omega (arith, is, t.word))) (λ b. absurd (omega (arith, is, b.word)))) c.facts.out
 
   -- there is no further task
-  pub ends : (n id : ℕ) (l : List (ℕ × Letter J)) → Allows (Always M) n id (caller None, l) 0 (λ _. OVER) (λ _. closed (step n 0 OVER 0 none) (caller None, l) OVER)
-  ends n id l s a long here fits =
-      let c = of_caller M s id (caller None) refl a here in (
-        caller None,
+  pub ends : (n id k : ℕ) (l : List (ℕ × Letter J)) → Allows (Always M) n id (caller k None, l) 0 (λ _. OVER) (λ _. closed (step n 0 OVER 0 none) (caller k None, l) OVER)
+  ends n id k l s a long here fits =
+      let c = of_caller M s id (caller k None) refl a here in (
+        caller k None,
         keeps,
         tt,
-        caller_stepped s id (caller None) c (slice_set s.words 0 OVER) s.homes OVER c.home (caller None)
+        caller_stepped s id (caller k None) c (slice_set s.words 0 OVER) s.homes OVER c.home (caller k None)
             (ap (λ ws. slice_set ws 0 OVER) c.words) c.homes
             (record {
               roles = (refl, c.facts.roles.1);

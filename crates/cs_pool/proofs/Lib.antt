@@ -1,5 +1,6 @@
 pub mod Ends
 pub mod Exchanging
 pub mod Found
+pub mod Missed
 pub mod Seats
 pub mod Shared

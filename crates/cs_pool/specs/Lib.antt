@@ -1,3 +1,4 @@
+pub mod Alone
 pub mod Letters
 pub mod Mailboxes
 pub mod Pools

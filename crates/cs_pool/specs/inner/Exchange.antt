@@ -21,7 +21,7 @@ use Rattle.cs_pool.specs.declared.view.Role.TheVariants.{Maker, Holder, Caller, 
 module _ {J : Type 0} where
   -- the view of a mailbox's first end: it is being made
   abbrev pub beginning : Role → Knows J
-  beginning r = record { role = r; out = None }
+  beginning r = record { role = r; out = None; served = 0 }
 
 module _ {J : Type 0} (M : Meaning J) where
   -- The task lies in the slot, and nobody has begun it: its seat and its board are those that are out, and the seat owes nothing.

@@ -1,9 +1,10 @@
-use Rattle.std.proofs.Common.{rules, ap, ◌∙◌, subst}
+use Rattle.std.proofs.Common.{rules, ◌+◌, ap, sym, ◌∙◌, subst}
 use Rattle.std.proofs.lemmas.List.Elements.{All-cons, All-tail}
 use Rattle.std.specs.Arc.{arc_value}
 use Rattle.std.specs.List.{All}
 use Rattle.cs_board.specs.Board.{plan, name, view, IsSeatOf}
 use Rattle.cs_pool.proofs.Seats.{ready_kept, leads_kept, leads_joined}
+use Rattle.cs_pool.specs.Pools.{served_by}
 use Rattle.cs_pool.specs.declared.line.Line.{Line}
 use Rattle.cs_pool.specs.inner.Lines.{IsIdle}
 use Rattle.cs_pool.proofs.cycle.+share.Goals as goal
@@ -13,6 +14,9 @@ returns-in_default-part_in-clause-idle g t c =
     let P : Line g.row.J.Denot → Type 0 = λ line. IsIdle line in
     let rest : All P c.in-Some.rest.now = All-tail P c.in-Some.line.now c.in-Some.rest.now (subst (All P) c.in-Some.ensures.cases.0 c.requires.idle) in
     All-cons P c.part_in.new.self c.in-Some.rest.now c.part_in.ensures.idle rest
+
+pub returns-in_default-part_in-clause-missed : goal.returns-in_default-part_in-clause-missed
+returns-in_default-part_in-clause-missed g t c = λ _. ap (λ n. n + served_by c.in-Some.rest.now) c.part_in.ensures.served ∙ sym (ap served_by c.in-Some.ensures.cases.0)
 
 pub share-requires : goal.share-requires
 share-requires g t c κs within =
