@@ -4,9 +4,9 @@ use Rattle.cs_board.specs.Board.{plan, name, view, IsSeatOf}
 use Rattle.cs_board.specs.declared.board.Board.{Board}
 use Rattle.cs_board.specs.declared.board.BoardSeat.{BoardSeat}
 use Rattle.cs_cells.specs.Meaning.{Meaning}
-use Rattle.cs_crew.proofs.Numbers.{without_greatest}
-use Rattle.cs_crew.specs.Crew.{IsReady}
-use Rattle.cs_crew.specs.Numbered.{down, IsFirst}
+use Rattle.cs_pool.proofs.Numbers.{without_greatest}
+use Rattle.cs_pool.specs.Working.{IsReady}
+use Rattle.cs_pool.specs.Numbered.{down, IsFirst}
 use Rattle.cs_board.specs.Counts.{without}
 use Rattle.cs_board.specs.Views.{kept_view, joined}
 use Rattle.cs_board.specs.declared.view.View.{View}

@@ -6,7 +6,7 @@ use crate::letter::{GIVEN, OVER, Task};
 use crate::mailbox::{HelperEnd, Mailbox};
 use crossbeam_utils::sync::Parker;
 use cs_cells::Job;
-use cs_crew::work;
+use crate::worker::work;
 use cs_edge::Gate;
 use std::alloc::Global;
 use std::hint::spin_loop;

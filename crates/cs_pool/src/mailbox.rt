@@ -4,7 +4,7 @@ ghost use Rattle.std.specs.Int.{from_bool};
 ghost use Rattle.std.specs.Arc.{arc_value};
 ghost use Rattle.cs_board.specs.declared.board.Board.{Board};
 ghost use Rattle.cs_board.specs.declared.board.BoardSeat.{BoardSeat};
-ghost use Rattle.cs_crew.specs.Crew.{IsReady, IsDone, IsThrough};
+ghost use Rattle.cs_pool.specs.Working.{IsReady, IsDone, IsThrough};
 
 use crate::letter::{BACK, EMPTY, GIVEN, Letter, OVER, TAKEN, Task};
 use crate::mailbox_rule::{

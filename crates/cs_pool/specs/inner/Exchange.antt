@@ -7,7 +7,7 @@ use mathlib.Core.Option.{some, none}
 use Rattle.atomic_table.specs.Table.{State}
 use Rattle.cs_board.specs.declared.board.BoardSeat.{BoardSeat}
 use Rattle.cs_cells.specs.Meaning.{Meaning}
-use Rattle.cs_crew.specs.Crew.{IsDone, IsThrough}
+use Rattle.cs_pool.specs.Working.{IsDone, IsThrough}
 use Rattle.cs_pool.specs.Letters.{errand_of}
 use Rattle.cs_pool.specs.declared.letter.Letter.{Letter}
 use Rattle.cs_pool.specs.declared.letter.Letter.TheVariants as letter

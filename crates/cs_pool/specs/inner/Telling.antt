@@ -5,7 +5,7 @@ use Rattle.std.specs.Arc.{arc_value}
 use Rattle.atomic_table.specs.Table.{Me, Step}
 use Rattle.cs_board.specs.declared.board.BoardSeat.{BoardSeat}
 use Rattle.cs_cells.specs.Meaning.{Meaning}
-use Rattle.cs_crew.specs.Crew.{IsDone, IsThrough}
+use Rattle.cs_pool.specs.Working.{IsDone, IsThrough}
 use Rattle.cs_pool.specs.Letters.{errand_of, task_in, caller, helper}
 use Rattle.cs_pool.specs.inner.Exchange.{beginning}
 use Rattle.cs_pool.specs.declared.letter.Letter.{Letter}
