@@ -1,6 +1,7 @@
 -- What a cycle that was offered tells of the next ones.
-use Rattle.std.proofs.Common.{◌≡◌, ℕ, suc, ◌+◌, ◌*◌, ◌<◌, ◌^◌, Bool, true, false, refl, ap, ◌∙◌, arith}
+use Rattle.std.proofs.Common.{◌≡◌, ℕ, suc, ◌+◌, ◌*◌, ◌<◌, ◌^◌, ◌||◌, Bool, true, false, refl, ap, ◌∙◌, arith}
 use Rattle.std.specs.Prelude.{min}
+use Rattle.std.specs.Int.{from_bool}
 use Rattle.std.proofs.Math.Nat.{pow-succ'}
 use Rattle.cs_pool.specs.Alone.{most_alone, alone_after}
 use Rattle.cs_pool.specs.Pools.{Learns, tasks_served}
@@ -14,9 +15,11 @@ twice_more x k is =
     omega (arith, is, p, s)
 
 module _ {J R G : Type 0} where
-  pub learns : (before after : Pool J R G) (begun : Bool) → (begun ≡ true → tasks_served before < tasks_served after) → (begun ≡ false → tasks_served after ≡ tasks_served before)
+  pub learns : (before after : Pool J R G) (begun : Bool) → (begun ≡ true → tasks_served before < tasks_served after)
+      → (begun ≡ false → tasks_served after ≡ tasks_served before)
       → (begun ≡ true → (after.sparing.alone ≡ 0) × (after.sparing.after_a_miss ≡ 1))
-      → (begun ≡ false → (after.sparing.alone ≡ before.sparing.after_a_miss) × (after.sparing.after_a_miss ≡ min (2 * before.sparing.after_a_miss) most_alone))
+      → (begun ≡ false → (after.sparing.alone ≡ before.sparing.after_a_miss)
+      × (after.sparing.after_a_miss ≡ min (2 * before.sparing.after_a_miss) most_alone))
       → Learns before after
   learns before after true more same helped missed = record {
     served = omega (arith, more refl);
@@ -28,3 +31,17 @@ module _ {J R G : Type 0} where
     helped = λ l. absurd (omega (arith, same refl, l));
     missed = λ _ k is. ((missed refl).0 ∙ is, (missed refl).1 ∙ twice_more before.sparing.after_a_miss k is);
   }
+
+-- the tasks of a first helper and of the others, after they were asked for their seats
+pub more_served : (a b : Bool) (p q p' q' : ℕ) → p' ≡ p + from_bool a → (b ≡ true → q < q') → (b ≡ false → q' ≡ q)
+    → (a || b) ≡ true → p + q < p' + q'
+more_served true true p q p' q' one more same is = let o : p' ≡ p + 1 = one in omega (arith, o, more refl)
+more_served true false p q p' q' one more same is = let o : p' ≡ p + 1 = one in omega (arith, o, same refl)
+more_served false true p q p' q' one more same is = let o : p' ≡ p + 0 = one in omega (arith, o, more refl)
+more_served false false p q p' q' one more same is = absurd (cc)
+
+pub none_served : (a b : Bool) (p q p' q' : ℕ) → p' ≡ p + from_bool a → (b ≡ true → q < q') → (b ≡ false → q' ≡ q)
+    → (a || b) ≡ false → p' + q' ≡ p + q
+none_served true b p q p' q' one more same is = absurd (cc)
+none_served false true p q p' q' one more same is = absurd (cc)
+none_served false false p q p' q' one more same is = let o : p' ≡ p + 0 = one in omega (arith, o, same refl)

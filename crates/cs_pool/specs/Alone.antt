@@ -5,6 +5,7 @@ use Rattle.std.specs.Prelude.{ℕ, ◌^◌, min}
 abbrev pub most_alone : ℕ
 most_alone = 128
 
--- how many follow a cycle that was offered and that no helper began, by how many such there were in a row before it: 1, 2, 4 .. 128
+-- how many follow a cycle that was offered and that no helper began, by how many such there were in a row before it: 1,
+-- 2, 4 .. 128
 abbrev pub alone_after : ℕ → ℕ
 alone_after misses = min (2 ^ misses) most_alone

@@ -1,5 +1,6 @@
--- What the calls of a mailbox promise of its two ends. Nobody else has an end of it, so what is out is known at every moment:
--- the caller can't hand out a seat of a cycle before again, nor begin a cycle while a helper still has its share of the last.
+-- What the calls of a mailbox promise of its two ends. Nobody else has an end of it, so what is out is known at every
+-- moment: the caller can't hand out a seat of a cycle before again, nor begin a cycle while a helper still has its
+-- share of the last.
 use Rattle.std.specs.Prelude.{◌≡◌, ℕ, [], ◌∷◌, Some, None}
 use Rattle.cs_board.specs.declared.board.Board.{Board}
 use Rattle.cs_board.specs.declared.board.BoardSeat.{BoardSeat}
@@ -10,7 +11,8 @@ use Rattle.cs_pool.specs.declared.mailbox.HelperEnd.{HelperEnd}
 use Rattle.cs_pool.specs.declared.mailbox.Mailbox.{Mailbox}
 
 module _ {J : Type 0} where
-  -- how many tasks the helper has begun and given back, as the caller's end knows; one that was taken back doesn't count
+  -- how many tasks the helper has begun and given back, as the caller's end knows; one that was taken back doesn't
+  -- count
   abbrev pub served : CallerEnd J → ℕ
   served end = end.seat.me.0.served
 

@@ -7,7 +7,8 @@ use Rattle.cs_pool.specs.Mailboxes.{served}
 use Rattle.cs_pool.specs.declared.line.Line.{Line}
 use Rattle.cs_pool.specs.declared.pool.Pool.{Pool}
 
--- nobody but the caller is of use in a cycle of so many notes: there is no helper, or one chain along the edges has all of them
+-- nobody but the caller is of use in a cycle of so many notes: there is no helper, or one chain along the edges has all
+-- of them
 abbrev pub NeedsNoHelper : ℕ → List (ℕ × ℕ) → ℕ → Type 0
 NeedsNoHelper n edges notes = (n ≡ 0) ⊎ ((chains : ℕ) × HasCover edges notes chains × (chains ≤ 1))
 

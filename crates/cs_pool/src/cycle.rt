@@ -8,7 +8,8 @@ ghost use Rattle.cs_cells.specs.Serial.{serial_cells, serial_jobs};
 ghost use Rattle.cs_pool.specs.Working.{IsReady, IsDone};
 ghost use Rattle.cs_pool.specs.Numbered.{IsFirst};
 ghost use Rattle.cs_graph.specs.Graph.{IsFit};
-ghost use Rattle.cs_pool.specs.Pools.{helpers, ended, next_cycle, cycles_alone, tasks_served, served_by, HasMissed, Learns, LearnsNothing, NeedsNoHelper};
+ghost use Rattle.cs_pool.specs.Pools.{helpers, ended, next_cycle, cycles_alone, tasks_served, served_by};
+ghost use Rattle.cs_pool.specs.Pools.{HasMissed, Learns, LearnsNothing, NeedsNoHelper};
 ghost use Rattle.cs_pool.specs.inner.Lines.{IsIdle};
 ghost use Rattle.cs_cells.specs.Areas.{IsFootprint};
 ghost use Rattle.cs_board.specs.Views.{opening_view};
@@ -17,9 +18,9 @@ use crate::letter::Task;
 use crate::line::Line;
 use crate::mailbox::Returned;
 use crate::pool::Pool;
+use crate::worker::work;
 use cs_board::{Board, BoardSeat};
 use cs_cells::{Job, serial_laws};
-use crate::worker::work;
 use cs_desk::{Desk, Receipt};
 use cs_edge::Gate;
 use cs_graph::Graph;
@@ -217,9 +218,10 @@ fn share<J: Job + Drop, R: Wait, G: Gate>(
         member,
     });
     let others_begun = share(shift, rest, others - 1, board, first);
-    let Returned { seat, begun } = line.await_seat(shift.rt);
+    let returned = line.await_seat(shift.rt);
+    let Returned { seat, begun } = returned;
     board.join(first, seat);
-    begun || others_begun
+    begun | others_begun
 }
 
 /// The board, once nobody else has a share of it. Each helper let its share go before it gave its

@@ -94,25 +94,22 @@ impl<J: Job + Drop> Mailbox<J> {
         ensures served { IfSome result (λ r. served end.new ≡ served end.old + from_bool r.begun) }
         ensures same { IfNone result (served end.new ≡ served end.old) }
     {
-        if let Some(seat) = self.fetch_answer(end) {
-            return Some(Returned { seat, begun: true });
+        match self.fetch_answer(end) {
+            Some(returned) => Some(returned),
+            None => self.withdraw(end),
         }
-        let Some(seat) = self.withdraw(end) else {
-            return None;
-        };
-        Some(Returned { seat, begun: false })
     }
 
     /// The seat that is out, where it has come back.
-    fn fetch_answer(&self, end: &mut CallerEnd<J>) -> Option<BoardSeat<J>>
+    fn fetch_answer(&self, end: &mut CallerEnd<J>) -> Option<Returned<J>>
         requires { (b : Board J.row.Denot) × (s : BoardSeat J.row.Denot)
             × HasOut self.now end.old b s }
         ensures some { (b : Board J.row.Denot) (s : BoardSeat J.row.Denot)
-            → HasOut self.now end.old b s → IfSome result (λ r. IsThrough J.means b s r) }
+            → HasOut self.now end.old b s → IfSome result (λ r. IsThrough J.means b s r.seat) }
         ensures home { IfSome result (λ _. HasNothingOut self.now end.new) }
         ensures none { (b : Board J.row.Denot) (s : BoardSeat J.row.Denot)
             → HasOut self.now end.old b s → IfNone result (HasOut self.now end.new b s) }
-        ensures served { IfSome result (λ _. served end.new ≡ served end.old + 1) }
+        ensures served { IfSome result (λ r. served end.new ≡ served end.old + from_bool r.begun) }
         ensures same { IfNone result (served end.new ≡ served end.old) }
     {
         let shared = &self.table.shared;
@@ -124,19 +121,20 @@ impl<J: Job + Drop> Mailbox<J> {
         let Letter::Answer(seat) = letter else {
             unreachable!()
         };
-        Some(seat)
+        Some(Returned { seat, begun: true })
     }
 
     /// The seat that is out, where the helper hasn't taken its task.
-    fn withdraw(&self, end: &mut CallerEnd<J>) -> Option<BoardSeat<J>>
+    fn withdraw(&self, end: &mut CallerEnd<J>) -> Option<Returned<J>>
         requires { (b : Board J.row.Denot) × (s : BoardSeat J.row.Denot)
             × HasOut self.now end.old b s }
         ensures some { (b : Board J.row.Denot) (s : BoardSeat J.row.Denot)
-            → HasOut self.now end.old b s → IfSome result (λ r. IsThrough J.means b s r) }
+            → HasOut self.now end.old b s → IfSome result (λ r. IsThrough J.means b s r.seat) }
         ensures home { IfSome result (λ _. HasNothingOut self.now end.new) }
         ensures none { (b : Board J.row.Denot) (s : BoardSeat J.row.Denot)
             → HasOut self.now end.old b s → IfNone result (HasOut self.now end.new b s) }
-        ensures same { served end.new ≡ served end.old }
+        ensures served { IfSome result (λ r. served end.new ≡ served end.old + from_bool r.begun) }
+        ensures same { IfNone result (served end.new ≡ served end.old) }
     {
         let shared = &self.table.shared;
         let found = shared.compare_exchange::<Withdraw>(&mut end.seat, 0, GIVEN, EMPTY);
@@ -147,7 +145,10 @@ impl<J: Job + Drop> Mailbox<J> {
         let Letter::Task(task) = letter else {
             unreachable!()
         };
-        Some(task.into_seat(self, end))
+        Some(Returned {
+            seat: task.into_seat(self, end),
+            begun: false,
+        })
     }
 
     /// There will be no further task: the helper ends when it finds that.

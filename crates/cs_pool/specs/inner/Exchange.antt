@@ -1,6 +1,6 @@
 -- The rule of a mailbox: what holds between any two steps of its two ends, whatever the interleaving.
--- M is what jobs mean, w the mailbox's word, h what lies in its slot (none while the slot is out with an end), c and d what the caller and
--- the helper know, e what is out, s the state of the mailbox.
+-- M is what jobs mean, w the mailbox's word, h what lies in its slot (none while the slot is out with an end), c and d
+-- what the caller and the helper know, e what is out, s the state of the mailbox.
 use Rattle.std.specs.Prelude.{◌≡◌, ◌≢◌, ◌⊎◌, ℕ, [], ◌∷◌, Some, None, MatchOption}
 use mathlib.Core.Option as maybe
 use mathlib.Core.Option.{some, none}
@@ -24,7 +24,8 @@ module _ {J : Type 0} where
   beginning r = record { role = r; out = None; served = 0 }
 
 module _ {J : Type 0} (M : Meaning J) where
-  -- The task lies in the slot, and nobody has begun it: its seat and its board are those that are out, and the seat owes nothing.
+  -- The task lies in the slot, and nobody has begun it: its seat and its board are those that are out, and the seat
+  -- owes nothing.
   pub record IsGiven (w : ℕ) (h : maybe.Option (Letter J)) (e : Errand J) : Type 0 where
     pub word : w ≡ GIVEN
     pub task : Task J

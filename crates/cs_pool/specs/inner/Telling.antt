@@ -1,5 +1,6 @@
 -- What each kind of step on a mailbox tells the end that makes it.
--- st is the step, m the end before it, r the word that was found, n the end after it; e is what is out, t a task, s a seat. M is what jobs mean.
+-- st is the step, m the end before it, r the word that was found, n the end after it; e is what is out, t a task, s a
+-- seat. M is what jobs mean.
 use Rattle.std.specs.Prelude.{◌≡◌, ◌≢◌, ◌+◌, ℕ, [], ◌∷◌, Some, None, IfSome}
 use Rattle.std.specs.Arc.{arc_value}
 use Rattle.atomic_table.specs.Table.{Me, Step}
@@ -43,17 +44,20 @@ module _ {J : Type 0} (M : Meaning J) where
   -- the helper found a task and is on duty with it, or found none
   abbrev pub took : Tells J
   took st m r n =
-      (r ≡ GIVEN → (t : Task J) × (n ≡ (helper (Some (errand_of t)), (0, letter.Task t) ∷ [])) × IsDone M (arc_value t.board) t.seat)
+      (r ≡ GIVEN → (t : Task J) × (n ≡ (helper (Some (errand_of t)), (0, letter.Task t) ∷ []))
+      × IsDone M (arc_value t.board) t.seat)
       × (r ≢ GIVEN → n ≡ m)
 
   -- the caller found the seat that was out, after its work, so that one task more was served, or found no answer
   abbrev pub collected : Tells J
   collected st m r n =
-      (r ≡ BACK → (s : BoardSeat J) × (n ≡ (caller (m.0.served + 1) None, (0, letter.Answer s) ∷ [])) × IfSome m.0.out (λ e. IsThrough M e.board e.seat s))
+      (r ≡ BACK → (s : BoardSeat J) × (n ≡ (caller (m.0.served + 1) None, (0, letter.Answer s) ∷ []))
+      × IfSome m.0.out (λ e. IsThrough M e.board e.seat s))
       × (r ≢ BACK → n ≡ m)
 
   -- the caller found the task as it was given, or found it taken
   abbrev pub withdrew : Tells J
   withdrew st m r n =
-      (r ≡ GIVEN → (t : Task J) × (n ≡ (caller m.0.served None, (0, letter.Task t) ∷ [])) × IfSome m.0.out (λ e. (t.seat ≡ e.seat) × IsDone M e.board e.seat))
+      (r ≡ GIVEN → (t : Task J) × (n ≡ (caller m.0.served None, (0, letter.Task t) ∷ []))
+      × IfSome m.0.out (λ e. (t.seat ≡ e.seat) × IsDone M e.board e.seat))
       × (r ≢ GIVEN → n ≡ m)
