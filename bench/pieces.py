@@ -40,6 +40,16 @@ def many(notes=2000, cycles=500):
     return orc, f"f1 0 4096 10 1\n{sco}e\n"
 
 
+def staccato(chords=64):
+    """Chords of 48 notes of twelve oscillators, 20 cycles each with 5 light cycles after it, over two notes that stay."""
+    orc = "sr = 32000\nksmps = 64\nnchnls = 1\ninstr 1\na1 oscili p4, p5, 1\nout a1\nendin\ninstr 2\n"
+    orc += "".join(f"a{n} oscili p4, p5 * {n}, 1\n" for n in range(1, 13))
+    orc += "out " + " + ".join(f"a{n}" for n in range(1, 13)) + "\nendin\n"
+    notes = "".join(f"i2 {beat * 0.05:.2f} .04 9 {100 + 3 * n}\n" for beat in range(chords) for n in range(48))
+    stay = "".join(f"i1 0 {chords * 0.05:.2f} 500 {pitch}\n" for pitch in (220, 330))
+    return orc, f"f1 0 4096 10 1\n{stay}{notes}e\n"
+
+
 def chain():
     """Twenty notes on one global variable: each waits for the one before it."""
     orc = "sr = 8000\nksmps = 32\nnchnls = 1\ngk1 init 0\ninstr 1\ngk1 = gk1 + p4\na1 oscili gk1, p5, 1\nout a1\n"
@@ -108,6 +118,7 @@ LONG = {
     "the stereo piece, 7 notes": stereo(),
     "64 notes of 16 oscillators, 10 s": heavy(),
     "500 notes at once, one changes in each cycle, 5 s": many(),
+    "staccato chords over two notes, 3.2 s": staccato(),
 }
 SHORT = {
     "stereo": small_stereo(),

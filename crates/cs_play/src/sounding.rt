@@ -16,11 +16,11 @@ ghost use Rattle.cs_report.specs.Report.{counts_in, line_room};
 ghost use Rattle.cs_turns.specs.Turns.{turn_lines_of};
 
 use cs_arguments::Order;
-use cs_crew::crew_size;
 use cs_desk::Tally;
 use cs_edge::{Gate, Sink, Tap};
 use cs_perform::{Crew, Outcome, Output, PlayFault, TurnLines, perform};
 use cs_piece::Setup;
+use cs_pool::crew_size;
 use cs_report::{Counts, Status, report, say_end};
 use std::alloc::Global;
 use std::sync::Wait;

@@ -7,6 +7,12 @@ const LONG: u64 = 1_000_000_000;
 
 const SHORT: u64 = 20_000_000;
 
+/// And where a hundred cycles may pass before one is offered to helpers, shorter still; some milliseconds.
+const BRIEF: u64 = 4_000_000;
+
+/// How often two notes are to meet.
+const MEETINGS: u64 = 10;
+
 /// What the gate does.
 #[derive(Clone, Copy)]
 pub enum Task {
@@ -14,6 +20,10 @@ pub enum Task {
     /// Of the notes from this one on, it holds the first of a cycle until another has come, or for so many turns; so notes that
     /// run one after another never meet. Once two have met, none is held.
     Meeting(u32),
+    /// From this cycle on, in each until two notes have met in ten, it holds the one that comes first until the other has come
+    /// in the same cycle, or for so many turns, and then the other, so that whoever ran the first has nothing more to do
+    /// meanwhile. It counts its calls.
+    Gathering(u32),
     /// It counts its calls, and marks one that isn't the next: each cycle has so many notes, which must come one by one.
     Counting(u32),
 }
@@ -41,6 +51,14 @@ impl Watch {
         }
     }
 
+    /// In how many cycles two notes met, and how many calls there were.
+    pub fn gathered(&self) -> (u64, u64) {
+        (
+            self.met.load(Ordering::SeqCst),
+            self.calls.load(Ordering::SeqCst),
+        )
+    }
+
     /// Whether a note that was held saw another come.
     pub fn has_met(&self) -> bool {
         self.met.load(Ordering::SeqCst) == 1
@@ -62,12 +80,34 @@ impl Watch {
             self.joined.store(cycle, Ordering::SeqCst);
             return;
         }
+        if self.sees_another(cycle, turns) {
+            self.met.store(1, Ordering::SeqCst);
+        }
+    }
+
+    // Whether another note comes in this cycle, in so many turns.
+    fn sees_another(&self, cycle: u64, turns: u64) -> bool {
         for _ in 0..turns {
             if self.joined.load(Ordering::SeqCst) == cycle {
-                self.met.store(1, Ordering::SeqCst);
-                return;
+                return true;
             }
             std::hint::spin_loop();
+        }
+        false
+    }
+
+    fn gather(&self, cycle: u64, turns: u64) {
+        if self.met.load(Ordering::SeqCst) >= MEETINGS {
+            return;
+        }
+        if self.holding.swap(cycle, Ordering::SeqCst) == cycle {
+            self.joined.store(cycle, Ordering::SeqCst);
+            // Nobody joins cycle 0, which is none.
+            self.sees_another(0, BRIEF);
+            return;
+        }
+        if self.sees_another(cycle, turns) {
+            self.met.fetch_add(1, Ordering::SeqCst);
         }
     }
 
@@ -88,6 +128,15 @@ impl Gate for Watch {
                     self.hold(
                         cycle.saturating_add(1),
                         if from == 0 { LONG } else { SHORT },
+                    );
+                }
+            }
+            Task::Gathering(from) => {
+                self.calls.fetch_add(1, Ordering::SeqCst);
+                if cycle >= u64::from(from) {
+                    self.gather(
+                        cycle.saturating_add(1),
+                        if from == 0 { LONG } else { BRIEF },
                     );
                 }
             }

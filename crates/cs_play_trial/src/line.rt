@@ -47,6 +47,8 @@ pub enum Line<'a> {
     Twice,
     /// Two notes of a cycle meet, of those from this one on, or the line says that they didn't.
     Meet(u32),
+    /// Two notes meet in ten cycles, of those from this one on; the line says in how many they did, and how many calls there were.
+    Gather(u32),
     /// The gate counts its calls, of so many notes a cycle.
     Count(u32),
     /// A mirror with room for so many values is told the mix too.
@@ -83,6 +85,7 @@ fn line_of_word(line: &[u8]) -> Line<'_> {
         b"report" => Line::Show(Shown::Report),
         b"twice" => Line::Twice,
         b"meet" => Line::Meet(number_of(rest)),
+        b"gather" => Line::Gather(number_of(rest)),
         b"count" => Line::Count(number_of(rest)),
         b"mirror" => Line::Mirror(number_of(rest)),
         b"wide" => Line::Wide,

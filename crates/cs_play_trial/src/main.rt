@@ -79,6 +79,7 @@ fn follow<R: Files + Print + AllocGlobal + Threads + Wait + Sync>(
         Line::Show(what) => desk.once.show(what),
         Line::Twice => desk.once.twice = true,
         Line::Meet(from) => desk.once.task = Task::Meeting(from),
+        Line::Gather(from) => desk.once.task = Task::Gathering(from),
         Line::Count(notes) => desk.once.task = Task::Counting(notes),
         Line::Mirror(room) => desk.once.mirror = room,
         Line::Wide => desk.once.wide = true,

@@ -56,6 +56,14 @@ fn add_gate(out: &mut String, task: Task, gate: &Watch) -> Result<(), AllocError
     match task {
         Task::Nothing => Ok(()),
         Task::Meeting(_) => out.push_str(if gate.has_met() { "; met" } else { "; not met" }),
+        Task::Gathering(_) => {
+            let (cycles, calls) = gate.gathered();
+            out.push_str("; met in ")?;
+            add_number(out, cycles)?;
+            out.push_str(" cycles, ")?;
+            add_number(out, calls)?;
+            out.push_str(" calls")
+        }
         Task::Counting(_) => match gate.counted() {
             Some(calls) => {
                 out.push_str("; calls of the gate, in order: ")?;

@@ -54,14 +54,17 @@ module _ {J : Type 0} (M : Meaning J) (s : State (Letter J) (Knows J)) (id : ℕ
     pub facts : Facts M word home other v
 
   -- an end of a mailbox that is being made
-  of_begun : (r : Role) (h : maybe.Option (Letter J)) → IsBegun r h s → get_elem? s.views id ≡ some v → (id ≡ 0) × (beginning r ≡ v)
+  of_begun : (r : Role) (h : maybe.Option (Letter J)) → IsBegun r h s → get_elem? s.views id ≡ some v
+      → (id ≡ 0) × (beginning r ≡ v)
   of_begun r h b here = one_of (beginning r) v id (ap (λ vs. get_elem? vs id) (sym b.views) ∙ here)
 
   -- an end of one that has both
-  of_shared : (h : IsShared M s) → get_elem? s.views id ≡ some v → ((id ≡ 0) × (h.caller ≡ v)) ⊎ ((id ≡ 1) × (h.helper ≡ v))
+  of_shared : (h : IsShared M s) → get_elem? s.views id ≡ some v
+      → ((id ≡ 0) × (h.caller ≡ v)) ⊎ ((id ≡ 1) × (h.helper ≡ v))
   of_shared h here = two_of h.caller h.helper v id (ap (λ vs. get_elem? vs id) (sym h.views) ∙ here)
 
-  not_begun : (r q : Role) (h : maybe.Option (Letter J)) → rank r ≢ rank q → v.role ≡ q → IsBegun r h s → get_elem? s.views id ≡ some v → ⊥
+  not_begun : (r q : Role) (h : maybe.Option (Letter J)) → rank r ≢ rank q → v.role ≡ q → IsBegun r h s
+      → get_elem? s.views id ≡ some v → ⊥
   not_begun r q h ne role b here = ne (ap (λ z. rank z.role) (of_begun r h b here).1 ∙ ap rank role)
 
   pub of_caller : v.role ≡ Caller → Always M s → get_elem? s.views id ≡ some v → OfCaller
@@ -80,7 +83,8 @@ module _ {J : Type 0} (M : Meaning J) (s : State (Letter J) (Knows J)) (id : ℕ
         views = h.views ∙ ap (λ z. z ∷ h.helper ∷ []) e.1;
         facts = subst (λ z. Facts M h.word h.home z h.helper) e.1 h.facts;
       })
-      (λ e. absurd (let z : rank Helper ≡ rank Caller = ap rank (sym h.facts.roles.1) ∙ ap (λ z. rank z.role) e.1 ∙ ap rank role in omega (arith, z)))
+      (λ e. absurd (let z : rank Helper ≡ rank Caller =
+      ap rank (sym h.facts.roles.1) ∙ ap (λ z. rank z.role) e.1 ∙ ap rank role in omega (arith, z)))
       (of_shared h here)))
       a
 
@@ -90,7 +94,8 @@ module _ {J : Type 0} (M : Meaning J) (s : State (Letter J) (Knows J)) (id : ℕ
       (⊎_elim
       (λ b. absurd (not_begun Holder Helper none (λ e. omega (arith, e)) role b here))
       (λ (h : IsShared M s). ⊎_elim
-      (λ e. absurd (let z : rank Caller ≡ rank Helper = ap rank (sym h.facts.roles.0) ∙ ap (λ z. rank z.role) e.1 ∙ ap rank role in omega (arith, z)))
+      (λ e. absurd (let z : rank Caller ≡ rank Helper =
+      ap rank (sym h.facts.roles.0) ∙ ap (λ z. rank z.role) e.1 ∙ ap rank role in omega (arith, z)))
       (λ e. record {
         word = h.word;
         home = h.home;
@@ -105,13 +110,15 @@ module _ {J : Type 0} (M : Meaning J) (s : State (Letter J) (Knows J)) (id : ℕ
       a
 
   -- the one end that is being made
-  not_shared : (r : Role) → rank r ≢ rank Caller → rank r ≢ rank Helper → v.role ≡ r → IsShared M s → get_elem? s.views id ≡ some v → ⊥
+  not_shared : (r : Role) → rank r ≢ rank Caller → rank r ≢ rank Helper → v.role ≡ r → IsShared M s
+      → get_elem? s.views id ≡ some v → ⊥
   not_shared r nc nh role h here = ⊎_elim
       (λ e. nc (sym (ap rank role) ∙ ap (λ z. rank z.role) (sym e.1) ∙ ap rank h.facts.roles.0))
       (λ e. nh (sym (ap rank role) ∙ ap (λ z. rank z.role) (sym e.1) ∙ ap rank h.facts.roles.1))
       (of_shared h here)
 
-  pub of_maker : v.role ≡ Maker → Always M s → get_elem? s.views id ≡ some v → (id ≡ 0) × IsBegun Maker (some letter.Nothing) s
+  pub of_maker : v.role ≡ Maker → Always M s → get_elem? s.views id ≡ some v
+      → (id ≡ 0) × IsBegun Maker (some letter.Nothing) s
   of_maker role a here = ⊎_elim
       (λ b. ((of_begun Maker (some letter.Nothing) b here).0, b))
       (⊎_elim

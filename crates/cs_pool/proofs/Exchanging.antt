@@ -1,5 +1,6 @@
 -- Each kind of step on a mailbox keeps its rule, and tells what it promises.
-use Rattle.std.proofs.Common.{◌≡◌, ◌≢◌, ◌⊎◌, ℕ, inl, inr, ⊎_elim, List, [], ◌∷◌, ◌++◌, Option, Some, None, refl, sym, ap, ◌∙◌, subst, arith, slice_index, slice_set, eqb, eq-eqb, ne_eqb}
+use Rattle.std.proofs.Common.{◌≡◌, ◌≢◌, ◌⊎◌, ◌+◌, ℕ, inl, inr, ⊎_elim, List, [], ◌∷◌, ◌++◌, Option, Some, None, refl}
+use Rattle.std.proofs.Common.{sym, ap, ◌∙◌, subst, arith, slice_index, slice_set, eqb, eq-eqb, ne_eqb}
 use Rattle.std.specs.Prelude.{MatchOption}
 use Rattle.std.specs.Arc.{arc_value}
 use Rattle.std.proofs.lemmas.Bool.{cases_eq}
@@ -7,10 +8,11 @@ use mathlib.Core.Option as maybe
 use mathlib.Core.Option.{some, none}
 use prog.Atomic.{either}
 use lib.ListN.{get_elem?}
-use Rattle.atomic_table.specs.Table.{State, Act, keeps, takes, gives, stepped, step, Valid, carried_after, rest, Allows, Splits, opening}
+use Rattle.atomic_table.specs.Table.{State, Act, keeps, takes, gives, stepped, step, Valid, carried_after, rest, Allows}
+use Rattle.atomic_table.specs.Table.{Splits, opening}
 use Rattle.cs_board.specs.declared.board.BoardSeat.{BoardSeat}
 use Rattle.cs_cells.specs.Meaning.{Meaning}
-use Rattle.cs_crew.specs.Crew.{IsDone, IsThrough}
+use Rattle.cs_pool.specs.Working.{IsDone, IsThrough}
 use Rattle.cs_pool.specs.Letters.{errand_of, caller, helper}
 use Rattle.cs_pool.specs.inner.Exchange.{beginning, IsGiven, IsBack, IsHome, IsAbroad, Facts, Always}
 use Rattle.cs_pool.specs.inner.Telling.{Sat, fetched, gave, gave_back, closed, took, collected, withdrew}
@@ -33,23 +35,29 @@ exchanged n old new P hit miss = ⊎_elim
 module _ {J : Type 0} (M : Meaning J) where
   -- a helper that isn't on duty, at a step of the caller
   still_free : (o : Option (Errand J)) (w w' : ℕ) (c c' : Option (Errand J)) → w ≢ TAKEN → w' ≢ TAKEN
-      → MatchOption o (w ≢ TAKEN) (λ e. (w ≡ TAKEN) × (c ≡ Some e)) → MatchOption o (w' ≢ TAKEN) (λ e. (w' ≡ TAKEN) × (c' ≡ Some e))
+      → MatchOption o (w ≢ TAKEN) (λ e. (w ≡ TAKEN) × (c ≡ Some e))
+      → MatchOption o (w' ≢ TAKEN) (λ e. (w' ≡ TAKEN) × (c' ≡ Some e))
   still_free None w w' c c' n n' d = n'
   still_free (Some e) w w' c c' n n' d = absurd (n d.0)
 
   -- at GIVEN there is something out, which lies in the slot
-  given_out : (o : Option (Errand J)) (w : ℕ) (h : maybe.Option (Letter J)) → w ≡ GIVEN → MatchOption o (IsHome M w h) (IsAbroad M w h)
+  given_out : (o : Option (Errand J)) (w : ℕ) (h : maybe.Option (Letter J)) → w ≡ GIVEN
+      → MatchOption o (IsHome M w h) (IsAbroad M w h)
       → (e : Errand J) × (o ≡ Some e) × IsGiven M w h e
   given_out None w h is m = absurd (⊎_elim (λ z. omega (arith, z, is)) (λ z. omega (arith, z, is)) m.word)
   given_out (Some e) w h is m = (e, refl, given_abroad e w h is m)
     where
-      given_abroad : (e : Errand J) (w : ℕ) (h : maybe.Option (Letter J)) → w ≡ GIVEN → IsAbroad M w h e → IsGiven M w h e
-      given_abroad e w h is m = ⊎_elim (λ g. g) (⊎_elim (λ t. absurd (omega (arith, is, t.word))) (λ b. absurd (omega (arith, is, b.word)))) m
+      given_abroad : (e : Errand J) (w : ℕ) (h : maybe.Option (Letter J)) → w ≡ GIVEN → IsAbroad M w h e
+          → IsGiven M w h e
+      given_abroad e w h is m =
+          ⊎_elim (λ g. g) (⊎_elim (λ t. absurd (omega (arith, is, t.word))) (λ b. absurd (omega (arith, is, b.word)))) m
 
   module _ (s : State (Letter J) (Knows J)) (id : ℕ) where
     -- the rule after a step of the caller, and of the helper
-    caller_stepped : (v : Knows J) (c : OfCaller M s id v) (ws : List ℕ) (hs : List (maybe.Option (Letter J))) (w : ℕ) (h : maybe.Option (Letter J)) (v' : Knows J)
-        → ws ≡ w ∷ [] → hs ≡ h ∷ [] → Facts M w h v' c.other → Always M (record { words = ws; homes = hs; views = slice_set s.views id v' })
+    caller_stepped : (v : Knows J) (c : OfCaller M s id v) (ws : List ℕ) (hs : List (maybe.Option (Letter J))) (w : ℕ)
+        (h : maybe.Option (Letter J)) (v' : Knows J)
+        → ws ≡ w ∷ [] → hs ≡ h ∷ [] → Facts M w h v' c.other
+        → Always M (record { words = ws; homes = hs; views = slice_set s.views id v' })
     caller_stepped v c ws hs w h v' words homes facts = inr (inr (record {
       word = w;
       home = h;
@@ -61,8 +69,10 @@ module _ {J : Type 0} (M : Meaning J) where
       facts = facts;
     }))
 
-    helper_stepped : (v : Knows J) (c : OfHelper M s id v) (ws : List ℕ) (hs : List (maybe.Option (Letter J))) (w : ℕ) (h : maybe.Option (Letter J)) (v' : Knows J)
-        → ws ≡ w ∷ [] → hs ≡ h ∷ [] → Facts M w h c.other v' → Always M (record { words = ws; homes = hs; views = slice_set s.views id v' })
+    helper_stepped : (v : Knows J) (c : OfHelper M s id v) (ws : List ℕ) (hs : List (maybe.Option (Letter J))) (w : ℕ)
+        (h : maybe.Option (Letter J)) (v' : Knows J)
+        → ws ≡ w ∷ [] → hs ≡ h ∷ [] → Facts M w h c.other v'
+        → Always M (record { words = ws; homes = hs; views = slice_set s.views id v' })
     helper_stepped v c ws hs w h v' words homes facts = inr (inr (record {
       word = w;
       home = h;
@@ -75,7 +85,8 @@ module _ {J : Type 0} (M : Meaning J) where
     }))
 
   -- the first end takes the slot along
-  pub fetches : (n id : ℕ) → Allows (Always M) n id (beginning Maker, []) 0 (λ y. y) (fetched (step n 0 0 0 none) (beginning Maker, []))
+  pub fetches : (n id : ℕ)
+      → Allows (Always M) n id (beginning Maker, []) 0 (λ y. y) (fetched (step n 0 0 0 none) (beginning Maker, []))
   fetches n id s a long here fits =
       let b = of_maker M s id (beginning Maker) refl a here in (
         beginning Holder,
@@ -84,61 +95,85 @@ module _ {J : Type 0} (M : Meaning J) where
         inr (inl (record {
           words = ap (λ ws. slice_set ws 0 (slice_index ws 0)) b.1.words;
           homes = ap (λ hs. slice_set hs 0 none) b.1.homes;
-          views = ap (λ i. slice_set s.views i (beginning Holder)) b.0 ∙ ap (λ vs. slice_set vs 0 (beginning Holder)) b.1.views;
+          views = ap (λ i. slice_set s.views i (beginning Holder)) b.0
+              ∙ ap (λ vs. slice_set vs 0 (beginning Holder)) b.1.views;
         })),
         refl,
       )
 
   -- the helper's end is split off
-  pub parts : (id : ℕ) → Splits (Always M) id (beginning Holder) (caller None) (helper None)
+  pub parts : (id : ℕ) → Splits (Always M) id (beginning Holder) (caller 0 None) (helper None)
   parts id s a here =
       let b = of_holder M s id (beginning Holder) refl a here in
       inr (inr (record {
         word = EMPTY;
         home = none;
-        caller = caller None;
+        caller = caller 0 None;
         helper = helper None;
         words = b.1.words;
         homes = b.1.homes;
-        views = ap (λ i. slice_set s.views i (caller None) ++ helper None ∷ []) b.0 ∙ ap (λ vs. slice_set vs 0 (caller None) ++ helper None ∷ []) b.1.views;
-        facts = record { roles = (refl, refl); out = record { word = inl refl; home = refl }; duty = λ e. omega (arith, e) };
+        views = ap (λ i. slice_set s.views i (caller 0 None) ++ helper None ∷ []) b.0
+            ∙ ap (λ vs. slice_set vs 0 (caller 0 None) ++ helper None ∷ []) b.1.views;
+        facts = record {
+          roles = (refl, refl);
+          out = record { word = inl refl; home = refl };
+          duty =
+              λ e. omega (arith, e);
+        };
       }))
 
   -- a task is handed out
-  pub hands_out : (n id : ℕ) (t : Task J) → IsDone M (arc_value t.board) t.seat
-      → Allows (Always M) n id (caller None, (0, letter.Task t) ∷ []) 0 (λ _. GIVEN) (λ _. gave (step n 0 GIVEN 0 none) (caller None, (0, letter.Task t) ∷ []) GIVEN)
-  hands_out n id t done s a long here fits =
-      let c = of_caller M s id (caller None) refl a here in
-      let v' : Knows J = caller (Some (errand_of t)) in (
+  pub hands_out : (n id k : ℕ) (t : Task J) → IsDone M (arc_value t.board) t.seat
+      → Allows (Always M) n id (caller k None, (0, letter.Task t) ∷ []) 0 (λ _. GIVEN)
+      (λ _. gave (step n 0 GIVEN 0 none) (caller k None, (0, letter.Task t) ∷ []) GIVEN)
+  hands_out n id k t done s a long here fits =
+      let c = of_caller M s id (caller k None) refl a here in
+      let v' : Knows J = caller k (Some (errand_of t)) in (
         v',
         gives,
         tt,
-        caller_stepped s id (caller None) c (slice_set s.words 0 GIVEN) (slice_set s.homes 0 (some (letter.Task t))) GIVEN (some (letter.Task t)) v'
+        caller_stepped s id (caller k None) c (slice_set s.words 0 GIVEN) (slice_set s.homes 0 (some (letter.Task t)))
+            GIVEN (some (letter.Task t)) v'
             (ap (λ ws. slice_set ws 0 GIVEN) c.words) (ap (λ hs. slice_set hs 0 (some (letter.Task t))) c.homes)
             (record {
               roles = (refl, c.facts.roles.1);
               out = inl (record { word = refl; task = t; home = refl; same = refl; ready = done });
               duty = still_free c.other.out c.word GIVEN None (Some (errand_of t))
-                  (λ e. ⊎_elim (λ z. omega (arith, z, e)) (λ z. omega (arith, z, e)) c.facts.out.word) (λ e. omega (arith, e)) c.facts.duty;
+                  (λ e. ⊎_elim (λ z. omega (arith, z, e)) (λ z. omega (arith, z, e)) c.facts.out.word)
+                  (λ e. omega (arith, e)) c.facts.duty;
             }),
         refl,
       )
 
   -- nothing changes
   caller_again : (s : State (Letter J) (Knows J)) (id : ℕ) (v : Knows J) (c : OfCaller M s id v)
-      → Always M (record { words = slice_set s.words 0 (slice_index s.words 0); homes = s.homes; views = slice_set s.views id v })
+      → Always M (record {
+        words = slice_set s.words 0 (slice_index s.words 0);
+        homes = s.homes;
+        views =
+            slice_set s.views id v;
+      })
   caller_again s id v c = caller_stepped s id v c (slice_set s.words 0 (slice_index s.words 0)) s.homes c.word c.home v
       (ap (λ ws. slice_set ws 0 (slice_index ws 0)) c.words) c.homes c.facts
 
   helper_again : (s : State (Letter J) (Knows J)) (id : ℕ) (v : Knows J) (c : OfHelper M s id v)
-      → Always M (record { words = slice_set s.words 0 (slice_index s.words 0); homes = s.homes; views = slice_set s.views id v })
+      → Always M (record {
+        words = slice_set s.words 0 (slice_index s.words 0);
+        homes = s.homes;
+        views =
+            slice_set s.views id v;
+      })
   helper_again s id v c = helper_stepped s id v c (slice_set s.words 0 (slice_index s.words 0)) s.homes c.word c.home v
       (ap (λ ws. slice_set ws 0 (slice_index ws 0)) c.words) c.homes c.facts
 
   -- a task is taken, or there is none
-  pub takes_task : (n id : ℕ) → Allows (Always M) n id (helper None, []) 0 (λ y. either (eqb y GIVEN) TAKEN y) (took M (step n 0 GIVEN TAKEN none) (helper None, []))
+  pub takes_task : (n id : ℕ)
+      → Allows (Always M) n id (helper None, []) 0 (λ y. either (eqb y GIVEN) TAKEN y)
+      (took M (step n 0 GIVEN TAKEN none) (helper None, []))
   takes_task n id s a long here fits =
-      exchanged x GIVEN TAKEN (λ y. (w : Knows J) × (b : Act (Letter J)) × Valid s.homes [] b × Always M (stepped s 0 y id [] w b) × took M (step n 0 GIVEN TAKEN none) (helper None, []) x (w, carried_after [] b))
+      exchanged x GIVEN TAKEN (λ y. (w : Knows J) × (b : Act (Letter J)) × Valid s.homes [] b
+      × Always M (stepped s 0 y id [] w b)
+      × took M (step n 0 GIVEN TAKEN none) (helper None, []) x (w, carried_after [] b))
       (λ hit.
       let g = given_out c.other.out c.word c.home (word_is ∙ hit) c.facts.out in
       let t : Task J = g.2.task in
@@ -150,7 +185,8 @@ module _ {J : Type 0} (M : Meaning J) where
             (ap (λ ws. slice_set ws 0 TAKEN) c.words) (ap (λ hs. slice_set hs 0 none) c.homes)
             (record {
               roles = (c.facts.roles.0, refl);
-              out = subst (λ o. MatchOption o (IsHome M TAKEN none) (IsAbroad M TAKEN none)) (sym g.1) (inr (inl (record { word = refl; home = refl })));
+              out = subst (λ o. MatchOption o (IsHome M TAKEN none) (IsAbroad M TAKEN none)) (sym g.1)
+                  (inr (inl (record { word = refl; home = refl })));
               duty = (refl, g.1 ∙ ap Some (sym g.2.same));
             }),
         ((λ y. (t, refl, subst (λ e. IsDone M e.board e.seat) (sym g.2.same) g.2.ready)), (λ y. absurd (y hit))),
@@ -168,17 +204,20 @@ module _ {J : Type 0} (M : Meaning J) where
 
   -- the helper gives its seat back
   pub brings_back : (n id : ℕ) (e : Errand J) (r : BoardSeat J) → IsThrough M e.board e.seat r
-      → Allows (Always M) n id (helper (Some e), (0, letter.Answer r) ∷ []) 0 (λ _. BACK) (λ _. gave_back (step n 0 BACK 0 none) (helper (Some e), (0, letter.Answer r) ∷ []) BACK)
+      → Allows (Always M) n id (helper (Some e), (0, letter.Answer r) ∷ []) 0 (λ _. BACK)
+      (λ _. gave_back (step n 0 BACK 0 none) (helper (Some e), (0, letter.Answer r) ∷ []) BACK)
   brings_back n id e r through s a long here fits =
       let c = of_helper M s id (helper (Some e)) refl a here in (
         helper None,
         gives,
         tt,
-        helper_stepped s id (helper (Some e)) c (slice_set s.words 0 BACK) (slice_set s.homes 0 (some (letter.Answer r))) BACK (some (letter.Answer r)) (helper None)
+        helper_stepped s id (helper (Some e)) c (slice_set s.words 0 BACK)
+            (slice_set s.homes 0 (some (letter.Answer r))) BACK (some (letter.Answer r)) (helper None)
             (ap (λ ws. slice_set ws 0 BACK) c.words) (ap (λ hs. slice_set hs 0 (some (letter.Answer r))) c.homes)
             (record {
               roles = (c.facts.roles.0, refl);
-              out = subst (λ o. MatchOption o (IsHome M BACK (some (letter.Answer r))) (IsAbroad M BACK (some (letter.Answer r)))) (sym c.facts.duty.1)
+              out = subst (λ o. MatchOption o (IsHome M BACK (some (letter.Answer r)))
+                  (IsAbroad M BACK (some (letter.Answer r)))) (sym c.facts.duty.1)
                   (inr (inr (record { word = refl; answer = r; home = refl; through = through })));
               duty = λ z. omega (arith, z);
             }),
@@ -190,83 +229,112 @@ module _ {J : Type 0} (M : Meaning J) where
   is_home w is = record { word = is; home = refl }
 
   -- the answer is taken, or there is none
-  pub collects : (n id : ℕ) (e : Errand J) → Allows (Always M) n id (caller (Some e), []) 0 (λ y. either (eqb y BACK) EMPTY y) (collected M (step n 0 BACK EMPTY none) (caller (Some e), []))
-  collects n id e s a long here fits =
-      exchanged x BACK EMPTY (λ y. (w : Knows J) × (b : Act (Letter J)) × Valid s.homes [] b × Always M (stepped s 0 y id [] w b) × collected M (step n 0 BACK EMPTY none) (caller (Some e), []) x (w, carried_after [] b))
+  pub collects : (n id k : ℕ) (e : Errand J)
+      → Allows (Always M) n id (caller k (Some e), []) 0 (λ y. either (eqb y BACK) EMPTY y)
+      (collected M (step n 0 BACK EMPTY none) (caller k (Some e), []))
+  collects n id k e s a long here fits =
+      exchanged x BACK EMPTY (λ y. (w : Knows J) × (b : Act (Letter J)) × Valid s.homes [] b
+      × Always M (stepped s 0 y id [] w b)
+      × collected M (step n 0 BACK EMPTY none) (caller k (Some e), []) x (w, carried_after [] b))
       (λ hit.
       let g : IsBack M c.word c.home e = back (word_is ∙ hit) in (
-        caller None,
+        caller (k + 1) None,
         takes 0 (letter.Answer g.answer),
         ap (λ hs. get_elem? hs 0) c.homes ∙ ap some g.home,
-        caller_stepped s id (caller (Some e)) c (slice_set s.words 0 EMPTY) (slice_set s.homes 0 none) EMPTY none (caller None)
+        caller_stepped s id (caller k (Some e)) c (slice_set s.words 0 EMPTY) (slice_set s.homes 0 none) EMPTY none
+            (caller (k + 1) None)
             (ap (λ ws. slice_set ws 0 EMPTY) c.words) (ap (λ hs. slice_set hs 0 none) c.homes)
             (record {
               roles = (refl, c.facts.roles.1);
               out = is_home EMPTY (inl refl);
-              duty = still_free c.other.out c.word EMPTY (Some e) None (λ z. omega (arith, z, g.word)) (λ z. omega (arith, z)) c.facts.duty;
+              duty = still_free c.other.out c.word EMPTY (Some e) None (λ z. omega (arith, z, g.word))
+                  (λ z. omega (arith, z)) c.facts.duty;
             }),
         ((λ y. (g.answer, refl, g.through)), (λ y. absurd (y hit))),
       ))
-      (λ miss. (caller (Some e), keeps, tt, caller_again s id (caller (Some e)) c, ((λ y. absurd (miss y)), (λ y. refl))))
+      (λ miss. (
+        caller k (Some e),
+        keeps,
+        tt,
+        caller_again s id (caller k (Some e)) c,
+        ((λ y. absurd (miss y)), (λ y. refl)),
+      ))
     where
       x : ℕ
       x = slice_index s.words 0
 
-      c : OfCaller M s id (caller (Some e))
-      c = of_caller M s id (caller (Some e)) refl a here
+      c : OfCaller M s id (caller k (Some e))
+      c = of_caller M s id (caller k (Some e)) refl a here
 
       word_is : c.word ≡ x
       word_is = sym (ap (λ ws. slice_index ws 0) c.words)
 
       back : c.word ≡ BACK → IsBack M c.word c.home e
-      back is = ⊎_elim (λ g. absurd (omega (arith, is, g.word))) (⊎_elim (λ t. absurd (omega (arith, is, t.word))) (λ b. b)) c.facts.out
+      back is = ⊎_elim (λ g. absurd (omega (arith, is, g.word)))
+          (⊎_elim (λ t. absurd (omega (arith, is, t.word))) (λ b. b)) c.facts.out
 
   -- the task is taken back, or the helper has it
-  pub withdraws : (n id : ℕ) (e : Errand J) → Allows (Always M) n id (caller (Some e), []) 0 (λ y. either (eqb y GIVEN) EMPTY y) (withdrew M (step n 0 GIVEN EMPTY none) (caller (Some e), []))
-  withdraws n id e s a long here fits =
-      exchanged x GIVEN EMPTY (λ y. (w : Knows J) × (b : Act (Letter J)) × Valid s.homes [] b × Always M (stepped s 0 y id [] w b) × withdrew M (step n 0 GIVEN EMPTY none) (caller (Some e), []) x (w, carried_after [] b))
+  pub withdraws : (n id k : ℕ) (e : Errand J)
+      → Allows (Always M) n id (caller k (Some e), []) 0 (λ y. either (eqb y GIVEN) EMPTY y)
+      (withdrew M (step n 0 GIVEN EMPTY none) (caller k (Some e), []))
+  withdraws n id k e s a long here fits =
+      exchanged x GIVEN EMPTY (λ y. (w : Knows J) × (b : Act (Letter J)) × Valid s.homes [] b
+      × Always M (stepped s 0 y id [] w b)
+      × withdrew M (step n 0 GIVEN EMPTY none) (caller k (Some e), []) x (w, carried_after [] b))
       (λ hit.
       let g : IsGiven M c.word c.home e = given (word_is ∙ hit) in (
-        caller None,
+        caller k None,
         takes 0 (letter.Task g.task),
         ap (λ hs. get_elem? hs 0) c.homes ∙ ap some g.home,
-        caller_stepped s id (caller (Some e)) c (slice_set s.words 0 EMPTY) (slice_set s.homes 0 none) EMPTY none (caller None)
+        caller_stepped s id (caller k (Some e)) c (slice_set s.words 0 EMPTY) (slice_set s.homes 0 none) EMPTY none
+            (caller k None)
             (ap (λ ws. slice_set ws 0 EMPTY) c.words) (ap (λ hs. slice_set hs 0 none) c.homes)
             (record {
               roles = (refl, c.facts.roles.1);
               out = is_home EMPTY (inl refl);
-              duty = still_free c.other.out c.word EMPTY (Some e) None (λ z. omega (arith, z, g.word)) (λ z. omega (arith, z)) c.facts.duty;
+              duty = still_free c.other.out c.word EMPTY (Some e) None (λ z. omega (arith, z, g.word))
+                  (λ z. omega (arith, z)) c.facts.duty;
             }),
         ((λ y. (g.task, refl, (ap (λ z. z.seat) g.same, g.ready))), (λ y. absurd (y hit))),
       ))
-      (λ miss. (caller (Some e), keeps, tt, caller_again s id (caller (Some e)) c, ((λ y. absurd (miss y)), (λ y. refl))))
+      (λ miss. (
+        caller k (Some e),
+        keeps,
+        tt,
+        caller_again s id (caller k (Some e)) c,
+        ((λ y. absurd (miss y)), (λ y. refl)),
+      ))
     where
       x : ℕ
       x = slice_index s.words 0
 
-      c : OfCaller M s id (caller (Some e))
-      c = of_caller M s id (caller (Some e)) refl a here
+      c : OfCaller M s id (caller k (Some e))
+      c = of_caller M s id (caller k (Some e)) refl a here
 
       word_is : c.word ≡ x
       word_is = sym (ap (λ ws. slice_index ws 0) c.words)
 
       given : c.word ≡ GIVEN → IsGiven M c.word c.home e
-      given is = ⊎_elim (λ g. g) (⊎_elim (λ t. absurd (omega (arith, is, t.word))) (λ b. absurd (omega (arith, is, b.word)))) c.facts.out
+      given is = ⊎_elim (λ g. g)
+          (⊎_elim (λ t. absurd (omega (arith, is, t.word))) (λ b. absurd (omega (arith, is, b.word)))) c.facts.out
 
   -- there is no further task
-  pub ends : (n id : ℕ) (l : List (ℕ × Letter J)) → Allows (Always M) n id (caller None, l) 0 (λ _. OVER) (λ _. closed (step n 0 OVER 0 none) (caller None, l) OVER)
-  ends n id l s a long here fits =
-      let c = of_caller M s id (caller None) refl a here in (
-        caller None,
+  pub ends : (n id k : ℕ) (l : List (ℕ × Letter J))
+      → Allows (Always M) n id (caller k None, l) 0 (λ _. OVER)
+      (λ _. closed (step n 0 OVER 0 none) (caller k None, l) OVER)
+  ends n id k l s a long here fits =
+      let c = of_caller M s id (caller k None) refl a here in (
+        caller k None,
         keeps,
         tt,
-        caller_stepped s id (caller None) c (slice_set s.words 0 OVER) s.homes OVER c.home (caller None)
+        caller_stepped s id (caller k None) c (slice_set s.words 0 OVER) s.homes OVER c.home (caller k None)
             (ap (λ ws. slice_set ws 0 OVER) c.words) c.homes
             (record {
               roles = (refl, c.facts.roles.1);
               out = record { word = inr refl; home = c.facts.out.home };
               duty = still_free c.other.out c.word OVER None None
-                  (λ e. ⊎_elim (λ z. omega (arith, z, e)) (λ z. omega (arith, z, e)) c.facts.out.word) (λ e. omega (arith, e)) c.facts.duty;
+                  (λ e. ⊎_elim (λ z. omega (arith, z, e)) (λ z. omega (arith, z, e)) c.facts.out.word)
+                  (λ e. omega (arith, e)) c.facts.duty;
             }),
         refl,
       )
@@ -276,8 +344,11 @@ module _ {J : Type 0} (M : Meaning J) where
   opens = inl (record { words = refl; homes = refl; views = refl })
 
 -- a seat that comes back as it was given
-pub untouched : {J : Type 0} (M : Meaning J) (e : Errand J) (r : BoardSeat J) → r ≡ e.seat → IsDone M e.board e.seat → IsThrough M e.board e.seat r
-untouched M e r is done = subst (IsThrough M e.board e.seat) (sym is) (record { done = done; seat = record { first = refl; number = refl; out = refl; made = refl } })
+pub untouched : {J : Type 0} (M : Meaning J) (e : Errand J) (r : BoardSeat J) → r ≡ e.seat → IsDone M e.board e.seat
+    → IsThrough M e.board e.seat r
+untouched M e r is done =
+    subst (IsThrough M e.board e.seat) (sym is)
+    (record { done = done; seat = record { first = refl; number = refl; out = refl; made = refl } })
 
 module _ {J : Type 0} where
   abbrev letter_in : List (ℕ × Letter J) → Letter J
@@ -285,12 +356,14 @@ module _ {J : Type 0} where
   letter_in (x ∷ xs) = x.1
 
   -- an end that has the slot may write into it
-  pub has_slot : (m : Sat J) (v : Knows J) (x : Letter J) → m ≡ (v, (0, x) ∷ []) → (y : Letter J) × (m.1 ≡ (0, y) ∷ rest m.1)
+  pub has_slot : (m : Sat J) (v : Knows J) (x : Letter J) → m ≡ (v, (0, x) ∷ [])
+      → (y : Letter J) × (m.1 ≡ (0, y) ∷ rest m.1)
   has_slot m v x e = (x, ap (λ z. z.1) e ∙ ap (λ l. (0, x) ∷ l) (sym (ap (λ z. rest z.1) e)))
 
   -- what it finds there, and what it knows after it
   pub found : (m : Sat J) (v : Knows J) (x y : Letter J) → m ≡ (v, (0, x) ∷ []) → m.1 ≡ (0, y) ∷ rest m.1 → y ≡ x
   found m v x y e z = ap letter_in (sym z) ∙ ap (λ q. letter_in q.1) e
 
-  pub written : (m n : Sat J) (v : Knows J) (x y : Letter J) → m ≡ (v, (0, x) ∷ []) → n ≡ (m.0, (0, y) ∷ rest m.1) → n ≡ (v, (0, y) ∷ [])
+  pub written : (m n : Sat J) (v : Knows J) (x y : Letter J) → m ≡ (v, (0, x) ∷ []) → n ≡ (m.0, (0, y) ∷ rest m.1)
+      → n ≡ (v, (0, y) ∷ [])
   written m n v x y e z = z ∙ ap (λ q. (q.0, (0, y) ∷ rest q.1)) e

@@ -1,5 +1,7 @@
 pub mod Ends
 pub mod Exchanging
 pub mod Found
+pub mod Missed
+pub mod Numbers
 pub mod Seats
 pub mod Shared

@@ -1,5 +1,5 @@
--- A mailbox may be shared by the caller and its helper, and the helper's end may go to the helper's thread, where a job may cross to
--- another.
+-- A mailbox may be shared by the caller and its helper, and the helper's end may go to the helper's thread, where a job
+-- may cross to another.
 use denote.Enum.Declared as choice
 use denote.Enum.Enum.{Enum}
 use denote.Param.Send.{IsSend, IsSync, sendable, recorded_send, recorded_sync, struct_send, struct_sync, enum_send}
@@ -13,7 +13,6 @@ use Rattle.cs_board.proofs.board.BoardSeat.TheSendSync as seat
 use Rattle.cs_board.proofs.board.Frame.TheSendSync as frame
 use Rattle.cs_board.specs.contracts.board.Board as board
 use Rattle.cs_cells.specs.declared.job.Job.{Ghosts}
-use Rattle.cs_crew.proofs.Shared.{board_sync}
 use Rattle.cs_graph.proofs.graph.Graph.TheSendSync as graph
 use Rattle.cs_pool.proofs.member.Member.TheSendSync as member
 use Rattle.cs_pool.specs.contracts.letter.Letter as letter
@@ -22,13 +21,21 @@ use Rattle.cs_pool.specs.contracts.mailbox.HelperEnd as helper_end
 use Rattle.cs_pool.specs.contracts.mailbox.Mailbox as mailbox
 
 module _ (T : RattleType) (g : Ghosts T.Denot) (s : IsSend T) where
+  board_sync : IsSync (board.the_row T g)
+  board_sync = let B = board.the_type T g in
+      recorded_sync (Struct (declared.shape B)) B.D B.to B.to_one
+      (struct_sync (declared.shape B)
+      (search (sendable, crosses, frame.the_field_sync, graph.the_send, graph.the_sync) depth 40))
+
   board_send : IsSend (board.the_row T g)
   board_send = let B = board.the_type T g in
       recorded_send (Struct (declared.shape B)) B.D B.to B.to_one
-      (struct_send (declared.shape B) (search (sendable, crosses, frame.the_field_send, graph.the_send, graph.the_sync) depth 40))
+      (struct_send (declared.shape B)
+      (search (sendable, crosses, frame.the_field_send, graph.the_send, graph.the_sync) depth 40))
 
   task_send : IsSend (Struct (declared.shape (task.the_type T g)))
-  task_send = struct_send (declared.shape (task.the_type T g)) (search (sendable, crosses, seat.the_field_send, member.the_field_send, board_send, board_sync) depth 40)
+  task_send = struct_send (declared.shape (task.the_type T g))
+      (search (sendable, crosses, seat.the_field_send, member.the_field_send, board_send, board_sync) depth 40)
 
   letter_send : IsSend (letter.the_row T g)
   letter_send = let L = letter.the_type T g in

@@ -26,10 +26,10 @@ module _ {J : Type 0} where
   task_in ((k, letter.Task task) ∷ xs) = Some (errand_of task)
   task_in ((k, letter.Answer seat) ∷ xs) = None
 
-  -- the caller's view: this is out, or nothing
-  abbrev pub caller : Option (Errand J) → Knows J
-  caller out = record { role = Caller; out = out }
+  -- the caller's view: so many tasks were served, and this is out, or nothing
+  abbrev pub caller : ℕ → Option (Errand J) → Knows J
+  caller n lent = record { role = Caller; out = lent; served = n }
 
   -- the helper's view: it is on duty with this, or free
   abbrev pub helper : Option (Errand J) → Knows J
-  helper out = record { role = Helper; out = out }
+  helper duty = record { role = Helper; out = duty; served = 0 }

@@ -1,6 +1,7 @@
--- What the calls of a mailbox promise of its two ends. Nobody else has an end of it, so what is out is known at every moment:
--- the caller can't hand out a seat of a cycle before again, nor begin a cycle while a helper still has its share of the last.
-use Rattle.std.specs.Prelude.{◌≡◌, [], ◌∷◌, Some, None}
+-- What the calls of a mailbox promise of its two ends. Nobody else has an end of it, so what is out is known at every
+-- moment: the caller can't hand out a seat of a cycle before again, nor begin a cycle while a helper still has its
+-- share of the last.
+use Rattle.std.specs.Prelude.{◌≡◌, ℕ, [], ◌∷◌, Some, None}
 use Rattle.cs_board.specs.declared.board.Board.{Board}
 use Rattle.cs_board.specs.declared.board.BoardSeat.{BoardSeat}
 use Rattle.cs_pool.specs.Letters.{errand, caller, helper}
@@ -10,15 +11,20 @@ use Rattle.cs_pool.specs.declared.mailbox.HelperEnd.{HelperEnd}
 use Rattle.cs_pool.specs.declared.mailbox.Mailbox.{Mailbox}
 
 module _ {J : Type 0} where
+  -- how many tasks the helper has begun and given back, as the caller's end knows; one that was taken back doesn't
+  -- count
+  abbrev pub served : CallerEnd J → ℕ
+  served end = end.seat.me.0.served
+
   -- the caller's end of this mailbox: nothing is out, and it has the slot, so that it can give at once
   pub record HasNothingOut (box : Mailbox J) (end : CallerEnd J) : Type 0 where
     pub table : end.seat.table_id ≡ box.table.shared.table_id
-    pub me : end.seat.me ≡ (caller None, (0, Nothing) ∷ [])
+    pub me : end.seat.me ≡ (caller (served end) None, (0, Nothing) ∷ [])
 
   -- the caller's end of this mailbox: this seat of this board is out
   pub record HasOut (box : Mailbox J) (end : CallerEnd J) (board : Board J) (seat : BoardSeat J) : Type 0 where
     pub table : end.seat.table_id ≡ box.table.shared.table_id
-    pub me : end.seat.me ≡ (caller (Some (errand board seat)), [])
+    pub me : end.seat.me ≡ (caller (served end) (Some (errand board seat)), [])
 
   -- the helper's end of this mailbox: it is free
   pub record IsFree (box : Mailbox J) (end : HelperEnd J) : Type 0 where

@@ -1,6 +1,21 @@
--- What a standing crew promises of itself.
-use Rattle.std.specs.Prelude.{ℕ, ◌+◌, ◌-◌, ◌^◌, min, length}
+-- What a standing crew promises of itself, and which cycles it offers to its helpers.
+use Rattle.std.specs.Prelude.{◌≡◌, ◌⊎◌, ℕ, ◌+◌, ◌-◌, ◌<◌, ◌≤◌, ◌^◌, List, min, length}
+use Rattle.cs_board.specs.Counts.{total}
+use Rattle.cs_graph.specs.Cover.{HasCover}
+use Rattle.cs_pool.specs.Alone.{alone_after}
+use Rattle.cs_pool.specs.Mailboxes.{served}
+use Rattle.cs_pool.specs.declared.line.Line.{Line}
 use Rattle.cs_pool.specs.declared.pool.Pool.{Pool}
+
+-- nobody but the caller is of use in a cycle of so many notes: there is no helper, or one chain along the edges has all
+-- of them
+abbrev pub NeedsNoHelper : ℕ → List (ℕ × ℕ) → ℕ → Type 0
+NeedsNoHelper n edges notes = (n ≡ 0) ⊎ ((chains : ℕ) × HasCover edges notes chains × (chains ≤ 1))
+
+module _ {J : Type 0} where
+  -- how many tasks these helpers have begun and given back
+  abbrev pub served_by : List (Line J) → ℕ
+  served_by lines = total (λ line. served line.end) lines
 
 module _ {J R G : Type 0} where
   -- how many helpers it has beside the caller
@@ -10,6 +25,33 @@ module _ {J R G : Type 0} where
   -- how many cycles it has played, as far as it counts
   abbrev pub ended : Pool J R G → ℕ
   ended pool = pool.ended
+
+  -- how many tasks its helpers have begun and given back
+  abbrev pub tasks_served : Pool J R G → ℕ
+  tasks_served pool = served_by pool.lines.items
+
+  -- how many of its next cycles are the caller's alone
+  abbrev pub cycles_alone : Pool J R G → ℕ
+  cycles_alone pool = pool.sparing.alone
+
+  -- of the cycles that it offered, the last ones, so many in a row, were begun by no helper before the caller was done
+  abbrev pub HasMissed : ℕ → Pool J R G → Type 0
+  HasMissed misses pool = pool.sparing.after_a_miss ≡ alone_after misses
+
+  -- after a cycle that was offered
+  pub record Learns (before after : Pool J R G) : Type 0 where
+    pub served : tasks_served before ≤ tasks_served after
+    -- a helper began: the next cycle is offered again, and misses are counted anew
+    pub helped : tasks_served before < tasks_served after → (cycles_alone after ≡ 0) × HasMissed 0 after
+    -- none began: the next cycles are the caller's alone, more of them after each such cycle in a row
+    pub missed : tasks_served after ≡ tasks_served before → (misses : ℕ) → HasMissed misses before
+        → (cycles_alone after ≡ alone_after misses) × HasMissed (misses + 1) after
+
+  -- after a cycle that nobody else could begin
+  pub record LearnsNothing (before after : Pool J R G) : Type 0 where
+    pub served : tasks_served after ≡ tasks_served before
+    pub alone : cycles_alone after ≡ cycles_alone before
+    pub missed : (misses : ℕ) → HasMissed misses before → HasMissed misses after
 
 -- the count after one cycle more: it is held at its greatest
 abbrev pub next_cycle : ℕ → ℕ

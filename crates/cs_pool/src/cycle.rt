@@ -1,24 +1,26 @@
 // One control cycle.
-ghost use Rattle.std.specs.Prelude.{◌≡◌, ◌≤◌, map, length, All};
+ghost use Rattle.std.specs.Prelude.{◌≡◌, ◌<◌, ◌≤◌, ◌-◌, ◌⊎◌, ◌↔◌, ℕ, map, length, All, true, false};
 ghost use Rattle.cs_base.specs.Limits.{most_notes};
 ghost use Rattle.std.specs.Arc.{arc_value};
 ghost use Rattle.cs_board.specs.Board.{plan, name, view, IsSeatOf};
 ghost use Rattle.cs_desk.specs.Desk.{areas, cells, note_room, word_room, HasRoom};
 ghost use Rattle.cs_cells.specs.Serial.{serial_cells, serial_jobs};
-ghost use Rattle.cs_crew.specs.Crew.{IsReady, IsDone};
-ghost use Rattle.cs_crew.specs.Numbered.{IsFirst};
+ghost use Rattle.cs_pool.specs.Working.{IsReady, IsDone};
+ghost use Rattle.cs_pool.specs.Numbered.{IsFirst};
 ghost use Rattle.cs_graph.specs.Graph.{IsFit};
-ghost use Rattle.cs_pool.specs.Pools.{helpers, ended, next_cycle};
+ghost use Rattle.cs_pool.specs.Pools.{helpers, ended, next_cycle, cycles_alone, tasks_served, served_by};
+ghost use Rattle.cs_pool.specs.Pools.{HasMissed, Learns, LearnsNothing, NeedsNoHelper};
 ghost use Rattle.cs_pool.specs.inner.Lines.{IsIdle};
 ghost use Rattle.cs_cells.specs.Areas.{IsFootprint};
 ghost use Rattle.cs_board.specs.Views.{opening_view};
 
 use crate::letter::Task;
 use crate::line::Line;
+use crate::mailbox::Returned;
 use crate::pool::Pool;
+use crate::worker::work;
 use cs_board::{Board, BoardSeat};
 use cs_cells::{Job, serial_laws};
-use cs_crew::work;
 use cs_desk::{Desk, Receipt};
 use cs_edge::Gate;
 use cs_graph::Graph;
@@ -62,6 +64,10 @@ impl<'e, J: Job + Send + Drop, R: Threads + Wait + Sync, G: Gate + Sync> Pool<'e
         ensures graph { result.2.value ≡ graph.value }
         ensures ended { ended self.new ≡ next_cycle (ended self.old) }
         ensures helpers { helpers self.new ≡ helpers self.old }
+        // What it tells of the cycles that are to be offered next.
+        ensures learned { Learns self.old self.new
+            ⊎ (NeedsNoHelper (helpers self.old) graph.value.edges (length graph.value.levels)
+            × LearnsNothing self.old self.new) }
     {
         let others = self.wanted(&graph);
         serial_laws::<J>();
@@ -76,14 +82,15 @@ impl<'e, J: Job + Send + Drop, R: Threads + Wait + Sync, G: Gate + Sync> Pool<'e
         Desk::rest(board, first)
     }
 
-    /// Whether the next cycle is offered to the helpers: not where there are none, and not for a
-    /// while after a cycle that the caller had done before any of them began. For one that isn't
-    /// offered there is `alone`, which needs no graph of its notes.
-    pub fn offers(&mut self) -> bool
-        ensures ended { ended self.new ≡ ended self.old }
-        ensures helpers { helpers self.new ≡ helpers self.old }
+    /// Whether the next cycle is offered to the helpers: where there are any, unless it is one of those
+    /// that are the caller's alone. So the first cycle is offered; after each one that was offered and that
+    /// no helper began before the caller was done 1, 2, 4 and so on up to 128 are the caller's alone, and
+    /// none after one that a helper began (`cycle`). For a cycle that isn't offered there is `alone`, which
+    /// needs no graph of its notes.
+    pub fn offers(&self) -> bool
+        ensures { (result ≡ true) ↔ ((0 < helpers self.now) × (cycles_alone self.now ≡ 0)) }
     {
-        !self.lines.is_empty() && self.sparing.offers()
+        !self.lines.is_empty() && self.sparing.alone == 0
     }
 
     /// Runs the notes of one control cycle by the caller alone, one by one in serial order over the
@@ -99,16 +106,23 @@ impl<'e, J: Job + Send + Drop, R: Threads + Wait + Sync, G: Gate + Sync> Pool<'e
         ensures room { (note_room result.1 ≡ note_room desk) × (word_room result.1 ≡ word_room desk) }
         ensures ended { ended self.new ≡ next_cycle (ended self.old) }
         ensures helpers { helpers self.new ≡ helpers self.old }
+        ensures served { tasks_served self.new ≡ tasks_served self.old }
+        ensures alone { cycles_alone self.new ≡ cycles_alone self.old - 1 }
+        ensures missed { (misses : ℕ) → HasMissed misses self.old → HasMissed misses self.new }
     {
         let mut desk = desk;
         let notes = jobs.len() as u32;
         self.ended = self.ended.saturating_add(1);
+        self.sparing.pass();
         let receipt = desk.run_alone(cycle, notes, jobs, self.gate);
         (receipt, desk)
     }
 
     /// How many helpers are to get a part in a cycle of this graph.
-    fn wanted(&self, graph: &Graph) -> u32 {
+    fn wanted(&self, graph: &Graph) -> u32
+        ensures { result ≡ 0
+            → NeedsNoHelper (helpers self.now) graph.now.edges (length graph.now.levels) }
+    {
         if self.lines.is_empty() {
             return 0;
         }
@@ -131,81 +145,83 @@ impl<'e, J: Job + Send + Drop, R: Threads + Wait + Sync, G: Gate + Sync> Pool<'e
         ensures alone { IsFirst 0 (view result.1) }
         ensures ended { ended self.new ≡ ended self.old }
         ensures helpers { helpers self.new ≡ helpers self.old }
+        ensures learned { Learns self.old self.new }
     {
         match Arc::new(self.alloc, board) {
             Ok(board) => {
+                let shift = Shift {
+                    rt: self.rt,
+                    gate: self.gate,
+                    alloc: self.alloc,
+                    cycle,
+                };
                 let lines = self.lines.as_mut_slice();
-                let mut begun = false;
-                share(
-                    self.rt, self.gate, self.alloc, lines, others, &board, &mut first, cycle,
-                    &mut begun,
-                );
+                let begun = share(&shift, lines, others, &board, &mut first);
                 self.sparing.learn(begun);
                 (sole(self.rt, board), first)
             }
             Err(refused) => {
                 let board = refused.value;
                 work(self.rt, &board, &mut first, cycle, self.gate);
+                self.sparing.learn(false);
                 (board, first)
             }
         }
     }
 }
 
-/// The caller and so many others work at the board, or as many others as there are helpers: each of
-/// these gets a seat of its own and gives it back. `begun` becomes true where one of them has begun
-/// before the caller was done.
-fn share<J: Job + Drop, R: Wait, G: Gate>(
-    rt: &R,
-    gate: &G,
+/// What each worker of a cycle works with, and whence a helper's part has its memory.
+#[derive(Drop)]
+struct Shift<'a, R, G> {
+    rt: &'a R,
+    gate: &'a G,
     alloc: Global,
+    cycle: u32,
+}
+
+/// The caller and `others` helpers work at the board, or as many helpers as there are: each of these
+/// gets a seat of its own and gives it back. Returns whether one of them had begun its part before the
+/// caller asked for it back.
+fn share<J: Job + Drop, R: Wait, G: Gate>(
+    shift: &Shift<'_, R, G>,
     lines: &mut [Line<J>],
     others: u32,
     board: &Arc<Board<J>, Global>,
     first: &mut BoardSeat<J>,
-    cycle: u32,
-    begun: &mut bool,
-)
+) -> bool
     requires idle { All (λ line. IsIdle line) lines.old }
     requires ready { IsReady J.means (arc_value board.now) first.old }
     requires leads { IsFirst (view first.old).made (view first.old) }
     ensures idle { All (λ line. IsIdle line) lines.new }
     ensures done { IsDone J.means (arc_value board.now) first.new }
     ensures leads { IsFirst (view first.old).made (view first.new) }
+    ensures begun { result ≡ true → served_by lines.old < served_by lines.new }
+    ensures missed { result ≡ false → served_by lines.new ≡ served_by lines.old }
 {
     if others == 0 {
-        work(rt, board, first, cycle, gate);
-        return;
+        work(shift.rt, board, first, shift.cycle, shift.gate);
+        return false;
     }
     let Some((line, rest)) = lines.split_first_mut() else {
-        work(rt, board, first, cycle, gate);
-        return;
+        work(shift.rt, board, first, shift.cycle, shift.gate);
+        return false;
     };
-    let Ok((part, member)) = line.part_in(alloc, board) else {
-        work(rt, board, first, cycle, gate);
-        return;
+    let Ok((part, member)) = line.part_in(shift.alloc, board) else {
+        work(shift.rt, board, first, shift.cycle, shift.gate);
+        return false;
     };
     let seat = board.split(first);
     line.give(Task {
         board: part,
         seat,
-        cycle,
+        cycle: shift.cycle,
         member,
     });
-    share(
-        rt,
-        gate,
-        alloc,
-        rest,
-        others - 1,
-        board,
-        first,
-        cycle,
-        begun,
-    );
-    *begun |= line.has_begun();
-    let seat = line.await_seat(rt);
+    let others_begun = share(shift, rest, others - 1, board, first);
+    let returned = line.await_seat(shift.rt);
+    let Returned { seat, begun } = returned;
     board.join(first, seat);
+    begun | others_begun
 }
 
 /// The board, once nobody else has a share of it. Each helper let its share go before it gave its

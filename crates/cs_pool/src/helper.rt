@@ -4,9 +4,9 @@ ghost use Rattle.cs_pool.specs.Mailboxes.{IsFree};
 
 use crate::letter::{GIVEN, OVER, Task};
 use crate::mailbox::{HelperEnd, Mailbox};
+use crate::worker::work;
 use crossbeam_utils::sync::Parker;
 use cs_cells::Job;
-use cs_crew::work;
 use cs_edge::Gate;
 use std::alloc::Global;
 use std::hint::spin_loop;

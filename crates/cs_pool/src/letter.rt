@@ -1,6 +1,8 @@
 // What lies in a helper's mailbox, and the values of its word.
 ghost use Rattle.std.specs.Prelude.{◌≡◌};
+ghost use Rattle.cs_pool.specs.Mailboxes.{HasNothingOut};
 
+use crate::mailbox::{CallerEnd, Mailbox};
 use crate::member::Member;
 use cs_board::{Board, BoardSeat};
 use cs_cells::Job;
@@ -29,8 +31,9 @@ pub(crate) struct Task<J: Job> {
 }
 
 impl<J: Job + Drop> Task<J> {
-    /// The seat alone.
-    pub(crate) fn into_seat(self) -> BoardSeat<J>
+    /// The seat alone, of a task that no helper has taken and that is the caller's again.
+    pub(crate) fn into_seat(self, mailbox: &Mailbox<J>, end: &CallerEnd<J>) -> BoardSeat<J>
+        requires { HasNothingOut mailbox.now end.now }
         ensures { result ≡ self.seat }
     {
         let Task {
@@ -40,7 +43,7 @@ impl<J: Job + Drop> Task<J> {
             member,
         } = self;
         drop(board);
-        drop(member);
+        member.leave_untaken(mailbox, end);
         seat
     }
 }

@@ -1,18 +1,19 @@
 // The caller's side of one helper.
-ghost use Rattle.std.specs.Prelude.{◌≡◌, IfOk, IfSome, IfNone};
+ghost use Rattle.std.specs.Prelude.{◌≡◌, ◌+◌, IfOk, IfSome, IfNone};
+ghost use Rattle.std.specs.Int.{from_bool};
 ghost use Rattle.std.specs.Arc.{arc_value};
 ghost use Rattle.cs_board.specs.declared.board.Board.{Board};
 ghost use Rattle.cs_board.specs.declared.board.BoardSeat.{BoardSeat};
-ghost use Rattle.cs_crew.specs.Crew.{IsDone, IsThrough};
-ghost use Rattle.cs_pool.specs.Mailboxes.{HasNothingOut, IsFree};
+ghost use Rattle.cs_pool.specs.Working.{IsDone, IsThrough};
+ghost use Rattle.cs_pool.specs.Mailboxes.{HasNothingOut, IsFree, served};
 ghost use Rattle.cs_pool.specs.inner.Lines.{IsIdle, IsLent, IsBusy};
 
 use crate::helper::{help, pause};
-use crate::letter::{GIVEN, TAKEN, Task};
-use crate::mailbox::{CallerEnd, HelperEnd, Mailbox};
+use crate::letter::{TAKEN, Task};
+use crate::mailbox::{CallerEnd, HelperEnd, Mailbox, Returned};
 use crate::member::Member;
 use crossbeam_utils::sync::{Parker, Unparker, WaitGroup};
-use cs_board::{Board, BoardSeat};
+use cs_board::Board;
 use cs_cells::Job;
 use cs_edge::Gate;
 use std::alloc::{AllocError, Global};
@@ -75,6 +76,7 @@ impl<J: Job + Drop> Line<J> {
         requires { IsIdle self.old }
         ensures idle { IsIdle self.new }
         ensures share { IfOk result (λ r. arc_value r.0 ≡ arc_value board.now) }
+        ensures served { served self.new.end ≡ served self.old.end }
     {
         let share = Arc::try_clone(board)?;
         let member = joined(alloc, &mut self.group)?;
@@ -85,35 +87,32 @@ impl<J: Job + Drop> Line<J> {
     pub(crate) fn give(&mut self, task: Task<J>)
         requires idle { IsIdle self.old }
         requires task { IsDone J.means (arc_value task.board) task.seat }
-        ensures { IsLent self.new (arc_value task.board) task.seat }
+        ensures lent { IsLent self.new (arc_value task.board) task.seat }
+        ensures served { served self.new.end ≡ served self.old.end }
     {
         self.mailbox.give(&mut self.end, task);
         self.unparker.unpark();
     }
 
-    /// Whether the helper has taken its task, as far as a look tells.
-    pub(crate) fn has_begun(&self) -> bool {
-        self.mailbox.word() != GIVEN
-    }
-
     /// The seat that is out, after its work. A helper that hasn't begun is not waited for: its seat
     /// is taken back. Else the caller looks for the seat for a while, and then sleeps until the
     /// helper leaves the group.
-    pub(crate) fn await_seat<R: Wait>(&mut self, rt: &R) -> BoardSeat<J>
+    pub(crate) fn await_seat<R: Wait>(&mut self, rt: &R) -> Returned<J>
         requires { IsBusy self.old }
         ensures home { IsIdle self.new }
         ensures seat { (b : Board J.row.Denot) (s : BoardSeat J.row.Denot)
-            → IsLent self.old b s → IsThrough J.means b s result }
+            → IsLent self.old b s → IsThrough J.means b s result.seat }
+        ensures served { served self.new.end ≡ served self.old.end + from_bool result.begun }
     {
-        if let Some(seat) = self.look() {
-            return seat;
+        if let Some(returned) = self.look() {
+            return returned;
         }
         if let Some(group) = self.group.take() {
             group.wait(rt);
         }
         for _ in rt.forever() {
-            if let Some(seat) = self.collect() {
-                return seat;
+            if let Some(returned) = self.collect() {
+                return returned;
             }
             thread::yield_now();
         }
@@ -121,18 +120,20 @@ impl<J: Job + Drop> Line<J> {
     }
 
     /// The seat that is out, where it is found within a while.
-    fn look(&mut self) -> Option<BoardSeat<J>>
+    fn look(&mut self) -> Option<Returned<J>>
         requires { IsBusy self.old }
         ensures home { IfSome result (λ _. IsIdle self.new) }
         ensures some { (b : Board J.row.Denot) (s : BoardSeat J.row.Denot)
-            → IsLent self.old b s → IfSome result (λ r. IsThrough J.means b s r) }
+            → IsLent self.old b s → IfSome result (λ r. IsThrough J.means b s r.seat) }
         ensures busy { IfNone result (IsBusy self.new) }
         ensures none { (b : Board J.row.Denot) (s : BoardSeat J.row.Denot)
             → IsLent self.old b s → IfNone result (IsLent self.new b s) }
+        ensures served { IfSome result (λ r. served self.new.end ≡ served self.old.end + from_bool r.begun) }
+        ensures same { IfNone result (served self.new.end ≡ served self.old.end) }
     {
         for look in 0..LOOKS {
-            if let Some(seat) = self.collect() {
-                return Some(seat);
+            if let Some(returned) = self.collect() {
+                return Some(returned);
             }
             pause(look, BRISK_LOOKS);
         }
@@ -140,14 +141,16 @@ impl<J: Job + Drop> Line<J> {
     }
 
     /// The seat that is out, where it has come back or the helper hasn't begun.
-    fn collect(&mut self) -> Option<BoardSeat<J>>
+    fn collect(&mut self) -> Option<Returned<J>>
         requires { IsBusy self.old }
         ensures home { IfSome result (λ _. IsIdle self.new) }
         ensures some { (b : Board J.row.Denot) (s : BoardSeat J.row.Denot)
-            → IsLent self.old b s → IfSome result (λ r. IsThrough J.means b s r) }
+            → IsLent self.old b s → IfSome result (λ r. IsThrough J.means b s r.seat) }
         ensures busy { IfNone result (IsBusy self.new) }
         ensures none { (b : Board J.row.Denot) (s : BoardSeat J.row.Denot)
             → IsLent self.old b s → IfNone result (IsLent self.new b s) }
+        ensures served { IfSome result (λ r. served self.new.end ≡ served self.old.end + from_bool r.begun) }
+        ensures same { IfNone result (served self.new.end ≡ served self.old.end) }
     {
         let mailbox: &Mailbox<J> = &self.mailbox;
         if mailbox.word() == TAKEN {

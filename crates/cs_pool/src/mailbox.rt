@@ -1,9 +1,10 @@
 // The mailbox of one helper: the caller gives it a task in each cycle and gets its seat back.
-ghost use Rattle.std.specs.Prelude.{◌≡◌, IfOk, IfSome, IfNone};
+ghost use Rattle.std.specs.Prelude.{◌≡◌, ◌+◌, IfOk, IfSome, IfNone};
+ghost use Rattle.std.specs.Int.{from_bool};
 ghost use Rattle.std.specs.Arc.{arc_value};
 ghost use Rattle.cs_board.specs.declared.board.Board.{Board};
 ghost use Rattle.cs_board.specs.declared.board.BoardSeat.{BoardSeat};
-ghost use Rattle.cs_crew.specs.Crew.{IsReady, IsDone, IsThrough};
+ghost use Rattle.cs_pool.specs.Working.{IsReady, IsDone, IsThrough};
 
 use crate::letter::{BACK, EMPTY, GIVEN, Letter, OVER, TAKEN, Task};
 use crate::mailbox_rule::{
@@ -37,8 +38,16 @@ pub(crate) struct HelperEnd<J: Job> {
     pub(crate) seat: End<J>,
 }
 
+/// A seat that is the caller's again, and whether the helper had begun its task: else the seat is as it was handed
+/// out.
+#[derive(Drop)]
+pub(crate) struct Returned<J: Job> {
+    pub(crate) seat: BoardSeat<J>,
+    pub(crate) begun: bool,
+}
+
 impl<J: Job + Drop> Mailbox<J> {
-    ghost use Rattle.cs_pool.specs.Mailboxes.{HasNothingOut, HasOut, IsFree, IsOnDuty};
+    ghost use Rattle.cs_pool.specs.Mailboxes.{HasNothingOut, HasOut, IsFree, IsOnDuty, served};
 
     /// A mailbox and its two ends. It fails only for want of memory.
     pub(crate) fn new(alloc: Global) -> Result<(Mailbox<J>, CallerEnd<J>, HelperEnd<J>), AllocError>
@@ -63,7 +72,8 @@ impl<J: Job + Drop> Mailbox<J> {
     pub(crate) fn give(&self, end: &mut CallerEnd<J>, task: Task<J>)
         requires end { HasNothingOut self.now end.old }
         requires task { IsDone J.means (arc_value task.board) task.seat }
-        ensures { HasOut self.now end.new (arc_value task.board) task.seat }
+        ensures out { HasOut self.now end.new (arc_value task.board) task.seat }
+        ensures served { served end.new ≡ served end.old }
     {
         let shared = &self.table.shared;
         let held = shared.exchange(&mut end.seat, 0, Letter::Task(task));
@@ -73,30 +83,34 @@ impl<J: Job + Drop> Mailbox<J> {
 
     /// The seat that is out, after its work, where the helper has given it back, or as it was handed
     /// out, where the helper hasn't taken its task; else None, and it stays out.
-    pub(crate) fn collect(&self, end: &mut CallerEnd<J>) -> Option<BoardSeat<J>>
+    pub(crate) fn collect(&self, end: &mut CallerEnd<J>) -> Option<Returned<J>>
         requires { (b : Board J.row.Denot) × (s : BoardSeat J.row.Denot)
             × HasOut self.now end.old b s }
         ensures some { (b : Board J.row.Denot) (s : BoardSeat J.row.Denot)
-            → HasOut self.now end.old b s → IfSome result (λ r. IsThrough J.means b s r) }
+            → HasOut self.now end.old b s → IfSome result (λ r. IsThrough J.means b s r.seat) }
         ensures home { IfSome result (λ _. HasNothingOut self.now end.new) }
         ensures none { (b : Board J.row.Denot) (s : BoardSeat J.row.Denot)
             → HasOut self.now end.old b s → IfNone result (HasOut self.now end.new b s) }
+        ensures served { IfSome result (λ r. served end.new ≡ served end.old + from_bool r.begun) }
+        ensures same { IfNone result (served end.new ≡ served end.old) }
     {
         match self.fetch_answer(end) {
-            Some(seat) => Some(seat),
+            Some(returned) => Some(returned),
             None => self.withdraw(end),
         }
     }
 
     /// The seat that is out, where it has come back.
-    fn fetch_answer(&self, end: &mut CallerEnd<J>) -> Option<BoardSeat<J>>
+    fn fetch_answer(&self, end: &mut CallerEnd<J>) -> Option<Returned<J>>
         requires { (b : Board J.row.Denot) × (s : BoardSeat J.row.Denot)
             × HasOut self.now end.old b s }
         ensures some { (b : Board J.row.Denot) (s : BoardSeat J.row.Denot)
-            → HasOut self.now end.old b s → IfSome result (λ r. IsThrough J.means b s r) }
+            → HasOut self.now end.old b s → IfSome result (λ r. IsThrough J.means b s r.seat) }
         ensures home { IfSome result (λ _. HasNothingOut self.now end.new) }
         ensures none { (b : Board J.row.Denot) (s : BoardSeat J.row.Denot)
             → HasOut self.now end.old b s → IfNone result (HasOut self.now end.new b s) }
+        ensures served { IfSome result (λ r. served end.new ≡ served end.old + from_bool r.begun) }
+        ensures same { IfNone result (served end.new ≡ served end.old) }
     {
         let shared = &self.table.shared;
         let found = shared.compare_exchange::<Collect>(&mut end.seat, 0, BACK, EMPTY);
@@ -107,18 +121,20 @@ impl<J: Job + Drop> Mailbox<J> {
         let Letter::Answer(seat) = letter else {
             unreachable!()
         };
-        Some(seat)
+        Some(Returned { seat, begun: true })
     }
 
     /// The seat that is out, where the helper hasn't taken its task.
-    fn withdraw(&self, end: &mut CallerEnd<J>) -> Option<BoardSeat<J>>
+    fn withdraw(&self, end: &mut CallerEnd<J>) -> Option<Returned<J>>
         requires { (b : Board J.row.Denot) × (s : BoardSeat J.row.Denot)
             × HasOut self.now end.old b s }
         ensures some { (b : Board J.row.Denot) (s : BoardSeat J.row.Denot)
-            → HasOut self.now end.old b s → IfSome result (λ r. IsThrough J.means b s r) }
+            → HasOut self.now end.old b s → IfSome result (λ r. IsThrough J.means b s r.seat) }
         ensures home { IfSome result (λ _. HasNothingOut self.now end.new) }
         ensures none { (b : Board J.row.Denot) (s : BoardSeat J.row.Denot)
             → HasOut self.now end.old b s → IfNone result (HasOut self.now end.new b s) }
+        ensures served { IfSome result (λ r. served end.new ≡ served end.old + from_bool r.begun) }
+        ensures same { IfNone result (served end.new ≡ served end.old) }
     {
         let shared = &self.table.shared;
         let found = shared.compare_exchange::<Withdraw>(&mut end.seat, 0, GIVEN, EMPTY);
@@ -129,7 +145,10 @@ impl<J: Job + Drop> Mailbox<J> {
         let Letter::Task(task) = letter else {
             unreachable!()
         };
-        Some(task.into_seat())
+        Some(Returned {
+            seat: task.into_seat(self, end),
+            begun: false,
+        })
     }
 
     /// There will be no further task: the helper ends when it finds that.

@@ -31,7 +31,7 @@ impl<J: Job> Split<Knows<J>> for Part {
     ghost use Rattle.std.specs.Prelude.{None};
     ghost use Rattle.cs_pool.specs.Letters.{caller, helper};
 
-    ghost left = { λ _. caller None };
+    ghost left = { λ _. caller 0 None };
 
     ghost right = { λ _. helper None };
 }

@@ -24,12 +24,12 @@ pub struct Pool<'e, J: Job, R, G> {
 }
 
 impl<'e, J: Job + Send + Drop, R: Threads + Wait + Sync, G: Gate + Sync> Pool<'e, J, R, G> {
-    ghost use Rattle.cs_pool.specs.Pools.{helpers, ended};
+    ghost use Rattle.cs_pool.specs.Pools.{helpers, ended, cycles_alone, HasMissed};
 
     /// A crew of so many workers, 1 to 32, of which the caller is one, so that one worker starts no
     /// thread and takes no memory. It can't fail: a helper for which there is no memory or no
     /// thread only leaves more to the others. The helpers are threads of `scope`, and each worker
-    /// calls `gate` before it runs a note.
+    /// calls `gate` before it runs a note. The first cycle is offered to the helpers (`offers`).
     pub fn new<'s>(
         rt: &'e R,
         scope: &'s Scope<'s, &'e ()>,
@@ -42,6 +42,7 @@ impl<'e, J: Job + Send + Drop, R: Threads + Wait + Sync, G: Gate + Sync> Pool<'e
         requires workers { (1 ≤ workers) × (workers ≤ 32) }
         ensures few { helpers result < workers }
         ensures ended { ended result ≡ 0 }
+        ensures offered { (cycles_alone result ≡ 0) × HasMissed 0 result }
     {
         Pool {
             rt,

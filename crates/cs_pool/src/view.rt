@@ -24,4 +24,6 @@ pub(crate) struct Knows<J: Job> {
     /// In the caller's view what is out at the helper, and in the helper's view what it is on duty
     /// with.
     pub(crate) out: Option<Errand<J>>,
+    /// In the caller's view how many tasks the helper has begun and given back.
+    pub(crate) served: u64,
 }

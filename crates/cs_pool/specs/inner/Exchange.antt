@@ -1,13 +1,13 @@
 -- The rule of a mailbox: what holds between any two steps of its two ends, whatever the interleaving.
--- M is what jobs mean, w the mailbox's word, h what lies in its slot (none while the slot is out with an end), c and d what the caller and
--- the helper know, e what is out, s the state of the mailbox.
+-- M is what jobs mean, w the mailbox's word, h what lies in its slot (none while the slot is out with an end), c and d
+-- what the caller and the helper know, e what is out, s the state of the mailbox.
 use Rattle.std.specs.Prelude.{◌≡◌, ◌≢◌, ◌⊎◌, ℕ, [], ◌∷◌, Some, None, MatchOption}
 use mathlib.Core.Option as maybe
 use mathlib.Core.Option.{some, none}
 use Rattle.atomic_table.specs.Table.{State}
 use Rattle.cs_board.specs.declared.board.BoardSeat.{BoardSeat}
 use Rattle.cs_cells.specs.Meaning.{Meaning}
-use Rattle.cs_crew.specs.Crew.{IsDone, IsThrough}
+use Rattle.cs_pool.specs.Working.{IsDone, IsThrough}
 use Rattle.cs_pool.specs.Letters.{errand_of}
 use Rattle.cs_pool.specs.declared.letter.Letter.{Letter}
 use Rattle.cs_pool.specs.declared.letter.Letter.TheVariants as letter
@@ -21,10 +21,11 @@ use Rattle.cs_pool.specs.declared.view.Role.TheVariants.{Maker, Holder, Caller, 
 module _ {J : Type 0} where
   -- the view of a mailbox's first end: it is being made
   abbrev pub beginning : Role → Knows J
-  beginning r = record { role = r; out = None }
+  beginning r = record { role = r; out = None; served = 0 }
 
 module _ {J : Type 0} (M : Meaning J) where
-  -- The task lies in the slot, and nobody has begun it: its seat and its board are those that are out, and the seat owes nothing.
+  -- The task lies in the slot, and nobody has begun it: its seat and its board are those that are out, and the seat
+  -- owes nothing.
   pub record IsGiven (w : ℕ) (h : maybe.Option (Letter J)) (e : Errand J) : Type 0 where
     pub word : w ≡ GIVEN
     pub task : Task J

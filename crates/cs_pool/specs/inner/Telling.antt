@@ -1,11 +1,12 @@
 -- What each kind of step on a mailbox tells the end that makes it.
--- st is the step, m the end before it, r the word that was found, n the end after it; e is what is out, t a task, s a seat. M is what jobs mean.
-use Rattle.std.specs.Prelude.{◌≡◌, ◌≢◌, ℕ, [], ◌∷◌, Some, None, IfSome}
+-- st is the step, m the end before it, r the word that was found, n the end after it; e is what is out, t a task, s a
+-- seat. M is what jobs mean.
+use Rattle.std.specs.Prelude.{◌≡◌, ◌≢◌, ◌+◌, ℕ, [], ◌∷◌, Some, None, IfSome}
 use Rattle.std.specs.Arc.{arc_value}
 use Rattle.atomic_table.specs.Table.{Me, Step}
 use Rattle.cs_board.specs.declared.board.BoardSeat.{BoardSeat}
 use Rattle.cs_cells.specs.Meaning.{Meaning}
-use Rattle.cs_crew.specs.Crew.{IsDone, IsThrough}
+use Rattle.cs_pool.specs.Working.{IsDone, IsThrough}
 use Rattle.cs_pool.specs.Letters.{errand_of, task_in, caller, helper}
 use Rattle.cs_pool.specs.inner.Exchange.{beginning}
 use Rattle.cs_pool.specs.declared.letter.Letter.{Letter}
@@ -29,7 +30,7 @@ module _ {J : Type 0} where
 
   -- the task that the caller has written into the slot is out
   abbrev pub gave : Tells J
-  gave st m r n = n ≡ (caller (task_in m.1), [])
+  gave st m r n = n ≡ (caller m.0.served (task_in m.1), [])
 
   -- the helper's answer lies in the slot, and it is free again
   abbrev pub gave_back : Tells J
@@ -43,17 +44,20 @@ module _ {J : Type 0} (M : Meaning J) where
   -- the helper found a task and is on duty with it, or found none
   abbrev pub took : Tells J
   took st m r n =
-      (r ≡ GIVEN → (t : Task J) × (n ≡ (helper (Some (errand_of t)), (0, letter.Task t) ∷ [])) × IsDone M (arc_value t.board) t.seat)
+      (r ≡ GIVEN → (t : Task J) × (n ≡ (helper (Some (errand_of t)), (0, letter.Task t) ∷ []))
+      × IsDone M (arc_value t.board) t.seat)
       × (r ≢ GIVEN → n ≡ m)
 
-  -- the caller found the seat that was out, after its work, or found no answer
+  -- the caller found the seat that was out, after its work, so that one task more was served, or found no answer
   abbrev pub collected : Tells J
   collected st m r n =
-      (r ≡ BACK → (s : BoardSeat J) × (n ≡ (caller None, (0, letter.Answer s) ∷ [])) × IfSome m.0.out (λ e. IsThrough M e.board e.seat s))
+      (r ≡ BACK → (s : BoardSeat J) × (n ≡ (caller (m.0.served + 1) None, (0, letter.Answer s) ∷ []))
+      × IfSome m.0.out (λ e. IsThrough M e.board e.seat s))
       × (r ≢ BACK → n ≡ m)
 
   -- the caller found the task as it was given, or found it taken
   abbrev pub withdrew : Tells J
   withdrew st m r n =
-      (r ≡ GIVEN → (t : Task J) × (n ≡ (caller None, (0, letter.Task t) ∷ [])) × IfSome m.0.out (λ e. (t.seat ≡ e.seat) × IsDone M e.board e.seat))
+      (r ≡ GIVEN → (t : Task J) × (n ≡ (caller m.0.served None, (0, letter.Task t) ∷ []))
+      × IfSome m.0.out (λ e. (t.seat ≡ e.seat) × IsDone M e.board e.seat))
       × (r ≢ GIVEN → n ≡ m)

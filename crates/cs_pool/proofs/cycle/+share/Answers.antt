@@ -1,9 +1,13 @@
-use Rattle.std.proofs.Common.{rules, ap, ◌∙◌, subst}
+use Rattle.std.proofs.Common.{◌≡◌, ◌<◌, ◌∷◌, rules, ◌+◌, ap, sym, ◌∙◌, subst}
+use Rattle.std.specs.Int.{from_bool}
 use Rattle.std.proofs.lemmas.List.Elements.{All-cons, All-tail}
 use Rattle.std.specs.Arc.{arc_value}
 use Rattle.std.specs.List.{All}
 use Rattle.cs_board.specs.Board.{plan, name, view, IsSeatOf}
+use Rattle.cs_pool.proofs.Missed.{more_served, none_served}
 use Rattle.cs_pool.proofs.Seats.{ready_kept, leads_kept, leads_joined}
+use Rattle.cs_pool.specs.Mailboxes.{served}
+use Rattle.cs_pool.specs.Pools.{served_by}
 use Rattle.cs_pool.specs.declared.line.Line.{Line}
 use Rattle.cs_pool.specs.inner.Lines.{IsIdle}
 use Rattle.cs_pool.proofs.cycle.+share.Goals as goal
@@ -11,14 +15,21 @@ use Rattle.cs_pool.proofs.cycle.+share.Goals as goal
 pub returns-in_default-part_in-clause-idle : goal.returns-in_default-part_in-clause-idle
 returns-in_default-part_in-clause-idle g t c =
     let P : Line g.row.J.Denot → Type 0 = λ line. IsIdle line in
-    let rest : All P c.in-Some.rest.now = All-tail P c.in-Some.line.now c.in-Some.rest.now (subst (All P) c.in-Some.ensures.cases.0 c.requires.idle) in
+    let rest : All P c.in-Some.rest.now =
+    All-tail P c.in-Some.line.now c.in-Some.rest.now (subst (All P) c.in-Some.ensures.cases.0 c.requires.idle) in
     All-cons P c.part_in.new.self c.in-Some.rest.now c.part_in.ensures.idle rest
 
-pub share-requires : goal.share-requires
-share-requires g t c κs within =
+pub returns-in_default-part_in-clause-missed : goal.returns-in_default-part_in-clause-missed
+returns-in_default-part_in-clause-missed g t c =
+    λ _. ap (λ n. n + served_by c.in-Some.rest.now) c.part_in.ensures.served
+    ∙ sym (ap served_by c.in-Some.ensures.cases.0)
+
+pub share-others_begun-requires : goal.share-others_begun-requires
+share-others_begun-requires g t c κs within =
     let P : Line g.row.J.Denot → Type 0 = λ line. IsIdle line in
     let before = view c.args.first.now in
-    let of = subst (λ b. IsSeatOf g.J.Job.means (plan b) (name b) c.split-seat.new.seat) c.deref-2.ensures c.split-seat.ensures.seat in (
+    let of = subst (λ b. IsSeatOf g.J.Job.means (plan b) (name b) c.split-seat.new.seat) c.deref-2.ensures
+    c.split-seat.ensures.seat in (
       search rules,
       (
         search rules,
@@ -27,9 +38,11 @@ share-requires g t c κs within =
           (
             search rules,
             (
-              All-tail P c.in-Some.line.now c.in-Some.rest.now (subst (All P) c.in-Some.ensures.cases.0 c.requires.idle),
+              All-tail P c.in-Some.line.now c.in-Some.rest.now
+                  (subst (All P) c.in-Some.ensures.cases.0 c.requires.idle),
               (
-                ready_kept g.J.Job.means (arc_value c.args.board.now) c.args.first.now c.split-seat.new.seat c.requires.ready of c.split-seat.ensures.view,
+                ready_kept g.J.Job.means (arc_value c.args.board.now) c.args.first.now c.split-seat.new.seat
+                    c.requires.ready of c.split-seat.ensures.view,
                 leads_kept before (view c.split-seat.new.seat) c.requires.leads c.split-seat.ensures.view,
               ),
             ),
@@ -38,8 +51,35 @@ share-requires g t c κs within =
       ),
     )
 
+pub returns-clause-begun : goal.returns-clause-begun
+returns-clause-begun g t c = λ is.
+    let l = c.in-Some.line.now in
+    let rest = c.in-Some.rest.now in
+    let one : served c.await_seat-returned.new.self.end ≡ served l.end + from_bool c.await_seat-returned.result.begun =
+    c.await_seat-returned.ensures.served
+    ∙ ap (λ n. n + from_bool c.await_seat-returned.result.begun)
+    (c.give.ensures.served ∙ c.part_in.ensures.served) in
+    subst (λ n. n < served_by (c.await_seat-returned.new.self ∷ c.share-others_begun.new.lines))
+    (sym (ap served_by c.in-Some.ensures.cases.0))
+    (more_served c.await_seat-returned.result.begun c.share-others_begun.result (served l.end) (served_by rest) _ _ one
+    c.share-others_begun.ensures.begun c.share-others_begun.ensures.missed is)
+
+pub returns-clause-missed : goal.returns-clause-missed
+returns-clause-missed g t c = λ is.
+    let l = c.in-Some.line.now in
+    let rest = c.in-Some.rest.now in
+    let one : served c.await_seat-returned.new.self.end ≡ served l.end + from_bool c.await_seat-returned.result.begun =
+    c.await_seat-returned.ensures.served
+    ∙ ap (λ n. n + from_bool c.await_seat-returned.result.begun)
+    (c.give.ensures.served ∙ c.part_in.ensures.served) in
+    none_served c.await_seat-returned.result.begun c.share-others_begun.result (served l.end) (served_by rest) _ _ one
+    c.share-others_begun.ensures.begun c.share-others_begun.ensures.missed is
+    ∙ sym (ap served_by c.in-Some.ensures.cases.0)
+
 pub returns-clause-leads : goal.returns-clause-leads
 returns-clause-leads g t c =
-    let through = c.await_seat-seat.ensures.seat (arc_value c.in-Ok.part) c.split-seat.result c.give.ensures in
-    leads_joined (view c.args.first.now) (view c.split-seat.new.seat) (view c.share.new.first) (view c.await_seat-seat.result) (view c.join.new.seat)
-    c.split-seat.ensures.view c.share.ensures.leads (through.seat.number ∙ ap (λ v. v.number) c.split-seat.ensures.new) c.join.ensures.view
+    let through = c.await_seat-returned.ensures.seat (arc_value c.in-Ok.part) c.split-seat.result c.give.ensures.lent in
+    leads_joined (view c.args.first.now) (view c.split-seat.new.seat) (view c.share-others_begun.new.first)
+    (view c.await_seat-returned.result.seat) (view c.join.new.seat)
+    c.split-seat.ensures.view c.share-others_begun.ensures.leads
+    (through.seat.number ∙ ap (λ v. v.number) c.split-seat.ensures.new) c.join.ensures.view

@@ -1,6 +1,6 @@
 use Rattle.std.proofs.Common.{subst}
 use Rattle.std.specs.Arc.{arc_value}
-use Rattle.cs_crew.specs.Crew.{IsThrough}
+use Rattle.cs_pool.specs.Working.{IsThrough}
 use Rattle.cs_pool.proofs.helper.serve.Goals as goal
 
 pub give_back-requires : goal.give_back-requires

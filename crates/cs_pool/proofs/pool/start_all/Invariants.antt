@@ -5,4 +5,5 @@ use Rattle.cs_pool.specs.inner.Lines.{IsIdle}
 use Rattle.cs_pool.proofs.pool.start_all.Given as goal
 
 abbrev pub invariant-loop : goal.invariant-loop
-invariant-loop g l = All (λ line. IsIdle line) l.lines.items × (length l.lines.items ≡ l.counter) × (l.helpers ≤ vec_capacity l.lines)
+invariant-loop g l = All (λ line. IsIdle line) l.lines.items × (length l.lines.items ≡ l.counter)
+    × (l.helpers ≤ vec_capacity l.lines)

@@ -1,3 +1,4 @@
+use Rattle.std.proofs.Common.{◌∙◌}
 use Rattle.cs_pool.proofs.line.Line.await_seat.Goals as goal
 
 pub returns-in-Some-collect-clause-seat : goal.returns-in-Some-collect-clause-seat
@@ -9,4 +10,5 @@ loop-preserved g c = (
   tt,
   c.in_default-collect.ensures.busy,
   λ b s lent. c.in_default-collect.ensures.none b s (c.loop.invariant.3 b s lent),
+  c.in_default-collect.ensures.same ∙ c.loop.invariant.4,
 )

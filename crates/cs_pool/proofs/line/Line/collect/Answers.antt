@@ -18,7 +18,8 @@ returns-clause-busy g c = let busy = c.requires in
       seat = busy.seat;
       lent = subst (λ m. HasOut m c.collect.new.end busy.board busy.seat) c.deref-mailbox.ensures out;
     })
-    (c.collect.ensures.none busy.board busy.seat (subst (λ m. HasOut m c.args.self.now.end busy.board busy.seat) (sym c.deref-mailbox.ensures) busy.lent))
+    (c.collect.ensures.none busy.board busy.seat
+    (subst (λ m. HasOut m c.args.self.now.end busy.board busy.seat) (sym c.deref-mailbox.ensures) busy.lent))
 
 pub returns-clause-none : goal.returns-clause-none
 returns-clause-none g c = λ b s lent.

@@ -20,8 +20,10 @@ store-requires g c =
     let n = c.args.self.now.table.shared.table_id.slots in
     let id = c.exchange-held.new.seat.id in
     let e = errand c.requires.0 c.requires.1 in
-    let w = written c.args.end.now.seat.me c.exchange-held.new.seat.me (helper (Some e)) letter.Nothing (letter.Answer c.args.seat) c.requires.2.me c.exchange-held.ensures.3 in (
+    let w = written c.args.end.now.seat.me c.exchange-held.new.seat.me (helper (Some e)) letter.Nothing
+    (letter.Answer c.args.seat) c.requires.2.me c.exchange-held.ensures.3 in (
       c.exchange-held.ensures.0 ∙ c.requires.2.table,
       omega (arith, c.args.self.now.sized.0),
-      subst (λ m. Allows (Always M) n id m 0 (λ _. BACK) (λ _. gave_back (step n 0 BACK 0 none) m BACK)) (sym w) (brings_back M n id e c.args.seat c.requires.3),
+      subst (λ m. Allows (Always M) n id m 0 (λ _. BACK) (λ _. gave_back (step n 0 BACK 0 none) m BACK)) (sym w)
+          (brings_back M n id e c.args.seat c.requires.3),
     )

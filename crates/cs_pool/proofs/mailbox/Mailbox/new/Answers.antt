@@ -13,5 +13,6 @@ load-requires g c =
     let o = c.in-Ok.ensures.ok in (
       o.2,
       omega (arith, o.0),
-      subst (λ m. Allows (Always M) n c.in-Ok.seat.id m 0 (λ y. y) (fetched (step n 0 0 0 none) m)) (sym o.4) (fetches M n c.in-Ok.seat.id),
+      subst (λ m. Allows (Always M) n c.in-Ok.seat.id m 0 (λ y. y) (fetched (step n 0 0 0 none) m)) (sym o.4)
+          (fetches M n c.in-Ok.seat.id),
     )

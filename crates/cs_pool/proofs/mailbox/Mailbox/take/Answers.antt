@@ -17,10 +17,15 @@ compare_exchange-found-requires g c =
     let id = c.args.end.now.seat.id in (
       c.requires.table,
       omega (arith, c.args.self.now.sized.0),
-      subst (λ m. Allows (Always M) n id m 0 (λ y. either (eqb y GIVEN) TAKEN y) (took M (step n 0 GIVEN TAKEN none) m)) (sym c.requires.me) (takes_task M n id),
+      subst (λ m. Allows (Always M) n id m 0 (λ y. either (eqb y GIVEN) TAKEN y) (took M (step n 0 GIVEN TAKEN none) m))
+          (sym c.requires.me) (takes_task M n id),
     )
 
 pub exchange-letter-requires : goal.exchange-letter-requires
 exchange-letter-requires g c =
-    let t = c.compare_exchange-found.ensures.2.0 c.if-found-ne-GIVEN.false in
-    (c.compare_exchange-found.ensures.0 ∙ c.requires.table, has_slot c.compare_exchange-found.new.seat.me (helper (Some (errand_of t.0))) (letter.Task t.0) t.1)
+    let t = c.compare_exchange-found.ensures.2.0 c.if-found-ne-GIVEN.false in (
+      c.compare_exchange-found.ensures.0
+          ∙ c.requires.table,
+      has_slot c.compare_exchange-found.new.seat.me (helper (Some (errand_of t.0))) (letter.Task t.0)
+          t.1,
+    )

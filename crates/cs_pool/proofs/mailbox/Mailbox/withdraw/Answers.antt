@@ -3,6 +3,7 @@ use mathlib.Core.Option.{none}
 use prog.Atomic.{either}
 use Rattle.atomic_table.specs.Table.{step, Allows}
 use Rattle.cs_pool.specs.Letters.{caller, errand}
+use Rattle.cs_pool.specs.Mailboxes.{served}
 use Rattle.cs_pool.specs.inner.Exchange.{Always}
 use Rattle.cs_pool.specs.inner.Telling.{withdrew}
 use Rattle.cs_pool.specs.declared.letter.Letter.TheVariants as letter
@@ -18,10 +19,15 @@ compare_exchange-found-requires g c =
     let e = errand c.requires.0 c.requires.1 in (
       c.requires.2.table,
       omega (arith, c.args.self.now.sized.0),
-      subst (λ m. Allows (Always M) n id m 0 (λ y. either (eqb y GIVEN) EMPTY y) (withdrew M (step n 0 GIVEN EMPTY none) m)) (sym c.requires.2.me) (withdraws M n id e),
+      subst (λ m. Allows (Always M) n id m 0 (λ y. either (eqb y GIVEN) EMPTY y)
+          (withdrew M (step n 0 GIVEN EMPTY none) m)) (sym c.requires.2.me) (withdraws M n id (served c.args.end.now) e),
     )
 
 pub exchange-letter-requires : goal.exchange-letter-requires
 exchange-letter-requires g c =
-    let t = c.compare_exchange-found.ensures.2.0 c.if-found-ne-GIVEN.false in
-    (c.compare_exchange-found.ensures.0 ∙ c.requires.2.table, has_slot c.compare_exchange-found.new.seat.me (caller None) (letter.Task t.0) t.1)
+    let t = c.compare_exchange-found.ensures.2.0 c.if-found-ne-GIVEN.false in (
+      c.compare_exchange-found.ensures.0
+          ∙ c.requires.2.table,
+      has_slot c.compare_exchange-found.new.seat.me (caller (served c.args.end.now) None)
+          (letter.Task t.0) t.1,
+    )

@@ -1,6 +1,6 @@
 use Rattle.cs_board.specs.Board.{view, SameSeat}
-use Rattle.cs_crew.specs.Crew.{IsReady}
-use Rattle.cs_crew.proofs.worker.work.Given as goal
+use Rattle.cs_pool.specs.Working.{IsReady}
+use Rattle.cs_pool.proofs.worker.work.Given as goal
 
 abbrev pub invariant-loop : goal.invariant-loop
 invariant-loop g l =

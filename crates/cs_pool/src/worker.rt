@@ -1,5 +1,5 @@
-// What one worker does.
-ghost use Rattle.cs_crew.specs.Crew.{IsReady, IsThrough};
+// What one worker does: a helper at its seat, and the caller at its own.
+ghost use Rattle.cs_pool.specs.Working.{IsReady, IsThrough};
 
 use cs_board::{Board, BoardSeat, Patience};
 use cs_cells::Job;
@@ -15,7 +15,7 @@ const PATIENCE: Patience = Patience {
 /// Claims a note, calls the gate, runs the note and finishes it, and so on until all notes are
 /// Done, or until it has looked for one in vain so long that it leaves. Whoever leaves does no note
 /// and owes none.
-pub fn work<J: Job, G: Gate, R: Wait>(
+pub(crate) fn work<J: Job, G: Gate, R: Wait>(
     rt: &R,
     board: &Board<J>,
     seat: &mut BoardSeat<J>,

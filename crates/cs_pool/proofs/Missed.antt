@@ -1,0 +1,47 @@
+-- What a cycle that was offered tells of the next ones.
+use Rattle.std.proofs.Common.{◌≡◌, ℕ, suc, ◌+◌, ◌*◌, ◌<◌, ◌^◌, ◌||◌, Bool, true, false, refl, ap, ◌∙◌, arith}
+use Rattle.std.specs.Prelude.{min}
+use Rattle.std.specs.Int.{from_bool}
+use Rattle.std.proofs.Math.Nat.{pow-succ'}
+use Rattle.cs_pool.specs.Alone.{most_alone, alone_after}
+use Rattle.cs_pool.specs.Pools.{Learns, tasks_served}
+use Rattle.cs_pool.specs.declared.pool.Pool.{Pool}
+
+-- twice as many, and 128 at most, are as many as after one miss more
+twice_more : (x k : ℕ) → x ≡ alone_after k → min (2 * x) most_alone ≡ alone_after (k + 1)
+twice_more x k is =
+    let p : 2 ^ suc k ≡ 2 * 2 ^ k = pow-succ' 2 k in
+    let s : 2 ^ (k + 1) ≡ 2 ^ suc k = ap (λ n. 2 ^ n) (let e : k + 1 ≡ suc k = omega arith in e) in
+    omega (arith, is, p, s)
+
+module _ {J R G : Type 0} where
+  pub learns : (before after : Pool J R G) (begun : Bool) → (begun ≡ true → tasks_served before < tasks_served after)
+      → (begun ≡ false → tasks_served after ≡ tasks_served before)
+      → (begun ≡ true → (after.sparing.alone ≡ 0) × (after.sparing.after_a_miss ≡ 1))
+      → (begun ≡ false → (after.sparing.alone ≡ before.sparing.after_a_miss)
+      × (after.sparing.after_a_miss ≡ min (2 * before.sparing.after_a_miss) most_alone))
+      → Learns before after
+  learns before after true more same helped missed = record {
+    served = omega (arith, more refl);
+    helped = λ _. helped refl;
+    missed = λ e. absurd (omega (arith, more refl, e));
+  }
+  learns before after false more same helped missed = record {
+    served = omega (arith, same refl);
+    helped = λ l. absurd (omega (arith, same refl, l));
+    missed = λ _ k is. ((missed refl).0 ∙ is, (missed refl).1 ∙ twice_more before.sparing.after_a_miss k is);
+  }
+
+-- the tasks of a first helper and of the others, after they were asked for their seats
+pub more_served : (a b : Bool) (p q p' q' : ℕ) → p' ≡ p + from_bool a → (b ≡ true → q < q') → (b ≡ false → q' ≡ q)
+    → (a || b) ≡ true → p + q < p' + q'
+more_served true true p q p' q' one more same is = let o : p' ≡ p + 1 = one in omega (arith, o, more refl)
+more_served true false p q p' q' one more same is = let o : p' ≡ p + 1 = one in omega (arith, o, same refl)
+more_served false true p q p' q' one more same is = let o : p' ≡ p + 0 = one in omega (arith, o, more refl)
+more_served false false p q p' q' one more same is = absurd (cc)
+
+pub none_served : (a b : Bool) (p q p' q' : ℕ) → p' ≡ p + from_bool a → (b ≡ true → q < q') → (b ≡ false → q' ≡ q)
+    → (a || b) ≡ false → p' + q' ≡ p + q
+none_served true b p q p' q' one more same is = absurd (cc)
+none_served false true p q p' q' one more same is = absurd (cc)
+none_served false false p q p' q' one more same is = let o : p' ≡ p + 0 = one in omega (arith, o, same refl)

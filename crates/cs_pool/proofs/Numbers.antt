@@ -1,0 +1,16 @@
+-- The numbers below another.
+use Rattle.std.proofs.Common.{◌≡◌, ℕ, zero, suc, ◌≤◌, ◌∷◌, cond, refl, ap, ◌∙◌, arith}
+use Rattle.std.proofs.lemmas.Bool.{eq-eqb, ne_eqb}
+use Rattle.cs_pool.specs.Numbered.{down}
+use Rattle.cs_board.specs.Counts.{without}
+
+without_greater : (n m : ℕ) → n ≤ m → without m (down n) ≡ down n
+without_greater zero m l = refl
+without_greater (suc n) m l =
+    ap (λ b. cond b (without m (down n)) (n ∷ without m (down n))) (ne_eqb n m (λ (e : n ≡ m). omega (arith, l, e)))
+    ∙ ap (λ ns. n ∷ ns) (without_greater n m (omega (arith, l)))
+
+-- the greatest number is taken out
+pub without_greatest : (n : ℕ) → without n (down (suc n)) ≡ down n
+without_greatest n =
+    ap (λ b. cond b (without n (down n)) (n ∷ without n (down n))) (eq-eqb n n refl) ∙ without_greater n n (omega arith)
