@@ -1,6 +1,7 @@
 pub mod Blocks
 pub mod Formulas
 pub mod Histories
+pub mod Inverses
 pub mod Levels
 pub mod Pieces
 pub mod Ramps

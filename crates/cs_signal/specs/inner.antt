@@ -1,4 +1,5 @@
 -- What private clauses alone cite.
+pub mod Inverses
 pub mod Level
 pub mod Pieces
 pub mod Ramp
