@@ -7,3 +7,4 @@ pub mod Pieces
 pub mod Sizes
 pub mod Some
 pub mod Told
+pub mod SmallTexts

@@ -8,13 +8,15 @@
 //! anyone above noticing, as long as the first refusal by the chain is the one that is told.
 //!
 //! To be read in this order: `orchestra` (a text's typed orchestra), `score` (a text's plot), `piece` (both together:
-//! `compile`), `laws`.
+//! `compile`), `laws`, `worked` (texts worked out by hand).
 #![tactic(auto)]
 
 mod laws;
 mod orchestra;
 mod piece;
 mod score;
+mod worked;
 
 pub use laws::{pieces_mean_their_calls, texts_have_one_meaning};
 pub use piece::compile;
+pub use worked::texts_worked_by_hand;

@@ -15,11 +15,12 @@ use Rattle.cs_play.specs.Alike.{AreTexts}
 use Rattle.cs_play.specs.Endings.{EndsBy, IsCutShort, IsLoaded, IsOk, IsSinkFault, IsTalkFault, WasPartlyPerformed, WasPaused, WasPerformed, output_of}
 use Rattle.cs_play.specs.Runs.{IsRun}
 use Rattle.cs_play.specs.Scene.{Scene, Sight}
-use Rattle.cs_play.specs.Sounds.{HoldsSoundFront, IsSoundOf}
+use Rattle.cs_play.specs.Sounds.{HoldsSoundFront}
 use Rattle.cs_report.specs.declared.status.Status.{Status}
 use Rattle.cs_report.specs.declared.status.Status.TheVariants as status
 use Rattle.cs_arguments.specs.Reading.{Asked, Text, reading}
 use Rattle.cs_source.specs.Meaning.{Mean}
+use Rattle.cs_source.specs.Sounds.{IsSoundOf}
 use Rattle.cs_source.specs.Texts.{Texts}
 use Rattle.cs_typed.specs.TypedTree.{header_of_head}
 use Rattle.cs_wav.specs.Wav.{wav_of}

@@ -1,25 +1,10 @@
--- The sound of texts: the bytes of the file that they mean, whoever performs it.
-use Rattle.std.specs.Prelude.{ℕ, ◌≡◌, ◌⊎◌, List, [], Option, Some, None, Ok}
-use Rattle.cs_base.specs.declared.head.Head.{Head}
-use Rattle.cs_base.specs.declared.width.SampleWidth.{SampleWidth}
+-- What a sink holds after a run of known texts.
+use Rattle.std.specs.Prelude.{ℕ, ◌≡◌, ◌⊎◌, List, [], Option, Some, None}
 use Rattle.cs_edge.specs.Moves.{Held}
 use Rattle.cs_edge.specs.Told.{IsFront}
-use Rattle.cs_piece_meaning.specs.Heard.{frames_of}
-use Rattle.cs_piece_meaning.specs.Moments.{Composition}
 use Rattle.cs_arguments.specs.Reading.{Asked}
-use Rattle.cs_source.specs.Meaning.{Mean}
+use Rattle.cs_source.specs.Sounds.{IsSoundOf}
 use Rattle.cs_source.specs.Texts.{Texts}
-use Rattle.cs_typed.specs.TypedTree.{header_of_head}
-use Rattle.cs_wav.specs.Wav.{wav_of}
-
--- These bytes are the sound of texts in samples of a width: the texts mean a composition, and the bytes are the WAV file
--- of its frames.
-pub record IsSoundOf (t : Texts) (width : SampleWidth) (bytes : List ℕ) : Type 0 where
-  pub c : Composition
-  pub means : Mean width t (Ok c)
-  pub head : Head
-  pub head_is : header_of_head head ≡ c.head
-  pub is : bytes ≡ wav_of (frames_of c) head width
 
 -- What a sink holds after a run, and what it told before: the same, where no sound file was begun; nothing, where its begin
 -- failed; or, under the name asked for, a front of the sound of the texts.

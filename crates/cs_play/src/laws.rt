@@ -9,12 +9,13 @@ ghost use Rattle.cs_play.specs.Alike.{AreTexts, AskAlike, HadNoFault, SoundAlike
 ghost use Rattle.cs_play.specs.Endings.{Reads};
 ghost use Rattle.cs_play.specs.Runs.{IsRun};
 ghost use Rattle.cs_play.specs.Scene.{Scene, sight};
-ghost use Rattle.cs_play.specs.Sounds.{HoldsSoundFront, IsSoundOf};
+ghost use Rattle.cs_play.specs.Sounds.{HoldsSoundFront};
 ghost use Rattle.cs_report.specs.Status.{refusal};
 ghost use Rattle.cs_report.specs.declared.status.Status.{Status};
 ghost use Rattle.cs_report.specs.declared.status.Status.TheVariants as status;
 ghost use Rattle.cs_arguments.specs.Reading.{Asked, Text, reading};
 ghost use Rattle.cs_source.specs.Meaning.{Mean};
+ghost use Rattle.cs_source.specs.Sounds.{IsSoundOf};
 ghost use Rattle.cs_source.specs.Texts.{LackWhereTold, Texts};
 ghost use Rattle.cs_csd.specs.declared.refused.Refused.{Refused};
 

@@ -3,7 +3,7 @@
 //! The one contract: `csplay` ends as `IsRun` says (specs/Runs): each status by what has come about (`EndsBy`,
 //! specs/Endings), over what shelf, sound file, talk and meters tell before and after; and the shelf was read by the
 //! source that the words ask for, or not at all. What follows for every two runs and for every run are calls of
-//! `laws`: texts have one sound or one refusal (`IsSoundOf`, specs/Sounds), the sound file holds it or a front of it,
+//! `laws`: texts have one sound or one refusal (`IsSoundOf` of cs_source), the sound file holds it or a front of it,
 //! whatever the number of workers, and words, a lacking name, a refusal and a sound decide the status, want of memory
 //! aside.
 //!

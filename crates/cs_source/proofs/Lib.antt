@@ -4,3 +4,4 @@ pub mod Meant
 pub mod Moves
 pub mod Pairs
 pub mod Readings
+pub mod SmallSounds

@@ -1,0 +1,70 @@
+-- The sound file of two small texts.
+use Rattle.std.proofs.Common.{◌≡◌, ◌∷◌, ℕ, ℤ, List, [], Result, Ok, Err, refl, sym, subst, arith}
+use Rattle.cs_base.specs.declared.head.Head.{Head}
+use Rattle.cs_base.specs.declared.refusal.Refusal.{Refusal}
+use Rattle.cs_base.specs.declared.width.SampleWidth.{SampleWidth}
+use Rattle.cs_base.specs.declared.width.SampleWidth.TheVariants.{TwoBytes, ThreeBytes}
+use Rattle.cs_compile.specs.Meaning.{means}
+use Rattle.cs_compile.specs.Worked.{fourth_field, note_of_100, whole}
+use Rattle.cs_piece_meaning.specs.Heard.{frames_of}
+use Rattle.cs_piece_meaning.specs.Moments.{Composition}
+use Rattle.cs_source.specs.Meaning.{Mean, told}
+use Rattle.cs_source.specs.Sounds.{IsSoundOf}
+use Rattle.cs_source.specs.Texts.{both}
+use Rattle.cs_source.specs.Worked.{narrow_file, wide_file}
+use Rattle.cs_csd.specs.declared.refused.Refused.{Refused}
+use Rattle.cs_typed.specs.Places.{Header}
+use Rattle.cs_wav.specs.Wav.{header_bytes, samples_of, wav_of}
+
+abbrev numbers : Head
+numbers = record {
+  sr = 8;
+  ksmps = 1;
+  nchnls = 1;
+  dbfs = whole 32768;
+  sr_in_range = (omega arith, omega arith);
+  ksmps_in_range = (omega arith, omega arith);
+  nchnls_in_range = (omega arith, omega arith);
+  dbfs_above_zero = omega arith;
+}
+
+abbrev header : Header
+header = record { sr = 8; ksmps = 1; nchnls = 1; dbfs = whole 32768 }
+
+abbrev frames : List ℤ
+frames = whole 100 ∷ whole 100 ∷ []
+
+narrow_bytes : narrow_file ≡ wav_of frames numbers TwoBytes
+unfolding wav_of header_bytes samples_of
+narrow_bytes = refl
+
+wide_bytes : wide_file ≡ wav_of frames numbers ThreeBytes
+unfolding wav_of header_bytes samples_of
+wide_bytes = refl
+
+-- the file of a composition with these frames
+abbrev Heard : SampleWidth → Type 0
+Heard width =
+    (c : Composition) × means width fourth_field note_of_100 (Ok c) × (c.head ≡ header) × (frames_of c ≡ frames)
+
+heard_as : (width : SampleWidth) (bytes : List ℕ) → bytes ≡ wav_of frames numbers width → Heard width
+    → IsSoundOf (both fourth_field note_of_100) width bytes
+heard_as width bytes e h = record {
+  c = h.0;
+  means = (Ok h.0, h.1, refl);
+  head = numbers;
+  head_is = sym h.2;
+  is = subst (λ (f : List ℤ). bytes ≡ wav_of f numbers width) (sym h.3) e;
+}
+
+pub narrow_sound : Heard TwoBytes → IsSoundOf (both fourth_field note_of_100) TwoBytes narrow_file
+narrow_sound h = heard_as TwoBytes narrow_file narrow_bytes h
+
+pub wide_sound : Heard ThreeBytes → IsSoundOf (both fourth_field note_of_100) ThreeBytes wide_file
+wide_sound h = heard_as ThreeBytes wide_file wide_bytes h
+
+-- two texts that are refused, told in files that begin with them
+pub refused_as : (width : SampleWidth) (orchestra score : List ℕ) (f : Refusal) (r : Refused)
+    → means width orchestra score (Err f) → (let a : Result Composition Refused = Err r in a) ≡ told 1 1 (Err f)
+    → Mean width (both orchestra score) (Err r)
+refused_as width orchestra score f r m e = (Err f, m, e)

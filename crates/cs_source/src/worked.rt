@@ -1,0 +1,24 @@
+// Sound files worked out by hand: a call that does nothing, whose contract is the examples.
+ghost use Rattle.std.specs.Prelude.{Err};
+ghost use Rattle.cs_base.specs.declared.fault.OrcKind.TheVariants as orc;
+ghost use Rattle.cs_base.specs.declared.refusal.Refusal.TheVariants as why;
+ghost use Rattle.cs_base.specs.declared.width.SampleWidth.{SampleWidth};
+ghost use Rattle.cs_base.specs.declared.width.SampleWidth.TheVariants.{TwoBytes, ThreeBytes};
+ghost use Rattle.cs_compile.specs.Worked.{fourth_field, note_of_100, stray_byte};
+ghost use Rattle.cs_csd.specs.declared.refused.Refused.TheVariants as refused;
+ghost use Rattle.cs_source.specs.Meaning.{Mean};
+ghost use Rattle.cs_source.specs.Sounds.{IsSoundOf};
+ghost use Rattle.cs_source.specs.Texts.{both};
+ghost use Rattle.cs_source.specs.Worked.{narrow_file, wide_file};
+
+use cs_compile::texts_worked_by_hand;
+
+/// The sound of two small texts byte for byte, in samples of either width; and a refusal.
+pub fn sounds_worked_by_hand()
+    ensures narrow { IsSoundOf (both fourth_field note_of_100) TwoBytes narrow_file }
+    ensures wide { IsSoundOf (both fourth_field note_of_100) ThreeBytes wide_file }
+    ensures refused { (width : SampleWidth) → Mean width (both stray_byte note_of_100)
+        (Err (refused.Texts (why.Orc (record { line = 2; kind = orc.BadToken })))) }
+{
+    texts_worked_by_hand();
+}
