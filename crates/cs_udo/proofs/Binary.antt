@@ -1,5 +1,6 @@
 -- Binary digits, one after the other.
-use Rattle.std.proofs.Common.{◌≡◌, ◌∙◌, ◌+◌, ◌/◌, ◌%◌, ◌<◌, ℕ, zero, suc, Bool, true, false, ◌∷◌, map, eqb, arith, refl, sym, ap}
+use Rattle.std.proofs.Common.{◌≡◌, ◌∙◌, ◌+◌, ◌/◌, ◌%◌, ◌<◌, ℕ, zero, suc, Bool, true, false, ◌∷◌, map, eqb, arith, refl}
+use Rattle.std.proofs.Common.{sym, ap}
 use Rattle.cs_udo.specs.Names.{one_more, binary, digit, numeral}
 
 abbrev twice : ℕ → ℕ

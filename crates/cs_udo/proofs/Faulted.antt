@@ -1,5 +1,6 @@
 -- Faults, one after the other.
-use Rattle.std.proofs.Common.{◌≡◌, ◌∙◌, ◌==◌, ◌&&◌, ◌||◌, ℕ, Bool, true, false, not, nat_le, if◌then◌else◌, List, [], ◌∷◌, ◌++◌, length, map, Option, Some, None, arith, refl, sym, ap}
+use Rattle.std.proofs.Common.{◌≡◌, ◌∙◌, ◌==◌, ◌&&◌, ◌||◌, ℕ, Bool, true, false, not, nat_le, if◌then◌else◌, List, []}
+use Rattle.std.proofs.Common.{◌∷◌, ◌++◌, length, map, Option, Some, None, arith, refl, sym, ap}
 use Rattle.std.proofs.lemmas.Bool.Decides.{nat_tests}
 use Rattle.cs_base.specs.declared.fault.OrcFault.{OrcFault}
 use Rattle.std.proofs.lemmas.List.{length-map}
@@ -10,12 +11,14 @@ use Rattle.cs_grammar.specs.declared.tree.Udo.{Udo}
 use Rattle.cs_grammar.specs.Tree.{argument, definition, Definition, Orchestra}
 use Rattle.cs_udo.specs.Names.{slots}
 use Rattle.cs_udo.specs.Expanded.{Opcodes, no_opcodes, template}
-use Rattle.cs_udo.specs.Refused.{has_text, broken_rule, upper, uppermost_of, uppermost, faults_outside, faults_of_definitions, faults_of_instruments, first_fault}
+use Rattle.cs_udo.specs.Refused.{has_text, broken_rule, upper, uppermost_of, uppermost, faults_outside}
+use Rattle.cs_udo.specs.Refused.{faults_of_definitions, faults_of_instruments, first_fault}
 use Rattle.cs_udo.proofs.Weighed.{length_slots}
 use Rattle.cs_udo.specs.inner.Walks.{listed, after_faults}
 
 -- those of one list, and then those of another
-pub after_both : (first : Option OrcFault) (xs ys : List OrcFault) → after_faults first (xs ++ ys) ≡ after_faults (after_faults first xs) ys
+pub after_both : (first : Option OrcFault) (xs ys : List OrcFault)
+    → after_faults first (xs ++ ys) ≡ after_faults (after_faults first xs) ys
 after_both first [] ys = refl
 after_both first (f ∷ xs) ys = after_both (uppermost_of first (Some f)) xs ys
 
@@ -40,7 +43,8 @@ across_not f g h p q = grind (arith, nat_tests)
 upper_again : (f g h : OrcFault) → upper (upper f g) h ≡ upper f (upper g h)
 upper_again f g h = by (nat_le f.line g.line) refl (nat_le g.line h.line) refl
   where
-    by : (a : Bool) → nat_le f.line g.line ≡ a → (b : Bool) → nat_le g.line h.line ≡ b → upper (upper f g) h ≡ upper f (upper g h)
+    by : (a : Bool) → nat_le f.line g.line ≡ a → (b : Bool) → nat_le g.line h.line ≡ b
+        → upper (upper f g) h ≡ upper f (upper g h)
     by true e true k =
         ap (λ x. upper x h) (upper_by f g true e)
         ∙ upper_by f h true (across f.line g.line h.line e k)
@@ -69,17 +73,26 @@ all_after (f ∷ rest) = rest_after f rest
 
 -- ---- the rule that a call breaks
 
-pub rule_is : (inside : Bool) (xs : List (List ℕ)) (args : List Arg) (u : Udo) (opcodes : Opcodes) (many misplaced : Bool) (r : Option OrcKind) → many ≡ (length xs == length u.outs && length args == length u.names) → misplaced ≡ (has_text (map argument args) || not inside) → r ≡ (if not many then Some orc.ArgCount else (if misplaced then Some orc.RateMismatch else None)) → r ≡ broken_rule inside xs (map argument args) (template opcodes (definition u))
+pub rule_is : (inside : Bool) (xs : List (List ℕ)) (args : List Arg) (u : Udo) (opcodes : Opcodes)
+    (many misplaced : Bool) (r : Option OrcKind) → many ≡ (length xs == length u.outs && length args == length u.names)
+    → misplaced ≡ (has_text (map argument args) || not inside)
+    → r ≡ (if not many then Some orc.ArgCount else (if misplaced then Some orc.RateMismatch else None))
+    → r ≡ broken_rule inside xs (map argument args) (template opcodes (definition u))
 rule_is inside xs args u opcodes many misplaced r m p e =
     e
     ∙ ap (λ b. if not b then Some orc.ArgCount else (if misplaced then Some orc.RateMismatch else None)) m
-    ∙ ap (λ b. if not (length xs == length u.outs && length args == length u.names) then Some orc.ArgCount else (if b then Some orc.RateMismatch else None)) p
-    ∙ sym (ap (λ n. if not (length xs == n && length args == length u.names) then Some orc.ArgCount else (if has_text (map argument args) || not inside then Some orc.RateMismatch else None)) (length_slots 0 u.outs))
-    ∙ sym (ap (λ n. if not (length xs == length (slots 0 u.outs) && n == length u.names) then Some orc.ArgCount else (if has_text (map argument args) || not inside then Some orc.RateMismatch else None)) (length-map args argument))
+    ∙ ap (λ b. if not (length xs == length u.outs && length args == length u.names) then Some orc.ArgCount else
+    (if b then Some orc.RateMismatch else None)) p
+    ∙ sym (ap (λ n. if not (length xs == n && length args == length u.names) then Some orc.ArgCount else
+    (if has_text (map argument args) || not inside then Some orc.RateMismatch else None)) (length_slots 0 u.outs))
+    ∙ sym (ap (λ n. if not (length xs == length (slots 0 u.outs) && n == length u.names) then Some orc.ArgCount else
+    (if has_text (map argument args) || not inside then Some orc.RateMismatch else None)) (length-map args argument))
 
 -- ---- all faults of an orchestra
 
-pub whole_after : (o : Orchestra) (ds : List Definition) (f g h : Option OrcFault) → ds ≡ o.opcodes → f ≡ after_faults None (faults_outside ds o.zero) → g ≡ after_faults f (faults_of_definitions no_opcodes ds) → h ≡ after_faults g (faults_of_instruments ds o.instrs) → h ≡ first_fault o
+pub whole_after : (o : Orchestra) (ds : List Definition) (f g h : Option OrcFault) → ds ≡ o.opcodes
+    → f ≡ after_faults None (faults_outside ds o.zero) → g ≡ after_faults f (faults_of_definitions no_opcodes ds)
+    → h ≡ after_faults g (faults_of_instruments ds o.instrs) → h ≡ first_fault o
 whole_after o ds f g h e first second third =
     let a : List OrcFault = faults_outside ds o.zero in
     let b : List OrcFault = faults_of_definitions no_opcodes ds in
@@ -89,4 +102,5 @@ whole_after o ds f g h e first second third =
     ∙ sym (after_both (after_faults None a) b d)
     ∙ sym (after_both None a (b ++ d))
     ∙ all_after (a ++ (b ++ d))
-    ∙ ap (λ xs. uppermost (faults_outside xs o.zero ++ (faults_of_definitions no_opcodes xs ++ faults_of_instruments xs o.instrs))) e
+    ∙ ap (λ xs. uppermost (faults_outside xs o.zero
+    ++ (faults_of_definitions no_opcodes xs ++ faults_of_instruments xs o.instrs))) e

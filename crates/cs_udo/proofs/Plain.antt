@@ -2,10 +2,12 @@
 use Rattle.std.proofs.Common.{◌≡◌, ℕ, List, [], ◌∷◌, map, refl, ap}
 use Rattle.cs_grammar.specs.declared.tree.Callee.{Callee}
 use Rattle.cs_grammar.specs.declared.tree.Callee.TheVariants as callee
-use Rattle.cs_grammar.specs.Tree.{Expression, number, var, field, head, neg, pair, pick, apply, Argument, value, text, Statement, set, call, choose}
+use Rattle.cs_grammar.specs.Tree.{Expression, number, var, field, head, neg, pair, pick, apply, Argument, value, text}
+use Rattle.cs_grammar.specs.Tree.{Statement, set, call, choose}
 use Rattle.cs_grammar.specs.Tree.{Block, no_stmt, andthen, joins, Arms, otherwise, arm, Instrument}
 use Rattle.cs_udo.specs.Names.{as_it_is, renamed, renamed_argument}
-use Rattle.cs_udo.specs.Expanded.{no_opcodes, defined, alone, called, after, after_block, expanded, expanded_block, expanded_arms, expanded_instrument}
+use Rattle.cs_udo.specs.Expanded.{no_opcodes, defined, alone, called, after, after_block, expanded, expanded_block}
+use Rattle.cs_udo.specs.Expanded.{expanded_arms, expanded_instrument}
 
 same_value : (e : Expression) → renamed as_it_is e ≡ e
 same_value (number v) = refl
@@ -26,9 +28,12 @@ same_names : (xs : List (List ℕ)) → map as_it_is xs ≡ xs
 same_names [] = refl
 same_names (x ∷ xs) = ap (λ rest. x ∷ rest) (same_names xs)
 
-not_called : (f line : ℕ) (xs : List (List ℕ)) (c : Callee) (args : List Argument) → called as_it_is f line xs c args (defined no_opcodes c) ≡ alone (call line xs c args)
-not_called f line xs (callee.Opcode o) args = λ i. alone (call line (same_names xs i) (callee.Opcode o) (same_arguments args i))
-not_called f line xs (callee.Name n) args = λ i. alone (call line (same_names xs i) (callee.Name n) (same_arguments args i))
+not_called : (f line : ℕ) (xs : List (List ℕ)) (c : Callee) (args : List Argument)
+    → called as_it_is f line xs c args (defined no_opcodes c) ≡ alone (call line xs c args)
+not_called f line xs (callee.Opcode o) args =
+    λ i. alone (call line (same_names xs i) (callee.Opcode o) (same_arguments args i))
+not_called f line xs (callee.Name n) args =
+    λ i. alone (call line (same_names xs i) (callee.Name n) (same_arguments args i))
 
 mutual
   same_statement : (f : ℕ) (x : Statement) → expanded no_opcodes as_it_is f x ≡ alone x
@@ -42,8 +47,10 @@ mutual
 
   same_arms : (f : ℕ) (list : Arms) → expanded_arms no_opcodes as_it_is f list ≡ list
   same_arms f (otherwise b) = ap otherwise (same_block f b)
-  same_arms f (arm c b rest) = λ i. arm (same_value c i) (same_block f b i) (same_arms (after_block no_opcodes f b) rest i)
+  same_arms f (arm c b rest) =
+      λ i. arm (same_value c i) (same_block f b i) (same_arms (after_block no_opcodes f b) rest i)
 
 pub same_instruments : (is : List Instrument) → map (expanded_instrument []) is ≡ is
 same_instruments [] = refl
-same_instruments (i ∷ is) = λ k. record { line = i.line; numbers = i.numbers; body = same_block 1 i.body k } ∷ same_instruments is k
+same_instruments (i ∷ is) =
+    λ k. record { line = i.line; numbers = i.numbers; body = same_block 1 i.body k } ∷ same_instruments is k

@@ -4,7 +4,8 @@ use Rattle.std.specs.Option.{option_or}
 use Rattle.std.specs.Str.{bytes_eq}
 use Rattle.cs_grammar.specs.declared.tree.Callee.{Callee}
 use Rattle.cs_grammar.specs.declared.tree.Callee.TheVariants as callee
-use Rattle.cs_grammar.specs.Tree.{Argument, value, var, Statement, set, call, choose, Block, no_stmt, andthen, joins, Arms, otherwise, arm}
+use Rattle.cs_grammar.specs.Tree.{Argument, value, var, Statement, set, call, choose, Block, no_stmt, andthen, joins}
+use Rattle.cs_grammar.specs.Tree.{Arms, otherwise, arm}
 use Rattle.cs_grammar.specs.Tree.{Definition, Instrument, Orchestra}
 use Rattle.cs_udo.specs.Names.{renamed, renamed_argument, in_frame, as_it_is, slots}
 
@@ -86,7 +87,8 @@ abbrev mutual
   pub expanded_arms : Opcodes → (List ℕ → List ℕ) → ℕ → Arms → Arms
   expanded_arms opcodes own frame (otherwise b) = otherwise (expanded_block opcodes own frame b)
   expanded_arms opcodes own frame (arm c b rest) =
-      arm (renamed own c) (expanded_block opcodes own frame b) (expanded_arms opcodes own (after_block opcodes frame b) rest)
+      arm (renamed own c) (expanded_block opcodes own frame b)
+      (expanded_arms opcodes own (after_block opcodes frame b) rest)
 
 -- the call of an opcode and those in it, if it is a defined one
 abbrev pub calls_of : Option Template → ℕ

@@ -1,9 +1,11 @@
 -- The calls of defined opcodes that are refused.
-use Rattle.std.specs.Prelude.{ℕ, Bool, true, false, not, ◌&&◌, ◌||◌, ◌==◌, nat_le, List, [], ◌∷◌, ◌++◌, length, Option, Some, None, if◌then◌else◌}
+use Rattle.std.specs.Prelude.{ℕ, Bool, true, false, not, ◌&&◌, ◌||◌, ◌==◌, nat_le, List, [], ◌∷◌, ◌++◌, length, Option}
+use Rattle.std.specs.Prelude.{Some, None, if◌then◌else◌}
 use Rattle.cs_base.specs.declared.fault.OrcFault.{OrcFault}
 use Rattle.cs_base.specs.declared.fault.OrcKind.{OrcKind}
 use Rattle.cs_base.specs.declared.fault.OrcKind.TheVariants as orc
-use Rattle.cs_grammar.specs.Tree.{Argument, value, text, Statement, set, call, choose, Block, no_stmt, andthen, Arms, otherwise, arm}
+use Rattle.cs_grammar.specs.Tree.{Argument, value, text, Statement, set, call, choose, Block, no_stmt, andthen, Arms}
+use Rattle.cs_grammar.specs.Tree.{otherwise, arm}
 use Rattle.cs_grammar.specs.Tree.{Definition, Instrument, Orchestra}
 use Rattle.cs_grammar.specs.WellFormed.{line_of}
 use Rattle.cs_udo.specs.Expanded.{Template, Opcodes, no_opcodes, defined, defining, opcodes_before}
@@ -61,7 +63,8 @@ faults_of_instruments ds (i ∷ rest) = faults_in (opcodes_before i.line ds) tru
 -- all of an orchestra
 abbrev pub all_faults : Orchestra → List OrcFault
 all_faults o =
-    faults_outside o.opcodes o.zero ++ (faults_of_definitions no_opcodes o.opcodes ++ faults_of_instruments o.opcodes o.instrs)
+    faults_outside o.opcodes o.zero
+    ++ (faults_of_definitions no_opcodes o.opcodes ++ faults_of_instruments o.opcodes o.instrs)
 
 -- of two faults the one in the line above
 abbrev pub upper : OrcFault → OrcFault → OrcFault

@@ -4,7 +4,8 @@ use Rattle.cs_base.specs.declared.resource.Rate.TheVariants as rate
 use Rattle.cs_words.specs.declared.sign.BinOp.TheVariants as op
 use Rattle.cs_words.specs.declared.catalogue.Opcode.TheVariants as opcode
 use Rattle.cs_grammar.specs.declared.tree.Callee.TheVariants as callee
-use Rattle.cs_grammar.specs.Tree.{Expression, number, var, field, pair, Argument, value, text, Statement, set, call, Block, no_stmt, andthen, Definition, Orchestra}
+use Rattle.cs_grammar.specs.Tree.{Expression, number, var, field, pair, Argument, value, text, Statement, set, call}
+use Rattle.cs_grammar.specs.Tree.{Block, no_stmt, andthen, Definition, Orchestra}
 
 abbrev pub literal : ℕ → Expression
 literal n = number (pos (n * 65536))
@@ -101,7 +102,9 @@ count = record {
 
 -- k1 Count / k2 Count
 abbrev pub calls_count : List Statement
-calls_count = call 9 (codes "k1" ∷ []) (callee.Name (codes "Count")) [] ∷ call 10 (codes "k2" ∷ []) (callee.Name (codes "Count")) [] ∷ []
+calls_count =
+    call 9 (codes "k1" ∷ []) (callee.Name (codes "Count")) []
+    ∷ call 10 (codes "k2" ∷ []) (callee.Name (codes "Count")) [] ∷ []
 
 -- each place counts by itself
 abbrev pub count_expanded : List Statement

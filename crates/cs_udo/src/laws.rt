@@ -36,7 +36,8 @@ pub fn counts_worked_by_hand()
     // the calls.
     ensures nested { counts_in (opcodes_before 9 (twice ∷ four ∷ [])) (statements calls_four) ≡ (9, 12) ∷ [] }
     // An `if` counts one, and then the statements in it.
-    ensures choice { counts_in (opcodes_before 9 (twice ∷ [])) (statements (choose 9 (arm (field 5) (statements (one_call ∷ []))
+    ensures choice { counts_in (opcodes_before 9 (twice ∷ []))
+        (statements (choose 9 (arm (field 5) (statements (one_call ∷ []))
         (otherwise (statements (set 13 (codes "k1") (literal 0) ∷ [])))) ∷ [])) ≡ (9, 1) ∷ (9, 4) ∷ (13, 1) ∷ [] }
     // 3 and 2 are 5, which is not more than 5; the 1 of line 4 makes it too much.
     ensures passed { line_passing 5 0 ((1, 3) ∷ (2, 2) ∷ (4, 1) ∷ (5, 9) ∷ []) ≡ Some 4 }

@@ -152,7 +152,8 @@ fn after_arms(before: RunningCount, prices: &Prices, list: &[Arm]) -> RunningCou
 #[cycle(tally)]
 fn after_arm(before: RunningCount, prices: &Prices, a: &Arm) -> RunningCount
     ensures { result ≡ after_counts before
-        (counts_in (opcodes_priced prices.now.library.now prices.now.costs.now) (tree.block (out-Arm a.now).body.items)) }
+        (counts_in (opcodes_priced prices.now.library.now prices.now.costs.now)
+        (tree.block (out-Arm a.now).body.items)) }
 {
     after_block(before, prices, &a.body)
 }

@@ -2,9 +2,11 @@
 use Rattle.std.specs.Prelude.{ℕ, List, [], ◌∷◌, ◌≡◌, Option}
 use Rattle.cs_grammar.specs.declared.tree.Arm.{Arm, out-Arm}
 use Rattle.cs_grammar.specs.declared.tree.Callee.{Callee}
-use Rattle.cs_grammar.specs.Tree.{Expression, expression, Argument, Statement, Block, joins, block, Arms, otherwise, arm, arms}
+use Rattle.cs_grammar.specs.Tree.{Expression, expression, Argument, Statement, Block, joins, block, Arms, otherwise}
+use Rattle.cs_grammar.specs.Tree.{arm, arms}
 use Rattle.cs_udo.specs.Names.{renamed}
-use Rattle.cs_udo.specs.Expanded.{Template, Opcodes, called, after_called, after, after_block, after_arms, expanded, expanded_block, expanded_arms}
+use Rattle.cs_udo.specs.Expanded.{Template, Opcodes, called, after_called, after, after_block, after_arms, expanded}
+use Rattle.cs_udo.specs.Expanded.{expanded_block, expanded_arms}
 use Rattle.cs_udo.specs.declared.build.Made.{Made}
 use Rattle.cs_udo.specs.declared.build.MadeArms.{MadeArms}
 use Rattle.cs_udo.specs.declared.build.Part.{Part}
@@ -38,7 +40,8 @@ abbrev pub building_block : Opcodes → (List ℕ → List ℕ) → Building →
 building_block opcodes own b rest = longer b (expanded_block opcodes own b.next rest) (after_block opcodes b.next rest)
 
 -- with what a call becomes
-abbrev pub building_call : (List ℕ → List ℕ) → Building → ℕ → List (List ℕ) → Callee → List Argument → Option Template → Building
+abbrev pub building_call : (List ℕ → List ℕ) → Building → ℕ → List (List ℕ) → Callee → List Argument → Option Template
+    → Building
 building_call own b line xs c args found = longer b (called own b.next line xs c args found) (after_called b.next found)
 
 -- arms of a list, and then others
@@ -53,7 +56,9 @@ pub record MakesArms (opcodes : Opcodes) (own : List ℕ → List ℕ) (old new 
   pub after : (els : Block) → after_arms opcodes old.next (arms els list) ≡ after_block opcodes new.next els
 
 -- an arm is made, whatever comes after it
-pub record MakesArm (opcodes : Opcodes) (own : List ℕ → List ℕ) (old new : MadeArms) (cond : Expression) (body : Block) : Type 0 where
-  pub arm_is : (rest : Arms) → fronted old.arms.items (arm (renamed own cond) (expanded_block opcodes own old.next body) rest)
+pub record MakesArm (opcodes : Opcodes) (own : List ℕ → List ℕ) (old new : MadeArms) (cond : Expression)
+    (body : Block) : Type 0 where
+  pub arm_is : (rest : Arms)
+      → fronted old.arms.items (arm (renamed own cond) (expanded_block opcodes own old.next body) rest)
       ≡ fronted new.arms.items rest
   pub after : new.next ≡ after_block opcodes old.next body

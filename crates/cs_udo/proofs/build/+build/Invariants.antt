@@ -30,13 +30,17 @@ decreases-add_arm l = l.part.now.depth * 8 + 4
 -- what is made, with what the rest becomes, is the whole
 abbrev pub invariant-add_block-loop-s : goal.invariant-add_block-loop-s
 invariant-add_block-loop-s l = record {
-  all : building_block (opcodes_of (definitions_of l.part.library.now) l.part.visible) (owned l.part.owner) (shown l.made)
+  all : building_block (opcodes_of (definitions_of l.part.library.now) l.part.visible) (owned l.part.owner)
+      (shown l.made)
       (tree.block (drop l.s-index l.stmts))
-      ≡ building_block (opcodes_of (definitions_of l.part.library.now) l.part.visible) (owned l.part.owner) (shown l.initial.made)
+      ≡ building_block (opcodes_of (definitions_of l.part.library.now) l.part.visible) (owned l.part.owner)
+      (shown l.initial.made)
       (tree.block l.stmts);
-  depth : total (counts_in (opcodes_of (definitions_of l.part.library.now) l.part.visible) (tree.block (drop l.s-index l.stmts)))
+  depth : total (counts_in (opcodes_of (definitions_of l.part.library.now) l.part.visible)
+      (tree.block (drop l.s-index l.stmts)))
       < l.part.depth;
-  room : l.made.next + total (counts_in (opcodes_of (definitions_of l.part.library.now) l.part.visible) (tree.block (drop l.s-index l.stmts)))
+  room : l.made.next + total
+      (counts_in (opcodes_of (definitions_of l.part.library.now) l.part.visible) (tree.block (drop l.s-index l.stmts)))
       < 2 ^ 32;
 }
 
@@ -48,9 +52,12 @@ invariant-add_arms-loop-a l = record {
       ≡ fronted l.made.arms.items (expanded_arms (opcodes_of (definitions_of l.part.library.now) l.part.visible)
       (owned l.part.owner) l.made.next (tree.arms els (drop l.a-index l.list)));
   after : (els : tree.Block)
-      → after_arms (opcodes_of (definitions_of l.part.library.now) l.part.visible) l.initial.made.next (tree.arms els l.list)
-      ≡ after_arms (opcodes_of (definitions_of l.part.library.now) l.part.visible) l.made.next (tree.arms els (drop l.a-index l.list));
-  depth : total (counts_in_arms (opcodes_of (definitions_of l.part.library.now) l.part.visible) (tree.arms tree.no_stmt (drop l.a-index l.list)))
+      → after_arms (opcodes_of (definitions_of l.part.library.now) l.part.visible) l.initial.made.next
+      (tree.arms els l.list)
+      ≡ after_arms (opcodes_of (definitions_of l.part.library.now) l.part.visible) l.made.next
+      (tree.arms els (drop l.a-index l.list));
+  depth : total (counts_in_arms (opcodes_of (definitions_of l.part.library.now) l.part.visible)
+      (tree.arms tree.no_stmt (drop l.a-index l.list)))
       < l.part.depth;
   room : l.made.next + total (counts_in_arms (opcodes_of (definitions_of l.part.library.now) l.part.visible)
       (tree.arms tree.no_stmt (drop l.a-index l.list))) < 2 ^ 32;

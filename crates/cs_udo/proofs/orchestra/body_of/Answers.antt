@@ -34,7 +34,8 @@ returns c =
     let ds = definitions_of c.args.library.now in
     let env = opcodes_of ds c.before-2.result in
     ap (λ b. b.stmts) c.in_ok-add_block.ensures
-    ∙ ap (λ xs. tree.joins (tree.block xs) (expanded_block env as_it_is 1 (tree.block c.deref.result.now))) c.new.ensures.items
+    ∙ ap (λ xs. tree.joins (tree.block xs) (expanded_block env as_it_is 1 (tree.block c.deref.result.now)))
+    c.new.ensures.items
     ∙ ap (λ xs. expanded_block env as_it_is 1 (tree.block xs)) c.deref.ensures.value
     ∙ ap (λ e. expanded_block e as_it_is 1 (tree.block c.args.i.now.body.items))
     (opcodes_here c.args.i.now.line ds c.before-2.result c.before-2.ensures.count)

@@ -8,7 +8,8 @@ use Rattle.cs_udo.proofs.orchestra.expanded.Goals as goal
 pub new-requires : goal.new-requires
 new-requires c =
     subst (λ (ns : List (List ℕ)). AreDifferent ns)
-    (names_are c.args.orc.now.opcodes.items ∙ sym (ap (λ (us : List Udo). map (λ u. u.name) us) c.deref-definitions.ensures.value))
+    (names_are c.args.orc.now.opcodes.items
+    ∙ sym (ap (λ (us : List Udo). map (λ u. u.name) us) c.deref-definitions.ensures.value))
     c.requires
 
 pub expanded_by-requires : goal.expanded_by-requires

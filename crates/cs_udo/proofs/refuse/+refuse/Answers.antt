@@ -15,12 +15,15 @@ after_stmt-returns-in-Choose t c =
     let env = opcodes_of (definitions_of c.args.site.now.library.now) c.args.site.now.visible in
     let inside = c.args.site.now.inside in
     let els = tree.block c.in-Choose.els.items in
-    let seen : tree.statement c.args.s.now ≡ tree.choose c.args.s.now.line (tree.arms els c.in-Choose.list.items) = search
+    let seen : tree.statement c.args.s.now ≡ tree.choose c.args.s.now.line (tree.arms els c.in-Choose.list.items) =
+    search
     (rules, the_lemmas, block_is, arms_is, c.in-Choose.is) in
     c.after_block.ensures
-    ∙ ap (λ xs. after_faults c.after_arms.result (faults_in env inside (tree.block xs))) c.deref-in-Choose-2.ensures.value
+    ∙ ap (λ xs. after_faults c.after_arms.result (faults_in env inside (tree.block xs)))
+    c.deref-in-Choose-2.ensures.value
     ∙ c.after_arms.ensures els
-    ∙ ap (λ xs. after_faults c.args.first (faults_in_arms env inside (tree.arms els xs))) c.deref-in-Choose.ensures.value
+    ∙ ap (λ xs. after_faults c.args.first (faults_in_arms env inside (tree.arms els xs)))
+    c.deref-in-Choose.ensures.value
     ∙ sym (ap (λ x. after_faults c.args.first (faults env inside x)) seen)
 
 pub after_block-loop-s-preserved : goal.after_block-loop-s-preserved
@@ -43,6 +46,7 @@ after_arms-loop-a-preserved t c els =
     let rest = drop (c.loop-a.a-index + 1) c.args.list.now in
     let split = dropped c.args.list.now c.loop-a.a-index x (omega arith) c.a-item.is in
     ap (λ s. after_faults s (faults_in_arms env inside (tree.arms els rest))) c.after_arm-known.ensures
-    ∙ sym (after_both c.loop-a.known (faults_in env inside (tree.block (out-Arm x).body.items)) (faults_in_arms env inside (tree.arms els rest)))
+    ∙ sym (after_both c.loop-a.known (faults_in env inside (tree.block (out-Arm x).body.items))
+    (faults_in_arms env inside (tree.arms els rest)))
     ∙ sym (ap (λ xs. after_faults c.loop-a.known (faults_in_arms env inside (tree.arms els xs))) split)
     ∙ c.loop-a.invariant els

@@ -8,11 +8,16 @@ use Rattle.cs_udo.proofs.refuse.+refuse.Given as goal
 -- the rest tells what the whole tells
 abbrev pub invariant-after_block-loop-s : goal.invariant-after_block-loop-s
 invariant-after_block-loop-s l =
-    after_faults l.known (faults_in (opcodes_of (definitions_of l.site.library.now) l.site.visible) l.site.inside (tree.block (drop l.s-index l.stmts)))
-    ≡ after_faults l.fn.first (faults_in (opcodes_of (definitions_of l.site.library.now) l.site.visible) l.site.inside (tree.block l.stmts))
+    after_faults l.known (faults_in (opcodes_of (definitions_of l.site.library.now) l.site.visible) l.site.inside
+    (tree.block (drop l.s-index l.stmts)))
+    ≡ after_faults l.fn.first
+    (faults_in (opcodes_of (definitions_of l.site.library.now) l.site.visible) l.site.inside (tree.block l.stmts))
 
 abbrev pub invariant-after_arms-loop-a : goal.invariant-after_arms-loop-a
 invariant-after_arms-loop-a l =
     (els : tree.Block)
-    → after_faults l.known (faults_in_arms (opcodes_of (definitions_of l.site.library.now) l.site.visible) l.site.inside (tree.arms els (drop l.a-index l.list)))
-    ≡ after_faults l.fn.first (faults_in_arms (opcodes_of (definitions_of l.site.library.now) l.site.visible) l.site.inside (tree.arms els l.list))
+    → after_faults l.known (faults_in_arms (opcodes_of (definitions_of l.site.library.now) l.site.visible) l.site.inside
+    (tree.arms els (drop l.a-index l.list)))
+    ≡ after_faults l.fn.first
+    (faults_in_arms (opcodes_of (definitions_of l.site.library.now) l.site.visible) l.site.inside
+    (tree.arms els l.list))

@@ -25,7 +25,8 @@ loop-i-preserved c =
     (c.after_block-known.ensures
     ∙ ap (λ xs. after_faults c.loop-i.known (faults_in env true (tree.block xs)))
     (c.deref.ensures.value ∙ sym (ap (λ v. v.body.items) c.index-definitions-i.is)))
-    ∙ ap (λ e. after_faults (after_faults c.loop-i.known (faults_in env true d.body)) (faults_of_definitions e rest)) (opcodes_more ds i d lt here)
+    ∙ ap (λ e. after_faults (after_faults c.loop-i.known (faults_in env true d.body)) (faults_of_definitions e rest))
+    (opcodes_more ds i d lt here)
     ∙ sym (after_both c.loop-i.known (faults_in env true d.body) (faults_of_definitions (defining env d) rest))
     ∙ sym (ap (λ xs. after_faults c.loop-i.known (faults_of_definitions env xs)) (dropped ds i d lt here))
     ∙ c.loop-i.invariant

@@ -7,5 +7,6 @@ use Rattle.cs_udo.proofs.refuse.after_definitions.Given as goal
 
 abbrev pub invariant-loop-i : goal.invariant-loop-i
 invariant-loop-i l =
-    after_faults l.known (faults_of_definitions (opcodes_of (definitions_of l.library) l.i) (drop l.i (definitions_of l.library)))
+    after_faults l.known (faults_of_definitions (opcodes_of (definitions_of l.library) l.i)
+    (drop l.i (definitions_of l.library)))
     ≡ after_faults l.fn.first (faults_of_definitions no_opcodes (definitions_of l.library))

@@ -17,8 +17,10 @@ loop-i-preserved c =
     let here = opcodes_here x.line ds c.before.before-in-loop-i.result c.before.before-in-loop-i.ensures.count in
     ap (λ s. after_faults s (faults_of_instruments ds (map tree.instrument rest)))
     (c.after_block-known.ensures
-    ∙ ap (λ xs. after_faults c.loop-i.known (faults_in (opcodes_of ds c.before.before-in-loop-i.result) true (tree.block xs))) c.deref.ensures.value
+    ∙ ap (λ xs. after_faults c.loop-i.known
+    (faults_in (opcodes_of ds c.before.before-in-loop-i.result) true (tree.block xs))) c.deref.ensures.value
     ∙ ap (λ env. after_faults c.loop-i.known (faults_in env true (tree.block x.body.items))) here)
-    ∙ sym (after_both c.loop-i.known (faults_in (opcodes_before x.line ds) true (tree.block x.body.items)) (faults_of_instruments ds (map tree.instrument rest)))
+    ∙ sym (after_both c.loop-i.known (faults_in (opcodes_before x.line ds) true (tree.block x.body.items))
+    (faults_of_instruments ds (map tree.instrument rest)))
     ∙ sym (ap (λ xs. after_faults c.loop-i.known (faults_of_instruments ds (map tree.instrument xs))) split)
     ∙ c.loop-i.invariant

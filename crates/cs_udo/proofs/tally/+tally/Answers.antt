@@ -20,7 +20,8 @@ after_stmt-returns-in-Choose t c =
     c.after_block.ensures
     ∙ ap (λ xs. after_counts c.after_arms.result (counts_in env (tree.block xs))) c.deref-in-Choose-2.ensures.value
     ∙ c.after_arms.ensures els
-    ∙ ap (λ xs. after_counts c.add-in-Choose.result (counts_in_arms env (tree.arms els xs))) c.deref-in-Choose.ensures.value
+    ∙ ap (λ xs. after_counts c.add-in-Choose.result (counts_in_arms env (tree.arms els xs)))
+    c.deref-in-Choose.ensures.value
     ∙ ap (λ a. after_counts a (counts_in_arms env (tree.arms els c.in-Choose.list.items))) c.add-in-Choose.ensures
     ∙ sym (ap (λ x. after_counts c.args.before (counts env x)) seen)
 
@@ -42,6 +43,7 @@ after_arms-loop-a-preserved t c els =
     let rest = drop (c.loop-a.a-index + 1) c.args.list.now in
     let split = dropped c.args.list.now c.loop-a.a-index x (omega arith) c.a-item.is in
     ap (λ s. after_counts s (counts_in_arms env (tree.arms els rest))) c.after_arm-known.ensures
-    ∙ sym (after_both c.loop-a.known (counts_in env (tree.block (out-Arm x).body.items)) (counts_in_arms env (tree.arms els rest)))
+    ∙ sym (after_both c.loop-a.known (counts_in env (tree.block (out-Arm x).body.items))
+    (counts_in_arms env (tree.arms els rest)))
     ∙ sym (ap (λ xs. after_counts c.loop-a.known (counts_in_arms env (tree.arms els xs))) split)
     ∙ c.loop-a.invariant els

@@ -14,8 +14,10 @@ returns c =
     let ds = definitions_of c.args.prices.now.library.now in
     let n = length c.args.prices.now.costs.now in
     let u = c.args.definition.now in
-    cost_is (opcodes_of ds n) (fair_of ds n) (tree.definition u) c.after_block-body.result c.assigned.result c.plus.result
-    (c.after_block-body.ensures ∙ ap (λ xs. after_counts none_counted (counts_in (opcodes_of ds n) (tree.block xs))) c.deref.ensures.value)
+    cost_is (opcodes_of ds n) (fair_of ds n) (tree.definition u) c.after_block-body.result c.assigned.result
+    c.plus.result
+    (c.after_block-body.ensures
+    ∙ ap (λ xs. after_counts none_counted (counts_in (opcodes_of ds n) (tree.block xs))) c.deref.ensures.value)
     (c.assigned.ensures u.line (slots 0 u.outs) (c.len.ensures ∙ sym (length_slots 0 u.outs))
     ∙ ap (λ xs. capped (size_of (assignments u.line (slots 0 u.outs) (map tree.argument xs)))) c.deref-2.ensures.value)
     c.plus.ensures

@@ -13,11 +13,13 @@ returns-in-Some c = λ line.
     let k = c.in-Some.found.place in
     let u = c.in-Some.found.definition.now in
     let seen = c.in-Some.ensures in
-    price_is (opcodes_of ds n) (opcodes_of ds k) (fair_of ds k) (tree.definition u) line c.args.results.now c.args.callee.now (map tree.argument c.args.args.now)
+    price_is (opcodes_of ds n) (opcodes_of ds k) (fair_of ds k) (tree.definition u) line c.args.results.now
+    c.args.callee.now (map tree.argument c.args.args.now)
     c.assigned-given.result c.capped-taken.result _ c.plus-in-Some-2.result
     seen.2
     (c.assigned-given.ensures line u.names c.len.ensures)
-    (c.capped-taken.ensures ∙ ap capped (c.min.ensures ∙ ap (λ m. min (length c.args.results.now) m) c.len-in-Some.ensures))
+    (c.capped-taken.ensures ∙ ap capped
+    (c.min.ensures ∙ ap (λ m. min (length c.args.results.now) m) c.len-in-Some.ensures))
     (c.args.prices.now.priced.each k (tree.definition u) seen.0 seen.1)
     (c.plus-in-Some-2.ensures
     ∙ ap (λ m. capped (m + c.plus-in-Some.result)) c.plus.ensures

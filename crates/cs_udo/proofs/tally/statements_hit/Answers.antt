@@ -15,8 +15,10 @@ returns c =
     let costs = take n c.args.costs.now in
     let body = tree.block c.args.i.now.body.items in
     let within : n ≤ length c.args.costs.now = omega (arith, c.before-2.ensures.within, c.requires.all) in
-    let here = ap (opcodes_of ds) (length-take-le n c.args.costs.now within) ∙ opcodes_here c.args.i.now.line ds n c.before-2.ensures.count in
+    let here = ap (opcodes_of ds) (length-take-le n c.args.costs.now within)
+    ∙ opcodes_here c.args.i.now.line ds n c.before-2.ensures.count in
     c.hit.ensures
     ∙ statements_are (opcodes_of ds (length costs)) body c.after_block.result
-    (c.after_block.ensures ∙ ap (λ xs. after_counts none_counted (counts_in (opcodes_of ds (length costs)) (tree.block xs))) c.deref.ensures.value)
+    (c.after_block.ensures ∙ ap
+    (λ xs. after_counts none_counted (counts_in (opcodes_of ds (length costs)) (tree.block xs))) c.deref.ensures.value)
     ∙ ap (λ env. statements_hit env body) here

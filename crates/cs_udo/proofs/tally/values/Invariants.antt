@@ -7,4 +7,5 @@ use Rattle.cs_udo.proofs.tally.values.Given as goal
 abbrev pub invariant-loop-arg : goal.invariant-loop-arg
 invariant-loop-arg l =
     (l.count ≡ l.arg-index)
-    × (l.count + prefix_len is_value (map argument (drop l.arg-index l.args)) ≡ prefix_len is_value (map argument l.args))
+    × (l.count + prefix_len is_value (map argument (drop l.arg-index l.args)) ≡ prefix_len is_value
+    (map argument l.args))

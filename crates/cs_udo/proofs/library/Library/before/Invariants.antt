@@ -6,5 +6,6 @@ use Rattle.cs_udo.proofs.library.Library.before.Given as goal
 abbrev pub invariant-loop-definition : goal.invariant-loop-definition
 invariant-loop-definition l =
     (l.count ≡ l.definition-index)
-    × (l.count + prefix_len (λ d. nat_lt d.line l.line) (map definition (drop l.definition-index l.self.definitions.now))
+    × (l.count + prefix_len (λ d. nat_lt d.line l.line)
+    (map definition (drop l.definition-index l.self.definitions.now))
     ≡ prefix_len (λ d. nat_lt d.line l.line) (map definition l.self.definitions.now))

@@ -20,10 +20,12 @@ returns-then-place-min c =
     c.index-self-place.is (
       lt,
       read_one us k u within c.index-self-place.is,
-      found_one us c.args.self.now.names c.args.visible k c.args.name.now u c.args.self.now.named c.place-place.ensures lt within c.index-self-place.is,
+      found_one us c.args.self.now.names c.args.visible k c.args.name.now u c.args.self.now.named c.place-place.ensures
+          lt within c.index-self-place.is,
     )
 
 pub returns-else-place-min : goal.returns-else-place-min
 returns-else-place-min c =
-    found_none c.args.self.now.definitions.now c.args.self.now.names c.args.visible c.place-place.result c.args.name.now c.args.self.now.named
+    found_none c.args.self.now.definitions.now c.args.self.now.names c.args.visible c.place-place.result c.args.name.now
+    c.args.self.now.named
     c.place-place.ensures (omega (arith, c.if-place-min.false, c.min.ensures))

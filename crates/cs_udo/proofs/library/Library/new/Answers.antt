@@ -8,4 +8,5 @@ loop-definition-preserved c =
     c.in_ok-add.ensures.ok
     ∙ ap (λ ns. seen ns c.as_slice.result.now) c.loop-definition.invariant
     ∙ ap (seen _) c.as_slice.ensures
-    ∙ new_name c.args.definitions.now c.loop-definition.definition-index c.definition-item.result c.requires (omega arith) c.definition-item.is
+    ∙ new_name c.args.definitions.now c.loop-definition.definition-index c.definition-item.result c.requires
+    (omega arith) c.definition-item.is
