@@ -1,5 +1,7 @@
 -- No note is lost, and what lies on the board at the end is the serial run.
-use Rattle.std.proofs.Common.{◌≡◌, ◌≢◌, ℕ, zero, suc, ◌+◌, ◌-◌, ◌<◌, ◌≤◌, ◌⊎◌, inl, inr, ⊎_elim, pos, List, [], ◌∷◌, ◌++◌, map, length, get_or, take, drop, replicate, true, false, Some, None, refl, sym, ap, ◌∙◌, subst, arith, ◌==◌, ◌&&◌, not, slice_get, ext_get_or, eq-eqb}
+use Rattle.std.proofs.Common.{◌≡◌, ◌≢◌, ℕ, zero, suc, ◌+◌, ◌-◌, ◌<◌, ◌≤◌, ◌⊎◌, inl, inr, ⊎_elim, pos, List, [], ◌∷◌}
+use Rattle.std.proofs.Common.{◌++◌, map, length, get_or, take, drop, replicate, true, false, Some, None, refl, sym, ap}
+use Rattle.std.proofs.Common.{◌∙◌, subst, arith, ◌==◌, ◌&&◌, not, slice_get, ext_get_or, eq-eqb}
 use Rattle.std.proofs.Math.Seq.{take-append_seam}
 use Rattle.std.proofs.lemmas.Bool.{cases_Bool, cases_eq, and_right}
 use Rattle.std.proofs.lemmas.List.{length-map}
@@ -14,7 +16,8 @@ use Rattle.cs_cells.specs.Serial.{serial_cells, serial_jobs}
 use Rattle.cs_cells.proofs.SerialRun.{before-all, length-before, job_at, length-serial_jobs}
 use Rattle.cs_board.specs.Counts.{one, same, total, times, listed}
 use Rattle.cs_board.specs.Ending.{IsLast, HasLast, AllDone, AllMine, IsSerial, IsOver, cells_in}
-use Rattle.cs_board.specs.Facts.{has_done, turned_in, turned_on, done_writers, spot_on, spot_by, doing_on, does_note, closes_by, moves, owed, is_first, numbered, names, Waits, Kept, job_if}
+use Rattle.cs_board.specs.Facts.{has_done, turned_in, turned_on, done_writers, spot_on, spot_by, doing_on, does_note}
+use Rattle.cs_board.specs.Facts.{closes_by, moves, owed, is_first, numbered, names, Waits, Kept, job_if}
 use Rattle.cs_board.specs.Plans.{IsPlan, writes_at, before_at, area_count, places_written}
 use Rattle.cs_board.specs.Rule.{Facts, Holds, home_in, stillness}
 use Rattle.cs_board.specs.Views.{slot_row}
@@ -40,11 +43,14 @@ row_of (h ∷ hs) [] zero l full vacant = absurd (omega arith)
 row_of (h ∷ hs) [] (suc n) l full vacant =
     let here : h ≡ some Vacant = some-injective _ _ (vacant 0 (omega arith) (omega arith)) in
     ap (λ z. home_in z ∷ map home_in hs) here
-    ∙ ap (λ z. Some Vacant ∷ z) (row_of hs [] n (omega arith) (λ i x at_. absurd (cc)) (λ i far near. vacant (suc i) (omega arith) (omega arith)))
+    ∙ ap (λ z. Some Vacant ∷ z)
+    (row_of hs [] n (omega arith) (λ i x at_. absurd (cc)) (λ i far near. vacant (suc i) (omega arith) (omega arith)))
 row_of (h ∷ hs) (x ∷ js) n l full vacant =
     let here : h ≡ some (Full x) = some-injective _ _ (full 0 x refl) in
     ap (λ z. home_in z ∷ map home_in hs) here
-    ∙ ap (λ z. Some (Full x) ∷ z) (row_of hs js n (omega arith) (λ i z at_. full (suc i) z at_) (λ i far near. vacant (suc i) (omega arith) (omega arith)))
+    ∙ ap (λ z. Some (Full x) ∷ z)
+    (row_of hs js n (omega arith) (λ i z at_. full (suc i) z at_)
+    (λ i far near. vacant (suc i) (omega arith) (omega arith)))
 
 module _ {J : Type 0} (M : Meaning J) (F : Frames M) (k : Plan J) (plan : IsPlan M k) (p : Words) (sized : IsSized k p)
     (hs : List (maybe.Option (Berth J))) (vs : List (View J)) (f : Facts M k p hs vs)
@@ -52,7 +58,8 @@ module _ {J : Type 0} (M : Meaning J) (F : Frames M) (k : Plan J) (plan : IsPlan
   -- another seat isn't the first one
   follows : (j : ℕ) (w : View J) → j ≢ id → get_elem? vs j ≡ some w → w.first ≡ false
   follows j w n at_ = ⊎_elim
-      (λ (e : w.first ≡ true). absurd (omega (arith, ap one e, ap one last.first, total_two is_first vs j id w v n at_ here, f.seats.leading)))
+      (λ (e : w.first ≡ true). absurd
+      (omega (arith, ap one e, ap one last.first, total_two is_first vs j id w v n at_ here, f.seats.leading)))
       (λ e. e)
       (cases_Bool w.first)
 
@@ -67,8 +74,10 @@ module _ {J : Type 0} (M : Meaning J) (F : Frames M) (k : Plan J) (plan : IsPlan
   spent j w n at_ = ⊎_elim
       (λ e. e)
       (λ (e : w.spent ≡ false). absurd (
-      let none : total (names w.number) vs ≡ 0 = total_none (names w.number) vs (λ i x is. ap (times w.number) (no_out i x is)) in
-      let mine : numbered w.number w ≡ 1 = ap (λ b. one (not b && (not w.spent && w.number == w.number))) (follows j w n at_)
+      let none : total (names w.number) vs ≡ 0 =
+      total_none (names w.number) vs (λ i x is. ap (times w.number) (no_out i x is)) in
+      let mine : numbered w.number w ≡ 1 =
+      ap (λ b. one (not b && (not w.spent && w.number == w.number))) (follows j w n at_)
       ∙ ap (λ b. one (not b && w.number == w.number)) e ∙ ap one (eq-eqb w.number w.number refl) in
       omega (arith, none, mine, f.seats.numbers w.number, total_le (numbered w.number) vs j w at_)))
       (cases_Bool w.spent)
@@ -77,9 +86,11 @@ module _ {J : Type 0} (M : Meaning J) (F : Frames M) (k : Plan J) (plan : IsPlan
     pub idle : (w.doing ≡ None) × (w.closing ≡ None) × (w.moving ≡ None) × (w.owes ≡ [])
     idle = ⊎_elim
         (λ (e : j ≡ id). let s : v ≡ w = some-injective _ _ (sym here ∙ ap (get_elem? vs) (sym e) ∙ at_) in
-        subst (λ x. (x.doing ≡ None) × (x.closing ≡ None) × (x.moving ≡ None) × (x.owes ≡ [])) s (last.doing, last.closing, last.moving, last.owes))
+        subst (λ x. (x.doing ≡ None) × (x.closing ≡ None) × (x.moving ≡ None) × (x.owes ≡ [])) s
+        (last.doing, last.closing, last.moving, last.owes))
         (λ (n : j ≢ id). let o = sym ((f.sane j w at_).over (spent j w n at_)) in
-        subst (λ x. (x.doing ≡ None) × (x.closing ≡ None) × (x.moving ≡ None) × (x.owes ≡ [])) o (refl, refl, refl, refl))
+        subst (λ x. (x.doing ≡ None) × (x.closing ≡ None) × (x.moving ≡ None) × (x.owes ≡ [])) o
+        (refl, refl, refl, refl))
         (cases_eq j id)
 
   none_does : (t : ℕ) → total (does_note t) vs ≡ 0
@@ -151,15 +162,18 @@ module _ {J : Type 0} (M : Meaning J) (F : Frames M) (k : Plan J) (plan : IsPlan
 
   pub end_homes : k.notes ≤ length hs → ((i : ℕ) → k.notes ≤ i → i < length hs → get_elem? hs i ≡ some (some Vacant))
       → map home_in hs ≡ slot_row 0 (serial_jobs M k.jobs k.cells) (length hs - k.notes)
-  end_homes deep vacant = row_of hs (serial_jobs M k.jobs k.cells) (length hs - k.notes) (omega (arith, long, plan.jobs, deep)) each
+  end_homes deep vacant = row_of hs (serial_jobs M k.jobs k.cells) (length hs - k.notes)
+      (omega (arith, long, plan.jobs, deep)) each
       (λ i far near. vacant i (omega (arith, long, plan.jobs, far)) near)
     where
       long : length (serial_jobs M k.jobs k.cells) ≡ length k.jobs
       long = length-serial_jobs M k.jobs k.cells
 
-      each : (t : ℕ) (x : J) → slice_get (serial_jobs M k.jobs k.cells) t ≡ Some x → get_elem? hs t ≡ some (some (Full x))
+      each : (t : ℕ) (x : J) → slice_get (serial_jobs M k.jobs k.cells) t ≡ Some x
+          → get_elem? hs t ≡ some (some (Full x))
       each t x is =
-          let low : t < k.notes = omega (arith, slice_get_within (serial_jobs M k.jobs k.cells) t x is, long, plan.jobs) in
+          let low : t < k.notes = omega
+          (arith, slice_get_within (serial_jobs M k.jobs k.cells) t x is, long, plan.jobs) in
           let j : J = get_or k.jobs t x in
           let at_ : slice_get k.jobs t ≡ Some j = slice_get-get_or k.jobs t x (omega (arith, low, plan.jobs)) in
           let d : at p.status t ≡ 3 = done t low in
@@ -170,23 +184,27 @@ module _ {J : Type 0} (M : Meaning J) (F : Frames M) (k : Plan J) (plan : IsPlan
 
   -- each note stands once among those of the last seat
   pub all_mine : AllMine k v
-  all_mine t low = sym (total_only (has_done t) vs id v here (λ j w n at_. ap (has_done t) ((f.sane j w at_).over (spent j w n at_))))
+  all_mine t low = sym (total_only (has_done t) vs id v here
+      (λ j w n at_. ap (has_done t) ((f.sane j w at_).over (spent j w n at_))))
       ∙ f.tallied.having t ∙ ap (λ x. same x 3) (done t low)
 
   -- a turn word that no note of the cycle writes
   pub unturned : (r : ℕ) → r < area_count k → ((t : ℕ) → listed (places_written M k t) r ≡ false) → at p.turns r ≡ 0
   unturned r low none = f.turned r low ∙ omega (
     arith,
-    (let z : done_writers M k p.status r ≡ 0 = count_none (λ u. at p.status u == 3 && listed (places_written M k u) r) k.notes
+    (let z : done_writers M k p.status r ≡ 0 =
+        count_none (λ u. at p.status u == 3 && listed (places_written M k u) r) k.notes
         (λ u. ap (λ b. at p.status u == 3 && b) (none u) ∙ and_right (at p.status u == 3) false refl) in z),
     total_none (turned_on M k r) vs (λ j w a. ap (turned_in M k r) (idle j w a).0),
   )
 
 -- the cells are the first of the words
 pub row_cells : {J : Type 0} (k : Plan J) (w : Words) → IsSized k w → cells_in k (all_words w) ≡ w.cells
-row_cells k w s = ap (λ n. take n (drop 1 (all_words w))) (sym s.cells) ∙ take-append_seam w.cells (w.turns ++ (w.status ++ (w.own ++ (w.watch ++ w.spare))))
+row_cells k w s = ap (λ n. take n (drop 1 (all_words w))) (sym s.cells)
+    ∙ take-append_seam w.cells (w.turns ++ (w.status ++ (w.own ++ (w.watch ++ w.spare))))
 
-module _ {J : Type 0} (M : Meaning J) (F : Frames M) (k : Plan J) (s : State (Berth J) (View J)) (h : Holds M k s) (l : HasLast s) where
+module _ {J : Type 0} (M : Meaning J) (F : Frames M) (k : Plan J) (s : State (Berth J) (View J)) (h : Holds M k s)
+    (l : HasLast s) where
   pub nothing_lost : AllDone k s
   nothing_lost t low = ap (λ ws. at ws (status_at k t)) h.words ∙ get_status k h.parts h.sized t low
       ∙ done M F k h.plan h.parts h.sized s.homes s.views h.facts l.0 l.1 l.2 l.3 t low

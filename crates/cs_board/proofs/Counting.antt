@@ -1,5 +1,6 @@
 -- Counting tests below a number, and the places of an ascending list one by one.
-use Rattle.std.proofs.Common.{◌≡◌, ◌≢◌, ℕ, zero, suc, ◌+◌, ◌-◌, ◌<◌, ◌≤◌, ⊎_elim, List, [], ◌∷◌, length, take, Bool, true, false, ◌==◌, ◌||◌, refl, sym, ap, ◌∙◌, arith, eq-eqb, ne_eqb}
+use Rattle.std.proofs.Common.{◌≡◌, ◌≢◌, ℕ, zero, suc, ◌+◌, ◌-◌, ◌<◌, ◌≤◌, ⊎_elim, List, [], ◌∷◌, length, take, Bool}
+use Rattle.std.proofs.Common.{true, false, ◌==◌, ◌||◌, refl, sym, ap, ◌∙◌, arith, eq-eqb, ne_eqb}
 use Rattle.std.proofs.lemmas.Bool.{cases_eq, or_right}
 use Rattle.std.specs.List.Sorted.{IsStrictlyIncreasing}
 use Rattle.cs_board.specs.Counts.{one, listed, count_below}
@@ -11,7 +12,8 @@ count_same P Q (suc n) h =
     let a : count_below P n ≡ count_below Q n = count_same P Q n (λ u l. h u (omega arith)) in
     let b : one (P n) ≡ one (Q n) = ap one (h n (omega arith)) in omega arith
 
-pub count_more : (P Q : ℕ → Bool) (t n : ℕ) → t < n → P t ≡ false → ((u : ℕ) → u ≢ t → Q u ≡ P u) → count_below Q n ≡ count_below P n + one (Q t)
+pub count_more : (P Q : ℕ → Bool) (t n : ℕ) → t < n → P t ≡ false → ((u : ℕ) → u ≢ t → Q u ≡ P u)
+    → count_below Q n ≡ count_below P n + one (Q t)
 count_more P Q t zero l f h = absurd (omega arith)
 count_more P Q t (suc n) l f h = ⊎_elim
     (λ (e : n ≡ t).
@@ -24,7 +26,8 @@ count_more P Q t (suc n) l f h = ⊎_elim
     (cases_eq n t)
 
 -- only numbers below t pass
-pub count_cut : (P Q : ℕ → Bool) (t n : ℕ) → t ≤ n → ((u : ℕ) → u < t → P u ≡ Q u) → ((u : ℕ) → t ≤ u → u < n → P u ≡ false) → count_below P n ≡ count_below Q t
+pub count_cut : (P Q : ℕ → Bool) (t n : ℕ) → t ≤ n → ((u : ℕ) → u < t → P u ≡ Q u)
+    → ((u : ℕ) → t ≤ u → u < n → P u ≡ false) → count_below P n ≡ count_below Q t
 count_cut P Q t zero l h f = let e : t ≡ 0 = omega arith in ap (count_below Q) (sym e)
 count_cut P Q t (suc n) l h f = ⊎_elim
     (λ (e : t ≡ suc n). count_same P Q (suc n) (λ u m. h u (omega arith)) ∙ ap (count_below Q) (sym e))
@@ -50,7 +53,8 @@ rises xs h i (suc d) l =
     let c : at xs (i + suc d + 1) ≡ at xs (i + suc (suc d)) = ap (at xs) (omega arith) in omega arith
 
 -- the first i + 1 places list one more than the first i
-pub listed_more : (xs : List ℕ) (i r : ℕ) → i < length xs → at xs i ≢ r → listed (take (i + 1) xs) r ≡ listed (take i xs) r
+pub listed_more : (xs : List ℕ) (i r : ℕ) → i < length xs → at xs i ≢ r
+    → listed (take (i + 1) xs) r ≡ listed (take i xs) r
 listed_more xs i r l n = ap (λ j. listed (take j xs) r) (plus i) ∙ go xs i l n
   where
     plus : (i : ℕ) → i + 1 ≡ suc i
@@ -72,7 +76,8 @@ listed_here xs i l = ap (λ j. listed (take j xs) (at xs i)) (plus i) ∙ go xs 
     go (x ∷ xs) zero l = ap (λ b. b || listed (take zero xs) x) (eq-eqb x x refl)
     go (x ∷ xs) (suc i) l = ap (λ b. x == at xs i || b) (go xs i (omega arith)) ∙ or_right (x == at xs i) true refl
 
-pub listed_fresh : (xs : List ℕ) → IsStrictlyIncreasing xs → (i : ℕ) → i < length xs → listed (take i xs) (at xs i) ≡ false
+pub listed_fresh : (xs : List ℕ) → IsStrictlyIncreasing xs → (i : ℕ) → i < length xs
+    → listed (take i xs) (at xs i) ≡ false
 listed_fresh xs h i l = go i (at xs i) (omega arith) (λ j m. differ j m)
   where
     differ : (j : ℕ) → j < i → at xs j ≢ at xs i
@@ -87,10 +92,12 @@ listed_fresh xs h i l = go i (at xs i) (omega arith) (λ j m. differ j m)
     go zero r low n = refl
     go (suc n) r low d =
         let e : suc n ≡ n + 1 = omega arith in
-        ap (λ j. listed (take j xs) r) e ∙ listed_more xs n r (omega arith) (d n (omega arith)) ∙ go n r (omega arith) (λ j m. d j (omega arith))
+        ap (λ j. listed (take j xs) r) e ∙ listed_more xs n r (omega arith) (d n (omega arith))
+        ∙ go n r (omega arith) (λ j m. d j (omega arith))
 
 -- an ascending list of numbers below n has at most n
-pub increasing_few : (xs : List ℕ) (n : ℕ) → IsStrictlyIncreasing xs → ((i : ℕ) → i < length xs → at xs i < n) → length xs ≤ n
+pub increasing_few : (xs : List ℕ) (n : ℕ) → IsStrictlyIncreasing xs → ((i : ℕ) → i < length xs → at xs i < n)
+    → length xs ≤ n
 increasing_few xs n h below = go (length xs) refl
   where
     low : (i : ℕ) → i < length xs → i ≤ at xs i
@@ -105,4 +112,5 @@ increasing_few xs n h below = go (length xs) refl
 
     go : (m : ℕ) → length xs ≡ m → length xs ≤ n
     go zero e = omega arith
-    go (suc m) e = let a : m ≤ at xs m = low m (omega arith) in let b : at xs m < n = below m (omega arith) in omega arith
+    go (suc m) e = let a : m ≤ at xs m = low m (omega arith) in let b : at xs m < n =
+        below m (omega arith) in omega arith

@@ -1,10 +1,13 @@
 -- What each group of facts asks of a step that changes one view, or a status, or a watch word.
-use Rattle.std.proofs.Common.{◌≡◌, ◌≢◌, ℕ, ◌+◌, ◌<◌, ◌≤◌, ◌⊎◌, inl, inr, ⊎_elim, List, length, set, true, false, None, sym, ap, ◌∙◌, subst, arith}
+use Rattle.std.proofs.Common.{◌≡◌, ◌≢◌, ℕ, ◌+◌, ◌<◌, ◌≤◌, ◌⊎◌, inl, inr, ⊎_elim, List, length, set, true, false, None}
+use Rattle.std.proofs.Common.{sym, ap, ◌∙◌, subst, arith}
 use mathlib.Core.Option.{some}
 use lib.ListN.{get_elem?}
 use Rattle.cs_graph.specs.Graph.{Edge}
 use Rattle.cs_board.specs.Counts.{same, total}
-use Rattle.cs_board.specs.Facts.{spot_on, spot_by, spot_at, does_note, ran_note, closes, closes_by, moves, moves_at, owed, has_done, is_first, numbered, names, Found, Gates, IsSane, Doers, Waits, Watches, Tallied, Seats, Owned}
+use Rattle.cs_board.specs.Facts.{spot_on, spot_by, spot_at, does_note, ran_note, closes, closes_by, moves, moves_at}
+use Rattle.cs_board.specs.Facts.{owed, has_done, is_first, numbered, names, Found, Gates, IsSane, Doers, Waits, Watches}
+use Rattle.cs_board.specs.Facts.{Tallied, Seats, Owned}
 use Rattle.cs_board.specs.Plans.{IsRoot}
 use Rattle.cs_board.specs.Words.{at}
 use Rattle.cs_board.specs.declared.view.Plan.{Plan}
@@ -43,8 +46,10 @@ module _ {J : Type 0} (k : Plan J) where
   }
 
 -- a view that takes part stays sane where its duty and what it owes are
-pub sane_live : {J : Type 0} (k : Plan J) (v w : View J) → v.spent ≡ false → w.spent ≡ v.spent → w.plan ≡ v.plan → w.first ≡ v.first → w.out ≡ v.out → w.rest ≡ v.rest
-    → (w.doing ≡ None) ⊎ ((w.closing ≡ None) × (w.moving ≡ None)) → ((t : ℕ) → 0 < owed t w → t < k.notes) → IsSane k v → IsSane k w
+pub sane_live : {J : Type 0} (k : Plan J) (v w : View J) → v.spent ≡ false → w.spent ≡ v.spent → w.plan ≡ v.plan
+    → w.first ≡ v.first → w.out ≡ v.out → w.rest ≡ v.rest
+    → (w.doing ≡ None) ⊎ ((w.closing ≡ None) × (w.moving ≡ None)) → ((t : ℕ) → 0 < owed t w → t < k.notes) → IsSane k v
+    → IsSane k w
 sane_live k v w live spent plan first out rest duty owes s = record {
   plan = λ z. plan ∙ s.plan live;
   one_duty = duty;
@@ -61,9 +66,11 @@ module _ {J : Type 0} (k : Plan J) (vs : List (View J)) (id : ℕ) (v w : View J
 
   pub sane_step : (IsSane k v → IsSane k w) → ((i : ℕ) (x : View J) → get_elem? vs i ≡ some x → IsSane k x)
       → (i : ℕ) (x : View J) → get_elem? (set vs id w) i ≡ some x → IsSane k x
-  sane_step f all i x e = ⊎_elim (λ h. subst (IsSane k) h.1 (f (all id v here))) (λ h. all i x h.1) (at_set vs id i w x e)
+  sane_step f all i x e = ⊎_elim (λ h. subst (IsSane k) h.1 (f (all id v here))) (λ h. all i x h.1)
+      (at_set vs id i w x e)
 
-  pub doers_step : (st st' : List ℕ) → ((u : ℕ) → does_note u w + same (at st u) 2 ≡ does_note u v + same (at st' u) 2) → Doers k st vs
+  pub doers_step : (st st' : List ℕ) → ((u : ℕ) → does_note u w + same (at st u) 2 ≡ does_note u v + same (at st' u) 2)
+      → Doers k st vs
       → Doers k st' (set vs id w)
   doers_step st st' h d u = omega (arith, h u, d u, total-set (does_note u) vs id v w here)
 
@@ -74,13 +81,20 @@ module _ {J : Type 0} (k : Plan J) (vs : List (View J)) (id : ℕ) (v w : View J
     after = h.after;
     who = ⊎_elim
         (λ a. inl (a.0, a.1, a.2, total_keeps (moves t) (ap (spot_on t) m) ∙ a.3))
-        (λ b. inr (b.0, total_keeps (moves t) (ap (spot_on t) m) ∙ b.1, total_keeps (moves_at t h.edge) (ap (spot_at t h.edge) m) ∙ b.2))
+        (λ b. inr (
+          b.0,
+          total_keeps (moves t) (ap (spot_on t) m)
+              ∙ b.1,
+          total_keeps (moves_at t h.edge) (ap (spot_at t h.edge) m) ∙ b.2,
+        ))
         h.who;
     some_edge = h.some_edge;
   }
 
   abbrev pub Goes : List ℕ → List ℕ → List ℕ → List ℕ → ℕ → ℕ → Type 0
-  Goes st st' wt wt' e p = (at wt' e ≡ 2) ⊎ ((0 < closes_by p e w) ⊎ ((at st p ≡ 3) × (at wt e ≡ 2 → at wt' e ≡ 2) × (closes_by p e v ≤ closes_by p e w)))
+  Goes st st' wt wt' e p =
+      (at wt' e ≡ 2) ⊎ ((0 < closes_by p e w)
+      ⊎ ((at st p ≡ 3) × (at wt e ≡ 2 → at wt' e ≡ 2) × (closes_by p e v ≤ closes_by p e w)))
 
   pub watches_step : (st st' wt wt' : List ℕ)
       → ((p : ℕ) → closes p w + same (at st p) 3 ≤ closes p v + same (at st' p) 3)
@@ -90,11 +104,19 @@ module _ {J : Type 0} (k : Plan J) (vs : List (View J)) (id : ℕ) (v w : View J
       → ((t : ℕ) → k.notes ≤ t → total (moves t) (set vs id w) ≡ 0)
       → Watches k st wt vs → Watches k st' wt' (set vs id w)
   watches_step st st' wt wt' one_each goes waits calm moving h = record {
-    closing = λ p. omega (arith, one_each p, h.closing p, total-set (closes p) vs id v w here, total_le (closes p) vs id v here);
+    closing = λ p. omega (
+      arith,
+      one_each p,
+      h.closing p,
+      total-set (closes p) vs id v w here,
+      total_le (closes p) vs id
+          v here,
+    );
     left = λ e p t edge d. ⊎_elim
         (λ c. inl c)
         (λ r. ⊎_elim
-        (λ (a : 0 < closes_by p e w). inr (omega (arith, total-set (closes_by p e) vs id v w here, total_le (closes_by p e) vs id v here)))
+        (λ (a : 0 < closes_by p e w). inr
+        (omega (arith, total-set (closes_by p e) vs id v w here, total_le (closes_by p e) vs id v here)))
         (λ b. ⊎_elim
         (λ c. inl (b.1 c))
         (λ (c : 0 < total (closes_by p e) vs). inr (omega (arith, b.2, total-set (closes_by p e) vs id v w here)))
@@ -131,16 +153,19 @@ module _ {J : Type 0} (k : Plan J) (vs : List (View J)) (id : ℕ) (v w : View J
         (λ b. omega (arith, b.1, h.owing t b.0, total-set (owed t) vs id v w here))
         (owing t e);
     finding = λ i x t e f low root. ⊎_elim
-        (λ z. ⊎_elim (λ old. rises t (h.finding id v t here old low root)) (λ new. new) (found t (subst (λ y. Found y t) (sym z.1) f) low root))
+        (λ z. ⊎_elim (λ old. rises t (h.finding id v t here old low root)) (λ new. new)
+        (found t (subst (λ y. Found y t) (sym z.1) f) low root))
         (λ z. rises t (h.finding i x t z.1 f low root))
         (at_set vs id i w x e);
     having = λ t. omega (arith, having t, h.having t, total-set (has_done t) vs id v w here);
   }
 
-  pub seats_step : is_first w ≡ is_first v → ((x : ℕ) → numbered x w ≡ numbered x v) → w.out ≡ v.out → w.made ≡ v.made → Seats vs → Seats (set vs id w)
+  pub seats_step : is_first w ≡ is_first v → ((x : ℕ) → numbered x w ≡ numbered x v) → w.out ≡ v.out → w.made ≡ v.made
+      → Seats vs → Seats (set vs id w)
   seats_step l n o m h = record {
     leading = total_keeps is_first l ∙ h.leading;
-    numbers = λ x. total_keeps (numbered x) (n x) ∙ h.numbers x ∙ sym (total_keeps (names x) (ap (λ z. names x (record v { out = z })) o));
+    numbers = λ x. total_keeps (numbered x) (n x) ∙ h.numbers x
+        ∙ sym (total_keeps (names x) (ap (λ z. names x (record v { out = z })) o));
     once = λ x. omega (arith, h.once x, total_keeps (names x) (ap (λ z. names x (record v { out = z })) o));
     fresh = λ i y x e p. ⊎_elim
         (λ z. let q : 0 < names x w = subst (λ u. 0 < names x u) (sym z.1) p in
@@ -150,6 +175,7 @@ module _ {J : Type 0} (k : Plan J) (vs : List (View J)) (id : ℕ) (v w : View J
         (at_set vs id i w y e);
   }
 
-  pub owned_step : (st st' ow ow' : List ℕ) → ((u : ℕ) → at ow' u + same (at st u) 3 + ran_note u v ≡ at ow u + same (at st' u) 3 + ran_note u w)
+  pub owned_step : (st st' ow ow' : List ℕ)
+      → ((u : ℕ) → at ow' u + same (at st u) 3 + ran_note u v ≡ at ow u + same (at st' u) 3 + ran_note u w)
       → Owned st ow vs → Owned st' ow' (set vs id w)
   owned_step st st' ow ow' h o u = omega (arith, h u, o u, total-set (ran_note u) vs id v w here)

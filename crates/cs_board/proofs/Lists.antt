@@ -1,5 +1,6 @@
 -- Plain lists: one element changed, what elements weigh together, how often a number stands in a list.
-use Rattle.std.proofs.Common.{◌≡◌, ◌≢◌, ℕ, zero, suc, ◌+◌, ◌<◌, ◌≤◌, ◌⊎◌, inl, inr, ⊎_elim, List, [], ◌∷◌, ◌++◌, length, get_or, set, Bool, true, false, cond, refl, sym, ap, ◌∙◌, arith, eq-eqb, ne_eqb, zero-add}
+use Rattle.std.proofs.Common.{◌≡◌, ◌≢◌, ℕ, zero, suc, ◌+◌, ◌<◌, ◌≤◌, ◌⊎◌, inl, inr, ⊎_elim, List, [], ◌∷◌, ◌++◌, length}
+use Rattle.std.proofs.Common.{get_or, set, Bool, true, false, cond, refl, sym, ap, ◌∙◌, arith, eq-eqb, ne_eqb, zero-add}
 use Rattle.std.proofs.lemmas.Bool.{cases_eq}
 use Rattle.std.proofs.lemmas.List.{get_or-set_same, get_or-set_other}
 use mathlib.Core.Option.{some, some-injective, some-ne-none}
@@ -17,7 +18,8 @@ pub same_cases : (a b : ℕ) → ((a ≡ b) × (same a b ≡ 1)) ⊎ ((a ≢ b) 
 same_cases a b = ⊎_elim (λ e. inl (e, same_yes a b e)) (λ n. inr (n, same_no a b n)) (cases_eq a b)
 
 -- a number after one was set
-pub put_cases : (xs : List ℕ) (i x u : ℕ) → i < length xs → ((u ≡ i) × (at (set xs i x) u ≡ x)) ⊎ ((u ≢ i) × (at (set xs i x) u ≡ at xs u))
+pub put_cases : (xs : List ℕ) (i x u : ℕ) → i < length xs
+    → ((u ≡ i) × (at (set xs i x) u ≡ x)) ⊎ ((u ≢ i) × (at (set xs i x) u ≡ at xs u))
 put_cases xs i x u low = ⊎_elim
     (λ e. inl (e, ap (λ j. get_or (set xs i x) j 0) e ∙ get_or-set_same xs i x 0 low))
     (λ n. inr (n, get_or-set_other xs i u x 0 n))
@@ -25,12 +27,14 @@ put_cases xs i x u low = ⊎_elim
 
 module _ {A : Type 0} where
   -- an element after one was set
-  pub at_set : (l : List A) (i j : ℕ) (a b : A) → get_elem? (set l i a) j ≡ some b → ((j ≡ i) × (a ≡ b)) ⊎ ((j ≢ i) × (get_elem? l j ≡ some b))
+  pub at_set : (l : List A) (i j : ℕ) (a b : A) → get_elem? (set l i a) j ≡ some b
+      → ((j ≡ i) × (a ≡ b)) ⊎ ((j ≢ i) × (get_elem? l j ≡ some b))
   at_set [] i j a b e = absurd (some-ne-none b (sym e))
   at_set (x ∷ xs) zero zero a b e = inl (refl, some-injective a b e)
   at_set (x ∷ xs) zero (suc j) a b e = inr ((λ h. omega arith), e)
   at_set (x ∷ xs) (suc i) zero a b e = inr ((λ h. omega arith), e)
-  at_set (x ∷ xs) (suc i) (suc j) a b e = ⊎_elim (λ t. inl (ap suc t.0, t.1)) (λ t. let n = t.0 in inr ((λ h. n (omega arith)), t.1)) (at_set xs i j a b e)
+  at_set (x ∷ xs) (suc i) (suc j) a b e =
+      ⊎_elim (λ t. inl (ap suc t.0, t.1)) (λ t. let n = t.0 in inr ((λ h. n (omega arith)), t.1)) (at_set xs i j a b e)
 
   pub set_here : (l : List A) (i : ℕ) (a : A) → i < length l → get_elem? (set l i a) i ≡ some a
   set_here [] i a h = absurd (omega arith)
@@ -49,23 +53,28 @@ module _ {A : Type 0} where
   set_again (x ∷ xs) zero a e = λ k. sym (some-injective x a e) k ∷ xs
   set_again (x ∷ xs) (suc i) a e = λ k. x ∷ set_again xs i a e k
 
-  pub at_snoc : (l : List A) (a b : A) (j : ℕ) → get_elem? (l ++ a ∷ []) j ≡ some b → ((get_elem? l j ≡ some b) × (j < length l)) ⊎ ((a ≡ b) × (j ≡ length l))
+  pub at_snoc : (l : List A) (a b : A) (j : ℕ) → get_elem? (l ++ a ∷ []) j ≡ some b
+      → ((get_elem? l j ≡ some b) × (j < length l)) ⊎ ((a ≡ b) × (j ≡ length l))
   at_snoc [] a b zero e = inr (some-injective a b e, refl)
   at_snoc [] a b (suc j) e = absurd (some-ne-none b (sym e))
   at_snoc (x ∷ xs) a b zero e = inl (e, omega arith)
-  at_snoc (x ∷ xs) a b (suc j) e = ⊎_elim (λ t. inl (t.0, omega (arith, t.1))) (λ t. inr (t.0, ap suc t.1)) (at_snoc xs a b j e)
+  at_snoc (x ∷ xs) a b (suc j) e =
+      ⊎_elim (λ t. inl (t.0, omega (arith, t.1))) (λ t. inr (t.0, ap suc t.1)) (at_snoc xs a b j e)
 
-  pub total-set : (g : A → ℕ) (l : List A) (j : ℕ) (v w : A) → get_elem? l j ≡ some v → total g (set l j w) + g v ≡ total g l + g w
+  pub total-set : (g : A → ℕ) (l : List A) (j : ℕ) (v w : A) → get_elem? l j ≡ some v
+      → total g (set l j w) + g v ≡ total g l + g w
   total-set g [] j v w e = absurd (some-ne-none v (sym e))
   total-set g (x ∷ xs) zero v w e = let h : g x ≡ g v = ap g (some-injective x v e) in omega arith
-  total-set g (x ∷ xs) (suc j) v w e = let h : total g (set xs j w) + g v ≡ total g xs + g w = total-set g xs j v w e in omega arith
+  total-set g (x ∷ xs) (suc j) v w e = let h : total g (set xs j w) + g v ≡ total g xs + g w =
+      total-set g xs j v w e in omega arith
 
   pub total-append : (g : A → ℕ) (l m : List A) → total g (l ++ m) ≡ total g l + total g m
   total-append g [] m = sym (zero-add (total g m))
   total-append g (x ∷ xs) m = let h : total g (xs ++ m) ≡ total g xs + total g m = total-append g xs m in omega arith
 
   pub total-snoc : (g : A → ℕ) (l : List A) (a : A) → total g (l ++ a ∷ []) ≡ total g l + g a
-  total-snoc g l a = let h : total g (l ++ a ∷ []) ≡ total g l + total g (a ∷ []) = total-append g l (a ∷ []) in omega arith
+  total-snoc g l a = let h : total g (l ++ a ∷ []) ≡ total g l + total g (a ∷ []) =
+      total-append g l (a ∷ []) in omega arith
 
   -- one element weighs no more than all, and two no more than all
   pub total_le : (g : A → ℕ) (l : List A) (j : ℕ) (v : A) → get_elem? l j ≡ some v → g v ≤ total g l
@@ -73,19 +82,25 @@ module _ {A : Type 0} where
   total_le g (x ∷ xs) zero v e = let h : g x ≡ g v = ap g (some-injective x v e) in omega arith
   total_le g (x ∷ xs) (suc j) v e = let h : g v ≤ total g xs = total_le g xs j v e in omega arith
 
-  pub total_two : (g : A → ℕ) (l : List A) (i j : ℕ) (v w : A) → i ≢ j → get_elem? l i ≡ some v → get_elem? l j ≡ some w → g v + g w ≤ total g l
+  pub total_two : (g : A → ℕ) (l : List A) (i j : ℕ) (v w : A) → i ≢ j → get_elem? l i ≡ some v → get_elem? l j ≡ some w
+      → g v + g w ≤ total g l
   total_two g [] i j v w n e f = absurd (some-ne-none v (sym e))
   total_two g (x ∷ xs) zero zero v w n e f = absurd (n refl)
-  total_two g (x ∷ xs) zero (suc j) v w n e f = let h : g x ≡ g v = ap g (some-injective x v e) in let k : g w ≤ total g xs = total_le g xs j w f in omega arith
-  total_two g (x ∷ xs) (suc i) zero v w n e f = let h : g x ≡ g w = ap g (some-injective x w f) in let k : g v ≤ total g xs = total_le g xs i v e in omega arith
-  total_two g (x ∷ xs) (suc i) (suc j) v w n e f = let h : g v + g w ≤ total g xs = total_two g xs i j v w (λ s. n (ap suc s)) e f in omega arith
+  total_two g (x ∷ xs) zero (suc j) v w n e f = let h : g x ≡ g v =
+      ap g (some-injective x v e) in let k : g w ≤ total g xs = total_le g xs j w f in omega arith
+  total_two g (x ∷ xs) (suc i) zero v w n e f = let h : g x ≡ g w =
+      ap g (some-injective x w f) in let k : g v ≤ total g xs = total_le g xs i v e in omega arith
+  total_two g (x ∷ xs) (suc i) (suc j) v w n e f = let h : g v + g w ≤ total g xs =
+      total_two g xs i j v w (λ s. n (ap suc s)) e f in omega arith
 
   -- where f is no more than g anywhere and both weigh the same together, they are one everywhere
   pub total_more : (f g : A → ℕ) (l : List A) → ((x : A) → f x ≤ g x) → total f l ≤ total g l
   total_more f g [] h = omega arith
-  total_more f g (x ∷ xs) h = let a : f x ≤ g x = h x in let b : total f xs ≤ total g xs = total_more f g xs h in omega arith
+  total_more f g (x ∷ xs) h = let a : f x ≤ g x = h x in let b : total f xs ≤ total g xs =
+      total_more f g xs h in omega arith
 
-  pub total_tight : (f g : A → ℕ) (l : List A) (j : ℕ) (v : A) → ((x : A) → f x ≤ g x) → total f l ≡ total g l → get_elem? l j ≡ some v → f v ≡ g v
+  pub total_tight : (f g : A → ℕ) (l : List A) (j : ℕ) (v : A) → ((x : A) → f x ≤ g x) → total f l ≡ total g l
+      → get_elem? l j ≡ some v → f v ≡ g v
   total_tight f g [] j v h s e = absurd (some-ne-none v (sym e))
   total_tight f g (x ∷ xs) zero v h s e =
       let a : f x ≤ g x = h x in let b : total f xs ≤ total g xs = total_more f g xs h in
@@ -96,7 +111,8 @@ module _ {A : Type 0} where
       total_tight f g xs j v h (omega arith) e
 
   -- what f lacks of g at one element it lacks in all
-  pub total_gap : (f g : A → ℕ) (l : List A) (j : ℕ) (v : A) → ((x : A) → f x ≤ g x) → get_elem? l j ≡ some v → total f l + g v ≤ total g l + f v
+  pub total_gap : (f g : A → ℕ) (l : List A) (j : ℕ) (v : A) → ((x : A) → f x ≤ g x) → get_elem? l j ≡ some v
+      → total f l + g v ≤ total g l + f v
   total_gap f g [] j v h e = absurd (some-ne-none v (sym e))
   total_gap f g (x ∷ xs) zero v h e =
       let b : total f xs ≤ total g xs = total_more f g xs h in
@@ -108,10 +124,12 @@ module _ {A : Type 0} where
   -- where each weighs nothing, so do all
   pub total_none : (f : A → ℕ) (l : List A) → ((j : ℕ) (v : A) → get_elem? l j ≡ some v → f v ≡ 0) → total f l ≡ 0
   total_none f [] h = refl
-  total_none f (x ∷ xs) h = let a : f x ≡ 0 = h 0 x refl in let b : total f xs ≡ 0 = total_none f xs (λ j. h (suc j)) in omega arith
+  total_none f (x ∷ xs) h = let a : f x ≡ 0 = h 0 x refl in let b : total f xs ≡ 0 =
+      total_none f xs (λ j. h (suc j)) in omega arith
 
   -- where none but one weighs anything, all weigh what it does
-  pub total_only : (f : A → ℕ) (l : List A) (i : ℕ) (v : A) → get_elem? l i ≡ some v → ((j : ℕ) (w : A) → j ≢ i → get_elem? l j ≡ some w → f w ≡ 0)
+  pub total_only : (f : A → ℕ) (l : List A) (i : ℕ) (v : A) → get_elem? l i ≡ some v
+      → ((j : ℕ) (w : A) → j ≢ i → get_elem? l j ≡ some w → f w ≡ 0)
       → total f l ≡ f v
   total_only f [] i v e h = absurd (some-ne-none v (sym e))
   total_only f (x ∷ xs) zero v e h =
@@ -152,7 +170,8 @@ times-without_same t (y ∷ ys) =
     let rest : times t (without t ys) ≡ 0 = times-without_same t ys in
     ⊎_elim
     (λ e. ap (λ b. times t (cond b (without t ys) (y ∷ without t ys))) (eq-eqb y t e) ∙ rest)
-    (λ d. let s : same y t ≡ 0 = same_no y t d in ap (λ b. times t (cond b (without t ys) (y ∷ without t ys))) (ne_eqb y t d) ∙ (omega arith))
+    (λ d. let s : same y t ≡ 0 =
+    same_no y t d in ap (λ b. times t (cond b (without t ys) (y ∷ without t ys))) (ne_eqb y t d) ∙ (omega arith))
     (cases_eq y t)
 
 pub times-without_le : (x t : ℕ) (l : List ℕ) → times x (without t l) ≤ times x l
@@ -164,7 +183,8 @@ times-without_le x t l = ⊎_elim
 -- a list in which nothing stands is empty
 pub empty_from_times : (l : List ℕ) → ((x : ℕ) → times x l ≡ 0) → l ≡ []
 empty_from_times [] h = refl
-empty_from_times (y ∷ ys) h = absurd (let a : times y (y ∷ ys) ≡ 0 = h y in let b : same y y ≡ 1 = same_yes y y refl in omega arith)
+empty_from_times (y ∷ ys) h =
+    absurd (let a : times y (y ∷ ys) ≡ 0 = h y in let b : same y y ≡ 1 = same_yes y y refl in omega arith)
 
 -- a number other than 0 stands within the list
 pub within_of : (xs : List ℕ) (i : ℕ) → at xs i ≢ 0 → i < length xs

@@ -1,5 +1,7 @@
 -- The board at the opening keeps the rule.
-use Rattle.std.proofs.Common.{◌≡◌, ◌≢◌, ℕ, zero, suc, ◌+◌, ◌<◌, ◌≤◌, ◌⊎◌, inl, inr, ⊎_elim, List, [], ◌∷◌, ◌++◌, length, take, Bool, true, false, cond, Some, refl, sym, ap, ◌∙◌, subst, arith, ◌==◌, ◌&&◌, ◌||◌, slice_get, eq-eqb, eqb-true, length-append}
+use Rattle.std.proofs.Common.{◌≡◌, ◌≢◌, ℕ, zero, suc, ◌+◌, ◌<◌, ◌≤◌, ◌⊎◌, inl, inr, ⊎_elim, List, [], ◌∷◌, ◌++◌, length}
+use Rattle.std.proofs.Common.{take, Bool, true, false, cond, Some, refl, sym, ap, ◌∙◌, subst, arith, ◌==◌, ◌&&◌, ◌||◌}
+use Rattle.std.proofs.Common.{slice_get, eq-eqb, eqb-true, length-append}
 use Rattle.std.proofs.lemmas.Bool.{cases_Bool, cases_eq, cases_lt, or_right}
 use Rattle.std.proofs.lemmas.List.{length-map, get_or_past, get_or_append_left, get_or_at}
 use Rattle.std.proofs.lemmas.Option.{slice_get_within, get_or_from_slice_get}
@@ -10,7 +12,8 @@ use Rattle.cs_cells.specs.Cells.{cell, signed, values}
 use Rattle.cs_cells.specs.Meaning.{Meaning}
 use Rattle.cs_graph.specs.Graph.{Edge}
 use Rattle.cs_board.specs.Counts.{one, same, total, times, listed, count_below}
-use Rattle.cs_board.specs.Facts.{IsSane, Waits, done_writers, job_if, Found, does_note, ran_note, closes, moves, owed, has_done, is_first, numbered, names, turned_on}
+use Rattle.cs_board.specs.Facts.{IsSane, Waits, done_writers, job_if, Found, does_note, ran_note, closes, moves, owed}
+use Rattle.cs_board.specs.Facts.{has_done, is_first, numbered, names, turned_on}
 use Rattle.cs_board.specs.Opening.{each_below, first_status, later_end, first_watch, opening_words}
 use Rattle.cs_board.specs.Plans.{IsRoot, leads_in, edge_count, area_count, before_at, places_written}
 use Rattle.cs_board.specs.Rule.{Facts}
@@ -25,13 +28,15 @@ use Rattle.cs_board.proofs.Lists.{same_yes, same_no, total_only}
 -- a list of the values below a number
 pub length-each_below : (f : ℕ → ℕ) (n : ℕ) → length (each_below f n) ≡ n
 length-each_below f zero = refl
-length-each_below f (suc n) = let h : length (each_below f n) ≡ n = length-each_below f n in omega (arith, length-append (each_below f n) (f n ∷ []))
+length-each_below f (suc n) = let h : length (each_below f n) ≡ n =
+    length-each_below f n in omega (arith, length-append (each_below f n) (f n ∷ []))
 
 pub at_each_below : (f : ℕ → ℕ) (n i : ℕ) → i < n → at (each_below f n) i ≡ f i
 at_each_below f zero i l = absurd (omega arith)
 at_each_below f (suc n) i l = ⊎_elim
     (λ (e : i ≡ n). get_or_at (each_below f n) (f n) [] 0 i (length-each_below f n ∙ sym e) ∙ ap f (sym e))
-    (λ (d : i ≢ n). get_or_append_left (each_below f n) (f n ∷ []) 0 i (omega (arith, length-each_below f n)) ∙ at_each_below f n i (omega arith))
+    (λ (d : i ≢ n). get_or_append_left (each_below f n) (f n ∷ []) 0 i (omega (arith, length-each_below f n))
+    ∙ at_each_below f n i (omega arith))
     (cases_eq i n)
 
 past_each_below : (f : ℕ → ℕ) (n i : ℕ) → n ≤ i → at (each_below f n) i ≡ 0
@@ -46,20 +51,27 @@ zeros n i = ⊎_elim
 -- an edge that leads to a note, and the first one
 pub leads_by : (edges : List (ℕ × ℕ)) (e p t : ℕ) → Edge edges e p t → leads_in edges t ≡ true
 leads_by [] e p t h = absurd (cc)
-leads_by (x ∷ es) zero p t h = let i : x.1 ≡ t = (let z : Some x ≡ Some (p, t) = h in cc) in ap (λ b. b || leads_in es t) (eq-eqb x.1 t i)
+leads_by (x ∷ es) zero p t h = let i : x.1 ≡ t =
+    (let z : Some x ≡ Some (p, t) = h in cc) in ap (λ b. b || leads_in es t) (eq-eqb x.1 t i)
 leads_by (x ∷ es) (suc e) p t h = ap (λ b. x.1 == t || b) (leads_by es e p t h) ∙ or_right (x.1 == t) true refl
 
-pub leads_by_earlier : (edges : List (ℕ × ℕ)) (n e p t : ℕ) → e < n → Edge edges e p t → leads_in (take n edges) t ≡ true
+pub leads_by_earlier : (edges : List (ℕ × ℕ)) (n e p t : ℕ) → e < n → Edge edges e p t
+    → leads_in (take n edges) t ≡ true
 leads_by_earlier [] n e p t l h = absurd (cc)
 leads_by_earlier (x ∷ es) zero e p t l h = absurd (omega arith)
-leads_by_earlier (x ∷ es) (suc n) zero p t l h = let i : x.1 ≡ t = (let z : Some x ≡ Some (p, t) = h in cc) in ap (λ b. b || leads_in (take n es) t) (eq-eqb x.1 t i)
-leads_by_earlier (x ∷ es) (suc n) (suc e) p t l h = ap (λ b. x.1 == t || b) (leads_by_earlier es n e p t (omega arith) h) ∙ or_right (x.1 == t) true refl
+leads_by_earlier (x ∷ es) (suc n) zero p t l h = let i : x.1 ≡ t =
+    (let z : Some x ≡ Some (p, t) = h in cc) in ap (λ b. b || leads_in (take n es) t) (eq-eqb x.1 t i)
+leads_by_earlier (x ∷ es) (suc n) (suc e) p t l h =
+    ap (λ b. x.1 == t || b) (leads_by_earlier es n e p t (omega arith) h) ∙ or_right (x.1 == t) true refl
 
-pub first_edge : (edges : List (ℕ × ℕ)) (t : ℕ) → leads_in edges t ≡ true → (e : ℕ) × (p : ℕ) × Edge edges e p t × (leads_in (take e edges) t ≡ false)
+pub first_edge : (edges : List (ℕ × ℕ)) (t : ℕ) → leads_in edges t ≡ true
+    → (e : ℕ) × (p : ℕ) × Edge edges e p t × (leads_in (take e edges) t ≡ false)
 first_edge [] t h = absurd (cc)
 first_edge (x ∷ es) t h = ⊎_elim
     (λ (b : (x.1 == t) ≡ true). let i : x.1 ≡ t = eqb-true x.1 t b in (0, x.0, ap (λ z. Some (x.0, z)) i, refl))
-    (λ (b : (x.1 == t) ≡ false). let r = first_edge es t (ap (λ z. z || leads_in es t) (sym b) ∙ h) in (suc r.0, r.1, r.2, ap (λ z. z || leads_in (take r.0 es) t) b ∙ r.3))
+    (λ (b : (x.1 == t) ≡ false). let r =
+    first_edge es t (ap (λ z. z || leads_in es t) (sym b)
+    ∙ h) in (suc r.0, r.1, r.2, ap (λ z. z || leads_in (take r.0 es) t) b ∙ r.3))
     (cases_Bool (x.1 == t))
 
 -- a note stands among those that wait for none exactly where no edge leads to it
@@ -68,7 +80,8 @@ root_in edges zero t l h = absurd (omega arith)
 root_in edges (suc n) t l h = ⊎_elim
     (λ (e : t ≡ n). let s : same n t ≡ 1 = same_yes n t (sym e) in
     let c : times t (roots_below edges (suc n)) ≡ same n t + times t (roots_below edges n)
-    = ap (λ b. times t (cond b (roots_below edges n) (n ∷ roots_below edges n))) (ap (leads_in edges) (sym e) ∙ h) in omega arith)
+    = ap (λ b. times t (cond b (roots_below edges n) (n ∷ roots_below edges n)))
+    (ap (leads_in edges) (sym e) ∙ h) in omega arith)
     (λ (d : t ≢ n). let r : 0 < times t (roots_below edges n) = root_in edges n t (omega arith) h in ⊎_elim
     (λ b. let c : times t (roots_below edges (suc n)) ≡ times t (roots_below edges n)
     = ap (λ z. times t (cond z (roots_below edges n) (n ∷ roots_below edges n))) b in omega arith)
@@ -84,15 +97,19 @@ root_out edges (suc n) t l =
     ⊎_elim
     (λ b. ap (λ z. times t (cond z (roots_below edges n) (n ∷ roots_below edges n))) b ∙ r)
     (λ b. let s : same n t ≡ 0 = same_no n t (λ z. omega arith) in
-    ap (λ z. times t (cond z (roots_below edges n) (n ∷ roots_below edges n))) b ∙ (let c : same n t + times t (roots_below edges n) ≡ 0 = omega arith in c))
+    ap (λ z. times t (cond z (roots_below edges n) (n ∷ roots_below edges n))) b
+    ∙ (let c : same n t + times t (roots_below edges n) ≡ 0 = omega arith in c))
     (cases_Bool (leads_in edges n))
 
 pub count_none : (P : ℕ → Bool) (n : ℕ) → ((u : ℕ) → P u ≡ false) → count_below P n ≡ 0
 count_none P zero h = refl
-count_none P (suc n) h = let a : count_below P n ≡ 0 = count_none P n h in let b : one (P n) ≡ 0 = ap one (h n) in omega arith
+count_none P (suc n) h = let a : count_below P n ≡ 0 = count_none P n h in let b : one (P n) ≡ 0 =
+    ap one (h n) in omega arith
 
-module _ {J : Type 0} (M : Meaning J) (k : Plan J) (ws spare : List ℕ) (same_values : values ws ≡ k.cells) (long : length spare ≡ k.spare)
-    (hs : List (maybe.Option (Berth J))) (home : (t : ℕ) (j : J) → slice_get k.jobs t ≡ Some j → get_elem? hs t ≡ some (some (Full j)))
+module _ {J : Type 0} (M : Meaning J) (k : Plan J) (ws spare : List ℕ) (same_values : values ws ≡ k.cells)
+    (long : length spare ≡ k.spare)
+    (hs : List (maybe.Option (Berth J)))
+    (home : (t : ℕ) (j : J) → slice_get k.jobs t ≡ Some j → get_elem? hs t ≡ some (some (Full j)))
     (vs : List (View J)) (id : ℕ) (here : get_elem? vs id ≡ some (opening_view k))
     (others : (j : ℕ) (w : View J) → j ≢ id → get_elem? vs j ≡ some w → w ≡ spent_view) where
   abbrev begins : Words
@@ -120,7 +137,8 @@ module _ {J : Type 0} (M : Meaning J) (k : Plan J) (ws spare : List ℕ) (same_v
 
   status_is : (t : ℕ) → (at st t ≡ 0) ⊎ ((at st t ≡ 1) × (t < k.notes) × (leads_in k.edges t ≡ false))
   status_is t = ⊎_elim
-      (λ (l : t < k.notes). let a : at st t ≡ first_status k.edges t = at_each_below (first_status k.edges) k.notes t l in ⊎_elim
+      (λ (l : t < k.notes). let a : at st t ≡ first_status k.edges t =
+      at_each_below (first_status k.edges) k.notes t l in ⊎_elim
       (λ b. inl (a ∙ ap (λ z. cond z 0 1) b))
       (λ b. inr (a ∙ ap (λ z. cond z 0 1) b, l, b))
       (cases_Bool (leads_in k.edges t)))
@@ -134,7 +152,8 @@ module _ {J : Type 0} (M : Meaning J) (k : Plan J) (ws spare : List ℕ) (same_v
   open_ t n e l = omega (arith, status_low t)
 
   not_done : (t : ℕ) → (at st t == 3) ≡ false
-  not_done t = ⊎_elim (λ b. absurd (open_ t 3 (eqb-true (at st t) 3 b) (omega arith))) (λ b. b) (cases_Bool (at st t == 3))
+  not_done t = ⊎_elim (λ b. absurd (open_ t 3 (eqb-true (at st t) 3 b) (omega arith))) (λ b. b)
+      (cases_Bool (at st t == 3))
 
   same_none : (t n : ℕ) → 1 < n → same (at st t) n ≡ 0
   same_none t n l = same_no (at st t) n (λ e. open_ t n e l)
@@ -145,7 +164,8 @@ module _ {J : Type 0} (M : Meaning J) (k : Plan J) (ws spare : List ℕ) (same_v
 
   watch_low : (e : ℕ) → at wt e ≤ 1
   watch_low e = ⊎_elim
-      (λ (l : e < edge_count k). let a : at wt e ≡ first_watch k.edges e = at_each_below (first_watch k.edges) (edge_count k) e l in
+      (λ (l : e < edge_count k). let a : at wt e ≡ first_watch k.edges e =
+      at_each_below (first_watch k.edges) (edge_count k) e l in
       ⊎_elim
       (λ b. let c : first_watch k.edges e ≡ 0 = ap (λ z. cond z 0 1) b in omega arith)
       (λ b. let c : first_watch k.edges e ≡ 1 = ap (λ z. cond z 0 1) b in omega arith)
@@ -156,20 +176,23 @@ module _ {J : Type 0} (M : Meaning J) (k : Plan J) (ws spare : List ℕ) (same_v
   led : (t : ℕ) → t < k.notes → at st t ≡ 0 → leads_in k.edges t ≡ true
   led t low z = ⊎_elim
       (λ b. b)
-      (λ b. absurd (let o : at st t ≡ 1 = at_each_below (first_status k.edges) k.notes t low ∙ ap (λ y. cond y 0 1) b in omega arith))
+      (λ b. absurd (let o : at st t ≡ 1 =
+      at_each_below (first_status k.edges) k.notes t low ∙ ap (λ y. cond y 0 1) b in omega arith))
       (cases_Bool (leads_in k.edges t))
 
   opening_waits : (t : ℕ) → t < k.notes → at st t ≡ 0 → Waits k wt vs t
   opening_waits t low z = let f = first_edge k.edges t (led t low z) in record {
     edge = f.0;
     before = λ e p h l. absurd (let b : true ≡ false = sym (leads_by_earlier k.edges f.0 e p t l h) ∙ f.3 in cc);
-    after = λ e p h l o. let b : at wt e ≡ 0 = watch_is e p t h ∙ ap (λ y. cond y 0 1) (leads_by_earlier k.edges e f.0 f.1 t l f.2) in omega (arith, o);
+    after = λ e p h l o. let b : at wt e ≡ 0 =
+        watch_is e p t h ∙ ap (λ y. cond y 0 1) (leads_by_earlier k.edges e f.0 f.1 t l f.2) in omega (arith, o);
     who = inl (f.1, f.2, watch_is f.0 f.1 t f.2 ∙ ap (λ y. cond y 0 1) f.3, only (moves t) refl);
     some_edge = (f.0, f.1, f.2);
   }
 
   root_free : (t : ℕ) → IsRoot k t → leads_in k.edges t ≡ false
-  root_free t root = ⊎_elim (λ b. absurd (let f = first_edge k.edges t b in root f.0 f.1 f.2)) (λ b. b) (cases_Bool (leads_in k.edges t))
+  root_free t root = ⊎_elim (λ b. absurd (let f = first_edge k.edges t b in root f.0 f.1 f.2)) (λ b. b)
+      (cases_Bool (leads_in k.edges t))
 
   pub opening_facts : Facts M k begins hs vs
   opening_facts = record {
@@ -194,7 +217,8 @@ module _ {J : Type 0} (M : Meaning J) (k : Plan J) (ws spare : List ℕ) (same_v
     tallied = record {
       owing = λ t o. ⊎_elim
           (λ z. absurd (omega (arith, z, o)))
-          (λ a. let r : 0 < times t (roots_below k.edges k.notes) = root_in k.edges k.notes t a.1 a.2 in omega (arith, only (owed t) refl))
+          (λ a. let r : 0 < times t (roots_below k.edges k.notes) =
+          root_in k.edges k.notes t a.1 a.2 in omega (arith, only (owed t) refl))
           (status_is t);
       finding = λ i v t e f. absurd (none_found i v t e f);
       having = λ t. only (has_done t) refl ∙ sym (same_none t 3 (omega arith));
@@ -222,12 +246,14 @@ module _ {J : Type 0} (M : Meaning J) (k : Plan J) (ws spare : List ℕ) (same_v
       images = λ i v d e is. absurd (none_doing i v d e is);
     };
     turned = λ r l. zeros (area_count k) r ∙ sym (let c : done_writers M k st r ≡ 0
-        = count_none (λ u. at st u == 3 && listed (places_written M k u) r) k.notes (λ u. ap (λ b. b && listed (places_written M k u) r) (not_done u)) in
+        = count_none (λ u. at st u == 3 && listed (places_written M k u) r) k.notes
+        (λ u. ap (λ b. b && listed (places_written M k u) r) (not_done u)) in
         omega (arith, only (turned_on M k r) refl));
   }
     where
       -- a view is the first one's, or a spent one
-      each : (P : View J → Type 0) → P (opening_view k) → P spent_view → (i : ℕ) (v : View J) → get_elem? vs i ≡ some v → P v
+      each : (P : View J → Type 0) → P (opening_view k) → P spent_view → (i : ℕ) (v : View J) → get_elem? vs i ≡ some v
+          → P v
       each P first spent i v e = ⊎_elim
           (λ (s : i ≡ id). subst P (some-injective _ _ (sym here ∙ ap (get_elem? vs) (sym s) ∙ e)) first)
           (λ (n : i ≢ id). subst P (sym (others i v n e)) spent)
@@ -261,7 +287,8 @@ module _ {J : Type 0} (M : Meaning J) (k : Plan J) (ws spare : List ℕ) (same_v
       empty_found = []
 
       none_found : (i : ℕ) (v : View J) (t : ℕ) → get_elem? vs i ≡ some v → Found v t → ⊥
-      none_found i v t = each (λ x. Found x t → ⊥) (λ f. let q : slice_get (opening_view k).found f.0 ≡ Some (t, f.1) = f.2 in cc)
+      none_found i v t = each (λ x. Found x t → ⊥)
+          (λ f. let q : slice_get (opening_view k).found f.0 ≡ Some (t, f.1) = f.2 in cc)
           (λ f. let q : slice_get (empty_found) f.0 ≡ Some (t, f.1) = f.2 in cc) i v
 
       none_out : (i : ℕ) (v : View J) (x : ℕ) → get_elem? vs i ≡ some v → 0 < times x v.out → ⊥
@@ -271,7 +298,8 @@ module _ {J : Type 0} (M : Meaning J) (k : Plan J) (ws spare : List ℕ) (same_v
       none_doing i v d = each (λ x. x.doing ≡ Some d → ⊥) (λ is. cc) (λ is. cc) i v
 
       value : (a : ℕ) → a < length k.cells → signed (at ws a) ≡ cell (before_at M k 0) a
-      value a l = sym (map_at ws a (omega (arith, l, ap length same_values, length-map ws signed))) ∙ ap (λ c. cell c a) same_values
+      value a l = sym (map_at ws a (omega (arith, l, ap length same_values, length-map ws signed)))
+          ∙ ap (λ c. cell c a) same_values
         where
           map_at : (xs : List ℕ) (i : ℕ) → i < length xs → cell (values xs) i ≡ signed (at xs i)
           map_at [] i m = absurd (omega arith)
@@ -291,20 +319,26 @@ status_free edges t none = ⊎_elim
     (λ b. ap (λ z. cond z 0 1) (sym b))
     (cases_Bool (leads_in edges t))
 
-taken : (edges : List (ℕ × ℕ)) (e f : ℕ) (x : ℕ × ℕ) → slice_get (take e edges) f ≡ Some x → (f < e) × (slice_get edges f ≡ Some x)
+taken : (edges : List (ℕ × ℕ)) (e f : ℕ) (x : ℕ × ℕ) → slice_get (take e edges) f ≡ Some x
+    → (f < e) × (slice_get edges f ≡ Some x)
 taken edges zero f x h = absurd (cc)
 taken [] (suc e) f x h = absurd (cc)
 taken (y ∷ es) (suc e) zero x h = (omega arith, h)
 taken (y ∷ es) (suc e) (suc f) x h = let r = taken es e f x h in (omega (arith, r.0), r.1)
 
-pub watch_later : (edges : List (ℕ × ℕ)) (f e p q t : ℕ) → f < e → Edge edges f p t → Edge edges e q t → 0 ≡ first_watch edges e
+pub watch_later : (edges : List (ℕ × ℕ)) (f e p q t : ℕ) → f < e → Edge edges f p t → Edge edges e q t
+    → 0 ≡ first_watch edges e
 watch_later edges f e p q t l h at_ = ap (λ b. cond b 0 1)
-    (sym (leads_by_earlier edges e f p t l h) ∙ ap (λ z. leads_in (take e edges) z.1) (sym (get_or_from_slice_get edges e (q, t) (0, 0) at_)))
+    (sym (leads_by_earlier edges e f p t l h)
+    ∙ ap (λ z. leads_in (take e edges) z.1) (sym (get_or_from_slice_get edges e (q, t) (0, 0) at_)))
 
-pub watch_first : (edges : List (ℕ × ℕ)) (e q t : ℕ) → Edge edges e q t → ((f p : ℕ) → f < e → ¬ (Edge edges f p t)) → 1 ≡ first_watch edges e
+pub watch_first : (edges : List (ℕ × ℕ)) (e q t : ℕ) → Edge edges e q t → ((f p : ℕ) → f < e → ¬ (Edge edges f p t))
+    → 1 ≡ first_watch edges e
 watch_first edges e q t at_ none = ⊎_elim
-    (λ b. absurd (let f = first_edge (take e edges) t b in let r = taken edges e f.0 (f.1, t) f.2 in none f.0 f.1 r.0 r.1))
-    (λ b. ap (λ z. cond z 0 1) (sym b ∙ ap (λ z. leads_in (take e edges) z.1) (sym (get_or_from_slice_get edges e (q, t) (0, 0) at_))))
+    (λ b. absurd (let f = first_edge (take e edges) t b in let r =
+    taken edges e f.0 (f.1, t) f.2 in none f.0 f.1 r.0 r.1))
+    (λ b. ap (λ z. cond z 0 1)
+    (sym b ∙ ap (λ z. leads_in (take e edges) z.1) (sym (get_or_from_slice_get edges e (q, t) (0, 0) at_))))
     (cases_Bool (leads_in (take e edges) t))
 
 -- a note among those that wait for none is one of the cycle's

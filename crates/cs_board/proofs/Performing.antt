@@ -1,5 +1,6 @@
 -- A view whose image alone changed, and the note that has run.
-use Rattle.std.proofs.Common.{◌≡◌, ℕ, suc, ◌+◌, [], Option, Some, None, refl, sym, ap, ◌∙◌, subst, arith, slice_get, true, ◌||◌}
+use Rattle.std.proofs.Common.{◌≡◌, ℕ, suc, ◌+◌, [], Option, Some, None, refl, sym, ap, ◌∙◌, subst, arith, slice_get}
+use Rattle.std.proofs.Common.{true, ◌||◌}
 use Rattle.atomic_table.specs.declared.shared.Seat.{Seat}
 use Rattle.std.proofs.lemmas.Option.{same_Some}
 use Rattle.cs_board.specs.inner.Banks.{bare, imageless, frame_of, IsAtWork}
@@ -21,13 +22,16 @@ module _ {J : Type 0} where
   same_but : (v w : View J) (o : Option Doing) → w.doing ≡ o → imageless w ≡ imageless v → w ≡ record v { doing = o }
   same_but v w o e h = λ i. record (h i) { doing = e i }
 
-  pub reimage : (v w : View J) (d : Doing) (X : Cells) → v.doing ≡ Some d → imageless w ≡ imageless v → (deed w).image ≡ X → w ≡ does v (record d { image = X })
+  pub reimage : (v w : View J) (d : Doing) (X : Cells) → v.doing ≡ Some d → imageless w ≡ imageless v
+      → (deed w).image ≡ X → w ≡ does v (record d { image = X })
   reimage v w d X doing h image = go w.doing refl
     where
       go : (o : Option Doing) → w.doing ≡ o → w ≡ does v (record d { image = X })
-      go None e = absurd (let z : None ≡ Some (record d { image = [] }) = sym (ap bare e) ∙ ap (λ y. y.doing) h ∙ ap bare doing in cc)
+      go None e = absurd (let z : None ≡ Some (record d { image = [] }) =
+          sym (ap bare e) ∙ ap (λ y. y.doing) h ∙ ap bare doing in cc)
       go (Some f) e =
-          let z : record f { image = [] } ≡ record d { image = [] } = same_Some _ _ (sym (ap bare e) ∙ ap (λ y. y.doing) h ∙ ap bare doing) in
+          let z : record f { image = [] } ≡ record d { image = [] } =
+          same_Some _ _ (sym (ap bare e) ∙ ap (λ y. y.doing) h ∙ ap bare doing) in
           let pic : f.image ≡ X = sym (ap (λ y. (deed_in y).image) e) ∙ image in
           let f_is : f ≡ record d { image = X } = λ i. record (z i) { image = pic i } in
           same_but v w (Some f) e h ∙ ap (λ y. does v y) f_is
@@ -37,7 +41,8 @@ module _ {J : Type 0} where
   view_bare k v h = record { plan = h.plan; live = h.live; owes_in = h.owes_in; playing = h.playing }
 
 -- a seat that does a note is at work, whatever its image is
-pub works_at : {J : Type 0} (M : Meaning J) (board : Board J) (sitting : Seat (Berth J) (View J)) (name : ℕ) (d : Doing) → IsSittingOf M board sitting
+pub works_at : {J : Type 0} (M : Meaning J) (board : Board J) (sitting : Seat (Berth J) (View J)) (name : ℕ) (d : Doing)
+    → IsSittingOf M board sitting
     → sitting.me.0.doing ≡ Some d → IsAtWork M (frame_of board sitting name)
 works_at M board sitting name d h doing = let e = ap bare doing in record {
   whole = h.whole;
@@ -46,13 +51,15 @@ works_at M board sitting name d h doing = let e = ap bare doing in record {
   doing = e ∙ ap (λ o. Some (deed_in o)) (sym e);
 }
 
-module _ {J : Type 0} (M : Meaning J) (k : Plan J) (whole : IsPlan M k) (t : ℕ) (j : J) (at_ : slice_get k.jobs t ≡ Some j) where
+module _ {J : Type 0} (M : Meaning J) (k : Plan J) (whole : IsPlan M k) (t : ℕ) (j : J)
+    (at_ : slice_get k.jobs t ≡ Some j) where
   pub used_of : (a : ℕ) → Uses M j a → uses_at M k t a ≡ true
   used_of a u = subst (λ o. (covers k.areas (uses_of M o) a || covers k.areas (writes_of M o) a) ≡ true) (sym at_)
       (subst (λ z. (covers z (M.foot j).uses a || covers z (M.foot j).writes a) ≡ true) (whole.layout t j at_) u)
 
   pub written_of : (a : ℕ) → Writes M j a → writes_at M k t a ≡ true
-  written_of a u = subst (λ o. covers k.areas (writes_of M o) a ≡ true) (sym at_) (subst (λ z. covers z (M.foot j).writes a ≡ true) (whole.layout t j at_) u)
+  written_of a u = subst (λ o. covers k.areas (writes_of M o) a ≡ true) (sym at_)
+      (subst (λ z. covers z (M.foot j).writes a ≡ true) (whole.layout t j at_) u)
 
   pub leaves_is : M.leaves j (before_at M k t) ≡ before_at M k (t + 1)
   leaves_is = sym (before-suc M k.jobs k.cells t j at_) ∙ (let e : suc t ≡ t + 1 = omega arith in ap (before_at M k) e)

@@ -18,7 +18,8 @@ use Rattle.cs_board.proofs.Does.{busy, apart}
 module _ {J : Type 0} (M : Meaning J) (k : Plan J) (s : State (Berth J) (View J)) (h : Holds M k s) where
   pub done_once : DoneOnce k s
   done_once = record {
-    doing = λ i j v w d e a b p q same_. ⊎_elim (λ y. y) (λ n. absurd (apart k h.parts.status s.views h.facts.doers i j v w d e n a b p q same_)) (cases_eq i j);
+    doing = λ i j v w d e a b p q same_. ⊎_elim (λ y. y)
+        (λ n. absurd (apart k h.parts.status s.views h.facts.doers i j v w d e n a b p q same_)) (cases_eq i j);
     mine = λ t low. h.facts.tallied.having t ∙ ap (λ x. same x 3) (sym (status_is M k s h t low));
   }
 

@@ -1,5 +1,7 @@
 -- The steps of a note that runs: its job goes out, cells are set, turns are made, and the job comes home.
-use Rattle.std.proofs.Common.{◌≡◌, ◌≢◌, ℕ, zero, suc, ◌+◌, ◌-◌, ◌<◌, ◌≤◌, ⊎_elim, List, [], ◌∷◌, length, get_or, set, take, Bool, true, false, Option, Some, None, refl, sym, ap, ◌∙◌, subst, arith, ◌==◌, ◌&&◌, nat_le, slice_get, slice_index, slice_set, eq-eqb, ne_eqb, le-leb}
+use Rattle.std.proofs.Common.{◌≡◌, ◌≢◌, ℕ, zero, suc, ◌+◌, ◌-◌, ◌<◌, ◌≤◌, ⊎_elim, List, [], ◌∷◌, length, get_or, set}
+use Rattle.std.proofs.Common.{take, Bool, true, false, Option, Some, None, refl, sym, ap, ◌∙◌, subst, arith, ◌==◌, ◌&&◌}
+use Rattle.std.proofs.Common.{nat_le, slice_get, slice_index, slice_set, eq-eqb, ne_eqb, le-leb}
 use Rattle.std.proofs.lemmas.Option.{same_Some}
 use Rattle.std.proofs.lemmas.List.{length-set}
 use Rattle.std.specs.List.{Contains}
@@ -42,7 +44,8 @@ ran_less : (t : ℕ) (o : Option Doing) → ran_on t o ≤ doing_on t o
 ran_less t None = omega arith
 ran_less t (Some d) = one_less (d.note == t) (nat_le 1 d.phase)
 
-module _ {J : Type 0} (M : Meaning J) (k : Plan J) (F : Frames M) (n id : ℕ) (m : Sat J) (plan : m.0.plan ≡ k) (live : m.0.spent ≡ false)
+module _ {J : Type 0} (M : Meaning J) (k : Plan J) (F : Frames M) (n id : ℕ) (m : Sat J) (plan : m.0.plan ≡ k)
+    (live : m.0.spent ≡ false)
     (d : Doing) (doing : m.0.doing ≡ Some d) where
   module _ (s : State (Berth J) (View J)) (h : Holds M k s) (here : get_elem? s.views id ≡ some m.0) where
     running : at h.parts.status d.note ≡ 2
@@ -55,26 +58,42 @@ module _ {J : Type 0} (M : Meaning J) (k : Plan J) (F : Frames M) (n id : ℕ) (
     picture = h.facts.stored.images id m.0 d here doing
 
     -- a step of the note that leaves its note, phase and image: only its job moves
-    job_moved : (b : Bool) (i : ℕ) (hs : List (maybe.Option (Berth J))) → length hs ≡ length s.homes → ((j : ℕ) → k.notes ≤ j → get_elem? hs j ≡ get_elem? s.homes j)
+    job_moved : (b : Bool) (i : ℕ) (hs : List (maybe.Option (Berth J))) → length hs ≡ length s.homes
+        → ((j : ℕ) → k.notes ≤ j → get_elem? hs j ≡ get_elem? s.homes j)
         → Slots M k h.parts.status hs (set s.views id (does m.0 (record d { held = b })))
-        → Holds M k (record { words = slice_set s.words i (slice_index s.words i); homes = hs; views = set s.views id (does m.0 (record d { held = b })) })
+        → Holds M k (record {
+          words = slice_set s.words i (slice_index s.words i);
+          homes = hs;
+          views =
+              set s.views id (does m.0 (record d { held = b }));
+        })
     job_moved b i hs long past slots =
         let w : View J = does m.0 (record d { held = b }) in
-        holds_after M k s h (slice_set s.words i (slice_index s.words i)) h.parts hs (set s.views id w) (word_kept M k s h i) h.sized long past
-        (facts_does M F k h.plan h.parts h.sized s.homes s.views id m.0 here h.facts h.parts hs d (record d { held = b }) refl refl doing refl live
-        (owned_step k s.views id m.0 w here h.parts.status h.parts.status h.parts.own h.parts.own (λ u. omega (arith, ap (ran_on u) doing)) h.facts.owned)
+        holds_after M k s h (slice_set s.words i (slice_index s.words i)) h.parts hs (set s.views id w)
+        (word_kept M k s h i) h.sized long past
+        (facts_does M F k h.plan h.parts h.sized s.homes s.views id m.0 here h.facts h.parts hs d
+        (record d { held = b }) refl refl doing refl live
+        (owned_step k s.views id m.0 w here h.parts.status h.parts.status h.parts.own h.parts.own
+        (λ u. omega (arith, ap (ran_on u) doing)) h.facts.owned)
         slots
-        (stored_step M F k h.plan h.parts.status h.parts.watch h.parts.cells s.views id m.0 w here h.facts.gates h.parts.status (λ u. refl) (λ u z. z)
-        (λ e is. subst (Pictured M k h.parts.cells) (same_Some _ _ is) (record { long = picture.long; seen = picture.seen; after = picture.after })) h.facts.stored)
-        (turned_still M k h.parts.status s.views id m.0 w here h.parts.status h.parts.turns (λ u. refl) (λ r. sym (ap (turned_in M k r) doing)) h.facts.turned))
+        (stored_step M F k h.plan h.parts.status h.parts.watch h.parts.cells s.views id m.0 w here h.facts.gates
+        h.parts.status (λ u. refl) (λ u z. z)
+        (λ e is. subst (Pictured M k h.parts.cells) (same_Some _ _ is)
+        (record { long = picture.long; seen = picture.seen; after = picture.after })) h.facts.stored)
+        (turned_still M k h.parts.status s.views id m.0 w here h.parts.status h.parts.turns (λ u. refl)
+        (λ r. sym (ap (turned_in M k r) doing)) h.facts.turned))
 
-  pub takes_job : (j : J) → d.phase ≡ 0 → d.held ≡ false → slice_get k.jobs d.note ≡ Some j → Allows (Holds M k) n id m 0 (λ y. y) (took (step n 0 0 0 none) m)
+  pub takes_job : (j : J) → d.phase ≡ 0 → d.held ≡ false → slice_get k.jobs d.note ≡ Some j
+      → Allows (Holds M k) n id m 0 (λ y. y) (took (step n 0 0 0 none) m)
   takes_job j phase free at_ s h deep here fits = (
     does m.0 (record d { held = true }),
     takes d.note (Full j),
-    h.facts.slots.resting id m.0 d j here doing free at_ ∙ ap (λ x. some (some (Full (job_if M k (nat_le 1 x) d.note j)))) phase,
-    job_moved s h here true 0 (set s.homes d.note none) (length-set s.homes d.note none) (λ i far. set_else s.homes d.note i none (λ z. omega (arith, within s h here)))
-        (slots_moved M k s.views id m.0 (does m.0 (record d { held = true })) here h.parts.status s.homes d (record d { held = true }) none h.facts.doers doing refl refl
+    h.facts.slots.resting id m.0 d j here doing free at_
+        ∙ ap (λ x. some (some (Full (job_if M k (nat_le 1 x) d.note j)))) phase,
+    job_moved s h here true 0 (set s.homes d.note none) (length-set s.homes d.note none)
+        (λ i far. set_else s.homes d.note i none (λ z. omega (arith, within s h here)))
+        (slots_moved M k s.views id m.0 (does m.0 (record d { held = true })) here h.parts.status s.homes d
+        (record d { held = true }) none h.facts.doers doing refl refl
         (omega (arith, h.deep, within s h here)) (λ x free' at'. absurd (cc)) (λ z. refl) h.facts.slots),
     λ e x is at' zero_.
         let same_d : d ≡ e = same_Some _ _ (sym doing ∙ is) in
@@ -84,7 +103,8 @@ module _ {J : Type 0} (M : Meaning J) (k : Plan J) (F : Frames M) (n id : ℕ) (
         ∙ ap (λ z. (does m.0 (record e { held = true }), (e.note, Full z) ∷ m.1)) same_j,
   )
 
-  pub gives_job : (j x : J) → m.1 ≡ (d.note, Full x) ∷ [] → slice_get k.jobs d.note ≡ Some j → x ≡ job_if M k (nat_le 1 d.phase) d.note j
+  pub gives_job : (j x : J) → m.1 ≡ (d.note, Full x) ∷ [] → slice_get k.jobs d.note ≡ Some j
+      → x ≡ job_if M k (nat_le 1 d.phase) d.note j
       → Allows (Holds M k) n id m 0 (λ y. y) (gave (step n 0 0 0 none) m)
   gives_job j x carries at_ is s h deep here fits =
       let hs : List (maybe.Option (Berth J)) = set s.homes d.note (some (Full x)) in
@@ -92,11 +112,20 @@ module _ {J : Type 0} (M : Meaning J) (k : Plan J) (F : Frames M) (n id : ℕ) (
         does m.0 (record d { held = false }),
         gives,
         tt,
-        subst (λ z. Holds M k (record { words = slice_set s.words 0 (slice_index s.words 0); homes = z; views = set s.views id (does m.0 (record d { held = false })) })) (sym back)
-            (job_moved s h here false 0 hs (length-set s.homes d.note (some (Full x))) (λ i far. set_else s.homes d.note i (some (Full x)) (λ z. omega (arith, within s h here)))
-            (slots_moved M k s.views id m.0 (does m.0 (record d { held = false })) here h.parts.status s.homes d (record d { held = false }) (some (Full x)) h.facts.doers doing refl refl
+        subst (λ z. Holds M k (record {
+          words = slice_set s.words 0 (slice_index s.words 0);
+          homes = z;
+          views =
+              set s.views id (does m.0 (record d { held = false }));
+        })) (sym back)
+            (job_moved s h here false 0 hs (length-set s.homes d.note (some (Full x)))
+            (λ i far. set_else s.homes d.note i (some (Full x)) (λ z. omega (arith, within s h here)))
+            (slots_moved M k s.views id m.0 (does m.0 (record d { held = false })) here h.parts.status s.homes d
+            (record d { held = false }) (some (Full x)) h.facts.doers doing refl refl
             (omega (arith, h.deep, within s h here))
-            (λ y free' at'. ap (λ z. some (Full z)) (is ∙ ap (job_if M k (nat_le 1 d.phase) d.note) (same_Some _ _ (sym at_ ∙ at')))) (λ z. absurd (cc)) h.facts.slots)),
+            (λ y free' at'. ap (λ z. some (Full z))
+            (is ∙ ap (job_if M k (nat_le 1 d.phase) d.note) (same_Some _ _ (sym at_ ∙ at')))) (λ z. absurd (cc))
+            h.facts.slots)),
         λ e is'. ap (λ z. (does m.0 (record z { held = false }), rest m.1)) (same_Some _ _ (sym doing ∙ is')),
       )
 
@@ -107,21 +136,30 @@ module _ {J : Type 0} (M : Meaning J) (k : Plan J) (F : Frames M) (n id : ℕ) (
         let d' : Doing = set_image d a (signed x) in
         let w : View J = does m.0 d' in
         let p' : Words = record h.parts { cells = set h.parts.cells a x } in
-        let low : a < length k.cells = (used_within M k h.plan d.note a (written_used_at M k h.plan d.note a writes)).0 in (
+        let low : a < length k.cells =
+        (used_within M k h.plan d.note a (written_used_at M k h.plan d.note a writes)).0 in (
           w,
           keeps,
           tt,
           holds_after M k s h (slice_set s.words (cell_at a) x) p' s.homes (set s.views id w)
-              (word_set M k s h (cell_at a) x p' (set_cell_word k h.parts h.sized a x low)) (sized_cell k h.parts h.sized a x) refl (λ i far. refl)
-              (facts_does M F k h.plan h.parts h.sized s.homes s.views id m.0 here h.facts p' s.homes d d' refl refl doing refl live
-              (owned_step k s.views id m.0 w here h.parts.status h.parts.status h.parts.own h.parts.own (λ u. omega (arith, ap (ran_on u) doing)) h.facts.owned)
-              (slots_still M k s.views id m.0 w here h.parts.status s.homes d d' doing held refl held refl h.facts.slots)
-              (stored_set M F k h.plan h.parts.status h.parts.watch h.parts.cells s.views id m.0 w here h.facts.gates d a x h.facts.doers doing phase refl (omega (arith, low, h.sized.cells)) h.sized.cells (within s h here) writes h.facts.stored)
-              (turned_still M k h.parts.status s.views id m.0 w here h.parts.status h.parts.turns (λ u. refl) (λ r. sym (ap (turned_in M k r) doing)) h.facts.turned)),
+              (word_set M k s h (cell_at a) x p' (set_cell_word k h.parts h.sized a x low))
+              (sized_cell k h.parts h.sized a x) refl (λ i far. refl)
+              (facts_does M F k h.plan h.parts h.sized s.homes s.views id m.0 here h.facts p' s.homes d d' refl refl
+              doing refl live
+              (owned_step k s.views id m.0 w here h.parts.status h.parts.status h.parts.own h.parts.own
+              (λ u. omega (arith, ap (ran_on u) doing)) h.facts.owned)
+              (slots_still M k s.views id m.0 w here h.parts.status s.homes d d' doing held refl held refl
+              h.facts.slots)
+              (stored_set M F k h.plan h.parts.status h.parts.watch h.parts.cells s.views id m.0 w here h.facts.gates d
+              a x h.facts.doers doing phase refl (omega (arith, low, h.sized.cells)) h.sized.cells (within s h here)
+              writes h.facts.stored)
+              (turned_still M k h.parts.status s.views id m.0 w here h.parts.status h.parts.turns (λ u. refl)
+              (λ r. sym (ap (turned_in M k r) doing)) h.facts.turned)),
           λ b e word is.
               let same_a : a ≡ b = one_cell M k a b word in
               let same_d : d ≡ e = same_Some _ _ (sym doing ∙ is) in
-              ap (λ z. (does m.0 (set_image z a (signed x)), m.1)) same_d ∙ ap (λ z. (does m.0 (set_image e z (signed x)), m.1)) same_a,
+              ap (λ z. (does m.0 (set_image z a (signed x)), m.1)) same_d
+              ∙ ap (λ z. (does m.0 (set_image e z (signed x)), m.1)) same_a,
         )
 
     -- the own turn: the note has run
@@ -145,22 +183,36 @@ module _ {J : Type 0} (M : Meaning J) (k : Plan J) (F : Frames M) (n id : ℕ) (
           keeps,
           tt,
           holds_after M k s h (slice_set s.words (own_at k d.note) 1) p' s.homes (set s.views id w)
-              (word_set M k s h (own_at k d.note) 1 p' (set_own k h.parts h.sized d.note 1 (within s h here))) (sized_own k h.parts h.sized d.note 1) refl (λ i far. refl)
-              (facts_does M F k h.plan h.parts h.sized s.homes s.views id m.0 here h.facts p' s.homes d d' refl refl doing refl live
-              (owned_step k s.views id m.0 w here h.parts.status h.parts.status h.parts.own (set h.parts.own d.note 1) (λ u. let v_ran : ran_note u m.0 ≡ one (d.note == u && nat_le 1 d.phase) = ap (ran_on u) doing in ⊎_elim
+              (word_set M k s h (own_at k d.note) 1 p' (set_own k h.parts h.sized d.note 1 (within s h here)))
+              (sized_own k h.parts h.sized d.note 1) refl (λ i far. refl)
+              (facts_does M F k h.plan h.parts h.sized s.homes s.views id m.0 here h.facts p' s.homes d d' refl refl
+              doing refl live
+              (owned_step k s.views id m.0 w here h.parts.status h.parts.status h.parts.own (set h.parts.own d.note 1)
+              (λ u. let v_ran : ran_note u m.0 ≡ one (d.note == u && nat_le 1 d.phase) = ap (ran_on u) doing in ⊎_elim
               (λ y. let e : d.note ≡ u = sym y.0 in
-              let now : one (d.note == u && nat_le 1 (d.phase + 1)) ≡ 1 = ap (λ b. one (b && nat_le 1 (d.phase + 1))) (eq-eqb d.note u e) ∙ ap one (le-leb 1 (d.phase + 1) (omega arith)) in
-              let old : at h.parts.own u ≡ 0 = ap (at h.parts.own) y.0 ∙ (omega (arith, h.facts.owned d.note, once, ap (λ z. same z 3) (running s h here))) in
+              let now : one (d.note == u && nat_le 1 (d.phase + 1)) ≡ 1 =
+              ap (λ b. one (b && nat_le 1 (d.phase + 1))) (eq-eqb d.note u e)
+              ∙ ap one (le-leb 1 (d.phase + 1) (omega arith)) in
+              let old : at h.parts.own u ≡ 0 =
+              ap (at h.parts.own) y.0 ∙ (omega
+              (arith, h.facts.owned d.note, once, ap (λ z. same z 3) (running s h here))) in
               omega (arith, y.1, none_ran u))
               (λ y. let n : d.note ≢ u = λ z. y.0 (sym z) in
-              let now : one (d.note == u && nat_le 1 (d.phase + 1)) ≡ 0 = ap (λ b. one (b && nat_le 1 (d.phase + 1))) (ne_eqb d.note u n) in
+              let now : one (d.note == u && nat_le 1 (d.phase + 1)) ≡ 0 =
+              ap (λ b. one (b && nat_le 1 (d.phase + 1))) (ne_eqb d.note u n) in
               omega (arith, y.1, none_ran u))
               (put_cases h.parts.own d.note 1 u near)) h.facts.owned)
-              (slots_still M k s.views id m.0 w here h.parts.status s.homes d d' doing held refl held refl h.facts.slots)
-              (stored_step M F k h.plan h.parts.status h.parts.watch h.parts.cells s.views id m.0 w here h.facts.gates h.parts.status (λ u. refl) (λ u z. z)
-              (λ e is. subst (Pictured M k h.parts.cells) (same_Some _ _ is) (record { long = (picture s h here).long; seen = (picture s h here).seen; after = λ z. ran })) h.facts.stored)
+              (slots_still M k s.views id m.0 w here h.parts.status s.homes d d' doing held refl held refl
+              h.facts.slots)
+              (stored_step M F k h.plan h.parts.status h.parts.watch h.parts.cells s.views id m.0 w here h.facts.gates
+              h.parts.status (λ u. refl) (λ u z. z)
+              (λ e is. subst (Pictured M k h.parts.cells) (same_Some _ _ is)
+              (record { long = (picture s h here).long; seen = (picture s h here).seen; after = λ z. ran }))
+              h.facts.stored)
               (turned_still M k h.parts.status s.views id m.0 w here h.parts.status h.parts.turns (λ u. refl)
-              (λ r. ap (λ z. one (listed (take (z + 1 - 1) (places_written M k d.note)) r)) phase ∙ sym (ap (turned_in M k r) doing ∙ ap (λ z. one (listed (take (z - 1) (places_written M k d.note)) r)) phase)) h.facts.turned)),
+              (λ r. ap (λ z. one (listed (take (z + 1 - 1) (places_written M k d.note)) r)) phase
+              ∙ sym (ap (turned_in M k r) doing
+              ∙ ap (λ z. one (listed (take (z - 1) (places_written M k d.note)) r)) phase)) h.facts.turned)),
           λ e is. ap (λ z. (does m.0 (next_phase z), m.1)) (same_Some _ _ (sym doing ∙ is)),
         )
       where
@@ -172,7 +224,8 @@ module _ {J : Type 0} (M : Meaning J) (k : Plan J) (F : Frames M) (n id : ℕ) (
             and_none false = refl
 
     -- the turn on the i-th resource that the note writes
-    pub turns_on : (i r x : ℕ) → d.phase ≡ i + 1 → i < length (places_written M k d.note) → at (places_written M k d.note) i ≡ r
+    pub turns_on : (i r x : ℕ) → d.phase ≡ i + 1 → i < length (places_written M k d.note)
+        → at (places_written M k d.note) i ≡ r
         → x ≡ writers_before M k d.note r + 1
         → Allows (Holds M k) n id m (turn_at k r) (λ _. x) (λ _. turned (step n (turn_at k r) x 0 none) m x)
     turns_on i r x phase low is next s h deep here fits =
@@ -185,23 +238,40 @@ module _ {J : Type 0} (M : Meaning J) (k : Plan J) (F : Frames M) (n id : ℕ) (
         let small : r < area_count k = used_place M k h.plan d.note r uses in
         let up = written_rises M k h.plan d.note in
         let less : d.phase - 1 ≡ i = omega arith in
-        let unmade : turned_on M k r m.0 ≡ 0 = ap (turned_in M k r) doing ∙ ap (λ z. one (listed (take z W) r)) less ∙ ap one (ap (listed (take i W)) (sym is) ∙ listed_fresh W up i low) in
+        let unmade : turned_on M k r m.0 ≡ 0 =
+        ap (turned_in M k r) doing ∙ ap (λ z. one (listed (take z W) r)) less
+        ∙ ap one (ap (listed (take i W)) (sym is) ∙ listed_fresh W up i low) in
         let word : at h.parts.turns r ≡ writers_before M k d.note r + turned_on M k r m.0 =
-        looks_turn M k h.parts.status s.views id m.0 m.0 here h.plan h.parts.watch h.facts.gates h.facts.doers d doing h.parts.turns r (omega (arith, within s h here)) small (listed_of (places_used M k d.note) r uses) h.facts.turned in (
+        looks_turn M k h.parts.status s.views id m.0 m.0 here h.plan h.parts.watch h.facts.gates h.facts.doers d doing
+        h.parts.turns r (omega (arith, within s h here)) small (listed_of (places_used M k d.note) r uses)
+        h.facts.turned in (
           w,
           keeps,
           tt,
           holds_after M k s h (slice_set s.words (turn_at k r) x) p' s.homes (set s.views id w)
-              (word_set M k s h (turn_at k r) x p' (set_turn k h.parts h.sized r x small)) (sized_turn k h.parts h.sized r x) refl (λ i far. refl)
-              (facts_does M F k h.plan h.parts h.sized s.homes s.views id m.0 here h.facts p' s.homes d d' refl refl doing refl live
+              (word_set M k s h (turn_at k r) x p' (set_turn k h.parts h.sized r x small))
+              (sized_turn k h.parts h.sized r x) refl (λ i far. refl)
+              (facts_does M F k h.plan h.parts h.sized s.homes s.views id m.0 here h.facts p' s.homes d d' refl refl
+              doing refl live
               (owned_step k s.views id m.0 w here h.parts.status h.parts.status h.parts.own h.parts.own (λ u.
-              let old : ran_note u m.0 ≡ one (d.note == u && true) = ap (ran_on u) doing ∙ ap (λ b. one (d.note == u && b)) (le-leb 1 d.phase (omega arith)) in
-              let now : one (d.note == u && nat_le 1 (d.phase + 1)) ≡ one (d.note == u && true) = ap (λ b. one (d.note == u && b)) (le-leb 1 (d.phase + 1) (omega arith)) in
+              let old : ran_note u m.0 ≡ one (d.note == u && true) =
+              ap (ran_on u) doing ∙ ap (λ b. one (d.note == u && b)) (le-leb 1 d.phase (omega arith)) in
+              let now : one (d.note == u && nat_le 1 (d.phase + 1)) ≡ one (d.note == u && true) =
+              ap (λ b. one (d.note == u && b)) (le-leb 1 (d.phase + 1) (omega arith)) in
               omega arith) h.facts.owned)
-              (slots_still M k s.views id m.0 w here h.parts.status s.homes d d' doing held refl held refl h.facts.slots)
-              (stored_step M F k h.plan h.parts.status h.parts.watch h.parts.cells s.views id m.0 w here h.facts.gates h.parts.status (λ u. refl) (λ u z. z)
-              (λ e is'. subst (Pictured M k h.parts.cells) (same_Some _ _ is') (record { long = (picture s h here).long; seen = (picture s h here).seen; after = λ z. (picture s h here).after (omega arith) })) h.facts.stored)
-              (turned_more M k h.parts.status s.views id m.0 w here h.parts.turns d i r x doing refl phase up low is (omega (arith, small, h.sized.turns)) (omega arith) h.facts.turned)),
+              (slots_still M k s.views id m.0 w here h.parts.status s.homes d d' doing held refl held refl
+              h.facts.slots)
+              (stored_step M F k h.plan h.parts.status h.parts.watch h.parts.cells s.views id m.0 w here h.facts.gates
+              h.parts.status (λ u. refl) (λ u z. z)
+              (λ e is'. subst (Pictured M k h.parts.cells) (same_Some _ _ is')
+              (record {
+                long = (picture s h here).long;
+                seen = (picture s h here).seen;
+                after =
+                    λ z. (picture s h here).after (omega arith);
+              })) h.facts.stored)
+              (turned_more M k h.parts.status s.views id m.0 w here h.parts.turns d i r x doing refl phase up low is
+              (omega (arith, small, h.sized.turns)) (omega arith) h.facts.turned)),
           λ e is'. ap (λ z. (does m.0 (next_phase z), m.1)) (same_Some _ _ (sym doing ∙ is')),
         )
       where

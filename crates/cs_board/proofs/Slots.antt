@@ -1,5 +1,6 @@
 -- The slots: a note's job is home, or out with the seat that runs it.
-use Rattle.std.proofs.Common.{◌≡◌, ◌≢◌, ℕ, ◌<◌, ⊎_elim, List, length, set, true, false, Some, None, refl, sym, ap, ◌∙◌, ◌==◌, nat_le, slice_get}
+use Rattle.std.proofs.Common.{◌≡◌, ◌≢◌, ℕ, ◌<◌, ⊎_elim, List, length, set, true, false, Some, None, refl, sym, ap, ◌∙◌}
+use Rattle.std.proofs.Common.{◌==◌, nat_le, slice_get}
 use Rattle.std.proofs.lemmas.Option.{same_Some}
 use mathlib.Core.Option as maybe
 use mathlib.Core.Option.{some, none}
@@ -15,15 +16,19 @@ use Rattle.cs_board.specs.declared.view.View.{View}
 use Rattle.cs_board.proofs.Lists.{put_cases, at_set, set_here, set_else}
 use Rattle.cs_board.proofs.Does.{busy, apart}
 
-module _ {J : Type 0} (M : Meaning J) (k : Plan J) (vs : List (View J)) (id : ℕ) (v w : View J) (here : get_elem? vs id ≡ some v) where
+module _ {J : Type 0} (M : Meaning J) (k : Plan J) (vs : List (View J)) (id : ℕ) (v w : View J)
+    (here : get_elem? vs id ≡ some v) where
   abbrev Homes : Type 0
   Homes = List (maybe.Option (Berth J))
 
   pub slots_step : (st st' : List ℕ) (hs hs' : Homes)
-      → ((t : ℕ) (j : J) → slice_get k.jobs t ≡ Some j → at st' t ≢ 2 → get_elem? hs' t ≡ some (some (Full (job_if M k (at st' t == 3) t j))))
-      → ((d : Doing) (j : J) → w.doing ≡ Some d → d.held ≡ false → slice_get k.jobs d.note ≡ Some j → get_elem? hs' d.note ≡ some (some (Full (job_if M k (nat_le 1 d.phase) d.note j))))
+      → ((t : ℕ) (j : J) → slice_get k.jobs t ≡ Some j → at st' t ≢ 2
+      → get_elem? hs' t ≡ some (some (Full (job_if M k (at st' t == 3) t j))))
+      → ((d : Doing) (j : J) → w.doing ≡ Some d → d.held ≡ false → slice_get k.jobs d.note ≡ Some j
+      → get_elem? hs' d.note ≡ some (some (Full (job_if M k (nat_le 1 d.phase) d.note j))))
       → ((d : Doing) → w.doing ≡ Some d → d.held ≡ true → get_elem? hs' d.note ≡ some none)
-      → ((i : ℕ) (x : View J) (d : Doing) → i ≢ id → get_elem? vs i ≡ some x → x.doing ≡ Some d → get_elem? hs' d.note ≡ get_elem? hs d.note)
+      → ((i : ℕ) (x : View J) (d : Doing) → i ≢ id → get_elem? vs i ≡ some x → x.doing ≡ Some d
+      → get_elem? hs' d.note ≡ get_elem? hs d.note)
       → Slots M k st hs vs → Slots M k st' hs' (set vs id w)
   slots_step st st' hs hs' home mine out others s = record {
     home = home;
@@ -39,13 +44,15 @@ module _ {J : Type 0} (M : Meaning J) (k : Plan J) (vs : List (View J)) (id : �
 
   -- a status moves on among Waiting, Available and InProgress, and no job moves
   pub slots_status : (st : List ℕ) (hs : Homes) (t x a : ℕ) → t < length st → at st t ≡ a → a ≢ 2 → (x == 3) ≡ (a == 3)
-      → ((d : Doing) (j : J) → w.doing ≡ Some d → d.held ≡ false → slice_get k.jobs d.note ≡ Some j → get_elem? hs d.note ≡ some (some (Full (job_if M k (nat_le 1 d.phase) d.note j))))
+      → ((d : Doing) (j : J) → w.doing ≡ Some d → d.held ≡ false → slice_get k.jobs d.note ≡ Some j
+      → get_elem? hs d.note ≡ some (some (Full (job_if M k (nat_le 1 d.phase) d.note j))))
       → ((d : Doing) → w.doing ≡ Some d → d.held ≡ true → get_elem? hs d.note ≡ some none)
       → Slots M k st hs vs → Slots M k (set st t x) hs (set vs id w)
   slots_status st hs t x a low is two side mine out s = slots_step st (set st t x) hs hs
       (λ u j at_ n. ⊎_elim
       (λ h. s.home u j at_ (λ z. two (sym is ∙ ap (at st) (sym h.0) ∙ z))
-      ∙ ap (λ b. some (some (Full (job_if M k b u j)))) (ap (λ z. z == 3) (ap (at st) h.0 ∙ is) ∙ sym side ∙ ap (λ z. z == 3) (sym h.1)))
+      ∙ ap (λ b. some (some (Full (job_if M k b u j))))
+      (ap (λ z. z == 3) (ap (at st) h.0 ∙ is) ∙ sym side ∙ ap (λ z. z == 3) (sym h.1)))
       (λ h. s.home u j at_ (λ z. n (h.1 ∙ z)) ∙ ap (λ z. some (some (Full (job_if M k (z == 3) u j)))) (sym h.1))
       (put_cases st t x u low))
       mine out
@@ -53,7 +60,8 @@ module _ {J : Type 0} (M : Meaning J) (k : Plan J) (vs : List (View J)) (id : �
       s
 
   -- a note is Done, while its job is home
-  pub slots_done : (st : List ℕ) (hs : Homes) (d : Doing) → d.note < length st → at st d.note ≡ 2 → v.doing ≡ Some d → d.held ≡ false
+  pub slots_done : (st : List ℕ) (hs : Homes) (d : Doing) → d.note < length st → at st d.note ≡ 2 → v.doing ≡ Some d
+      → d.held ≡ false
       → nat_le 1 d.phase ≡ true → w.doing ≡ None
       → Slots M k st hs vs → Slots M k (set st d.note 3) hs (set vs id w)
   slots_done st hs d low is doing free ran over s = slots_step st (set st d.note 3) hs hs
@@ -70,21 +78,27 @@ module _ {J : Type 0} (M : Meaning J) (k : Plan J) (vs : List (View J)) (id : �
       s
 
   -- no slot changes, and the view has the job of its note still out
-  pub slots_still : (st : List ℕ) (hs : Homes) (d d' : Doing) → v.doing ≡ Some d → d.held ≡ true → w.doing ≡ Some d' → d'.held ≡ true → d'.note ≡ d.note
+  pub slots_still : (st : List ℕ) (hs : Homes) (d d' : Doing) → v.doing ≡ Some d → d.held ≡ true → w.doing ≡ Some d'
+      → d'.held ≡ true → d'.note ≡ d.note
       → Slots M k st hs vs → Slots M k st hs (set vs id w)
   slots_still st hs d d' was held is held' same_ s = slots_step st st hs hs s.home
-      (λ e j is_ free. absurd (let z : true ≡ false = sym held' ∙ ap (λ y. y.held) (same_Some _ _ (sym is ∙ is_)) ∙ free in cc))
-      (λ e is_ out. ap (get_elem? hs) (ap (λ y. y.note) (same_Some _ _ (sym is_ ∙ is)) ∙ same_) ∙ s.away id v d here was held)
+      (λ e j is_ free. absurd (let z : true ≡ false =
+      sym held' ∙ ap (λ y. y.held) (same_Some _ _ (sym is ∙ is_)) ∙ free in cc))
+      (λ e is_ out. ap (get_elem? hs) (ap (λ y. y.note) (same_Some _ _ (sym is_ ∙ is)) ∙ same_)
+      ∙ s.away id v d here was held)
       (λ i y e n at_ is_. refl) s
 
   -- the job of the note that the view does goes out, or comes home
-  pub slots_moved : (st : List ℕ) (hs : Homes) (d d' : Doing) (h : maybe.Option (Berth J)) → Doers k st vs → v.doing ≡ Some d → w.doing ≡ Some d'
+  pub slots_moved : (st : List ℕ) (hs : Homes) (d d' : Doing) (h : maybe.Option (Berth J)) → Doers k st vs
+      → v.doing ≡ Some d → w.doing ≡ Some d'
       → d'.note ≡ d.note → d.note < length hs
-      → ((j : J) → d'.held ≡ false → slice_get k.jobs d.note ≡ Some j → h ≡ some (Full (job_if M k (nat_le 1 d'.phase) d.note j)))
+      → ((j : J) → d'.held ≡ false → slice_get k.jobs d.note ≡ Some j
+      → h ≡ some (Full (job_if M k (nat_le 1 d'.phase) d.note j)))
       → (d'.held ≡ true → h ≡ none)
       → Slots M k st hs vs → Slots M k st (set hs d.note h) (set vs id w)
   slots_moved st hs d d' h D doing doing' same_ low mine out s = slots_step st st hs (set hs d.note h)
-      (λ u j at_ n. set_else hs d.note u h (λ z. n (ap (at st) z ∙ busy k st vs D id v d here doing)) ∙ s.home u j at_ n)
+      (λ u j at_ n. set_else hs d.note u h (λ z. n (ap (at st) z ∙ busy k st vs D id v d here doing))
+      ∙ s.home u j at_ n)
       (λ e j is_ free at_.
       let same_e : d' ≡ e = same_Some _ _ (sym doing' ∙ is_) in
       let note_e : e.note ≡ d.note = ap (λ z. z.note) (sym same_e) ∙ same_ in
@@ -94,6 +108,7 @@ module _ {J : Type 0} (M : Meaning J) (k : Plan J) (vs : List (View J)) (id : �
       ∙ ap (λ t. some (some (Full (job_if M k (nat_le 1 e.phase) t j)))) (sym note_e))
       (λ e is_ held.
       let same_e : d' ≡ e = same_Some _ _ (sym doing' ∙ is_) in
-      ap (get_elem? (set hs d.note h)) (ap (λ z. z.note) (sym same_e) ∙ same_) ∙ set_here hs d.note h low ∙ ap some (out (ap (λ z. z.held) same_e ∙ held)))
+      ap (get_elem? (set hs d.note h)) (ap (λ z. z.note) (sym same_e) ∙ same_) ∙ set_here hs d.note h low
+      ∙ ap some (out (ap (λ z. z.held) same_e ∙ held)))
       (λ i x e n at_ is_. set_else hs d.note e.note h (apart k st vs D i id x v e d n at_ here is_ doing))
       s

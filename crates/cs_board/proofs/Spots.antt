@@ -1,5 +1,6 @@
 -- Where a view is among the edges of a note.
-use Rattle.std.proofs.Common.{◌≡◌, ◌≢◌, ℕ, zero, suc, ◌<◌, ◌≤◌, ⊎_elim, List, [], ◌∷◌, Bool, true, false, cond, Option, Some, None, refl, ap, ◌∙◌, arith, ◌==◌, ◌&&◌, nat_le, slice_get, eq-eqb, ne_eqb, le-leb}
+use Rattle.std.proofs.Common.{◌≡◌, ◌≢◌, ℕ, zero, suc, ◌<◌, ◌≤◌, ⊎_elim, List, [], ◌∷◌, Bool, true, false, cond, Option}
+use Rattle.std.proofs.Common.{Some, None, refl, ap, ◌∙◌, arith, ◌==◌, ◌&&◌, nat_le, slice_get, eq-eqb, ne_eqb, le-leb}
 use Rattle.std.proofs.lemmas.Option.{same_Some}
 use Rattle.std.proofs.lemmas.Bool.{cases_eq, lt-leb, or_left, or_right}
 use Rattle.cs_board.specs.Counts.{one, same}
@@ -11,8 +12,10 @@ use Rattle.cs_board.proofs.Lists.{same_yes, same_no}
 
 pub leads_out_here : (es : List (ℕ × ℕ)) (e p t i : ℕ) → slice_get es e ≡ Some (p, t) → i ≤ e → leads_out es p i ≡ true
 leads_out_here [] e p t i h l = absurd (cc)
-leads_out_here (x ∷ es) zero p t zero h l = let f : x.0 ≡ p = ap (λ z. z.0) (same_Some _ _ h) in or_left (x.0 == p) (leads_out es p zero) (eq-eqb x.0 p f)
-leads_out_here (x ∷ es) (suc e) p t zero h l = or_right (x.0 == p) (leads_out es p zero) (leads_out_here es e p t zero h (omega arith))
+leads_out_here (x ∷ es) zero p t zero h l = let f : x.0 ≡ p =
+    ap (λ z. z.0) (same_Some _ _ h) in or_left (x.0 == p) (leads_out es p zero) (eq-eqb x.0 p f)
+leads_out_here (x ∷ es) (suc e) p t zero h l =
+    or_right (x.0 == p) (leads_out es p zero) (leads_out_here es e p t zero h (omega arith))
 leads_out_here (x ∷ es) zero p t (suc i) h l = absurd (omega arith)
 leads_out_here (x ∷ es) (suc e) p t (suc i) h l = leads_out_here es e p t i h (omega arith)
 
@@ -64,8 +67,11 @@ at_less p j None = omega arith
 at_less p j (Some s) = one_less (s.note == p) (s.from == j)
 
 -- what a view closes from edge i on
-pub closing_by : (es : List (ℕ × ℕ)) (e p t i : ℕ) → slice_get es e ≡ Some (p, t) → i ≤ e → spot_by p e (closing_from es p i) ≡ 1
-closing_by es e p t i h l = ap (λ b. spot_by p e (cond b (Some (record { note = p; from = i })) None)) (leads_out_here es e p t i h l) ∙ by_here p i e l
+pub closing_by : (es : List (ℕ × ℕ)) (e p t i : ℕ) → slice_get es e ≡ Some (p, t) → i ≤ e
+    → spot_by p e (closing_from es p i) ≡ 1
+closing_by es e p t i h l =
+    ap (λ b. spot_by p e (cond b (Some (record { note = p; from = i })) None)) (leads_out_here es e p t i h l)
+    ∙ by_here p i e l
 
 pub closing_on : (es : List (ℕ × ℕ)) (p i q : ℕ) → spot_on q (closing_from es p i) ≤ same p q
 closing_on es p i q = go (leads_out es p i)

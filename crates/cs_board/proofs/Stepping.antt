@@ -1,15 +1,16 @@
 -- A place after a step, and the board's numbers.
-use Rattle.std.proofs.Common.{◌≡◌, ◌≢◌, ℕ, zero, suc, ◌<◌, ⊎_elim, List, [], ◌∷◌, length, Bool, true, false, Some, refl, sym, ap, ◌∙◌, subst, arith, slice_get, eqb, eq-eqb, ne_eqb}
+use Rattle.std.proofs.Common.{◌≡◌, ◌≢◌, ℕ, zero, suc, ◌<◌, ⊎_elim, List, [], ◌∷◌, length, Bool, true, false, Some, refl}
+use Rattle.std.proofs.Common.{sym, ap, ◌∙◌, subst, arith, slice_get, eqb, eq-eqb, ne_eqb}
 use Rattle.std.proofs.lemmas.Bool.{cases_eq}
 use mathlib.Core.Option.{none}
 use Rattle.atomic_table.specs.Table.{step}
 use Rattle.atomic_table.specs.declared.shared.Seat.{Seat}
 use Rattle.cs_board.specs.Board.{plan, IsViewOf}
-use Rattle.cs_board.specs.inner.Sittings.{IsSittingOf, tried, stopped}
+use Rattle.cs_board.specs.inner.Sittings.{IsSittingOf, seen, tried, stopped}
 use Rattle.cs_board.specs.declared.board.Board.{Board}
 use Rattle.cs_cells.specs.Meaning.{Meaning}
 use Rattle.cs_graph.specs.Graph.{Edge}
-use Rattle.cs_board.specs.Plays.{Sat, claimed, watched, closed}
+use Rattle.cs_board.specs.Plays.{Sat, claimed, looked_status, watched, closed}
 use Rattle.cs_board.specs.Views.{does, ended, shut, opened}
 use Rattle.cs_board.specs.Words.{watch_at, status_at}
 use Rattle.cs_board.specs.declared.view.Berth.{Berth}
@@ -24,9 +25,28 @@ job_there (j ∷ js) zero l = (j, refl)
 job_there (j ∷ js) (suc t) l = job_there js t (omega arith)
 
 module _ {J : Type 0} where
-  pub view_tried : (M : Meaning J) (k : Plan J) (v : View J) (b : Bool) (t : ℕ) → IsViewOf k v → IsViewOf k (tried M b v t)
-  view_tried M k v true t h = record { plan = h.plan; live = h.live; owes_in = λ u z. h.owes_in u (omega (arith, z, times-without_le u t v.owes)); playing = h.playing }
-  view_tried M k v false t h = record { plan = h.plan; live = h.live; owes_in = λ u z. h.owes_in u (omega (arith, z, times-without_le u t v.owes)); playing = h.playing }
+  pub view_tried : (M : Meaning J) (k : Plan J) (v : View J) (b : Bool) (t : ℕ) → IsViewOf k v
+      → IsViewOf k (tried M b v t)
+  view_tried M k v true t h =
+      record {
+        plan = h.plan;
+        live = h.live;
+        owes_in =
+            λ u z. h.owes_in u (omega (arith, z, times-without_le u t v.owes));
+        playing = h.playing;
+      }
+  view_tried M k v false t h =
+      record {
+        plan = h.plan;
+        live = h.live;
+        owes_in =
+            λ u z. h.owes_in u (omega (arith, z, times-without_le u t v.owes));
+        playing = h.playing;
+      }
+
+  pub view_seen : (M : Meaning J) (k : Plan J) (v : View J) (b : Bool) (t : ℕ) → IsViewOf k v → IsViewOf k (seen b v t)
+  view_seen M k v true t h = h
+  view_seen M k v false t h = view_tried M k v false t h
 
   pub view_does : (k : Plan J) (v : View J) (d : Doing) → IsViewOf k v → IsViewOf k (does v d)
   view_does k v d h = record { plan = h.plan; live = h.live; owes_in = h.owes_in; playing = h.playing }
@@ -53,13 +73,21 @@ module _ {J : Type 0} where
   }
 
   -- a seat of the board after a step
-  pub place_after : (M : Meaning J) (b : Board J) (s s' : Seat (Berth J) (View J)) (w : View J) (c : List (ℕ × Berth J)) → IsSittingOf M b s
+  pub place_after : (M : Meaning J) (b : Board J) (s s' : Seat (Berth J) (View J)) (w : View J) (c : List (ℕ × Berth J))
+      → IsSittingOf M b s
       → s'.table_id ≡ s.table_id → s'.me ≡ (w, c)
       → IsViewOf (plan b) w → IsSittingOf M b s'
-  place_after M b s s' w c h table me knows = record { whole = h.whole; table = table ∙ h.table; knows = subst (IsViewOf (plan b)) (sym (ap (λ z. z.0) me)) knows }
+  place_after M b s s' w c h table me knows =
+      record {
+        whole = h.whole;
+        table = table ∙ h.table;
+        knows =
+            subst (IsViewOf (plan b)) (sym (ap (λ z. z.0) me)) knows;
+      }
 
 module _ {J : Type 0} (M : Meaning J) where
-  pub told_tried : (k : Plan J) (slots t r : ℕ) (m n : Sat J) → m.0.plan ≡ k → claimed M (step slots (status_at k t) 1 2 none) m r n
+  pub told_tried : (k : Plan J) (slots t r : ℕ) (m n : Sat J) → m.0.plan ≡ k
+      → claimed M (step slots (status_at k t) 1 2 none) m r n
       → n ≡ (tried M (eqb r 1) m.0 t, m.1)
   told_tried k slots t r m n plan_is told =
       let word : status_at k t ≡ status_at m.0.plan t = ap (λ z. status_at z t) (sym plan_is) in
@@ -69,6 +97,17 @@ module _ {J : Type 0} (M : Meaning J) where
       (cases_eq r 1)
 
 module _ {J : Type 0} where
+  -- what a look at a status tells
+  pub told_seen : (k : Plan J) (slots t r : ℕ) (m n : Sat J) → m.0.plan ≡ k
+      → looked_status (step slots (status_at k t) 0 0 none) m r n
+      → n ≡ (seen (eqb r 1) m.0 t, m.1)
+  told_seen k slots t r m n plan_is told =
+      let word : status_at k t ≡ status_at m.0.plan t = ap (λ z. status_at z t) (sym plan_is) in
+      ⊎_elim
+      (λ e. (told t word).0 e ∙ ap (λ b. (seen b m.0 t, m.1)) (sym (eq-eqb r 1 e)))
+      (λ e. (told t word).1 e ∙ ap (λ b. (seen b m.0 t, m.1)) (sym (ne_eqb r 1 e)))
+      (cases_eq r 1)
+
   pub told_stopped : (k : Plan J) (slots e q t r : ℕ) (m n : Sat J) → m.0.plan ≡ k → Edge k.edges e q t
       → watched (step slots (watch_at k e) 0 1 none) m r n → n ≡ (stopped (eqb r 0) m.0 t e, m.1)
   told_stopped k slots e q t r m n plan_is edge told =
@@ -79,7 +118,8 @@ module _ {J : Type 0} where
       (λ z. (told e q t word edge').1 z ∙ ap (λ b. (stopped b m.0 t e, m.1)) (sym (ne_eqb r 0 z)))
       (cases_eq r 0)
 
-  pub told_shut : (k : Plan J) (slots e q t r : ℕ) (m n : Sat J) → m.0.plan ≡ k → Edge k.edges e q t → closed (step slots (watch_at k e) 2 0 none) m r n
+  pub told_shut : (k : Plan J) (slots e q t r : ℕ) (m n : Sat J) → m.0.plan ≡ k → Edge k.edges e q t
+      → closed (step slots (watch_at k e) 2 0 none) m r n
       → n ≡ (shut m.0 e q t r, m.1)
   told_shut k slots e q t r m n plan_is edge told =
       told e q t (ap (λ z. watch_at z e) (sym plan_is)) (subst (λ z. Edge z.edges e q t) (sym plan_is) edge)

@@ -1,5 +1,6 @@
 -- The cells: each has the value of the serial run at some note, and an image has the cells that its note uses.
-use Rattle.std.proofs.Common.{◌≡◌, ◌≢◌, ℕ, ◌+◌, ◌-◌, ◌<◌, ◌≤◌, ⊎_elim, pos, List, length, set, slice_set, true, false, Some, None, sym, ap, ◌∙◌, subst, arith, ◌==◌, slice_get}
+use Rattle.std.proofs.Common.{◌≡◌, ◌≢◌, ℕ, ◌+◌, ◌-◌, ◌<◌, ◌≤◌, ⊎_elim, pos, List, length, set, slice_set, true, false}
+use Rattle.std.proofs.Common.{Some, None, sym, ap, ◌∙◌, subst, arith, ◌==◌, slice_get}
 use Rattle.std.proofs.lemmas.Option.{same_Some}
 use Rattle.std.proofs.lemmas.Bool.{both_ways, cases_Bool, cases_eq, cases_lt}
 use Rattle.std.proofs.lemmas.List.{get_or-set_same, get_or-set_other, length-set}
@@ -20,17 +21,22 @@ use Rattle.cs_board.proofs.Does.{busy, apart}
 use Rattle.cs_board.proofs.Lists.{put_cases, at_set}
 
 module _ {J : Type 0} (M : Meaning J) (F : Frames M) (k : Plan J) (plan : IsPlan M k) where
-  writes_job : (t a : ℕ) (j : J) → slice_get k.jobs t ≡ Some j → covers (M.areas j) (M.foot j).writes a ≡ true → writes_at M k t a ≡ true
-  writes_job t a j e h = subst (λ o. covers k.areas (writes_of M o) a ≡ true) (sym e) (subst (λ z. covers z (M.foot j).writes a ≡ true) (plan.layout t j e) h)
+  writes_job : (t a : ℕ) (j : J) → slice_get k.jobs t ≡ Some j → covers (M.areas j) (M.foot j).writes a ≡ true
+      → writes_at M k t a ≡ true
+  writes_job t a j e h = subst (λ o. covers k.areas (writes_of M o) a ≡ true) (sym e)
+      (subst (λ z. covers z (M.foot j).writes a ≡ true) (plan.layout t j e) h)
 
   -- notes that don't write a cell leave it
-  pub quiet : (p t a : ℕ) → p ≤ t → ((q : ℕ) → p ≤ q → q < t → writes_at M k q a ≡ false) → cell (before_at M k t) a ≡ cell (before_at M k p) a
+  pub quiet : (p t a : ℕ) → p ≤ t → ((q : ℕ) → p ≤ q → q < t → writes_at M k q a ≡ false)
+      → cell (before_at M k t) a ≡ cell (before_at M k p) a
   quiet p t a low h = passed_by_all M F k.jobs k.cells plan.valid p a (t - p) t (omega arith)
       (λ q j l m e w. both_ways _ (h q l m) (writes_job q a j e w))
 
-  module _ (st wt cw : List ℕ) (vs : List (View J)) (id : ℕ) (v w : View J) (here : get_elem? vs id ≡ some v) (g : Gates k st wt) where
+  module _ (st wt cw : List ℕ) (vs : List (View J)) (id : ℕ) (v w : View J) (here : get_elem? vs id ≡ some v)
+      (g : Gates k st wt) where
     -- a step after which the same notes are Done, and no other is InProgress that wasn't
-    kept_still : (st' : List ℕ) (a : ℕ) → ((u : ℕ) → (at st' u == 3) ≡ (at st u == 3)) → ((u : ℕ) → at st u ≡ 2 → at st' u ≡ 2) → Kept M k st cw a
+    kept_still : (st' : List ℕ) (a : ℕ) → ((u : ℕ) → (at st' u == 3) ≡ (at st u == 3))
+        → ((u : ℕ) → at st u ≡ 2 → at st' u ≡ 2) → Kept M k st cw a
         → Kept M k st' cw a
     kept_still st' a alike runs h = record {
       upto = h.upto;
@@ -43,11 +49,13 @@ module _ {J : Type 0} (M : Meaning J) (F : Frames M) (k : Plan J) (plan : IsPlan
         from_true : (n : ℕ) → (n == 3) ≡ true → n ≡ 3
         from_true n e = grind (arith, Rattle.std.proofs.lemmas.Bool.eqb-true)
 
-    pub stored_step : (st' : List ℕ) → ((u : ℕ) → (at st' u == 3) ≡ (at st u == 3)) → ((u : ℕ) → at st u ≡ 2 → at st' u ≡ 2)
+    pub stored_step : (st' : List ℕ) → ((u : ℕ) → (at st' u == 3) ≡ (at st u == 3))
+        → ((u : ℕ) → at st u ≡ 2 → at st' u ≡ 2)
         → ((d : Doing) → w.doing ≡ Some d → Pictured M k cw d) → Stored M k st cw vs → Stored M k st' cw (set vs id w)
     stored_step st' alike runs mine s = record {
       values = λ a low. kept_still st' a alike runs (s.values a low);
-      images = λ i x d e is. ⊎_elim (λ z. mine d (ap (λ y. y.doing) z.1 ∙ is)) (λ z. s.images i x d z.1 is) (at_set vs id i w x e);
+      images = λ i x d e is. ⊎_elim (λ z. mine d (ap (λ y. y.doing) z.1 ∙ is)) (λ z. s.images i x d z.1 is)
+          (at_set vs id i w x e);
     }
 
     -- a note begins: the cells that it uses are those before it in the serial run
@@ -64,9 +72,11 @@ module _ {J : Type 0} (M : Meaning J) (F : Frames M) (k : Plan J) (plan : IsPlan
         open_ : at st t ≢ 3
         open_ z = omega arith
 
-        none_running : (a : ℕ) → uses_at M k t a ≡ true → (u : ℕ) → u < k.notes → at st u ≡ 2 → writes_at M k u a ≡ false
+        none_running : (a : ℕ) → uses_at M k t a ≡ true → (u : ℕ) → u < k.notes → at st u ≡ 2
+            → writes_at M k u a ≡ false
         none_running a used u l e = ⊎_elim
-            (λ x. absurd (let z : u ≡ t = begun_at M k plan st wt g u t a x used (λ y. omega arith) (λ y. omega arith) begun open_ in
+            (λ x. absurd (let z : u ≡ t =
+            begun_at M k plan st wt g u t a x used (λ y. omega arith) (λ y. omega arith) begun open_ in
             let y : at st u ≡ at st t = ap (at st) z in omega arith))
             (λ x. x)
             (cases_Bool (writes_at M k u a))
@@ -74,22 +84,26 @@ module _ {J : Type 0} (M : Meaning J) (F : Frames M) (k : Plan J) (plan : IsPlan
         seen : (a : ℕ) → uses_at M k t a ≡ true → Kept M k st cw a → signed (at cw a) ≡ cell (before_at M k t) a
         seen a used h = h.value (none_running a used) ∙ ⊎_elim
             (λ (l : h.upto < t). sym (quiet h.upto t a (omega arith) (λ q x y. ⊎_elim
-            (λ z. absurd (h.later q x (omega arith) z (past M k plan st wt g q t (writer_user_at M k plan q t a y z used) begun)))
+            (λ z. absurd (h.later q x (omega arith) z
+            (past M k plan st wt g q t (writer_user_at M k plan q t a y z used) begun)))
             (λ z. z)
             (cases_Bool (writes_at M k q a)))))
             (λ (l : t ≤ h.upto). quiet t h.upto a l (λ q x y. ⊎_elim
             (λ z. absurd (let d : at st q ≡ 3 = h.done q y z in ⊎_elim
             (λ (e : t ≡ q). open_ (ap (at st) e ∙ d))
-            (λ (n : t ≢ q). open_ (past M k plan st wt g t q (user_writer_at M k plan t q a (omega arith) used z) (λ c. omega arith)))
+            (λ (n : t ≢ q). open_ (past M k plan st wt g t q (user_writer_at M k plan t q a (omega arith) used z)
+            (λ c. omega arith)))
             (cases_eq t q)))
             (λ z. z)
             (cases_Bool (writes_at M k q a))))
             (cases_lt h.upto t)
 
     -- a cell is set by the note that writes it
-    pub stored_set : (d : Doing) (a x : ℕ) → Doers k st vs → v.doing ≡ Some d → d.phase ≡ 0 → w.doing ≡ Some (set_image d a (signed x)) → a < length cw
+    pub stored_set : (d : Doing) (a x : ℕ) → Doers k st vs → v.doing ≡ Some d → d.phase ≡ 0
+        → w.doing ≡ Some (set_image d a (signed x)) → a < length cw
         → length cw ≡ length k.cells
-        → d.note < k.notes → writes_at M k d.note a ≡ true → Stored M k st cw vs → Stored M k st (set cw a x) (set vs id w)
+        → d.note < k.notes → writes_at M k d.note a ≡ true → Stored M k st cw vs
+        → Stored M k st (set cw a x) (set vs id w)
     stored_set d a x D doing zero_ doing' low long within writes s = record {
       values = λ b l. let h = s.values b l in record {
         upto = h.upto;
@@ -97,7 +111,8 @@ module _ {J : Type 0} (M : Meaning J) (F : Frames M) (k : Plan J) (plan : IsPlan
         done = h.done;
         later = h.later;
         value = λ q. ⊎_elim
-            (λ (e : b ≡ a). absurd (both_ways _ (subst (λ c. writes_at M k d.note c ≡ false) e (q d.note within running)) writes))
+            (λ (e : b ≡ a). absurd (both_ways _
+            (subst (λ c. writes_at M k d.note c ≡ false) e (q d.note within running)) writes))
             (λ (n : b ≢ a). ap signed (get_or-set_other cw a b x 0 n) ∙ h.value q)
             (cases_eq b a);
       };
@@ -115,28 +130,34 @@ module _ {J : Type 0} (M : Meaning J) (F : Frames M) (k : Plan J) (plan : IsPlan
           long = length-set d.image a (signed x) ∙ p.long;
           seen = λ b l u. ⊎_elim
               (λ (e : b ≡ a). ap (λ c. signed (at (set cw a x) c)) e ∙ ap signed (get_or-set_same cw a x 0 low)
-              ∙ sym (ap (λ c. cell (slice_set d.image a (signed x)) c) e ∙ get_or-set_same d.image a (signed x) (pos 0) (omega (arith, p.long))))
-              (λ (n : b ≢ a). ap signed (get_or-set_other cw a b x 0 n) ∙ p.seen b l u ∙ sym (get_or-set_other d.image a b (signed x) (pos 0) n))
+              ∙ sym (ap (λ c. cell (slice_set d.image a (signed x)) c) e
+              ∙ get_or-set_same d.image a (signed x) (pos 0) (omega (arith, p.long))))
+              (λ (n : b ≢ a). ap signed (get_or-set_other cw a b x 0 n) ∙ p.seen b l u
+              ∙ sym (get_or-set_other d.image a b (signed x) (pos 0) n))
               (cases_eq b a);
           after = λ z. absurd (omega arith);
         }
 
-        others : (i : ℕ) (y : View J) (e : Doing) → i ≢ id → get_elem? vs i ≡ some y → y.doing ≡ Some e → Pictured M k cw e → Pictured M k (set cw a x) e
+        others : (i : ℕ) (y : View J) (e : Doing) → i ≢ id → get_elem? vs i ≡ some y → y.doing ≡ Some e
+            → Pictured M k cw e → Pictured M k (set cw a x) e
         others i y e n at_ is p = record {
           long = p.long;
           seen = λ b l u. ⊎_elim
               (λ (z : b ≡ a). absurd (apart k st vs D i id y v e d n at_ here is doing
-              (sym (alone_at M k plan st wt g d.note e.note a writes (subst (λ c. uses_at M k e.note c ≡ true) z u) running (busy k st vs D i y e at_ is)))))
+              (sym (alone_at M k plan st wt g d.note e.note a writes (subst (λ c. uses_at M k e.note c ≡ true) z u)
+              running (busy k st vs D i y e at_ is)))))
               (λ (z : b ≢ a). ap signed (get_or-set_other cw a b x 0 z) ∙ p.seen b l u)
               (cases_eq b a);
           after = p.after;
         }
 
     -- a note that has run is Done: the cells that it writes are those after it in the serial run
-    pub stored_done : (d : Doing) → Doers k st vs → v.doing ≡ Some d → 1 ≤ d.phase → w.doing ≡ None → d.note < length st → d.note < k.notes
+    pub stored_done : (d : Doing) → Doers k st vs → v.doing ≡ Some d → 1 ≤ d.phase → w.doing ≡ None → d.note < length st
+        → d.note < k.notes
         → Stored M k st cw vs → Stored M k (set st d.note 3) cw (set vs id w)
     stored_done d D doing ran over low within s = record {
-      values = λ a l. ⊎_elim (λ x. written a l x (s.values a l)) (λ x. left a x (s.values a l)) (cases_Bool (writes_at M k d.note a));
+      values = λ a l. ⊎_elim (λ x. written a l x (s.values a l)) (λ x. left a x (s.values a l))
+          (cases_Bool (writes_at M k d.note a));
       images = λ i y e at_ is. ⊎_elim
           (λ z. absurd (let n : Some e ≡ None = sym is ∙ ap (λ u. u.doing) (sym z.1) ∙ over in cc))
           (λ z. s.images i y e z.1 is)
@@ -149,20 +170,26 @@ module _ {J : Type 0} (M : Meaning J) (F : Frames M) (k : Plan J) (plan : IsPlan
         now_done : (u : ℕ) → at st u ≡ 3 → at (set st d.note 3) u ≡ 3
         now_done u e = ⊎_elim (λ h. h.1) (λ h. h.1 ∙ e) (put_cases st d.note 3 u low)
 
-        written : (a : ℕ) → a < length k.cells → writes_at M k d.note a ≡ true → Kept M k st cw a → Kept M k (set st d.note 3) cw a
-        written a l x h = let used = written_used_at M k plan d.note a x in let p = s.images id v d here doing in record {
-          upto = d.note + 1;
-          within = omega arith;
-          done = λ u m y. ⊎_elim
-              (λ (e : u ≡ d.note). ⊎_elim (λ z. z.1) (λ z. absurd (z.0 e)) (put_cases st d.note 3 u low))
-              (λ (n : u ≢ d.note). now_done u (past M k plan st wt g u d.note (writer_user_at M k plan u d.note a (omega arith) y used) (λ z. omega (arith, running))))
-              (cases_eq u d.note);
-          later = λ u m n y e. ⊎_elim
-              (λ z. omega (arith, z.0))
-              (λ z. let c : at st d.note ≡ 3 = past M k plan st wt g d.note u (user_writer_at M k plan d.note u a (omega arith) used y) (λ q. omega (arith, z.1, e)) in omega (arith, running))
-              (put_cases st d.note 3 u low);
-          value = λ q. p.seen a l used ∙ ap (λ c. cell c a) (p.after ran);
-        }
+        written : (a : ℕ) → a < length k.cells → writes_at M k d.note a ≡ true → Kept M k st cw a
+            → Kept M k (set st d.note 3) cw a
+        written a l x h = let used = written_used_at M k plan d.note a x in let p =
+            s.images id v d here doing in record {
+              upto = d.note + 1;
+              within = omega arith;
+              done = λ u m y. ⊎_elim
+                  (λ (e : u ≡ d.note). ⊎_elim (λ z. z.1) (λ z. absurd (z.0 e)) (put_cases st d.note 3 u low))
+                  (λ (n : u ≢ d.note). now_done u
+                  (past M k plan st wt g u d.note (writer_user_at M k plan u d.note a (omega arith) y used)
+                  (λ z. omega (arith, running))))
+                  (cases_eq u d.note);
+              later = λ u m n y e. ⊎_elim
+                  (λ z. omega (arith, z.0))
+                  (λ z. let c : at st d.note ≡ 3 =
+                  past M k plan st wt g d.note u (user_writer_at M k plan d.note u a (omega arith) used y)
+                  (λ q. omega (arith, z.1, e)) in omega (arith, running))
+                  (put_cases st d.note 3 u low);
+              value = λ q. p.seen a l used ∙ ap (λ c. cell c a) (p.after ran);
+            }
 
         left : (a : ℕ) → writes_at M k d.note a ≡ false → Kept M k st cw a → Kept M k (set st d.note 3) cw a
         left a x h = record {

@@ -1,5 +1,7 @@
 -- What tries leave: notes found, none owed that wasn't.
-use Rattle.std.proofs.Common.{◌≡◌, ◌≢◌, ℕ, zero, suc, ◌+◌, ◌<◌, ◌≤◌, ◌⊎◌, ⊎_elim, List, [], ◌∷◌, ◌++◌, length, Bool, true, false, Option, Some, None, refl, sym, ap, ◌∙◌, subst, arith, slice_get, IfNone, is_some}
+use Rattle.std.proofs.Common.{◌≡◌, ◌≢◌, ℕ, zero, suc, ◌+◌, ◌<◌, ◌≤◌, ◌⊎◌, ⊎_elim, List, [], ◌∷◌, ◌++◌, length, Bool}
+use Rattle.std.proofs.Common.{true, false, Option, Some, None, refl, sym, ap, ◌∙◌, subst, arith, slice_get, IfNone}
+use Rattle.std.proofs.Common.{is_some}
 use Rattle.std.proofs.lemmas.Bool.{cases_eq}
 use Rattle.cs_board.specs.Board.{IsIdle, IsViewOf, FoundSince}
 use Rattle.cs_board.specs.inner.Sittings.{HasClaimed, HasTried, Tries, AllTried, tried}
@@ -22,7 +24,14 @@ get_last (z ∷ xs) x = get_last xs x
 
 module _ {J : Type 0} where
   pub tries_none : (v : View J) → Tries v v
-  tries_none v = record { more = omega arith; found = λ n t h. h; owes = λ t. omega arith; mine = refl; seat = record { first = refl; number = refl; out = refl; made = refl } }
+  tries_none v = record {
+    more = omega arith;
+    found = λ n t h. h;
+    owes = λ t. omega arith;
+    mine = refl;
+    seat =
+        record { first = refl; number = refl; out = refl; made = refl };
+  }
 
   pub tries_join : (u v w : View J) → Tries u v → Tries v w → Tries u w
   tries_join u v w a b = record {
@@ -30,7 +39,13 @@ module _ {J : Type 0} where
     found = λ n t h. b.found n t (a.found n t h);
     owes = λ t. omega (arith, a.owes t, b.owes t);
     mine = b.mine ∙ a.mine;
-    seat = record { first = b.seat.first ∙ a.seat.first; number = b.seat.number ∙ a.seat.number; out = b.seat.out ∙ a.seat.out; made = b.seat.made ∙ a.seat.made };
+    seat = record {
+      first = b.seat.first ∙ a.seat.first;
+      number = b.seat.number ∙ a.seat.number;
+      out =
+          b.seat.out ∙ a.seat.out;
+      made = b.seat.made ∙ a.seat.made;
+    };
   }
 
   -- tries of one range of notes and then of another
@@ -42,12 +57,23 @@ module _ {J : Type 0} where
       h
 
   -- what a try has found is found after further tries
-  pub carry : (u v w x : View J) (t : ℕ) → u.tries ≤ v.tries → Tries w x → FoundSince v.tries w t × (owed t w ≡ 0) → FoundSince u.tries x t × (owed t x ≡ 0)
-  carry u v w x t low h r = (h.found u.tries t (r.0.0, r.0.1, r.0.2, omega (arith, r.0.3)), omega (arith, r.1, h.owes t))
+  pub carry : (u v w x : View J) (t : ℕ) → u.tries ≤ v.tries → Tries w x → FoundSince v.tries w t × (owed t w ≡ 0)
+      → FoundSince u.tries x t × (owed t x ≡ 0)
+  carry u v w x t low h r =
+      (h.found u.tries t (r.0.0, r.0.1, r.0.2, omega (arith, r.0.3)), omega (arith, r.1, h.owes t))
 
 module _ {J : Type 0} (M : Meaning J) where
   pub tries_more : (u v : View J) (b : Bool) (t : ℕ) → Tries u v → Tries u (tried M b v t)
-  tries_more u v true t h = tries_join u v (began M v t) h (record { more = omega arith; found = λ n x q. q; owes = λ x. times-without_le x t v.owes; mine = refl; seat = record { first = refl; number = refl; out = refl; made = refl } })
+  tries_more u v true t h =
+      tries_join u v (began M v t) h
+      (record {
+        more = omega arith;
+        found = λ n x q. q;
+        owes = λ x. times-without_le x t v.owes;
+        mine = refl;
+        seat =
+            record { first = refl; number = refl; out = refl; made = refl };
+      })
   tries_more u v false t h = tries_join u v (missed v t) h (record {
     more = omega arith;
     found = λ n x q. (q.0, q.1, get_longer v.found ((t, v.tries + 1) ∷ []) q.0 (x, q.1) q.2, q.3);
@@ -59,11 +85,21 @@ module _ {J : Type 0} (M : Meaning J) where
   pub all_more : (u v : View J) (from t : ℕ) → Tries u v → AllTried u v from t → AllTried u (missed v t) from (t + 1)
   all_more u v from t h a x low high = ⊎_elim
       (λ (e : x ≡ t). (
-        (length v.found, v.tries + 1, subst (λ z. slice_get (v.found ++ (t, v.tries + 1) ∷ []) (length v.found) ≡ Some (z, v.tries + 1)) (sym e) (get_last v.found (t, v.tries + 1)), omega (arith, h.more)),
+        (
+          length v.found,
+          v.tries + 1,
+          subst
+              (λ z. slice_get (v.found ++ (t, v.tries + 1) ∷ []) (length v.found) ≡ Some (z, v.tries + 1)) (sym e)
+              (get_last v.found (t, v.tries + 1)),
+          omega (arith, h.more),
+        ),
         ap (λ z. times z (without t v.owes)) e ∙ times-without_same t v.owes,
       ))
-      (λ (n : x ≢ t). let r = a x low (omega arith) in
-      ((r.0.0, r.0.1, get_longer v.found ((t, v.tries + 1) ∷ []) r.0.0 (x, r.0.1) r.0.2, r.0.3), omega (arith, r.1, times-without_le x t v.owes)))
+      (λ (n : x ≢ t). let r = a x low (omega arith) in (
+        (r.0.0, r.0.1, get_longer v.found ((t, v.tries + 1) ∷ []) r.0.0 (x, r.0.1) r.0.2, r.0.3),
+        omega
+            (arith, r.1, times-without_le x t v.owes),
+      ))
       (cases_eq x t)
 
   pub steps_more : (v : View J) (b : Bool) (t : ℕ) → (tried M b v t).tries ≡ v.tries + 1
@@ -73,8 +109,10 @@ module _ {J : Type 0} (M : Meaning J) where
   pub idle_missed : (v : View J) (t : ℕ) → IsIdle v → IsIdle (missed v t)
   idle_missed v t h = record { doing = h.doing; closing = h.closing; moving = h.moving }
 
-  pub has_began : (k : Plan J) (v : View J) (t : ℕ) → t < k.notes → v.plan ≡ k → IsIdle v → HasClaimed M k (began M v t) t
-  has_began k v t low plan h = record { within = low; doing = ap (λ z. Some (fresh M z t)) plan; closing = h.closing; moving = h.moving }
+  pub has_began : (k : Plan J) (v : View J) (t : ℕ) → t < k.notes → v.plan ≡ k → IsIdle v
+      → HasClaimed M k (began M v t) t
+  has_began k v t low plan h =
+      record { within = low; doing = ap (λ z. Some (fresh M z t)) plan; closing = h.closing; moving = h.moving }
 
 module _ {J : Type 0} (k : Plan J) where
   -- tries in vain, and then tries in vain again
@@ -85,12 +123,20 @@ module _ {J : Type 0} (k : Plan J) where
     more = omega (arith, a.more, b.more);
     tried = λ t l. let r = b.tried t l in (r.0, r.1, r.2, omega (arith, a.more, r.3));
     mine = b.mine ∙ a.mine;
-    same = record { first = b.same.first ∙ a.same.first; number = b.same.number ∙ a.same.number; out = b.same.out ∙ a.same.out; made = b.same.made ∙ a.same.made };
+    same = record {
+      first = b.same.first ∙ a.same.first;
+      number = b.same.number ∙ a.same.number;
+      out =
+          b.same.out ∙ a.same.out;
+      made = b.same.made ∙ a.same.made;
+    };
   }
 
 -- a view that owes nothing of any note owes nothing
-pub owes_none : {J : Type 0} (k : Plan J) (v : View J) → IsViewOf k v → ((t : ℕ) → t < k.notes → owed t v ≡ 0) → v.owes ≡ []
-owes_none k v h none = empty_from_times v.owes (λ x. ⊎_elim (λ z. z) (λ n. absurd (n (none x (h.owes_in x (omega arith))))) (cases_eq (times x v.owes) 0))
+pub owes_none : {J : Type 0} (k : Plan J) (v : View J) → IsViewOf k v → ((t : ℕ) → t < k.notes → owed t v ≡ 0)
+    → v.owes ≡ []
+owes_none k v h none = empty_from_times v.owes
+    (λ x. ⊎_elim (λ z. z) (λ n. absurd (n (none x (h.owes_in x (omega arith))))) (cases_eq (times x v.owes) 0))
 
 pub if_none_map : {X : Type 0} (o : Option X) (P Q : Type 0) → (P → Q) → IfNone o P → IfNone o Q
 if_none_map None P Q f h = f h

@@ -1,6 +1,7 @@
 -- The places of a note's footprint, one by one.
 use Rattle.cs_base.specs.Limits.{most_resources}
-use Rattle.std.proofs.Common.{◌≡◌, ℕ, zero, suc, ◌+◌, ◌-◌, ◌<◌, ◌≤◌, List, [], ◌∷◌, length, get_or, take, true, Option, Some, None, refl, sym, ap, ◌∙◌, subst, arith, slice_get}
+use Rattle.std.proofs.Common.{◌≡◌, ℕ, zero, suc, ◌+◌, ◌-◌, ◌<◌, ◌≤◌, List, [], ◌∷◌, length, get_or, take, true, Option}
+use Rattle.std.proofs.Common.{Some, None, refl, sym, ap, ◌∙◌, subst, arith, slice_get}
 use Rattle.std.proofs.lemmas.Option.{slice_get_within, get_or_from_slice_get}
 use Rattle.std.specs.List.{Contains}
 use Rattle.std.specs.List.Sorted.{IsStrictlyIncreasing}
@@ -38,14 +39,21 @@ module _ {J : Type 0} (M : Meaning J) (k : Plan J) (whole : IsPlan M k) (t : ℕ
       go (Some j) e = (whole.footprints t j e).uses
 
   pub few_used : length (places_used M k t) ≤ most_resources
-  few_used = omega (arith, whole.few, increasing_few (places_used M k t) (area_count k) used_rises (λ i l. used_place M k whole t (at (places_used M k t) i) (contains_there (places_used M k t) i l)))
+  few_used = omega (
+    arith,
+    whole.few,
+    increasing_few (places_used M k t) (area_count k) used_rises
+        (λ i l. used_place M k whole t (at (places_used M k t) i) (contains_there (places_used M k t) i l)),
+  )
 
-  pub used_there : (xs : List ℕ) (i : ℕ) → xs ≡ places_used M k t → i < length xs → (at xs i < area_count k) × (listed (places_used M k t) (at xs i) ≡ true)
+  pub used_there : (xs : List ℕ) (i : ℕ) → xs ≡ places_used M k t → i < length xs
+      → (at xs i < area_count k) × (listed (places_used M k t) (at xs i) ≡ true)
   used_there xs i same l =
       let c : Contains (places_used M k t) (at xs i) = subst (λ z. Contains z (at xs i)) same (contains_there xs i l) in
       (used_place M k whole t (at xs i) c, listed_of (places_used M k t) (at xs i) c)
 
-  pub written_there : (i r : ℕ) → slice_get (places_written M k t) i ≡ Some r → (r < area_count k) × (listed (places_used M k t) r ≡ true)
+  pub written_there : (i r : ℕ) → slice_get (places_written M k t) i ≡ Some r
+      → (r < area_count k) × (listed (places_used M k t) r ≡ true)
   written_there i r e =
       let c : Contains (places_used M k t) r = written_used M k whole t r (contains_at (places_written M k t) i r e) in
       (used_place M k whole t r c, listed_of (places_used M k t) r c)
@@ -54,20 +62,24 @@ module _ {J : Type 0} (M : Meaning J) (k : Plan J) (whole : IsPlan M k) (t : ℕ
   few_writers r = count_le (λ u. listed (places_written M k u) r) t
 
   -- before the own turn a turn word counts the earlier writers alone
-  pub look_before : (v : View J) (r x : ℕ) → v.doing ≡ Some (ran_out M k t 0) → x ≡ writers_before M k (deed v).note r + turned_in M k r v.doing
+  pub look_before : (v : View J) (r x : ℕ) → v.doing ≡ Some (ran_out M k t 0)
+      → x ≡ writers_before M k (deed v).note r + turned_in M k r v.doing
       → x ≡ writers_before M k t r
   look_before v r x e h =
-      let a : writers_before M k (deed v).note r + turned_in M k r v.doing ≡ writers_before M k t r + 0 = ap (λ o. writers_before M k (deed_in o).note r + turned_in M k r o) e in
+      let a : writers_before M k (deed v).note r + turned_in M k r v.doing ≡ writers_before M k t r + 0 =
+      ap (λ o. writers_before M k (deed_in o).note r + turned_in M k r o) e in
       omega arith
 
   -- and so it does before the note's turn there
-  pub look_next : (v : View J) (r x : ℕ) → v.doing ≡ Some (deed v) → (deed v).note ≡ t → slice_get (places_written M k t) ((deed v).phase - 1) ≡ Some r
+  pub look_next : (v : View J) (r x : ℕ) → v.doing ≡ Some (deed v) → (deed v).note ≡ t
+      → slice_get (places_written M k t) ((deed v).phase - 1) ≡ Some r
       → x ≡ writers_before M k (deed v).note r + turned_in M k r v.doing → x ≡ writers_before M k (deed v).note r
   look_next v r x e note next h =
       let i : ℕ = (deed v).phase - 1 in
       let W : List ℕ = places_written M k t in
       let l : i < length W = slice_get_within W i r next in
       let is : at W i ≡ r = get_or_from_slice_get W i r 0 next in
-      let none : turned_in M k r v.doing ≡ 0 = ap (turned_in M k r) e ∙ ap (λ n. one (listed (take i (places_written M k n)) r)) note
+      let none : turned_in M k r v.doing ≡ 0 =
+      ap (turned_in M k r) e ∙ ap (λ n. one (listed (take i (places_written M k n)) r)) note
       ∙ ap one (ap (listed (take i W)) (sym is) ∙ listed_fresh W (written_rises M k whole t) i l) in
       omega arith

@@ -1,5 +1,6 @@
 -- What the calls of a board promise of its seats.
-use Rattle.std.specs.Prelude.{◌≡◌, ℕ, ◌+◌, ◌<◌, ◌≤◌, List, [], ◌∷◌, length, true, false, Option, Some, None, MatchOption, slice_get}
+use Rattle.std.specs.Prelude.{◌≡◌, ℕ, ◌+◌, ◌<◌, ◌≤◌, List, [], ◌∷◌, length, true, false, Option, Some, None}
+use Rattle.std.specs.Prelude.{MatchOption, slice_get}
 use Rattle.std.specs.List.{sum_by}
 use Rattle.std.specs.Vec.{vec_capacity}
 use Rattle.atomic_table.specs.Seated.{TableId}
@@ -49,7 +50,8 @@ module _ {J : Type 0} where
 
   -- the first seat has room for the jobs at the end
   abbrev pub HasRoom : Plan J → View J → BoardSeat J → Type 0
-  HasRoom k v seat = MatchOption seat.room (v.first ≡ false) (λ jobs. (v.first ≡ true) × (jobs.items ≡ []) × (k.notes ≤ vec_capacity jobs))
+  HasRoom k v seat = MatchOption seat.room (v.first ≡ false)
+      (λ jobs. (v.first ≡ true) × (jobs.items ≡ []) × (k.notes ≤ vec_capacity jobs))
 
   -- it does this, or nothing, and has nothing to finish
   pub record DoesOnly (v : View J) (what : Option Doing) : Type 0 where
@@ -88,7 +90,8 @@ module _ {J : Type 0} (M : Meaning J) where
 
   -- a note that has run, every turn made
   abbrev pub run_through : Plan J → ℕ → Doing
-  run_through k t = record { note = t; phase = 1 + length (places_written M k t); held = false; image = before_at M k (t + 1) }
+  run_through k t = record
+      { note = t; phase = 1 + length (places_written M k t); held = false; image = before_at M k (t + 1) }
 
   -- it has claimed a note and not run it: the note's cells are those of the serial run
   abbrev pub IsClaimed : View J → Type 0

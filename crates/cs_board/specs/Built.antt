@@ -6,7 +6,8 @@ use Rattle.cs_board.specs.Words.{word_total}
 use Rattle.cs_board.specs.declared.view.Plan.{Plan}
 
 -- the board's numbers are those of its plan, and its table has room for it
-pub record IsBuilt {J : Type 0} (k : Plan J) (graph : Dependencies) (notes_made areas_made cells_made words_made slots_made : ℕ) : Type 0 where
+pub record IsBuilt {J : Type 0} (k : Plan J) (graph : Dependencies)
+    (notes_made areas_made cells_made words_made slots_made : ℕ) : Type 0 where
   pub notes : k.notes ≡ notes_made
   pub levels : length graph.levels ≡ notes_made
   pub edges : graph.edges ≡ k.edges

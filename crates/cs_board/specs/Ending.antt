@@ -1,4 +1,5 @@
--- The end of a cycle, once every seat but the first was joined. v is a view, k a plan, s the state of the board, t a note; M is what jobs mean.
+-- The end of a cycle, once every seat but the first was joined. v is a view, k a plan, s the state of the board, t a
+-- note; M is what jobs mean.
 use Rattle.std.specs.Prelude.{◌≡◌, ℕ, ◌<◌, List, [], map, length, take, drop, true, false, None, slice_index}
 use mathlib.Core.Option.{some}
 use lib.ListN.{get_elem?}
@@ -45,18 +46,21 @@ module _ {J : Type 0} (k : Plan J) where
   AllMine v = (t : ℕ) → t < k.notes → times t v.mine ≡ 1
 
   module _ (M : Meaning J) where
-    -- The cells are those of the serial run, and the slot of each note has its job as the serial run leaves it. The other slots are vacant.
+    -- The cells are those of the serial run, and the slot of each note has its job as the serial run leaves it. The
+    -- other slots are vacant.
     pub record IsSerial (s : State (Berth J) (View J)) : Type 0 where
       pub cells : values (cells_in s.words) ≡ serial_cells M k.jobs k.cells
       pub vacant : ℕ
       pub jobs : map home_in s.homes ≡ slot_row 0 (serial_jobs M k.jobs k.cells) vacant
 
-    -- What a board at rest has after a cycle: what the serial run leaves, and turn words of those resources alone that its notes write.
+    -- What a board at rest has after a cycle: what the serial run leaves, and turn words of those resources alone that
+    -- its notes write.
     pub record IsOver (w : Still J) : Type 0 where
       pub parts : Words
       pub words : w.words ≡ all_words parts
       pub sized : IsSized k parts
       pub cells : values parts.cells ≡ serial_cells M k.jobs k.cells
-      pub turns : (r : ℕ) → r < area_count k → ((t : ℕ) → listed (places_written M k t) r ≡ false) → at parts.turns r ≡ 0
+      pub turns : (r : ℕ) → r < area_count k → ((t : ℕ) → listed (places_written M k t) r ≡ false)
+          → at parts.turns r ≡ 0
       pub vacant : ℕ
       pub homes : w.homes ≡ slot_row 0 (serial_jobs M k.jobs k.cells) vacant

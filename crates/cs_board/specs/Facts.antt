@@ -1,7 +1,9 @@
--- The facts that hold between any two steps, in groups. `status` and so on are parts of the words, `views` the seats' views.
--- M is what jobs mean, k the plan; t and u are notes, p an earlier one, e an edge, i an edge or the number of a seat; v is a view,
--- d what it does, s a spot, x the number of a seat, j a job, a an address, r the place of a resource.
-use Rattle.std.specs.Prelude.{◌≡◌, ◌≢◌, ℕ, ◌+◌, ◌-◌, ◌<◌, ◌≤◌, ◌⊎◌, List, [], length, take, Bool, true, false, cond, Option, Some, None, ◌==◌, ◌&&◌, not, nat_le, slice_get}
+-- The facts that hold between any two steps, in groups. `status` and so on are parts of the words, `views` the seats'
+-- views. M is what jobs mean, k the plan; t and u are notes, p an earlier one, e an edge, i an edge or the number of a
+-- seat; v is a view, d what it does, s a spot, x the number of a seat, j a job, a an address, r the place of a
+-- resource.
+use Rattle.std.specs.Prelude.{◌≡◌, ◌≢◌, ℕ, ◌+◌, ◌-◌, ◌<◌, ◌≤◌, ◌⊎◌, List, [], length, take, Bool, true, false, cond}
+use Rattle.std.specs.Prelude.{Option, Some, None, ◌==◌, ◌&&◌, not, nat_le, slice_get}
 use mathlib.Core.Option as maybe
 use mathlib.Core.Option.{some, none}
 use lib.ListN.{get_elem?}
@@ -81,7 +83,8 @@ module _ {J : Type 0} where
   Found v t = (i : ℕ) × (n : ℕ) × (slice_get v.found i ≡ Some (t, n))
 
   module _ (k : Plan J) where
-    -- Each word has one of its values. Every edge into a note that isn't Waiting is Closed, and a Closed edge leads from a Done note.
+    -- Each word has one of its values. Every edge into a note that isn't Waiting is Closed, and a Closed edge leads
+    -- from a Done note.
     pub record Gates (status watch : List ℕ) : Type 0 where
       pub statuses : (t : ℕ) → at status t ≤ DONE
       pub watches : (e : ℕ) → at watch e ≤ CLOSED
@@ -102,27 +105,33 @@ module _ {J : Type 0} where
     abbrev pub Doers : List ℕ → List (View J) → Type 0
     Doers status views = (t : ℕ) → total (does_note t) views ≡ same (at status t) IN_PROGRESS
 
-    -- A Waiting note has a place among the edges into it: those before are Closed, and it watches the edge there or is being moved by one view.
+    -- A Waiting note has a place among the edges into it: those before are Closed, and it watches the edge there or is
+    -- being moved by one view.
     pub record Waits (watch : List ℕ) (views : List (View J)) (t : ℕ) : Type 0 where
       pub edge : ℕ
       pub before : (e p : ℕ) → Edge k.edges e p t → e < edge → at watch e ≡ CLOSED
       pub after : (e p : ℕ) → Edge k.edges e p t → edge < e → at watch e ≢ WATCHED
       pub who : ((p : ℕ) × Edge k.edges edge p t × (at watch edge ≡ WATCHED) × (total (moves t) views ≡ 0))
-          ⊎ (((p : ℕ) → Edge k.edges edge p t → at watch edge ≢ WATCHED) × (total (moves t) views ≡ 1) × (total (moves_at t edge) views ≡ 1))
+          ⊎ (((p : ℕ) → Edge k.edges edge p t → at watch edge ≢ WATCHED) × (total (moves t) views ≡ 1)
+          × (total (moves_at t edge) views ≡ 1))
       pub some_edge : (e : ℕ) × (p : ℕ) × Edge k.edges e p t
 
-    -- A view closes a Done note, which no other view closes; each edge from a Done note is Closed or still ahead of that view. Only a Waiting note is moved.
+    -- A view closes a Done note, which no other view closes; each edge from a Done note is Closed or still ahead of
+    -- that view. Only a Waiting note is moved.
     pub record Watches (status watch : List ℕ) (views : List (View J)) : Type 0 where
       pub closing : (p : ℕ) → total (closes p) views ≤ same (at status p) DONE
-      pub left : (e p t : ℕ) → Edge k.edges e p t → at status p ≡ DONE → (at watch e ≡ CLOSED) ⊎ (0 < total (closes_by p e) views)
+      pub left : (e p t : ℕ) → Edge k.edges e p t → at status p ≡ DONE
+          → (at watch e ≡ CLOSED) ⊎ (0 < total (closes_by p e) views)
       pub waits : (t : ℕ) → t < k.notes → at status t ≡ WAITING → Waits watch views t
       pub calm : (t : ℕ) → at status t ≢ WAITING → total (moves t) views ≡ 0
       pub moving_in : (t : ℕ) → k.notes ≤ t → total (moves t) views ≡ 0
 
-    -- An Available note is owed. A note that waits for none and that a try found other than Available has begun. Each Done note is one seat's, once.
+    -- An Available note is owed. A note that waits for none and that a try found other than Available has begun. Each
+    -- Done note is one seat's, once.
     pub record Tallied (status : List ℕ) (views : List (View J)) : Type 0 where
       pub owing : (t : ℕ) → at status t ≡ AVAILABLE → 0 < total (owed t) views
-      pub finding : (id : ℕ) (v : View J) (t : ℕ) → get_elem? views id ≡ some v → Found v t → t < k.notes → IsRoot k t → IN_PROGRESS ≤ at status t
+      pub finding : (id : ℕ) (v : View J) (t : ℕ) → get_elem? views id ≡ some v → Found v t → t < k.notes → IsRoot k t
+          → IN_PROGRESS ≤ at status t
       pub having : (t : ℕ) → total (has_done t) views ≡ same (at status t) DONE
 
   -- One view is the first; each other one that isn't spent has a number of its own, which is among those out.
@@ -141,21 +150,27 @@ module _ {J : Type 0} (M : Meaning J) (k : Plan J) where
   abbrev pub job_if : Bool → ℕ → J → J
   job_if run t j = cond run (M.after j (before_at M k t)) j
 
-  -- The slot of a note that isn't InProgress is home with its job. That of a note InProgress is home while its view hasn't taken the job out, and empty while it has.
+  -- The slot of a note that isn't InProgress is home with its job. That of a note InProgress is home while its view
+  -- hasn't taken the job out, and empty while it has.
   pub record Slots (status : List ℕ) (homes : List (maybe.Option (Berth J))) (views : List (View J)) : Type 0 where
     pub home : (t : ℕ) (j : J) → slice_get k.jobs t ≡ Some j → at status t ≢ IN_PROGRESS
         → get_elem? homes t ≡ some (some (Full (job_if (at status t == DONE) t j)))
-    pub resting : (id : ℕ) (v : View J) (d : Doing) (j : J) → get_elem? views id ≡ some v → v.doing ≡ Some d → d.held ≡ false
-        → slice_get k.jobs d.note ≡ Some j → get_elem? homes d.note ≡ some (some (Full (job_if (nat_le 1 d.phase) d.note j)))
-    pub away : (id : ℕ) (v : View J) (d : Doing) → get_elem? views id ≡ some v → v.doing ≡ Some d → d.held ≡ true → get_elem? homes d.note ≡ some none
+    pub resting : (id : ℕ) (v : View J) (d : Doing) (j : J) → get_elem? views id ≡ some v → v.doing ≡ Some d
+        → d.held ≡ false
+        → slice_get k.jobs d.note ≡ Some j
+        → get_elem? homes d.note ≡ some (some (Full (job_if (nat_le 1 d.phase) d.note j)))
+    pub away : (id : ℕ) (v : View J) (d : Doing) → get_elem? views id ≡ some v → v.doing ≡ Some d → d.held ≡ true
+        → get_elem? homes d.note ≡ some none
 
-  -- The Done notes that write a cell are those before some note; where no writer is InProgress, the cell has the value that the serial run has there.
+  -- The Done notes that write a cell are those before some note; where no writer is InProgress, the cell has the value
+  -- that the serial run has there.
   pub record Kept (status cells : List ℕ) (a : ℕ) : Type 0 where
     pub upto : ℕ
     pub within : upto ≤ k.notes
     pub done : (t : ℕ) → t < upto → writes_at M k t a ≡ true → at status t ≡ DONE
     pub later : (t : ℕ) → upto ≤ t → t < k.notes → writes_at M k t a ≡ true → at status t ≢ DONE
-    pub value : ((t : ℕ) → t < k.notes → at status t ≡ IN_PROGRESS → writes_at M k t a ≡ false) → signed (at cells a) ≡ cell (before_at M k upto) a
+    pub value : ((t : ℕ) → t < k.notes → at status t ≡ IN_PROGRESS → writes_at M k t a ≡ false)
+        → signed (at cells a) ≡ cell (before_at M k upto) a
 
   -- A note's image has the cells that it uses, and once it has run the cells after it in the serial run.
   pub record Pictured (cells : List ℕ) (d : Doing) : Type 0 where
@@ -179,6 +194,8 @@ module _ {J : Type 0} (M : Meaning J) (k : Plan J) where
   abbrev pub done_writers : List ℕ → ℕ → ℕ
   done_writers status r = count_below (λ u. at status u == DONE && listed (places_written M k u) r) k.notes
 
-  -- A turn word is the number of Done notes that write its resource, plus 1 where one InProgress has made its turn step there.
+  -- A turn word is the number of Done notes that write its resource, plus 1 where one InProgress has made its turn step
+  -- there.
   abbrev pub Turned : List ℕ → List ℕ → List (View J) → Type 0
-  Turned status turns views = (r : ℕ) → r < area_count k → at turns r ≡ done_writers status r + total (turned_on r) views
+  Turned status turns views =
+      (r : ℕ) → r < area_count k → at turns r ≡ done_writers status r + total (turned_on r) views

@@ -7,4 +7,5 @@ use Rattle.cs_board.specs.declared.view.View.{View}
 
 -- it rests, with so many vacant slots
 abbrev pub first_view : {J : Type 0} → Key → View J
-first_view key = resting_view key.layout.value (record { words = key.words.value.items; homes = replicate key.slots.value (Some Vacant) })
+first_view key = resting_view key.layout.value
+    (record { words = key.words.value.items; homes = replicate key.slots.value (Some Vacant) })

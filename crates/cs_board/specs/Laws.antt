@@ -1,5 +1,5 @@
--- What follows from the rule for the notes that seats do, and for those that they finished. k is a plan, s the state of the board; i and j are seats,
--- v and w their views, d and e what they do, t is a note and p an earlier one.
+-- What follows from the rule for the notes that seats do, and for those that they finished. k is a plan, s the state of
+-- the board; i and j are seats, v and w their views, d and e what they do, t is a note and p an earlier one.
 use Rattle.std.specs.Prelude.{◌≡◌, ℕ, ◌<◌, Some, slice_index}
 use mathlib.Core.Option.{some}
 use lib.ListN.{get_elem?}

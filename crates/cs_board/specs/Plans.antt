@@ -1,6 +1,8 @@
 -- What is fixed while a cycle runs, and what the serial run makes of it.
--- M is what jobs mean, k a plan; t a note and p an earlier one, e, f, g edges; j a job, a an address, r the place of a resource.
-use Rattle.std.specs.Prelude.{◌≡◌, ℕ, zero, suc, ◌≤◌, List, [], ◌∷◌, map, length, Bool, false, ◌==◌, ◌||◌, Option, Some, None, slice_get}
+-- M is what jobs mean, k a plan; t a note and p an earlier one, e, f, g edges; j a job, a an address, r the place of a
+-- resource.
+use Rattle.std.specs.Prelude.{◌≡◌, ℕ, zero, suc, ◌≤◌, List, [], ◌∷◌, map, length, Bool, false, ◌==◌, ◌||◌, Option, Some}
+use Rattle.std.specs.Prelude.{None, slice_get}
 use Rattle.cs_base.specs.Limits.{most_resources}
 use Rattle.cs_cells.specs.Areas.{IsFootprint, IsLaid, word_count}
 use Rattle.cs_cells.specs.Cells.{Cells, covers}
@@ -68,7 +70,8 @@ module _ {J : Type 0} (M : Meaning J) where
   abbrev pub writers_before : Plan J → ℕ → ℕ → ℕ
   writers_before k t r = count_below (λ u. listed (places_written k u) r) t
 
-  -- What is known of a plan from the start: each edge is a conflict, each conflict is reached along edges, and the edges into a note stand together.
+  -- What is known of a plan from the start: each edge is a conflict, each conflict is reached along edges, and the
+  -- edges into a note stand together.
   pub record IsPlan (k : Plan J) : Type 0 where
     pub jobs : length k.jobs ≡ k.notes
     pub forward : LeadsForward k.edges k.notes

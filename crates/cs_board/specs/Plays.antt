@@ -1,6 +1,6 @@
 -- What each kind of step tells the worker that makes it: the view before and after, and what was found.
--- st is the step, m the seat before it, r the number found in the word, n the seat after it; d is what the seat does, t its note,
--- e an edge from note p to note t, j a job, a an address, x the place of a resource. M is what jobs mean.
+-- st is the step, m the seat before it, r the number found in the word, n the seat after it; d is what the seat does, t
+-- its note, e an edge from note p to note t, j a job, a an address, x the place of a resource. M is what jobs mean.
 use Rattle.std.specs.Prelude.{◌≡◌, ◌≢◌, ℕ, ◌+◌, ◌<◌, [], ◌∷◌, length, Some, None, true, false, slice_get}
 use mathlib.Core.Option.{some}
 use Rattle.atomic_table.specs.Table.{Me, Step, rest}
@@ -9,7 +9,8 @@ use Rattle.cs_cells.specs.Meaning.{Meaning}
 use Rattle.cs_graph.specs.Graph.{Edge, Dependencies}
 use Rattle.cs_board.specs.Facts.{turned_in}
 use Rattle.cs_board.specs.Plans.{uses_at, places_used, writers_before, area_count}
-use Rattle.cs_board.specs.Views.{does, set_image, next_phase, began, missed, ended, shut, settled, passed, opened, laid, with_word, with_home, graph_told, plan_laid, opening_view, resting_view}
+use Rattle.cs_board.specs.Views.{does, set_image, next_phase, began, missed, ended, shut, settled, passed, opened, laid}
+use Rattle.cs_board.specs.Views.{with_word, with_home, graph_told, plan_laid, opening_view, resting_view}
 use Rattle.cs_board.specs.Counts.{listed}
 use Rattle.cs_board.specs.Words.{at, status_at, watch_at, turn_at, cell_at}
 use Rattle.cs_board.specs.declared.view.Doing.{Doing}
@@ -20,7 +21,8 @@ use Rattle.cs_board.specs.declared.view.Still.{Still}
 use Rattle.cs_board.specs.declared.view.View.{View}
 use Rattle.cs_board.specs.declared.words.TheConstants.{AVAILABLE, IDLE}
 
--- a seat's view and the slots that it has taken, and what a step tells of it before, of the number found and of it after
+-- a seat's view and the slots that it has taken, and what a step tells of it before, of the number found and of it
+-- after
 abbrev pub Sat : Type 0 → Type 0
 Sat J = Me (Berth J) (View J)
 
@@ -47,7 +49,8 @@ module _ {J : Type 0} where
   finished st m r n = (t : ℕ) → st.word ≡ status_at m.0.plan t → n ≡ (ended m.0 t, m.1)
 
   abbrev pub closed : Tells J
-  closed st m r n = (e p t : ℕ) → st.word ≡ watch_at m.0.plan e → Edge m.0.plan.edges e p t → n ≡ (shut m.0 e p t r, m.1)
+  closed st m r n = (e p t : ℕ) → st.word ≡ watch_at m.0.plan e → Edge m.0.plan.edges e p t
+      → n ≡ (shut m.0 e p t r, m.1)
 
   abbrev pub watched : Tells J
   watched st m r n = (e p t : ℕ) → st.word ≡ watch_at m.0.plan e → Edge m.0.plan.edges e p t
@@ -55,6 +58,11 @@ module _ {J : Type 0} where
 
   abbrev pub opens : Tells J
   opens st m r n = (t : ℕ) → st.word ≡ status_at m.0.plan t → n ≡ (opened m.0 t, m.1)
+
+  -- note t is Available, or the try was in vain
+  abbrev pub looked_status : Tells J
+  looked_status st m r n = (t : ℕ) → st.word ≡ status_at m.0.plan t
+      → (r ≡ AVAILABLE → n ≡ m) × (r ≢ AVAILABLE → n ≡ (missed m.0 t, m.1))
 
   -- while the board rests: a word is set, or read
   abbrev pub lays : Tells J
@@ -74,7 +82,8 @@ module _ {J : Type 0} where
 
   -- the cycle of these jobs, over these cells, begins
   abbrev pub begins : Tells J
-  begins st m r n = (w : Still J) (b : Berth J) (graph : Dependencies) → m.0.rest ≡ Some w → st.said ≡ some b → graph_told b ≡ Some graph
+  begins st m r n = (w : Still J) (b : Berth J) (graph : Dependencies) → m.0.rest ≡ Some w → st.said ≡ some b
+      → graph_told b ≡ Some graph
       → n ≡ (opening_view (plan_laid m.0.plan.areas w graph), m.1)
 
 module _ {J : Type 0} (M : Meaning J) where
@@ -96,4 +105,5 @@ module _ {J : Type 0} (M : Meaning J) where
 
   -- the board rests, with what the serial run leaves
   abbrev pub ends : Tells J
-  ends st m r n = (w : Still J) × IsOver m.0.plan M w × (length w.homes ≡ st.slots) × (n ≡ (resting_view m.0.plan.areas w, m.1))
+  ends st m r n = (w : Still J) × IsOver m.0.plan M w × (length w.homes ≡ st.slots)
+      × (n ≡ (resting_view m.0.plan.areas w, m.1))

@@ -1,5 +1,6 @@
 -- A board that rests between two cycles: its one seat, and how the next cycle is laid out on it.
--- k is the plan of the cycle that begins, w what is known of the board; t is a note, e an edge, r the place of a resource.
+-- k is the plan of the cycle that begins, w what is known of the board; t is a note, e an edge, r the place of a
+-- resource.
 use Rattle.std.specs.Prelude.{◌≡◌, ℕ, ◌+◌, ◌<◌, ◌≤◌, List, [], drop, length, is_some, true, false, Option, Some, None}
 use Rattle.atomic_table.specs.Seated.{TableId}
 use Rattle.atomic_table.specs.declared.shared.Seat.{Seat}

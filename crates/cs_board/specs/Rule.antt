@@ -1,5 +1,6 @@
 -- The rule of the board: what holds between any two steps of a whole performance, whatever the interleaving.
--- M is what jobs mean, k the plan of a cycle, w the words, s the state of the board; v and w are views, i and j slots or seats.
+-- M is what jobs mean, k the plan of a cycle, w the words, s the state of the board; v and w are views, i and j slots
+-- or seats.
 use Rattle.std.specs.Prelude.{◌≡◌, ◌≢◌, ℕ, ◌<◌, ◌≤◌, ◌⊎◌, List, map, length, false, Option, Some, None}
 use mathlib.Core.Option as maybe
 use mathlib.Core.Option.{some, none}

@@ -1,7 +1,8 @@
 -- What a seat knows, and how each kind of step changes it.
--- v and w are views, k a plan, d what a view does; t is a note, p an earlier one, e and i are edges, x is the number of a seat, a an
--- address and z a value. M is what jobs mean.
-use Rattle.std.specs.Prelude.{ℕ, zero, suc, ◌+◌, ◌-◌, ℤ, List, [], ◌∷◌, ◌++◌, map, length, take, drop, replicate, true, false, cond, Option, Some, None, ◌==◌, slice_set}
+-- v and w are views, k a plan, d what a view does; t is a note, p an earlier one, e and i are edges, x is the number of
+-- a seat, a an address and z a value. M is what jobs mean.
+use Rattle.std.specs.Prelude.{ℕ, zero, suc, ◌+◌, ◌-◌, ℤ, List, [], ◌∷◌, ◌++◌, map, length, take, drop, replicate, true}
+use Rattle.std.specs.Prelude.{false, cond, Option, Some, None, ◌==◌, slice_set}
 use Rattle.cs_cells.specs.Areas.{word_count}
 use Rattle.cs_cells.specs.Cells.{values}
 use Rattle.cs_cells.specs.Meaning.{Meaning}
@@ -109,7 +110,9 @@ module _ {J : Type 0} where
     areas = areas;
     jobs = jobs_laid w.homes;
     cells = values (cells_laid areas w);
-    spare = length w.words - (1 + (word_count areas + (length areas + (length (jobs_laid w.homes) + (length (jobs_laid w.homes) + length graph.edges)))));
+    spare = length w.words -
+        (1 + (word_count areas +
+        (length areas + (length (jobs_laid w.homes) + (length (jobs_laid w.homes) + length graph.edges)))));
   }
 
   abbrev pub does : View J → Doing → View J

@@ -1,4 +1,5 @@
--- The words of the board: k is the plan of the cycle, w the words, t a note, e an edge, r the place of a resource, a an address.
+-- The words of the board: k is the plan of the cycle, w the words, t a note, e an edge, r the place of a resource, a an
+-- address.
 use Rattle.std.specs.Prelude.{◌≡◌, ℕ, ◌+◌, List, ◌∷◌, ◌++◌, length, slice_index}
 use Rattle.cs_board.specs.Plans.{edge_count, area_count}
 use Rattle.cs_board.specs.declared.view.Plan.{Plan}

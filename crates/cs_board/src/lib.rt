@@ -33,8 +33,8 @@ pub use begin::Parts;
 pub use board::{Berths, Board, BoardSeat, Sitting};
 pub use laws::rule_laws;
 pub use plays::{
-    Begin, Claim, Close, End, Finish, Gather, Give, Key, Lay, Leave, Look, LookTurn, Open, Reach,
-    Read, Rule, Set, Split, Take, Turn, Watch,
+    Begin, Claim, Close, End, Finish, Gather, Give, Key, Lay, Leave, Look, LookStatus, LookTurn,
+    Open, Reach, Read, Rule, Set, Split, Take, Turn, Watch,
 };
 pub use view::{Berth, Doing, Plan, Spot, Still, View};
 pub use wait::Patience;

@@ -24,6 +24,15 @@ impl<J: Job> TableRule<Berth<J>, View<J>, Key> for Rule {
     ghost first = { λ key. first_view key };
 }
 
+/// A status is read, in a try: the note is found Available, or otherwise.
+pub struct LookStatus;
+
+impl<J> Play<Berth<J>, View<J>> for LookStatus {
+    ghost use Rattle.cs_board.specs.Plays.{looked_status};
+
+    ghost then = { looked_status };
+}
+
 /// An Available note becomes InProgress, and is the seat's.
 pub struct Claim;
 

@@ -1,7 +1,7 @@
 // The steps on the board's words, one function each.
 ghost use Rattle.std.specs.Prelude.{◌≡◌, ◌+◌, ◌-◌, ◌<◌, ◌≤◌, ℕ, [], ◌∷◌, Some, None, true, false, slice_get};
 ghost use Rattle.cs_board.specs.Board.{plan, IsIdle, run_through};
-ghost use Rattle.cs_board.specs.inner.Sittings.{IsSittingOf, ClosesAt, MovesAt, MovesOut, deed, job_out, tried, stopped, ran_out};
+ghost use Rattle.cs_board.specs.inner.Sittings.{IsSittingOf, ClosesAt, MovesAt, MovesOut, deed, job_out, seen, tried, stopped, ran_out};
 ghost use Rattle.cs_graph.specs.Graph.{Edge};
 ghost use Rattle.cs_board.specs.Counts.{listed};
 ghost use Rattle.cs_board.specs.Facts.{turned_in};
@@ -12,8 +12,8 @@ ghost use Rattle.cs_board.specs.declared.view.Berth.TheVariants.{Full};
 
 use crate::board::{Board, Sitting};
 use crate::{
-    AVAILABLE, CLOSED, Claim, Close, DONE, Finish, Give, IDLE, IN_PROGRESS, LookTurn, Open, Take,
-    Turn, WATCHED, Watch,
+    AVAILABLE, CLOSED, Claim, Close, DONE, Finish, Give, IDLE, IN_PROGRESS, LookStatus, LookTurn,
+    Open, Take, Turn, WATCHED, Watch,
 };
 use cs_cells::Job;
 
@@ -49,8 +49,35 @@ impl<J: Job> Board<J> {
         1 + addr as usize
     }
 
-    /// One try to claim a note.
+    /// One try to claim a note. It looks first, and exchanges only what it found Available: an exchange in vain
+    /// would take the word from the worker that writes it.
     pub(crate) fn try_note(&self, sitting: &mut Sitting<J>, note: u32) -> bool
+        requires sitting { IsSittingOf J.means self.now sitting.old }
+        requires idle { IsIdle sitting.old.me.0 }
+        requires note { note < (plan self.now).notes }
+        ensures sitting { IsSittingOf J.means self.now sitting.new }
+        ensures me { sitting.new.me
+            ≡ (tried J.means result sitting.old.me.0 note, sitting.old.me.1) }
+    {
+        if !self.look_status(sitting, note) {
+            return false;
+        }
+        self.claim_note(sitting, note)
+    }
+
+    /// Whether a look finds a note Available. Where it doesn't, that was a try in vain.
+    fn look_status(&self, sitting: &mut Sitting<J>, note: u32) -> bool
+        requires sitting { IsSittingOf J.means self.now sitting.old }
+        requires note { note < (plan self.now).notes }
+        ensures sitting { IsSittingOf J.means self.now sitting.new }
+        ensures me { sitting.new.me ≡ (seen result sitting.old.me.0 note, sitting.old.me.1) }
+    {
+        let word = self.status_word(note);
+        self.frame.table.shared.load::<LookStatus>(sitting, word) == AVAILABLE
+    }
+
+    /// A note is claimed, unless another seat was faster: then that was a try in vain.
+    fn claim_note(&self, sitting: &mut Sitting<J>, note: u32) -> bool
         requires sitting { IsSittingOf J.means self.now sitting.old }
         requires idle { IsIdle sitting.old.me.0 }
         requires note { note < (plan self.now).notes }

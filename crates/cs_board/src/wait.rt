@@ -18,12 +18,12 @@ pub struct Patience {
     pub brisk: u32,
 }
 
-/// What a look at all notes found: one that can be claimed, all Done, or neither. It may have
-/// changed since.
+/// What a look at all notes found: one that can be claimed; none, and all before this one Done, which they stay;
+/// or all Done. It may have changed since.
 #[derive(Clone, Copy, PartialEq, Eq)]
 enum Outlook {
     Available,
-    Busy,
+    Busy(u32),
     Done,
 }
 
@@ -48,10 +48,14 @@ impl<J: Job> Board<J> {
         if won.is_some() {
             return won;
         }
+        let mut from = 0;
         for look in 0..patience.looks {
-            let seen = self.outlook();
+            let seen = self.outlook(from);
             if seen == Outlook::Done {
                 return None;
+            }
+            if let Outlook::Busy(note) = seen {
+                from = note;
             }
             let won = self.claim_seen(seat, seen);
             if won.is_some() {
@@ -94,16 +98,16 @@ impl<J: Job> Board<J> {
         None
     }
 
-    /// Looks at each note's status, without a step on any.
-    fn outlook(&self) -> Outlook {
+    /// Looks at the status of each note from this one on, without a step on any. All before it are Done.
+    fn outlook(&self, from: u32) -> Outlook {
         let mut outlook = Outlook::Done;
-        for note in 0..self.notes {
+        for note in from..self.notes {
             let status = self.frame.table.shared.peek(self.status_word(note));
             if status == AVAILABLE {
                 return Outlook::Available;
             }
-            if status != DONE {
-                outlook = Outlook::Busy;
+            if status != DONE && outlook == Outlook::Done {
+                outlook = Outlook::Busy(note);
             }
         }
         outlook

@@ -70,7 +70,8 @@ module _ {J : Type 0} where
   abbrev pub AllBut : ℕ → View J → View J → ℕ → ℕ → Type 0
   AllBut but v w from to = (t : ℕ) → t ≢ but → from ≤ t → t < to → FoundSince v.tries w t × (owed t w ≡ 0)
 
-  -- the seat has nothing to do and owes nothing, and since the first view it tried each note and found it other than Available
+  -- the seat has nothing to do and owes nothing, and since the first view it tried each note and found it other than
+  -- Available
   pub record HasTried (k : Plan J) (v w : View J) : Type 0 where
     pub idle : IsIdle w
     pub owes : w.owes ≡ []
@@ -78,6 +79,10 @@ module _ {J : Type 0} where
     pub tried : (t : ℕ) → t < k.notes → FoundSince v.tries w t
     pub mine : w.mine ≡ v.mine
     pub same : SameSeat v w
+
+  -- a look at note t found it Available, or was a try in vain
+  abbrev pub seen : Bool → View J → ℕ → View J
+  seen available v t = cond available v (missed v t)
 
 module _ {J : Type 0} (M : Meaning J) where
   -- a seat of this board

@@ -14,7 +14,8 @@ compare_exchange_with-requires g c =
     let h = c.requires.laid in (
       c.requires.sole.table,
       c.requires.words,
-      begins_cycle g.J.Job.means id.slots s.id s.me c.requires.sole.live (known_in s) (sole_knows id s c.requires.sole) _ c.args.graph.value k h.parts.cells h.parts.spare h.left refl refl c.requires.whole h.cells h.sized.spare
+      begins_cycle g.J.Job.means id.slots s.id s.me c.requires.sole.live (known_in s) (sole_knows id s c.requires.sole)
+          _ c.args.graph.value k h.parts.cells h.parts.spare h.left refl refl c.requires.whole h.cells h.sized.spare
           (all_laid k (known_in s) h) h.homes,
     )
 
@@ -23,4 +24,5 @@ returns-clause-me g c =
     let id = c.args.table.now.shared.table_id in
     let s = c.args.seat.now in
     c.compare_exchange_with.ensures.2 (known_in s) _ c.args.graph.value (sole_knows id s c.requires.sole) refl refl
-    ∙ ap (λ z. (opening_view (plan_laid (areas_in s) (known_in s) c.args.graph.value), z)) (sole_carries id s c.requires.sole)
+    ∙ ap (λ z. (opening_view (plan_laid (areas_in s) (known_in s) c.args.graph.value), z))
+    (sole_carries id s c.requires.sole)

@@ -8,7 +8,8 @@ loop-next-init g c = record {
   sitting = c.requires.sitting;
   carries = refl;
   moving = c.requires.moving;
-  closing = closing_next (plan c.args.self.now) c.args.sitting.now.me.0 (plan c.args.self.now).edges c.args.note 0 c.first_out-next.result refl c.requires.closing c.first_out-next.ensures.none c.first_out-next.ensures.some;
+  closing = closing_next (plan c.args.self.now) c.args.sitting.now.me.0 (plan c.args.self.now).edges c.args.note 0
+      c.first_out-next.result refl c.requires.closing c.first_out-next.ensures.none c.first_out-next.ensures.some;
   beside = beside_same c.args.sitting.now.me.0;
 }
 
@@ -19,6 +20,9 @@ loop-next-preserved g c =
       sitting = r.ensures.sitting;
       carries = r.ensures.carries ∙ c.loop-next.invariant.carries;
       moving = r.ensures.moving;
-      closing = closing_next (plan c.args.self.now) r.new.sitting.me.0 (plan c.args.self.now).edges c.args.note (c.in-Some.edge + 1) c.next_out-next.result refl r.ensures.closing c.next_out-next.ensures.none c.next_out-next.ensures.some;
-      beside = beside_join c.args.sitting.now.me.0 c.loop-next.sitting.me.0 r.new.sitting.me.0 c.loop-next.invariant.beside r.ensures.beside;
+      closing = closing_next (plan c.args.self.now) r.new.sitting.me.0 (plan c.args.self.now).edges c.args.note
+          (c.in-Some.edge + 1) c.next_out-next.result refl r.ensures.closing c.next_out-next.ensures.none
+          c.next_out-next.ensures.some;
+      beside = beside_join c.args.sitting.now.me.0 c.loop-next.sitting.me.0 r.new.sitting.me.0
+          c.loop-next.invariant.beside r.ensures.beside;
     }

@@ -13,7 +13,9 @@ returns-clause-me g c =
     let w = c.run_job.new.sitting.me.0 in
     let e = c.requires.doing in
     let old = ap (λ o. (deed_in o).image) e in
-    let image = c.run_job.ensures.image ∙ ap (g.J.Job.means.leaves c.args.job.now) old ∙ leaves_is g.J.Job.means k c.requires.sitting.whole c.args.note c.args.job.now c.requires.job in
-    let first = reimage v w (record (fresh g.J.Job.means k c.args.note) { held = true }) (before_at g.J.Job.means k (c.args.note + 1)) e c.run_job.ensures.view image in
+    let image = c.run_job.ensures.image ∙ ap (g.J.Job.means.leaves c.args.job.now) old
+    ∙ leaves_is g.J.Job.means k c.requires.sitting.whole c.args.note c.args.job.now c.requires.job in
+    let first = reimage v w (record (fresh g.J.Job.means k c.args.note) { held = true })
+    (before_at g.J.Job.means k (c.args.note + 1)) e c.run_job.ensures.view image in
     let second = c.run_job.ensures.seat.0 in
     λ i. (first i, second i)

@@ -8,5 +8,6 @@ split_seat-other-requires g c =
     let p = c.sit-sitting.ensures.sitting in (
       p.table,
       omega (arith, c.args.self.now.built.words),
-      splits g.J.Job.means (plan c.args.self.now) c.sit-sitting.result.id c.sit-sitting.result.me.0 (ap (λ z. z.0.first) c.sit-sitting.ensures.me ∙ c.requires.first) p.knows.live p.knows.playing p.knows.plan,
+      splits g.J.Job.means (plan c.args.self.now) c.sit-sitting.result.id c.sit-sitting.result.me.0
+          (ap (λ z. z.0.first) c.sit-sitting.ensures.me ∙ c.requires.first) p.knows.live p.knows.playing p.knows.plan,
     )

@@ -9,12 +9,16 @@ use Rattle.cs_board.proofs.board.Board.try_first.Goals as goal
 pub returns-clause-lost : goal.returns-clause-lost
 returns-clause-lost g c lost =
     let v = c.args.sitting.now.me.0 in
-    let is : c.try_note.new.sitting.me.0 ≡ missed v c.args.note = ap {A = Sat g.row.J.Denot} (λ z. z.0) c.try_note.ensures.me ∙ ap (λ b. tried g.J.Job.means b v c.args.note) lost in (
+    let is : c.try_note.new.sitting.me.0 ≡ missed v c.args.note =
+    ap {A = Sat g.row.J.Denot} (λ z. z.0) c.try_note.ensures.me
+    ∙ ap (λ b. tried g.J.Job.means b v c.args.note) lost in (
       subst IsIdle (sym is) (idle_missed g.J.Job.means v c.args.note c.requires.idle),
-      λ within. subst (λ w. AllTried v w c.args.note (c.args.note + 1)) (sym is) (all_more g.J.Job.means v v c.args.note c.args.note (tries_none v) (λ t low high. absurd (omega arith))),
+      λ within. subst (λ w. AllTried v w c.args.note (c.args.note + 1)) (sym is)
+          (all_more g.J.Job.means v v c.args.note c.args.note (tries_none v) (λ t low high. absurd (omega arith))),
     )
 
 pub returns-clause-tries : goal.returns-clause-tries
 returns-clause-tries g c =
     let v = c.args.sitting.now.me.0 in
-    subst (Tries v) (sym (ap {A = Sat g.row.J.Denot} (λ z. z.0) c.try_note.ensures.me)) (tries_more g.J.Job.means v v c.try_note.result c.args.note (tries_none v))
+    subst (Tries v) (sym (ap {A = Sat g.row.J.Denot} (λ z. z.0) c.try_note.ensures.me))
+    (tries_more g.J.Job.means v v c.try_note.result c.args.note (tries_none v))

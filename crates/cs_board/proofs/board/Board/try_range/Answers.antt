@@ -8,19 +8,22 @@ use Rattle.cs_board.proofs.board.Board.try_range.Goals as goal
 pub returns-then-try_note-clause-tries : goal.returns-then-try_note-clause-tries
 returns-then-try_note-clause-tries g c =
     subst (Tries c.args.sitting.now.me.0) (sym (ap (λ z. z.0) c.try_note.ensures.me))
-    (tries_more g.J.Job.means c.args.sitting.now.me.0 c.loop-note.sitting.me.0 c.try_note.result c.loop-note.note c.loop-note.invariant.tries)
+    (tries_more g.J.Job.means c.args.sitting.now.me.0 c.loop-note.sitting.me.0 c.try_note.result c.loop-note.note
+    c.loop-note.invariant.tries)
 
 pub loop-note-preserved : goal.loop-note-preserved
 loop-note-preserved g c =
     let u = c.args.sitting.now.me.0 in
     let v = c.loop-note.sitting.me.0 in
     let i = c.loop-note.invariant in
-    let is : c.try_note.new.sitting.me.0 ≡ missed v c.loop-note.note = ap (λ z. z.0) c.try_note.ensures.me ∙ ap (λ b. tried g.J.Job.means b v c.loop-note.note) c.if-try_note.false in
+    let is : c.try_note.new.sitting.me.0 ≡ missed v c.loop-note.note =
+    ap (λ z. z.0) c.try_note.ensures.me ∙ ap (λ b. tried g.J.Job.means b v c.loop-note.note) c.if-try_note.false in
     record {
       sitting = c.try_note.ensures.sitting;
       carries = ap (λ z. z.1) c.try_note.ensures.me ∙ i.carries;
       idle = subst IsIdle (sym is) (idle_missed g.J.Job.means v c.loop-note.note i.idle);
-      tried = subst (λ w. AllTried u w c.args.from (c.loop-note.note + 1)) (sym is) (all_more g.J.Job.means u v c.args.from c.loop-note.note i.tries i.tried);
+      tried = subst (λ w. AllTried u w c.args.from (c.loop-note.note + 1)) (sym is)
+          (all_more g.J.Job.means u v c.args.from c.loop-note.note i.tries i.tried);
       tries = subst (Tries u) (sym is) (tries_more g.J.Job.means u v false c.loop-note.note i.tries);
       steps = omega (arith, c.tick.ensures, i.steps, ap (λ w. w.tries) is);
       few = omega (arith, c.tick.ensures, i.few);

@@ -13,16 +13,22 @@ returns-clause-none g c =
     let w = c.try_others-won.new.sitting.me.0 in
     let x = c.try_others.new.sitting.me.0 in
     let first = c.try_first.ensures.lost c.if-try_first.false in
-    let second = at_none c.try_others-won.result (IsIdle w × AllBut c.args.opened v w c.args.next c.args.self.now.notes) (sym c.is_some.ensures ∙ c.if-is_some.false) c.try_others-won.ensures.none in
+    let second = at_none c.try_others-won.result (IsIdle w × AllBut c.args.opened v w c.args.next c.args.self.now.notes)
+    (sym c.is_some.ensures ∙ c.if-is_some.false) c.try_others-won.ensures.none in
     let same = c.args.self.now.built.notes in
     if_none_map c.try_others.result (IsIdle x × AllBut c.args.opened w x 0 c.args.next) (IsIdle x × AllTried u x 0 n)
     (λ h. (
       h.0,
       λ t low high. ⊎_elim
-          (λ (e : t ≡ c.args.opened). carry u u v x t (omega arith) (tries_join v w x c.try_others-won.ensures.tries c.try_others.ensures.tries) (first.1 (omega arith) t (omega arith) (omega arith)))
+          (λ (e : t ≡ c.args.opened). carry u u v x t (omega arith)
+          (tries_join v w x c.try_others-won.ensures.tries c.try_others.ensures.tries)
+          (first.1 (omega arith) t (omega arith) (omega arith)))
           (λ (other : t ≢ c.args.opened). ⊎_elim
-          (λ (l : t < c.args.next). carry u w x x t (omega (arith, c.try_first.ensures.tries.more, c.try_others-won.ensures.tries.more)) (tries_none x) (h.1 t other low l))
-          (λ (l : c.args.next ≤ t). carry u v w x t c.try_first.ensures.tries.more c.try_others.ensures.tries (second.1 t other l (omega (arith, high, same))))
+          (λ (l : t < c.args.next). carry u w x x t
+          (omega (arith, c.try_first.ensures.tries.more, c.try_others-won.ensures.tries.more)) (tries_none x)
+          (h.1 t other low l))
+          (λ (l : c.args.next ≤ t). carry u v w x t c.try_first.ensures.tries.more c.try_others.ensures.tries
+          (second.1 t other l (omega (arith, high, same))))
           (cases_lt t c.args.next))
           (cases_eq t c.args.opened),
     ))

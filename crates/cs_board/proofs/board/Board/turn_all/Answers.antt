@@ -6,5 +6,9 @@ use Rattle.cs_board.proofs.board.Board.turn_all.Goals as goal
 pub loop-area-init : goal.loop-area-init
 loop-area-init g c = record {
   sitting = c.requires.sitting;
-  me = λ i. (does_again c.args.sitting.now.me.0 (ran_out g.J.Job.means (plan c.args.self.now) c.args.note 1) c.requires.doing i, c.args.sitting.now.me.1);
+  me = λ i. (
+    does_again c.args.sitting.now.me.0 (ran_out g.J.Job.means (plan c.args.self.now) c.args.note 1)
+        c.requires.doing i,
+    c.args.sitting.now.me.1,
+  );
 }
