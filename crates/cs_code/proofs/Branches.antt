@@ -14,7 +14,7 @@ use Rattle.cs_typed.specs.declared.tree.TypedArm.{TypedArm}
 use Rattle.cs_code.specs.declared.frame.Pass.{Pass}
 use Rattle.cs_code.specs.declared.frame.Pass.TheVariants as pass
 use Rattle.cs_code.specs.inner.Branches.{Branch, past_branch, after, chain, joined, opened, jump_at, jumps, aim, aim_all, condition_of, body_of, past_arm, past_list, branch_of, branches}
-use Rattle.cs_code.specs.inner.Code.{arm_code}
+use Rattle.cs_code.specs.inner.Code.{arm_code, init_block_code}
 use Rattle.cs_code.specs.inner.Emitted.{pass_block_code, chosen_code, cond_code, cond_reg}
 use Rattle.cs_code.specs.inner.Frames.{Frame, op_of}
 use Rattle.cs_code.proofs.Chains.{chosen_else}
@@ -165,6 +165,19 @@ pub body_made : (old first tested cond : List Op) (q : Reg) → first ≡ old ++
 body_made old first tested cond q a b =
     let none : Op = op_of (act.Unless 0) q (q ∷ []) in
     omega (arith, ap length a, ap length b, length-append old cond, length-append first (none ∷ []))
+
+-- where the jump of an arm stands once its body is made
+pub jump_placed : (old tested filled cond body : List Op) → length tested ≡ length old + length cond + 1
+    → filled ≡ tested ++ body → length filled ≡ length old + length cond + 1 + length body
+jump_placed old tested filled cond body begins made = omega (arith, begins, ap length made, length-append tested body)
+
+-- the code of an arm that is initialised whatever its condition is
+pub one_made : (f : Frame) (old kept cond : List Op) (q : Place) (b : Block) → kept ≡ old ++ cond
+    → kept ++ init_block_code f (length kept) q b ≡ old ++ (cond ++ init_block_code f (length old + length cond) q b)
+one_made f old kept cond q b made =
+    ap (λ l. l ++ init_block_code f (length l) q b) made
+    ∙ ap (λ n. (old ++ cond) ++ init_block_code f n q b) (length-append old cond)
+    ∙ append_assoc old cond (init_block_code f (length old + length cond) q b)
 
 -- one arm more
 pub arms_more : (way : Pass) (f : Frame) (o : Spaces) (ops new total : List Op) (ends now all : List ℕ) (p q last : Place) (a : TypedArm) (rest : List TypedArm)

@@ -1,17 +1,20 @@
-use Rattle.std.proofs.Common.{◌≡◌, ◌∙◌, ◌+◌, ◌++◌, ◌∷◌, [], arith, rules, drop, length, sym, ap, subst, IfOk, OnOk}
-use Rattle.cs_meaning.specs.Core.{core, core_stmt, core_arms, andthen, arm}
+use Rattle.std.proofs.Common.{◌≡◌, ◌∙◌, ◌+◌, ◌++◌, ◌∷◌, [], arith, rules, drop, length, map, sym, ap, subst, append-nil, IfOk, OnOk}
+use Rattle.std.proofs.lemmas.List.{drop_all}
+use Rattle.cs_meaning.specs.Core.{core, core_call, core_stmt, core_arms, andthen, arm}
 use Rattle.cs_ir.specs.declared.op.Act.TheVariants as act
 use Rattle.cs_meaning.specs.Notes.{past, past_parts, past_stmt, past_block, past_arms}
 use Rattle.cs_typed.specs.TypedTree as typed
 use Rattle.cs_typed.specs.declared.tree.TypedArm.{out-TypedArm}
 use Rattle.cs_typed.specs.declared.tree.TypedWhat.TheViews.{the_lemmas}
 use Rattle.cs_typed.proofs.Trees.{typed_block_is, typed_arms_is}
-use Rattle.cs_code.specs.inner.Code.{all_code}
+use Rattle.cs_words.specs.Catalogue.{row_of}
+use Rattle.cs_code.specs.inner.Code.{all_code, init_block_code, keep_code}
 use Rattle.cs_code.specs.inner.Branches.{opened, jumps, aim_all, branches, past_list, condition_of, body_of}
 use Rattle.cs_code.specs.inner.Emitted.{frame_of, place_of, pass_code, pass_block_code, cond_code, cond_reg}
 use Rattle.cs_code.specs.inner.Frames.{op_of}
-use Rattle.cs_code.proofs.Branches.{arm_made, body_made, arms_more, chosen_made, past_chosen}
-use Rattle.cs_code.proofs.Chains.{block_more, each_more, all_taken, one_taken, taken_pass}
+use Rattle.cs_code.proofs.Branches.{arm_made, body_made, arms_more, chosen_made, jump_placed, one_made, past_chosen}
+use Rattle.cs_code.proofs.Calls.{call_anywhere, set_anywhere}
+use Rattle.cs_code.proofs.Chains.{block_more, block_none, each_more, all_taken, one_taken, taken_pass}
 use Rattle.cs_code.proofs.Lists.{dropped}
 use Rattle.cs_code.proofs.stmt.+stmt.Goals as goal
 
@@ -200,3 +203,185 @@ stmt-returns-in_ok-done-in-Choose-clause-next t c =
     ∙ ap (λ k. past_block k (core sp els)) (c.in_ok-last-in-Choose.ensures.next ∙ ap (past_list sp p) c.deref-else-takes_all.ensures.value)
     ∙ past_chosen sp p list els
     ∙ sym (ap (λ x. past_stmt p (core_stmt sp x)) seen)
+
+pub arm-returns-clause-ends : goal.arm-returns-clause-ends
+arm-returns-clause-ends t c =
+    let sp = c.args.context.spaces in
+    let f = frame_of c.args.context.bases in
+    let way = c.args.context.pass in
+    let old = c.args.ops.now.items in
+    let p = place_of c.args.p in
+    let e = condition_of c.args.arm.now in
+    let cond = cond_code way f c.args.p.part e in
+    let q = cond_reg way f c.args.p.part e in
+    let is = c.in_ok-spot.ensures in
+    let first = c.condition.new.ops.items in
+    let tested = c.push.new.ops.items in
+    let within = pass_block_code way f (length tested) (past_parts c.in_ok-spot.spot.next p) in
+    let body = pass_block_code way f (length old + length cond + 1) (past_parts (past c.args.p.part e) p) (body_of sp c.args.arm.now) in
+    let test : tested ≡ first ++ (op_of (act.Unless 0) q (q ∷ []) ∷ []) =
+    c.in_ok-push.ensures
+    ∙ ap (λ xs. first ++ (op_of (act.Unless 0) c.in_ok-spot.spot.reg xs ∷ [])) c.one.ensures
+    ∙ ap (λ x. first ++ (op_of (act.Unless 0) x (x ∷ []) ∷ [])) is.reg in
+    let begins = body_made old first tested cond q is.ops test in
+    let code : within (core sp (typed.block c.deref.result.now)) ≡ body =
+    ap (λ xs. within (core sp (typed.block xs))) c.deref.ensures.value
+    ∙ ap (λ n. pass_block_code way f n (past_parts c.in_ok-spot.spot.next p) (body_of sp c.args.arm.now)) begins
+    ∙ ap (λ n. pass_block_code way f (length old + length cond + 1) (past_parts n p) (body_of sp c.args.arm.now)) is.next in
+    let filled = c.block.new.ops.items in
+    let at : c.len.result ≡ length filled = search (rules, c.len.ensures) in
+    c.in_ok-push-2.ensures.items
+    ∙ ap (λ n. c.args.ends.now.items ++ n ∷ [])
+    (at ∙ jump_placed old tested filled cond body begins (c.in_ok-next.ensures.ops ∙ ap (λ l. tested ++ l) code))
+
+pub arm-returns-clause-next : goal.arm-returns-clause-next
+arm-returns-clause-next t c =
+    let sp = c.args.context.spaces in
+    let p = place_of c.args.p in
+    c.in_ok-next.ensures.next
+    ∙ ap (λ xs. past_block (past_parts c.in_ok-spot.spot.next p) (core sp (typed.block xs))) c.deref.ensures.value
+    ∙ ap (λ n. past_block (past_parts n p) (body_of sp c.args.arm.now)) c.in_ok-spot.ensures.next
+
+pub one_arm-returns-clause-ops : goal.one_arm-returns-clause-ops
+one_arm-returns-clause-ops t c =
+    let sp = c.args.context.spaces in
+    let f = frame_of c.args.context.bases in
+    let old = c.args.ops.now.items in
+    let kept = c.keep.new.ops.items in
+    let p = place_of c.args.p in
+    let body = core sp (typed.block (out-TypedArm c.args.arm.now).body.items) in
+    let cond = keep_code f c.args.p.part (typed.expression (out-TypedArm c.args.arm.now).cond) in
+    subst (λ y. OnOk c.block.result (c.block.new.ops.items ≡ y))
+    (ap (λ xs. kept ++ pass_block_code c.args.context.pass f (length kept) (past_parts c.in_ok-part.part p) (core sp (typed.block xs)))
+    c.deref.ensures.value
+    ∙ ap (λ w. kept ++ pass_block_code w f (length kept) (past_parts c.in_ok-part.part p) body) c.requires
+    ∙ ap (λ n. kept ++ init_block_code f (length kept) (past_parts n p) body) c.in_ok-part.ensures.next
+    ∙ one_made f old kept cond (past_parts (past c.args.p.part (typed.expression (out-TypedArm c.args.arm.now).cond)) p) body
+    c.in_ok-part.ensures.ops)
+    c.block.ensures.ops
+
+pub one_arm-returns-clause-next : goal.one_arm-returns-clause-next
+one_arm-returns-clause-next t c =
+    let sp = c.args.context.spaces in
+    let p = place_of c.args.p in
+    let body = core sp (typed.block (out-TypedArm c.args.arm.now).body.items) in
+    subst (λ y. IfOk c.block.result (λ q. place_of q ≡ y))
+    (ap (λ xs. past_block (past_parts c.in_ok-part.part p) (core sp (typed.block xs))) c.deref.ensures.value
+    ∙ ap (λ n. past_block (past_parts n p) body) c.in_ok-part.ensures.next)
+    c.block.ensures.next
+
+pub stmt-returns-in-Set-clause-ops : goal.stmt-returns-in-Set-clause-ops
+stmt-returns-in-Set-clause-ops t c =
+    let sp = c.args.context.spaces in
+    let f = frame_of c.args.context.bases in
+    let way = c.args.context.pass in
+    let old = c.args.ops.now.items in
+    let p = place_of c.args.p in
+    let r = c.args.s.now.rate in
+    let e = typed.expression c.in-Set.e in
+    let seen : typed.statement c.args.s.now ≡ typed.set c.args.s.now.line r c.in-Set.v e = search (rules, c.in-Set.is) in
+    subst (λ y. OnOk c.assign.result (c.assign.new.ops.items ≡ y))
+    (ap (λ l. old ++ l) (sym (set_anywhere way f (length old) p r c.in-Set.v e))
+    ∙ sym (ap (λ x. old ++ pass_code way f (length old) p (core_stmt sp x)) seen))
+    c.assign.ensures.ops
+
+pub stmt-returns-in-Set-clause-next : goal.stmt-returns-in-Set-clause-next
+stmt-returns-in-Set-clause-next t c =
+    let r = c.args.s.now.rate in
+    let e = typed.expression c.in-Set.e in
+    let seen : typed.statement c.args.s.now ≡ typed.set c.args.s.now.line r c.in-Set.v e = search (rules, c.in-Set.is) in
+    subst (λ y. IfOk c.assign.result (λ q. place_of q ≡ y))
+    (sym (ap (λ x. past_stmt (place_of c.args.p) (core_stmt c.args.context.spaces x)) seen))
+    c.assign.ensures.next
+
+pub stmt-returns-in-Call-clause-ops : goal.stmt-returns-in-Call-clause-ops
+stmt-returns-in-Call-clause-ops t c =
+    let sp = c.args.context.spaces in
+    let f = frame_of c.args.context.bases in
+    let way = c.args.context.pass in
+    let old = c.args.ops.now.items in
+    let p = place_of c.args.p in
+    let r = c.args.s.now.rate in
+    let k = c.in-Call.opcode in
+    let sh = (row_of k).shape in
+    let vs = c.in-Call.results in
+    let inputs = map typed.argument c.in-Call.args.items in
+    let seen : typed.statement c.args.s.now ≡ typed.call c.args.s.now.line r vs k inputs = search (rules, c.in-Call.is) in
+    subst (λ y. OnOk c.call.result (c.call.new.ops.items ≡ y))
+    (ap (λ us. old ++ pass_code way f 0 p (core_call sp r us k sh (map typed.argument c.deref.result.now))) c.as_slice.ensures
+    ∙ ap (λ xs. old ++ pass_code way f 0 p (core_call sp r vs k sh (map typed.argument xs))) c.deref.ensures.value
+    ∙ ap (λ l. old ++ l) (sym (call_anywhere way f (length old) p sp r vs k sh inputs))
+    ∙ sym (ap (λ x. old ++ pass_code way f (length old) p (core_stmt sp x)) seen))
+    c.call.ensures.ops
+
+pub stmt-returns-in-Call-clause-next : goal.stmt-returns-in-Call-clause-next
+stmt-returns-in-Call-clause-next t c =
+    let sp = c.args.context.spaces in
+    let p = place_of c.args.p in
+    let r = c.args.s.now.rate in
+    let k = c.in-Call.opcode in
+    let sh = (row_of k).shape in
+    let vs = c.in-Call.results in
+    let inputs = map typed.argument c.in-Call.args.items in
+    let seen : typed.statement c.args.s.now ≡ typed.call c.args.s.now.line r vs k inputs = search (rules, c.in-Call.is) in
+    subst (λ y. IfOk c.call.result (λ q. place_of q ≡ y))
+    (ap (λ us. past_stmt p (core_call sp r us k sh (map typed.argument c.deref.result.now))) c.as_slice.ensures
+    ∙ ap (λ xs. past_stmt p (core_call sp r vs k sh (map typed.argument xs))) c.deref.ensures.value
+    ∙ sym (ap (λ x. past_stmt p (core_stmt sp x)) seen))
+    c.call.ensures.next
+
+pub arms_of-returns-clause-ops : goal.arms_of-returns-clause-ops
+arms_of-returns-clause-ops t c =
+    let ops = c.loop-a.ops.items in
+    let none = drop_all c.loop-a.a-index c.args.arms.now (omega (arith, c.loop-a-test.false)) in
+    sym (append-nil ops)
+    ∙ sym (ap (λ xs. ops ++ opened (length ops) (branches c.args.context.pass (frame_of c.args.context.bases) c.args.context.spaces
+    (length ops) (place_of c.loop-a.next) xs)) none)
+    ∙ c.loop-a.invariant.0
+
+pub arms_of-returns-clause-ends : goal.arms_of-returns-clause-ends
+arms_of-returns-clause-ends t c =
+    let ops = c.loop-a.ops.items in
+    let ends = c.loop-a.ends.items in
+    let none = drop_all c.loop-a.a-index c.args.arms.now (omega (arith, c.loop-a-test.false)) in
+    sym (append-nil ends)
+    ∙ sym (ap (λ xs. ends ++ jumps (length ops) (branches c.args.context.pass (frame_of c.args.context.bases) c.args.context.spaces
+    (length ops) (place_of c.loop-a.next) xs)) none)
+    ∙ c.loop-a.invariant.1
+
+pub arms_of-returns-clause-next : goal.arms_of-returns-clause-next
+arms_of-returns-clause-next t c =
+    let none = drop_all c.loop-a.a-index c.args.arms.now (omega (arith, c.loop-a-test.false)) in
+    sym (ap (past_list c.args.context.spaces (place_of c.loop-a.next)) none) ∙ c.loop-a.invariant.2
+
+pub block-returns-clause-ops : goal.block-returns-clause-ops
+block-returns-clause-ops t c =
+    let sp = c.args.context.spaces in
+    let f = frame_of c.args.context.bases in
+    let way = c.args.context.pass in
+    let ops = c.loop-s.ops.items in
+    let p = place_of c.loop-s.next in
+    let none = drop_all c.loop-s.s-index c.args.stmts.now (omega (arith, c.loop-s-test.false)) in
+    sym (append-nil ops)
+    ∙ sym (ap (λ l. ops ++ l) (block_none way f (length ops) p))
+    ∙ sym (ap (λ xs. ops ++ pass_block_code way f (length ops) p (core sp (typed.block xs))) none)
+    ∙ c.loop-s.invariant.0
+
+pub block-returns-clause-next : goal.block-returns-clause-next
+block-returns-clause-next t c =
+    let none = drop_all c.loop-s.s-index c.args.stmts.now (omega (arith, c.loop-s-test.false)) in
+    sym (ap (λ xs. past_block (place_of c.loop-s.next) (core c.args.context.spaces (typed.block xs))) none) ∙ c.loop-s.invariant.1
+
+pub each_arm-returns-clause-ops : goal.each_arm-returns-clause-ops
+each_arm-returns-clause-ops t c els =
+    let ops = c.loop-a.ops.items in
+    let none = drop_all c.loop-a.a-index c.args.arms.now (omega (arith, c.loop-a-test.false)) in
+    sym (ap (λ xs. ops ++ all_code (frame_of c.args.context.bases) (length ops) (place_of c.loop-a.next)
+    (core_arms c.args.context.spaces (typed.arms els xs))) none)
+    ∙ (c.loop-a.invariant els).0
+
+pub each_arm-returns-clause-next : goal.each_arm-returns-clause-next
+each_arm-returns-clause-next t c els =
+    let none = drop_all c.loop-a.a-index c.args.arms.now (omega (arith, c.loop-a-test.false)) in
+    sym (ap (λ xs. past_arms (place_of c.loop-a.next) (core_arms c.args.context.spaces (typed.arms els xs))) none)
+    ∙ (c.loop-a.invariant els).1
