@@ -6,6 +6,8 @@ use Rattle.std.proofs.lemmas.Bool.Decides.{nat_tests}
 use Rattle.std.proofs.lemmas.List.{get_or-set_same, get_or-set_other}
 use Rattle.std.proofs.lemmas.List.Elements.{All-cons, All-head, All-nil, All-tail}
 use Rattle.cs_base.proofs.Tests.{by_test}
+use Rattle.cs_words.proofs.EachOpcode.{of_all}
+use Rattle.cs_words.specs.declared.catalogue.Opcode.{Opcode}
 use Rattle.cs_ir.specs.Waves.{Wave}
 use Rattle.cs_ir.specs.declared.register.Reg.{Reg}
 use Rattle.cs_machine.proofs.Frames.{apart}
@@ -14,30 +16,14 @@ use Rattle.cs_signal.specs.declared.operand.Operand.{Operand}
 use Rattle.cs_ugen.specs.Units as units
 use Rattle.cs_ugen.specs.Units.{moving_count, opcode_of}
 use Rattle.cs_ugen.specs.declared.unit.Kind.{Kind}
-use Rattle.cs_ugen.specs.declared.unit.Kind.TheVariants as unit
 use Rattle.cs_voice_meaning.specs.VoiceWorld.{inputs_at}
 
--- no unit takes more than seven arguments at a step
-few_test : (k : Kind) → nat_le (moving_count (opcode_of k)) 7 ≡ true
-few_test (unit.Oscil s) = refl
-few_test (unit.Oscili s) = refl
-few_test (unit.Phasor s) = refl
-few_test (unit.Line s) = refl
-few_test (unit.Linseg s) = refl
-few_test (unit.Linen s) = refl
-few_test (unit.Delay s) = refl
-few_test (unit.Biquad s) = refl
-few_test (unit.Table s) = refl
-few_test (unit.Tablei s) = refl
-few_test (unit.Integ s) = refl
-few_test (unit.Diff s) = refl
-few_test (unit.Samphold s) = refl
-few_test (unit.Limit s) = refl
-few_test (unit.Interp s) = refl
-few_test (unit.Downsamp s) = refl
+-- no opcode takes more than seven moving arguments
+few_test : (o : Opcode) → nat_le (moving_count o) 7 ≡ true
+few_test = of_all (λ o. nat_le (moving_count o) 7) refl
 
 pub few : (k : Kind) (n : ℕ) → n ≡ moving_count (opcode_of k) → n ≤ 7
-few k n e = subst (λ m. m ≤ 7) (sym e) (let h = few_test k in grind (arith, nat_tests))
+few k n e = subst (λ m. m ≤ 7) (sym e) (let h = few_test (opcode_of k) in grind (arith, nat_tests))
 
 -- what stands at a place of a list doesn't hang on what is read past its end
 default : {A : Type 0} (xs : List A) (j : ℕ) (d e : A) → j < length xs → get_or xs j d ≡ get_or xs j e

@@ -1,31 +1,13 @@
 -- No step makes another unit of a unit.
 use Rattle.std.proofs.Common.{◌≡◌, ℕ, zero, suc, ◌+◌, List, ℤ, refl, ◌∙◌, ap}
 use Rattle.cs_signal.specs.Steps.{run}
+use Rattle.cs_ugen.proofs.Units.{opcode_stays}
 use Rattle.cs_ugen.specs.Units.{opcode_of, unit_step}
 use Rattle.cs_ugen.specs.declared.unit.Kind.{Kind}
-use Rattle.cs_ugen.specs.declared.unit.Kind.TheVariants as unit
-
-same_step : (k : Kind) (x : List ℤ) → opcode_of (unit_step k x).0 ≡ opcode_of k
-same_step (unit.Oscil s) x = refl
-same_step (unit.Oscili s) x = refl
-same_step (unit.Phasor s) x = refl
-same_step (unit.Line s) x = refl
-same_step (unit.Linseg s) x = refl
-same_step (unit.Linen s) x = refl
-same_step (unit.Delay s) x = refl
-same_step (unit.Biquad s) x = refl
-same_step (unit.Table s) x = refl
-same_step (unit.Tablei s) x = refl
-same_step (unit.Integ s) x = refl
-same_step (unit.Diff s) x = refl
-same_step (unit.Samphold s) x = refl
-same_step (unit.Limit s) x = refl
-same_step (unit.Interp s) x = refl
-same_step (unit.Downsamp s) x = refl
 
 same_run : (at : ℕ → List ℤ) (k : Kind) (j n : ℕ) → opcode_of (run unit_step at k j n).0 ≡ opcode_of k
 same_run at k j zero = refl
-same_run at k j (suc n) = same_run at (unit_step k (at j)).0 (j + 1) n ∙ same_step k (at j)
+same_run at k j (suc n) = same_run at (unit_step k (at j)).0 (j + 1) n ∙ opcode_stays k (at j)
 
 -- a unit that has run is of the opcode that it was of
 pub same_unit : (at : ℕ → List ℤ) (k t : Kind) (j n : ℕ) (row : List ℤ) → (t, row) ≡ run unit_step at k j n → opcode_of t ≡ opcode_of k

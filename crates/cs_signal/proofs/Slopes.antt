@@ -37,7 +37,7 @@ linen_by x g s j (suc n) room h =
     ∙ ap (λ m. (record { rise = s.rise; duration = s.duration; decay = s.decay; number = m }, value ∷ map (λ i. product_of (x i) (g i)) (range_with_len (j + 1) n))) sum
     ∙ ap (λ z. (record { rise = s.rise; duration = s.duration; decay = s.decay; number = s.number + suc n }, product_of (x j) z ∷ map (λ i. product_of (x i) (g i)) (range_with_len (j + 1) n))) here
 
-by_one : (z : ℤ) → product_of z one ≡ clamp z
+pub by_one : (z : ℤ) → product_of z one ≡ clamp z
 by_one z = ap clamp (floor_is (z *ℤ one) z 65536 0 (record { sum = omega (arith, ints); below = omega arith }))
 
 one_by : (z : ℤ) → product_of one z ≡ clamp z

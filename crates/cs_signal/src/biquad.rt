@@ -1,8 +1,8 @@
 // `biquad`: a filter of two zeros and two poles, by whole numbers.
-ghost use Rattle.std.specs.Prelude.{ℕ, IfSome, true, ◌≡◌, ◌≢◌, ◌<◌, ◌≤◌, ◌+◌, ◌^◌, ◌∷◌, [], length, pos, ◌≤ℤ◌, ◌+ℤ◌, ◌-ℤ◌, ◌*ℤ◌, unsigned_abs};
+ghost use Rattle.std.specs.Prelude.{IfSome, true, ◌≡◌, ◌≢◌, ◌<◌, ◌≤◌, ◌+◌, ◌^◌, length, pos, ◌≤ℤ◌, ◌+ℤ◌, ◌-ℤ◌, ◌*ℤ◌, unsigned_abs};
 ghost use Rattle.std.specs.Int.{int_div_euclid};
 ghost use Rattle.cs_base.specs.Numbers.{IsRaw, clamp, floor_div, quotient_by_zero};
-ghost use Rattle.cs_signal.specs.Biquad.{biquad_start, biquad_step, filtered, ratio};
+ghost use Rattle.cs_signal.specs.Biquad.{all_held, biquad_step, filtered, inputs_by, ratio, values_at};
 ghost use Rattle.cs_signal.specs.Operands.{operand_at, Lasts};
 ghost use Rattle.cs_signal.specs.Steps.{run};
 
@@ -19,15 +19,16 @@ pub struct Biquad {
     y2: Num,
 }
 
-/// The factors of a step, `a0` among them, by which the sum of the products is divided.
+/// The coefficients of a step: `b0`, `b1` and `b2` of its input and the two before it, `a1` and `a2` of the two results
+/// before, and `a0`, by which the sum of the products is divided. Each is a value, or an operand over a control cycle.
 #[derive(Clone, Copy)]
-struct Factors {
-    b0: Num,
-    b1: Num,
-    b2: Num,
-    a0: Num,
-    a1: Num,
-    a2: Num,
+pub struct Coefficients<T> {
+    pub b0: T,
+    pub b1: T,
+    pub b2: T,
+    pub a0: T,
+    pub a1: T,
+    pub a2: T,
 }
 
 impl Model for Biquad {
@@ -54,26 +55,17 @@ impl Biquad {
     /// One step: the sum of the products of `b0`, `b1`, `b2` with the input and the two before it, less those of `a1`
     /// and `a2` with the two results before, by `a0`.
     #[inline(always)]
-    pub fn step(&mut self, x: Num, b0: Num, b1: Num, b2: Num, a0: Num, a1: Num, a2: Num) -> Num
-        ensures { (self.new, result) ≡ biquad_step self.old (x ∷ b0 ∷ b1 ∷ b2 ∷ a0 ∷ a1 ∷ a2 ∷ []) }
+    pub fn step(&mut self, x: Num, by: &Coefficients<Num>) -> Num
+        ensures { (self.new, result) ≡ biquad_step self.old (inputs_by x by.now) }
     {
-        let by = Factors {
-            b0,
-            b1,
-            b2,
-            a0,
-            a1,
-            a2,
-        };
-        self.step_by(x, &by, None)
+        self.step_by(x, by, None)
     }
 
     // A step, where `a0` may be known as a divisor.
     #[inline(always)]
-    fn step_by(&mut self, x: Num, by: &Factors, divisor: Option<Divisor>) -> Num
+    fn step_by(&mut self, x: Num, by: &Coefficients<Num>, divisor: Option<Divisor>) -> Num
         requires { IfSome divisor (λ d. d.value ≡ by.now.a0) }
-        ensures { (self.new, result) ≡ biquad_step self.old
-            (x ∷ by.now.b0 ∷ by.now.b1 ∷ by.now.b2 ∷ by.now.a0 ∷ by.now.a1 ∷ by.now.a2 ∷ []) }
+        ensures { (self.new, result) ≡ biquad_step self.old (inputs_by x by.now) }
     {
         let y = self.answer(x, by, divisor);
         self.x2 = self.x1;
@@ -84,53 +76,30 @@ impl Biquad {
     }
 
     /// A step for each frame of `out`.
-    pub fn block(
-        &mut self,
-        x: &Operand,
-        b0: &Operand,
-        b1: &Operand,
-        b2: &Operand,
-        a0: &Operand,
-        a1: &Operand,
-        a2: &Operand,
-        out: &mut [Num],
-    )
+    pub fn block(&mut self, x: &Operand, by: &Coefficients<Operand>, out: &mut [Num])
         requires x { Lasts (length out.old) x.now }
-        requires zeros { Lasts (length out.old) b0.now × Lasts (length out.old) b1.now × Lasts (length out.old) b2.now }
-        requires poles { Lasts (length out.old) a0.now × Lasts (length out.old) a1.now × Lasts (length out.old) a2.now }
-        ensures { let at = λ (j : ℕ). operand_at x.now j ∷ operand_at b0.now j ∷ operand_at b1.now j
-            ∷ operand_at b2.now j ∷ operand_at a0.now j ∷ operand_at a1.now j ∷ operand_at a2.now j ∷ [] in
-            (self.new, out.new) ≡ run biquad_step at self.old 0 (length out.old) }
+        requires zeros { let n = length out.old in Lasts n by.now.b0 × Lasts n by.now.b1 × Lasts n by.now.b2 }
+        requires poles { let n = length out.old in Lasts n by.now.a0 × Lasts n by.now.a1 × Lasts n by.now.a2 }
+        ensures { (self.new, out.new) ≡ run biquad_step (λ j. inputs_by (operand_at x.now j) (values_at by.now j))
+            self.old 0 (length out.old) }
     {
-        match (b0, b1, b2, a0, a1, a2) {
-            (
-                Operand::Held(b0),
-                Operand::Held(b1),
-                Operand::Held(b2),
-                Operand::Held(a0),
-                Operand::Held(a1),
-                Operand::Held(a2),
-            ) => {
-                let by = Factors {
-                    b0: *b0,
-                    b1: *b1,
-                    b2: *b2,
-                    a0: *a0,
-                    a1: *a1,
-                    a2: *a2,
-                };
-                self.held(x, &by, above_zero(*a0), out);
-            }
-            _ => self.moving(x, b0, b1, b2, a0, a1, a2, out),
+        match held_values(by) {
+            Some(values) => self.held(x, &values, above_zero(values.a0), out),
+            None => self.moving(x, by, out),
         }
     }
 
-    // A step for each frame, by factors that stay.
-    fn held(&mut self, x: &Operand, by: &Factors, divisor: Option<Divisor>, out: &mut [Num])
+    // A step for each frame, by coefficients that stay.
+    fn held(
+        &mut self,
+        x: &Operand,
+        by: &Coefficients<Num>,
+        divisor: Option<Divisor>,
+        out: &mut [Num],
+    )
         requires { IfSome divisor (λ d. d.value ≡ by.now.a0) }
-        ensures { let at = λ (j : ℕ). operand_at x.now j ∷ by.now.b0 ∷ by.now.b1 ∷ by.now.b2
-            ∷ by.now.a0 ∷ by.now.a1 ∷ by.now.a2 ∷ [] in
-            (self.new, out.new) ≡ run biquad_step at self.old 0 (length out.old) }
+        ensures { (self.new, out.new) ≡ run biquad_step (λ j. inputs_by (operand_at x.now j) by.now)
+            self.old 0 (length out.old) }
     {
         let mut unit = self.copied();
         for j in 0..out.len() {
@@ -139,42 +108,23 @@ impl Biquad {
         *self = unit;
     }
 
-    // A step for each frame, by factors that may move.
-    fn moving(
-        &mut self,
-        x: &Operand,
-        b0: &Operand,
-        b1: &Operand,
-        b2: &Operand,
-        a0: &Operand,
-        a1: &Operand,
-        a2: &Operand,
-        out: &mut [Num],
-    )
-        ensures { let at = λ (j : ℕ). operand_at x.now j ∷ operand_at b0.now j ∷ operand_at b1.now j
-            ∷ operand_at b2.now j ∷ operand_at a0.now j ∷ operand_at a1.now j ∷ operand_at a2.now j ∷ [] in
-            (self.new, out.new) ≡ run biquad_step at self.old 0 (length out.old) }
+    // A step for each frame, by coefficients that may move.
+    fn moving(&mut self, x: &Operand, by: &Coefficients<Operand>, out: &mut [Num])
+        ensures { (self.new, out.new) ≡ run biquad_step (λ j. inputs_by (operand_at x.now j) (values_at by.now j))
+            self.old 0 (length out.old) }
     {
         for j in 0..out.len() {
-            out[j] = self.step(
-                x.at(j),
-                b0.at(j),
-                b1.at(j),
-                b2.at(j),
-                a0.at(j),
-                a1.at(j),
-                a2.at(j),
-            );
+            let here = values_at(by, j);
+            out[j] = self.step(x.at(j), &here);
         }
     }
 
     // The result of a step.
     #[inline(always)]
-    fn answer(&self, x: Num, by: &Factors, divisor: Option<Divisor>) -> Num
+    fn answer(&self, x: Num, by: &Coefficients<Num>, divisor: Option<Divisor>) -> Num
         requires { IfSome divisor (λ d. d.value ≡ by.now.a0) }
         ensures { let s = self.now in
-            result ≡ filtered (x ∷ by.now.b0 ∷ by.now.b1 ∷ by.now.b2 ∷ by.now.a0 ∷ by.now.a1 ∷ by.now.a2 ∷ [])
-            s.x1 s.x2 s.y1 s.y2 }
+            result ≡ filtered (inputs_by x by.now) s.x1 s.x2 s.y1 s.y2 }
     {
         match self.near_sum(x, by) {
             Some(sum) => near_ratio(sum, by.a0, divisor),
@@ -184,7 +134,7 @@ impl Biquad {
 
     // What is divided.
     #[inline(always)]
-    fn wide_sum(&self, x: Num, by: &Factors) -> i128
+    fn wide_sum(&self, x: Num, by: &Coefficients<Num>) -> i128
         ensures value { let s = self.now in
             result ≡ ((by.now.b0 *ℤ x +ℤ by.now.b1 *ℤ s.x1) +ℤ by.now.b2 *ℤ s.x2)
             -ℤ (by.now.a1 *ℤ s.y1 +ℤ by.now.a2 *ℤ s.y2) }
@@ -198,7 +148,7 @@ impl Biquad {
 
     // The same, where all factors are below 2,048 and all signals below 32,768, so that no sum has over 61 bits.
     #[inline(always)]
-    fn near_sum(&self, x: Num, by: &Factors) -> Option<i64>
+    fn near_sum(&self, x: Num, by: &Coefficients<Num>) -> Option<i64>
         ensures value { let s = self.now in IfSome result (λ sum.
             sum ≡ ((by.now.b0 *ℤ x +ℤ by.now.b1 *ℤ s.x1) +ℤ by.now.b2 *ℤ s.x2)
             -ℤ (by.now.a1 *ℤ s.y1 +ℤ by.now.a2 *ℤ s.y2)) }
@@ -214,7 +164,7 @@ impl Biquad {
     }
 
     #[inline(always)]
-    fn short_sum(&self, x: Num, by: &Factors) -> i64
+    fn short_sum(&self, x: Num, by: &Coefficients<Num>) -> i64
         requires zeros { (unsigned_abs by.now.b0 ≤ 2 ^ 27) × (unsigned_abs by.now.b1 ≤ 2 ^ 27)
             × (unsigned_abs by.now.b2 ≤ 2 ^ 27) }
         requires poles { (unsigned_abs by.now.a1 ≤ 2 ^ 27) × (unsigned_abs by.now.a2 ≤ 2 ^ 27) }
@@ -245,6 +195,45 @@ impl Biquad {
     }
 }
 
+// Coefficients at a frame.
+#[inline(always)]
+fn values_at(by: &Coefficients<Operand>, frame: usize) -> Coefficients<Num>
+    ensures { result ≡ values_at by.now frame }
+{
+    Coefficients {
+        b0: by.b0.at(frame),
+        b1: by.b1.at(frame),
+        b2: by.b2.at(frame),
+        a0: by.a0.at(frame),
+        a1: by.a1.at(frame),
+        a2: by.a2.at(frame),
+    }
+}
+
+// The values of coefficients, where all of them are held.
+fn held_values(by: &Coefficients<Operand>) -> Option<Coefficients<Num>>
+    ensures { IfSome result (λ values. by.now ≡ all_held values) }
+{
+    match (&by.b0, &by.b1, &by.b2, &by.a0, &by.a1, &by.a2) {
+        (
+            Operand::Held(b0),
+            Operand::Held(b1),
+            Operand::Held(b2),
+            Operand::Held(a0),
+            Operand::Held(a1),
+            Operand::Held(a2),
+        ) => Some(Coefficients {
+            b0: *b0,
+            b1: *b1,
+            b2: *b2,
+            a0: *a0,
+            a1: *a1,
+            a2: *a2,
+        }),
+        _ => None,
+    }
+}
+
 // A divisor that is above 0.
 fn above_zero(value: Num) -> Option<Divisor>
     ensures { IfSome result (λ d. d.value ≡ value) }
@@ -264,20 +253,8 @@ fn ratio_by(n: i128, a0: Num, divisor: Option<Divisor>) -> Num
     requires known { IfSome divisor (λ d. d.value ≡ a0) }
     ensures { result ≡ ratio n a0 }
 {
-    match divisor {
-        Some(divisor) => known_ratio(n, a0, divisor),
-        None => ratio(n, a0.raw()),
-    }
-}
-
-#[inline(always)]
-fn known_ratio(n: i128, a0: Num, divisor: Divisor) -> Num
-    requires bounded { unsigned_abs n < 2 ^ 97 }
-    requires known { divisor.value ≡ a0 }
-    ensures { result ≡ ratio n a0 }
-{
     if -(1 << 61) < n && n < 1 << 61 {
-        divided(n as i64, a0, divisor)
+        near_ratio(n as i64, a0, divisor)
     } else {
         ratio(n, a0.raw())
     }

@@ -1,11 +1,12 @@
 // `delay`: its input of a fixed number of samples ago.
-ghost use Rattle.std.specs.Prelude.{ℕ, ◌≡◌, ◌+◌, ◌<◌, ◌≤◌, ◌^◌, ◌∷◌, [], List, IfOk, drop, length, replicate, pos};
+ghost use Rattle.std.specs.Prelude.{ℤ, ◌≡◌, ◌<◌, ◌≤◌, ◌∷◌, [], List, IfOk, length, vec_capacity};
 ghost use Rattle.cs_base.specs.declared.resource.Rate.{Rate};
 ghost use Rattle.cs_signal.specs.Delay.{delay_start, delay_step};
 ghost use Rattle.cs_signal.specs.Operands.{operand_at, Lasts};
 ghost use Rattle.cs_signal.specs.Pace.{pace_of};
 ghost use Rattle.cs_signal.specs.Steps.{run};
-ghost use Rattle.cs_signal.specs.inner.Ring.{IsNextPlace};
+ghost use Rattle.cs_signal.specs.Walk.{HasRun};
+ghost use Rattle.cs_signal.specs.inner.Ring.{IsNextPlace, IsRing, in_order, line_in};
 
 use crate::Operand;
 use crate::operand::argument;
@@ -14,41 +15,48 @@ use cs_base::{Head, Num};
 use std::alloc::{AllocError, Global};
 use std::marker::Model;
 
-/// A `delay` of a note: as many values as it is long, in a ring, and the place of the oldest.
+/// A `delay` of a note: `count` values in a ring, and the place of the oldest. The ring has memory for all of them from
+/// the start on, and is written as sound comes: what it doesn't have yet is 0.
 #[derive(Drop)]
 pub struct Delay {
     ring: Vec<Num>,
+    count: usize,
     oldest: usize,
 }
 
 impl Model for Delay {
-    ghost use Rattle.std.specs.Prelude.{ℤ, List, ◌<◌, ◌++◌, drop, take, length};
+    ghost use Rattle.std.specs.Prelude.{ℤ, List, vec_capacity};
+    ghost use Rattle.cs_signal.specs.inner.Ring.{IsRing, line_in};
 
     ghost Value = { List ℤ };
 
-    ghost view = { λ unit. drop unit.oldest unit.ring.items ++ take unit.oldest unit.ring.items };
+    ghost view = { λ unit. line_in unit.count unit.ring.items unit.oldest };
 
-    ghost invariant = { λ unit. unit.oldest < length unit.ring.items };
+    ghost invariant = { λ unit. IsRing unit.count unit.ring.items (vec_capacity unit.ring) unit.oldest };
 }
 
 impl Delay {
-    /// One that has no step behind it, from its settled argument, the time. It has room for its samples and no more.
+    /// One that has no step behind it, from its settled argument, the time. It has memory for its samples and no more.
+    #[tactic(auto, using(crate::proofs::Rings::none_yet))]
     pub fn start(alloc: Global, head: &Head, init: &[Num]) -> Result<Delay, AllocError>
         ensures { (rate : Rate) → IfOk result (λ unit. unit ≡ delay_start rate (pace_of head.now) init.now) }
     {
-        let ring = zeros(alloc, delay_samples(argument(init, 0), head))?;
-        Ok(Delay { ring, oldest: 0 })
+        let count = delay_samples(argument(init, 0), head) as usize;
+        let ring = Vec::with_capacity(alloc, count)?;
+        Ok(Delay {
+            ring,
+            count,
+            oldest: 0,
+        })
     }
 
     /// One step: the oldest value, in whose place the new one comes.
-    #[inline(always)]
     pub fn step(&mut self, x: Num) -> Num
         ensures { (self.new, result) ≡ delay_step self.old (x ∷ []) }
     {
-        let value = self.ring[self.oldest];
-        self.ring[self.oldest] = x;
-        self.oldest = after(self.oldest, self.ring.len());
-        value
+        let mut out = [Num::of_raw(0)];
+        self.block(&Operand::Held(x), &mut out);
+        out[0]
     }
 
     /// A step for each frame of `out`.
@@ -56,20 +64,79 @@ impl Delay {
         requires { Lasts (length out.old) x.now }
         ensures { (self.new, out.new) ≡ run delay_step (λ j. operand_at x.now j ∷ []) self.old 0 (length out.old) }
     {
-        for j in 0..out.len() {
-            out[j] = self.step(x.at(j));
-        }
+        self.oldest = pass(&mut self.ring, self.count, self.oldest, x, out);
     }
 }
 
-// So many zeros.
-fn zeros(alloc: Global, count: u64) -> Result<Vec<Num>, AllocError>
-    requires { count < 2 ^ 49 }
-    ensures { IfOk result (λ ring. ring.items ≡ replicate count (pos 0)) }
+// A step for each frame of `out`; the result is the place of the oldest value.
+fn pass(ring: &mut Vec<Num>, count: usize, oldest: usize, x: &Operand, out: &mut [Num]) -> usize
+    requires { IsRing count ring.old.items (vec_capacity ring.old) oldest }
+    ensures value { (line_in count ring.new.items result, out.new)
+        ≡ run delay_step (λ j. operand_at x.now j ∷ []) (line_in count ring.old.items oldest) 0 (length out.old) }
+    ensures kept { IsRing count ring.new.items (vec_capacity ring.new) result }
 {
-    let mut ring = Vec::with_capacity(alloc, count as usize)?;
-    ring.resize(count as usize, Num::of_raw(0))?;
-    Ok(ring)
+    if ring.len() < count {
+        filled_on(ring, count, x, out)
+    } else {
+        turned(ring, oldest, x, 0, out)
+    }
+}
+
+// The same where the ring isn't full yet.
+fn filled_on(ring: &mut Vec<Num>, count: usize, x: &Operand, out: &mut [Num]) -> usize
+    requires some { length ring.old.items < count }
+    requires memory { count ≤ vec_capacity ring.old }
+    ensures value { (line_in count ring.new.items result, out.new)
+        ≡ run delay_step (λ j. operand_at x.now j ∷ []) (line_in count ring.old.items 0) 0 (length out.old) }
+    ensures kept { IsRing count ring.new.items (vec_capacity ring.new) result }
+{
+    let filled = fill(ring, count, x, out);
+    if filled < out.len() {
+        turned(ring, 0, x, filled, out)
+    } else {
+        0
+    }
+}
+
+// The first steps, as long as the ring isn't full: their results are 0. The result is their number.
+fn fill(ring: &mut Vec<Num>, count: usize, x: &Operand, out: &mut [Num]) -> usize
+    requires some { length ring.old.items < count }
+    requires memory { count ≤ vec_capacity ring.old }
+    ensures run { HasRun delay_step (λ j. operand_at x.now j ∷ []) (line_in count ring.old.items 0) (length out.old)
+        result (line_in count ring.new.items 0) out.new }
+    ensures fits { length ring.new.items ≤ count }
+    ensures full { result < length out.old → count ≤ length ring.new.items }
+    ensures memory { count ≤ vec_capacity ring.new }
+{
+    let filled = (count - ring.len()).min(out.len());
+    for j in 0..filled {
+        ring.push_reserved(x.at(j));
+        out[j] = Num::of_raw(0);
+    }
+    filled
+}
+
+// The steps from a frame on, in a full ring whose oldest value has this place; the result is the place of the oldest
+// value after them.
+fn turned(ring: &mut Vec<Num>, oldest: usize, x: &Operand, from: usize, out: &mut [Num]) -> usize
+    requires { oldest < length ring.old.items }
+    ensures run { (first : List ℤ)
+        → HasRun delay_step (λ j. operand_at x.now j ∷ []) first (length out.old) from
+        (in_order ring.old.items oldest) out.old
+        → (in_order ring.new.items result, out.new)
+        ≡ run delay_step (λ j. operand_at x.now j ∷ []) first 0 (length out.old) }
+    ensures inside { result < length ring.new.items }
+    ensures long { length ring.new.items ≡ length ring.old.items }
+{
+    let len = ring.len();
+    let mut place = oldest;
+    for j in from..out.len() {
+        let value = ring[place];
+        ring[place] = x.at(j);
+        out[j] = value;
+        place = after(place, len);
+    }
+    place
 }
 
 // The place after this one in a ring.

@@ -1,13 +1,14 @@
 //! The units of lines, delays, filters and holds, and what units of every opcode share.
 //!
-//! The one contract: a unit's `start`, `step` and `block` do what the opcode's `.._start` and `.._step` of specs/ say, and
-//! `units_are_their_formulas` and `cycles_are_their_formulas` that these answer the opcode's formula over all inputs so
-//! far. How a unit keeps what it has to remember, and how a block of frames is computed faster than step by step, may
-//! be changed without anyone above noticing; the formulas may not.
+//! The one contract: a unit's `start`, `step` and `block` do what the opcode's `.._start` and `.._step` of specs/ say.
+//! That these return the opcode's formula over all inputs so far is a law of cs_ugen for every opcode
+//! (`units_meet_their_formulas`), by the lemmas of proofs/Formulas. How a unit keeps what it has to remember, and how a
+//! block of frames is computed faster than step by step, may be changed without anyone above noticing; the formulas may
+//! not.
 //!
-//! Modules in reading order: `pace` (times in steps), `operand` (inputs over a control cycle), `laws`; then a module an
-//! opcode: `line`, `linseg`, `linen`, `delay`, `biquad`, `integ`, `diff`, `samphold`, `limit`, `interp`, `downsamp`;
-//! `ramp` (many steps of a straight line by sums alone) and `divisor` (many quotients by one number).
+//! Modules in reading order: `pace` (times in steps), `operand` (inputs over a control cycle), `laws` (examples); then
+//! a module an opcode, `ramp` (many steps of a straight line by sums alone) and `divisor` (many quotients by one
+//! number).
 #![tactic(auto)]
 
 mod biquad;
@@ -27,14 +28,14 @@ mod pace;
 mod ramp;
 mod samphold;
 
-pub use biquad::Biquad;
+pub use biquad::{Biquad, Coefficients};
 pub use delay::Delay;
 pub use diff::Diff;
 pub use divisor::Divisor;
 pub use downsamp::Downsamp;
 pub use integ::Integ;
 pub use interp::Interp;
-pub use laws::{cycles_are_their_formulas, units_are_their_formulas, worked_examples};
+pub use laws::worked_examples;
 pub use limit::Limit;
 pub use line::Line;
 pub use linen::Linen;

@@ -1,7 +1,7 @@
 // `linen`: an amplitude under a straight rise and a straight decay.
-ghost use Rattle.std.specs.Prelude.{ℕ, ◌≡◌, ◌<◌, ◌≤◌, ◌*◌, ◌/◌, ◌^◌, ◌∷◌, [], true, length, map, pos, ◌-ℤ◌, ◌*ℤ◌, unsigned_abs};
+ghost use Rattle.std.specs.Prelude.{◌≡◌, ◌<◌, ◌≤◌, ◌*◌, ◌/◌, ◌^◌, ◌∷◌, [], true, length, map, pos, ◌-ℤ◌, ◌*ℤ◌, unsigned_abs};
 ghost use Rattle.std.specs.List.{range_with_len};
-ghost use Rattle.cs_base.specs.Numbers.{clamp, floor_div, one, product_of};
+ghost use Rattle.cs_base.specs.Numbers.{IsRaw, clamp, floor_div, one, product_of};
 ghost use Rattle.cs_signal.specs.Linen.{linen_start, linen_step, up_at, down_at};
 ghost use Rattle.cs_signal.specs.Operands.{argument, operand_at, Lasts};
 ghost use Rattle.cs_signal.specs.Pace.{pace_of, last_number};
@@ -123,8 +123,16 @@ fn level(x: &Operand, out: &mut [Num])
     ensures { out.new ≡ map (λ j. product_of (operand_at x.now j) one) (range_with_len 0 (length out.old)) }
 {
     for j in 0..out.len() {
-        out[j] = x.at(j).mul(Num::of_raw(65_536));
+        out[j] = by_one(x.at(j));
     }
+}
+
+// A number by one is itself.
+#[inline(always)]
+fn by_one(x: Num) -> Num
+    ensures { result ≡ product_of x one }
+{
+    Num::exact(x.raw())
 }
 
 // The amplitude under so many steps of the rise.
@@ -155,8 +163,55 @@ fn shape(x: &Operand, out: &mut [Num])
     ensures { out.new ≡ map (λ j. product_of (operand_at x.now j) (argument out.old j)) (range_with_len 0 (length out.old)) }
 {
     for j in 0..out.len() {
-        out[j] = x.at(j).mul(out[j]);
+        out[j] = product(x.at(j), out[j]);
     }
+}
+
+// The product of a number and a factor, which mostly lies from 0 below one.
+#[inline(always)]
+fn product(x: Num, factor: Num) -> Num
+    ensures { result ≡ product_of x factor }
+{
+    if is_part(factor) {
+        reduced(x, factor)
+    } else {
+        x.mul(factor)
+    }
+}
+
+// Whether a factor lies from 0 below one.
+#[inline(always)]
+fn is_part(factor: Num) -> bool
+    ensures { result ≡ true → unsigned_abs factor < 2 ^ 16 }
+{
+    0 <= factor.raw() && factor.raw() < 65_536
+}
+
+// The product where the factor is below one: it fits into 64 bits, and is in range.
+#[inline(always)]
+fn reduced(x: Num, factor: Num) -> Num
+    requires { unsigned_abs factor < 2 ^ 16 }
+    ensures { result ≡ product_of x factor }
+{
+    scaled(near_product(x.raw(), factor.raw()))
+}
+
+// The exact product.
+#[inline(always)]
+fn near_product(x: i64, factor: i64) -> i64
+    requires number { IsRaw x }
+    requires factor { unsigned_abs factor < 2 ^ 16 }
+    ensures { result ≡ x *ℤ factor }
+{
+    x * factor
+}
+
+// A product in 65,536ths, rounded down.
+#[inline(always)]
+fn scaled(product: i64) -> Num
+    ensures { result ≡ floor_div product one }
+{
+    Num::exact(product >> 16)
 }
 
 // The factor of the rise, from 0 to one.

@@ -24,6 +24,19 @@ impl Operand<'_> {
     }
 }
 
+impl<'r> Operand<'r> {
+    /// The same operand.
+    #[inline(always)]
+    pub fn copied(&self) -> Operand<'r>
+        ensures { result ≡ self.now }
+    {
+        match self {
+            Operand::Held(value) => Operand::Held(*value),
+            Operand::Row(values) => Operand::Row(*values),
+        }
+    }
+}
+
 /// An argument by its place, counted from 0; one that is missing is 0.
 pub fn argument(arguments: &[Num], place: usize) -> Num
     ensures { result ≡ argument arguments.now place }

@@ -42,14 +42,15 @@ three (a ∷ b ∷ []) x y z n e f g = absurd (omega arith)
 three (a ∷ b ∷ c ∷ []) x y z n e f g = cc
 three (a ∷ b ∷ c ∷ d ∷ r) x y z n e f g = absurd (omega arith)
 
-pub seven : (xs : List Operand) (a b c d e f g : Operand) → length xs ≡ 7 → a ≡ get_or xs 0 a → b ≡ get_or xs 1 b → c ≡ get_or xs 2 c →
-    d ≡ get_or xs 3 d → e ≡ get_or xs 4 e → f ≡ get_or xs 5 f → g ≡ get_or xs 6 g → xs ≡ a ∷ b ∷ c ∷ d ∷ e ∷ f ∷ g ∷ []
-seven (p ∷ q ∷ r ∷ s ∷ t ∷ u ∷ v ∷ []) a b c d e f g n i j k l m o w = cc
-seven (p ∷ q ∷ r ∷ s ∷ t ∷ u ∷ v ∷ x ∷ y) a b c d e f g n i j k l m o w = absurd (omega arith)
-seven (p ∷ q ∷ r ∷ s ∷ t ∷ u ∷ []) a b c d e f g n i j k l m o w = absurd (omega arith)
-seven (p ∷ q ∷ r ∷ s ∷ t ∷ []) a b c d e f g n i j k l m o w = absurd (omega arith)
-seven (p ∷ q ∷ r ∷ s ∷ []) a b c d e f g n i j k l m o w = absurd (omega arith)
-seven (p ∷ q ∷ r ∷ []) a b c d e f g n i j k l m o w = absurd (omega arith)
-seven (p ∷ q ∷ []) a b c d e f g n i j k l m o w = absurd (omega arith)
-seven (p ∷ []) a b c d e f g n i j k l m o w = absurd (omega arith)
-seven [] a b c d e f g n i j k l m o w = absurd (omega arith)
+pub seven : (xs : List Operand) (a b c d e f g p q r s t u v : Operand) → length xs ≡ 7 →
+    a ≡ get_or xs 0 p → b ≡ get_or xs 1 q → c ≡ get_or xs 2 r → d ≡ get_or xs 3 s → e ≡ get_or xs 4 t → f ≡ get_or xs 5 u →
+    g ≡ get_or xs 6 v → xs ≡ a ∷ b ∷ c ∷ d ∷ e ∷ f ∷ g ∷ []
+seven (x0 ∷ x1 ∷ x2 ∷ x3 ∷ x4 ∷ x5 ∷ x6 ∷ []) a b c d e f g p q r s t u v n i j k l m o w = cc
+seven (x0 ∷ x1 ∷ x2 ∷ x3 ∷ x4 ∷ x5 ∷ x6 ∷ x ∷ y) a b c d e f g p q r s t u v n i j k l m o w = absurd (omega arith)
+seven (x0 ∷ x1 ∷ x2 ∷ x3 ∷ x4 ∷ x5 ∷ []) a b c d e f g p q r s t u v n i j k l m o w = absurd (omega arith)
+seven (x0 ∷ x1 ∷ x2 ∷ x3 ∷ x4 ∷ []) a b c d e f g p q r s t u v n i j k l m o w = absurd (omega arith)
+seven (x0 ∷ x1 ∷ x2 ∷ x3 ∷ []) a b c d e f g p q r s t u v n i j k l m o w = absurd (omega arith)
+seven (x0 ∷ x1 ∷ x2 ∷ []) a b c d e f g p q r s t u v n i j k l m o w = absurd (omega arith)
+seven (x0 ∷ x1 ∷ []) a b c d e f g p q r s t u v n i j k l m o w = absurd (omega arith)
+seven (x0 ∷ []) a b c d e f g p q r s t u v n i j k l m o w = absurd (omega arith)
+seven [] a b c d e f g p q r s t u v n i j k l m o w = absurd (omega arith)

@@ -11,24 +11,6 @@ use Rattle.cs_ugen.specs.Units.{IsUnitOpcode, Stands, StateStands, gen, opcode_o
 use Rattle.cs_ugen.specs.declared.unit.Kind.{Kind}
 use Rattle.cs_ugen.specs.declared.unit.Kind.TheVariants as unit
 
-pub opcode_stays : (u : Kind) (x : List ℤ) → opcode_of (unit_step u x).0 ≡ opcode_of u
-opcode_stays (unit.Oscil s) x = refl
-opcode_stays (unit.Oscili s) x = refl
-opcode_stays (unit.Phasor s) x = refl
-opcode_stays (unit.Line s) x = refl
-opcode_stays (unit.Linseg s) x = refl
-opcode_stays (unit.Linen s) x = refl
-opcode_stays (unit.Delay s) x = refl
-opcode_stays (unit.Biquad s) x = refl
-opcode_stays (unit.Table s) x = refl
-opcode_stays (unit.Tablei s) x = refl
-opcode_stays (unit.Integ s) x = refl
-opcode_stays (unit.Diff s) x = refl
-opcode_stays (unit.Samphold s) x = refl
-opcode_stays (unit.Limit s) x = refl
-opcode_stays (unit.Interp s) x = refl
-opcode_stays (unit.Downsamp s) x = refl
-
 pub state_starts : (o : Opcode) (rate : Rate) (pace : Pace) (settled : List ℤ) → IsUnitOpcode o → Stands (unit_start o rate pace settled) o rate pace settled []
 state_starts op.Oscil rate pace settled h = record { opcode = refl; state = oscil_is_unit.starts rate pace settled }
 state_starts op.Oscili rate pace settled h = record { opcode = refl; state = oscili_is_unit.starts rate pace settled }
@@ -67,54 +49,45 @@ state_starts op.Chnclear rate pace settled h = absurd cc
 state_starts op.Schedule rate pace settled h = absurd cc
 state_starts op.EventI rate pace settled h = absurd cc
 
-pub state_answers : (u : Kind) (rate : Rate) (pace : Pace) (settled : List ℤ) (before : List (List ℤ)) (x : List ℤ) →
-    StateStands u rate pace settled before → (unit_step u x).1 ≡ gen (opcode_of u) rate pace settled (before ++ x ∷ [])
-unfolding gen
-state_answers (unit.Oscil s) rate pace settled before x h = oscil_is_unit.answers s rate pace settled before x h
-state_answers (unit.Oscili s) rate pace settled before x h = oscili_is_unit.answers s rate pace settled before x h
-state_answers (unit.Phasor s) rate pace settled before x h = phasor_is_unit.answers s rate pace settled before x h
-state_answers (unit.Line s) rate pace settled before x h = line_law.answers s rate pace settled before x h
-state_answers (unit.Linseg s) rate pace settled before x h = linseg_law.answers s rate pace settled before x h
-state_answers (unit.Linen s) rate pace settled before x h = linen_law.answers s rate pace settled before x h
-state_answers (unit.Delay s) rate pace settled before x h = delay_law.answers s rate pace settled before x h
-state_answers (unit.Biquad s) rate pace settled before x h = biquad_law.answers s rate pace settled before x h
-state_answers (unit.Table s) rate pace settled before x h = table_is_unit.answers s rate pace settled before x h
-state_answers (unit.Tablei s) rate pace settled before x h = tablei_is_unit.answers s rate pace settled before x h
-state_answers (unit.Integ s) rate pace settled before x h = integ_law.answers s rate pace settled before x h
-state_answers (unit.Diff s) rate pace settled before x h = diff_law.answers s rate pace settled before x h
-state_answers (unit.Samphold s) rate pace settled before x h = samphold_law.answers s rate pace settled before x h
-state_answers (unit.Limit s) rate pace settled before x h = limit_law.answers s rate pace settled before x h
-state_answers (unit.Interp s) rate pace settled before x h = interp_law.answers s rate pace settled before x h
-state_answers (unit.Downsamp s) rate pace settled before x h = downsamp_law.answers s rate pace settled before x h
+-- what the law of an opcode says of a unit
+record HasLaw (u : Kind) : Type 0 where
+  stays : (x : List ℤ) → opcode_of (unit_step u x).0 ≡ opcode_of u
+  answers : (rate : Rate) (pace : Pace) (settled : List ℤ) (before : List (List ℤ)) (x : List ℤ) → StateStands u rate pace settled before
+      → (unit_step u x).1 ≡ gen (opcode_of u) rate pace settled (before ++ x ∷ [])
+  goes_on : (rate : Rate) (pace : Pace) (settled : List ℤ) (before : List (List ℤ)) (x : List ℤ) → StateStands u rate pace settled before
+      → StateStands (unit_step u x).0 rate pace settled (before ++ x ∷ [])
 
-pub state_goes_on : (u : Kind) (rate : Rate) (pace : Pace) (settled : List ℤ) (before : List (List ℤ)) (x : List ℤ) →
-    StateStands u rate pace settled before → StateStands (unit_step u x).0 rate pace settled (before ++ x ∷ [])
-state_goes_on (unit.Oscil s) rate pace settled before x h = oscil_is_unit.goes_on s rate pace settled before x h
-state_goes_on (unit.Oscili s) rate pace settled before x h = oscili_is_unit.goes_on s rate pace settled before x h
-state_goes_on (unit.Phasor s) rate pace settled before x h = phasor_is_unit.goes_on s rate pace settled before x h
-state_goes_on (unit.Line s) rate pace settled before x h = line_law.goes_on s rate pace settled before x h
-state_goes_on (unit.Linseg s) rate pace settled before x h = linseg_law.goes_on s rate pace settled before x h
-state_goes_on (unit.Linen s) rate pace settled before x h = linen_law.goes_on s rate pace settled before x h
-state_goes_on (unit.Delay s) rate pace settled before x h = delay_law.goes_on s rate pace settled before x h
-state_goes_on (unit.Biquad s) rate pace settled before x h = biquad_law.goes_on s rate pace settled before x h
-state_goes_on (unit.Table s) rate pace settled before x h = table_is_unit.goes_on s rate pace settled before x h
-state_goes_on (unit.Tablei s) rate pace settled before x h = tablei_is_unit.goes_on s rate pace settled before x h
-state_goes_on (unit.Integ s) rate pace settled before x h = integ_law.goes_on s rate pace settled before x h
-state_goes_on (unit.Diff s) rate pace settled before x h = diff_law.goes_on s rate pace settled before x h
-state_goes_on (unit.Samphold s) rate pace settled before x h = samphold_law.goes_on s rate pace settled before x h
-state_goes_on (unit.Limit s) rate pace settled before x h = limit_law.goes_on s rate pace settled before x h
-state_goes_on (unit.Interp s) rate pace settled before x h = interp_law.goes_on s rate pace settled before x h
-state_goes_on (unit.Downsamp s) rate pace settled before x h = downsamp_law.goes_on s rate pace settled before x h
+has_law : (u : Kind) → HasLaw u
+unfolding gen
+has_law (unit.Oscil s) = record { stays = λ x. refl; answers = oscil_is_unit.answers s; goes_on = oscil_is_unit.goes_on s }
+has_law (unit.Oscili s) = record { stays = λ x. refl; answers = oscili_is_unit.answers s; goes_on = oscili_is_unit.goes_on s }
+has_law (unit.Phasor s) = record { stays = λ x. refl; answers = phasor_is_unit.answers s; goes_on = phasor_is_unit.goes_on s }
+has_law (unit.Line s) = record { stays = λ x. refl; answers = line_law.answers s; goes_on = line_law.goes_on s }
+has_law (unit.Linseg s) = record { stays = λ x. refl; answers = linseg_law.answers s; goes_on = linseg_law.goes_on s }
+has_law (unit.Linen s) = record { stays = λ x. refl; answers = linen_law.answers s; goes_on = linen_law.goes_on s }
+has_law (unit.Delay s) = record { stays = λ x. refl; answers = delay_law.answers s; goes_on = delay_law.goes_on s }
+has_law (unit.Biquad s) = record { stays = λ x. refl; answers = biquad_law.answers s; goes_on = biquad_law.goes_on s }
+has_law (unit.Table s) = record { stays = λ x. refl; answers = table_is_unit.answers s; goes_on = table_is_unit.goes_on s }
+has_law (unit.Tablei s) = record { stays = λ x. refl; answers = tablei_is_unit.answers s; goes_on = tablei_is_unit.goes_on s }
+has_law (unit.Integ s) = record { stays = λ x. refl; answers = integ_law.answers s; goes_on = integ_law.goes_on s }
+has_law (unit.Diff s) = record { stays = λ x. refl; answers = diff_law.answers s; goes_on = diff_law.goes_on s }
+has_law (unit.Samphold s) = record { stays = λ x. refl; answers = samphold_law.answers s; goes_on = samphold_law.goes_on s }
+has_law (unit.Limit s) = record { stays = λ x. refl; answers = limit_law.answers s; goes_on = limit_law.goes_on s }
+has_law (unit.Interp s) = record { stays = λ x. refl; answers = interp_law.answers s; goes_on = interp_law.goes_on s }
+has_law (unit.Downsamp s) = record { stays = λ x. refl; answers = downsamp_law.answers s; goes_on = downsamp_law.goes_on s }
+
+pub opcode_stays : (u : Kind) (x : List ℤ) → opcode_of (unit_step u x).0 ≡ opcode_of u
+opcode_stays u x = (has_law u).stays x
 
 pub answers : (u : Kind) (o : Opcode) (rate : Rate) (pace : Pace) (settled : List ℤ) (before : List (List ℤ)) (x : List ℤ) →
     Stands u o rate pace settled before → (unit_step u x).1 ≡ gen o rate pace settled (before ++ x ∷ [])
 answers u o rate pace settled before x h =
-    state_answers u rate pace settled before x h.state ∙ ap (λ p. gen p rate pace settled (before ++ x ∷ [])) h.opcode
+    (has_law u).answers rate pace settled before x h.state ∙ ap (λ p. gen p rate pace settled (before ++ x ∷ [])) h.opcode
 
 pub goes_on : (u : Kind) (o : Opcode) (rate : Rate) (pace : Pace) (settled : List ℤ) (before : List (List ℤ)) (x : List ℤ) →
     Stands u o rate pace settled before → Stands (unit_step u x).0 o rate pace settled (before ++ x ∷ [])
 goes_on u o rate pace settled before x h =
-    record { opcode = opcode_stays u x ∙ h.opcode; state = state_goes_on u rate pace settled before x h.state }
+    record { opcode = opcode_stays u x ∙ h.opcode; state = (has_law u).goes_on rate pace settled before x h.state }
 
 -- the law of every opcode
 pub units : (o : Opcode) → IsUnitOpcode o → IsUnit (gen o) (unit_start o) unit_step (λ u. Stands u o)

@@ -1,4 +1,4 @@
--- The units by opcode: what each answers, what it keeps, and how a step goes.
+-- The units by opcode: what each gives, what it keeps, and how a step goes. An opcode has a line in two tables.
 use Rattle.std.specs.Prelude.{◌≡◌, ℕ, Bool, true, false, List, length, map, ℤ, pos}
 use Rattle.cs_base.specs.declared.resource.Rate.{Rate}
 use Rattle.cs_words.specs.Catalogue.{row_of, moving_letters}
@@ -31,106 +31,85 @@ use Rattle.cs_ugen.specs.declared.unit.Kind.TheVariants as unit
 abbrev pub IsUnitOpcode : Opcode → Type 0
 IsUnitOpcode o = (row_of o).shape ≡ shape.Unit
 
--- what an opcode answers in the last of some steps, from its rate, the piece's pace, its settled arguments, and the
--- inputs of all steps so far; 0 where the opcode is no unit
+-- What there is of an opcode: its formula, which gives its result in the last of some steps from its rate, the piece's
+-- pace, its settled arguments and the inputs of all steps so far; and a unit of it before its first step.
+pub record OfOpcode : Type 0 where
+  pub formula : Rate → Pace → List ℤ → List (List ℤ) → ℤ
+  pub start : Rate → Pace → List ℤ → Kind
+
+abbrev pub by_start : {S : Type 0} → (S → Kind) → (Rate → Pace → List ℤ → List (List ℤ) → ℤ)
+    → (Rate → Pace → List ℤ → S) → OfOpcode
+by_start kind formula start = record { formula = formula; start = λ rate pace settled. kind (start rate pace settled) }
+
+-- an opcode that is no unit gives 0, and has no unit of its own
+abbrev pub of_opcode : Opcode → OfOpcode
+of_opcode op.Oscil = by_start unit.Oscil oscil_of oscil_start
+of_opcode op.Oscili = by_start unit.Oscili oscili_of oscili_start
+of_opcode op.Phasor = by_start unit.Phasor phasor_of phasor_start
+of_opcode op.Line = by_start unit.Line line_of line_start
+of_opcode op.Linseg = by_start unit.Linseg linseg_of linseg_start
+of_opcode op.Linen = by_start unit.Linen linen_of linen_start
+of_opcode op.Delay = by_start unit.Delay delay_of delay_start
+of_opcode op.Biquad = by_start unit.Biquad biquad_of biquad_start
+of_opcode op.Table = by_start unit.Table table_of table_start
+of_opcode op.Tablei = by_start unit.Tablei tablei_of tablei_start
+of_opcode op.Integ = by_start unit.Integ integ_of integ_start
+of_opcode op.Diff = by_start unit.Diff diff_of diff_start
+of_opcode op.Samphold = by_start unit.Samphold samphold_of samphold_start
+of_opcode op.Limit = by_start unit.Limit limit_of limit_start
+of_opcode op.Interp = by_start unit.Interp interp_of interp_start
+of_opcode op.Downsamp = by_start unit.Downsamp downsamp_of downsamp_start
+of_opcode _ = by_start unit.Downsamp (λ rate pace settled inputs. pos 0) downsamp_start
+
+-- what an opcode gives in the last of some steps
 unfoldable pub gen : Opcode → Rate → Pace → List ℤ → List (List ℤ) → ℤ
-gen op.Oscil rate pace settled inputs = oscil_of rate pace settled inputs
-gen op.Oscili rate pace settled inputs = oscili_of rate pace settled inputs
-gen op.Phasor rate pace settled inputs = phasor_of rate pace settled inputs
-gen op.Line rate pace settled inputs = line_of rate pace settled inputs
-gen op.Linseg rate pace settled inputs = linseg_of rate pace settled inputs
-gen op.Linen rate pace settled inputs = linen_of rate pace settled inputs
-gen op.Delay rate pace settled inputs = delay_of rate pace settled inputs
-gen op.Biquad rate pace settled inputs = biquad_of rate pace settled inputs
-gen op.Table rate pace settled inputs = table_of rate pace settled inputs
-gen op.Tablei rate pace settled inputs = tablei_of rate pace settled inputs
-gen op.Integ rate pace settled inputs = integ_of rate pace settled inputs
-gen op.Diff rate pace settled inputs = diff_of rate pace settled inputs
-gen op.Samphold rate pace settled inputs = samphold_of rate pace settled inputs
-gen op.Limit rate pace settled inputs = limit_of rate pace settled inputs
-gen op.Interp rate pace settled inputs = interp_of rate pace settled inputs
-gen op.Downsamp rate pace settled inputs = downsamp_of rate pace settled inputs
-gen _ rate pace settled inputs = pos 0
+gen o rate pace settled inputs = (of_opcode o).formula rate pace settled inputs
 
 -- a unit before its first step
 abbrev pub unit_start : Opcode → Rate → Pace → List ℤ → Kind
-unit_start op.Oscil rate pace settled = unit.Oscil (oscil_start rate pace settled)
-unit_start op.Oscili rate pace settled = unit.Oscili (oscili_start rate pace settled)
-unit_start op.Phasor rate pace settled = unit.Phasor (phasor_start rate pace settled)
-unit_start op.Line rate pace settled = unit.Line (line_start rate pace settled)
-unit_start op.Linseg rate pace settled = unit.Linseg (linseg_start rate pace settled)
-unit_start op.Linen rate pace settled = unit.Linen (linen_start rate pace settled)
-unit_start op.Delay rate pace settled = unit.Delay (delay_start rate pace settled)
-unit_start op.Biquad rate pace settled = unit.Biquad (biquad_start rate pace settled)
-unit_start op.Table rate pace settled = unit.Table (table_start rate pace settled)
-unit_start op.Tablei rate pace settled = unit.Tablei (tablei_start rate pace settled)
-unit_start op.Integ rate pace settled = unit.Integ (integ_start rate pace settled)
-unit_start op.Diff rate pace settled = unit.Diff (diff_start rate pace settled)
-unit_start op.Samphold rate pace settled = unit.Samphold (samphold_start rate pace settled)
-unit_start op.Limit rate pace settled = unit.Limit (limit_start rate pace settled)
-unit_start op.Interp rate pace settled = unit.Interp (interp_start rate pace settled)
-unit_start _ rate pace settled = unit.Downsamp (downsamp_start rate pace settled)
+unit_start o rate pace settled = (of_opcode o).start rate pace settled
 
--- the opcode that a unit is of
-abbrev pub opcode_of : Kind → Opcode
-opcode_of (unit.Oscil s) = op.Oscil
-opcode_of (unit.Oscili s) = op.Oscili
-opcode_of (unit.Phasor s) = op.Phasor
-opcode_of (unit.Line s) = op.Line
-opcode_of (unit.Linseg s) = op.Linseg
-opcode_of (unit.Linen s) = op.Linen
-opcode_of (unit.Delay s) = op.Delay
-opcode_of (unit.Biquad s) = op.Biquad
-opcode_of (unit.Table s) = op.Table
-opcode_of (unit.Tablei s) = op.Tablei
-opcode_of (unit.Integ s) = op.Integ
-opcode_of (unit.Diff s) = op.Diff
-opcode_of (unit.Samphold s) = op.Samphold
-opcode_of (unit.Limit s) = op.Limit
-opcode_of (unit.Interp s) = op.Interp
-opcode_of (unit.Downsamp s) = op.Downsamp
+-- What there is of a unit: its opcode, one step, which gives the unit afterwards and its result, and for which steps
+-- behind it its state stands.
+pub record OfUnit : Type 1 where
+  pub opcode : Opcode
+  pub step : List ℤ → Kind × ℤ
+  pub stands : Rate → Pace → List ℤ → List (List ℤ) → Type 0
 
 -- a step of a state within a unit
 abbrev pub as_unit : {S : Type 0} → (S → Kind) → S × ℤ → Kind × ℤ
 as_unit kind r = (kind r.0, r.1)
 
--- one step: the unit afterwards, and its result
-abbrev pub unit_step : Kind → List ℤ → Kind × ℤ
-unit_step (unit.Oscil s) x = as_unit unit.Oscil (oscil_step s x)
-unit_step (unit.Oscili s) x = as_unit unit.Oscili (oscili_step s x)
-unit_step (unit.Phasor s) x = as_unit unit.Phasor (phasor_step s x)
-unit_step (unit.Line s) x = as_unit unit.Line (line_step s x)
-unit_step (unit.Linseg s) x = as_unit unit.Linseg (linseg_step s x)
-unit_step (unit.Linen s) x = as_unit unit.Linen (linen_step s x)
-unit_step (unit.Delay s) x = as_unit unit.Delay (delay_step s x)
-unit_step (unit.Biquad s) x = as_unit unit.Biquad (biquad_step s x)
-unit_step (unit.Table s) x = as_unit unit.Table (table_step s x)
-unit_step (unit.Tablei s) x = as_unit unit.Tablei (tablei_step s x)
-unit_step (unit.Integ s) x = as_unit unit.Integ (integ_step s x)
-unit_step (unit.Diff s) x = as_unit unit.Diff (diff_step s x)
-unit_step (unit.Samphold s) x = as_unit unit.Samphold (samphold_step s x)
-unit_step (unit.Limit s) x = as_unit unit.Limit (limit_step s x)
-unit_step (unit.Interp s) x = as_unit unit.Interp (interp_step s x)
-unit_step (unit.Downsamp s) x = as_unit unit.Downsamp (downsamp_step s x)
+abbrev pub by_state : {S : Type 0} → (S → Kind) → Opcode → (S → List ℤ → S × ℤ)
+    → (S → Rate → Pace → List ℤ → List (List ℤ) → Type 0) → S → OfUnit
+by_state kind opcode step stands s = record { opcode = opcode; step = λ x. as_unit kind (step s x); stands = stands s }
 
--- the state of a unit stands for the steps behind it
+abbrev pub of_unit : Kind → OfUnit
+of_unit (unit.Oscil s) = by_state unit.Oscil op.Oscil oscil_step OscilStands s
+of_unit (unit.Oscili s) = by_state unit.Oscili op.Oscili oscili_step OsciliStands s
+of_unit (unit.Phasor s) = by_state unit.Phasor op.Phasor phasor_step PhasorStands s
+of_unit (unit.Line s) = by_state unit.Line op.Line line_step LineStands s
+of_unit (unit.Linseg s) = by_state unit.Linseg op.Linseg linseg_step LinsegStands s
+of_unit (unit.Linen s) = by_state unit.Linen op.Linen linen_step LinenStands s
+of_unit (unit.Delay s) = by_state unit.Delay op.Delay delay_step DelayStands s
+of_unit (unit.Biquad s) = by_state unit.Biquad op.Biquad biquad_step BiquadStands s
+of_unit (unit.Table s) = by_state unit.Table op.Table table_step TableStands s
+of_unit (unit.Tablei s) = by_state unit.Tablei op.Tablei tablei_step TableiStands s
+of_unit (unit.Integ s) = by_state unit.Integ op.Integ integ_step IntegStands s
+of_unit (unit.Diff s) = by_state unit.Diff op.Diff diff_step DiffStands s
+of_unit (unit.Samphold s) = by_state unit.Samphold op.Samphold samphold_step SampholdStands s
+of_unit (unit.Limit s) = by_state unit.Limit op.Limit limit_step LimitStands s
+of_unit (unit.Interp s) = by_state unit.Interp op.Interp interp_step InterpStands s
+of_unit (unit.Downsamp s) = by_state unit.Downsamp op.Downsamp downsamp_step DownsampStands s
+
+abbrev pub opcode_of : Kind → Opcode
+opcode_of u = (of_unit u).opcode
+
+abbrev pub unit_step : Kind → List ℤ → Kind × ℤ
+unit_step u x = (of_unit u).step x
+
 abbrev pub StateStands : Kind → Rate → Pace → List ℤ → List (List ℤ) → Type 0
-StateStands (unit.Oscil s) = OscilStands s
-StateStands (unit.Oscili s) = OsciliStands s
-StateStands (unit.Phasor s) = PhasorStands s
-StateStands (unit.Line s) = LineStands s
-StateStands (unit.Linseg s) = LinsegStands s
-StateStands (unit.Linen s) = LinenStands s
-StateStands (unit.Delay s) = DelayStands s
-StateStands (unit.Biquad s) = BiquadStands s
-StateStands (unit.Table s) = TableStands s
-StateStands (unit.Tablei s) = TableiStands s
-StateStands (unit.Integ s) = IntegStands s
-StateStands (unit.Diff s) = DiffStands s
-StateStands (unit.Samphold s) = SampholdStands s
-StateStands (unit.Limit s) = LimitStands s
-StateStands (unit.Interp s) = InterpStands s
-StateStands (unit.Downsamp s) = DownsampStands s
+StateStands u = (of_unit u).stands
 
 -- a unit stands for a list of inputs, one entry a step, under an opcode, a rate, a pace and settled arguments
 pub record Stands (u : Kind) (o : Opcode) (rate : Rate) (pace : Pace) (settled : List ℤ) (inputs : List (List ℤ)) : Type 0 where

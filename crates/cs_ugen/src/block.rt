@@ -1,7 +1,8 @@
 // A whole vector of steps in one call.
-ghost use Rattle.std.specs.Prelude.{◌≡◌, ◌++◌, ◌∷◌, [], true, false, length, map};
+ghost use Rattle.std.specs.Prelude.{◌≡◌, ◌++◌, true, false, length};
 ghost use Rattle.std.specs.List.{All};
-ghost use Rattle.cs_signal.specs.Operands.{Lasts, operand_at};
+ghost use Rattle.cs_signal.specs.Biquad.{biquad_step};
+ghost use Rattle.cs_signal.specs.Operands.{Lasts};
 ghost use Rattle.cs_signal.specs.Steps.{run};
 ghost use Rattle.cs_ugen.specs.Units.{inputs_at, moving_count, opcode_of, reads_table, unit_step};
 
@@ -9,7 +10,7 @@ use crate::Curve;
 use crate::reading::{Interpolating, Truncating};
 use crate::unit::{Kind, Unit};
 use cs_base::Num;
-use cs_signal::Operand;
+use cs_signal::{Biquad, Coefficients, Operand};
 
 impl Unit {
     /// A step for each frame of `out`, of a unit that reads no table, on its moving arguments in the order of the text.
@@ -26,10 +27,7 @@ impl Unit {
             Kind::Linseg(unit) => unit.block(out),
             Kind::Linen(unit) => unit.block(&inputs[0], out),
             Kind::Delay(unit) => unit.block(&inputs[0], out),
-            Kind::Biquad(unit) => unit.block(
-                &inputs[0], &inputs[1], &inputs[2], &inputs[3], &inputs[4], &inputs[5], &inputs[6],
-                out,
-            ),
+            Kind::Biquad(unit) => filtered(unit, inputs, out),
             Kind::Integ(unit) => unit.block(&inputs[0], out),
             Kind::Diff(unit) => unit.block(&inputs[0], out),
             Kind::Samphold(unit) => unit.block(&inputs[0], &inputs[1], out),
@@ -61,4 +59,20 @@ impl Unit {
             _ => unreachable!(),
         }
     }
+}
+
+fn filtered(unit: &mut Biquad, inputs: &[Operand], out: &mut [Num])
+    requires count { length inputs.now ≡ 7 }
+    requires last { All (Lasts (length out.old)) inputs.now }
+    ensures { (unit.new, out.new) ≡ run biquad_step (inputs_at inputs.now) unit.old 0 (length out.old) }
+{
+    let by = Coefficients {
+        b0: inputs[1].copied(),
+        b1: inputs[2].copied(),
+        b2: inputs[3].copied(),
+        a0: inputs[4].copied(),
+        a1: inputs[5].copied(),
+        a2: inputs[6].copied(),
+    };
+    unit.block(&inputs[0], &by, out);
 }

@@ -30,8 +30,6 @@ pub use cs_signal::delay_samples;
 pub use curve::Curve;
 pub use frozen::{Frozen, FrozenTable, ShortCurve};
 pub use laws::{blocks_meet_their_formulas, units_meet_their_formulas};
-pub use oscillator_laws::{
-    made_tables_are_curves, oscillators_meet_their_formulas, steps_worked_by_hand,
-};
+pub use oscillator_laws::{made_tables_are_curves, steps_worked_by_hand};
 pub use phasor::Phasor;
 pub use unit::Unit;

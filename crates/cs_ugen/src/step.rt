@@ -7,7 +7,7 @@ use crate::Curve;
 use crate::reading::{Interpolating, Truncating};
 use crate::unit::{Kind, Unit};
 use cs_base::Num;
-use cs_signal::{Biquad, argument};
+use cs_signal::{Biquad, Coefficients, argument};
 
 impl Unit {
     /// One step of a unit that reads no table, on its moving arguments in the order of the text; one that is missing
@@ -55,13 +55,13 @@ impl Unit {
 fn filtered(unit: &mut Biquad, inputs: &[Num]) -> Num
     ensures { (unit.new, result) ≡ biquad_step unit.old inputs.now }
 {
-    unit.step(
-        argument(inputs, 0),
-        argument(inputs, 1),
-        argument(inputs, 2),
-        argument(inputs, 3),
-        argument(inputs, 4),
-        argument(inputs, 5),
-        argument(inputs, 6),
-    )
+    let by = Coefficients {
+        b0: argument(inputs, 1),
+        b1: argument(inputs, 2),
+        b2: argument(inputs, 3),
+        a0: argument(inputs, 4),
+        a1: argument(inputs, 5),
+        a2: argument(inputs, 6),
+    };
+    unit.step(argument(inputs, 0), &by)
 }

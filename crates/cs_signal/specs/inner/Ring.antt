@@ -1,6 +1,19 @@
--- A list that is kept in a ring.
-use Rattle.std.specs.Prelude.{ℕ, ◌≡◌, ◌⊎◌, ◌+◌, ◌<◌}
+-- A list of values that is kept in a ring.
+use Rattle.std.specs.Prelude.{ℕ, ◌≡◌, ◌⊎◌, ◌+◌, ◌-◌, ◌<◌, ◌≤◌, List, ◌++◌, length, drop, take, replicate, ℤ, pos}
 
 -- `next` is the place after this one in a ring of so many
 abbrev pub IsNextPlace : ℕ → ℕ → ℕ → Type 0
 IsNextPlace place len next = ((place + 1 < len) × (next ≡ place + 1)) ⊎ ((place + 1 ≡ len) × (next ≡ 0))
+
+-- the values of a ring, from the place of the oldest on
+abbrev pub in_order : List ℤ → ℕ → List ℤ
+in_order ring oldest = drop oldest ring ++ take oldest ring
+
+-- the values of a ring of `count` places, the oldest first: what hasn't been stored yet is 0
+abbrev pub line_in : ℕ → List ℤ → ℕ → List ℤ
+line_in count ring oldest = replicate (count - length ring) (pos 0) ++ in_order ring oldest
+
+-- a ring of `count` places is full, or it is being filled from its first place on and has memory for all of them
+abbrev pub IsRing : ℕ → List ℤ → ℕ → ℕ → Type 0
+IsRing count ring memory oldest =
+    (oldest < count) × (length ring ≤ count) × ((count ≤ length ring) ⊎ ((oldest ≡ 0) × (count ≤ memory)))

@@ -9,9 +9,9 @@ loop-j-init c = HasFilled_none (λ (j : ℕ). product_of (operand_at c.args.x.no
 
 pub loop-j-preserved : goal.loop-j-preserved
 loop-j-preserved c =
-    HasFilled_more (λ (j : ℕ). product_of (operand_at c.args.x.now j) one) (length c.args.out.now) c.loop-j.j c.loop-j.out c.mul.result
+    HasFilled_more (λ (j : ℕ). product_of (operand_at c.args.x.now j) one) (length c.args.out.now) c.loop-j.j c.loop-j.out c.by_one.result
     c.loop-j.invariant c.loop-j-test.true
-    (c.mul.ensures ∙ ap (λ z. product_of z c.of_raw.result) c.at.ensures ∙ ap (product_of (operand_at c.args.x.now c.loop-j.j)) c.of_raw.ensures)
+    (c.by_one.ensures ∙ ap (λ z. product_of z one) c.at.ensures)
 
 pub returns : goal.returns
 returns c =

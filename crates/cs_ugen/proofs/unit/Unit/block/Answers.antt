@@ -1,7 +1,7 @@
 use Rattle.std.proofs.Common.{length, refl, ap, sym, ◌∙◌}
 use Rattle.cs_ugen.specs.Units.{inputs_at, moving_count, opcode_of}
 use Rattle.cs_ugen.specs.declared.unit.Kind.TheVariants as unit
-use Rattle.cs_ugen.proofs.Blocks.{as_block, none, one, seven, three, two}
+use Rattle.cs_ugen.proofs.Blocks.{as_block, none, one, three, two}
 use Rattle.cs_ugen.specs.Phasor.{phasor_step}
 use Rattle.cs_signal.specs.Line.{line_step}
 use Rattle.cs_signal.specs.Linseg.{linseg_step}
@@ -37,9 +37,8 @@ returns c =
       | in-Delay w ↦ as_block unit.Delay delay_step (λ s x. refl) _ w.block-in-Delay.new.self c.args.self.now _ n w.block-in-Delay.new.out _ _ _
           (ap inputs_at (one xs w.index-inputs-0-in-Delay.result (c.requires.count ∙ ap (λ u. moving_count (opcode_of u)) (sym c.self.view_is ∙ w.in-Delay.is)) w.index-inputs-0-in-Delay.is))
           (sym c.self.view_is ∙ w.in-Delay.is) (ap (λ i. i.kind) w.self-inside-is) w.out-is w.block-in-Delay.ensures
-      | in-Biquad w ↦ as_block unit.Biquad biquad_step (λ s x. refl) _ w.block-in-Biquad.new.self c.args.self.now _ n w.block-in-Biquad.new.out _ _ _
-          (ap inputs_at (seven xs w.index-inputs-0-in-Biquad.result w.index-inputs-1.result w.index-inputs-2.result w.index-inputs-3.result w.index-inputs-4.result w.index-inputs-5.result w.index-inputs-6.result (c.requires.count ∙ ap (λ u. moving_count (opcode_of u)) (sym c.self.view_is ∙ w.in-Biquad.is)) w.index-inputs-0-in-Biquad.is w.index-inputs-1.is w.index-inputs-2.is w.index-inputs-3.is w.index-inputs-4.is w.index-inputs-5.is w.index-inputs-6.is))
-          (sym c.self.view_is ∙ w.in-Biquad.is) (ap (λ i. i.kind) w.self-inside-is) w.out-is w.block-in-Biquad.ensures
+      | in-Biquad w ↦ as_block unit.Biquad biquad_step (λ s x. refl) _ w.filtered.new.unit c.args.self.now _ n w.filtered.new.out _ _ _
+          refl (sym c.self.view_is ∙ w.in-Biquad.is) (ap (λ i. i.kind) w.self-inside-is) w.out-is w.filtered.ensures
       | in-Integ w ↦ as_block unit.Integ integ_step (λ s x. refl) _ w.block-in-Integ.new.self c.args.self.now _ n w.block-in-Integ.new.out _ _ _
           (ap inputs_at (one xs w.index-inputs-0-in-Integ.result (c.requires.count ∙ ap (λ u. moving_count (opcode_of u)) (sym c.self.view_is ∙ w.in-Integ.is)) w.index-inputs-0-in-Integ.is))
           (sym c.self.view_is ∙ w.in-Integ.is) (ap (λ i. i.kind) w.self-inside-is) w.out-is w.block-in-Integ.ensures
@@ -47,10 +46,10 @@ returns c =
           (ap inputs_at (one xs w.index-inputs-0-in-Diff.result (c.requires.count ∙ ap (λ u. moving_count (opcode_of u)) (sym c.self.view_is ∙ w.in-Diff.is)) w.index-inputs-0-in-Diff.is))
           (sym c.self.view_is ∙ w.in-Diff.is) (ap (λ i. i.kind) w.self-inside-is) w.out-is w.block-in-Diff.ensures
       | in-Samphold w ↦ as_block unit.Samphold samphold_step (λ s x. refl) _ w.block-in-Samphold.new.self c.args.self.now _ n w.block-in-Samphold.new.out _ _ _
-          (ap inputs_at (two xs w.index-inputs-0-in-Samphold.result w.index-inputs-1-in-Samphold.result (c.requires.count ∙ ap (λ u. moving_count (opcode_of u)) (sym c.self.view_is ∙ w.in-Samphold.is)) w.index-inputs-0-in-Samphold.is w.index-inputs-1-in-Samphold.is))
+          (ap inputs_at (two xs w.index-inputs-0-in-Samphold.result w.index-inputs-1.result (c.requires.count ∙ ap (λ u. moving_count (opcode_of u)) (sym c.self.view_is ∙ w.in-Samphold.is)) w.index-inputs-0-in-Samphold.is w.index-inputs-1.is))
           (sym c.self.view_is ∙ w.in-Samphold.is) (ap (λ i. i.kind) w.self-inside-is) w.out-is w.block-in-Samphold.ensures
       | in-Limit w ↦ as_block unit.Limit limit_step (λ s x. refl) _ w.block-in-Limit.new.self c.args.self.now _ n w.block-in-Limit.new.out _ _ _
-          (ap inputs_at (three xs w.index-inputs-0-in-Limit.result w.index-inputs-1-in-Limit.result w.index-inputs-2-in-Limit.result (c.requires.count ∙ ap (λ u. moving_count (opcode_of u)) (sym c.self.view_is ∙ w.in-Limit.is)) w.index-inputs-0-in-Limit.is w.index-inputs-1-in-Limit.is w.index-inputs-2-in-Limit.is))
+          (ap inputs_at (three xs w.index-inputs-0-in-Limit.result w.index-inputs-1-in-Limit.result w.index-inputs-2.result (c.requires.count ∙ ap (λ u. moving_count (opcode_of u)) (sym c.self.view_is ∙ w.in-Limit.is)) w.index-inputs-0-in-Limit.is w.index-inputs-1-in-Limit.is w.index-inputs-2.is))
           (sym c.self.view_is ∙ w.in-Limit.is) (ap (λ i. i.kind) w.self-inside-is) w.out-is w.block-in-Limit.ensures
       | in-Interp w ↦ as_block unit.Interp interp_step (λ s x. refl) _ w.block-in-Interp.new.self c.args.self.now _ n w.block-in-Interp.new.out _ _ _
           (ap inputs_at (one xs w.index-inputs-0-in-Interp.result (c.requires.count ∙ ap (λ u. moving_count (opcode_of u)) (sym c.self.view_is ∙ w.in-Interp.is)) w.index-inputs-0-in-Interp.is))
