@@ -1,4 +1,5 @@
-use Rattle.std.proofs.Common.{◌≡◌, ℕ, List, [], ◌∷◌, ◌++◌, Option, None, Some, Result, Ok, Err, OnOk, refl, ap, subst, sym, ◌∙◌, append_assoc, append-nil, ◌+◌}
+use Rattle.std.proofs.Common.{◌≡◌, ℕ, List, [], ◌∷◌, ◌++◌, Option, None, Some, Result, Ok, Err, OnOk, OnErr, refl, ap}
+use Rattle.std.proofs.Common.{subst, sym, ◌∙◌, append_assoc, append-nil, ◌+◌}
 use Rattle.std.proofs.lemmas.List.{replicate-append-replicate}
 use Rattle.cs_edge.specs.declared.moves.Move.{Move}
 use Rattle.cs_edge.specs.declared.moves.Move.TheVariants.{Begin}
@@ -51,7 +52,8 @@ pub all_on : (move : Move) (a b c : Option (List Move)) → Follows a b (Grown (
     → Follows b c (GrownBy move) → Follows a c (Grown (AreAll move))
 all_on move a b c p q =
     follows_on (Grown (AreAll move)) (GrownBy move) (Grown (AreAll move))
-    (λ x y z g e. grown_on (AreAll move) (λ more. more ≡ move ∷ []) (AreAll move) (all_more move) x y z g (grown_by move y z e))
+    (λ x y z g e. grown_on (AreAll move) (λ more. more ≡ move ∷ []) (AreAll move) (all_more move) x y z g
+    (grown_by move y z e))
     a b c p q
 
 -- a begin is a run, and goes on with the run's moves
@@ -60,7 +62,8 @@ pub run_begun : (name : List ℕ) (move : Move) (a b : Option (List Move)) → F
 run_begun name move a b p =
     follows_as (GrownBy (Begin name)) (Grown (IsRun name move)) (λ x y e. (Begin name ∷ [], (0, refl), e)) a b p
 
-pub run_on : (name : List ℕ) (move : Move) (x y : List Move) → IsRun name move x → AreAll move y → IsRun name move (x ++ y)
+pub run_on : (name : List ℕ) (move : Move) (x y : List Move) → IsRun name move x → AreAll move y
+    → IsRun name move (x ++ y)
 run_on name move x y p q =
     (p.0 + q.0, rw (p.1, q.1) (ap (λ (l : List Move). Begin name ∷ l) (replicate-append-replicate p.0 q.0 move)))
 
@@ -75,3 +78,7 @@ front_more front whole more f = (f.0 ++ more, ap (λ (l : List _). l ++ more) f.
 pub ok_then : {T E P Q : Type 0} (r : Result T E) → OnOk r P → (P → Q) → OnOk r Q
 ok_then (Ok x) p f = f p
 ok_then (Err e) p f = tt
+
+pub err_then : {T E P Q : Type 0} (r : Result T E) → OnErr r P → (P → Q) → OnErr r Q
+err_then (Ok x) p f = tt
+err_then (Err e) p f = f p

@@ -1,4 +1,5 @@
-use Rattle.std.specs.Prelude.{ℕ, ◌≡◌, ◌+◌, ◌-◌, ◌^◌, ◌↔◌, min, List, [], ◌∷◌, if◌then◌else◌, Option, None, Some, Result, IsErr, Contains, zero, suc}
+use Rattle.std.specs.Prelude.{ℕ, ◌≡◌, ◌+◌, ◌-◌, ◌^◌, ◌↔◌, min, List, [], ◌∷◌, if◌then◌else◌, Option, None, Some, Result}
+use Rattle.std.specs.Prelude.{IsErr, Contains, zero, suc}
 use Rattle.cs_edge.specs.declared.files.NamedBytes.{NamedBytes}
 use Rattle.cs_edge.specs.declared.moves.Move.{Move}
 use Rattle.cs_edge.specs.declared.fakes.script.Script.{Script}
@@ -29,4 +30,4 @@ told_moves k = if k.told then Some k.moves else None
 
 -- what a sink in memory tells of what it holds
 abbrev pub told_taken : Taken → Option Held
-told_taken t = if t.told then Some (record { name = t.name; bytes = t.bytes.items }) else None
+told_taken t = if t.told then Some (record { name = t.name; bytes = t.bytes.items; ended = t.ended }) else None

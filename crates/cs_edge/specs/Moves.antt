@@ -1,4 +1,4 @@
-use Rattle.std.specs.Prelude.{ℕ, ◌≡◌, ◌≤◌, ◌⊎◌, List, [], ◌∷◌, ◌++◌, replicate, Option, None, Some}
+use Rattle.std.specs.Prelude.{ℕ, ◌≡◌, ◌≤◌, ◌⊎◌, Bool, true, false, List, [], ◌∷◌, ◌++◌, replicate, Option, None, Some}
 use Rattle.cs_edge.specs.declared.moves.Move.{Move}
 use Rattle.cs_edge.specs.declared.moves.Move.TheVariants.{Begin, Write, End}
 use Rattle.cs_edge.specs.Told.{Follows, IsFront}
@@ -27,14 +27,31 @@ IsWhole name moves = (k : ℕ) × (moves ≡ (Begin name ∷ replicate k Write) 
 abbrev pub IsFrontOf : (List Move → Type 0) → List Move → Type 0
 IsFrontOf P moves = (whole : List Move) × P whole × IsFront moves whole
 
--- what a sink holds: the name begun, and the bytes taken since
+-- what a sink holds: the name begun, the bytes taken since, and whether an end succeeded since
 pub record Held : Type 0 where
   pub name : Option (List ℕ)
   pub bytes : List ℕ
+  pub ended : Bool
+
+-- no file
+abbrev pub no_file : Held
+no_file = record { name = None; bytes = []; ended = false }
+
+-- a file of that name with these bytes that isn't ended
+abbrev pub open_file : List ℕ → List ℕ → Held
+open_file name bytes = record { name = Some name; bytes = bytes; ended = false }
+
+-- a file of that name with these bytes that was ended
+abbrev pub ended_file : List ℕ → List ℕ → Held
+ended_file name bytes = record { name = Some name; bytes = bytes; ended = true }
 
 -- a sink has taken these bytes more
 abbrev pub TakenMore : List ℕ → Held → Held → Type 0
-TakenMore bytes before now = now ≡ record { name = before.name; bytes = before.bytes ++ bytes }
+TakenMore bytes before now = now ≡ record { name = before.name; bytes = before.bytes ++ bytes; ended = before.ended }
+
+-- a sink was ended
+abbrev pub IsEnded : Held → Held → Type 0
+IsEnded before now = now ≡ record { name = before.name; bytes = before.bytes; ended = true }
 
 -- what a sink tells: what it holds, the calls made on it, and how often it failed
 pub record SinkTold : Type 0 where
@@ -48,26 +65,27 @@ pub record WroteMore (before now : SinkTold) (bytes : List ℕ) : Type 0 where
   pub made : Follows before.moves now.moves (Grown (AreAll Write))
   pub later : before.faults ≤ now.faults
 
--- A sink was begun with this name and has since taken exactly these bytes, in some number of writes.
+-- A sink was begun with this name, has since taken exactly these bytes, in some number of writes, and wasn't ended.
 pub record Wrote (before now : SinkTold) (name bytes : List ℕ) : Type 0 where
-  pub taken : Follows before.held now.held (λ _ held. held ≡ record { name = Some name; bytes = bytes })
+  pub taken : Follows before.held now.held (λ _ held. held ≡ open_file name bytes)
   pub made : Follows before.moves now.moves (Grown (IsRun name Write))
   pub later : before.faults ≤ now.faults
 
 -- A sink was begun with this name, has taken exactly these bytes, and was ended.
 pub record Finished (before now : SinkTold) (name bytes : List ℕ) : Type 0 where
-  pub taken : Follows before.held now.held (λ _ held. held ≡ record { name = Some name; bytes = bytes })
+  pub taken : Follows before.held now.held (λ _ held. held ≡ ended_file name bytes)
   pub made : Follows before.moves now.moves (Grown (IsWhole name))
   pub later : before.faults ≤ now.faults
 
--- what a sink holds that was begun with this name, where its begin failed or its writes stopped somewhere in these bytes
+-- what a sink holds that was begun with this name, where its begin failed, its writes stopped somewhere in these bytes,
+-- or its end failed
 abbrev pub HoldsFront : List ℕ → List ℕ → Held → Held → Type 0
 HoldsFront name bytes before now =
     (now ≡ before)
-    ⊎ ((now ≡ record { name = None; bytes = [] })
-    ⊎ ((front : List ℕ) × IsFront front bytes × (now ≡ record { name = Some name; bytes = front })))
+    ⊎ ((now ≡ no_file)
+    ⊎ ((front : List ℕ) × IsFront front bytes × (now ≡ open_file name front)))
 
--- Only the front of that was done: no call at all, or a begin, or a part of the writes, or all of it.
+-- Only the front of that was done: no call at all, or a begin, or a part of the writes, or all but the end.
 pub record Stopped (before now : SinkTold) (name bytes : List ℕ) : Type 0 where
   pub taken : Follows before.held now.held (HoldsFront name bytes)
   pub made : Follows before.moves now.moves (Grown (IsFrontOf (IsWhole name)))

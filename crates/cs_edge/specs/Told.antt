@@ -1,4 +1,4 @@
-use Rattle.std.specs.Prelude.{ℕ, ◌≡◌, ◌<◌, ◌≤◌, ◌-◌, ◌^◌, ◌⊎◌, List, ◌++◌, Option, None, Some, Result, IsErr, ⊤}
+use Rattle.std.specs.Prelude.{ℕ, ◌≡◌, ◌<◌, ◌≤◌, ◌-◌, ◌^◌, ◌⊎◌, List, ◌++◌, Option, None, Some, Result, IsErr, IsOk, ⊤}
 
 -- What is told after a call was told before it, and the two go together by P. What isn't told any more claims nothing.
 abbrev pub Follows : {A : Type 0} → Option A → Option A → (A → A → Type 0) → Type 0
@@ -10,10 +10,11 @@ Follows (Some before) (Some now) P = P before now
 abbrev pub Rose : ℕ → ℕ → Type 0
 Rose before now = (before < now) ⊎ (2 ^ 64 - 1 ≤ now)
 
--- a count of faults that never falls, and an error only where it rose
+-- a count of faults that never falls, an error only where it rose, and success only where it didn't
 pub record HasCause {T E : Type 0} (before now : ℕ) (result : Result T E) : Type 0 where
   pub later : before ≤ now
   pub rose : IsErr result → Rose before now
+  pub same : IsOk result → now ≡ before
 
 -- the first items of a list
 abbrev pub IsFront : {A : Type 0} → List A → List A → Type 0

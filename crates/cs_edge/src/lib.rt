@@ -1,9 +1,9 @@
 //! The edge of the program: every file that is read, every sound file and line of text that is written, every
 //! meter and every gate is an object that the caller hands in. The crates above meet it by four traits alone.
 //!
-//! The one contract: what a shelf or a sink tells after a call follows from what it told before, its count of
-//! faults never falls, and a call fails only where the count rose in that call; a tap that stood for a list of
-//! values stands for the longer list once it was told more.
+//! The one contract: what a shelf or a sink tells after a call follows from what it told before, a call that
+//! succeeds leaves its count of faults as it was, and one that fails raises it, up to its last value; a tap that
+//! stood for a list of values stands for the longer list once it was told more.
 //!
 //! What an object keeps, and how, may change without anyone above noticing; so may the adapters over the runtime.
 //!

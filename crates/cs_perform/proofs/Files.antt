@@ -6,22 +6,13 @@ use Rattle.cs_base.specs.declared.head.Head.{Head}
 use Rattle.cs_edge.specs.declared.moves.Move.{Move}
 use Rattle.cs_edge.specs.declared.moves.Move.TheVariants.{Write}
 use Rattle.cs_edge.specs.Told.{IsFront, Rose}
-use Rattle.cs_edge.specs.Moves.{SinkTold, Held, AreAll, Grown, TakenMore, WroteMore, Wrote, Stopped, Finished}
+use Rattle.cs_edge.specs.Moves.{SinkTold, AreAll, Grown, TakenMore, WroteMore, Wrote, Stopped, Finished}
 use Rattle.cs_edge.proofs.Chains.{follows_on, grown_on, front_more}
-use Rattle.cs_edge.proofs.Stories.{more_none, wrote_on, stopped_writes, stopped_untouched}
+use Rattle.cs_edge.proofs.Stories.{more_none, more_twice, wrote_on, stopped_writes, stopped_untouched}
 use Rattle.cs_perform.specs.Hearing.{IfWritten}
 use Rattle.cs_perform.specs.declared.order.Output.{Output}
 use Rattle.cs_perform.specs.declared.order.Output.TheVariants.{SoundFile, Nothing}
 use Rattle.cs_perform.specs.inner.Ends.{Finishes, Stops, padding}
-
--- bytes more, and more again
-with_more : List ℕ → Held → Held
-with_more bytes held = record { name = held.name; bytes = held.bytes ++ bytes }
-
-more_twice : (xs ys : List ℕ) (a b c : Held) → TakenMore xs a b → TakenMore ys b c → TakenMore (xs ++ ys) a c
-more_twice xs ys a b c p q =
-    q ∙ (ap (λ (held : Held). let h : Held = record { name = held.name; bytes = held.bytes ++ ys } in h) p
-    ∙ ap (λ (bytes : List ℕ). let held : Held = record { name = a.name; bytes = bytes } in held) (append_assoc a.bytes xs ys))
 
 all_both : (move : Move) (x y : List Move) → AreAll move x → AreAll move y → AreAll move (x ++ y)
 all_both move x y p q = (p.0 + q.0, rw (p.1, q.1) (replicate-append-replicate p.0 q.0 move))

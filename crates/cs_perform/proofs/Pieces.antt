@@ -1,20 +1,11 @@
 -- A sink that is written piece by piece.
-use Rattle.std.proofs.Common.{◌≡◌, ◌≤◌, ℕ, List, [], ◌++◌, Result, Ok, Err, OnOk, OnErr, ap, sym, ◌∙◌, append_assoc}
+use Rattle.std.proofs.Common.{◌≡◌, ◌≤◌, ℕ, List, [], ◌++◌, ap, sym, ◌∙◌, append_assoc}
 use Rattle.cs_edge.specs.declared.moves.Move.TheVariants.{End}
 use Rattle.cs_edge.specs.Told.{Follows, IsFront}
-use Rattle.cs_edge.specs.Moves.{SinkTold, GrownBy, WroteMore, Wrote, Stopped, Finished}
+use Rattle.cs_edge.specs.Moves.{SinkTold, GrownBy, IsEnded, WroteMore, Wrote, Stopped, Finished}
 use Rattle.cs_edge.proofs.Chains.{front_more}
 use Rattle.cs_edge.proofs.Stories.{wrote_on, stopped_writes, stopped_end, finished}
 use Rattle.cs_perform.specs.inner.Ends.{Finishes, Stops}
-
--- what holds however a call ended
-pub however_ok : {T E P : Type 0} (r : Result T E) → P → OnOk r P
-however_ok (Ok x) p = p
-however_ok (Err e) p = tt
-
-pub however_err : {T E P : Type 0} (r : Result T E) → P → OnErr r P
-however_err (Ok x) p = tt
-however_err (Err e) p = p
 
 -- a front of some bytes stands in front of what they are in front of
 pub front_behind : (front bytes before : List ℕ) → IsFront front bytes → IsFront (before ++ front) (before ++ bytes)
@@ -32,7 +23,7 @@ pub ended_in_part : (a b : SinkTold) (last : List ℕ) → (front : List ℕ) ×
 ended_in_part a b last s start name bytes w =
     stopped_writes start b name (bytes ++ s.0) (bytes ++ last) (wrote_on start a b name bytes s.0 w s.2) (front_behind s.0 last bytes s.1)
 
-pub ended : (a b c : SinkTold) (last : List ℕ) → WroteMore a b last → Follows b.held c.held (λ before now. now ≡ before)
+pub ended : (a b c : SinkTold) (last : List ℕ) → WroteMore a b last → Follows b.held c.held IsEnded
     → Follows b.moves c.moves (GrownBy End) → b.faults ≤ c.faults → Finishes last a c
 ended a b c last m held moves later start name bytes w =
     finished start b c name (bytes ++ last) (wrote_on start a b name bytes last w m) held moves later
@@ -40,4 +31,4 @@ ended a b c last m held moves later start name bytes w =
 pub end_failed : (a b c : SinkTold) (last : List ℕ) → WroteMore a b last → Follows b.held c.held (λ before now. now ≡ before)
     → Follows b.moves c.moves (GrownBy End) → b.faults ≤ c.faults → Stops last a c
 end_failed a b c last m held moves later start name bytes w =
-    stopped_end start c name (bytes ++ last) (ended a b c last m held moves later start name bytes w)
+    stopped_end start b c name (bytes ++ last) (wrote_on start a b name bytes last w m) held moves later

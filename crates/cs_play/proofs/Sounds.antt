@@ -3,7 +3,7 @@ use Rattle.std.proofs.Common.{◌≡◌, ◌⊎◌, ◌≤◌, ℕ, Bool, true, 
 use Rattle.cs_base.specs.declared.head.Head.{Head}
 use Rattle.cs_base.specs.declared.width.SampleWidth.{SampleWidth}
 use Rattle.cs_csd.specs.declared.refused.Refused.{Refused}
-use Rattle.cs_edge.specs.Moves.{Finished, Held, HoldsFront, SinkTold, Stopped, Wrote}
+use Rattle.cs_edge.specs.Moves.{Finished, Held, HoldsFront, SinkTold, Stopped, Wrote, ended_file, open_file}
 use Rattle.cs_edge.specs.Told.{Follows, IsFront}
 use Rattle.cs_perform.specs.Hearing.{IfWritten}
 use Rattle.cs_perform.specs.Performances.{file_after, front_after}
@@ -26,7 +26,7 @@ use Rattle.cs_typed.specs.TypedTree.{header_of_head}
 use Rattle.cs_wav.specs.Wav.{wav_of}
 use Rattle.cs_play.proofs.Deciding.{the_asked}
 use Rattle.cs_play.proofs.Meanings.{OneMeaning, OnePair, known_means, refused_composition, same_composition, same_refusal}
-use Rattle.cs_play.proofs.TwoRuns.{begun_file, same_wav, whole_file, written_is}
+use Rattle.cs_play.proofs.TwoRuns.{same_wav, written_is}
 
 -- ONE SOUND OR ONE REFUSAL
 
@@ -89,12 +89,12 @@ told_both P (Some x) (Some z) y e f = (x, refl, subst (P x) (some_is z y e) f)
 finished_is : (before now : SinkTold) (y : Held) (name bytes : List ℕ) → now.held ≡ Some y → Finished before now name bytes
     → (y.name ≡ Some name) × (y.bytes ≡ bytes)
 finished_is before now y name bytes e h =
-    let is = (told_both (λ _ k. k ≡ whole_file name bytes) before.held now.held y e h.taken).2 in (ap (λ (k : Held). k.name) is, ap (λ (k : Held). k.bytes) is)
+    let is = (told_both (λ _ k. k ≡ ended_file name bytes) before.held now.held y e h.taken).2 in (ap (λ (k : Held). k.name) is, ap (λ (k : Held). k.bytes) is)
 
 wrote_is : (before now : SinkTold) (y : Held) (name bytes : List ℕ) → now.held ≡ Some y → Wrote before now name bytes
     → (y.name ≡ Some name) × (y.bytes ≡ bytes)
 wrote_is before now y name bytes e h =
-    let is = (told_both (λ _ k. k ≡ begun_file name bytes) before.held now.held y e h.taken).2 in (ap (λ (k : Held). k.name) is, ap (λ (k : Held). k.bytes) is)
+    let is = (told_both (λ _ k. k ≡ open_file name bytes) before.held now.held y e h.taken).2 in (ap (λ (k : Held). k.name) is, ap (λ (k : Held). k.bytes) is)
 
 module _ (t : Texts) (asked : Asked) (c : Composition) (head : Head) (means : Mean asked.width t (Ok c)) (head_is : header_of_head head ≡ c.head) where
   abbrev sound : List ℕ

@@ -6,7 +6,7 @@ use Rattle.cs_base.specs.declared.width.SampleWidth.{SampleWidth}
 use Rattle.cs_piece_meaning.specs.Heard.{frames_of}
 use Rattle.cs_piece_meaning.specs.Moments.{Composition}
 use Rattle.cs_edge.specs.Files.{ShelfTold}
-use Rattle.cs_edge.specs.Moves.{Finished, Held, SinkTold, WroteMore}
+use Rattle.cs_edge.specs.Moves.{Finished, Held, SinkTold, WroteMore, ended_file}
 use Rattle.cs_edge.specs.Told.{Follows}
 use Rattle.cs_edge.specs.declared.files.NamedBytes.{NamedBytes}
 use Rattle.cs_perform.specs.Hearing.{IfWritten}
@@ -33,13 +33,6 @@ use Rattle.cs_play.proofs.Meanings.{NoneLacking, OneMeaning, OnePair, alike_mean
 
 -- THE SAME FILE
 
--- what a sink holds of a whole file, and of one that is being written
-abbrev pub whole_file : List ℕ → List ℕ → Held
-whole_file name bytes = record { name = Some name; bytes = bytes }
-
-abbrev pub begun_file : List ℕ → List ℕ → Held
-begun_file name bytes = record { name = Some name; bytes = bytes }
-
 -- a sink that tells what it holds holds these bytes
 abbrev HoldsWhereTold : Option Held → List ℕ → Type 0
 HoldsWhereTold None bytes = Unit {0}
@@ -56,7 +49,7 @@ held_alike (Some x) None bytes p q = tt
 held_alike (Some x) (Some y) bytes p q = p ∙ sym q
 
 file_held : (before now : SinkTold) (name bytes : List ℕ) → Finished before now name bytes → HoldsWhereTold now.held bytes
-file_held before now name bytes f = held_is before.held now.held (whole_file name bytes) f.taken
+file_held before now name bytes f = held_is before.held now.held (ended_file name bytes) f.taken
 
 -- the sound file of a run that isn't silent
 pub written_is : {W : Type 0} (tells : W → SinkTold) (silent : Bool) (before now : W) (P : SinkTold → SinkTold → Type 0) → silent ≡ false

@@ -2,7 +2,7 @@
 ghost use Rattle.std.specs.Prelude.{◌≡◌, ℕ, List, [], ◌++◌, ◌<◌, ◌≤◌, length, take, min, Some, None, IfOk, OnOk, OnErr, IfSome};
 ghost use Rattle.cs_edge.specs.declared.moves.Move.TheVariants.{Begin, Write, End};
 ghost use Rattle.cs_edge.specs.Told.{Follows, HasCause};
-ghost use Rattle.cs_edge.specs.Moves.{SinkTold, GrownBy, TakenMore};
+ghost use Rattle.cs_edge.specs.Moves.{SinkTold, GrownBy, TakenMore, IsEnded, no_file, open_file};
 ghost use Rattle.cs_edge.specs.Memory.{FailsAsListed};
 ghost use Rattle.cs_edge.specs.MemSink.{sink_told, sink_script, sink_bytes, sink_moves, write_room};
 
@@ -28,7 +28,7 @@ impl MemSink {
     pub fn new(alloc: Global, failing: Calls, most: u32) -> MemSink
         requires { 1 ≤ most }
         ensures told { sink_told result
-            ≡ record { held = Some (record { name = None; bytes = [] }); moves = Some []; faults = 0 } }
+            ≡ record { held = Some no_file; moves = Some []; faults = 0 } }
         ensures script { sink_script result ≡ record { failing = failing; calls = 0; faults = 0 } }
         ensures room { write_room result ≡ most }
     {
@@ -62,9 +62,9 @@ impl Sink for MemSink {
 
     fn begin(&mut self, name: &str) -> Result<(), Failed>
         ensures begun { OnOk result (Follows (sink_told self.old).held (sink_told self.new).held
-            (λ _ now. now ≡ record { name = Some name.now; bytes = [] })) }
+            (λ _ now. now ≡ open_file name.now [])) }
         ensures failed { OnErr result (Follows (sink_told self.old).held (sink_told self.new).held
-            (λ _ now. now ≡ record { name = None; bytes = [] })) }
+            (λ _ now. now ≡ no_file)) }
         ensures cause { HasCause (sink_told self.old).faults (sink_told self.new).faults result }
         ensures listed { FailsAsListed (sink_script self.old) (sink_script self.new) result }
         ensures moves { Follows (sink_told self.old).moves (sink_told self.new).moves (GrownBy (Begin name.now)) }
@@ -102,7 +102,9 @@ impl Sink for MemSink {
     }
 
     fn end(&mut self) -> Result<(), Failed>
-        ensures held { Follows (sink_told self.old).held (sink_told self.new).held (λ before now. now ≡ before) }
+        ensures ended { OnOk result (Follows (sink_told self.old).held (sink_told self.new).held IsEnded) }
+        ensures failed { OnErr result (Follows (sink_told self.old).held (sink_told self.new).held
+            (λ before now. now ≡ before)) }
         ensures cause { HasCause (sink_told self.old).faults (sink_told self.new).faults result }
         ensures listed { FailsAsListed (sink_script self.old) (sink_script self.new) result }
         ensures moves { Follows (sink_told self.old).moves (sink_told self.new).moves (GrownBy End) }
@@ -112,6 +114,7 @@ impl Sink for MemSink {
         if self.script.call_fails() {
             return Err(Failed);
         }
+        self.taken.end();
         Ok(())
     }
 }

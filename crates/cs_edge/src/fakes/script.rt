@@ -1,5 +1,5 @@
 // Which calls of an object in memory fail.
-ghost use Rattle.std.specs.Prelude.{◌≡◌, ◌≤◌, ◌↔◌, IsTrue, Contains};
+ghost use Rattle.std.specs.Prelude.{◌≡◌, ◌≤◌, ◌↔◌, IsTrue, IsFalse, Contains};
 ghost use Rattle.cs_edge.specs.Told.{Rose};
 ghost use Rattle.cs_edge.specs.Memory.{next_call};
 
@@ -31,6 +31,7 @@ impl Script {
         ensures listed { IsTrue result ↔ Contains self.old.failing self.new.calls }
         ensures later { self.old.faults ≤ self.new.faults }
         ensures rose { IsTrue result → Rose self.old.faults self.new.faults }
+        ensures same { IsFalse result → self.new.faults ≡ self.old.faults }
         ensures failing { self.new.failing ≡ self.old.failing }
     {
         self.calls = self.calls.saturating_add(1);

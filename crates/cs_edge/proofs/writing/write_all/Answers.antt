@@ -1,4 +1,4 @@
-use Rattle.std.proofs.Common.{subst, ℕ, List, take}
+use Rattle.std.proofs.Common.{subst, refl, ◌∙◌, ℕ, List, take}
 use Rattle.cs_edge.specs.Moves.{WroteMore}
 use Rattle.cs_edge.proofs.Lists.{take_on, taken_within, take_front}
 use Rattle.cs_edge.proofs.Stories.{more_on, more_failed}
@@ -7,10 +7,12 @@ use Rattle.cs_edge.proofs.writing.write_all.Goals as goal
 pub loop-at-preserved : goal.loop-at-preserved
 loop-at-preserved g c =
     let l : List ℕ = c.args.piece.now in
-    let more = more_on _ _ _ _ _ c.loop-at.invariant.1 c.in-Ok.ensures.taken c.in-Ok.ensures.moves c.in-Ok.ensures.cause.later in (
+    let more = more_on _ _ _ _ _ c.loop-at.invariant.1 c.in-Ok.ensures.taken c.in-Ok.ensures.moves
+    c.in-Ok.ensures.cause.later in (
       taken_within c.loop-at.at c.in-Ok.n l c.loop-at.invariant.0 c.in-Ok.ensures.count.1,
       subst (λ (bytes : List ℕ). WroteMore (g.K.Sink.tells c.args.sink.now) (g.K.Sink.tells c.write.new.self) bytes)
           (take_on c.loop-at.at c.in-Ok.n l) more,
+      c.in-Ok.ensures.cause.same refl ∙ c.loop-at.invariant.2,
     )
 
 pub returns-in-Err-clause-stopped : goal.returns-in-Err-clause-stopped
