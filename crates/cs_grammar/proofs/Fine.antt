@@ -1,5 +1,5 @@
 -- What is read is sound, and what is left keeps what held of the symbols before: the parts of a line.
-use Rattle.std.proofs.Common.{◌≡◌, ◌≢◌, ◌∙◌, ◌&&◌, not, ℕ, Bool, true, false, List, [], ◌∷◌, Some, None, Ok, Err, codes}
+use Rattle.std.proofs.Common.{◌≡◌, ◌≢◌, ◌∙◌, ◌&&◌, not, ℕ, Bool, true, false, List, [], ◌∷◌, Some, None, Ok, Err}
 use Rattle.std.proofs.Common.{if◌then◌else◌, refl, sym, ap, subst}
 use Rattle.std.specs.List.{All}
 use Rattle.std.proofs.lemmas.Bool.{and_parts}
@@ -30,14 +30,19 @@ use Rattle.cs_words.specs.NameSets.{has}
 use Rattle.cs_grammar.specs.Symbols.{Symbol}
 use Rattle.cs_grammar.specs.Kinds.{is_word, is_name_kind, may_be_opcode}
 use Rattle.cs_grammar.specs.Tree.{Expression, var, neg, pair, pick, apply, Argument, value}
-use Rattle.cs_grammar.specs.Reading.{next, after, Left, Reading, left, mapped, both, three, skip, next_is, Scope, fault, misfit, through, ended, line_end}
+use Rattle.cs_grammar.specs.Reading.{next, after, Left, Reading, left, mapped, both, three, skip, next_is, Scope, fault}
+use Rattle.cs_grammar.specs.Reading.{misfit, through, ended, line_end}
 use Rattle.cs_grammar.specs.Parts.{is_variable, single, single_or, no_part, one_symbol, atom}
-use Rattle.cs_grammar.specs.Lines.{no_target, target, ReadsTargets, no_target_there, last_target, more_targets, is_own, is_outside, is_other_text}
+use Rattle.cs_grammar.specs.Lines.{no_target, target, ReadsTargets, no_target_there, last_target, more_targets, is_own}
+use Rattle.cs_grammar.specs.Lines.{is_outside, is_other_text}
 use Rattle.cs_grammar.specs.Lines.{by_opcode, called, operation_of, operation}
-use Rattle.cs_grammar.specs.Grammar.{ReadsExpr, binary, expr_stop, fact_neg, fact_call, fact_group, fact_pick, fact_alone, ReadsTail, no_more, one_more}
-use Rattle.cs_grammar.specs.Grammar.{one_alone, ReadsArg, arg_text, text_result, arg_value, ReadsList, list_stop, list_last, list_more, ReadsArgs, args_stop}
+use Rattle.cs_grammar.specs.Grammar.{ReadsExpr, binary, expr_stop, fact_neg, fact_call, fact_group, fact_pick}
+use Rattle.cs_grammar.specs.Grammar.{fact_alone, ReadsTail, no_more, one_more}
+use Rattle.cs_grammar.specs.Grammar.{one_alone, ReadsArg, arg_text, text_result, arg_value, ReadsList, list_stop}
+use Rattle.cs_grammar.specs.Grammar.{list_last, list_more, ReadsArgs, args_stop}
 use Rattle.cs_grammar.specs.Grammar.{args_none, args_some}
-use Rattle.cs_grammar.specs.WellFormed.{HasNoStop, IsCall, IsVariable, WellFormedExpr, WellFormedArg, WellFormedValue, MayCall}
+use Rattle.cs_grammar.specs.WellFormed.{HasNoStop, IsCall, IsVariable, WellFormedExpr, WellFormedArg, WellFormedValue}
+use Rattle.cs_grammar.specs.WellFormed.{MayCall}
 
 -- a word is what its bytes say
 abbrev pub IsWord : Symbol → Type 0
@@ -55,7 +60,8 @@ pub kept : {A : Type 0} (Q : List Symbol → Type 0) (S : A → Type 0) (o : Rea
 kept Q S (Ok (a, ts)) h = h.1
 kept Q S (Err f) h = tt
 
-pub weakened : {A : Type 0} (Q R : List Symbol → Type 0) (S T : A → Type 0) → ((ts : List Symbol) → Q ts → R ts) → ((a : A) → S a → T a) → (o : Reading A)
+pub weakened : {A : Type 0} (Q R : List Symbol → Type 0) (S T : A → Type 0) → ((ts : List Symbol) → Q ts → R ts)
+    → ((a : A) → S a → T a) → (o : Reading A)
     → Fine Q S o → Fine R T o
 weakened Q R S T f g (Ok (a, ts)) h = (g a h.0, f ts h.1)
 weakened Q R S T f g (Err e) h = tt
@@ -83,7 +89,8 @@ abbrev is_an_opcode : Word → Bool
 is_an_opcode (word.Opcode o) = true
 is_an_opcode _ = false
 
-no_opcode_name : (text : List ℕ) (w : Word) → word_of text ≡ w → is_an_opcode w ≡ false → (o : Opcode) → text ≢ (row_of o).name
+no_opcode_name : (text : List ℕ) (w : Word) → word_of text ≡ w → is_an_opcode w ≡ false → (o : Opcode)
+    → text ≢ (row_of o).name
 no_opcode_name text w h z o q =
     let k : true ≡ false = ap is_an_opcode (sym (opcode_read o) ∙ ap word_of (sym q) ∙ h) ∙ z in cc
 
@@ -125,29 +132,35 @@ not_own s name e p q =
 
 -- ---- readings, of symbols of which Q holds
 
-module _ (Q : List Symbol → Type 0) (closed : (ts : List Symbol) → Q ts → Q (after ts)) (good : (ts : List Symbol) → Q ts → IsWord (next ts)) where
+module _ (Q : List Symbol → Type 0) (closed : (ts : List Symbol) → Q ts → Q (after ts))
+    (good : (ts : List Symbol) → Q ts → IsWord (next ts)) where
   pub kept_skip : (st : Left) → Kept Q st → Kept Q (skip st)
   kept_skip (Ok ts) q = closed ts q
   kept_skip (Err f) q = tt
 
-  pub fine_mapped : {A B : Type 0} (S : A → Type 0) (T : B → Type 0) (f : A → B) → ((a : A) → S a → T (f a)) → (o : Reading A) → Fine Q S o
+  pub fine_mapped : {A B : Type 0} (S : A → Type 0) (T : B → Type 0) (f : A → B) → ((a : A) → S a → T (f a))
+      → (o : Reading A) → Fine Q S o
       → Fine Q T (mapped f o)
   fine_mapped S T f g (Ok (a, ts)) h = (g a h.0, h.1)
   fine_mapped S T f g (Err e) h = tt
 
-  pub fine_both : {A B C : Type 0} (S : A → Type 0) (T : B → Type 0) (U : C → Type 0) (f : A → B → C) → ((a : A) (b : B) → S a → T b → U (f a b))
+  pub fine_both : {A B C : Type 0} (S : A → Type 0) (T : B → Type 0) (U : C → Type 0) (f : A → B → C)
+      → ((a : A) (b : B) → S a → T b → U (f a b))
       → (o : Reading A) (b : Reading B) → Fine Q S o → Fine Q T b → Fine Q U (both f o b)
   fine_both S T U f g (Ok (a, ts)) (Ok (b, us)) h k = (g a b h.0 k.0, k.1)
   fine_both S T U f g (Ok (a, ts)) (Err e) h k = tt
   fine_both S T U f g (Err e) b h k = tt
 
-  pub fine_three : {A B C D : Type 0} (S : A → Type 0) (T : B → Type 0) (U : C → Type 0) (V : D → Type 0) (f : A → B → C → D)
-      → ((a : A) (b : B) (c : C) → S a → T b → U c → V (f a b c)) → (o : Reading A) (b : Reading B) (c : Reading C) → Fine Q S o → Fine Q T b → Fine Q U c
+  pub fine_three : {A B C D : Type 0} (S : A → Type 0) (T : B → Type 0) (U : C → Type 0) (V : D → Type 0)
+      (f : A → B → C → D)
+      → ((a : A) (b : B) (c : C) → S a → T b → U c → V (f a b c)) → (o : Reading A) (b : Reading B) (c : Reading C)
+      → Fine Q S o → Fine Q T b → Fine Q U c
       → Fine Q V (three f o b c)
   fine_three S T U V f g (Ok (a, ts)) b c h k l = fine_both T U V (f a) (λ x y p q. g a x y h.0 p q) b c k l
   fine_three S T U V f g (Err e) b c h k l = tt
 
-  pub fine_through : {A : Type 0} (S : A → Type 0) (s : Scope) (e : Expected) (o : Reading A) → Fine Q S o → Fine Q S (through s e o)
+  pub fine_through : {A : Type 0} (S : A → Type 0) (s : Scope) (e : Expected) (o : Reading A) → Fine Q S o
+      → Fine Q S (through s e o)
   fine_through S s e (Err f) h = tt
   fine_through {A} S s e (Ok (a, ts)) h = by (next_is e ts)
     where
@@ -165,7 +178,8 @@ module _ (Q : List Symbol → Type 0) (closed : (ts : List Symbol) → Q ts → 
       by _ = tt
 
   -- the end of a line, and what then holds of the next
-  pub fine_line : {A : Type 0} (R : List Symbol → Type 0) → ((ts : List Symbol) → Q ts → (next ts).kind ≡ kind.NewLine → R (after ts))
+  pub fine_line : {A : Type 0} (R : List Symbol → Type 0)
+      → ((ts : List Symbol) → Q ts → (next ts).kind ≡ kind.NewLine → R (after ts))
       → ((ts : List Symbol) → Q ts → (next ts).kind ≡ kind.End → R ts)
       → (S : A → Type 0) (s : Scope) (o : Reading A) → Fine Q S o → Fine R S (ended s o)
   fine_line R feed stop S s (Err f) h = tt
@@ -188,7 +202,8 @@ module _ (Q : List Symbol → Type 0) (closed : (ts : List Symbol) → Q ts → 
   fine_single s t ts f h q (kind.Number v) i = (tt, q)
   fine_single s t ts f h q (kind.Word (word.Field k)) i = (field_numbers t.text k (h (word.Field k) i).0, q)
   fine_single s t ts f h q (kind.Word (word.Header n)) i = (tt, q)
-  fine_single s t ts f h q (kind.Word word.Name) i = fine_named t ts f (name_begins t.text (h word.Name i).0, (h word.Name i).1) q (has s.defined t.text)
+  fine_single s t ts f h q (kind.Word word.Name) i =
+      fine_named t ts f (name_begins t.text (h word.Name i).0, (h word.Name i).1) q (has s.defined t.text)
   fine_single s t ts f h q _ i = tt
 
   fine_atom : (s : Scope) (ts : List Symbol) → Q ts → Fine Q WellFormedExpr (atom s ts)
@@ -199,23 +214,30 @@ module _ (Q : List Symbol → Type 0) (closed : (ts : List Symbol) → Q ts → 
       by false = fine_single s (next ts) (after ts) (no_part s ts) (good ts q) (closed ts q) (next ts).kind refl
 
   mutual
-    pub fine_expr : {s : Scope} {l : Level} {st : Left} {o : Reading Expression} → ReadsExpr s l st o → Kept Q st → Fine Q WellFormedExpr o
+    pub fine_expr : {s : Scope} {l : Level} {st : Left} {o : Reading Expression} → ReadsExpr s l st o → Kept Q st
+        → Fine Q WellFormedExpr o
     fine_expr (binary t h k) q = fine_tail k (fine_expr h q)
     fine_expr expr_stop q = tt
-    fine_expr (fact_neg {ts} {o} e h) q = fine_mapped WellFormedExpr WellFormedExpr neg (λ a x. x) o (fine_expr h (closed ts q))
+    fine_expr (fact_neg {ts} {o} e h) q =
+        fine_mapped WellFormedExpr WellFormedExpr neg (λ a x. x) o (fine_expr h (closed ts q))
     fine_expr {s} (fact_call {ts} {f} {o} e h) q =
         fine_through WellFormedExpr s expected.Close (mapped (apply f) o)
-        (fine_mapped WellFormedExpr WellFormedExpr (apply f) (λ a x. x) o (fine_expr h (closed (after ts) (closed ts q))))
-    fine_expr {s} (fact_group {ts} {o} e h m) q = fine_through WellFormedExpr s expected.Close o (fine_expr h (closed ts q))
+        (fine_mapped WellFormedExpr WellFormedExpr (apply f) (λ a x. x) o
+        (fine_expr h (closed (after ts) (closed ts q))))
+    fine_expr {s} (fact_group {ts} {o} e h m) q =
+        fine_through WellFormedExpr s expected.Close o (fine_expr h (closed ts q))
     fine_expr {s} (fact_pick {ts} {c} {a} {b} e h m g k) q =
         let fc = fine_expr h (closed ts q) in
         let fa = fine_expr g (kept_skip (left c) (kept Q WellFormedExpr c fc)) in
-        let fb = fine_expr k (kept Q WellFormedExpr (through s expected.Colon a) (fine_through WellFormedExpr s expected.Colon a fa)) in
+        let fb = fine_expr k (kept Q WellFormedExpr (through s expected.Colon a)
+        (fine_through WellFormedExpr s expected.Colon a fa)) in
         fine_through WellFormedExpr s expected.Close (three pick c a b)
-        (fine_three WellFormedExpr WellFormedExpr WellFormedExpr WellFormedExpr pick (λ x y z p r t. (p, r, t)) c a b fc fa fb)
+        (fine_three WellFormedExpr WellFormedExpr WellFormedExpr WellFormedExpr pick (λ x y z p r t. (p, r, t)) c a b fc
+        fa fb)
     fine_expr {s} (fact_alone {ts} e) q = fine_atom s ts q
 
-    fine_tail : {s : Scope} {l : Level} {o out : Reading Expression} → ReadsTail s l o out → Fine Q WellFormedExpr o → Fine Q WellFormedExpr out
+    fine_tail : {s : Scope} {l : Level} {o out : Reading Expression} → ReadsTail s l o out → Fine Q WellFormedExpr o
+        → Fine Q WellFormedExpr out
     fine_tail (no_more e) h = h
     fine_tail {o = o} (one_more {op = op} {b = b} e r t g k) h =
         fine_tail k (fine_both WellFormedExpr WellFormedExpr WellFormedExpr (pair op) (λ x y p z. (p, z)) o b h
@@ -234,22 +256,28 @@ module _ (Q : List Symbol → Type 0) (closed : (ts : List Symbol) → Q ts → 
   sound_value role.Argument e h = h
   sound_value role.Result e h = h
 
-  fine_arg : {s : Scope} {r : Role} {ts : List Symbol} {o : Reading Argument} → ReadsArg s r ts o → Q ts → Fine Q (WellFormedFor r) o
+  fine_arg : {s : Scope} {r : Role} {ts : List Symbol} {o : Reading Argument} → ReadsArg s r ts o → Q ts
+      → Fine Q (WellFormedFor r) o
   fine_arg {ts = ts} (arg_text e) q = (tt, closed ts q)
   fine_arg (text_result e) q = tt
-  fine_arg {r = r} (arg_value {o = o} e h) q = fine_mapped WellFormedExpr (WellFormedFor r) value (sound_value r) o (fine_expr h q)
+  fine_arg {r = r} (arg_value {o = o} e h) q =
+      fine_mapped WellFormedExpr (WellFormedFor r) value (sound_value r) o (fine_expr h q)
 
-  pub fine_list : {s : Scope} {r : Role} {st : Left} {o : Reading (List Argument)} → ReadsList s r st o → Kept Q st → Fine Q (All (WellFormedFor r)) o
+  pub fine_list : {s : Scope} {r : Role} {st : Left} {o : Reading (List Argument)} → ReadsList s r st o → Kept Q st
+      → Fine Q (All (WellFormedFor r)) o
   fine_list list_stop q = tt
   fine_list {r = r} (list_last {o = o} h e) q =
-      fine_mapped (WellFormedFor r) (All (WellFormedFor r)) (λ a. a ∷ []) (λ a x. All-cons (WellFormedFor r) a [] x (All-nil (WellFormedFor r))) o
+      fine_mapped (WellFormedFor r) (All (WellFormedFor r)) (λ a. a ∷ [])
+      (λ a x. All-cons (WellFormedFor r) a [] x (All-nil (WellFormedFor r))) o
       (fine_arg h q)
   fine_list {r = r} (list_more {o = o} {out = out} h e k) q =
       let f = fine_arg h q in
-      fine_both (WellFormedFor r) (All (WellFormedFor r)) (All (WellFormedFor r)) ◌∷◌ (λ a others x y. All-cons (WellFormedFor r) a others x y) o out f
+      fine_both (WellFormedFor r) (All (WellFormedFor r)) (All (WellFormedFor r)) ◌∷◌
+      (λ a others x y. All-cons (WellFormedFor r) a others x y) o out f
       (fine_list k (kept_skip (left o) (kept Q (WellFormedFor r) o f)))
 
-  pub fine_args : {s : Scope} {st : Left} {o : Reading (List Argument)} → ReadsArgs s st o → Kept Q st → Fine Q (All WellFormedArg) o
+  pub fine_args : {s : Scope} {st : Left} {o : Reading (List Argument)} → ReadsArgs s st o → Kept Q st
+      → Fine Q (All WellFormedArg) o
   fine_args args_stop q = tt
   fine_args (args_none e) q = (All-nil WellFormedArg, q)
   fine_args (args_some e h) q = fine_list h q
@@ -257,7 +285,8 @@ module _ (Q : List Symbol → Type 0) (closed : (ts : List Symbol) → Q ts → 
   pub fine_target : (s : Scope) (ts : List Symbol) → Q ts → Fine Q IsVariable (target s ts)
   fine_target s ts q = by (is_variable s (next ts)) refl
     where
-      by : (b : Bool) → is_variable s (next ts) ≡ b → Fine Q IsVariable (if b then Ok ((next ts).text, after ts) else Err
+      by : (b : Bool) → is_variable s (next ts) ≡ b
+          → Fine Q IsVariable (if b then Ok ((next ts).text, after ts) else Err
           (misfit s (no_target (next ts).kind) ts))
       by true e = (variable_named s (next ts) (good ts q) e, closed ts q)
       by false e = tt
@@ -265,14 +294,16 @@ module _ (Q : List Symbol → Type 0) (closed : (ts : List Symbol) → Q ts → 
   at_target : (s : Scope) (ts us : List Symbol) (n : List ℕ) → target s ts ≡ Ok (n, us) → Q ts → IsVariable n × Q us
   at_target s ts us n e q = subst (Fine Q IsVariable) e (fine_target s ts q)
 
-  pub fine_targets : {s : Scope} {ts : List Symbol} {o : Reading (List (List ℕ))} → ReadsTargets s ts o → Q ts → Fine Q (All IsVariable) o
+  pub fine_targets : {s : Scope} {ts : List Symbol} {o : Reading (List (List ℕ))} → ReadsTargets s ts o → Q ts
+      → Fine Q (All IsVariable) o
   fine_targets (no_target_there e) q = tt
   fine_targets {s} (last_target {ts} {us} {n} e c) q =
       let h = at_target s ts us n e q in
       (All-cons IsVariable n [] h.0 (All-nil IsVariable), h.1)
   fine_targets {s} (more_targets {ts} {us} {n} {out} e c k) q =
       let h = at_target s ts us n e q in
-      fine_mapped (All IsVariable) (All IsVariable) (λ ns. n ∷ ns) (λ ns x. All-cons IsVariable n ns h.0 x) out (fine_targets k (closed us h.1))
+      fine_mapped (All IsVariable) (All IsVariable) (λ ns. n ∷ ns) (λ ns x. All-cons IsVariable n ns h.0 x) out
+      (fine_targets k (closed us h.1))
 
   -- ---- what is called
 
@@ -292,16 +323,19 @@ module _ (Q : List Symbol → Type 0) (closed : (ts : List Symbol) → Q ts → 
       )
 
   fine_space : (s : Scope) (ts : List Symbol) (b : Bool) → Q ts → is_outside s.place ≡ b
-      → Fine Q (IsCall s.place s.own) (if b then Ok (callee.Opcode opcode.Zakinit, after ts) else Err (fault ts orc.Unexpected))
+      → Fine Q (IsCall s.place s.own)
+      (if b then Ok (callee.Opcode opcode.Zakinit, after ts) else Err (fault ts orc.Unexpected))
   fine_space s ts true q e = ((tt, outside_calls s.place s.own (callee.Opcode opcode.Zakinit) e), closed ts q)
   fine_space s ts false q e = tt
 
   fine_event : (s : Scope) (ts : List Symbol) (b : Bool) → Q ts
-      → Fine Q (IsCall s.place s.own) (if b then Err (fault (after ts) orc.NotInProfile) else Ok (callee.Opcode opcode.EventI, after ts))
+      → Fine Q (IsCall s.place s.own)
+      (if b then Err (fault (after ts) orc.NotInProfile) else Ok (callee.Opcode opcode.EventI, after ts))
   fine_event s ts true q = tt
   fine_event s ts false q = ((tt, opcode_may s.place s.own opcode.EventI refl), closed ts q)
 
-  fine_taken : (s : Scope) (ts : List Symbol) (o : Opcode) → Q ts → is_zakinit o ≡ false → Fine Q (IsCall s.place s.own) (Ok (callee.Opcode o, after ts))
+  fine_taken : (s : Scope) (ts : List Symbol) (o : Opcode) → Q ts → is_zakinit o ≡ false
+      → Fine Q (IsCall s.place s.own) (Ok (callee.Opcode o, after ts))
   fine_taken s ts o q z = ((tt, opcode_may s.place s.own o z), closed ts q)
 
   fine_opcode : (s : Scope) (ts : List Symbol) → Q ts → (o : Opcode) → Fine Q (IsCall s.place s.own) (by_opcode s ts o)

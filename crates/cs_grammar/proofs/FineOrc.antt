@@ -1,5 +1,6 @@
 -- What is read is sound: definitions, instruments, orchestras.
-use Rattle.std.proofs.Common.{◌≡◌, ◌≢◌, ◌∙◌, ◌++◌, ◌==◌, not, ℕ, suc, Bool, true, false, List, [], ◌∷◌, length, map, Ok, Err, nat_le}
+use Rattle.std.proofs.Common.{◌≡◌, ◌≢◌, ◌∙◌, ◌++◌, ◌==◌, not, ℕ, suc, Bool, true, false, List, [], ◌∷◌, length, map, Ok}
+use Rattle.std.proofs.Common.{Err, nat_le}
 use Rattle.std.proofs.Common.{if◌then◌else◌, refl, arith, sym, ap, subst}
 use Rattle.std.specs.Prelude.{slice_index_or}
 use Rattle.std.specs.Str.{bytes_eq}
@@ -26,18 +27,25 @@ use Rattle.cs_words.specs.declared.word.HeadName.{HeadName}
 use Rattle.cs_grammar.specs.Symbols.{Symbol, symbols_from, kind_after, kind_of_mark, unquoted, counted, bytes_of}
 use Rattle.cs_grammar.specs.Kinds.{is_word, may_be_opcode}
 use Rattle.cs_grammar.specs.Tree.{Argument, Statement, Block, Instrument, Definition, Orchestra}
-use Rattle.cs_grammar.specs.Reading.{next, after, Left, Reading, left, both, three, Scope, outside, in_instrument, in_definition, has_number}
+use Rattle.cs_grammar.specs.Reading.{next, after, Left, Reading, left, both, three, Scope, outside, in_instrument}
+use Rattle.cs_grammar.specs.Reading.{in_definition, has_number}
 use Rattle.cs_grammar.specs.Reading.{fault, misfit, through, ended}
 use Rattle.cs_grammar.specs.Parts.{is_variable}
 use Rattle.cs_grammar.specs.Lines.{header_of, header_line}
-use Rattle.cs_grammar.specs.Headings.{Heading, heading_of, heading, new_name, no_name_kind, is_number_zero, is_letters, types}
-use Rattle.cs_grammar.specs.Inputs.{XinLine, one_word, more_words, is_local, texts, AreDifferent, ReadsInputs, named, misnamed, xin_alone}
+use Rattle.cs_grammar.specs.Headings.{Heading, heading_of, heading, new_name, no_name_kind, is_number_zero, is_letters}
+use Rattle.cs_grammar.specs.Headings.{types}
+use Rattle.cs_grammar.specs.Inputs.{XinLine, one_word, more_words, is_local, texts, AreDifferent, ReadsInputs, named}
+use Rattle.cs_grammar.specs.Inputs.{misnamed, xin_alone}
 use Rattle.cs_grammar.specs.Inputs.{no_inputs, xin_missing}
-use Rattle.cs_grammar.specs.Orchestra.{instrument_of, ReadsInstr, instr, ReadsXout, xout, ReadsResult, result_stop, no_result, xout_missing, xout_broken}
-use Rattle.cs_grammar.specs.Orchestra.{xout_uneven, xout_last, xout_not_last, definition_of, own_scope, ReadsDefinition, no_heading, udo}
-use Rattle.cs_grammar.specs.Orchestra.{with_header, with_instr, with_definition, with_stmt, defined_by, given_by, ReadsOrc, orc_stop, orc_end, orc_header}
+use Rattle.cs_grammar.specs.Orchestra.{instrument_of, ReadsInstr, instr, ReadsXout, xout, ReadsResult, result_stop}
+use Rattle.cs_grammar.specs.Orchestra.{no_result, xout_missing, xout_broken}
+use Rattle.cs_grammar.specs.Orchestra.{xout_uneven, xout_last, xout_not_last, definition_of, own_scope, ReadsDefinition}
+use Rattle.cs_grammar.specs.Orchestra.{no_heading, udo}
+use Rattle.cs_grammar.specs.Orchestra.{with_header, with_instr, with_definition, with_stmt, defined_by, given_by}
+use Rattle.cs_grammar.specs.Orchestra.{ReadsOrc, orc_stop, orc_end, orc_header}
 use Rattle.cs_grammar.specs.Orchestra.{orc_instr, orc_udo, orc_stmt}
-use Rattle.cs_grammar.specs.WellFormed.{HasNoStop, IsVariable, line_of, WellFormedStmt, WellFormedBlock, WellFormedValue, WellFormedInstrument}
+use Rattle.cs_grammar.specs.WellFormed.{HasNoStop, IsVariable, line_of, WellFormedStmt, WellFormedBlock}
+use Rattle.cs_grammar.specs.WellFormed.{WellFormedValue, WellFormedInstrument}
 use Rattle.cs_grammar.specs.WellFormed.{WellFormedDefinition}
 use Rattle.cs_grammar.specs.WellFormed.{all_numbers}
 use Rattle.cs_grammar.proofs.OneXin.{has_snoc, differs}
@@ -52,12 +60,14 @@ word_in : Word → Kind → Word
 word_in d (kind.Word w) = w
 word_in d _ = d
 
-text_word : (place : ℕ) (m : Mark) (bytes : List ℕ) (w : Word) → (m ≡ mark.Word → HasNoStop bytes) → kind_after place m bytes ≡ kind.Word w
+text_word : (place : ℕ) (m : Mark) (bytes : List ℕ) (w : Word) → (m ≡ mark.Word → HasNoStop bytes)
+    → kind_after place m bytes ≡ kind.Word w
     → (word_of (unquoted m bytes) ≡ w) × HasNoStop (unquoted m bytes)
 unfolding word_in
 text_word place mark.Word bytes w n e = by (nat_le 1000 place) e
   where
-    by : (b : Bool) → (if b then kind.Beyond else kind.Word (word_of bytes)) ≡ kind.Word w → (word_of bytes ≡ w) × HasNoStop bytes
+    by : (b : Bool) → (if b then kind.Beyond else kind.Word (word_of bytes)) ≡ kind.Word w
+        → (word_of bytes ≡ w) × HasNoStop bytes
     by true e = cc
     by false e = (ap (word_in w) e, n refl)
 text_word place (mark.Number v) bytes w n e = by (nat_le 1000 place) e
@@ -67,12 +77,14 @@ text_word place (mark.Number v) bytes w n e = by (nat_le 1000 place) e
     by false e = cc
 text_word place mark.Text bytes w n e = by (nat_le 1000 place) e
   where
-    by : (b : Bool) → (if b then kind.Beyond else kind.Text) ≡ kind.Word w → (word_of (unquoted mark.Text bytes) ≡ w) × HasNoStop (unquoted mark.Text bytes)
+    by : (b : Bool) → (if b then kind.Beyond else kind.Text) ≡ kind.Word w
+        → (word_of (unquoted mark.Text bytes) ≡ w) × HasNoStop (unquoted mark.Text bytes)
     by true e = cc
     by false e = cc
 text_word place mark.Sign bytes w n e = by (nat_le 1000 place) e
   where
-    by : (b : Bool) → (if b then kind.Beyond else kind_of_mark mark.Sign bytes) ≡ kind.Word w → (word_of bytes ≡ w) × HasNoStop bytes
+    by : (b : Bool) → (if b then kind.Beyond else kind_of_mark mark.Sign bytes) ≡ kind.Word w
+        → (word_of bytes ≡ w) × HasNoStop bytes
     by true e = cc
     by false e = cc
 text_word place mark.NewLine bytes w n e = cc
@@ -94,7 +106,8 @@ words_next (t ∷ ts) h w e = h.0 w e
 abbrev pub NoStops : List ℕ → Token → Type 0
 NoStops source t = t.mark ≡ mark.Word → HasNoStop (bytes_of source t)
 
-pub words_from : (source : List ℕ) (place : ℕ) (ts : List Token) → All (NoStops source) ts → Words (symbols_from source place ts)
+pub words_from : (source : List ℕ) (place : ℕ) (ts : List Token) → All (NoStops source) ts
+    → Words (symbols_from source place ts)
 words_from source place [] h = tt
 words_from source place (t ∷ ts) h = (
   (λ w. text_word place t.mark (bytes_of source t) w (All-head (NoStops source) t ts h)),
@@ -103,12 +116,15 @@ words_from source place (t ∷ ts) h = (
 
 -- ---- different numbers and names, one list after the other
 
-pairs_append : {A : Type 0} (R : A → A → Type 0) (xs ys : List A) → AllPairs R xs → AllPairs R ys → All (λ x. All (R x) ys) xs → AllPairs R (xs ++ ys)
+pairs_append : {A : Type 0} (R : A → A → Type 0) (xs ys : List A) → AllPairs R xs → AllPairs R ys
+    → All (λ x. All (R x) ys) xs → AllPairs R (xs ++ ys)
 pairs_append R [] ys p q h = q
 pairs_append R (x ∷ xs) ys p q h =
     AllPairs-cons R x (xs ++ ys)
-    (All-append (R x) xs ys (λ k e lt. p 0 (suc k) e (omega arith) (omega (arith, lt))) (All-head (λ x. All (R x) ys) x xs h))
-    (pairs_append R xs ys (λ i j e lt within. p (suc i) (suc j) e (omega (arith, lt)) (omega (arith, within))) q (All-tail (λ x. All (R x) ys) x xs h))
+    (All-append (R x) xs ys (λ k e lt. p 0 (suc k) e (omega arith) (omega (arith, lt)))
+    (All-head (λ x. All (R x) ys) x xs h))
+    (pairs_append R xs ys (λ i j e lt within. p (suc i) (suc j) e (omega (arith, lt)) (omega (arith, within))) q
+    (All-tail (λ x. All (R x) ys) x xs h))
 
 unequal : (n x : ℕ) → (n == x) ≡ false → x ≢ n
 unequal n x e q = let k : true ≡ false = sym ((Decides-eqb n x).1 (sym q)) ∙ e in cc
@@ -171,7 +187,8 @@ abbrev pub FineOrc : List (List ℕ) → List ℕ → Reading Orchestra → Type
 FineOrc d g (Ok (o, ts)) = WellFormedFrom d g o
 FineOrc d g (Err f) = Unit {0}
 
-module _ (Q : List Symbol → Type 0) (closed : (ts : List Symbol) → Q ts → Q (after ts)) (good : (ts : List Symbol) → Q ts → IsWord (next ts))
+module _ (Q : List Symbol → Type 0) (closed : (ts : List Symbol) → Q ts → Q (after ts))
+    (good : (ts : List Symbol) → Q ts → IsWord (next ts))
     (R : List Symbol → Type 0) (feed : (ts : List Symbol) → Q ts → (next ts).kind ≡ kind.NewLine → R (after ts))
     (stop : (ts : List Symbol) → Q ts → (next ts).kind ≡ kind.End → R ts)
     (weaker : (ts : List Symbol) → R ts → Q ts) where
@@ -189,33 +206,39 @@ module _ (Q : List Symbol → Type 0) (closed : (ts : List Symbol) → Q ts → 
   fine_types s (Err f) q = tt
   fine_types s (Ok ts) q = by (is_number_zero (next ts).kind) (is_letters (next ts))
     where
-      by : (b c : Bool) → Fine Q AnyRates (if b then Ok ([], after ts) else (if c then Ok (map letter_rate (next ts).text, after ts) else Err
+      by : (b c : Bool) → Fine Q AnyRates
+          (if b then Ok ([], after ts) else (if c then Ok (map letter_rate (next ts).text, after ts) else Err
           (misfit s (if is_word (next ts).kind then orc.NotInProfile else orc.Unexpected) ts)))
       by true c = (tt, closed ts q)
       by false true = (tt, closed ts q)
       by false false = tt
 
-  pub fine_heading : (s : Scope) (line : ℕ) (ts : List Symbol) → Q ts → Fine R (NewHeading line s.defined) (heading s line ts)
+  pub fine_heading : (s : Scope) (line : ℕ) (ts : List Symbol) → Q ts
+      → Fine R (NewHeading line s.defined) (heading s line ts)
   fine_heading s line ts q =
       let name = new_name s ts in
       let outs = types s (left (through s expected.Comma name)) in
       let ins = types s (left (through s expected.Comma outs)) in
       let fn = fine_name s ts q in
-      let fo = fine_types s (left (through s expected.Comma name)) (kept Q (IsNew s.defined) (through s expected.Comma name)
+      let fo = fine_types s (left (through s expected.Comma name))
+      (kept Q (IsNew s.defined) (through s expected.Comma name)
       (fine_through Q closed good (IsNew s.defined) s expected.Comma name fn)) in
       let fi = fine_types s (left (through s expected.Comma outs)) (kept Q AnyRates (through s expected.Comma outs)
       (fine_through Q closed good AnyRates s expected.Comma outs fo)) in
       fine_line Q closed good R feed stop (NewHeading line s.defined) s (three (heading_of line) name outs ins)
-      (fine_three Q closed good (IsNew s.defined) AnyRates AnyRates (NewHeading line s.defined) (heading_of line) (λ a b c x y z. (x, refl)) name outs ins fn
+      (fine_three Q closed good (IsNew s.defined) AnyRates AnyRates (NewHeading line s.defined) (heading_of line)
+      (λ a b c x y z. (x, refl)) name outs ins fn
       fo fi)
 
   line_words : {s : Scope} {ts ws xin : List Symbol} → XinLine s ts ws xin → Q ts → All IsWord ws × Q xin
-  line_words (one_word {t = t} {xin = xin} f x) q = (All-cons IsWord t [] (good (t ∷ xin) q) (All-nil IsWord), closed (t ∷ xin) q)
+  line_words (one_word {t = t} {xin = xin} f x) q =
+      (All-cons IsWord t [] (good (t ∷ xin) q) (All-nil IsWord), closed (t ∷ xin) q)
   line_words (more_words {t = t} {comma = comma} {ts = ts} {words = ws} f c h) q =
       let i = line_words h (closed (comma ∷ ts) (closed (t ∷ comma ∷ ts) q)) in
       (All-cons IsWord t ws (good (t ∷ comma ∷ ts) q) i.0, i.1)
 
-  locals : (s : Scope) (ws : List Symbol) → All IsWord ws → All (λ t. is_local s t ≡ true) ws → All (λ n. IsVariable n × (is_global n ≡ false)) (texts ws)
+  locals : (s : Scope) (ws : List Symbol) → All IsWord ws → All (λ t. is_local s t ≡ true) ws
+      → All (λ n. IsVariable n × (is_global n ≡ false)) (texts ws)
   locals s [] w l = All-nil (λ n. IsVariable n × (is_global n ≡ false))
   locals s (t ∷ ws) w l =
       let parts = and_parts (is_variable s t) (not (is_global t.text)) (All-head (λ t. is_local s t ≡ true) t ws l) in
@@ -223,7 +246,8 @@ module _ (Q : List Symbol → Type 0) (closed : (ts : List Symbol) → Q ts → 
       (variable_named s t (All-head IsWord t ws w) parts.0, not-true (is_global t.text) parts.1)
       (locals s ws (All-tail IsWord t ws w) (All-tail (λ t. is_local s t ≡ true) t ws l))
 
-  pub fine_inputs : {s : Scope} {h : Heading} {ts : List Symbol} {o : Reading (List (List ℕ))} → ReadsInputs s h ts o → Q ts → Fine Q (NamesFit h.ins) o
+  pub fine_inputs : {s : Scope} {h : Heading} {ts : List Symbol} {o : Reading (List (List ℕ))} → ReadsInputs s h ts o
+      → Q ts → Fine Q (NamesFit h.ins) o
   fine_inputs {s} {h} (named {words = ws} {xin = xin} l n) q =
       let i = line_words l q in
       fine_ended Q closed good (NamesFit h.ins) s (Ok (texts ws, after xin))
@@ -241,10 +265,13 @@ module _ (Q : List Symbol → Type 0) (closed : (ts : List Symbol) → Q ts → 
   )
   fine_inputs (xin_missing e n i) q = tt
 
-  fine_xout : {s : Scope} {ts : List Symbol} {o : Reading (List Argument)} → ReadsXout s ts o → Q ts → Fine Q (All WellFormedValue) o
-  fine_xout {s} {ts} (xout {values = values} h) q = fine_ended Q closed good (All WellFormedValue) s values (fine_list Q closed good h (closed ts q))
+  fine_xout : {s : Scope} {ts : List Symbol} {o : Reading (List Argument)} → ReadsXout s ts o → Q ts
+      → Fine Q (All WellFormedValue) o
+  fine_xout {s} {ts} (xout {values = values} h) q =
+      fine_ended Q closed good (All WellFormedValue) s values (fine_list Q closed good h (closed ts q))
 
-  pub fine_result : {s : Scope} {outs : List Rate} {st : Left} {o : Reading (List Argument)} → ReadsResult s outs st o → Kept Q st → Fine Q (ValuesFit outs) o
+  pub fine_result : {s : Scope} {outs : List Rate} {st : Left} {o : Reading (List Argument)} → ReadsResult s outs st o
+      → Kept Q st → Fine Q (ValuesFit outs) o
   fine_result result_stop q = tt
   fine_result (no_result e i) q = (record { number = sym (ap length i); each = All-nil WellFormedValue }, q)
   fine_result (xout_missing e i) q = tt
@@ -253,10 +280,20 @@ module _ (Q : List Symbol → Type 0) (closed : (ts : List Symbol) → Q ts → 
   fine_result (xout_last e h n l) q = let f = fine_xout h q in (record { number = n; each = f.0 }, f.1)
   fine_result (xout_not_last e h n l) q = tt
 
-  defined_so : (line : ℕ) (d : List (List ℕ)) (h : Heading) (a : List (List ℕ)) (b : Block) (c : List Argument) → NewHeading line d h → NamesFit h.ins a
+  defined_so : (line : ℕ) (d : List (List ℕ)) (h : Heading) (a : List (List ℕ)) (b : Block) (c : List Argument)
+      → NewHeading line d h → NamesFit h.ins a
       → WellFormedBlock place.Definition h.name 0 b → ValuesFit h.outs c → NewDefinition line d (definition_of h a b c)
   defined_so line d h a b c n x y z = record {
-    sound = record { name = n.0.1; local = x.local; rates = x.rates; different = x.different; body = y; values = z.number; each_value = z.each };
+    sound = record {
+      name = n.0.1;
+      local = x.local;
+      rates = x.rates;
+      different = x.different;
+      body = y;
+      values =
+          z.number;
+      each_value = z.each;
+    };
     fresh = n.0.0;
     place_of = n.1;
   }
@@ -274,11 +311,13 @@ module _ (Q : List Symbol → Type 0) (closed : (ts : List Symbol) → Q ts → 
       let made = three (definition_of h) names body result in
       fine_line Q closed good R feed stop (NewDefinition (next ts).line d) (outside d) (through s expected.Endop made)
       (fine_through Q closed good (NewDefinition (next ts).line d) s expected.Endop made
-      (fine_three Q closed good (NamesFit h.ins) (WellFormedBlock place.Definition h.name 0) (ValuesFit h.outs) (NewDefinition (next ts).line d)
+      (fine_three Q closed good (NamesFit h.ins) (WellFormedBlock place.Definition h.name 0) (ValuesFit h.outs)
+      (NewDefinition (next ts).line d)
       (definition_of h)
       (λ a b c x y z. defined_so (next ts).line d h a b c top.0 x y z) names body result fn fb fr))
 
-  pub fine_instr : {d : List (List ℕ)} {g : List ℕ} {ts : List Symbol} {o : Reading Instrument} → ReadsInstr d g ts o → Q ts
+  pub fine_instr : {d : List (List ℕ)} {g : List ℕ} {ts : List Symbol} {o : Reading Instrument} → ReadsInstr d g ts o
+      → Q ts
       → Fine R (NewInstrument (next ts).line g) o
   fine_instr {d} {g} {ts} (instr {ns = ns} {body = body} n h) q =
       let s = in_instrument d in
@@ -288,10 +327,13 @@ module _ (Q : List Symbol → Type 0) (closed : (ts : List Symbol) → Q ts → 
       let made = both (instrument_of (next ts).line) ns body in
       fine_line Q closed good R feed stop (NewInstrument (next ts).line g) (outside d) (through s expected.Endin made)
       (fine_through Q closed good (NewInstrument (next ts).line g) s expected.Endin made
-      (fine_both Q closed good (NumbersFrom g) (WellFormedBlock place.Instrument [] 0) (NewInstrument (next ts).line g) (instrument_of (next ts).line)
-      (λ a b x y. record { place_of = refl; sound = record { numbers = x.range; body = y }; numbers = x }) ns body fn fb))
+      (fine_both Q closed good (NumbersFrom g) (WellFormedBlock place.Instrument [] 0) (NewInstrument (next ts).line g)
+      (instrument_of (next ts).line)
+      (λ a b x y. record { place_of = refl; sound = record { numbers = x.range; body = y }; numbers = x }) ns body fn
+      fb))
 
-  pub fine_header : (s : Scope) (h : HeadName) (ts : List Symbol) → Q ts → Fine R (HeaderAt (next ts).line) (header_line s h ts)
+  pub fine_header : (s : Scope) (h : HeadName) (ts : List Symbol) → Q ts
+      → Fine R (HeaderAt (next ts).line) (header_line s h ts)
   fine_header s h ts q = by (next (after (after ts))).kind
     where
       by : (k : Kind) → Fine R (HeaderAt (next ts).line) (header_of s h (next ts).line (after (after ts)) k)
@@ -302,7 +344,8 @@ module _ (Q : List Symbol → Type 0) (closed : (ts : List Symbol) → Q ts → 
 
   -- ---- orchestras
 
-  add_header : (d : List (List ℕ)) (g : List ℕ) (h : Reading HeadLine) (out : Reading Orchestra) → FineOrc d g out → FineOrc d g (both with_header h out)
+  add_header : (d : List (List ℕ)) (g : List ℕ) (h : Reading HeadLine) (out : Reading Orchestra) → FineOrc d g out
+      → FineOrc d g (both with_header h out)
   add_header d g (Ok (h, ts)) (Ok (o, us)) f = record {
     outside_all = f.outside_all;
     instruments = f.instruments;
@@ -316,7 +359,8 @@ module _ (Q : List Symbol → Type 0) (closed : (ts : List Symbol) → Q ts → 
   add_header d g (Ok (h, ts)) (Err e) f = tt
   add_header d g (Err e) out f = tt
 
-  add_stmt : (d : List (List ℕ)) (g : List ℕ) (x : Reading Statement) (out : Reading Orchestra) → Fine R (WellFormedStmt place.Outside [] 0) x
+  add_stmt : (d : List (List ℕ)) (g : List ℕ) (x : Reading Statement) (out : Reading Orchestra)
+      → Fine R (WellFormedStmt place.Outside [] 0) x
       → FineOrc d g out → FineOrc d g (both with_stmt x out)
   add_stmt d g (Ok (x, ts)) (Ok (o, us)) h f = record {
     outside_all = (h.0, f.outside_all);
@@ -330,42 +374,50 @@ module _ (Q : List Symbol → Type 0) (closed : (ts : List Symbol) → Q ts → 
   add_stmt d g (Ok (x, ts)) (Err e) h f = tt
   add_stmt d g (Err e) out h f = tt
 
-  add_instr : (line : ℕ) (d : List (List ℕ)) (g : List ℕ) (x : Reading Instrument) (out : Reading Orchestra) → Fine R (NewInstrument line g) x
+  add_instr : (line : ℕ) (d : List (List ℕ)) (g : List ℕ) (x : Reading Instrument) (out : Reading Orchestra)
+      → Fine R (NewInstrument line g) x
       → FineOrc d (given_by g x) out → FineOrc d g (both with_instr x out)
   add_instr line d g (Ok (x, ts)) (Ok (o, us)) h f =
       let ns = all_numbers o.instrs in
-      let parts = λ (n : ℕ) (e : has_number (g ++ x.numbers) n ≡ false). or_parts (has_number g n) (has_number x.numbers n)
+      let parts = λ (n : ℕ) (e : has_number (g ++ x.numbers) n ≡ false). or_parts (has_number g n)
+      (has_number x.numbers n)
       (sym (has_append g x.numbers n) ∙ e) in
       record {
         outside_all = f.outside_all;
         instruments = All-cons WellFormedInstrument x o.instrs h.0.sound f.instruments;
         definitions = f.definitions;
         numbers = pairs_append (λ a b. a ≢ b) x.numbers ns h.0.numbers.different f.numbers
-            (apart_all x.numbers ns (All-weaker (λ n. has_number (g ++ x.numbers) n ≡ false) (λ n. has_number x.numbers n ≡ false) (λ n e. (parts n e).1) ns
+            (apart_all x.numbers ns (All-weaker (λ n. has_number (g ++ x.numbers) n ≡ false)
+            (λ n. has_number x.numbers n ≡ false) (λ n e. (parts n e).1) ns
             f.numbers_apart));
         numbers_apart = All-append (λ n. has_number g n ≡ false) x.numbers ns h.0.numbers.apart
-            (All-weaker (λ n. has_number (g ++ x.numbers) n ≡ false) (λ n. has_number g n ≡ false) (λ n e. (parts n e).0) ns f.numbers_apart);
+            (All-weaker (λ n. has_number (g ++ x.numbers) n ≡ false) (λ n. has_number g n ≡ false)
+            (λ n e. (parts n e).0) ns f.numbers_apart);
         opcodes = f.opcodes;
         opcodes_apart = f.opcodes_apart;
       }
   add_instr line d g (Ok (x, ts)) (Err e) h f = tt
   add_instr line d g (Err e) out h f = tt
 
-  add_udo : (line : ℕ) (d : List (List ℕ)) (g : List ℕ) (x : Reading Definition) (out : Reading Orchestra) → Fine R (NewDefinition line d) x
+  add_udo : (line : ℕ) (d : List (List ℕ)) (g : List ℕ) (x : Reading Definition) (out : Reading Orchestra)
+      → Fine R (NewDefinition line d) x
       → FineOrc (defined_by d x) g out → FineOrc d g (both with_definition x out)
   add_udo line d g (Ok (x, ts)) (Ok (o, us)) h f =
       let ns = map (λ (y : Definition). y.name) o.opcodes in
-      let parts = λ (n : List ℕ) (e : has (d ++ x.name ∷ []) n ≡ false). or_parts (has d n) (bytes_eq n x.name) (sym (has_snoc d x.name n) ∙ e) in
+      let parts = λ (n : List ℕ) (e : has (d ++ x.name ∷ []) n ≡ false). or_parts (has d n) (bytes_eq n x.name)
+      (sym (has_snoc d x.name n) ∙ e) in
       record {
         outside_all = f.outside_all;
         instruments = f.instruments;
         definitions = All-cons WellFormedDefinition x o.opcodes h.0.sound f.definitions;
         numbers = f.numbers;
         numbers_apart = f.numbers_apart;
-        opcodes = AllPairs-cons (λ a b. a ≢ b) x.name ns (All-weaker (λ n. has (d ++ x.name ∷ []) n ≡ false) (λ n. x.name ≢ n)
+        opcodes = AllPairs-cons (λ a b. a ≢ b) x.name ns
+            (All-weaker (λ n. has (d ++ x.name ∷ []) n ≡ false) (λ n. x.name ≢ n)
             (λ n e. differs n x.name (parts n e).1) ns f.opcodes_apart) f.opcodes;
         opcodes_apart = All-cons (λ n. has d n ≡ false) x.name ns h.0.fresh
-            (All-weaker (λ n. has (d ++ x.name ∷ []) n ≡ false) (λ n. has d n ≡ false) (λ n e. (parts n e).0) ns f.opcodes_apart);
+            (All-weaker (λ n. has (d ++ x.name ∷ []) n ≡ false) (λ n. has d n ≡ false) (λ n e. (parts n e).0) ns
+            f.opcodes_apart);
       }
   add_udo line d g (Ok (x, ts)) (Err e) h f = tt
   add_udo line d g (Err e) out h f = tt
@@ -374,7 +426,8 @@ module _ (Q : List Symbol → Type 0) (closed : (ts : List Symbol) → Q ts → 
   line_kept (Ok (a, ts)) S h = weaker ts h.1
   line_kept (Err f) S h = tt
 
-  pub fine_orc : {d : List (List ℕ)} {g : List ℕ} {st : Left} {out : Reading Orchestra} → ReadsOrc d g st out → Kept Q st → FineOrc d g out
+  pub fine_orc : {d : List (List ℕ)} {g : List ℕ} {st : Left} {out : Reading Orchestra} → ReadsOrc d g st out
+      → Kept Q st → FineOrc d g out
   fine_orc orc_stop q = tt
   fine_orc {d} {g} (orc_end e) q = record {
     outside_all = tt;
@@ -386,7 +439,8 @@ module _ (Q : List Symbol → Type 0) (closed : (ts : List Symbol) → Q ts → 
     opcodes_apart = All-nil (λ n. has d n ≡ false);
   }
   fine_orc {d} {g} (orc_header {ts = ts} {h = h} {out = out} e k) q =
-      add_header d g (header_line (outside d) h ts) out (fine_orc k (line_kept (header_line (outside d) h ts) (HeaderAt (next ts).line)
+      add_header d g (header_line (outside d) h ts) out
+      (fine_orc k (line_kept (header_line (outside d) h ts) (HeaderAt (next ts).line)
       (fine_header (outside d) h ts q)))
   fine_orc {d} {g} (orc_instr {ts = ts} {o = o} {out = out} e h k) q =
       let f = fine_instr h q in
@@ -396,6 +450,7 @@ module _ (Q : List Symbol → Type 0) (closed : (ts : List Symbol) → Q ts → 
       add_udo (next ts).line d g o out f (fine_orc k (line_kept o (NewDefinition (next ts).line d) f))
   fine_orc {d} {g} (orc_stmt {ts = ts} {o = o} {out = out} e h k) q =
       let f = fine_stmt Q closed good R feed stop weaker h q in
-      add_stmt d g o out (weakened R R (λ x. WellFormedStmt place.Outside [] 0 x × (line_of x ≡ (next ts).line)) (WellFormedStmt place.Outside [] 0)
+      add_stmt d g o out (weakened R R (λ x. WellFormedStmt place.Outside [] 0 x × (line_of x ≡ (next ts).line))
+      (WellFormedStmt place.Outside [] 0)
       (λ us r. r) (λ x l. l.0) o f)
       (fine_orc k (line_kept o (λ x. WellFormedStmt place.Outside [] 0 x × (line_of x ≡ (next ts).line)) f))

@@ -1,5 +1,6 @@
 -- What is read is sound: statements, numbers, the lines of a definition.
-use Rattle.std.proofs.Common.{◌≡◌, ◌≢◌, ◌∙◌, ◌≤◌, ◌<◌, ◌++◌, ◌&&◌, ◌||◌, ◌==◌, ◌%◌, ◌/◌, ℕ, ℤ, pos, Bool, true, false, List, [], ◌∷◌}
+use Rattle.std.proofs.Common.{◌≡◌, ◌≢◌, ◌∙◌, ◌≤◌, ◌<◌, ◌++◌, ◌&&◌, ◌||◌, ◌==◌, ◌%◌, ◌/◌, ℕ, ℤ, pos, Bool, true, false}
+use Rattle.std.proofs.Common.{List, [], ◌∷◌}
 use Rattle.std.proofs.Common.{Option, Some, None, Ok, Err, nat_lt, nat_le, if◌then◌else◌, refl, arith, sym, ap, subst}
 use Rattle.std.specs.List.{All}
 use Rattle.std.proofs.lemmas.Bool.{and_parts, or_parts, ltb-true, leb-true}
@@ -19,15 +20,21 @@ use Rattle.cs_grammar.specs.declared.stmt.LineForm.{LineForm}
 use Rattle.cs_grammar.specs.declared.stmt.LineForm.TheVariants as form
 use Rattle.cs_grammar.specs.Symbols.{Symbol}
 use Rattle.cs_grammar.specs.Tree.{Expression, Statement, call, choose, Block, no_stmt, andthen, Arms, otherwise, arm}
-use Rattle.cs_grammar.specs.Reading.{next, after, Left, Reading, left, mapped, both, three, Scope, deeper, has_number, fault, through, ended}
+use Rattle.cs_grammar.specs.Reading.{next, after, Left, Reading, left, mapped, both, three, Scope, deeper, has_number}
+use Rattle.cs_grammar.specs.Reading.{fault, through, ended}
 use Rattle.cs_grammar.specs.Parts.{is_opcode}
-use Rattle.cs_grammar.specs.Lines.{word_form, line_form_of, line_form, target, operation, instrument_number, fresh, number_at, ReadsNumbers}
+use Rattle.cs_grammar.specs.Lines.{word_form, line_form_of, line_form, target, operation, instrument_number, fresh}
+use Rattle.cs_grammar.specs.Lines.{number_at, ReadsNumbers}
 use Rattle.cs_grammar.specs.Lines.{no_number, last_number, more_numbers}
-use Rattle.cs_grammar.specs.Grammar.{assign, ReadsStmt, stmt_assign, stmt_results, stmt_bare, stmt_if, stmt_beyond, stmt_misplaced, ReadsBlock, block_stop}
-use Rattle.cs_grammar.specs.Grammar.{block_end, block_more, ReadsArms, arm_more, ReadsMore, more_stop, more_elseif, more_else, more_endif}
+use Rattle.cs_grammar.specs.Grammar.{assign, ReadsStmt, stmt_assign, stmt_results, stmt_bare, stmt_if, stmt_beyond}
+use Rattle.cs_grammar.specs.Grammar.{stmt_misplaced, ReadsBlock, block_stop}
+use Rattle.cs_grammar.specs.Grammar.{block_end, block_more, ReadsArms, arm_more, ReadsMore, more_stop, more_elseif}
+use Rattle.cs_grammar.specs.Grammar.{more_else, more_endif}
 use Rattle.cs_grammar.specs.Inputs.{AreDifferent}
-use Rattle.cs_grammar.specs.WellFormed.{line_of, IsVariable, WellFormedExpr, WellFormedArg, IsCall, WellFormedStmt, WellFormedBlock, WellFormedArms}
-use Rattle.cs_grammar.proofs.Fine.{IsWord, Fine, Kept, kept, kept_skip, fine_mapped, fine_both, fine_three, fine_through, fine_ended, fine_line}
+use Rattle.cs_grammar.specs.WellFormed.{line_of, IsVariable, WellFormedExpr, WellFormedArg, IsCall, WellFormedStmt}
+use Rattle.cs_grammar.specs.WellFormed.{WellFormedBlock, WellFormedArms}
+use Rattle.cs_grammar.proofs.Fine.{IsWord, Fine, Kept, kept, kept_skip, fine_mapped, fine_both, fine_three}
+use Rattle.cs_grammar.proofs.Fine.{fine_through, fine_ended, fine_line}
 use Rattle.cs_grammar.proofs.Fine.{weakened, fine_expr, fine_args, fine_target, fine_targets, fine_operation}
 
 -- ---- an `if` stands inside at most 99 others
@@ -42,10 +49,12 @@ no_if (kind.Word w) false e = cc
 no_if _ true e = cc
 no_if _ false e = cc
 
-if_shallow : (s : Scope) (k : Kind) (f : LineForm) → (f ≡ form.Conditional → ⊥) → line_form_of s k f ≡ form.Conditional → s.depth < 100
+if_shallow : (s : Scope) (k : Kind) (f : LineForm) → (f ≡ form.Conditional → ⊥) → line_form_of s k f ≡ form.Conditional
+    → s.depth < 100
 if_shallow s (kind.Word (word.Keyword key.If)) f n e = by (nat_lt s.depth 100) refl e
   where
-    by : (b : Bool) → nat_lt s.depth 100 ≡ b → (if b then form.Conditional else form.Beyond) ≡ form.Conditional → s.depth < 100
+    by : (b : Bool) → nat_lt s.depth 100 ≡ b → (if b then form.Conditional else form.Beyond) ≡ form.Conditional
+        → s.depth < 100
     by true h e = ltb-true s.depth 100 h
     by false h e = cc
 if_shallow s (kind.Word (word.Keyword _)) f n e = cc
@@ -54,10 +63,11 @@ if_shallow s _ f n e = cc
 
 pub shallow : (s : Scope) (ts : List Symbol) → line_form s ts ≡ form.Conditional → s.depth < 100
 shallow s ts e =
-    if_shallow s (next ts).kind (word_form (next (after ts)).kind (is_opcode s (next ts) (next ts).kind))
-    (no_if (next (after ts)).kind (is_opcode s (next ts) (next ts).kind)) e
+    if_shallow s (next ts).kind (word_form (next (after ts)).kind (is_opcode s (next ts).text (next ts).kind))
+    (no_if (next (after ts)).kind (is_opcode s (next ts).text (next ts).kind)) e
 
-assigned : (p : Place) (own : List ℕ) (depth line : ℕ) (k : Kind) (n : List ℕ) (e : Expression) → IsVariable n → WellFormedExpr e
+assigned : (p : Place) (own : List ℕ) (depth line : ℕ) (k : Kind) (n : List ℕ) (e : Expression) → IsVariable n
+    → WellFormedExpr e
     → WellFormedStmt p own depth (assign line k n e)
 assigned p own depth line (kind.Sign sign.PlusEquals) n e h g = (h, (h, g))
 assigned p own depth line _ n e h g = (h, g)
@@ -66,7 +76,8 @@ assigned_at : (line : ℕ) (k : Kind) (n : List ℕ) (e : Expression) → line_o
 assigned_at line (kind.Sign sign.PlusEquals) n e = refl
 assigned_at line _ n e = refl
 
-module _ (Q : List Symbol → Type 0) (closed : (ts : List Symbol) → Q ts → Q (after ts)) (good : (ts : List Symbol) → Q ts → IsWord (next ts))
+module _ (Q : List Symbol → Type 0) (closed : (ts : List Symbol) → Q ts → Q (after ts))
+    (good : (ts : List Symbol) → Q ts → IsWord (next ts))
     (R : List Symbol → Type 0) (feed : (ts : List Symbol) → Q ts → (next ts).kind ≡ kind.NewLine → R (after ts))
     (stop : (ts : List Symbol) → Q ts → (next ts).kind ≡ kind.End → R ts)
     (weaker : (ts : List Symbol) → R ts → Q ts) where
@@ -83,14 +94,19 @@ module _ (Q : List Symbol → Type 0) (closed : (ts : List Symbol) → Q ts → 
   Chain s a = WellFormedArms s.place s.own s.depth a
 
   mutual
-    pub fine_stmt : {s : Scope} {ts : List Symbol} {o : Reading Statement} → ReadsStmt s ts o → Q ts → Fine R (LineAt s (next ts).line) o
+    pub fine_stmt : {s : Scope} {ts : List Symbol} {o : Reading Statement} → ReadsStmt s ts o → Q ts
+        → Fine R (LineAt s (next ts).line) o
     fine_stmt {s} {ts} (stmt_assign {e = e} f h) q =
         let t = fine_target Q closed good s ts q in
-        let v = fine_expr Q closed good h (kept_skip Q closed good (left (target s ts)) (kept Q IsVariable (target s ts) t)) in
+        let v = fine_expr Q closed good h
+        (kept_skip Q closed good (left (target s ts)) (kept Q IsVariable (target s ts) t)) in
         let made = assign (next ts).line (next (after ts)).kind in
         fine_line Q closed good R feed stop (LineAt s (next ts).line) s (both made (target s ts) e)
-        (fine_both Q closed good IsVariable WellFormedExpr (LineAt s (next ts).line) made (λ n x y z.
-        (assigned s.place s.own s.depth (next ts).line (next (after ts)).kind n x y z, assigned_at (next ts).line (next (after ts)).kind n x))
+        (fine_both Q closed good IsVariable WellFormedExpr (LineAt s (next ts).line) made (λ n x y z. (
+          assigned s.place s.own s.depth (next ts).line (next (after ts)).kind n x y z,
+          assigned_at (next ts).line
+              (next (after ts)).kind n x,
+        ))
         (target s ts) e t v)
     fine_stmt {s} {ts} (stmt_results {names = names} {args = args} f n h) q =
         let t = fine_targets Q closed good n q in
@@ -98,18 +114,21 @@ module _ (Q : List Symbol → Type 0) (closed : (ts : List Symbol) → Q ts → 
         let o = fine_operation Q closed good s (left names) (kept Q (All IsVariable) names t) in
         let a = fine_args Q closed good h (kept Q (IsCall s.place s.own) p o) in
         fine_line Q closed good R feed stop (LineAt s (next ts).line) s (three (call (next ts).line) names p args)
-        (fine_three Q closed good (All IsVariable) (IsCall s.place s.own) (All WellFormedArg) (LineAt s (next ts).line) (call (next ts).line)
+        (fine_three Q closed good (All IsVariable) (IsCall s.place s.own) (All WellFormedArg) (LineAt s (next ts).line)
+        (call (next ts).line)
         (λ x y z u v w. ((u, v, w), refl)) names p args t o a)
     fine_stmt {s} {ts} (stmt_bare {args = args} f h) q =
         let p = operation s (Ok ts) in
         let o = fine_operation Q closed good s (Ok ts) q in
         let a = fine_args Q closed good h (kept Q (IsCall s.place s.own) p o) in
         fine_line Q closed good R feed stop (LineAt s (next ts).line) s (both (call (next ts).line []) p args)
-        (fine_both Q closed good (IsCall s.place s.own) (All WellFormedArg) (LineAt s (next ts).line) (call (next ts).line [])
+        (fine_both Q closed good (IsCall s.place s.own) (All WellFormedArg) (LineAt s (next ts).line)
+        (call (next ts).line [])
         (λ x y u v. ((All-nil IsVariable, u, v), refl)) p args o a)
     fine_stmt {s} {ts} (stmt_if {chain = chain} f h) q =
         fine_line Q closed good R feed stop (LineAt s (next ts).line) s (mapped (choose (next ts).line) chain)
-        (fine_mapped Q closed good (Chain (deeper s)) (LineAt s (next ts).line) (choose (next ts).line) (λ a x. ((shallow s ts f, x), refl)) chain
+        (fine_mapped Q closed good (Chain (deeper s)) (LineAt s (next ts).line) (choose (next ts).line)
+        (λ a x. ((shallow s ts f, x), refl)) chain
         (fine_arms h (closed ts q)))
     fine_stmt (stmt_beyond f) q = tt
     fine_stmt (stmt_misplaced f) q = tt
@@ -119,7 +138,8 @@ module _ (Q : List Symbol → Type 0) (closed : (ts : List Symbol) → Q ts → 
     fine_block (block_end e) q = (tt, q)
     fine_block {s} (block_more {ts = ts} {o = o} {out = out} e h k) q =
         let f = weakened R Q (LineAt s (next ts).line) (Line s) weaker (λ x l. l.0) o (fine_stmt h q) in
-        fine_both Q closed good (Line s) (Lines s) (Lines s) andthen (λ x b y z. (y, z)) o out f (fine_block k (kept Q (Line s) o f))
+        fine_both Q closed good (Line s) (Lines s) (Lines s) andthen (λ x b y z. (y, z)) o out f
+        (fine_block k (kept Q (Line s) o f))
 
     fine_arms : {s : Scope} {st : Left} {o : Reading Arms} → ReadsArms s st o → Kept Q st → Fine Q (Chain s) o
     fine_arms {s} (arm_more {c = c} {body = body} {rest = rest} h k g) q =
@@ -128,7 +148,8 @@ module _ (Q : List Symbol → Type 0) (closed : (ts : List Symbol) → Q ts → 
         let fe = fine_ended Q closed good WellFormedExpr s (through s expected.Then c) ft in
         let fb = fine_block k (kept Q WellFormedExpr (ended s (through s expected.Then c)) fe) in
         let fr = fine_more g (kept Q (Lines s) body fb) in
-        fine_three Q closed good WellFormedExpr (Lines s) (Chain s) (Chain s) arm (λ x y z u v w. (u, v, w)) c body rest fc fb fr
+        fine_three Q closed good WellFormedExpr (Lines s) (Chain s) (Chain s) arm (λ x y z u v w. (u, v, w)) c body rest
+        fc fb fr
 
     fine_more : {s : Scope} {st : Left} {o : Reading Arms} → ReadsMore s st o → Kept Q st → Fine Q (Chain s) o
     fine_more more_stop q = tt
@@ -138,7 +159,8 @@ module _ (Q : List Symbol → Type 0) (closed : (ts : List Symbol) → Q ts → 
         let fb = fine_block h (kept Q (Lines s) (ended s (Ok (no_stmt, after ts))) fe) in
         fine_through Q closed good (Chain s) s expected.Endif (mapped otherwise body)
         (fine_mapped Q closed good (Lines s) (Chain s) otherwise (λ b x. x) body fb)
-    fine_more {s} (more_endif {ts = ts} e f) q = fine_through Q closed good (Chain s) s expected.Endif (Ok (otherwise no_stmt, ts)) (tt, q)
+    fine_more {s} (more_endif {ts = ts} e f) q =
+        fine_through Q closed good (Chain s) s expected.Endif (Ok (otherwise no_stmt, ts)) (tt, q)
 
 -- ---- the numbers of an instrument
 
@@ -167,7 +189,8 @@ number_range (pos raw) n e = by (raw % 65536 == 0 && nat_le 1 (raw / 65536) && n
         some_is : Some m ≡ Some n → m ≡ n
         some_is e = ap some_or e
 
-    by : (b : Bool) → (raw % 65536 == 0 && nat_le 1 (raw / 65536) && nat_le (raw / 65536) 32767) ≡ b → (if b then Some (raw / 65536) else None) ≡ Some n
+    by : (b : Bool) → (raw % 65536 == 0 && nat_le 1 (raw / 65536) && nat_le (raw / 65536) 32767) ≡ b
+        → (if b then Some (raw / 65536) else None) ≡ Some n
         → IsNumber n
     by true h e =
         let both = and_parts (raw % 65536 == 0 && nat_le 1 (raw / 65536)) (nat_le (raw / 65536) 32767) h in
@@ -198,21 +221,30 @@ abbrev rest_in : Reading ℕ → List Symbol → List Symbol
 rest_in (Ok (n, ts)) d = ts
 rest_in (Err f) d = d
 
-fresh_number : (Q : List Symbol → Type 0) (given : List ℕ) (ts us : List Symbol) (o : Option ℕ) (n : ℕ) → Q (after ts) → ((m : ℕ) → o ≡ Some m → IsNumber m)
+fresh_number : (Q : List Symbol → Type 0) (given : List ℕ) (ts us : List Symbol) (o : Option ℕ) (n : ℕ) → Q (after ts)
+    → ((m : ℕ) → o ≡ Some m → IsNumber m)
     → fresh given ts o ≡ Ok (n, us) → OneNumber Q given n us
 fresh_number Q given ts us None n q r e = cc
 fresh_number Q given ts us (Some m) n q r e = by (has_number given m) refl e
   where
-    by : (b : Bool) → has_number given m ≡ b → of_fresh b m (after ts) (fault ts orc.InstrTwice) ≡ Ok (n, us) → OneNumber Q given n us
+    by : (b : Bool) → has_number given m ≡ b → of_fresh b m (after ts) (fault ts orc.InstrTwice) ≡ Ok (n, us)
+        → OneNumber Q given n us
     by true h e = cc
     by false h e =
         let same : m ≡ n = ap (number_in 0) e in
         let rest : after ts ≡ us = ap (λ o. rest_in o []) e in
-        record { range = subst IsNumber same (r m refl); apart = subst (λ k. has_number given k ≡ false) same h; left_over = subst Q rest q }
+        record {
+          range = subst IsNumber same (r m refl);
+          apart =
+              subst (λ k. has_number given k ≡ false) same h;
+          left_over = subst Q rest q;
+        }
 
-number_found : (Q : List Symbol → Type 0) (s : Scope) (given : List ℕ) (ts us : List Symbol) (n : ℕ) (k : Kind) → Q (after ts)
+number_found : (Q : List Symbol → Type 0) (s : Scope) (given : List ℕ) (ts us : List Symbol) (n : ℕ) (k : Kind)
+    → Q (after ts)
     → number_at s given ts k ≡ Ok (n, us) → OneNumber Q given n us
-number_found Q s given ts us n (kind.Number v) q e = fresh_number Q given ts us (instrument_number v) n q (number_range v) e
+number_found Q s given ts us n (kind.Number v) q e =
+    fresh_number Q given ts us (instrument_number v) n q (number_range v) e
 number_found Q s given ts us n _ q e = cc
 
 differ : (xs ys : List ℕ) (x n : ℕ) → has_number (xs ++ x ∷ []) n ≡ false → (has_number xs n ≡ false) × (x ≢ n)
@@ -222,7 +254,8 @@ differ xs ys x n h =
     (parts.0, λ q. let k : true ≡ false = sym ((Decides-eqb n x).1 (sym q)) ∙ last.0 in cc)
 
 module _ (Q : List Symbol → Type 0) (closed : (ts : List Symbol) → Q ts → Q (after ts)) where
-  pub fine_numbers : {s : Scope} {given : List ℕ} {ts : List Symbol} {o : Reading (List ℕ)} → ReadsNumbers s given ts o → Q ts → Fine Q (NumbersFrom given) o
+  pub fine_numbers : {s : Scope} {given : List ℕ} {ts : List Symbol} {o : Reading (List ℕ)} → ReadsNumbers s given ts o
+      → Q ts → Fine Q (NumbersFrom given) o
   fine_numbers (no_number e) q = tt
   fine_numbers {s} (last_number {given} {ts} {us} {n} e c) q =
       let h = number_found Q s given ts us n (next ts).kind (closed ts q) e in (
@@ -244,10 +277,12 @@ module _ (Q : List Symbol → Type 0) (closed : (ts : List Symbol) → Q ts → 
       more given n r a (Ok (ns, ts)) h = (
         record {
           range = All-cons (λ n. (1 ≤ n) × (n ≤ 32767)) n ns r h.0.range;
-          different = AllPairs-cons (λ x y. x ≢ y) n ns (All-weaker (λ m. has_number (given ++ n ∷ []) m ≡ false) (λ m. n ≢ m)
+          different = AllPairs-cons (λ x y. x ≢ y) n ns
+              (All-weaker (λ m. has_number (given ++ n ∷ []) m ≡ false) (λ m. n ≢ m)
               (λ m x. (differ given [] n m x).1) ns h.0.apart) h.0.different;
           apart = All-cons (λ m. has_number given m ≡ false) n ns a
-              (All-weaker (λ m. has_number (given ++ n ∷ []) m ≡ false) (λ m. has_number given m ≡ false) (λ m x. (differ given [] n m x).0) ns h.0.apart);
+              (All-weaker (λ m. has_number (given ++ n ∷ []) m ≡ false) (λ m. has_number given m ≡ false)
+              (λ m x. (differ given [] n m x).0) ns h.0.apart);
         },
         h.1,
       )

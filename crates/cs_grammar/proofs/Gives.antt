@@ -8,7 +8,8 @@ use Rattle.cs_base.specs.declared.fault.OrcKind.TheVariants as orc
 use Rattle.cs_grammar.specs.declared.symbol.Kind.{Kind}
 use Rattle.cs_grammar.specs.declared.symbol.Kind.TheVariants as kind
 use Rattle.cs_grammar.specs.declared.symbol.Expected.{Expected}
-use Rattle.cs_grammar.specs.Reading.{Left, Reading, Scope, after, both, ended, left, line_end, mapped, misfit, next, next_is, through}
+use Rattle.cs_grammar.specs.Reading.{Left, Reading, Scope, after, both, ended, left, line_end, mapped, misfit, next}
+use Rattle.cs_grammar.specs.Reading.{next_is, through}
 use Rattle.cs_grammar.specs.Symbols.{Symbol}
 use Rattle.cs_grammar.specs.inner.Answers.{Gives, Passes, line_past, past}
 
@@ -16,24 +17,31 @@ abbrev pub Same : Or OrcFault → Or OrcFault → Type 0
 Same e y = y ≡ e
 
 -- the exit of a `?`: the same fault, or want of memory
-pub failed : {T U A B : Type 0} (see : T → A) (sees : U → B) (r : Result U (Or OrcFault)) (e : Or OrcFault) (rest others : List Symbol)
-    (P : Reading A → Type 0) (Q : Reading B → Type 0) → IsErrAnd r (Same e) → Gives see (Err e) rest P → ((f : OrcFault) → P (Err f) → Q (Err f))
+pub failed : {T U A B : Type 0} (see : T → A) (sees : U → B) (r : Result U (Or OrcFault)) (e : Or OrcFault)
+    (rest others : List Symbol)
+    (P : Reading A → Type 0) (Q : Reading B → Type 0) → IsErrAnd r (Same e) → Gives see (Err e) rest P
+    → ((f : OrcFault) → P (Err f) → Q (Err f))
     → Gives sees r others Q
 failed see sees (Ok x) e rest others P Q i h k = elim i [ ]
-failed see sees (Err (or.Fault g)) (or.Fault f) rest others P Q i h k = subst (λ y. Gives sees (Err y) others Q) (sym i) (k f h)
+failed see sees (Err (or.Fault g)) (or.Fault f) rest others P Q i h k =
+    subst (λ y. Gives sees (Err y) others Q) (sym i) (k f h)
 failed see sees (Err or.OutOfMemory) e rest others P Q i h k = tt
 failed see sees (Err (or.Fault g)) or.OutOfMemory rest others P Q i h k = cc
 
 -- the same of a symbol that must come next
-pub unpassed : {U B : Type 0} (T : Type 0) (sees : U → B) (r : Result U (Or OrcFault)) (e : Or OrcFault) (rest others : List Symbol) (st : Left)
-    (Q : Reading B → Type 0) → IsErrAnd r (Same e) → Passes {T = T} (Err e) rest st → ((f : OrcFault) → st ≡ Err f → Q (Err f)) → Gives sees r others Q
+pub unpassed : {U B : Type 0} (T : Type 0) (sees : U → B) (r : Result U (Or OrcFault)) (e : Or OrcFault)
+    (rest others : List Symbol) (st : Left)
+    (Q : Reading B → Type 0) → IsErrAnd r (Same e) → Passes {T = T} (Err e) rest st
+    → ((f : OrcFault) → st ≡ Err f → Q (Err f)) → Gives sees r others Q
 unpassed T sees (Ok x) e rest others st Q i h k = elim i [ ]
-unpassed T sees (Err (or.Fault g)) (or.Fault f) rest others st Q i h k = subst (λ y. Gives sees (Err y) others Q) (sym i) (k f h)
+unpassed T sees (Err (or.Fault g)) (or.Fault f) rest others st Q i h k =
+    subst (λ y. Gives sees (Err y) others Q) (sym i) (k f h)
 unpassed T sees (Err or.OutOfMemory) e rest others st Q i h k = tt
 unpassed T sees (Err (or.Fault g)) or.OutOfMemory rest others st Q i h k = cc
 
 -- a value that is made at the end, or want of memory
-pub made : {U B : Type 0} (sees : U → B) (r : Result U (Or OrcFault)) (v : B) (rest : List Symbol) (Q : Reading B → Type 0) → IfOk r (λ x. sees x ≡ v)
+pub made : {U B : Type 0} (sees : U → B) (r : Result U (Or OrcFault)) (v : B) (rest : List Symbol)
+    (Q : Reading B → Type 0) → IfOk r (λ x. sees x ≡ v)
     → IfErr r (λ e. e ≡ or.OutOfMemory) → Q (Ok (v, rest)) → Gives sees r rest Q
 made sees (Ok x) v rest Q h k q = subst (λ y. Q (Ok (y, rest))) (sym h) q
 made sees (Err (or.Fault f)) v rest Q h k q = cc
@@ -51,7 +59,8 @@ left_on : {A : Type 0} (s : Scope) (a : A) (ts : List Symbol) (b : Bool) → lef
 left_on s a ts true = refl
 left_on s a ts false = refl
 
-pub left_through : {A : Type 0} (s : Scope) (p : Expected) (a : A) (ts : List Symbol) → left (through s p (Ok (a, ts))) ≡ past s p ts
+pub left_through : {A : Type 0} (s : Scope) (p : Expected) (a : A) (ts : List Symbol)
+    → left (through s p (Ok (a, ts))) ≡ past s p ts
 left_through s p a ts = left_on s a ts (next_is p ts)
 
 -- a reading with this value that leaves what is left
@@ -59,21 +68,25 @@ abbrev pub valued : {A : Type 0} → A → Left → Reading A
 valued a (Ok ts) = Ok (a, ts)
 valued a (Err f) = Err f
 
-valued_on : {A : Type 0} (s : Scope) (a : A) (ts : List Symbol) (b : Bool) → through_on s a ts b ≡ valued a (past_on s ts b)
+valued_on : {A : Type 0} (s : Scope) (a : A) (ts : List Symbol) (b : Bool)
+    → through_on s a ts b ≡ valued a (past_on s ts b)
 valued_on s a ts true = refl
 valued_on s a ts false = refl
 
-pub through_is : {A : Type 0} (s : Scope) (p : Expected) (a : A) (ts : List Symbol) (st : Left) → past s p ts ≡ st → through s p (Ok (a, ts)) ≡ valued a st
+pub through_is : {A : Type 0} (s : Scope) (p : Expected) (a : A) (ts : List Symbol) (st : Left) → past s p ts ≡ st
+    → through s p (Ok (a, ts)) ≡ valued a st
 through_is s p a ts st e = valued_on s a ts (next_is p ts) ∙ ap (valued a) e
 
 -- the same of the end of a line
 
-line_valued : {A : Type 0} (s : Scope) (a : A) (k : Kind) (ts : List Symbol) → line_end s a k ts ≡ valued a (line_past s k ts)
+line_valued : {A : Type 0} (s : Scope) (a : A) (k : Kind) (ts : List Symbol)
+    → line_end s a k ts ≡ valued a (line_past s k ts)
 line_valued s a kind.NewLine ts = refl
 line_valued s a kind.End ts = refl
 line_valued s a _ ts = refl
 
-pub ended_is : {A : Type 0} (s : Scope) (a : A) (ts : List Symbol) (st : Left) → line_past s (next ts).kind ts ≡ st → ended s (Ok (a, ts)) ≡ valued a st
+pub ended_is : {A : Type 0} (s : Scope) (a : A) (ts : List Symbol) (st : Left) → line_past s (next ts).kind ts ≡ st
+    → ended s (Ok (a, ts)) ≡ valued a st
 ended_is s a ts st e = line_valued s a (next ts).kind ts ∙ ap (valued a) e
 
 pub left_valued : {A : Type 0} (a : A) (st : Left) → left (valued a st) ≡ st
@@ -81,7 +94,8 @@ left_valued a (Ok ts) = refl
 left_valued a (Err f) = refl
 
 -- a value that is handed on, with what must follow it
-pub followed : {U B : Type 0} (sees : U → B) (r : Result U (Or OrcFault)) (v : U) (rest : List Symbol) (st : Left) (Q : Reading B → Type 0)
+pub followed : {U B : Type 0} (sees : U → B) (r : Result U (Or OrcFault)) (v : U) (rest : List Symbol) (st : Left)
+    (Q : Reading B → Type 0)
     → IfOk r (λ x. x ≡ v) → Passes r rest st → ((p : Left) → st ≡ p → Q (valued (sees v) p)) → Gives sees r rest Q
 followed sees (Ok x) v rest st Q h e k = subst (λ y. Q (Ok (sees y, rest))) (sym h) (k (Ok rest) e)
 followed sees (Err (or.Fault f)) v rest st Q h e k = k (Err f) e
@@ -101,9 +115,11 @@ mapped_valued : {A B : Type 0} (g : A → B) (a : A) (st : Left) → valued (g a
 mapped_valued g a (Ok ts) = refl
 mapped_valued g a (Err f) = refl
 
-pub through_mapped : {A B : Type 0} (s : Scope) (p : Expected) (g : A → B) (o : Reading A) → through s p (mapped g o) ≡ mapped g (through s p o)
+pub through_mapped : {A B : Type 0} (s : Scope) (p : Expected) (g : A → B) (o : Reading A)
+    → through s p (mapped g o) ≡ mapped g (through s p o)
 through_mapped s p g (Ok (a, ts)) =
-    through_is s p (g a) ts (past s p ts) refl ∙ mapped_valued g a (past s p ts) ∙ ap (mapped g) (sym (through_is s p a ts (past s p ts) refl))
+    through_is s p (g a) ts (past s p ts) refl ∙ mapped_valued g a (past s p ts)
+    ∙ ap (mapped g) (sym (through_is s p a ts (past s p ts) refl))
 through_mapped s p g (Err f) = refl
 
 pub ended_mapped : {A B : Type 0} (s : Scope) (g : A → B) (o : Reading A) → ended s (mapped g o) ≡ mapped g (ended s o)
@@ -116,7 +132,8 @@ pub closing_mapped : {A B : Type 0} (s t : Scope) (p : Expected) (g : A → B) (
     → ended t (through s p (mapped g o)) ≡ mapped g (ended t (through s p o))
 closing_mapped s t p g o = ap (ended t) (through_mapped s p g o) ∙ ended_mapped t g (through s p o)
 
-pub both_mapped : {A B C : Type 0} (f : A → B → C) (a : A) (ts : List Symbol) (b : Reading B) → both f (Ok (a, ts)) b ≡ mapped (f a) b
+pub both_mapped : {A B C : Type 0} (f : A → B → C) (a : A) (ts : List Symbol) (b : Reading B)
+    → both f (Ok (a, ts)) b ≡ mapped (f a) b
 both_mapped f a ts (Ok (b, us)) = refl
 both_mapped f a ts (Err e) = refl
 
@@ -130,13 +147,16 @@ ended_valued : {A : Type 0} (t : Scope) (a : A) (st : Left) → ended t (valued 
 ended_valued t a (Ok ts) = ended_is t a ts (line_past t (next ts).kind ts) refl
 ended_valued t a (Err f) = refl
 
-pub through_keeps : {A : Type 0} (s : Scope) (p : Expected) (x y : A) (ws us : List Symbol) → Ok (x, ws) ≡ through s p (Ok (y, us)) → x ≡ y
+pub through_keeps : {A : Type 0} (s : Scope) (p : Expected) (x y : A) (ws us : List Symbol)
+    → Ok (x, ws) ≡ through s p (Ok (y, us)) → x ≡ y
 through_keeps s p x y ws us e = same_value x y ws (past s p us) (e ∙ through_is s p y us (past s p us) refl)
 
 pub line_keeps : {A : Type 0} (t : Scope) (x y : A) (ws us : List Symbol) → Ok (x, ws) ≡ ended t (Ok (y, us)) → x ≡ y
 line_keeps t x y ws us e =
     same_value x y ws (line_past t (next us).kind us) (e ∙ ended_is t y us (line_past t (next us).kind us) refl)
 
-pub closing_keeps : {A : Type 0} (s t : Scope) (p : Expected) (x y : A) (ws us : List Symbol) → Ok (x, ws) ≡ ended t (through s p (Ok (y, us))) → x ≡ y
+pub closing_keeps : {A : Type 0} (s t : Scope) (p : Expected) (x y : A) (ws us : List Symbol)
+    → Ok (x, ws) ≡ ended t (through s p (Ok (y, us))) → x ≡ y
 closing_keeps s t p x y ws us e =
-    same_value x y ws (closing t (past s p us)) (e ∙ ap (ended t) (through_is s p y us (past s p us) refl) ∙ ended_valued t y (past s p us))
+    same_value x y ws (closing t (past s p us))
+    (e ∙ ap (ended t) (through_is s p y us (past s p us) refl) ∙ ended_valued t y (past s p us))

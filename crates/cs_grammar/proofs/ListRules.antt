@@ -18,7 +18,8 @@ quoted_is : (s : Scope) (r : Role) (ts : List Symbol) → next_is expected.Text 
 quoted_is s role.Argument ts e = arg_text e
 quoted_is s role.Result ts e = text_result e
 
-pub quoted_reads : (s : Scope) (r : Role) (ts rest : List Symbol) (o : Result Arg (Or OrcFault)) → next_is expected.Text ts ≡ true
+pub quoted_reads : (s : Scope) (r : Role) (ts rest : List Symbol) (o : Result Arg (Or OrcFault))
+    → next_is expected.Text ts ≡ true
     → Gives argument o rest (λ x. x ≡ quoted r ts) → Gives argument o rest (ReadsArg s r ts)
 quoted_reads s r ts rest (Ok x) e h = subst (ReadsArg s r ts) (sym h) (quoted_is s r ts e)
 quoted_reads s r ts rest (Err (or.Fault f)) e h = subst (ReadsArg s r ts) (sym h) (quoted_is s r ts e)

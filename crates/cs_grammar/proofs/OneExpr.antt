@@ -1,5 +1,7 @@
--- Every text has one reading as an expression of a level. A function with steps to spend computes it: it ends as the relation says, where the steps suffice.
-use Rattle.std.proofs.Common.{◌≡◌, ◌<◌, ◌≤◌, ◌+◌, ◌*◌, ◌&&◌, ◌∙◌, ℕ, zero, suc, Bool, true, false, List, [], ◌∷◌, length, Option, Some, None, Ok, Err, refl}
+-- Every text has one reading as an expression of a level. A function with steps to spend computes it: it ends as the
+-- relation says, where the steps suffice.
+use Rattle.std.proofs.Common.{◌≡◌, ◌<◌, ◌≤◌, ◌+◌, ◌*◌, ◌&&◌, ◌∙◌, ℕ, zero, suc, Bool, true, false, List, [], ◌∷◌}
+use Rattle.std.proofs.Common.{length, Option, Some, None, Ok, Err, refl}
 use Rattle.std.proofs.Common.{arith, sym, ap, subst}
 use Rattle.cs_base.specs.declared.fault.OrcFault.{OrcFault}
 use Rattle.cs_base.specs.declared.fault.OrcKind.TheVariants as orc
@@ -11,14 +13,18 @@ use Rattle.cs_grammar.specs.declared.symbol.Kind.{Kind}
 use Rattle.cs_grammar.specs.declared.symbol.Kind.TheVariants as kind
 use Rattle.cs_grammar.specs.declared.expr.PartForm.{PartForm}
 use Rattle.cs_grammar.specs.declared.expr.PartForm.TheVariants as part
-use Rattle.cs_grammar.proofs.Sizes.{size, after_size, skip_size, mapped_size, both_size, three_size, choice_size, through_size}
+use Rattle.cs_grammar.proofs.Sizes.{size, after_size, skip_size, mapped_size, both_size, three_size, choice_size}
+use Rattle.cs_grammar.proofs.Sizes.{through_size}
 use Rattle.cs_grammar.specs.declared.symbol.Expected.TheVariants as expected
 use Rattle.cs_words.specs.declared.sign.Sign.TheVariants as sign
-use Rattle.cs_grammar.specs.Grammar.{ReadsExpr, ReadsTail, binary, expr_stop, fact_alone, fact_call, fact_group, fact_neg, fact_pick, no_more, one_alone}
+use Rattle.cs_grammar.specs.Grammar.{ReadsExpr, ReadsTail, binary, expr_stop, fact_alone, fact_call, fact_group}
+use Rattle.cs_grammar.specs.Grammar.{fact_neg, fact_pick, no_more, one_alone}
 use Rattle.cs_grammar.specs.Grammar.{one_more}
 use Rattle.cs_grammar.specs.Kinds.{is_word}
-use Rattle.cs_grammar.specs.Parts.{atom, no_part, operator, operator_of, part_form, rank, repeats, single, single_or, tighter}
-use Rattle.cs_grammar.specs.Reading.{Left, Reading, Scope, after, both, left, mapped, meets, next, next_is, skip, three, through}
+use Rattle.cs_grammar.specs.Parts.{atom, no_part, operator, operator_of, part_form, rank, repeats, single, single_or}
+use Rattle.cs_grammar.specs.Parts.{tighter}
+use Rattle.cs_grammar.specs.Reading.{Left, Reading, Scope, after, both, left, mapped, meets, next, next_is, skip, three}
+use Rattle.cs_grammar.specs.Reading.{through}
 use Rattle.cs_grammar.specs.Symbols.{Symbol}
 use Rattle.cs_grammar.specs.Tree.{Expression, apply, neg, pair, pick}
 
@@ -45,7 +51,8 @@ first R ts = R (expr level.Expr (Ok (after ts)))
 
 abbrev fact_by : Scope → Answers → List Symbol → PartForm → Reading Expression
 fact_by s R ts part.Minus = mapped neg (R (expr level.Fact (Ok (after ts))))
-fact_by s R ts (part.Function f) = through s expected.Close (mapped (apply f) (R (expr level.Expr (Ok (after (after ts))))))
+fact_by s R ts (part.Function f) =
+    through s expected.Close (mapped (apply f) (R (expr level.Expr (Ok (after (after ts))))))
 fact_by s R ts part.Bracket = grouped s R (first R ts) (meets expected.Question (left (first R ts)))
 fact_by s R ts part.Alone = atom s ts
 
@@ -82,7 +89,8 @@ pub record Settles (s : Scope) (a : Ask) (o : Reading Expression) : Type 0 where
   pub steps : ℕ
   pub ends : (n : ℕ) → steps ≤ n → run s n a ≡ o
 
-settle : {s : Scope} {a : Ask} {o : Reading Expression} (k : ℕ) → ((m : ℕ) → k ≤ m → step s (run s m) a ≡ o) → Settles s a o
+settle : {s : Scope} {a : Ask} {o : Reading Expression} (k : ℕ) → ((m : ℕ) → k ≤ m → step s (run s m) a ≡ o)
+    → Settles s a o
 unfolding run
 settle {s} {a} {o} k f = record { steps = suc k; ends = by }
   where
@@ -95,25 +103,31 @@ mutual
   settles {s} {l} {st} (binary e h t) =
       let i = settles h in
       let j = tail_settles t in
-      settle (i.steps + j.steps) (λ m le. ap (expr_step s (run s m) l st) e ∙ ap (λ x. run s m (tail l x)) (i.ends m (omega arith)) ∙ j.ends m (omega arith))
+      settle (i.steps + j.steps)
+      (λ m le. ap (expr_step s (run s m) l st) e ∙ ap (λ x. run s m (tail l x)) (i.ends m (omega arith))
+      ∙ j.ends m (omega arith))
   settles expr_stop = settle 0 (λ m le. refl)
   settles {s} (fact_neg {ts} e h) =
       let i = settles h in
       settle i.steps (λ m le. ap (fact_by s (run s m) ts) e ∙ ap (mapped neg) (i.ends m le))
   settles {s} (fact_call {ts} {f} e h) =
       let i = settles h in
-      settle i.steps (λ m le. ap (fact_by s (run s m) ts) e ∙ ap (λ x. through s expected.Close (mapped (apply f) x)) (i.ends m le))
+      settle i.steps (λ m le. ap (fact_by s (run s m) ts) e
+      ∙ ap (λ x. through s expected.Close (mapped (apply f) x)) (i.ends m le))
   settles {s} (fact_group {ts} {o} e h q) =
       let i = settles h in
-      settle i.steps (λ m le. ap (fact_by s (run s m) ts) e ∙ ap (λ x. grouped s (run s m) x (meets expected.Question (left x))) (i.ends m le)
+      settle i.steps (λ m le. ap (fact_by s (run s m) ts) e
+      ∙ ap (λ x. grouped s (run s m) x (meets expected.Question (left x))) (i.ends m le)
       ∙ ap (grouped s (run s m) o) q)
   settles {s} (fact_pick {ts} {c} {a} {b} e h q g k) =
       let i = settles h in
       let i2 = settles g in
       let i3 = settles k in
       settle (i.steps + i2.steps + i3.steps) (λ m le.
-      ap (fact_by s (run s m) ts) e ∙ ap (λ x. grouped s (run s m) x (meets expected.Question (left x))) (i.ends m (omega arith))
-      ∙ ap (grouped s (run s m) c) q ∙ ap (λ x. through s expected.Close (three pick c x (other s (run s m) x))) (i2.ends m (omega arith))
+      ap (fact_by s (run s m) ts) e
+      ∙ ap (λ x. grouped s (run s m) x (meets expected.Question (left x))) (i.ends m (omega arith))
+      ∙ ap (grouped s (run s m) c) q
+      ∙ ap (λ x. through s expected.Close (three pick c x (other s (run s m) x))) (i2.ends m (omega arith))
       ∙ ap (λ x. through s expected.Close (three pick c a x)) (i3.ends m (omega arith)))
   settles {s} (fact_alone {ts} e) = settle 0 (λ m le. ap (fact_by s (run s m) ts) e)
 
@@ -123,17 +137,21 @@ mutual
       let i = settles h in
       let j = tail_settles k in
       settle (i.steps + j.steps) (λ m le.
-      ap (tail_step (run s m) l o) e ∙ ap (λ x. tail_on (run s m) l x (both (pair op) o (right_side (run s m) o (tighter l)))) r
-      ∙ ap (λ x. run s m (tail l (both (pair op) o (right_side (run s m) o x)))) t ∙ ap (λ x. run s m (tail l (both (pair op) o x)))
+      ap (tail_step (run s m) l o) e
+      ∙ ap (λ x. tail_on (run s m) l x (both (pair op) o (right_side (run s m) o (tighter l)))) r
+      ∙ ap (λ x. run s m (tail l (both (pair op) o (right_side (run s m) o x)))) t
+      ∙ ap (λ x. run s m (tail l (both (pair op) o x)))
       (i.ends m (omega arith)) ∙ j.ends m (omega arith))
   tail_settles {s} {l} {o} (one_alone {op = op} {b = b} e r t h) =
       let i = settles h in
       settle i.steps (λ m le.
-      ap (tail_step (run s m) l o) e ∙ ap (λ x. tail_on (run s m) l x (both (pair op) o (right_side (run s m) o (tighter l)))) r
+      ap (tail_step (run s m) l o) e
+      ∙ ap (λ x. tail_on (run s m) l x (both (pair op) o (right_side (run s m) o (tighter l)))) r
       ∙ ap (λ x. both (pair op) o (right_side (run s m) o x)) t ∙ ap (λ x. both (pair op) o x) (i.ends m le))
 
 -- one reading at most
-pub same_expr : {s : Scope} {l : Level} {st : Left} {o p : Reading Expression} → ReadsExpr s l st o → ReadsExpr s l st p → o ≡ p
+pub same_expr : {s : Scope} {l : Level} {st : Left} {o p : Reading Expression} → ReadsExpr s l st o → ReadsExpr s l st p
+    → o ≡ p
 same_expr h k =
     let i = settles h in
     let j = settles k in
@@ -198,7 +216,8 @@ no_operator : (l : Level) (op : BinOp) (st : Left) → l ≡ level.Fact → oper
 no_operator l op (Err f) h e = cc
 no_operator l op (Ok ts) h e = no_op op (next ts).kind (subst (λ x. operator_of x (next ts).kind ≡ Some op) h e)
 
-single_size : {A : Type 0} (o : Option A) (ts : List Symbol) (f : OrcFault) → size (left (single_or o ts f)) ≤ length ts + 1
+single_size : {A : Type 0} (o : Option A) (ts : List Symbol) (f : OrcFault)
+    → size (left (single_or o ts f)) ≤ length ts + 1
 single_size (Some e) ts f = omega arith
 single_size None ts f = omega arith
 
@@ -209,7 +228,8 @@ atom_size s ts =
     (omega (arith, single_size (single s (next ts) (next ts).kind) (after ts) (no_part s ts), after_size ts))
 
 module _ (s : Scope) (R : Answers) (n : ℕ) (ih : (b : Ask) → weight b < n → Right s b (R b)) where
-  sound_group : (ts : List Symbol) → part_form ts ≡ part.Bracket → 8 * (length ts + 1) + 2 ≤ n → (b : Bool) → meets expected.Question (left (first R ts)) ≡ b
+  sound_group : (ts : List Symbol) → part_form ts ≡ part.Bracket → 8 * (length ts + 1) + 2 ≤ n → (b : Bool)
+      → meets expected.Question (left (first R ts)) ≡ b
       → Right s (expr level.Fact (Ok ts)) (grouped s R (first R ts) b)
   sound_group ts e w true q =
       let less = form_less ts part.Bracket e (λ x. cc) in
@@ -217,7 +237,8 @@ module _ (s : Scope) (R : Answers) (n : ℕ) (ih : (b : Ask) → weight b < n �
       let c = first R ts in
       let k = ih (expr level.Expr (skip (left c))) (omega (arith, skip_size (left c), h.1)) in
       let a = branch R c in
-      let g = ih (expr level.Expr (left (through s expected.Colon a))) (omega (arith, skip_size (left c), h.1, k.1, through_size s expected.Colon a)) in (
+      let g = ih (expr level.Expr (left (through s expected.Colon a)))
+      (omega (arith, skip_size (left c), h.1, k.1, through_size s expected.Colon a)) in (
         fact_pick e h.0 q k.0 g.0,
         omega (
           arith,
@@ -236,7 +257,8 @@ module _ (s : Scope) (R : Answers) (n : ℕ) (ih : (b : Ask) → weight b < n �
       let h = ih (expr level.Expr (Ok (after ts))) (omega arith) in
       (fact_group e h.0 q, omega (arith, h.1, through_size s expected.Close (first R ts)))
 
-  sound_by : (ts : List Symbol) → 8 * (length ts + 1) + 2 ≤ n → (f : PartForm) → part_form ts ≡ f → Right s (expr level.Fact (Ok ts)) (fact_by s R ts f)
+  sound_by : (ts : List Symbol) → 8 * (length ts + 1) + 2 ≤ n → (f : PartForm) → part_form ts ≡ f
+      → Right s (expr level.Fact (Ok ts)) (fact_by s R ts f)
   sound_by ts w part.Minus e =
       let less = form_less ts part.Minus e (λ x. cc) in
       let h = ih (expr level.Fact (Ok (after ts))) (omega arith) in
@@ -244,8 +266,17 @@ module _ (s : Scope) (R : Answers) (n : ℕ) (ih : (b : Ask) → weight b < n �
   sound_by ts w (part.Function f) e =
       let less = form_less ts (part.Function f) e (λ x. cc) in
       let h = ih (expr level.Expr (Ok (after (after ts)))) (omega (arith, after_size (after ts))) in
-      let o = R (expr level.Expr (Ok (after (after ts)))) in
-      (fact_call e h.0, omega (arith, h.1, after_size (after ts), mapped_size (apply f) o, through_size s expected.Close (mapped (apply f) o)))
+      let o = R (expr level.Expr (Ok (after (after ts)))) in (
+        fact_call e h.0,
+        omega (
+          arith,
+          h.1,
+          after_size (after ts),
+          mapped_size (apply f) o,
+          through_size s expected.Close
+              (mapped (apply f) o),
+        ),
+      )
   sound_by ts w part.Bracket e = sound_group ts e w (meets expected.Question (left (first R ts))) refl
   sound_by ts w part.Alone e = (fact_alone e, atom_size s ts)
 
@@ -253,7 +284,8 @@ module _ (s : Scope) (R : Answers) (n : ℕ) (ih : (b : Ask) → weight b < n �
   sound_fact (Err f) w = (expr_stop, omega arith)
   sound_fact (Ok ts) w = sound_by ts w (part_form ts) refl
 
-  sound_expr : (l : Level) (st : Left) → 8 * size st + (rank l + 2) ≤ n → (t : Option Level) → tighter l ≡ t → Right s (expr l st) (expr_step s R l st t)
+  sound_expr : (l : Level) (st : Left) → 8 * size st + (rank l + 2) ≤ n → (t : Option Level) → tighter l ≡ t
+      → Right s (expr l st) (expr_step s R l st t)
   sound_expr l st w None e =
       let is : level.Fact ≡ l = sym (is_fact l e) in
       let w2 : 8 * size st + 2 ≤ n = omega (arith, ap rank is) in
@@ -264,7 +296,8 @@ module _ (s : Scope) (R : Answers) (n : ℕ) (ih : (b : Ask) → weight b < n �
       let k = ih (tail l (R (expr m st))) (omega (arith, h.1, (rank_within l).0)) in
       (binary e h.0 k.0, omega (arith, h.1, k.1))
 
-  sound_on : (l m : Level) (o : Reading Expression) (op : BinOp) → 8 * size (left o) + 1 ≤ n → operator l (left o) ≡ Some op → tighter l ≡ Some m → (b : Bool)
+  sound_on : (l m : Level) (o : Reading Expression) (op : BinOp) → 8 * size (left o) + 1 ≤ n
+      → operator l (left o) ≡ Some op → tighter l ≡ Some m → (b : Bool)
       → repeats l ≡ b → Right s (tail l o) (tail_on R l b (both (pair op) o (R (expr m (skip (left o))))))
   sound_on l m o op w e t true r =
       let less = operator_less l op (left o) e in
@@ -278,12 +311,14 @@ module _ (s : Scope) (R : Answers) (n : ℕ) (ih : (b : Ask) → weight b < n �
       let b = R (expr m (skip (left o))) in
       (one_alone e r t h.0, omega (arith, h.1, both_size (pair op) o b))
 
-  sound_op : (l : Level) (o : Reading Expression) (op : BinOp) → 8 * size (left o) + 1 ≤ n → operator l (left o) ≡ Some op → (t : Option Level)
+  sound_op : (l : Level) (o : Reading Expression) (op : BinOp) → 8 * size (left o) + 1 ≤ n
+      → operator l (left o) ≡ Some op → (t : Option Level)
       → tighter l ≡ t → Right s (tail l o) (tail_on R l (repeats l) (both (pair op) o (right_side R o t)))
   sound_op l o op w e None t = absurd (no_operator l op (left o) (is_fact l t) e)
   sound_op l o op w e (Some m) t = sound_on l m o op w e t (repeats l) refl
 
-  sound_tail : (l : Level) (o : Reading Expression) → 8 * size (left o) + 1 ≤ n → (p : Option BinOp) → operator l (left o) ≡ p
+  sound_tail : (l : Level) (o : Reading Expression) → 8 * size (left o) + 1 ≤ n → (p : Option BinOp)
+      → operator l (left o) ≡ p
       → Right s (tail l o) (tail_step R l o p)
   sound_tail l o w None e = (no_more e, omega arith)
   sound_tail l o w (Some op) e = sound_op l o op w e (tighter l) refl

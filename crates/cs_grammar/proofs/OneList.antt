@@ -1,5 +1,6 @@
 -- Every text has one reading as arguments.
-use Rattle.std.proofs.Common.{◌≡◌, ◌<◌, ◌≤◌, ◌+◌, ◌∙◌, ℕ, zero, suc, Bool, true, false, List, [], ◌∷◌, length, Ok, Err, refl, arith, sym, ap}
+use Rattle.std.proofs.Common.{◌≡◌, ◌<◌, ◌≤◌, ◌+◌, ◌∙◌, ℕ, zero, suc, Bool, true, false, List, [], ◌∷◌, length, Ok, Err}
+use Rattle.std.proofs.Common.{refl, arith, sym, ap}
 use Rattle.cs_base.specs.declared.fault.OrcKind.TheVariants as orc
 use Rattle.cs_grammar.specs.declared.expr.Level.TheVariants as level
 use Rattle.cs_grammar.proofs.Sizes.{size, after_size, mapped_size, both_size}
@@ -7,7 +8,8 @@ use Rattle.cs_grammar.proofs.OneExpr.{the_expr, reads_expr, expr_size, expr_is}
 use Rattle.cs_grammar.specs.declared.symbol.Expected.TheVariants as expected
 use Rattle.cs_grammar.specs.declared.lists.Role.{Role}
 use Rattle.cs_grammar.specs.declared.lists.Role.TheVariants as role
-use Rattle.cs_grammar.specs.Grammar.{ReadsArg, ReadsArgs, ReadsList, arg_text, arg_value, args_none, args_some, args_stop, list_last, list_more, list_stop}
+use Rattle.cs_grammar.specs.Grammar.{ReadsArg, ReadsArgs, ReadsList, arg_text, arg_value, args_none, args_some}
+use Rattle.cs_grammar.specs.Grammar.{args_stop, list_last, list_more, list_stop}
 use Rattle.cs_grammar.specs.Grammar.{text_result}
 use Rattle.cs_grammar.specs.Kinds.{ends_line}
 use Rattle.cs_grammar.specs.Reading.{Left, Reading, Scope, both, left, mapped, meets, next, next_is, skip}
@@ -27,8 +29,11 @@ reads_arg_by : (s : Scope) (r : Role) (ts : List Symbol) (b : Bool) → next_is 
 unfolding arg_by
 reads_arg_by s role.Argument ts true e = (arg_text e, omega (arith, after_size ts))
 reads_arg_by s role.Result ts true e = (text_result e, omega arith)
-reads_arg_by s r ts false e =
-    (arg_value e (reads_expr s level.Expr (Ok ts)), omega (arith, mapped_size value (the_expr s level.Expr (Ok ts)), expr_size s level.Expr (Ok ts)))
+reads_arg_by s r ts false e = (
+  arg_value e (reads_expr s level.Expr (Ok ts)),
+  omega
+      (arith, mapped_size value (the_expr s level.Expr (Ok ts)), expr_size s level.Expr (Ok ts)),
+)
 
 pub reads_arg : (s : Scope) (r : Role) (ts : List Symbol) → ReadsArg s r ts (the_arg s r ts)
 unfolding the_arg
@@ -65,7 +70,8 @@ pub record Settles (s : Scope) (r : Role) (st : Left) (o : Reading (List Argumen
   pub steps : ℕ
   pub ends : (n : ℕ) → steps ≤ n → run s r n st ≡ o
 
-settle : {s : Scope} {r : Role} {st : Left} {o : Reading (List Argument)} (k : ℕ) → ((m : ℕ) → k ≤ m → step s r (run s r m) st ≡ o) → Settles s r st o
+settle : {s : Scope} {r : Role} {st : Left} {o : Reading (List Argument)} (k : ℕ)
+    → ((m : ℕ) → k ≤ m → step s r (run s r m) st ≡ o) → Settles s r st o
 unfolding run
 settle {s} {r} {st} {o} k f = record { steps = suc k; ends = by }
   where
@@ -76,13 +82,16 @@ settle {s} {r} {st} {o} k f = record { steps = suc k; ends = by }
 settles : {s : Scope} {r : Role} {st : Left} {o : Reading (List Argument)} → ReadsList s r st o → Settles s r st o
 settles list_stop = settle 0 (λ m le. refl)
 settles {s} {r} (list_last {ts} {o} h e) =
-    settle 0 (λ m le. ap (λ x. list_on (run s r m) x (meets expected.Comma (left x))) (arg_is h) ∙ ap (list_on (run s r m) o) e)
+    settle 0 (λ m le. ap (λ x. list_on (run s r m) x (meets expected.Comma (left x))) (arg_is h)
+    ∙ ap (list_on (run s r m) o) e)
 settles {s} {r} (list_more {ts} {o} h e k) =
     let i = settles k in
-    settle i.steps (λ m le. ap (λ x. list_on (run s r m) x (meets expected.Comma (left x))) (arg_is h) ∙ ap (list_on (run s r m) o) e
+    settle i.steps (λ m le. ap (λ x. list_on (run s r m) x (meets expected.Comma (left x))) (arg_is h)
+    ∙ ap (list_on (run s r m) o) e
     ∙ ap (both ◌∷◌ o) (i.ends m le))
 
-same_list : {s : Scope} {r : Role} {st : Left} {o p : Reading (List Argument)} → ReadsList s r st o → ReadsList s r st p → o ≡ p
+same_list : {s : Scope} {r : Role} {st : Left} {o p : Reading (List Argument)} → ReadsList s r st o → ReadsList s r st p
+    → o ≡ p
 same_list h k =
     let i = settles h in
     let j = settles k in
@@ -96,18 +105,23 @@ comma_less (Err f) e = cc
 comma_less (Ok []) e = cc
 comma_less (Ok (t ∷ ts)) e = omega arith
 
-sound_on : (s : Scope) (r : Role) (R : Answers) (n : ℕ) → ((st : Left) → size st < n → Right s r st (R st)) → (ts : List Symbol) → length ts + 1 ≤ n
+sound_on : (s : Scope) (r : Role) (R : Answers) (n : ℕ) → ((st : Left) → size st < n → Right s r st (R st))
+    → (ts : List Symbol) → length ts + 1 ≤ n
     → (b : Bool) → meets expected.Comma (left (the_arg s r ts)) ≡ b → Right s r (Ok ts) (list_on R (the_arg s r ts) b)
 sound_on s r R n ih ts w true e =
     let o = the_arg s r ts in
     let less = comma_less (left o) e in
-    let h = ih (skip (left o)) (omega (arith, less, arg_size s r ts)) in
-    (list_more (reads_arg s r ts) e h.0, omega (arith, h.1, less, arg_size s r ts, both_size {C = List Argument} ◌∷◌ o (R (skip (left o)))))
+    let h = ih (skip (left o)) (omega (arith, less, arg_size s r ts)) in (
+      list_more (reads_arg s r ts) e h.0,
+      omega
+          (arith, h.1, less, arg_size s r ts, both_size {C = List Argument} ◌∷◌ o (R (skip (left o)))),
+    )
 sound_on s r R n ih ts w false e =
     let o = the_arg s r ts in
     (list_last (reads_arg s r ts) e, omega (arith, arg_size s r ts, mapped_size {B = List Argument} (λ a. a ∷ []) o))
 
-sound_step : (s : Scope) (r : Role) (R : Answers) (n : ℕ) → ((st : Left) → size st < n → Right s r st (R st)) → (st : Left) → size st ≤ n
+sound_step : (s : Scope) (r : Role) (R : Answers) (n : ℕ) → ((st : Left) → size st < n → Right s r st (R st))
+    → (st : Left) → size st ≤ n
     → Right s r st (step s r R st)
 sound_step s r R n ih (Err f) w = (list_stop, omega arith)
 sound_step s r R n ih (Ok ts) w = sound_on s r R n ih ts w (meets expected.Comma (left (the_arg s r ts))) refl
@@ -128,7 +142,8 @@ pub list_size : (s : Scope) (r : Role) (st : Left) → size (left (the_list s r 
 unfolding the_list
 list_size s r st = (sound s r (suc (size st)) st (omega arith)).1
 
-pub list_is : {s : Scope} {r : Role} {st : Left} {o : Reading (List Argument)} → ReadsList s r st o → the_list s r st ≡ o
+pub list_is : {s : Scope} {r : Role} {st : Left} {o : Reading (List Argument)} → ReadsList s r st o
+    → the_list s r st ≡ o
 list_is {s} {r} {st} h = same_list (reads_list s r st) h
 
 -- ---- arguments up to the end of the line
@@ -141,7 +156,8 @@ pub the_args : Scope → Left → Reading (List Argument)
 the_args s (Ok ts) = args_by s ts (ends_line (next ts).kind)
 the_args s (Err f) = Err f
 
-args_right : (s : Scope) (ts : List Symbol) (b : Bool) → ends_line (next ts).kind ≡ b → ReadsArgs s (Ok ts) (args_by s ts b) ×
+args_right : (s : Scope) (ts : List Symbol) (b : Bool) → ends_line (next ts).kind ≡ b
+    → ReadsArgs s (Ok ts) (args_by s ts b) ×
     (size (left (args_by s ts b)) ≤ length ts + 1)
 unfolding args_by
 args_right s ts true e = (args_none e, omega arith)

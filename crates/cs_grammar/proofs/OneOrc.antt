@@ -1,5 +1,6 @@
 -- Every text has one reading as an instrument, as a definition, as an orchestra.
-use Rattle.std.proofs.Common.{◌≡◌, ◌<◌, ◌≤◌, ◌+◌, ◌∙◌, ◌⊎◌, ◌==◌, ℕ, zero, suc, Bool, true, false, List, [], ◌∷◌, length, not}
+use Rattle.std.proofs.Common.{◌≡◌, ◌<◌, ◌≤◌, ◌+◌, ◌∙◌, ◌⊎◌, ◌==◌, ℕ, zero, suc, Bool, true, false, List, [], ◌∷◌}
+use Rattle.std.proofs.Common.{length, not}
 use Rattle.std.proofs.Common.{if◌then◌else◌, Ok, Err, refl, arith, inl, inr, sym, ap, map}
 use Rattle.cs_base.specs.declared.fault.OrcFault.{OrcFault}
 use Rattle.cs_base.specs.declared.fault.OrcKind.{OrcKind}
@@ -17,18 +18,25 @@ use Rattle.cs_grammar.proofs.OneXin.{reads_inputs, inputs_are, inputs_size}
 use Rattle.cs_grammar.proofs.ResultRules.{none_given, given, some_missing, uneven, even}
 use Rattle.cs_grammar.specs.declared.lists.Role.TheVariants as role
 use Rattle.cs_grammar.proofs.OneList.{the_list, reads_list, list_size, list_is}
-use Rattle.cs_grammar.proofs.OneStmt.{the_stmt, reads_stmt, stmt_less, stmt_is, the_block, reads_block, block_size, block_is}
+use Rattle.cs_grammar.proofs.OneStmt.{the_stmt, reads_stmt, stmt_less, stmt_is, the_block, reads_block, block_size}
+use Rattle.cs_grammar.proofs.OneStmt.{block_is}
 use Rattle.cs_grammar.specs.declared.symbol.Expected.TheVariants as expected
 use Rattle.cs_words.specs.NameSets.{has}
 use Rattle.cs_words.specs.Names.{letter_rate}
-use Rattle.cs_grammar.specs.Headings.{Heading, heading, heading_of, is_letters, is_number_zero, new_name, no_name_kind, types}
+use Rattle.cs_grammar.specs.Headings.{Heading, heading, heading_of, is_letters, is_number_zero, new_name, no_name_kind}
+use Rattle.cs_grammar.specs.Headings.{types}
 use Rattle.cs_grammar.specs.Kinds.{is_word, may_be_opcode}
 use Rattle.cs_grammar.specs.Lines.{header_line, header_of}
-use Rattle.cs_grammar.specs.Orchestra.{ParseFault, Parses, ReadsDefinition, ReadsInstr, ReadsOrc, ReadsResult, ReadsXout, Tree, behind_xout, defined_by}
-use Rattle.cs_grammar.specs.Orchestra.{definition_of, given_by, instr, instrument_of, item_form, no_heading, no_result, nothing, orc_end, orc_header}
-use Rattle.cs_grammar.specs.Orchestra.{orc_instr, orc_stmt, orc_stop, orc_udo, own_scope, result_stop, udo, with_definition, with_header, with_instr}
-use Rattle.cs_grammar.specs.Orchestra.{with_stmt, xout, xout_broken, xout_last, xout_missing, xout_not_last, xout_uneven}
-use Rattle.cs_grammar.specs.Reading.{Left, Reading, Scope, after, both, ended, fault, in_definition, in_instrument, left, misfit, next, next_is, outside}
+use Rattle.cs_grammar.specs.Orchestra.{ParseFault, Parses, ReadsDefinition, ReadsInstr, ReadsOrc, ReadsResult}
+use Rattle.cs_grammar.specs.Orchestra.{ReadsXout, Tree, behind_xout, defined_by}
+use Rattle.cs_grammar.specs.Orchestra.{definition_of, given_by, instr, instrument_of, item_form, no_heading, no_result}
+use Rattle.cs_grammar.specs.Orchestra.{nothing, orc_end, orc_header}
+use Rattle.cs_grammar.specs.Orchestra.{orc_instr, orc_stmt, orc_stop, orc_udo, own_scope, result_stop, udo}
+use Rattle.cs_grammar.specs.Orchestra.{with_definition, with_header, with_instr}
+use Rattle.cs_grammar.specs.Orchestra.{with_stmt, xout, xout_broken, xout_last, xout_missing, xout_not_last}
+use Rattle.cs_grammar.specs.Orchestra.{xout_uneven}
+use Rattle.cs_grammar.specs.Reading.{Left, Reading, Scope, after, both, ended, fault, in_definition, in_instrument}
+use Rattle.cs_grammar.specs.Reading.{left, misfit, next, next_is, outside}
 use Rattle.cs_grammar.specs.Reading.{three, through}
 use Rattle.cs_grammar.specs.Symbols.{Symbol, symbols}
 use Rattle.cs_grammar.specs.Tree.{Argument, Definition, Instrument, Orchestra}
@@ -47,7 +55,8 @@ abbrev no_types : Scope → List Symbol → OrcFault
 no_types s ts = misfit s (if is_word (next ts).kind then orc.NotInProfile else orc.Unexpected) ts
 
 name_by : (s : Scope) (t : Symbol) (ts : List Symbol) (b c : Bool) →
-    size (left (if b then Err (fault (t ∷ ts) (no_name_kind s t.kind)) else (if c then Err (fault (t ∷ ts) orc.OpcodeTwice) else named t.text ts))) ≤ suc
+    size (left (if b then Err (fault (t ∷ ts) (no_name_kind s t.kind)) else
+    (if c then Err (fault (t ∷ ts) orc.OpcodeTwice) else named t.text ts))) ≤ suc
     (length ts)
 name_by s t ts true c = omega arith
 name_by s t ts false true = omega arith
@@ -58,7 +67,8 @@ name_less s [] = omega arith
 name_less s (t ∷ ts) = name_by s t ts (not (may_be_opcode t.kind)) (has s.defined t.text)
 
 types_by : (s : Scope) (ts : List Symbol) (b c : Bool) →
-    size (left (if b then typed [] ts else (if c then typed (map letter_rate (next ts).text) ts else Err (no_types s ts)))) ≤ length ts + 1
+    size (left (if b then typed [] ts else
+    (if c then typed (map letter_rate (next ts).text) ts else Err (no_types s ts)))) ≤ length ts + 1
 types_by s ts true c = omega (arith, after_size ts)
 types_by s ts false true = omega (arith, after_size ts)
 types_by s ts false false = omega arith
@@ -83,13 +93,15 @@ heading_less s line ts =
       ended_size s (three (heading_of line) name outs ins),
     )
 
-header_by : (s : Scope) (h : HeadName) (line : ℕ) (ts : List Symbol) (k : Kind) → size (left (header_of s h line ts k)) ≤ length (after ts) + 1
+header_by : (s : Scope) (h : HeadName) (line : ℕ) (ts : List Symbol) (k : Kind)
+    → size (left (header_of s h line ts k)) ≤ length (after ts) + 1
 header_by s h line ts (kind.Number v) = ended_size s (Ok (record { line = line; name = h; value = v }, after ts))
 header_by s h line ts _ = omega arith
 
 pub header_less : (s : Scope) (h : HeadName) (ts : List Symbol) → size (left (header_line s h ts)) ≤ length ts
 header_less s h [] = omega arith
-header_less s h (t ∷ ts) = omega (arith, header_by s h t.line (after ts) (next (after ts)).kind, after_size ts, after_size (after ts))
+header_less s h (t ∷ ts) =
+    omega (arith, header_by s h t.line (after ts) (next (after ts)).kind, after_size ts, after_size (after ts))
 
 -- ---- instruments
 
@@ -98,12 +110,14 @@ the_numbers d g ts = numbers (in_instrument d) g (after ts)
 
 pub the_instr : List (List ℕ) → List ℕ → List Symbol → Reading Instrument
 unfolding the_numbers
-the_instr d g ts = ended (outside d) (through (in_instrument d) expected.Endin (both (instrument_of (next ts).line) (the_numbers d g ts)
+the_instr d g ts = ended (outside d)
+    (through (in_instrument d) expected.Endin (both (instrument_of (next ts).line) (the_numbers d g ts)
     (the_block (in_instrument d) (left (ended (in_instrument d) (the_numbers d g ts))))))
 
 pub reads_instr : (d : List (List ℕ)) (g : List ℕ) (ts : List Symbol) → ReadsInstr d g ts (the_instr d g ts)
 unfolding the_instr the_numbers
-reads_instr d g ts = instr (reads_numbers (in_instrument d) g (after ts)) (reads_block (in_instrument d) (left (ended (in_instrument d) (the_numbers d g ts))))
+reads_instr d g ts = instr (reads_numbers (in_instrument d) g (after ts))
+    (reads_block (in_instrument d) (left (ended (in_instrument d) (the_numbers d g ts))))
 
 pub instr_less : (d : List (List ℕ)) (g : List ℕ) (ts : List Symbol) → size (left (the_instr d g ts)) ≤ length ts
 unfolding the_instr the_numbers
@@ -123,22 +137,27 @@ instr_less d g ts =
       ended_size (outside d) (through s expected.Endin o),
     )
 
-pub instr_is : {d : List (List ℕ)} {g : List ℕ} {ts : List Symbol} {o : Reading Instrument} → ReadsInstr d g ts o → the_instr d g ts ≡ o
+pub instr_is : {d : List (List ℕ)} {g : List ℕ} {ts : List Symbol} {o : Reading Instrument} → ReadsInstr d g ts o
+    → the_instr d g ts ≡ o
 unfolding the_instr the_numbers
 instr_is {d} {g} {ts} (instr {ns = ns} n h) =
     ap (λ x. ended (outside d) (through (in_instrument d) expected.Endin (both (instrument_of (next ts).line) x
     (the_block (in_instrument d) (left (ended (in_instrument d) x)))))) (numbers_are n)
-    ∙ ap (λ b. ended (outside d) (through (in_instrument d) expected.Endin (both (instrument_of (next ts).line) ns b))) (block_is h)
+    ∙ ap (λ b. ended (outside d) (through (in_instrument d) expected.Endin (both (instrument_of (next ts).line) ns b)))
+    (block_is h)
 
 -- ---- definitions
 
 last_size : {A : Type 0} (s : Scope) (a : A) (ts : List Symbol) → size (left (last_line s a ts)) ≤ length ts + 1
-last_size s a ts = choice_size (next_is expected.Endop ts) (Ok (a, ts)) (Err (behind_xout s ts)) (length ts + 1) (omega arith) (omega arith)
+last_size s a ts = choice_size (next_is expected.Endop ts) (Ok (a, ts)) (Err (behind_xout s ts)) (length ts + 1)
+    (omega arith) (omega arith)
 
-results_size : (s : Scope) (line : ℕ) (outs : List Rate) (o : Reading (List Argument)) → size (left (results_of s line outs o)) ≤ size (left o)
+results_size : (s : Scope) (line : ℕ) (outs : List Rate) (o : Reading (List Argument))
+    → size (left (results_of s line outs o)) ≤ size (left o)
 results_size s line outs (Err f) = omega arith
 results_size s line outs (Ok (args, ts)) =
-    choice_size (length args == length outs) (last_line s args ts) (Err (record { line = line; kind = orc.XinXout })) (length ts + 1) (last_size s args ts)
+    choice_size (length args == length outs) (last_line s args ts) (Err (record { line = line; kind = orc.XinXout }))
+    (length ts + 1) (last_size s args ts)
     (omega arith)
 
 the_xout : Scope → List Symbol → Reading (List Argument)
@@ -150,7 +169,13 @@ reads_xout s ts = xout (reads_list s role.Result (Ok (after ts)))
 
 xout_size : (s : Scope) (ts : List Symbol) → size (left (the_xout s ts)) ≤ length ts + 1
 unfolding the_xout
-xout_size s ts = omega (arith, after_size ts, list_size s role.Result (Ok (after ts)), ended_size s (the_list s role.Result (Ok (after ts))))
+xout_size s ts = omega (
+  arith,
+  after_size ts,
+  list_size s role.Result (Ok (after ts)),
+  ended_size s
+      (the_list s role.Result (Ok (after ts))),
+)
 
 xout_is : {s : Scope} {ts : List Symbol} {o : Reading (List Argument)} → ReadsXout s ts o → the_xout s ts ≡ o
 unfolding the_xout
@@ -169,11 +194,15 @@ result_right : (s : Scope) (outs : List Rate) (ts : List Symbol) (b : Bool) → 
 unfolding result_by
 result_right s outs ts false e = (
   none_given s outs ts e,
-  choice_size {A = List Argument} (is_none outs) (Ok ([], ts)) (Err (fault ts orc.XinXout)) (length ts + 1) (omega arith)
+  choice_size {A = List Argument} (is_none outs) (Ok ([], ts)) (Err (fault ts orc.XinXout)) (length ts + 1)
+      (omega arith)
       (omega arith),
 )
-result_right s outs ts true e =
-    (given s outs ts (the_xout s ts) e (reads_xout s ts), omega (arith, xout_size s ts, results_size s (next ts).line outs (the_xout s ts)))
+result_right s outs ts true e = (
+  given s outs ts (the_xout s ts) e (reads_xout s ts),
+  omega
+      (arith, xout_size s ts, results_size s (next ts).line outs (the_xout s ts)),
+)
 
 reads_result : (s : Scope) (outs : List Rate) (st : Left) → ReadsResult s outs st (the_result s outs st)
 unfolding the_result
@@ -185,18 +214,23 @@ unfolding the_result
 result_size s outs (Err f) = omega arith
 result_size s outs (Ok ts) = (result_right s outs ts (next_is expected.Xout ts) refl).1
 
-result_is : {s : Scope} {outs : List Rate} {st : Left} {o : Reading (List Argument)} → ReadsResult s outs st o → the_result s outs st ≡ o
+result_is : {s : Scope} {outs : List Rate} {st : Left} {o : Reading (List Argument)} → ReadsResult s outs st o
+    → the_result s outs st ≡ o
 unfolding the_result result_by
 result_is result_stop = refl
 result_is {s} {outs} (no_result {ts} e o) = ap (result_by s outs ts) e ∙ ap (λ x. no_results x ts) o
 result_is {s} {outs} (xout_missing {ts} e o) = ap (result_by s outs ts) e ∙ some_missing outs ts o
-result_is {s} {outs} (xout_broken {ts} e h) = ap (result_by s outs ts) e ∙ ap (results_of s (next ts).line outs) (xout_is h)
+result_is {s} {outs} (xout_broken {ts} e h) =
+    ap (result_by s outs ts) e ∙ ap (results_of s (next ts).line outs) (xout_is h)
 result_is {s} {outs} (xout_uneven {ts} {us} {vs} e h n) =
-    ap (result_by s outs ts) e ∙ ap (results_of s (next ts).line outs) (xout_is h) ∙ uneven s (next ts).line outs vs us n
+    ap (result_by s outs ts) e ∙ ap (results_of s (next ts).line outs) (xout_is h)
+    ∙ uneven s (next ts).line outs vs us n
 result_is {s} {outs} (xout_last {ts} {us} {vs} e h n l) =
-    ap (result_by s outs ts) e ∙ ap (results_of s (next ts).line outs) (xout_is h) ∙ even s (next ts).line outs vs us true n l
+    ap (result_by s outs ts) e ∙ ap (results_of s (next ts).line outs) (xout_is h)
+    ∙ even s (next ts).line outs vs us true n l
 result_is {s} {outs} (xout_not_last {ts} {us} {vs} e h n l) =
-    ap (result_by s outs ts) e ∙ ap (results_of s (next ts).line outs) (xout_is h) ∙ even s (next ts).line outs vs us false n l
+    ap (result_by s outs ts) e ∙ ap (results_of s (next ts).line outs) (xout_is h)
+    ∙ even s (next ts).line outs vs us false n l
 
 abbrev definition_from : List (List ℕ) → Scope → Heading → Reading (List (List ℕ)) → Reading Definition
 definition_from d s h names =
@@ -214,7 +248,8 @@ definition_by d (Ok (h, us)) =
 pub the_definition : List (List ℕ) → List Symbol → Reading Definition
 the_definition d ts = definition_by d (heading (in_definition [] d) (next ts).line (after ts))
 
-definition_right : (d : List (List ℕ)) (ts : List Symbol) (o : Reading Heading) → heading (in_definition [] d) (next ts).line (after ts) ≡ o
+definition_right : (d : List (List ℕ)) (ts : List Symbol) (o : Reading Heading)
+    → heading (in_definition [] d) (next ts).line (after ts) ≡ o
     → ReadsDefinition d ts (definition_by d o) × (size (left (definition_by d o)) ≤ size (left o))
 unfolding definition_by
 definition_right d ts (Err f) e = (no_heading e, omega arith)
@@ -251,13 +286,15 @@ definition_less d ts =
       (definition_right d ts (heading (in_definition [] d) (next ts).line (after ts)) refl).1,
     )
 
-pub definition_is : {d : List (List ℕ)} {ts : List Symbol} {o : Reading Definition} → ReadsDefinition d ts o → the_definition d ts ≡ o
+pub definition_is : {d : List (List ℕ)} {ts : List Symbol} {o : Reading Definition} → ReadsDefinition d ts o
+    → the_definition d ts ≡ o
 unfolding the_definition definition_by
 definition_is {d} (no_heading e) = ap (definition_by d) e
 definition_is {d} (udo {us = us} {h = h} {names = names} {body = body} e n k r) =
     let s = own_scope d h in
     ap (definition_by d) e ∙ ap (definition_from d s h) (inputs_are n)
-    ∙ ap (λ b. ended (outside d) (through s expected.Endop (three (definition_of h) names b (the_result s h.outs (left b))))) (block_is k)
+    ∙ ap (λ b. ended (outside d)
+    (through s expected.Endop (three (definition_of h) names b (the_result s h.outs (left b))))) (block_is k)
     ∙ ap (λ x. ended (outside d) (through s expected.Endop (three (definition_of h) names body x))) (result_is r)
 
 -- ---- orchestras
@@ -267,9 +304,12 @@ Answers = List (List ℕ) → List ℕ → Left → Reading Orchestra
 
 abbrev by_form : Answers → List (List ℕ) → List ℕ → List Symbol → ItemForm → Reading Orchestra
 by_form R d g ts item.End = Ok (nothing, ts)
-by_form R d g ts (item.Header h) = both with_header (header_line (outside d) h ts) (R d g (left (header_line (outside d) h ts)))
-by_form R d g ts item.Instr = both with_instr (the_instr d g ts) (R d (given_by g (the_instr d g ts)) (left (the_instr d g ts)))
-by_form R d g ts item.Opcode = both with_definition (the_definition d ts) (R (defined_by d (the_definition d ts)) g (left (the_definition d ts)))
+by_form R d g ts (item.Header h) =
+    both with_header (header_line (outside d) h ts) (R d g (left (header_line (outside d) h ts)))
+by_form R d g ts item.Instr =
+    both with_instr (the_instr d g ts) (R d (given_by g (the_instr d g ts)) (left (the_instr d g ts)))
+by_form R d g ts item.Opcode =
+    both with_definition (the_definition d ts) (R (defined_by d (the_definition d ts)) g (left (the_definition d ts)))
 by_form R d g ts item.Statement = both with_stmt (the_stmt (outside d) ts) (R d g (left (the_stmt (outside d) ts)))
 
 abbrev step : Answers → Answers
@@ -284,7 +324,8 @@ pub record Settles (d : List (List ℕ)) (g : List ℕ) (st : Left) (o : Reading
   pub steps : ℕ
   pub ends : (n : ℕ) → steps ≤ n → run n d g st ≡ o
 
-settle : {d : List (List ℕ)} {g : List ℕ} {st : Left} {o : Reading Orchestra} (k : ℕ) → ((m : ℕ) → k ≤ m → step (run m) d g st ≡ o) → Settles d g st o
+settle : {d : List (List ℕ)} {g : List ℕ} {st : Left} {o : Reading Orchestra} (k : ℕ)
+    → ((m : ℕ) → k ≤ m → step (run m) d g st ≡ o) → Settles d g st o
 unfolding run
 settle {d} {g} {st} {o} k f = record { steps = suc k; ends = by }
   where
@@ -297,34 +338,45 @@ settles orc_stop = settle 0 (λ m le. refl)
 settles {d} {g} (orc_end {ts = ts} e) = settle 0 (λ m le. ap (by_form (run m) d g ts) e)
 settles {d} {g} (orc_header {ts = ts} {h = h} e k) =
     let i = settles k in
-    settle i.steps (λ m le. ap (by_form (run m) d g ts) e ∙ ap (both with_header (header_line (outside d) h ts)) (i.ends m le))
+    settle i.steps (λ m le. ap (by_form (run m) d g ts) e
+    ∙ ap (both with_header (header_line (outside d) h ts)) (i.ends m le))
 settles {d} {g} (orc_instr {ts = ts} {o = o} e h k) =
     let i = settles k in
-    settle i.steps (λ m le. ap (by_form (run m) d g ts) e ∙ ap (λ x. both with_instr x (run m d (given_by g x) (left x))) (instr_is h)
+    settle i.steps (λ m le. ap (by_form (run m) d g ts) e
+    ∙ ap (λ x. both with_instr x (run m d (given_by g x) (left x))) (instr_is h)
     ∙ ap (both with_instr o) (i.ends m le))
 settles {d} {g} (orc_udo {ts = ts} {o = o} e h k) =
     let i = settles k in
-    settle i.steps (λ m le. ap (by_form (run m) d g ts) e ∙ ap (λ x. both with_definition x (run m (defined_by d x) g (left x))) (definition_is h)
+    settle i.steps (λ m le. ap (by_form (run m) d g ts) e
+    ∙ ap (λ x. both with_definition x (run m (defined_by d x) g (left x))) (definition_is h)
     ∙ ap (both with_definition o) (i.ends m le))
 settles {d} {g} (orc_stmt {ts = ts} {o = o} e h k) =
     let i = settles k in
-    settle i.steps (λ m le. ap (by_form (run m) d g ts) e ∙ ap (λ x. both with_stmt x (run m d g (left x))) (stmt_is h) ∙ ap (both with_stmt o) (i.ends m le))
+    settle i.steps (λ m le. ap (by_form (run m) d g ts) e ∙ ap (λ x. both with_stmt x (run m d g (left x))) (stmt_is h)
+    ∙ ap (both with_stmt o) (i.ends m le))
 
-pub same_orc : {d : List (List ℕ)} {g : List ℕ} {st : Left} {o p : Reading Orchestra} → ReadsOrc d g st o → ReadsOrc d g st p → o ≡ p
+pub same_orc : {d : List (List ℕ)} {g : List ℕ} {st : Left} {o p : Reading Orchestra} → ReadsOrc d g st o
+    → ReadsOrc d g st p → o ≡ p
 same_orc h k =
     let i = settles h in
     let j = settles k in
     sym (i.ends (i.steps + j.steps) (omega arith)) ∙ j.ends (i.steps + j.steps) (omega arith)
 
-sound_by : (R : Answers) (n : ℕ) → ((d : List (List ℕ)) (g : List ℕ) (st : Left) → size st < n → ReadsOrc d g st (R d g st))
-    → (d : List (List ℕ)) (g : List ℕ) (ts : List Symbol) → length ts + 1 ≤ n → (f : ItemForm) → item_form ts ≡ f → ReadsOrc d g (Ok ts) (by_form R d g ts f)
+sound_by : (R : Answers) (n : ℕ)
+    → ((d : List (List ℕ)) (g : List ℕ) (st : Left) → size st < n → ReadsOrc d g st (R d g st))
+    → (d : List (List ℕ)) (g : List ℕ) (ts : List Symbol) → length ts + 1 ≤ n → (f : ItemForm) → item_form ts ≡ f
+    → ReadsOrc d g (Ok ts) (by_form R d g ts f)
 sound_by R n ih d g ts w item.End e = orc_end e
-sound_by R n ih d g ts w (item.Header h) e = orc_header e (ih d g (left (header_line (outside d) h ts)) (omega (arith, header_less (outside d) h ts)))
-sound_by R n ih d g ts w item.Instr e = orc_instr e (reads_instr d g ts) (ih d (given_by g (the_instr d g ts)) (left (the_instr d g ts))
+sound_by R n ih d g ts w (item.Header h) e =
+    orc_header e (ih d g (left (header_line (outside d) h ts)) (omega (arith, header_less (outside d) h ts)))
+sound_by R n ih d g ts w item.Instr e =
+    orc_instr e (reads_instr d g ts) (ih d (given_by g (the_instr d g ts)) (left (the_instr d g ts))
     (omega (arith, instr_less d g ts)))
-sound_by R n ih d g ts w item.Opcode e = orc_udo e (reads_definition d ts) (ih (defined_by d (the_definition d ts)) g (left (the_definition d ts))
+sound_by R n ih d g ts w item.Opcode e =
+    orc_udo e (reads_definition d ts) (ih (defined_by d (the_definition d ts)) g (left (the_definition d ts))
     (omega (arith, definition_less d ts)))
-sound_by R n ih d g ts w item.Statement e = orc_stmt e (reads_stmt (outside d) ts) (ih d g (left (the_stmt (outside d) ts))
+sound_by R n ih d g ts w item.Statement e =
+    orc_stmt e (reads_stmt (outside d) ts) (ih d g (left (the_stmt (outside d) ts))
     (omega (arith, stmt_less (outside d) ts)))
 
 sound : (n : ℕ) (d : List (List ℕ)) (g : List ℕ) (st : Left) → size st < n → ReadsOrc d g st (run n d g st)
@@ -341,7 +393,8 @@ reading source tokens =
     (run (suc (size st)) [] [] st, sound (suc (size st)) [] [] st (omega arith))
 
 some_by : (source : List ℕ) (tokens : List Token) (out : Reading Orchestra) → Parses source tokens out
-    → ((orc : Orchestra) × Tree source tokens orc) ⊎ ((line : ℕ) × (kind : OrcKind) × ParseFault source tokens line kind)
+    → ((orc : Orchestra) × Tree source tokens orc)
+    ⊎ ((line : ℕ) × (kind : OrcKind) × ParseFault source tokens line kind)
 some_by source tokens (Ok (orc, rest)) h = inl (orc, (rest, h))
 some_by source tokens (Err f) h = inr (f.line, f.kind, h)
 
@@ -359,16 +412,20 @@ abbrev fault_in : Reading Orchestra → OrcFault
 fault_in (Ok (o, rest)) = record { line = 0; kind = orc.Unexpected }
 fault_in (Err f) = f
 
-pub one_tree : (source : List ℕ) (tokens : List Token) (o p : Orchestra) → Tree source tokens o → Tree source tokens p → o ≡ p
+pub one_tree : (source : List ℕ) (tokens : List Token) (o p : Orchestra) → Tree source tokens o → Tree source tokens p
+    → o ≡ p
 one_tree source tokens o p (rest, h) (others, k) = ap tree_in (same_orc h k)
 
-pub one_fault : (source : List ℕ) (tokens : List Token) (l m : ℕ) (j k : OrcKind) → ParseFault source tokens l j → ParseFault source tokens m k
+pub one_fault : (source : List ℕ) (tokens : List Token) (l m : ℕ) (j k : OrcKind) → ParseFault source tokens l j
+    → ParseFault source tokens m k
     → (l ≡ m) × (j ≡ k)
-one_fault source tokens l m j k g h = (ap (λ o. (fault_in o).line) (same_orc g h), ap (λ o. (fault_in o).kind) (same_orc g h))
+one_fault source tokens l m j k g h =
+    (ap (λ o. (fault_in o).line) (same_orc g h), ap (λ o. (fault_in o).kind) (same_orc g h))
 
 abbrev is_tree : Reading Orchestra → Bool
 is_tree (Ok r) = true
 is_tree (Err f) = false
 
-pub not_both : (source : List ℕ) (tokens : List Token) (o : Orchestra) (l : ℕ) (k : OrcKind) → Tree source tokens o → ParseFault source tokens l k → ⊥
+pub not_both : (source : List ℕ) (tokens : List Token) (o : Orchestra) (l : ℕ) (k : OrcKind) → Tree source tokens o
+    → ParseFault source tokens l k → ⊥
 not_both source tokens o l k (rest, h) g = let e : true ≡ false = ap is_tree (same_orc h g) in cc

@@ -1,5 +1,6 @@
 -- Every text has one reading as a statement, as statements, as arms.
-use Rattle.std.proofs.Common.{◌≡◌, ◌<◌, ◌≤◌, ◌+◌, ◌*◌, ◌∙◌, ℕ, zero, suc, Bool, true, false, List, [], ◌∷◌, length, Ok, Err, if◌then◌else◌, refl, arith, sym}
+use Rattle.std.proofs.Common.{◌≡◌, ◌<◌, ◌≤◌, ◌+◌, ◌*◌, ◌∙◌, ℕ, zero, suc, Bool, true, false, List, [], ◌∷◌, length, Ok}
+use Rattle.std.proofs.Common.{Err, if◌then◌else◌, refl, arith, sym}
 use Rattle.std.proofs.Common.{ap}
 use Rattle.cs_base.specs.declared.fault.OrcKind.TheVariants as orc
 use Rattle.cs_words.specs.declared.catalogue.Opcode.{Opcode}
@@ -11,17 +12,22 @@ use Rattle.cs_grammar.specs.declared.tree.Callee.TheVariants as callee
 use Rattle.cs_grammar.specs.declared.expr.Level.TheVariants as level
 use Rattle.cs_grammar.specs.declared.stmt.LineForm.{LineForm}
 use Rattle.cs_grammar.specs.declared.stmt.LineForm.TheVariants as form
-use Rattle.cs_grammar.proofs.Sizes.{size, skip_size, mapped_size, both_size, three_size, through_size, ended_size, choice_size}
+use Rattle.cs_grammar.proofs.Sizes.{size, skip_size, mapped_size, both_size, three_size, through_size, ended_size}
+use Rattle.cs_grammar.proofs.Sizes.{choice_size}
 use Rattle.cs_grammar.proofs.OneExpr.{the_expr, reads_expr, expr_size, expr_is}
 use Rattle.cs_grammar.proofs.OneRow.{target_less, targets_less, reads_targets, targets_are}
 use Rattle.cs_grammar.proofs.OneList.{the_args, reads_args, args_size, args_is}
 use Rattle.cs_grammar.specs.declared.symbol.Expected.TheVariants as expected
 use Rattle.cs_words.specs.declared.word.Word.{Word}
 use Rattle.cs_words.specs.declared.word.Word.TheVariants as word
-use Rattle.cs_grammar.specs.Grammar.{ReadsArms, ReadsBlock, ReadsMore, ReadsStmt, arm_more, assign, block_end, block_more, block_stop, ends_block, more_else}
-use Rattle.cs_grammar.specs.Grammar.{more_elseif, more_endif, more_stop, stmt_assign, stmt_bare, stmt_beyond, stmt_if, stmt_misplaced, stmt_results}
-use Rattle.cs_grammar.specs.Lines.{by_opcode, is_other_text, is_outside, is_own, line_form, operation, operation_of, target}
-use Rattle.cs_grammar.specs.Reading.{Left, Reading, Scope, after, both, deeper, ended, fault, left, mapped, misfit, next, next_is, skip, three, through}
+use Rattle.cs_grammar.specs.Grammar.{ReadsArms, ReadsBlock, ReadsMore, ReadsStmt, arm_more, assign, block_end}
+use Rattle.cs_grammar.specs.Grammar.{block_more, block_stop, ends_block, more_else}
+use Rattle.cs_grammar.specs.Grammar.{more_elseif, more_endif, more_stop, stmt_assign, stmt_bare, stmt_beyond, stmt_if}
+use Rattle.cs_grammar.specs.Grammar.{stmt_misplaced, stmt_results}
+use Rattle.cs_grammar.specs.Lines.{by_opcode, is_other_text, is_outside, is_own, line_form, operation, operation_of}
+use Rattle.cs_grammar.specs.Lines.{target}
+use Rattle.cs_grammar.specs.Reading.{Left, Reading, Scope, after, both, deeper, ended, fault, left, mapped, misfit}
+use Rattle.cs_grammar.specs.Reading.{next, next_is, skip, three, through}
 use Rattle.cs_grammar.specs.Symbols.{Symbol}
 use Rattle.cs_grammar.specs.Tree.{Arms, Block, Expression, Statement, andthen, arm, call, choose, no_stmt, otherwise}
 use Rattle.cs_grammar.specs.inner.Rows.{targets}
@@ -35,14 +41,20 @@ plain_less : (s : Scope) (t : Symbol) (ts : List Symbol) (own : Bool) → size (
 plain_less s t ts true = omega arith
 plain_less s t ts false = omega arith
 
-operation_opcode : (s : Scope) (t : Symbol) (ts : List Symbol) (o : Opcode) → size (left (by_opcode s (t ∷ ts) o)) ≤ suc (length ts)
-operation_opcode s t ts opcode.Zakinit = choice_size (is_outside s.place) (Ok (callee.Opcode opcode.Zakinit, ts)) (Err (fault (t ∷ ts) orc.Unexpected)) (suc (length ts))
+operation_opcode : (s : Scope) (t : Symbol) (ts : List Symbol) (o : Opcode)
+    → size (left (by_opcode s (t ∷ ts) o)) ≤ suc (length ts)
+operation_opcode s t ts opcode.Zakinit =
+    choice_size (is_outside s.place) (Ok (callee.Opcode opcode.Zakinit, ts)) (Err (fault (t ∷ ts) orc.Unexpected))
+    (suc (length ts))
     (omega arith) (omega arith)
-operation_opcode s t ts opcode.EventI = choice_size (is_other_text (next ts)) (Err (fault ts orc.NotInProfile)) (Ok (callee.Opcode opcode.EventI, ts)) (suc (length ts))
+operation_opcode s t ts opcode.EventI =
+    choice_size (is_other_text (next ts)) (Err (fault ts orc.NotInProfile)) (Ok (callee.Opcode opcode.EventI, ts))
+    (suc (length ts))
     (omega arith) (omega arith)
 operation_opcode s t ts _ = omega arith
 
-operation_word : (s : Scope) (t : Symbol) (ts : List Symbol) (w : Word) → size (left (operation_of s (t ∷ ts) (kind.Word w))) ≤ suc (length ts)
+operation_word : (s : Scope) (t : Symbol) (ts : List Symbol) (w : Word)
+    → size (left (operation_of s (t ∷ ts) (kind.Word w))) ≤ suc (length ts)
 operation_word s t ts (word.Opcode o) = operation_opcode s t ts o
 operation_word s t ts (word.Keyword k) = omega arith
 operation_word s t ts word.Foreign = omega arith
@@ -52,7 +64,8 @@ operation_word s t ts (word.Field n) = plain_less s t ts (is_own s t.text s.plac
 operation_word s t ts word.Name = plain_less s t ts (is_own s t.text s.place)
 operation_word s t ts word.Other = plain_less s t ts (is_own s t.text s.place)
 
-operation_by : (s : Scope) (t : Symbol) (ts : List Symbol) (k : Kind) → size (left (operation_of s (t ∷ ts) k)) ≤ suc (length ts)
+operation_by : (s : Scope) (t : Symbol) (ts : List Symbol) (k : Kind)
+    → size (left (operation_of s (t ∷ ts) k)) ≤ suc (length ts)
 operation_by s t ts (kind.Word w) = operation_word s t ts w
 operation_by s t ts _ = omega arith
 
@@ -85,10 +98,12 @@ abbrev value : Scope → List Symbol → Reading Expression
 value s ts = the_expr s level.Expr (skip (left (target s ts)))
 
 abbrev stmt_by : Answers → Scope → List Symbol → LineForm → Reading Statement
-stmt_by R s ts form.Assignment = ended s (both (assign (next ts).line (next (after ts)).kind) (target s ts) (value s ts))
+stmt_by R s ts form.Assignment =
+    ended s (both (assign (next ts).line (next (after ts)).kind) (target s ts) (value s ts))
 stmt_by R s ts form.Results = ended s (three (call (next ts).line) (targets s ts) (operation s (left (targets s ts)))
     (the_args s (left (operation s (left (targets s ts))))))
-stmt_by R s ts form.Bare = ended s (both (call (next ts).line []) (operation s (Ok ts)) (the_args s (left (operation s (Ok ts)))))
+stmt_by R s ts form.Bare =
+    ended s (both (call (next ts).line []) (operation s (Ok ts)) (the_args s (left (operation s (Ok ts)))))
 stmt_by R s ts form.Conditional = ended s (mapped (choose (next ts).line) (R (arms (deeper s) (Ok (after ts)))))
 stmt_by R s ts form.Beyond = Err (fault ts orc.NotInProfile)
 stmt_by R s ts form.Misplaced = Err (misfit s orc.Unexpected ts)
@@ -153,13 +168,15 @@ mutual
       (λ x. ended s (both (assign (next ts).line (next (after ts)).kind) (target s ts) x)) (expr_is h))
   stmt_settles {s} {ts} (stmt_results {names = names} e n h) = settle 0 (λ m le.
       ap (stmt_by (run m) s ts) e
-      ∙ ap (λ y. ended s (three (call (next ts).line) y (operation s (left y)) (the_args s (left (operation s (left y)))))) (targets_are n)
+      ∙ ap (λ y. ended s (three (call (next ts).line) y (operation s (left y))
+      (the_args s (left (operation s (left y)))))) (targets_are n)
       ∙ ap (λ x. ended s (three (call (next ts).line) names (operation s (left names)) x)) (args_is h))
   stmt_settles {s} {ts} (stmt_bare e h) = settle 0 (λ m le. ap (stmt_by (run m) s ts) e ∙ ap
       (λ x. ended s (both (call (next ts).line []) (operation s (Ok ts)) x)) (args_is h))
   stmt_settles {s} {ts} (stmt_if e h) =
       let i = arms_settles h in
-      settle i.steps (λ m le. ap (stmt_by (run m) s ts) e ∙ ap (λ x. ended s (mapped (choose (next ts).line) x)) (i.ends m le))
+      settle i.steps (λ m le. ap (stmt_by (run m) s ts) e
+      ∙ ap (λ x. ended s (mapped (choose (next ts).line) x)) (i.ends m le))
   stmt_settles {s} {ts} (stmt_beyond e) = settle 0 (λ m le. ap (stmt_by (run m) s ts) e)
   stmt_settles {s} {ts} (stmt_misplaced e) = settle 0 (λ m le. ap (stmt_by (run m) s ts) e)
 
@@ -169,14 +186,18 @@ mutual
   block_settles {s} (block_more {ts = ts} {o = o} e h k) =
       let i = stmt_settles h in
       let j = block_settles k in
-      settle (i.steps + j.steps) (λ m le. ap (block_by (run m) s ts) e ∙ ap (λ x. both andthen x (run m (block s (left x)))) (i.ends m (omega arith))
+      settle (i.steps + j.steps)
+      (λ m le. ap (block_by (run m) s ts) e
+      ∙ ap (λ x. both andthen x (run m (block s (left x)))) (i.ends m (omega arith))
       ∙ ap (both andthen o) (j.ends m (omega arith)))
 
   arms_settles : {s : Scope} {st : Left} {o : Reading Arms} → ReadsArms s st o → Settles (arms s st) o
   arms_settles {s} {st} (arm_more {c = c} {body = body} h k g) =
       let i = block_settles k in
       let j = more_settles g in
-      settle (i.steps + j.steps) (λ m le. ap (arms_by (run m) s) (expr_is h) ∙ ap (λ x. three arm c x (run m (more s (left x)))) (i.ends m (omega arith))
+      settle (i.steps + j.steps)
+      (λ m le. ap (arms_by (run m) s) (expr_is h)
+      ∙ ap (λ x. three arm c x (run m (more s (left x)))) (i.ends m (omega arith))
       ∙ ap (three arm c body) (j.ends m (omega arith)))
 
   more_settles : {s : Scope} {st : Left} {o : Reading Arms} → ReadsMore s st o → Settles (more s st) o
@@ -186,10 +207,12 @@ mutual
       settle i.steps (λ m le. ap (λ b. more_by (run m) s ts b (next_is expected.Else ts)) e ∙ i.ends m le)
   more_settles {s} (more_else {ts = ts} e f h) =
       let i = block_settles h in
-      settle i.steps (λ m le. ap (λ b. more_by (run m) s ts b (next_is expected.Else ts)) e ∙ ap (more_by (run m) s ts false) f
+      settle i.steps (λ m le. ap (λ b. more_by (run m) s ts b (next_is expected.Else ts)) e
+      ∙ ap (more_by (run m) s ts false) f
       ∙ ap (λ x. through s expected.Endif (mapped otherwise x)) (i.ends m le))
   more_settles {s} (more_endif {ts = ts} e f) =
-      settle 0 (λ m le. ap (λ b. more_by (run m) s ts b (next_is expected.Else ts)) e ∙ ap (more_by (run m) s ts false) f)
+      settle 0 (λ m le. ap (λ b. more_by (run m) s ts b (next_is expected.Else ts)) e
+      ∙ ap (more_by (run m) s ts false) f)
 
 pub same_stmt : {s : Scope} {ts : List Symbol} {o p : Reading Statement} → ReadsStmt s ts o → ReadsStmt s ts p → o ≡ p
 same_stmt h k =
@@ -218,7 +241,8 @@ Right (arms s st) o = ReadsArms s st o × (size (left o) ≤ size st)
 Right (more s st) o = ReadsMore s st o × (size (left o) ≤ size st)
 
 module _ (R : Answers) (n : ℕ) (ih : (b : Ask) → weight b < n → Right b (R b)) where
-  sound_stmt : (s : Scope) (ts : List Symbol) → 8 * (length ts + 1) + 1 ≤ n → (f : LineForm) → line_form s ts ≡ f → Right (stmt s ts) (stmt_by R s ts f)
+  sound_stmt : (s : Scope) (ts : List Symbol) → 8 * (length ts + 1) + 1 ≤ n → (f : LineForm) → line_form s ts ≡ f
+      → Right (stmt s ts) (stmt_by R s ts f)
   sound_stmt s ts w form.Assignment e =
       let v = value s ts in
       let made = assign (next ts).line (next (after ts)).kind in
@@ -251,8 +275,11 @@ module _ (R : Answers) (n : ℕ) (ih : (b : Ask) → weight b < n → Right b (R
   sound_stmt s ts w form.Bare e =
       let p = operation s (Ok ts) in
       let a = the_args s (left p) in
-      let o = both (call (next ts).line []) p a in
-      (stmt_bare e (reads_args s (left p)), omega (arith, ended_size s o, both_size (call (next ts).line []) p a, args_size s (left p), operation_less s ts))
+      let o = both (call (next ts).line []) p a in (
+        stmt_bare e (reads_args s (left p)),
+        omega
+            (arith, ended_size s o, both_size (call (next ts).line []) p a, args_size s (left p), operation_less s ts),
+      )
   sound_stmt s ts w form.Beyond e = (stmt_beyond e, omega arith)
   sound_stmt s ts w form.Misplaced e = (stmt_misplaced e, omega arith)
   sound_stmt s [] w form.Conditional e = cc
@@ -261,7 +288,8 @@ module _ (R : Answers) (n : ℕ) (ih : (b : Ask) → weight b < n → Right b (R
       let o = mapped (choose t.line) (R (arms (deeper s) (Ok ts))) in
       (stmt_if e h.0, omega (arith, h.1, mapped_size (choose t.line) (R (arms (deeper s) (Ok ts))), ended_size s o))
 
-  sound_block : (s : Scope) (ts : List Symbol) → 8 * (length ts + 1) + 2 ≤ n → (b : Bool) → ends_block s (next ts).kind ≡ b
+  sound_block : (s : Scope) (ts : List Symbol) → 8 * (length ts + 1) + 2 ≤ n → (b : Bool)
+      → ends_block s (next ts).kind ≡ b
       → Right (block s (Ok ts)) (block_by R s ts b)
   sound_block s ts w true e = (block_end e, omega arith)
   sound_block s ts w false e =
@@ -270,7 +298,8 @@ module _ (R : Answers) (n : ℕ) (ih : (b : Ask) → weight b < n → Right b (R
       let k = ih (block s (left o)) (omega (arith, h.1)) in
       (block_more e h.0 k.0, omega (arith, h.1, k.1, both_size andthen o (R (block s (left o)))))
 
-  sound_more : (s : Scope) (ts : List Symbol) → 8 * (length ts + 1) + 1 ≤ n → (a b : Bool) → next_is expected.Elseif ts ≡ a → next_is expected.Else ts ≡ b
+  sound_more : (s : Scope) (ts : List Symbol) → 8 * (length ts + 1) + 1 ≤ n → (a b : Bool)
+      → next_is expected.Elseif ts ≡ a → next_is expected.Else ts ≡ b
       → Right (more s (Ok ts)) (more_by R s ts a b)
   sound_more s [] w true b e f = cc
   sound_more s (t ∷ ts) w true b e f =
@@ -281,11 +310,15 @@ module _ (R : Answers) (n : ℕ) (ih : (b : Ask) → weight b < n → Right b (R
       let st = else_line s (t ∷ ts) in
       let small : size st ≤ length ts + 1 = ended_size s (Ok (no_stmt, ts)) in
       let h = ih (block s st) (omega (arith, small)) in
-      let o = mapped otherwise (R (block s st)) in
-      (more_else e f h.0, omega (arith, h.1, small, mapped_size otherwise (R (block s st)), through_size s expected.Endif o))
+      let o = mapped otherwise (R (block s st)) in (
+        more_else e f h.0,
+        omega
+            (arith, h.1, small, mapped_size otherwise (R (block s st)), through_size s expected.Endif o),
+      )
   sound_more s ts w false false e f = (more_endif e f, through_size s expected.Endif (Ok (otherwise no_stmt, ts)))
 
-  sound_arms : (s : Scope) (st : Left) → 8 * size st + 4 ≤ n → Right (arms s st) (arms_by R s (the_expr s level.Expr st))
+  sound_arms : (s : Scope) (st : Left) → 8 * size st + 4 ≤ n
+      → Right (arms s st) (arms_by R s (the_expr s level.Expr st))
   sound_arms s st w =
       let c = the_expr s level.Expr st in
       let small : size (line_of s c) ≤ size st = omega (
@@ -297,8 +330,11 @@ module _ (R : Answers) (n : ℕ) (ih : (b : Ask) → weight b < n → Right b (R
       ) in
       let h = ih (block s (line_of s c)) (omega (arith, small)) in
       let body = R (block s (line_of s c)) in
-      let k = ih (more s (left body)) (omega (arith, small, h.1)) in
-      (arm_more (reads_expr s level.Expr st) h.0 k.0, omega (arith, small, h.1, k.1, three_size arm c body (R (more s (left body)))))
+      let k = ih (more s (left body)) (omega (arith, small, h.1)) in (
+        arm_more (reads_expr s level.Expr st) h.0 k.0,
+        omega
+            (arith, small, h.1, k.1, three_size arm c body (R (more s (left body)))),
+      )
 
   sound_step : (a : Ask) → weight a ≤ n → Right a (step R a)
   sound_step (stmt s ts) w = sound_stmt s ts w (line_form s ts) refl

@@ -2,7 +2,6 @@
 use Rattle.std.proofs.Common.{◌≡◌, ◌∙◌, ◌++◌, ℕ, List, [], ◌∷◌, map, Result, Ok, Err, refl, sym, ap, subst}
 use Rattle.std.proofs.lemmas.List.{append_assoc, append-nil}
 use Rattle.std.specs.Result.{IsErrAnd, IfOk}
-use Rattle.std.specs.Borrow.{Bor}
 use Rattle.cs_base.specs.declared.fault.Or.{Or}
 use Rattle.cs_base.specs.declared.fault.Or.TheVariants as or
 use Rattle.cs_base.specs.declared.fault.OrcFault.{OrcFault}
@@ -21,14 +20,19 @@ use Rattle.cs_grammar.specs.declared.symbol.Expected.{Expected}
 use Rattle.cs_grammar.specs.Grammar.{ReadsBlock, ReadsStmt, block_stop}
 use Rattle.cs_grammar.specs.Headings.{Heading, heading}
 use Rattle.cs_grammar.specs.Lines.{header_line}
-use Rattle.cs_grammar.specs.Orchestra.{ReadsDefinition, ReadsInstr, ReadsOrc, ReadsResult, definition_of, instr, instrument_of, item_form, no_heading}
-use Rattle.cs_grammar.specs.Orchestra.{nothing, orc_end, orc_header, orc_instr, orc_stmt, orc_stop, orc_udo, own_scope, result_stop, udo, with_definition}
+use Rattle.cs_grammar.specs.Orchestra.{ReadsDefinition, ReadsInstr, ReadsOrc, ReadsResult, definition_of, instr}
+use Rattle.cs_grammar.specs.Orchestra.{instrument_of, item_form, no_heading}
+use Rattle.cs_grammar.specs.Orchestra.{nothing, orc_end, orc_header, orc_instr, orc_stmt, orc_stop, orc_udo, own_scope}
+use Rattle.cs_grammar.specs.Orchestra.{result_stop, udo, with_definition}
 use Rattle.cs_grammar.specs.Orchestra.{with_header, with_instr, with_stmt}
-use Rattle.cs_grammar.specs.Reading.{Left, Reading, Scope, after, both, ended, in_definition, in_instrument, left, mapped, next, outside, three, through}
+use Rattle.cs_grammar.specs.Reading.{Left, Reading, Scope, after, both, ended, in_definition, in_instrument, left}
+use Rattle.cs_grammar.specs.Reading.{mapped, next, outside, three, through}
 use Rattle.cs_grammar.specs.Symbols.{Symbol}
-use Rattle.cs_grammar.specs.Tree.{Argument, Block, Definition, Instrument, Orchestra, Statement, andthen, block, definition, instrument, joins, no_stmt}
+use Rattle.cs_grammar.specs.Tree.{Argument, Block, Definition, Instrument, Orchestra, Statement, andthen, block}
+use Rattle.cs_grammar.specs.Tree.{definition, instrument, joins, no_stmt}
 use Rattle.cs_grammar.specs.Tree.{orchestra, statement}
-use Rattle.cs_grammar.specs.inner.Answers.{Gives, IsInside, IsInstrBody, IsLines, OrcSoFar, Parts, ReadsOn, joined, line_past, of_inside, past}
+use Rattle.cs_grammar.specs.inner.Answers.{Gives, IsInside, IsInstrBody, IsLines, OrcSoFar, Parts, ReadsOn, joined}
+use Rattle.cs_grammar.specs.inner.Answers.{line_past, of_inside, past}
 use Rattle.cs_grammar.specs.inner.Rows.{numbers}
 use Rattle.cs_grammar.specs.inner.Takes.{inputs}
 
@@ -43,28 +47,36 @@ module _ (d : List (List ℕ)) (g : List ℕ) (ts : List Symbol) where
       → ReadsBlock (in_instrument d) (left (ended (in_instrument d) n)) body → ReadsInstr d g ts
       (ended (outside d) (through (in_instrument d) expected.Endin (both (instrument_of (next ts).line) n body)))
   instr_is n body e k =
-      let start : InstrRead body (numbers (in_instrument d) g (after ts)) = instr (reads_numbers (in_instrument d) g (after ts)) in
+      let start : InstrRead body (numbers (in_instrument d) g (after ts)) =
+      instr (reads_numbers (in_instrument d) g (after ts)) in
       subst (InstrRead body) e start k
 
-abbrev DefinitionRead : List (List ℕ) → List Symbol → Heading → Reading Block → Reading (List Argument) → Reading (List (List ℕ)) → Type 0
+abbrev DefinitionRead : List (List ℕ) → List Symbol → Heading → Reading Block → Reading (List Argument)
+    → Reading (List (List ℕ)) → Type 0
 DefinitionRead d ts h body result n =
     ReadsBlock (own_scope d h) (left n) body → ReadsResult (own_scope d h) h.outs (left body) result
-    → ReadsDefinition d ts (ended (outside d) (through (own_scope d h) expected.Endop (three (definition_of h) n body result)))
+    → ReadsDefinition d ts (ended (outside d)
+    (through (own_scope d h) expected.Endop (three (definition_of h) n body result)))
 
-pub udo_is : (d : List (List ℕ)) (ts us : List Symbol) (h : Heading) (n : Reading (List (List ℕ))) (body : Reading Block) (result : Reading (List Argument))
-    → heading (in_definition [] d) (next ts).line (after ts) ≡ Ok (h, us) → inputs (own_scope d h) h us ≡ n → ReadsBlock (own_scope d h) (left n) body
+pub udo_is : (d : List (List ℕ)) (ts us : List Symbol) (h : Heading) (n : Reading (List (List ℕ)))
+    (body : Reading Block) (result : Reading (List Argument))
+    → heading (in_definition [] d) (next ts).line (after ts) ≡ Ok (h, us) → inputs (own_scope d h) h us ≡ n
+    → ReadsBlock (own_scope d h) (left n) body
     → ReadsResult (own_scope d h) h.outs (left body) result → ReadsDefinition d ts (ended (outside d)
     (through (own_scope d h) expected.Endop (three (definition_of h) n body result)))
 udo_is d ts us h n body result e i k r =
-    let start : DefinitionRead d ts h body result (inputs (own_scope d h) h us) = udo e (reads_inputs (own_scope d h) h us) in
+    let start : DefinitionRead d ts h body result (inputs (own_scope d h) h us) =
+    udo e (reads_inputs (own_scope d h) h us) in
     subst (DefinitionRead d ts h body result) i start k r
 
 -- a part that is read, a symbol that must come next, and the end of the line
-pub closed : {A : Type 0} (s t : Scope) (a : A) (mid now : List Symbol) (st : Left) (p : Expected) → past s p mid ≡ Ok now
+pub closed : {A : Type 0} (s t : Scope) (a : A) (mid now : List Symbol) (st : Left) (p : Expected)
+    → past s p mid ≡ Ok now
     → line_past t (next now).kind now ≡ st → ended t (through s p (Ok (a, mid))) ≡ valued a st
 closed s t a mid now st p e l = ap (ended t) (through_is s p a mid (Ok now) e) ∙ ended_is t a now st l
 
-pub unclosed : {A : Type 0} (s t : Scope) (a : A) (mid : List Symbol) (f : OrcFault) (p : Expected) → past s p mid ≡ Err f
+pub unclosed : {A : Type 0} (s t : Scope) (a : A) (mid : List Symbol) (f : OrcFault) (p : Expected)
+    → past s p mid ≡ Err f
     → ended t (through s p (Ok (a, mid))) ≡ Err f
 unclosed s t a mid f p e = ap (ended t) (through_is s p a mid (Err f) e)
 
@@ -74,11 +86,13 @@ joins_none : (b : Block) → joins b no_stmt ≡ b
 joins_none no_stmt = refl
 joins_none (andthen x b) = ap (andthen x) (joins_none b)
 
-joins_more : (xs : List OrcStmt) (x : OrcStmt) (b : Block) → joins (block (xs ++ x ∷ [])) b ≡ joins (block xs) (andthen (statement x) b)
+joins_more : (xs : List OrcStmt) (x : OrcStmt) (b : Block)
+    → joins (block (xs ++ x ∷ [])) b ≡ joins (block xs) (andthen (statement x) b)
 joins_more [] x b = refl
 joins_more (y ∷ xs) x b = ap (andthen (statement y)) (joins_more xs x b)
 
-map_more : {A B : Type 0} (f : A → B) (xs : List A) (x : A) (ys : List B) → map f (xs ++ x ∷ []) ++ ys ≡ map f xs ++ (f x ∷ ys)
+map_more : {A B : Type 0} (f : A → B) (xs : List A) (x : A) (ys : List B)
+    → map f (xs ++ x ∷ []) ++ ys ≡ map f xs ++ (f x ∷ ys)
 map_more f [] x ys = refl
 map_more f (y ∷ xs) x ys = ap (λ zs. f y ∷ zs) (map_more f xs x ys)
 
@@ -86,105 +100,141 @@ pub orc_begun : (ts : List Symbol) → OrcSoFar ts nothing [] [] ts
 orc_begun ts (Ok (o, rest)) h = h
 orc_begun ts (Err f) h = h
 
-pub orc_done : (first now : List Symbol) (o : Orchestra) (d : List (List ℕ)) (g : List ℕ) → OrcSoFar first o d g now → item_form now ≡ item.End
+pub orc_done : (first now : List Symbol) (o : Orchestra) (d : List (List ℕ)) (g : List ℕ) → OrcSoFar first o d g now
+    → item_form now ≡ item.End
     → ReadsOrc [] [] (Ok first) (Ok (joined o nothing, now))
 orc_done first now o d g h e = h (Ok (nothing, now)) (orc_end e)
 
-pub orc_fails : (first : List Symbol) (old : List Symbol) (o : Orchestra) (d : List (List ℕ)) (g : List ℕ) (f : OrcFault) → OrcSoFar first o d g old
+pub orc_fails : (first : List Symbol) (old : List Symbol) (o : Orchestra) (d : List (List ℕ)) (g : List ℕ)
+    (f : OrcFault) → OrcSoFar first o d g old
     → ReadsOrc d g (Ok old) (Err f) → ReadsOrc [] [] (Ok first) (Err f)
 orc_fails first old o d g f h k = h (Err f) k
 
-added : {X : Type 0} (add : X → Orchestra → Orchestra) (x : X) (o p : Orchestra) (mid : List Symbol) → ((q : Orchestra) → joined o (add x q) ≡ joined p q)
+added : {X : Type 0} (add : X → Orchestra → Orchestra) (x : X) (o p : Orchestra) (mid : List Symbol)
+    → ((q : Orchestra) → joined o (add x q) ≡ joined p q)
     → (out : Reading Orchestra) → mapped (joined o) (both add (Ok (x, mid)) out) ≡ mapped (joined p) out
 added add x o p mid e (Ok (q, ts)) = ap (λ r. Ok (r, ts)) (e q)
 added add x o p mid e (Err f) = refl
 
 module _ (first old : List Symbol) (d : List (List ℕ)) (g : List ℕ) (o : Orchestra) (s : OrcSoFar first o d g old) where
-  pub header_fails : (h : HeadName) (f : OrcFault) → item_form old ≡ item.Header h → header_line (outside d) h old ≡ Err f → ReadsOrc [] [] (Ok first) (Err f)
+  pub header_fails : (h : HeadName) (f : OrcFault) → item_form old ≡ item.Header h
+      → header_line (outside d) h old ≡ Err f → ReadsOrc [] [] (Ok first) (Err f)
   header_fails h f e k =
-      s (Err f) (subst (λ r. ReadsOrc d g (Ok old) (both with_header r (Err f))) k (orc_header e (subst (λ r. ReadsOrc d g (left r) (Err f)) (sym k) orc_stop)))
+      s (Err f) (subst (λ r. ReadsOrc d g (Ok old) (both with_header r (Err f))) k
+      (orc_header e (subst (λ r. ReadsOrc d g (left r) (Err f)) (sym k) orc_stop)))
 
   pub header_added : (h : HeadName) (x : HeadLine) (now : List Symbol) (p : Orchestra) → item_form old ≡ item.Header h
-      → header_line (outside d) h old ≡ Ok (x, now) → ((q : Orchestra) → joined o (with_header x q) ≡ joined p q) → OrcSoFar first p d g now
+      → header_line (outside d) h old ≡ Ok (x, now) → ((q : Orchestra) → joined o (with_header x q) ≡ joined p q)
+      → OrcSoFar first p d g now
   header_added h x now p e k j out r =
       subst (ReadsOrc [] [] (Ok first)) (added with_header x o p now j out) (s (both with_header (Ok (x, now)) out)
-      (subst (λ y. ReadsOrc d g (Ok old) (both with_header y out)) k (orc_header e (subst (λ y. ReadsOrc d g (left y) out) (sym k) r))))
+      (subst (λ y. ReadsOrc d g (Ok old) (both with_header y out)) k
+      (orc_header e (subst (λ y. ReadsOrc d g (left y) out) (sym k) r))))
 
-  pub instr_fails : (f : OrcFault) → item_form old ≡ item.Instr → ReadsInstr d g old (Err f) → ReadsOrc [] [] (Ok first) (Err f)
+  pub instr_fails : (f : OrcFault) → item_form old ≡ item.Instr → ReadsInstr d g old (Err f)
+      → ReadsOrc [] [] (Ok first) (Err f)
   instr_fails f e k = s (Err f) (orc_instr e k orc_stop)
 
-  pub instr_added : (x : Instrument) (now : List Symbol) (p : Orchestra) → item_form old ≡ item.Instr → ReadsInstr d g old (Ok (x, now))
+  pub instr_added : (x : Instrument) (now : List Symbol) (p : Orchestra) → item_form old ≡ item.Instr
+      → ReadsInstr d g old (Ok (x, now))
       → ((q : Orchestra) → joined o (with_instr x q) ≡ joined p q) → OrcSoFar first p d (g ++ x.numbers) now
   instr_added x now p e k j out r = subst (ReadsOrc [] [] (Ok first)) (added with_instr x o p now j out)
       (s (both with_instr (Ok (x, now)) out) (orc_instr e k r))
 
-  pub definition_fails : (f : OrcFault) → item_form old ≡ item.Opcode → ReadsDefinition d old (Err f) → ReadsOrc [] [] (Ok first) (Err f)
+  pub definition_fails : (f : OrcFault) → item_form old ≡ item.Opcode → ReadsDefinition d old (Err f)
+      → ReadsOrc [] [] (Ok first) (Err f)
   definition_fails f e k = s (Err f) (orc_udo e k orc_stop)
 
-  pub definition_added : (x : Definition) (now : List Symbol) (p : Orchestra) → item_form old ≡ item.Opcode → ReadsDefinition d old (Ok (x, now))
+  pub definition_added : (x : Definition) (now : List Symbol) (p : Orchestra) → item_form old ≡ item.Opcode
+      → ReadsDefinition d old (Ok (x, now))
       → ((q : Orchestra) → joined o (with_definition x q) ≡ joined p q) → OrcSoFar first p (d ++ x.name ∷ []) g now
   definition_added x now p e k j out r = subst (ReadsOrc [] [] (Ok first)) (added with_definition x o p now j out)
       (s (both with_definition (Ok (x, now)) out) (orc_udo e k r))
 
-  pub stmt_fails : (f : OrcFault) → item_form old ≡ item.Statement → ReadsStmt (outside d) old (Err f) → ReadsOrc [] [] (Ok first) (Err f)
+  pub stmt_fails : (f : OrcFault) → item_form old ≡ item.Statement → ReadsStmt (outside d) old (Err f)
+      → ReadsOrc [] [] (Ok first) (Err f)
   stmt_fails f e k = s (Err f) (orc_stmt e k orc_stop)
 
-  pub stmt_added : (x : Statement) (now : List Symbol) (p : Orchestra) → item_form old ≡ item.Statement → ReadsStmt (outside d) old (Ok (x, now))
+  pub stmt_added : (x : Statement) (now : List Symbol) (p : Orchestra) → item_form old ≡ item.Statement
+      → ReadsStmt (outside d) old (Ok (x, now))
       → ((q : Orchestra) → joined o (with_stmt x q) ≡ joined p q) → OrcSoFar first p d g now
-  stmt_added x now p e k j out r = subst (ReadsOrc [] [] (Ok first)) (added with_stmt x o p now j out) (s (both with_stmt (Ok (x, now)) out) (orc_stmt e k r))
+  stmt_added x now p e k j out r =
+      subst (ReadsOrc [] [] (Ok first)) (added with_stmt x o p now j out)
+      (s (both with_stmt (Ok (x, now)) out) (orc_stmt e k r))
 
 -- ---- an orchestra with one part more at an end
 
 abbrev orchestra_of : List HeadLine → List Definition → Block → List Instrument → Orchestra
 orchestra_of h u z i = record { head = h; opcodes = u; zero = z; instrs = i }
 
-pub head_pushed : (h : List HeadLine) (x : HeadLine) (u : List Definition) (z : Block) (i : List Instrument) (q : Orchestra)
+pub head_pushed : (h : List HeadLine) (x : HeadLine) (u : List Definition) (z : Block) (i : List Instrument)
+    (q : Orchestra)
     → joined (orchestra_of h u z i) (with_header x q) ≡ joined (orchestra_of (h ++ x ∷ []) u z i) q
-head_pushed h x u z i q = ap (λ k. orchestra_of k (u ++ q.opcodes) (joins z q.zero) (i ++ q.instrs)) (sym (append_assoc h (x ∷ []) q.head))
+head_pushed h x u z i q =
+    ap (λ k. orchestra_of k (u ++ q.opcodes) (joins z q.zero) (i ++ q.instrs)) (sym (append_assoc h (x ∷ []) q.head))
 
 pub instr_pushed : (h : List HeadLine) (u : List Definition) (z : Block) (i : List Instr) (x : Instr) (q : Orchestra)
-    → joined (orchestra_of h u z (map instrument i)) (with_instr (instrument x) q) ≡ joined (orchestra_of h u z (map instrument (i ++ x ∷ []))) q
-instr_pushed h u z i x q = ap (λ k. orchestra_of (h ++ q.head) (u ++ q.opcodes) (joins z q.zero) k) (sym (map_more instrument i x q.instrs))
+    → joined (orchestra_of h u z (map instrument i)) (with_instr (instrument x) q) ≡ joined
+    (orchestra_of h u z (map instrument (i ++ x ∷ []))) q
+instr_pushed h u z i x q =
+    ap (λ k. orchestra_of (h ++ q.head) (u ++ q.opcodes) (joins z q.zero) k) (sym (map_more instrument i x q.instrs))
 
 pub definition_pushed : (h : List HeadLine) (u : List Udo) (x : Udo) (z : Block) (i : List Instrument) (q : Orchestra)
-    → joined (orchestra_of h (map definition u) z i) (with_definition (definition x) q) ≡ joined (orchestra_of h (map definition (u ++ x ∷ [])) z i) q
-definition_pushed h u x z i q = ap (λ k. orchestra_of (h ++ q.head) k (joins z q.zero) (i ++ q.instrs)) (sym (map_more definition u x q.opcodes))
+    → joined (orchestra_of h (map definition u) z i) (with_definition (definition x) q) ≡ joined
+    (orchestra_of h (map definition (u ++ x ∷ [])) z i) q
+definition_pushed h u x z i q =
+    ap (λ k. orchestra_of (h ++ q.head) k (joins z q.zero) (i ++ q.instrs)) (sym (map_more definition u x q.opcodes))
 
-pub stmt_pushed : (h : List HeadLine) (u : List Definition) (z : List OrcStmt) (x : OrcStmt) (i : List Instrument) (q : Orchestra)
-    → joined (orchestra_of h u (block z) i) (with_stmt (statement x) q) ≡ joined (orchestra_of h u (block (z ++ x ∷ [])) i) q
-stmt_pushed h u z x i q = ap (λ k. orchestra_of (h ++ q.head) (u ++ q.opcodes) k (i ++ q.instrs)) (sym (joins_more z x q.zero))
+pub stmt_pushed : (h : List HeadLine) (u : List Definition) (z : List OrcStmt) (x : OrcStmt) (i : List Instrument)
+    (q : Orchestra)
+    → joined (orchestra_of h u (block z) i) (with_stmt (statement x) q) ≡ joined
+    (orchestra_of h u (block (z ++ x ∷ [])) i) q
+stmt_pushed h u z x i q =
+    ap (λ k. orchestra_of (h ++ q.head) (u ++ q.opcodes) k (i ++ q.instrs)) (sym (joins_more z x q.zero))
 
-all_joined : (h : List HeadLine) (u : List Definition) (z : Block) (i : List Instrument) → joined (orchestra_of h u z i) nothing ≡ orchestra_of h u z i
+all_joined : (h : List HeadLine) (u : List Definition) (z : Block) (i : List Instrument)
+    → joined (orchestra_of h u z i) nothing ≡ orchestra_of h u z i
 all_joined h u z i =
-    ap (λ k. orchestra_of k (u ++ []) (joins z no_stmt) (i ++ [])) (append-nil h) ∙ ap (λ k. orchestra_of h k (joins z no_stmt) (i ++ [])) (append-nil u)
+    ap (λ k. orchestra_of k (u ++ []) (joins z no_stmt) (i ++ [])) (append-nil h)
+    ∙ ap (λ k. orchestra_of h k (joins z no_stmt) (i ++ [])) (append-nil u)
     ∙ ap (λ k. orchestra_of h u k (i ++ [])) (joins_none z) ∙ ap (λ k. orchestra_of h u z k) (append-nil i)
 
-orc_whole : (first now : List Symbol) (h : List HeadLine) (u : List Definition) (z : Block) (i : List Instrument) (d : List (List ℕ)) (g : List ℕ)
-    → OrcSoFar first (orchestra_of h u z i) d g now → item_form now ≡ item.End → ReadsOrc [] [] (Ok first) (Ok (orchestra_of h u z i, now))
+orc_whole : (first now : List Symbol) (h : List HeadLine) (u : List Definition) (z : Block) (i : List Instrument)
+    (d : List (List ℕ)) (g : List ℕ)
+    → OrcSoFar first (orchestra_of h u z i) d g now → item_form now ≡ item.End
+    → ReadsOrc [] [] (Ok first) (Ok (orchestra_of h u z i, now))
 orc_whole first now h u z i d g s e =
-    subst (λ o. ReadsOrc [] [] (Ok first) (Ok (o, now))) (all_joined h u z i) (orc_done first now (orchestra_of h u z i) d g s e)
+    subst (λ o. ReadsOrc [] [] (Ok first) (Ok (o, now))) (all_joined h u z i)
+    (orc_done first now (orchestra_of h u z i) d g s e)
 
-pub orc_read : (first now : List Symbol) (o : Orchestra) (d : List (List ℕ)) (g : List ℕ) → OrcSoFar first o d g now → item_form now ≡ item.End
+pub orc_read : (first now : List Symbol) (o : Orchestra) (d : List (List ℕ)) (g : List ℕ) → OrcSoFar first o d g now
+    → item_form now ≡ item.End
     → ReadsOrc [] [] (Ok first) (Ok (o, now))
 orc_read first now o d g s e = orc_whole first now o.head o.opcodes o.zero o.instrs d g s e
 
 -- ---- the exits of a `?`, in a call that reads on
 
-pub failed_on : {T U A : Type 0} (see : T → A) (r : Result U (Or OrcFault)) (e : Or OrcFault) (rest first : List Symbol) (P : Reading A → Type 0)
-    (so_far : Type 0) → IsErrAnd r (Same e) → Gives see (Err e) rest P → ((f : OrcFault) → P (Err f) → ReadsOrc [] [] (Ok first) (Err f))
+pub failed_on : {T U A : Type 0} (see : T → A) (r : Result U (Or OrcFault)) (e : Or OrcFault) (rest first : List Symbol)
+    (P : Reading A → Type 0)
+    (so_far : Type 0) → IsErrAnd r (Same e) → Gives see (Err e) rest P
+    → ((f : OrcFault) → P (Err f) → ReadsOrc [] [] (Ok first) (Err f))
     → ReadsOn r first so_far
 failed_on see (Ok x) e rest first P so_far i h k = elim i [ ]
-failed_on {U = U} see (Err (or.Fault g)) (or.Fault f) rest first P so_far i h k = subst (λ y. ReadsOn {T = U} (Err y) first so_far) (sym i) (k f h)
+failed_on {U = U} see (Err (or.Fault g)) (or.Fault f) rest first P so_far i h k =
+    subst (λ y. ReadsOn {T = U} (Err y) first so_far) (sym i) (k f h)
 failed_on see (Err or.OutOfMemory) e rest first P so_far i h k = tt
 failed_on see (Err (or.Fault g)) or.OutOfMemory rest first P so_far i h k = cc
 
 -- ---- an instrument, part by part
 
-pub instr_body_is : {s : Scope} (d : List (List ℕ)) {ts : List Symbol} (b : Block) (mid now : List Symbol) (st : Left) → ReadsBlock s (Ok ts) (Ok (b, mid))
-    → past s expected.Endin mid ≡ Ok now → line_past (outside d) (next now).kind now ≡ st → IsInstrBody s d ts (valued b st)
+pub instr_body_is : {s : Scope} (d : List (List ℕ)) {ts : List Symbol} (b : Block) (mid now : List Symbol) (st : Left)
+    → ReadsBlock s (Ok ts) (Ok (b, mid))
+    → past s expected.Endin mid ≡ Ok now → line_past (outside d) (next now).kind now ≡ st
+    → IsInstrBody s d ts (valued b st)
 instr_body_is {s} d b mid now st k p l = (Ok (b, mid), k, sym (closed s (outside d) b mid now st expected.Endin p l))
 
-pub instr_body_open : {s : Scope} (d : List (List ℕ)) {ts : List Symbol} (b : Block) (mid : List Symbol) (f : OrcFault) → ReadsBlock s (Ok ts) (Ok (b, mid))
+pub instr_body_open : {s : Scope} (d : List (List ℕ)) {ts : List Symbol} (b : Block) (mid : List Symbol) (f : OrcFault)
+    → ReadsBlock s (Ok ts) (Ok (b, mid))
     → past s expected.Endin mid ≡ Err f → IsInstrBody s d ts (Err f)
 instr_body_open {s} d b mid f k p = (Ok (b, mid), k, sym (unclosed s (outside d) b mid f expected.Endin p))
 
@@ -192,27 +242,34 @@ module _ (d : List (List ℕ)) (g : List ℕ) (ts : List Symbol) where
   abbrev all_numbers : Reading (List ℕ)
   all_numbers = numbers (in_instrument d) g (after ts)
 
-  no_line_of : (n : Reading (List ℕ)) (f : OrcFault) → all_numbers ≡ n → Err f ≡ ended (in_instrument d) n → ReadsInstr d g ts (Err f)
-  no_line_of (Err h) f e l = let same : h ≡ f = cc in subst (λ x. ReadsInstr d g ts (Err x)) same (instr_is d g ts (Err h) (Err h) e block_stop)
+  no_line_of : (n : Reading (List ℕ)) (f : OrcFault) → all_numbers ≡ n → Err f ≡ ended (in_instrument d) n
+      → ReadsInstr d g ts (Err f)
+  no_line_of (Err h) f e l = let same : h ≡ f =
+      cc in subst (λ x. ReadsInstr d g ts (Err x)) same (instr_is d g ts (Err h) (Err h) e block_stop)
   no_line_of (Ok (ns, mid)) f e l =
       instr_is d g ts (Ok (ns, mid)) (Err f) e (subst (λ x. ReadsBlock (in_instrument d) (left x) (Err f)) l block_stop)
 
   pub instr_no_line : (f : OrcFault) → Err f ≡ ended (in_instrument d) all_numbers → ReadsInstr d g ts (Err f)
   instr_no_line f l = no_line_of all_numbers f refl l
 
-  with_line : (n : Reading (List ℕ)) (ns : List ℕ) (us : List Symbol) (o : Reading Block) → all_numbers ≡ n → Ok (ns, us) ≡ ended (in_instrument d) n
+  with_line : (n : Reading (List ℕ)) (ns : List ℕ) (us : List Symbol) (o : Reading Block) → all_numbers ≡ n
+      → Ok (ns, us) ≡ ended (in_instrument d) n
       → IsInstrBody (in_instrument d) d us o → ReadsInstr d g ts (mapped (instrument_of (next ts).line ns) o)
   with_line (Err h) ns us o e l k = cc
   with_line (Ok (ms, mid)) ns us o e l (b, k, i) =
       let same : ms ≡ ns = sym (line_keeps (in_instrument d) ns ms us mid l) in
       let way : Reading Block → Reading Instrument = (λ x. mapped (instrument_of (next ts).line ms) x) in
-      let end : ended (outside d) (through (in_instrument d) expected.Endin (both (instrument_of (next ts).line) (Ok (ms, mid)) b)) ≡ way o =
-      (ap (λ x. ended (outside d) (through (in_instrument d) expected.Endin x)) (both_mapped (instrument_of (next ts).line) ms mid b)
-      ∙ closing_mapped (in_instrument d) (outside d) expected.Endin (instrument_of (next ts).line ms) b ∙ ap way (sym i)) in
+      let end : ended (outside d)
+      (through (in_instrument d) expected.Endin (both (instrument_of (next ts).line) (Ok (ms, mid)) b)) ≡ way o =
+      (ap (λ x. ended (outside d) (through (in_instrument d) expected.Endin x))
+      (both_mapped (instrument_of (next ts).line) ms mid b)
+      ∙ closing_mapped (in_instrument d) (outside d) expected.Endin (instrument_of (next ts).line ms) b
+      ∙ ap way (sym i)) in
       subst (λ x. ReadsInstr d g ts (mapped (instrument_of (next ts).line x) o)) same (subst (ReadsInstr d g ts) end
       (instr_is d g ts (Ok (ms, mid)) b e (subst (λ st. ReadsBlock (in_instrument d) st b) (ap left l) k)))
 
-  pub instr_reads : (ns : List ℕ) (us : List Symbol) (o : Reading Block) → Ok (ns, us) ≡ ended (in_instrument d) all_numbers
+  pub instr_reads : (ns : List ℕ) (us : List Symbol) (o : Reading Block)
+      → Ok (ns, us) ≡ ended (in_instrument d) all_numbers
       → IsInstrBody (in_instrument d) d us o → ReadsInstr d g ts (mapped (instrument_of (next ts).line ns) o)
   instr_reads ns us o l k = with_line all_numbers ns us o refl l k
 
@@ -223,29 +280,35 @@ pub no_definition : (d : List (List ℕ)) (ts : List Symbol) (top : Scope) (f : 
 no_definition d ts top f is e = no_heading (sym (e ∙ ap (λ x. heading x (next ts).line (after ts)) is))
 
 pub heading_read : (d : List (List ℕ)) (ts us : List Symbol) (h : Heading) (top : Scope) → top ≡ in_definition [] d
-    → Ok (h, us) ≡ heading top (next ts).line (after ts) → heading (in_definition [] d) (next ts).line (after ts) ≡ Ok (h, us)
+    → Ok (h, us) ≡ heading top (next ts).line (after ts)
+    → heading (in_definition [] d) (next ts).line (after ts) ≡ Ok (h, us)
 heading_read d ts us h top is e = sym (e ∙ ap (λ x. heading x (next ts).line (after ts)) is)
 
 module _ {s : Scope} (h : Heading) (ts : List Symbol) where
   pub inside_no_names : (f : OrcFault) → Err f ≡ inputs s h ts → IsInside s h ts (Err f)
   inside_no_names f e = (Err f, Err f, Err f, sym e, block_stop, result_stop, refl)
 
-  pub inside_no_body : (n : List (List ℕ)) (us : List Symbol) (f : OrcFault) → Ok (n, us) ≡ inputs s h ts → ReadsBlock s (Ok us) (Err f)
+  pub inside_no_body : (n : List (List ℕ)) (us : List Symbol) (f : OrcFault) → Ok (n, us) ≡ inputs s h ts
+      → ReadsBlock s (Ok us) (Err f)
       → IsInside s h ts (Err f)
   inside_no_body n us f e k = (Ok (n, us), Err f, Err f, sym e, k, result_stop, refl)
 
-  pub inside_is : (n : List (List ℕ)) (us vs : List Symbol) (b : Block) (r : Reading (List Argument)) → Ok (n, us) ≡ inputs s h ts
-      → ReadsBlock s (Ok us) (Ok (b, vs)) → ReadsResult s h.outs (Ok vs) r → IsInside s h ts (both (λ y z. (n, y, z)) (Ok (b, vs)) r)
+  pub inside_is : (n : List (List ℕ)) (us vs : List Symbol) (b : Block) (r : Reading (List Argument))
+      → Ok (n, us) ≡ inputs s h ts
+      → ReadsBlock s (Ok us) (Ok (b, vs)) → ReadsResult s h.outs (Ok vs) r
+      → IsInside s h ts (both (λ y z. (n, y, z)) (Ok (b, vs)) r)
   inside_is n us vs b r e k i = (Ok (n, us), Ok (b, vs), r, sym e, k, i, refl)
 
 module _ {s : Scope} (d : List (List ℕ)) (h : Heading) (ts : List Symbol) where
   pub lines_fail : (f : OrcFault) → IsInside s h ts (Err f) → IsLines s d h ts (Err f)
   lines_fail f k = (Err f, k, refl)
 
-  pub lines_open : (p : Parts) (mid : List Symbol) (f : OrcFault) → IsInside s h ts (Ok (p, mid)) → past s expected.Endop mid ≡ Err f → IsLines s d h ts (Err f)
+  pub lines_open : (p : Parts) (mid : List Symbol) (f : OrcFault) → IsInside s h ts (Ok (p, mid))
+      → past s expected.Endop mid ≡ Err f → IsLines s d h ts (Err f)
   lines_open p mid f k q = (Ok (p, mid), k, sym (unclosed s (outside d) p mid f expected.Endop q))
 
-  pub lines_are : (p : Parts) (mid now : List Symbol) (st : Left) → IsInside s h ts (Ok (p, mid)) → past s expected.Endop mid ≡ Ok now
+  pub lines_are : (p : Parts) (mid now : List Symbol) (st : Left) → IsInside s h ts (Ok (p, mid))
+      → past s expected.Endop mid ≡ Ok now
       → line_past (outside d) (next now).kind now ≡ st → IsLines s d h ts (valued p st)
   lines_are p mid now st k q l = (Ok (p, mid), k, sym (closed s (outside d) p mid now st expected.Endop q l))
 
@@ -257,15 +320,19 @@ three_inside h (Ok (n, us)) (Ok (b, vs)) (Err f) = refl
 three_inside h (Ok (n, us)) (Ok (b, vs)) (Ok (r, ws)) = refl
 
 pub definition_reads : (d : List (List ℕ)) (ts us : List Symbol) (h : Heading) (o : Reading Parts)
-    → heading (in_definition [] d) (next ts).line (after ts) ≡ Ok (h, us) → IsLines (own_scope d h) d h us o → ReadsDefinition d ts (mapped (of_inside h) o)
+    → heading (in_definition [] d) (next ts).line (after ts) ≡ Ok (h, us) → IsLines (own_scope d h) d h us o
+    → ReadsDefinition d ts (mapped (of_inside h) o)
 definition_reads d ts us h o e (p, (n, b, r, i, k, j, w), l) =
     let s : Scope = own_scope d h in
-    subst (ReadsDefinition d ts) (ap (λ x. ended (outside d) (through s expected.Endop x)) (three_inside h n b r ∙ ap (mapped (of_inside h)) (sym w))
-    ∙ closing_mapped s (outside d) expected.Endop (of_inside h) p ∙ ap (mapped (of_inside h)) (sym l)) (udo_is d ts us h n b r e i k j)
+    subst (ReadsDefinition d ts)
+    (ap (λ x. ended (outside d) (through s expected.Endop x)) (three_inside h n b r ∙ ap (mapped (of_inside h)) (sym w))
+    ∙ closing_mapped s (outside d) expected.Endop (of_inside h) p ∙ ap (mapped (of_inside h)) (sym l))
+    (udo_is d ts us h n b r e i k j)
 
 -- ---- what parse answers
 
-pub orc_tree : (r : Result Orc (Or OrcFault)) (rest first : List Symbol) → Gives orchestra r rest (ReadsOrc [] [] (Ok first))
+pub orc_tree : (r : Result Orc (Or OrcFault)) (rest first : List Symbol)
+    → Gives orchestra r rest (ReadsOrc [] [] (Ok first))
     → IfOk r (λ o. (left_over : List Symbol) × ReadsOrc [] [] (Ok first) (Ok (orchestra o, left_over)))
 orc_tree (Ok o) rest first h = (rest, h)
 orc_tree (Err (or.Fault f)) rest first h = tt
@@ -275,24 +342,25 @@ abbrev fault_of : OrcFault → Result Orc (Or OrcFault) → OrcFault
 fault_of f (Err (or.Fault g)) = g
 fault_of f _ = f
 
-pub orc_fault : (r : Result Orc (Or OrcFault)) (rest first : List Symbol) → Gives orchestra r rest (ReadsOrc [] [] (Ok first)) → (f : OrcFault)
+pub orc_fault : (r : Result Orc (Or OrcFault)) (rest first : List Symbol)
+    → Gives orchestra r rest (ReadsOrc [] [] (Ok first)) → (f : OrcFault)
     → r ≡ Err (or.Fault f) → ReadsOrc [] [] (Ok first) (Err f)
 orc_fault (Ok o) rest first h f e = cc
 orc_fault (Err (or.Fault g)) rest first h f e = subst (λ x. ReadsOrc [] [] (Ok first) (Err x)) (ap (fault_of f) e) h
 orc_fault (Err or.OutOfMemory) rest first h f e = cc
 
-abbrev pub udo_in : Udo × Bor (List ℕ) → Definition
-udo_in p = definition p.0
-
-pub failed_orc : (U : Type 0) (r : Result Orc (Or OrcFault)) (e : Or OrcFault) (rest first : List Symbol) (so_far : Type 0) → IsErrAnd r (Same e)
+pub failed_orc : (U : Type 0) (r : Result Orc (Or OrcFault)) (e : Or OrcFault) (rest first : List Symbol)
+    (so_far : Type 0) → IsErrAnd r (Same e)
     → ReadsOn {T = U} (Err e) first so_far → Gives orchestra r rest (ReadsOrc [] [] (Ok first))
 failed_orc U (Ok x) e rest first so_far i h = elim i [ ]
-failed_orc U (Err (or.Fault g)) (or.Fault f) rest first so_far i h = subst (λ y. Gives orchestra (Err y) rest (ReadsOrc [] [] (Ok first))) (sym i) h
+failed_orc U (Err (or.Fault g)) (or.Fault f) rest first so_far i h =
+    subst (λ y. Gives orchestra (Err y) rest (ReadsOrc [] [] (Ok first))) (sym i) h
 failed_orc U (Err or.OutOfMemory) e rest first so_far i h = tt
 failed_orc U (Err (or.Fault g)) or.OutOfMemory rest first so_far i h = cc
 
 -- the same exit, in a call that reads on
-pub failed_items : (T U : Type 0) (r : Result U (Or OrcFault)) (e : Or OrcFault) (first : List Symbol) (P Q : Type 0) → IsErrAnd r (Same e)
+pub failed_items : (T U : Type 0) (r : Result U (Or OrcFault)) (e : Or OrcFault) (first : List Symbol) (P Q : Type 0)
+    → IsErrAnd r (Same e)
     → ReadsOn {T = T} (Err e) first P → ReadsOn r first Q
 failed_items T U (Ok x) e first P Q i h = elim i [ ]
 failed_items T U (Err (or.Fault g)) (or.Fault f) first P Q i h = subst (λ y. ReadsOn {T = U} (Err y) first Q) (sym i) h

@@ -1,5 +1,6 @@
 -- The rules of expressions, as the parser meets them: with what a call has left in place of what the rule says is left.
-use Rattle.std.proofs.Common.{◌≡◌, ◌∙◌, ◌≤◌, ◌+◌, ◌-◌, ℕ, zero, suc, Bool, true, false, List, Result, Ok, Err, Option, Some, None, refl, arith, sym, ap, subst}
+use Rattle.std.proofs.Common.{◌≡◌, ◌∙◌, ◌≤◌, ◌+◌, ◌-◌, ℕ, zero, suc, Bool, true, false, List, Result, Ok, Err, Option}
+use Rattle.std.proofs.Common.{Some, None, refl, arith, sym, ap, subst}
 use Rattle.cs_base.specs.declared.fault.Or.{Or}
 use Rattle.cs_base.specs.declared.fault.Or.TheVariants as or
 use Rattle.cs_base.specs.declared.fault.OrcFault.{OrcFault}
@@ -11,7 +12,8 @@ use Rattle.cs_grammar.specs.declared.expr.PartForm.TheVariants as part
 use Rattle.cs_grammar.proofs.Gives.{both_mapped, left_through, through_is, through_keeps, through_mapped, valued}
 use Rattle.cs_grammar.specs.declared.symbol.Expected.{Expected}
 use Rattle.cs_grammar.specs.declared.symbol.Expected.TheVariants as expected
-use Rattle.cs_grammar.specs.Grammar.{ReadsExpr, ReadsTail, binary, expr_stop, fact_alone, fact_call, fact_group, fact_pick, no_more, one_alone, one_more}
+use Rattle.cs_grammar.specs.Grammar.{ReadsExpr, ReadsTail, binary, expr_stop, fact_alone, fact_call, fact_group}
+use Rattle.cs_grammar.specs.Grammar.{fact_pick, no_more, one_alone, one_more}
 use Rattle.cs_grammar.specs.Parts.{atom, operator_of, part_form, rank, repeats, tighter}
 use Rattle.cs_grammar.specs.Reading.{Left, Reading, Scope, after, left, mapped, next, next_is, three, through}
 use Rattle.cs_grammar.specs.Symbols.{Symbol}
@@ -20,10 +22,13 @@ use Rattle.cs_grammar.specs.inner.Answers.{Gives, IsClosed, past}
 
 -- ---- brackets
 
-pub group_is : {s : Scope} {ts : List Symbol} (e : Expression) (mid : List Symbol) (st : Left) → part_form ts ≡ part.Bracket
-    → ReadsExpr s at.Expr (Ok (after ts)) (Ok (e, mid)) → next_is expected.Question mid ≡ false → past s expected.Close mid ≡ st
+pub group_is : {s : Scope} {ts : List Symbol} (e : Expression) (mid : List Symbol) (st : Left)
+    → part_form ts ≡ part.Bracket
+    → ReadsExpr s at.Expr (Ok (after ts)) (Ok (e, mid)) → next_is expected.Question mid ≡ false
+    → past s expected.Close mid ≡ st
     → ReadsExpr s at.Fact (Ok ts) (valued e st)
-group_is {s} {ts} e mid st m h q p = subst (ReadsExpr s at.Fact (Ok ts)) (through_is s expected.Close e mid st p) (fact_group m h q)
+group_is {s} {ts} e mid st m h q p =
+    subst (ReadsExpr s at.Fact (Ok ts)) (through_is s expected.Close e mid st p) (fact_group m h q)
 
 -- an expression, and the symbol that must follow it
 pub closed_is : {s : Scope} {ts : List Symbol} (end : Expected) (e : Expression) (mid : List Symbol) (st : Left)
@@ -33,7 +38,8 @@ closed_is {s} {ts} end e mid st h p = (Ok (e, mid), h, sym (through_is s end e m
 pub call_is : {s : Scope} {ts : List Symbol} (g : Func) (o : Reading Expression) → part_form ts ≡ part.Function g
     → IsClosed s expected.Close (after (after ts)) o → ReadsExpr s at.Fact (Ok ts) (mapped (apply g) o)
 call_is {s} {ts} g o m (b, k, e) =
-    subst (ReadsExpr s at.Fact (Ok ts)) (through_mapped s expected.Close (apply g) b ∙ ap (mapped (apply g)) (sym e)) (fact_call m k)
+    subst (ReadsExpr s at.Fact (Ok ts)) (through_mapped s expected.Close (apply g) b ∙ ap (mapped (apply g)) (sym e))
+    (fact_call m k)
 
 -- ---- a fault is the reading of every level
 
@@ -42,17 +48,22 @@ stops at.Fact = expr_stop
 stops at.Term = binary refl expr_stop (no_more refl)
 stops at.Sum = binary refl (binary refl expr_stop (no_more refl)) (no_more refl)
 stops at.Cmp = binary refl (binary refl (binary refl expr_stop (no_more refl)) (no_more refl)) (no_more refl)
-stops at.And = binary refl (binary refl (binary refl (binary refl expr_stop (no_more refl)) (no_more refl)) (no_more refl)) (no_more refl)
-stops at.Expr = binary refl (binary refl (binary refl (binary refl (binary refl expr_stop (no_more refl)) (no_more refl)) (no_more refl)) (no_more refl))
+stops at.And = binary refl
+    (binary refl (binary refl (binary refl expr_stop (no_more refl)) (no_more refl)) (no_more refl)) (no_more refl)
+stops at.Expr = binary refl
+    (binary refl (binary refl (binary refl (binary refl expr_stop (no_more refl)) (no_more refl)) (no_more refl))
+    (no_more refl))
     (no_more refl)
 
-after_colon : (s : Scope) (y : Expression) (vs : List Symbol) (st : Left) (b : Reading Expression) → past s expected.Colon vs ≡ st → ReadsExpr s at.Expr st b
+after_colon : (s : Scope) (y : Expression) (vs : List Symbol) (st : Left) (b : Reading Expression)
+    → past s expected.Colon vs ≡ st → ReadsExpr s at.Expr st b
     → ReadsExpr s at.Expr (left (through s expected.Colon (Ok (y, vs)))) b
 after_colon s y vs st b e k = subst (λ x. ReadsExpr s at.Expr x b) (sym (left_through s expected.Colon y vs ∙ e)) k
 
 picked_through : (s : Scope) (c y : Expression) (us vs : List Symbol) (b : Reading Expression)
     → through s expected.Close (three pick (Ok (c, us)) (Ok (y, vs)) b) ≡ mapped (pick c y) (through s expected.Close b)
-picked_through s c y us vs b = ap (through s expected.Close) (both_mapped (pick c) y vs b) ∙ through_mapped s expected.Close (pick c y) b
+picked_through s c y us vs b =
+    ap (through s expected.Close) (both_mapped (pick c) y vs b) ∙ through_mapped s expected.Close (pick c y) b
 
 -- ---- a choice: after its condition c, which leaves us, comes `?`
 
@@ -61,9 +72,11 @@ module _ {s : Scope} {ts : List Symbol} (c : Expression) (us : List Symbol) (m :
   pub pick_unmet : (f : OrcFault) → IsClosed s expected.Colon (after us) (Err f) → ReadsExpr s at.Fact (Ok ts) (Err f)
   pick_unmet f (Err g, k, e) = fact_pick m h q (subst (ReadsExpr s at.Expr (Ok (after us))) (sym e) k) (stops at.Expr)
   pick_unmet f (Ok (y, vs), k, e) =
-      fact_pick m h q k (after_colon s y vs (Err f) (Err f) (sym (left_through s expected.Colon y vs) ∙ ap left (sym e)) (stops at.Expr))
+      fact_pick m h q k (after_colon s y vs (Err f) (Err f) (sym (left_through s expected.Colon y vs) ∙ ap left (sym e))
+      (stops at.Expr))
 
-  pub pick_is : (y : Expression) (ws : List Symbol) (o : Reading Expression) → IsClosed s expected.Colon (after us) (Ok (y, ws))
+  pub pick_is : (y : Expression) (ws : List Symbol) (o : Reading Expression)
+      → IsClosed s expected.Colon (after us) (Ok (y, ws))
       → IsClosed s expected.Close ws o → ReadsExpr s at.Fact (Ok ts) (mapped (pick c y) o)
   pick_is y ws o (Err g, k, e) j = cc
   pick_is y ws o (Ok (z, vs), k, e) (b, i, d) =
@@ -74,7 +87,8 @@ module _ {s : Scope} {ts : List Symbol} (c : Expression) (us : List Symbol) (m :
 
 -- ---- levels
 
-up : {s : Scope} {st : Left} {f : OrcFault} {l m : Level} → tighter l ≡ Some m → ReadsExpr s m st (Err f) → ReadsExpr s l st (Err f)
+up : {s : Scope} {st : Left} {f : OrcFault} {l m : Level} → tighter l ≡ Some m → ReadsExpr s m st (Err f)
+    → ReadsExpr s l st (Err f)
 up e h = binary e h (no_more refl)
 
 abbrev level_of : ℕ → Level
@@ -93,7 +107,8 @@ of_rank at.Cmp = refl
 of_rank at.And = refl
 of_rank at.Expr = refl
 
-risen : {s : Scope} {st : Left} {f : OrcFault} (n : ℕ) (l m : Level) → rank l ≡ n + rank m → ReadsExpr s m st (Err f) → ReadsExpr s l st (Err f)
+risen : {s : Scope} {st : Left} {f : OrcFault} (n : ℕ) (l m : Level) → rank l ≡ n + rank m → ReadsExpr s m st (Err f)
+    → ReadsExpr s l st (Err f)
 risen {s} {st} {f} zero l m e h =
     let same : rank m ≡ rank l = omega (arith, e) in
     subst (λ x. ReadsExpr s x st (Err f)) (sym (of_rank m) ∙ ap level_of same ∙ of_rank l) h
@@ -105,7 +120,8 @@ risen (suc n) at.And m e h = up refl (risen n at.Cmp m (omega (arith, e)) h)
 risen (suc n) at.Expr m e h = up refl (risen n at.And m (omega (arith, e)) h)
 
 -- a fault at a level is one at each looser level
-pub raised : {s : Scope} {st : Left} {f : OrcFault} (l m : Level) → rank m ≤ rank l → ReadsExpr s m st (Err f) → ReadsExpr s l st (Err f)
+pub raised : {s : Scope} {st : Left} {f : OrcFault} (l m : Level) → rank m ≤ rank l → ReadsExpr s m st (Err f)
+    → ReadsExpr s l st (Err f)
 raised l m w h = risen (rank l - rank m) l m (omega (arith, w)) h
 
 abbrev above : Option Level → ℕ
@@ -125,7 +141,8 @@ rank_up l m e = sym (above_is l) ∙ ap above e
 
 -- ---- operators
 
-pub right_fails : {s : Scope} {l m : Level} {op : BinOp} {us : List Symbol} (a : Expression) (f : OrcFault) → operator_of l (next us).kind ≡ Some op
+pub right_fails : {s : Scope} {l m : Level} {op : BinOp} {us : List Symbol} (a : Expression) (f : OrcFault)
+    → operator_of l (next us).kind ≡ Some op
     → tighter l ≡ Some m → ReadsExpr s m (Ok (after us)) (Err f) → ReadsTail s l (Ok (a, us)) (Err f)
 right_fails {s} {l} {us = us} a f e t h = by (repeats l) refl
   where
@@ -135,7 +152,8 @@ right_fails {s} {l} {us = us} a f e t h = by (repeats l) refl
 
 -- ---- a part of one symbol
 
-pub alone : {T : Type 0} (see : T → Expression) (r : Result T (Or OrcFault)) (rest ts : List Symbol) (s : Scope) → part_form ts ≡ part.Alone
+pub alone : {T : Type 0} (see : T → Expression) (r : Result T (Or OrcFault)) (rest ts : List Symbol) (s : Scope)
+    → part_form ts ≡ part.Alone
     → Gives see r rest (λ o. o ≡ atom s ts) → Gives see r rest (ReadsExpr s at.Fact (Ok ts))
 alone see (Ok x) rest ts s m h = subst (ReadsExpr s at.Fact (Ok ts)) (sym h) (fact_alone m)
 alone see (Err (or.Fault f)) rest ts s m h = subst (ReadsExpr s at.Fact (Ok ts)) (sym h) (fact_alone m)

@@ -1,12 +1,104 @@
--- Steps of the parser over lists of symbols.
-use Rattle.std.proofs.Common.{◌≡◌, ◌+◌, ◌∙◌, ℕ, List, [], ◌∷◌, drop, refl, sym}
-use Rattle.std.proofs.lemmas.List.{drop-drop}
-use Rattle.cs_grammar.specs.Reading.{after}
-use Rattle.cs_grammar.specs.Symbols.{Symbol}
+-- Steps of the parser along the tokens.
+use Rattle.std.proofs.Common.{◌≡◌, ◌<◌, ◌≤◌, ◌+◌, ◌^◌, ◌∙◌, ℕ, suc, Bool, true, false, not, List, [], ◌∷◌}
+use Rattle.std.proofs.Common.{length, Option, Some, None, if◌then◌else◌, refl, sym, ap, subst, arith}
+use Rattle.std.specs.List.{All}
+use Rattle.std.specs.Option.{IfSome}
+use Rattle.std.proofs.lemmas.List.Elements.{All-head, All-tail}
+use Rattle.cs_lex.specs.declared.token.Token.{Token}
+use Rattle.cs_grammar.specs.declared.symbol.Expected.TheVariants as expected
+use Rattle.cs_grammar.specs.Inputs.{is_free}
+use Rattle.cs_grammar.specs.Kinds.{is}
+use Rattle.cs_grammar.specs.Reading.{next, after, next_is, Scope}
+use Rattle.cs_grammar.specs.Symbols.{Symbol, symbols_from, counted}
+use Rattle.cs_grammar.specs.inner.Reached.{Spanned}
+use Rattle.cs_grammar.specs.inner.Takes.{plus_one, input_count}
 
-drop_one : (ts : List Symbol) → drop 1 ts ≡ after ts
-drop_one [] = refl
-drop_one (t ∷ ts) = refl
+-- the bytes of all tokens stand in the text
+pub spanned : (size : ℕ) (ts : List Token) → All (λ t. (t.from ≤ t.to) × (t.to ≤ size)) ts → Spanned size ts
+spanned size [] h = tt
+spanned size (t ∷ ts) h =
+    let one = All-head (λ u. (u.from ≤ u.to) × (u.to ≤ size)) t ts h in
+    (one.0, one.1, spanned size ts (All-tail (λ u. (u.from ≤ u.to) × (u.to ≤ size)) t ts h))
 
-pub skipped : (n : ℕ) (ts : List Symbol) → drop (n + 1) ts ≡ after (drop n ts)
-skipped n ts = sym (drop-drop 1 n ts) ∙ drop_one (drop n ts)
+-- a token is one symbol
+pub symbols_length : (source : List ℕ) (place : ℕ) (ts : List Token) → length (symbols_from source place ts) ≡ length ts
+symbols_length source place [] = refl
+symbols_length source place (t ∷ ts) = ap (λ n. suc n) (symbols_length source (counted place t.mark) ts)
+
+pub short_left : (source : List ℕ) (place : ℕ) (ts : List Token) → place + length ts < 2 ^ 63
+    → length (symbols_from source place ts) < 2 ^ 63
+short_left source place ts h = omega (arith, symbols_length source place ts, h)
+
+-- ---- the words before `xin`
+
+abbrev counted_by : Bool → Bool → Bool → Option ℕ → Option ℕ
+counted_by free xin comma more =
+    if not free then None else (if xin then Some 1 else (if comma then plus_one more else None))
+
+pub no_word : (s : Scope) (ts : List Symbol) → is_free s (next ts) ≡ false → input_count s ts ≡ None
+no_word s [] f = refl
+no_word s (t ∷ []) f = refl
+no_word s (t ∷ c ∷ us) f =
+    ap (λ b. counted_by b (is expected.Xin c.kind) (is expected.Comma c.kind) (input_count s us)) f
+
+pub last_word : (s : Scope) (ts : List Symbol) → is_free s (next ts) ≡ true → next_is expected.Xin (after ts) ≡ true
+    → input_count s ts ≡ Some 1
+last_word s [] f x = absurd (cc x)
+last_word s (t ∷ []) f x = absurd (cc x)
+last_word s (t ∷ c ∷ us) f x =
+    ap (λ b. counted_by b (is expected.Xin c.kind) (is expected.Comma c.kind) (input_count s us)) f
+    ∙ ap (λ b. counted_by true b (is expected.Comma c.kind) (input_count s us)) x
+
+pub no_comma : (s : Scope) (ts : List Symbol) → is_free s (next ts) ≡ true → next_is expected.Xin (after ts) ≡ false
+    → next_is expected.Comma (after ts) ≡ false → input_count s ts ≡ None
+no_comma s [] f x c = refl
+no_comma s (t ∷ []) f x c = refl
+no_comma s (t ∷ d ∷ us) f x c =
+    ap (λ b. counted_by b (is expected.Xin d.kind) (is expected.Comma d.kind) (input_count s us)) f
+    ∙ ap (λ b. counted_by true b (is expected.Comma d.kind) (input_count s us)) x
+    ∙ ap (λ b. counted_by true false b (input_count s us)) c
+
+pub one_word_more : (s : Scope) (ts : List Symbol) → is_free s (next ts) ≡ true
+    → next_is expected.Xin (after ts) ≡ false
+    → next_is expected.Comma (after ts) ≡ true → input_count s ts ≡ plus_one (input_count s (after (after ts)))
+one_word_more s [] f x c = absurd (cc c)
+one_word_more s (t ∷ []) f x c = absurd (cc c)
+one_word_more s (t ∷ d ∷ us) f x c =
+    ap (λ b. counted_by b (is expected.Xin d.kind) (is expected.Comma d.kind) (input_count s us)) f
+    ∙ ap (λ b. counted_by true b (is expected.Comma d.kind) (input_count s us)) x
+    ∙ ap (λ b. counted_by true false b (input_count s us)) c
+
+pub past_comma : (ts : List Symbol) → next_is expected.Comma (after ts) ≡ true → length (after (after ts)) < length ts
+past_comma [] c = absurd (cc c)
+past_comma (t ∷ []) c = absurd (cc c)
+past_comma (t ∷ d ∷ us) c = omega arith
+
+-- no more words than symbols, and one at least
+words_within : (s : Scope) (ts : List Symbol) → IfSome (input_count s ts) (λ n. (n ≤ length ts) × (1 ≤ n))
+words_within s [] = tt
+words_within s (t ∷ []) = tt
+words_within s (t ∷ c ∷ us) =
+    by (is_free s t) (is expected.Xin c.kind) (is expected.Comma c.kind) (input_count s us) (words_within s us)
+  where
+    by : (free xin comma : Bool) (o : Option ℕ) → IfSome o (λ n. (n ≤ length us) × (1 ≤ n))
+        → IfSome (counted_by free xin comma o) (λ n. (n ≤ suc (suc (length us))) × (1 ≤ n))
+    by false xin comma o h = tt
+    by true true comma o h = (omega arith, omega arith)
+    by true false true (Some n) h = (omega (arith, h.0), omega arith)
+    by true false true None h = tt
+    by true false false o h = tt
+
+pub few_words : (s : Scope) (ts : List Symbol) (o : Option ℕ) → o ≡ input_count s ts → length ts < 2 ^ 63
+    → IfSome o (λ n. n < 2 ^ 63)
+few_words s ts o e l = by o (subst (λ q. IfSome q (λ n. (n ≤ length ts) × (1 ≤ n))) (sym e) (words_within s ts))
+  where
+    by : (q : Option ℕ) → IfSome q (λ n. (n ≤ length ts) × (1 ≤ n)) → IfSome q (λ n. n < 2 ^ 63)
+    by None h = tt
+    by (Some n) h = omega (arith, h.0, l)
+
+pub some_word : (s : Scope) (ts : List Symbol) (o : Option ℕ) → o ≡ input_count s ts → IfSome o (λ n. 1 ≤ n)
+some_word s ts o e = by o (subst (λ q. IfSome q (λ n. (n ≤ length ts) × (1 ≤ n))) (sym e) (words_within s ts))
+  where
+    by : (q : Option ℕ) → IfSome q (λ n. (n ≤ length ts) × (1 ≤ n)) → IfSome q (λ n. 1 ≤ n)
+    by None h = tt
+    by (Some n) h = h.1

@@ -1,5 +1,6 @@
 -- Every tree is well formed, and its lines ascend.
-use Rattle.std.proofs.Common.{◌≡◌, ◌≢◌, ◌∙◌, ◌≤◌, ◌<◌, ◌++◌, ◌+◌, ◌-◌, ◌&&◌, inl, inr, codes, Option, Some, None, take, drop, ℕ, suc, Bool, true, false}
+use Rattle.std.proofs.Common.{◌≡◌, ◌≢◌, ◌∙◌, ◌≤◌, ◌<◌, ◌++◌, ◌+◌, ◌-◌, ◌&&◌, inl, inr, codes, Option, Some, None, take}
+use Rattle.std.proofs.Common.{drop, ℕ, suc, Bool, true, false}
 use Rattle.std.proofs.Common.{List, [], ◌∷◌, length, nat_le, if◌then◌else◌, refl, arith}
 use Rattle.std.proofs.Common.{sym, ap, subst}
 use Rattle.std.specs.Prelude.{get_or}
@@ -8,7 +9,8 @@ use Rattle.std.proofs.lemmas.List.Elements.{All-nil, All-cons, All-append, All-h
 use Rattle.cs_lex.specs.declared.token.Mark.{Mark}
 use Rattle.cs_lex.specs.declared.token.Mark.TheVariants as mark
 use Rattle.cs_lex.specs.declared.token.Token.{Token}
-use Rattle.cs_lex.specs.Lexed.{Piece, text_of, AllFit, token_at, token_of, tokens_after, is_newline, merged, end_of, Lexed, Precedes, IsEndedBy}
+use Rattle.cs_lex.specs.Lexed.{Piece, text_of, AllFit, token_at, token_of, tokens_after, is_newline, merged, end_of}
+use Rattle.cs_lex.specs.Lexed.{Lexed, Precedes, IsEndedBy}
 use Rattle.cs_lex.specs.Bytes.{is_letter, is_word_byte}
 use Rattle.cs_lex.specs.Rows.{Fits}
 use Rattle.cs_base.specs.Lines.{begins}
@@ -40,7 +42,8 @@ all_stopless (b ∷ bs) e =
     All-cons (λ b. b ≢ byte ".") b bs (stopless b parts.0) (all_stopless bs parts.1)
 
 word_stopless : (span after : List ℕ) → Fits (Some mark.Word) span after → HasNoStop span
-word_stopless span after (inl h) = all_stopless span (and_parts (begins is_letter span) (list_all is_word_byte span) h.fits).1
+word_stopless span after (inl h) =
+    all_stopless span (and_parts (begins is_letter span) (list_all is_word_byte span) h.fits).1
 word_stopless span after (inr h) = subst HasNoStop (sym h.0) (all_stopless (codes "0dbfs") refl)
 
 behind : (before rest : List ℕ) → drop (length before) (before ++ rest) ≡ rest
@@ -51,34 +54,42 @@ front : (span rest : List ℕ) → take (length span) (span ++ rest) ≡ span
 front [] rest = refl
 front (b ∷ span) rest = ap (λ x. b ∷ x) (front span rest)
 
-span_there : (before span rest : List ℕ) → slice_range (before ++ (span ++ rest)) (length before) (length before + length span) ≡ span
+span_there : (before span rest : List ℕ)
+    → slice_range (before ++ (span ++ rest)) (length before) (length before + length span) ≡ span
 span_there before span rest =
     let n : length before + length span - length before ≡ length span = omega arith in
-    ap (take (length before + length span - length before)) (behind before (span ++ rest)) ∙ ap (λ k. take k (span ++ rest)) n ∙ front span rest
+    ap (take (length before + length span - length before)) (behind before (span ++ rest))
+    ∙ ap (λ k. take k (span ++ rest)) n ∙ front span rest
 
-of_piece : (source before : List ℕ) (m : Option Mark) (span rest : List ℕ) → source ≡ before ++ (span ++ rest) → Fits m span rest
+of_piece : (source before : List ℕ) (m : Option Mark) (span rest : List ℕ) → source ≡ before ++ (span ++ rest)
+    → Fits m span rest
     → All (NoStops source) (token_of m before span)
 of_piece source before None span rest i f = All-nil (NoStops source)
 of_piece source before (Some m) span rest i f =
     All-cons (NoStops source) (token_at m before span) []
-    (λ e. subst HasNoStop (sym (ap (λ x. slice_range x (length before) (length before + length span)) i ∙ span_there before span rest))
+    (λ e. subst HasNoStop (sym
+    (ap (λ x. slice_range x (length before) (length before + length span)) i ∙ span_there before span rest))
     (word_stopless span rest (subst (λ x. Fits (Some x) span rest) e f))) (All-nil (NoStops source))
 
-of_pieces : (source before : List ℕ) (ps : List Piece) → source ≡ before ++ (text_of ps ++ []) → AllFit ps [] → All (NoStops source) (tokens_after before ps)
+of_pieces : (source before : List ℕ) (ps : List Piece) → source ≡ before ++ (text_of ps ++ []) → AllFit ps []
+    → All (NoStops source) (tokens_after before ps)
 of_pieces source before [] i f = All-nil (NoStops source)
 of_pieces source before (p ∷ ps) i f =
-    let whole : source ≡ before ++ (p.span ++ (text_of ps ++ [])) = i ∙ ap (λ x. before ++ x) (append_assoc p.span (text_of ps) []) in
+    let whole : source ≡ before ++ (p.span ++ (text_of ps ++ [])) =
+    i ∙ ap (λ x. before ++ x) (append_assoc p.span (text_of ps) []) in
     All-append (NoStops source) (token_of p.mark before p.span) (tokens_after (before ++ p.span) ps)
     (of_piece source before p.mark p.span (text_of ps ++ []) whole f.0)
     (of_pieces source (before ++ p.span) ps (whole ∙ sym (append_assoc before p.span (text_of ps ++ []))) f.1)
 
-of_merged : (source : List ℕ) (fed : Bool) (ts : List Token) → All (NoStops source) ts → All (NoStops source) (merged fed ts)
+of_merged : (source : List ℕ) (fed : Bool) (ts : List Token) → All (NoStops source) ts
+    → All (NoStops source) (merged fed ts)
 of_merged source fed [] h = All-nil (NoStops source)
 of_merged source fed (t ∷ ts) h =
     by (fed && is_newline t) (merged (is_newline t) ts) (All-head (NoStops source) t ts h)
     (of_merged source (is_newline t) ts (All-tail (NoStops source) t ts h))
   where
-    by : (b : Bool) (us : List Token) → NoStops source t → All (NoStops source) us → All (NoStops source) ((if b then [] else t ∷ []) ++ us)
+    by : (b : Bool) (us : List Token) → NoStops source t → All (NoStops source) us
+        → All (NoStops source) ((if b then [] else t ∷ []) ++ us)
     by true us h k = k
     by false us h k = All-cons (NoStops source) t us h k
 
@@ -91,11 +102,19 @@ words_have_no_stop source ts (ps, cut, is) =
 
 -- ---- the laws
 
-pub tree_is_well_formed : (source : List ℕ) (tokens : List Token) (o : Orchestra) → Lexed source tokens → Tree source tokens o → IsWellFormed o
+pub tree_is_well_formed : (source : List ℕ) (tokens : List Token) (o : Orchestra) → Lexed source tokens
+    → Tree source tokens o → IsWellFormed o
 tree_is_well_formed source tokens o l (rest, h) =
     let f = fine_orc Words words_after words_next Words (λ ts q e. words_after ts q) (λ ts q e. q) (λ ts q. q) h
     (words_from source 0 tokens (words_have_no_stop source tokens l)) in
-    record { outside = f.outside_all; instruments = f.instruments; definitions = f.definitions; numbers = f.numbers; opcodes = f.opcodes }
+    record {
+      outside = f.outside_all;
+      instruments = f.instruments;
+      definitions = f.definitions;
+      numbers =
+          f.numbers;
+      opcodes = f.opcodes;
+    }
 
 -- ---- symbols stand as their tokens do
 
@@ -158,7 +177,8 @@ end_is_end : (place : ℕ) (m : Mark) (bytes : List ℕ) → is expected.End (ki
 end_is_end place m bytes e q =
     let k : true ≡ false = ap (λ x. is expected.End (kind_after place x bytes)) (sym q) ∙ e in cc
 
-from_all : (source : List ℕ) (place n : ℕ) (us : List Token) → All (λ u. u.mark ≢ mark.End → n ≤ u.line) us → From n (symbols_from source place us)
+from_all : (source : List ℕ) (place n : ℕ) (us : List Token) → All (λ u. u.mark ≢ mark.End → n ≤ u.line) us
+    → From n (symbols_from source place us)
 from_all source place n [] h = tt
 from_all source place n (u ∷ us) h = (
   (λ e. All-head (λ u. u.mark ≢ mark.End → n ≤ u.line) u us h (end_is_end place u.mark (bytes_of source u) e)),
@@ -172,23 +192,33 @@ EndsLast (t ∷ ts) = (t.mark ≡ mark.End → ts ≡ []) × EndsLast ts
 
 end_last : (front : List Token) (e : Token) → All (λ t. t.mark ≢ mark.End) front → EndsLast (front ++ e ∷ [])
 end_last [] e h = ((λ x. refl), tt)
-end_last (t ∷ front) e h = ((λ x. absurd (All-head (λ t. t.mark ≢ mark.End) t front h x)), end_last front e (All-tail (λ t. t.mark ≢ mark.End) t front h))
+end_last (t ∷ front) e h = (
+  (λ x. absurd (All-head (λ t. t.mark ≢ mark.End) t front h x)),
+  end_last front e
+      (All-tail (λ t. t.mark ≢ mark.End) t front h),
+)
 
-ends_last : (front ts : List Token) (e : Token) → ts ≡ front ++ e ∷ [] → All (λ t. t.mark ≢ mark.End) front → EndsLast ts
+ends_last : (front ts : List Token) (e : Token) → ts ≡ front ++ e ∷ [] → All (λ t. t.mark ≢ mark.End) front
+    → EndsLast ts
 ends_last front ts e i h = subst EndsLast (sym i) (end_last front e h)
 
-sorted_from : (source : List ℕ) (place : ℕ) (ts : List Token) → AllPairs Precedes ts → AllPairs IsEndedBy ts → EndsLast ts
+sorted_from : (source : List ℕ) (place : ℕ) (ts : List Token) → AllPairs Precedes ts → AllPairs IsEndedBy ts
+    → EndsLast ts
     → Sorted (symbols_from source place ts)
 sorted_from source place [] p q l = tt
 sorted_from source place (t ∷ ts) p q l = (
   record {
-    same = from_all source (counted place t.mark) t.line ts (λ k d lt n. (p 0 (suc k) d (omega arith) (omega (arith, lt))).1);
+    same = from_all source (counted place t.mark) t.line ts
+        (λ k d lt n. (p 0 (suc k) d (omega arith) (omega (arith, lt))).1);
     feed = λ e. from_all source (counted place t.mark) (suc t.line) ts
-        (λ k d lt n. let w : t.line < (get_or ts k d).line = q 0 (suc k) d (omega arith) (omega (arith, lt)) (mark_feeds place t.mark (bytes_of source t) e)
+        (λ k d lt n. let w : t.line < (get_or ts k d).line =
+        q 0 (suc k) d (omega arith) (omega (arith, lt)) (mark_feeds place t.mark (bytes_of source t) e)
         n in omega (arith, w));
-    last = λ e n. subst (λ us. From n (symbols_from source (counted place t.mark) us)) (sym (l.0 (mark_ends place t.mark (bytes_of source t) e))) tt;
+    last = λ e n. subst (λ us. From n (symbols_from source (counted place t.mark) us))
+        (sym (l.0 (mark_ends place t.mark (bytes_of source t) e))) tt;
   },
-  sorted_from source (counted place t.mark) ts (λ i j d lt w. p (suc i) (suc j) d (omega (arith, lt)) (omega (arith, w)))
+  sorted_from source (counted place t.mark) ts
+      (λ i j d lt w. p (suc i) (suc j) d (omega (arith, lt)) (omega (arith, w)))
       (λ i j d lt w. q (suc i) (suc j) d (omega (arith, lt)) (omega (arith, w))) l.1,
 )
 
@@ -196,8 +226,10 @@ from_zero : (ts : List Symbol) → From 0 ts
 from_zero [] = tt
 from_zero (t ∷ ts) = ((λ e. omega arith), from_zero ts)
 
-pub tree_in_order : (source : List ℕ) (tokens front : List Token) (e : Token) (o : Orchestra) → AllPairs Precedes tokens → AllPairs IsEndedBy tokens
-    → tokens ≡ front ++ e ∷ [] → All (λ t. t.mark ≢ mark.End) front → Lexed source tokens → Tree source tokens o → InOrder o
+pub tree_in_order : (source : List ℕ) (tokens front : List Token) (e : Token) (o : Orchestra) → AllPairs Precedes tokens
+    → AllPairs IsEndedBy tokens
+    → tokens ≡ front ++ e ∷ [] → All (λ t. t.mark ≢ mark.End) front → Lexed source tokens → Tree source tokens o
+    → InOrder o
 tree_in_order source tokens front e o p q i h l (rest, k) =
     in_order k (
       words_from source 0 tokens (words_have_no_stop source tokens l),

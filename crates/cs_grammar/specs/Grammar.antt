@@ -1,4 +1,5 @@
-use Rattle.std.specs.Prelude.{ℕ, Bool, true, false, List, [], ◌∷◌, ◌≡◌, ◌||◌, nat_lt, if◌then◌else◌, Some, None, Ok, Err}
+use Rattle.std.specs.Prelude.{ℕ, Bool, true, false, List, [], ◌∷◌, ◌≡◌, ◌||◌, nat_lt, if◌then◌else◌, Some, None, Ok}
+use Rattle.std.specs.Prelude.{Err}
 use Rattle.cs_base.specs.declared.fault.OrcFault.{OrcFault}
 use Rattle.cs_base.specs.declared.fault.OrcKind.TheVariants as orc
 use Rattle.cs_words.specs.declared.sign.BinOp.{BinOp}
@@ -17,9 +18,11 @@ use Rattle.cs_grammar.specs.declared.expr.Level.TheVariants as level
 use Rattle.cs_grammar.specs.declared.expr.PartForm.TheVariants as part
 use Rattle.cs_grammar.specs.declared.stmt.LineForm.TheVariants as form
 use Rattle.cs_grammar.specs.Symbols.{Symbol}
-use Rattle.cs_grammar.specs.Tree.{Expression, var, neg, pair, pick, apply, Argument, value, text, Statement, set, call, choose, Block, no_stmt, andthen}
+use Rattle.cs_grammar.specs.Tree.{Expression, var, neg, pair, pick, apply, Argument, value, text, Statement, set, call}
+use Rattle.cs_grammar.specs.Tree.{choose, Block, no_stmt, andthen}
 use Rattle.cs_grammar.specs.Tree.{Arms, otherwise, arm}
-use Rattle.cs_grammar.specs.Reading.{next, after, Left, Reading, left, mapped, both, three, skip, next_is, meets, Scope, deeper, fault, misfit, through, ended}
+use Rattle.cs_grammar.specs.Reading.{next, after, Left, Reading, left, mapped, both, three, skip, next_is, meets, Scope}
+use Rattle.cs_grammar.specs.Reading.{deeper, fault, misfit, through, ended}
 use Rattle.cs_grammar.specs.Kinds.{is, ends_line}
 use Rattle.cs_grammar.specs.Parts.{tighter, repeats, operator, part_form, atom}
 use Rattle.cs_grammar.specs.Lines.{line_form, target, ReadsTargets, operation}

@@ -11,7 +11,8 @@ use Rattle.cs_grammar.specs.declared.symbol.Expected.TheVariants as expected
 use Rattle.cs_grammar.specs.Symbols.{Symbol}
 use Rattle.cs_grammar.specs.Kinds.{is_word, may_be_opcode}
 use Rattle.cs_words.specs.NameSets.{has}
-use Rattle.cs_grammar.specs.Reading.{next, after, Left, Reading, left, three, Scope, fault, misfit, misfit_kind, through, ended}
+use Rattle.cs_grammar.specs.Reading.{next, after, Left, Reading, left, three, Scope, fault, misfit, misfit_kind}
+use Rattle.cs_grammar.specs.Reading.{through, ended}
 
 -- what is no name for an opcode; a word of Csound that the profile leaves out is unexpected here
 abbrev pub no_name_kind : Scope → Kind → OrcKind

@@ -12,13 +12,14 @@ use Rattle.cs_grammar.specs.Headings.{Heading}
 
 -- a word of the profile that is neither a keyword nor an opcode, one defined before among them
 abbrev pub is_free : Scope → Symbol → Bool
-is_free s t = is_plain t.kind && not (is_opcode s t t.kind)
+is_free s t = is_plain t.kind && not (is_opcode s t.text t.kind)
 
 -- A line of `xin`: free words with commas between them, and then `xin`. Its words, and what stands from `xin` on.
 pub data XinLine (s : Scope) : List Symbol → List Symbol → List Symbol → Type 0 where
   one_word : {t : Symbol} {xin : List Symbol} → is_free s t ≡ true → next_is expected.Xin xin ≡ true
       → XinLine s (t ∷ xin) (t ∷ []) xin
-  more_words : {t comma : Symbol} {ts words xin : List Symbol} → is_free s t ≡ true → is expected.Comma comma.kind ≡ true
+  more_words : {t comma : Symbol} {ts words xin : List Symbol} → is_free s t ≡ true
+      → is expected.Comma comma.kind ≡ true
       → XinLine s ts words xin → XinLine s (t ∷ comma ∷ ts) (t ∷ words) xin
 
 -- a variable that each call has for itself

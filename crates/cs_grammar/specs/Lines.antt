@@ -1,4 +1,5 @@
-use Rattle.std.specs.Prelude.{ℕ, ℤ, pos, Bool, true, false, List, [], ◌∷◌, ◌++◌, ◌≡◌, ◌/◌, ◌%◌, ◌&&◌, ◌==◌, not, codes, Option, Some, None, Ok, Err}
+use Rattle.std.specs.Prelude.{ℕ, ℤ, pos, Bool, true, false, List, [], ◌∷◌, ◌++◌, ◌≡◌, ◌/◌, ◌%◌, ◌&&◌, ◌==◌, not, codes}
+use Rattle.std.specs.Prelude.{Option, Some, None, Ok, Err}
 use Rattle.std.specs.Prelude.{if◌then◌else◌, nat_le, nat_lt}
 use Rattle.std.specs.Str.{bytes_eq}
 use Rattle.cs_base.specs.Limits.{greatest_instrument, most_nested_ifs}
@@ -23,7 +24,8 @@ use Rattle.cs_grammar.specs.declared.stmt.LineForm.{LineForm}
 use Rattle.cs_grammar.specs.declared.stmt.LineForm.TheVariants as form
 use Rattle.cs_grammar.specs.Symbols.{Symbol}
 use Rattle.cs_grammar.specs.Kinds.{is, is_word}
-use Rattle.cs_grammar.specs.Reading.{next, after, Left, Reading, mapped, next_is, Scope, has_number, fault, misfit, ended}
+use Rattle.cs_grammar.specs.Reading.{next, after, Left, Reading, mapped, next_is, Scope, has_number, fault, misfit}
+use Rattle.cs_grammar.specs.Reading.{ended}
 use Rattle.cs_grammar.specs.Parts.{is_variable, is_opcode}
 
 -- a line that begins with a word, no keyword: by what follows it, and whether it is an opcode
@@ -36,14 +38,16 @@ word_form _ true = form.Bare
 word_form k false = if is_word k then form.Results else form.Bare
 
 abbrev pub line_form_of : Scope → Kind → LineForm → LineForm
-line_form_of s (kind.Word (word.Keyword key.If)) by_word = if nat_lt s.depth most_nested_ifs then form.Conditional else form.Beyond
+line_form_of s (kind.Word (word.Keyword key.If)) by_word =
+    if nat_lt s.depth most_nested_ifs then form.Conditional else form.Beyond
 line_form_of s (kind.Word (word.Keyword _)) by_word = form.Misplaced
 line_form_of s k by_word = if is_word k then by_word else form.Misplaced
 
--- A label, and an `if` inside 100 others, are beyond the profile. A keyword other than `if`, and what is no word, is misplaced.
+-- A label, and an `if` inside 100 others, are beyond the profile. A keyword other than `if`, and what is no word, is
+-- misplaced.
 abbrev pub line_form : Scope → List Symbol → LineForm
 line_form s ts =
-    line_form_of s (next ts).kind (word_form (next (after ts)).kind (is_opcode s (next ts) (next ts).kind))
+    line_form_of s (next ts).kind (word_form (next (after ts)).kind (is_opcode s (next ts).text (next ts).kind))
 
 -- what may not take a value: fields and header names are unexpected, other words outside the profile
 abbrev pub no_target : Kind → OrcKind
@@ -116,7 +120,8 @@ header_line s h ts = header_of s h (next ts).line (after (after ts)) (next (afte
 -- the whole number from 1 to 32,767 that a value is
 abbrev pub instrument_number : ℤ → Option ℕ
 instrument_number (pos raw) =
-    if raw % 65536 == 0 && nat_le 1 (raw / 65536) && nat_le (raw / 65536) greatest_instrument then Some (raw / 65536) else None
+    if raw % 65536 == 0 && nat_le 1 (raw / 65536) && nat_le (raw / 65536) greatest_instrument
+    then Some (raw / 65536) else None
 instrument_number _ = None
 
 -- a number that no instrument has yet

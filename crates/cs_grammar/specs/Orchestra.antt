@@ -16,7 +16,8 @@ use Rattle.cs_grammar.specs.declared.orc.ItemForm.{ItemForm}
 use Rattle.cs_grammar.specs.declared.orc.ItemForm.TheVariants as item
 use Rattle.cs_grammar.specs.Symbols.{Symbol, symbols}
 use Rattle.cs_grammar.specs.Tree.{Argument, Statement, Block, no_stmt, andthen, Instrument, Definition, Orchestra}
-use Rattle.cs_grammar.specs.Reading.{next, after, Left, Reading, left, both, three, next_is, Scope, outside, in_instrument, in_definition, fault, misfit}
+use Rattle.cs_grammar.specs.Reading.{next, after, Left, Reading, left, both, three, next_is, Scope, outside}
+use Rattle.cs_grammar.specs.Reading.{in_instrument, in_definition, fault, misfit}
 use Rattle.cs_grammar.specs.Reading.{through, ended}
 use Rattle.cs_grammar.specs.Lines.{header_line, ReadsNumbers}
 use Rattle.cs_grammar.specs.Headings.{Heading, heading}
@@ -31,7 +32,9 @@ pub data ReadsInstr (defined : List (List ℕ)) (given : List ℕ) : List Symbol
   instr : {ts : List Symbol} {ns : Reading (List ℕ)} {body : Reading Block}
       → ReadsNumbers (in_instrument defined) given (after ts) ns
       → ReadsBlock (in_instrument defined) (left (ended (in_instrument defined) ns)) body
-      → ReadsInstr defined given ts (ended (outside defined) (through (in_instrument defined) expected.Endin (both (instrument_of (next ts).line) ns body)))
+      → ReadsInstr defined given ts
+      (ended (outside defined)
+      (through (in_instrument defined) expected.Endin (both (instrument_of (next ts).line) ns body)))
 
 -- what stands behind the line of `xout` in place of `endop`: the end of the text, or anything else
 abbrev pub behind_xout : Scope → List Symbol → OrcFault
@@ -39,22 +42,28 @@ behind_xout s ts = if next_is expected.End ts then misfit s orc.Unexpected ts el
 
 -- The line of `xout`: its values.
 pub data ReadsXout (s : Scope) (ts : List Symbol) : Reading (List Argument) → Type 0 where
-  xout : {values : Reading (List Argument)} → ReadsList s role.Result (Ok (after ts)) values → ReadsXout s ts (ended s values)
+  xout : {values : Reading (List Argument)} → ReadsList s role.Result (Ok (after ts)) values
+      → ReadsXout s ts (ended s values)
 
 -- What a definition gives, up to `endop`: one value for each result, in the last line.
 pub data ReadsResult (s : Scope) (outs : List Rate) : Left → Reading (List Argument) → Type 0 where
   result_stop : {f : OrcFault} → ReadsResult s outs (Err f) (Err f)
-  no_result : {ts : List Symbol} → next_is expected.Xout ts ≡ false → outs ≡ [] → ReadsResult s outs (Ok ts) (Ok ([], ts))
+  no_result : {ts : List Symbol} → next_is expected.Xout ts ≡ false → outs ≡ []
+      → ReadsResult s outs (Ok ts) (Ok ([], ts))
   xout_missing : {ts : List Symbol} → next_is expected.Xout ts ≡ false → outs ≢ []
       → ReadsResult s outs (Ok ts) (Err (fault ts orc.XinXout))
   xout_broken : {ts : List Symbol} {f : OrcFault} → next_is expected.Xout ts ≡ true → ReadsXout s ts (Err f)
       → ReadsResult s outs (Ok ts) (Err f)
-  xout_uneven : {ts us : List Symbol} {vs : List Argument} → next_is expected.Xout ts ≡ true → ReadsXout s ts (Ok (vs, us))
+  xout_uneven : {ts us : List Symbol} {vs : List Argument} → next_is expected.Xout ts ≡ true
+      → ReadsXout s ts (Ok (vs, us))
       → length vs ≢ length outs → ReadsResult s outs (Ok ts) (Err (fault ts orc.XinXout))
-  xout_last : {ts us : List Symbol} {vs : List Argument} → next_is expected.Xout ts ≡ true → ReadsXout s ts (Ok (vs, us))
+  xout_last : {ts us : List Symbol} {vs : List Argument} → next_is expected.Xout ts ≡ true
+      → ReadsXout s ts (Ok (vs, us))
       → length vs ≡ length outs → next_is expected.Endop us ≡ true → ReadsResult s outs (Ok ts) (Ok (vs, us))
-  xout_not_last : {ts us : List Symbol} {vs : List Argument} → next_is expected.Xout ts ≡ true → ReadsXout s ts (Ok (vs, us))
-      → length vs ≡ length outs → next_is expected.Endop us ≡ false → ReadsResult s outs (Ok ts) (Err (behind_xout s us))
+  xout_not_last : {ts us : List Symbol} {vs : List Argument} → next_is expected.Xout ts ≡ true
+      → ReadsXout s ts (Ok (vs, us))
+      → length vs ≡ length outs → next_is expected.Endop us ≡ false
+      → ReadsResult s outs (Ok ts) (Err (behind_xout s us))
 
 abbrev pub definition_of : Heading → List (List ℕ) → Block → List Argument → Definition
 definition_of h names body result = record {
@@ -75,11 +84,14 @@ pub data ReadsDefinition (defined : List (List ℕ)) : List Symbol → Reading D
   no_heading : {ts : List Symbol} {f : OrcFault}
       → heading (in_definition [] defined) (next ts).line (after ts) ≡ Err f
       → ReadsDefinition defined ts (Err f)
-  udo : {ts us : List Symbol} {h : Heading} {names : Reading (List (List ℕ))} {body : Reading Block} {result : Reading (List Argument)}
+  udo : {ts us : List Symbol} {h : Heading} {names : Reading (List (List ℕ))} {body : Reading Block}
+      {result : Reading (List Argument)}
       → heading (in_definition [] defined) (next ts).line (after ts) ≡ Ok (h, us)
       → ReadsInputs (own_scope defined h) h us names → ReadsBlock (own_scope defined h) (left names) body
       → ReadsResult (own_scope defined h) h.outs (left body) result
-      → ReadsDefinition defined ts (ended (outside defined) (through (own_scope defined h) expected.Endop (three (definition_of h) names body result)))
+      → ReadsDefinition defined ts
+      (ended (outside defined)
+      (through (own_scope defined h) expected.Endop (three (definition_of h) names body result)))
 
 -- what stands outside instruments and definitions
 abbrev pub item_form_of : Kind → Bool → ItemForm

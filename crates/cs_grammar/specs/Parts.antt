@@ -71,13 +71,13 @@ operator l (Err f) = None
 abbrev pub is_variable : Scope → Symbol → Bool
 is_variable s t = is_name_kind t.kind && not (has s.defined t.text)
 
--- an opcode of the catalogue, or one that is defined
-abbrev pub is_opcode : Scope → Symbol → Kind → Bool
-is_opcode s t (kind.Word (word.Opcode o)) = true
-is_opcode s t (kind.Word (word.Field k)) = has s.defined t.text
-is_opcode s t (kind.Word word.Name) = has s.defined t.text
-is_opcode s t (kind.Word word.Other) = has s.defined t.text
-is_opcode s t _ = false
+-- a word is an opcode: of the catalogue, or one that is defined
+abbrev pub is_opcode : Scope → List ℕ → Kind → Bool
+is_opcode s text (kind.Word (word.Opcode o)) = true
+is_opcode s text (kind.Word (word.Field k)) = has s.defined text
+is_opcode s text (kind.Word word.Name) = has s.defined text
+is_opcode s text (kind.Word word.Other) = has s.defined text
+is_opcode s text _ = false
 
 -- a word alone, or a number, as an expression
 abbrev pub single : Scope → Symbol → Kind → Option Expression

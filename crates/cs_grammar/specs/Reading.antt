@@ -41,7 +41,8 @@ abbrev pub mapped : {A B : Type 0} → (A → B) → Reading A → Reading B
 mapped f (Ok (a, ts)) = Ok (f a, ts)
 mapped f (Err e) = Err e
 
--- Two or three parts that were read one after the other. What is left is left by the last; a fault of any ends the reading.
+-- Two or three parts that were read one after the other. What is left is left by the last; a fault of any ends the
+-- reading.
 abbrev pub both : {A B C : Type 0} → (A → B → C) → Reading A → Reading B → Reading C
 both f (Ok (a, ts)) (Ok (b, us)) = Ok (f a b, us)
 both f (Ok (a, ts)) (Err e) = Err e

@@ -8,7 +8,8 @@ use Rattle.cs_grammar.specs.declared.tree.Expr.TheVariants.{Number, Var, Field, 
 use Rattle.cs_grammar.specs.declared.tree.Arg.{Arg}
 use Rattle.cs_grammar.specs.declared.tree.Arg.TheVariants.{Value, Text}
 use Rattle.cs_grammar.specs.declared.tree.Callee.{Callee}
-use Rattle.cs_grammar.specs.declared.tree.StmtWhat.{StmtWhat, Row_of-Arm, end_of-Arm, more_of-Arm, Row_of-OrcStmt, end_of-OrcStmt, more_of-OrcStmt}
+use Rattle.cs_grammar.specs.declared.tree.StmtWhat.{StmtWhat, Row_of-Arm, end_of-Arm, more_of-Arm, Row_of-OrcStmt}
+use Rattle.cs_grammar.specs.declared.tree.StmtWhat.{end_of-OrcStmt, more_of-OrcStmt}
 use Rattle.cs_grammar.specs.declared.tree.StmtWhat.TheVariants.{Set, Call, Choose'}
 use Rattle.cs_grammar.specs.declared.tree.OrcStmt.{OrcStmt}
 use Rattle.cs_grammar.specs.declared.tree.Arm.{Arm, Arm', out-Arm}

@@ -1,4 +1,4 @@
-use Rattle.std.specs.Prelude.{ℕ, true, false, List, [], ◌∷◌, ◌++◌, ◌≡◌, ◌≢◌, ◌≤◌, ◌<◌, ◌+◌, codes, length, map}
+use Rattle.std.specs.Prelude.{ℕ, true, false, List, [], ◌∷◌, ◌++◌, ◌≡◌, ◌≢◌, ◌≤◌, ◌<◌, ◌+◌, length, map}
 use Rattle.std.specs.Str.{byte}
 use Rattle.std.specs.List.{All, AllPairs}
 use Rattle.cs_words.specs.declared.catalogue.Opcode.{Opcode}
@@ -10,7 +10,8 @@ use Rattle.cs_grammar.specs.declared.scope.Place.{Place}
 use Rattle.cs_grammar.specs.declared.scope.Place.TheVariants as place
 use Rattle.cs_grammar.specs.declared.tree.Callee.{Callee}
 use Rattle.cs_grammar.specs.declared.tree.Callee.TheVariants as callee
-use Rattle.cs_grammar.specs.Tree.{Expression, number, var, field, head, neg, pair, pick, apply, Argument, value, text, Statement, set, call, choose}
+use Rattle.cs_grammar.specs.Tree.{Expression, number, var, field, head, neg, pair, pick, apply, Argument, value, text}
+use Rattle.cs_grammar.specs.Tree.{Statement, set, call, choose}
 use Rattle.cs_grammar.specs.Tree.{Block, no_stmt, andthen, Arms, otherwise, arm, Instrument, Definition, Orchestra}
 use Rattle.cs_grammar.specs.declared.tree.HeadLine.{HeadLine}
 use Rattle.cs_grammar.specs.Orchestra.{nothing, with_header, with_instr, with_definition, with_stmt}
@@ -72,7 +73,8 @@ abbrev mutual
 
   pub WellFormedArms : Place → List ℕ → ℕ → Arms → Type 0
   WellFormedArms p own depth (otherwise body) = WellFormedBlock p own depth body
-  WellFormedArms p own depth (arm c body rest) = WellFormedExpr c × WellFormedBlock p own depth body × WellFormedArms p own depth rest
+  WellFormedArms p own depth (arm c body rest) =
+      WellFormedExpr c × WellFormedBlock p own depth body × WellFormedArms p own depth rest
 
 pub record WellFormedInstrument (i : Instrument) : Type 0 where
   pub numbers : All (λ n. (1 ≤ n) × (n ≤ greatest_instrument)) i.numbers

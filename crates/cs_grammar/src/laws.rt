@@ -21,9 +21,9 @@ pub fn one_reading()
         → Tree source tokens o → ParseFault source tokens l k → ⊥ }
 {}
 
-/// What holds of every tree of a text: names, fields and numbers are in their ranges, nothing is called where it may not be, an
-/// `if` stands inside at most 99 others, and no instrument's number and no opcode's name is given twice. The lines of
-/// its parts ascend in the order of the text.
+/// What holds of every tree of a text: names, fields and numbers are in their ranges, nothing is called where it may
+/// not be, an `if` stands inside at most 99 others, and no instrument's number and no opcode's name is given twice.
+/// The lines of its parts ascend in the order of the text.
 pub fn trees_are_well_formed()
     ensures well_formed { (source : List ℕ) (tokens : List Token) (orc : Orchestra)
         → Lexed source tokens → Tree source tokens orc → IsWellFormed orc }

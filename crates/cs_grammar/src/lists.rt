@@ -47,12 +47,9 @@ impl<'s> Parser<'s> {
 
     // Whether the next symbol is an opcode.
     pub fn at_opcode(&self, scope: &Scope) -> bool
-        ensures { result ≡ is_opcode scope.now (next self.now) (next self.now).kind }
+        ensures { result ≡ is_opcode scope.now (next self.now).text (next self.now).kind }
     {
-        match self.rest() {
-            [] => false,
-            [next, ..] => scope.is_opcode(next),
-        }
+        scope.is_opcode(self.text(), self.kind())
     }
 
     // Takes the next symbol's bytes as a name.
@@ -84,12 +81,13 @@ impl<'s> Parser<'s> {
         ensures goes { length self.new ≤ length self.old }
     {
         let mut names = Names::new(self.alloc());
-        names.push(self.target(scope)?)?;
-        while self.next_is(Expected::Comma) {
-            self.skip();
+        loop {
             names.push(self.target(scope)?)?;
+            if !self.next_is(Expected::Comma) {
+                return Ok(names);
+            }
+            self.skip();
         }
-        Ok(names)
     }
 
     // Whether a text other than `"i"` comes after the next symbol.
@@ -170,12 +168,13 @@ impl<'s> Parser<'s> {
         ensures goes { length self.new ≤ length self.old }
     {
         let mut args = Vec::new(self.alloc());
-        args.push(self.argument(scope, role)?)?;
-        while self.next_is(Expected::Comma) {
-            self.skip();
+        loop {
             args.push(self.argument(scope, role)?)?;
+            if !self.next_is(Expected::Comma) {
+                return Ok(args);
+            }
+            self.skip();
         }
-        Ok(args)
     }
 
     /// Reads the arguments up to the end of the line, or none.

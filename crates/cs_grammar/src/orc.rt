@@ -9,7 +9,7 @@ ghost use Rattle.cs_grammar.specs.Tree.{block, instrument, orchestra};
 ghost use Rattle.cs_grammar.specs.Reading.{after, ended};
 ghost use Rattle.cs_grammar.specs.Lines.{header_line, instrument_number, one_number};
 ghost use Rattle.cs_grammar.specs.inner.Rows.{numbers};
-ghost use Rattle.cs_grammar.specs.inner.Answers.{Gives, IsInstrBody, OrcSoFar, ReadsOn};
+ghost use Rattle.cs_grammar.specs.inner.Answers.{Gives, IsDraft, IsInstrBody, ReadsOn};
 ghost use Rattle.cs_grammar.specs.Orchestra.{item_form, item_form_of, nothing, ReadsInstr, ReadsOrc, Tree, ParseFault};
 
 use crate::parser::Parser;
@@ -20,6 +20,7 @@ use cs_base::{GREATEST_INSTRUMENT, Num, Numbers, ONE, Or, OrcFault, OrcKind};
 use cs_lex::{Tokens, tokens_stand_in_the_text};
 use cs_words::{HeadName, Keyword, NameSet, Word};
 use std::alloc::Global;
+use std::mem::replace;
 
 /// What stands next outside instruments and definitions.
 #[derive(Clone, Copy)]
@@ -66,6 +67,29 @@ fn empty(alloc: Global) -> Orc
         opcodes: Vec::new(alloc),
         zero: Vec::new(alloc),
         instrs: Vec::new(alloc),
+    }
+}
+
+/// What is read of an orchestra so far: its tree, the names of the opcodes that it defines, the numbers of its
+/// instruments.
+#[derive(Drop)]
+pub struct Draft<'s> {
+    pub orc: Orc,
+    pub defined: NameSet<'s>,
+    pub given: Given,
+}
+
+impl<'s> Draft<'s> {
+    fn new(alloc: Global) -> Draft<'s>
+        ensures orc { orchestra result.orc ≡ nothing }
+        ensures defined { result.defined ≡ [] }
+        ensures given { result.given ≡ [] }
+    {
+        Draft {
+            orc: empty(alloc),
+            defined: NameSet::new(alloc),
+            given: Given::new(alloc),
+        }
     }
 }
 
@@ -121,12 +145,13 @@ impl<'s> Parser<'s> {
         ensures goes { length self.new ≤ length self.old }
     {
         let mut numbers = Numbers::new(self.alloc());
-        numbers.push(self.number(scope, given)?)?;
-        while self.next_is(Expected::Comma) {
-            self.skip();
+        loop {
             numbers.push(self.number(scope, given)?)?;
+            if !self.next_is(Expected::Comma) {
+                return Ok(numbers);
+            }
+            self.skip();
         }
-        Ok(numbers)
     }
 
     // Reads an instrument.
@@ -170,131 +195,102 @@ impl<'s> Parser<'s> {
         self.ended(&Scope::outside(defined), body)
     }
 
-    // Reads the header line that is next, into an orchestra.
-    fn add_header(
-        &mut self,
-        name: HeadName,
-        orc: &mut Orc,
-        defined: &NameSet<'s>,
-        given: &Given,
-    ) -> Result<(), Or<OrcFault>>
+    // Reads the header line that is next.
+    fn add_header(&mut self, name: HeadName, draft: &mut Draft<'s>) -> Result<(), Or<OrcFault>>
         requires { item_form self.old ≡ item.Header name }
-        ensures reads { (first : List Symbol) → OrcSoFar first (orchestra orc.old) defined.now given.now self.old
-            → ReadsOn result first (OrcSoFar first (orchestra orc.new) defined.now given.now self.new) }
+        ensures reads { (first : List Symbol) → IsDraft first draft.old self.old
+            → ReadsOn result first (IsDraft first draft.new self.new) }
         ensures goes { IfOk result (λ _. length self.new < length self.old) }
     {
-        let line = self.header_line(&Scope::outside(defined), name)?;
-        orc.head.push(line)?;
+        let line = self.header_line(&Scope::outside(&draft.defined), name)?;
+        draft.orc.head.push(line)?;
         Ok(())
     }
 
-    // Reads the instrument that is next, into an orchestra.
-    fn add_instr(
-        &mut self,
-        orc: &mut Orc,
-        defined: &NameSet<'s>,
-        given: &mut Given,
-    ) -> Result<(), Or<OrcFault>>
+    // Reads the instrument that is next.
+    fn add_instr(&mut self, draft: &mut Draft<'s>) -> Result<(), Or<OrcFault>>
         requires { item_form self.old ≡ item.Instr }
-        ensures reads { (first : List Symbol) → OrcSoFar first (orchestra orc.old) defined.now given.old self.old
-            → ReadsOn result first (OrcSoFar first (orchestra orc.new) defined.now given.new self.new) }
+        ensures reads { (first : List Symbol) → IsDraft first draft.old self.old
+            → ReadsOn result first (IsDraft first draft.new self.new) }
         ensures goes { IfOk result (λ _. length self.new < length self.old) }
     {
-        let instr = self.instr(defined, given)?;
-        orc.instrs.push(instr)?;
+        let instr = self.instr(&draft.defined, &mut draft.given)?;
+        draft.orc.instrs.push(instr)?;
         Ok(())
     }
 
-    // Reads the definition that is next, into an orchestra.
-    fn add_definition(
-        &mut self,
-        orc: &mut Orc,
-        defined: &mut NameSet<'s>,
-        given: &Given,
-    ) -> Result<(), Or<OrcFault>>
+    // Reads the definition that is next.
+    fn add_definition(&mut self, draft: &mut Draft<'s>) -> Result<(), Or<OrcFault>>
         requires { item_form self.old ≡ item.Opcode }
-        ensures reads { (first : List Symbol) → OrcSoFar first (orchestra orc.old) defined.old given.now self.old
-            → ReadsOn result first (OrcSoFar first (orchestra orc.new) defined.new given.now self.new) }
+        ensures reads { (first : List Symbol) → IsDraft first draft.old self.old
+            → ReadsOn result first (IsDraft first draft.new self.new) }
         ensures goes { IfOk result (λ _. length self.new < length self.old) }
     {
-        let (udo, name) = self.definition(defined)?;
-        defined.add(name)?;
-        orc.opcodes.push(udo)?;
+        let heading = self.heading(&Scope::in_definition(b"".as_slice(), &draft.defined))?;
+        let name = heading.name();
+        let udo = self.under(heading, &draft.defined)?;
+        draft.orc.opcodes.push(udo)?;
+        draft.defined.add(name)?;
         Ok(())
     }
 
-    // Reads the statement that is next, into an orchestra.
-    fn add_stmt(
-        &mut self,
-        orc: &mut Orc,
-        defined: &NameSet<'s>,
-        given: &Given,
-    ) -> Result<(), Or<OrcFault>>
+    // Reads the statement that is next.
+    fn add_stmt(&mut self, draft: &mut Draft<'s>) -> Result<(), Or<OrcFault>>
         requires { item_form self.old ≡ item.Statement }
-        ensures reads { (first : List Symbol) → OrcSoFar first (orchestra orc.old) defined.now given.now self.old
-            → ReadsOn result first (OrcSoFar first (orchestra orc.new) defined.now given.now self.new) }
+        ensures reads { (first : List Symbol) → IsDraft first draft.old self.old
+            → ReadsOn result first (IsDraft first draft.new self.new) }
         ensures goes { IfOk result (λ _. length self.new < length self.old) }
     {
-        let stmt = self.stmt(&Scope::outside(defined))?;
-        orc.zero.push(stmt)?;
+        let stmt = self.stmt(&Scope::outside(&draft.defined))?;
+        draft.orc.zero.push(stmt)?;
         Ok(())
     }
 
-    // Reads what is next, into an orchestra.
-    fn add_item(
-        &mut self,
-        orc: &mut Orc,
-        defined: &mut NameSet<'s>,
-        given: &mut Given,
-    ) -> Result<(), Or<OrcFault>>
+    // Reads what is next.
+    fn add_item(&mut self, draft: &mut Draft<'s>) -> Result<(), Or<OrcFault>>
         requires { item_form self.old ≢ item.End }
-        ensures reads { (first : List Symbol) → OrcSoFar first (orchestra orc.old) defined.old given.old self.old
-            → ReadsOn result first (OrcSoFar first (orchestra orc.new) defined.new given.new self.new) }
+        ensures reads { (first : List Symbol) → IsDraft first draft.old self.old
+            → ReadsOn result first (IsDraft first draft.new self.new) }
         ensures goes { IfOk result (λ _. length self.new < length self.old) }
     {
         match self.item_form() {
-            ItemForm::Header(name) => self.add_header(name, orc, defined, given),
-            ItemForm::Instr => self.add_instr(orc, defined, given),
-            ItemForm::Opcode => self.add_definition(orc, defined, given),
-            ItemForm::Statement => self.add_stmt(orc, defined, given),
+            ItemForm::Header(name) => self.add_header(name, draft),
+            ItemForm::Instr => self.add_instr(draft),
+            ItemForm::Opcode => self.add_definition(draft),
+            ItemForm::Statement => self.add_stmt(draft),
             ItemForm::End => Ok(()),
         }
     }
 
     // Reads all that is left.
-    fn orc(&mut self) -> Result<Orc, Or<OrcFault>>
-        ensures { Gives orchestra result self.new (ReadsOrc [] [] (Ok self.old)) }
-    {
-        let alloc = self.alloc();
-        self.items(&mut NameSet::new(alloc), &mut Given::new(alloc))
-    }
-
-    // The same, where nothing is defined and no number is given so far.
-    fn items(&mut self, defined: &mut NameSet<'s>, given: &mut Given) -> Result<Orc, Or<OrcFault>>
-        requires defined { defined.old ≡ [] }
-        requires given { given.old ≡ [] }
-        ensures { Gives orchestra result self.new (ReadsOrc [] [] (Ok self.old)) }
-    {
-        let mut orc = empty(self.alloc());
-        self.add_items(&mut orc, defined, given)?;
-        Ok(orc)
-    }
-
-    // Reads all that is left, into an orchestra.
-    fn add_items(
-        &mut self,
-        orc: &mut Orc,
-        defined: &mut NameSet<'s>,
-        given: &mut Given,
-    ) -> Result<(), Or<OrcFault>>
-        ensures reads { (first : List Symbol) → OrcSoFar first (orchestra orc.old) defined.old given.old self.old
-            → ReadsOn result first (OrcSoFar first (orchestra orc.new) defined.new given.new self.new) }
+    fn add_items(&mut self, draft: &mut Draft<'s>) -> Result<(), Or<OrcFault>>
+        ensures reads { (first : List Symbol) → IsDraft first draft.old self.old
+            → ReadsOn result first (IsDraft first draft.new self.new) }
         ensures end { IfOk result (λ _. item_form self.new ≡ item.End) }
     {
         while !self.at_end() {
-            self.add_item(orc, defined, given)?;
+            self.add_item(draft)?;
         }
         Ok(())
+    }
+
+    // Reads an orchestra.
+    fn orc(&mut self) -> Result<Orc, Or<OrcFault>>
+        ensures { Gives orchestra result self.new (ReadsOrc [] [] (Ok self.old)) }
+    {
+        let mut draft = Draft::new(self.alloc());
+        self.whole(&mut draft)
+    }
+
+    // The same, through a draft of which nothing is read.
+    fn whole(&mut self, draft: &mut Draft<'s>) -> Result<Orc, Or<OrcFault>>
+        requires orc { orchestra draft.old.orc ≡ nothing }
+        requires defined { draft.old.defined ≡ [] }
+        requires given { draft.old.given ≡ [] }
+        ensures { Gives orchestra result self.new (ReadsOrc [] [] (Ok self.old)) }
+    {
+        self.add_items(draft)?;
+        Ok(replace(&mut draft.orc, empty(self.alloc())))
     }
 
     fn at_end(&self) -> bool
@@ -305,6 +301,7 @@ impl<'s> Parser<'s> {
 }
 
 /// Reads the tokens of a source into the tree of its orchestra, or finds its first fault: kinds 5 to 11 and 20 to 23.
+#[tactic(auto, using(crate::proofs::Steps::spanned))]
 pub fn parse(alloc: Global, source: &[u8], tokens: &Tokens) -> Result<Orc, Or<OrcFault>>
     requires { Lexed source.now tokens.now }
     ensures tree { IfOk result (λ orc. Tree source.now tokens.now (orchestra orc)) }
@@ -312,6 +309,6 @@ pub fn parse(alloc: Global, source: &[u8], tokens: &Tokens) -> Result<Orc, Or<Or
         → ParseFault source.now tokens.now f.line f.kind }
 {
     tokens_stand_in_the_text();
-    let mut parser = Parser::new(alloc, source, tokens.as_slice())?;
+    let mut parser = Parser::new(alloc, source, tokens.as_slice());
     parser.orc()
 }

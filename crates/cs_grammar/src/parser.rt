@@ -1,78 +1,90 @@
 // The symbols of an orchestra, and the place that is reached.
-ghost use Rattle.std.specs.Prelude.{◌≡◌, ◌≤◌, IfOk, length};
-ghost use Rattle.std.specs.List.{All};
+ghost use Rattle.std.specs.Prelude.{◌≡◌, ◌≤◌, ◌<◌, ◌^◌, IfOk, length};
 ghost use Rattle.cs_base.specs.declared.fault.Or.TheVariants as or;
 ghost use Rattle.cs_grammar.specs.Symbols.{symbols};
 ghost use Rattle.cs_grammar.specs.Reading.{next, after, next_is, fault, misfit};
 ghost use Rattle.cs_grammar.specs.inner.Answers.{Passes, past, line_past};
+ghost use Rattle.cs_grammar.specs.inner.Reached.{Spanned};
 
 use crate::scope::Scope;
-use crate::symbol::{Expected, Kind, Symbol, symbols};
-use cs_base::{Items, Name, Or, OrcFault, OrcKind, OutOfMemory};
+use crate::symbol::{Expected, Kind, bytes_of, counted, first_kind, second_kind, unquoted};
+use cs_base::{Items, Name, Or, OrcFault, OrcKind};
 use cs_lex::Token;
 use std::alloc::{AllocError, Global};
 use std::marker::Model;
 
-/// A reader of symbols. Contracts see what is left.
+/// A reader of symbols, which finds what a token is as it comes to it. Contracts see what is left.
 #[derive(Drop)]
 pub struct Parser<'s> {
     alloc: Global,
-    symbols: Vec<Symbol<'s>>,
-    at: usize,
+    source: &'s [u8],
+    // The tokens that are left, and how many stand before the first of them in its line.
+    tokens: &'s [Token],
+    place: usize,
+    // What the next two symbols are.
+    first: Kind,
+    second: Kind,
 }
 
 impl<'s> Model for Parser<'s> {
-    ghost use Rattle.std.specs.Prelude.{List, drop, length, ◌≤◌};
-    ghost use Rattle.cs_grammar.specs.Symbols.{Symbol};
+    ghost use Rattle.std.specs.Prelude.{List};
+    ghost use Rattle.cs_grammar.specs.Symbols.{Symbol, symbols_from};
+    ghost use Rattle.cs_grammar.specs.inner.Reached.{IsReached};
 
     ghost Value = { List Symbol };
 
-    ghost view = { λ p. drop p.at p.symbols.items };
+    ghost view = { λ p. symbols_from p.source.now p.place p.tokens.now };
 
-    ghost invariant = { λ p. p.at ≤ length p.symbols.items };
+    ghost invariant = { λ p. IsReached p.source.now p.place p.tokens.now p.first p.second };
 }
 
 impl<'s> Parser<'s> {
-    pub fn new(alloc: Global, source: &'s [u8], tokens: &[Token]) -> Result<Parser<'s>, OutOfMemory>
-        requires { All (λ t. (t.from ≤ t.to) × (t.to ≤ length source.now)) tokens.now }
-        ensures { IfOk result (λ p. p ≡ symbols source.now tokens.now) }
+    /// A reader of the tokens of a source.
+    pub fn new(alloc: Global, source: &'s [u8], tokens: &'s [Token]) -> Parser<'s>
+        requires { Spanned (length source.now) tokens.now }
+        ensures { result ≡ symbols source.now tokens.now }
     {
-        Ok(Parser {
+        Parser {
             alloc,
-            symbols: symbols(alloc, source, tokens)?,
-            at: 0,
-        })
+            source,
+            tokens,
+            place: 0,
+            first: first_kind(source, 0, tokens),
+            second: second_kind(source, 0, tokens),
+        }
+    }
+
+    /// The same reader once more, for a look ahead.
+    pub fn again(&self) -> Parser<'s>
+        ensures same { result ≡ self.now }
+        ensures short { length self.now < 2 ^ 63 }
+    {
+        Parser {
+            alloc: self.alloc,
+            source: self.source,
+            tokens: self.tokens,
+            place: self.place,
+            first: self.first,
+            second: self.second,
+        }
     }
 
     pub fn alloc(&self) -> Global {
         self.alloc
     }
 
-    /// The symbols that are left.
-    pub fn rest(&self) -> &[Symbol<'s>]
-        ensures { result.now ≡ self.now }
-    {
-        &self.symbols[self.at..]
-    }
-
     /// The kind of the next symbol; after the last it is End.
     pub fn kind(&self) -> Kind
         ensures { result ≡ (next self.now).kind }
     {
-        match self.rest() {
-            [] => Kind::End,
-            [next, ..] => next.kind(),
-        }
+        self.first
     }
 
     /// The kind of the symbol after the next.
     pub fn second(&self) -> Kind
         ensures { result ≡ (next (after self.now)).kind }
     {
-        match self.rest() {
-            [_, second, ..] => second.kind(),
-            _ => Kind::End,
-        }
+        self.second
     }
 
     /// Whether the symbol after the next is what is asked for.
@@ -82,29 +94,36 @@ impl<'s> Parser<'s> {
         expected.is(self.second())
     }
 
+    /// The bytes of the next symbol, of a text without its quotation marks; after the last there are none.
     pub fn text(&self) -> &'s [u8]
         ensures { result.now ≡ (next self.now).text }
     {
-        match self.rest() {
+        match self.tokens {
             [] => b"".as_slice(),
-            [next, ..] => next.text(),
+            [token, ..] => unquoted(token.mark, bytes_of(self.source, token)),
         }
     }
 
+    /// The line of the next symbol; after the last it is 0.
     pub fn line(&self) -> u32
         ensures { result ≡ (next self.now).line }
     {
-        match self.rest() {
+        match self.tokens {
             [] => 0,
-            [next, ..] => next.line(),
+            [token, ..] => token.line,
         }
     }
 
+    /// Goes past the next symbol, if there is one.
     pub fn skip(&mut self)
         ensures { self.new ≡ after self.old }
     {
-        if self.at < self.symbols.len() {
-            self.at += 1;
+        let tokens = self.tokens;
+        if let [token, rest @ ..] = tokens {
+            self.place = counted(self.place, token.mark);
+            self.tokens = rest;
+            self.first = self.second;
+            self.second = second_kind(self.source, self.place, rest);
         }
     }
 

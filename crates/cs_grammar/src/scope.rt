@@ -6,7 +6,7 @@ ghost use Rattle.cs_grammar.specs.Reading.{outside, in_instrument, in_definition
 ghost use Rattle.cs_grammar.specs.Parts.{is_opcode};
 ghost use Rattle.cs_grammar.specs.Lines.{is_own};
 
-use crate::symbol::{Kind, Symbol};
+use crate::symbol::Kind;
 use cs_base::{OrcKind, OutOfMemory};
 use cs_words::{Keyword, NameSet, Sign, Word};
 use indexmap::IndexSet;
@@ -151,15 +151,13 @@ impl<'a, 's> Scope<'a, 's> {
         self.defined.has(name)
     }
 
-    /// Whether a symbol is an opcode: of the catalogue, or defined.
-    pub fn is_opcode(&self, symbol: &Symbol) -> bool
-        ensures { result ≡ is_opcode self.now symbol.now symbol.now.kind }
+    /// Whether a symbol of this kind and these bytes is an opcode: of the catalogue, or defined.
+    pub fn is_opcode(&self, text: &[u8], kind: Kind) -> bool
+        ensures { result ≡ is_opcode self.now text.now kind }
     {
-        match symbol.kind() {
+        match kind {
             Kind::Word(Word::Opcode(_)) => true,
-            Kind::Word(Word::Field(_) | Word::Name | Word::Other) => {
-                self.is_defined(symbol.text())
-            }
+            Kind::Word(Word::Field(_) | Word::Name | Word::Other) => self.is_defined(text),
             _ => false,
         }
     }

@@ -84,18 +84,14 @@ impl<'s> Parser<'s> {
         ensures { result ≡ ends_block scope.now (next self.now).kind }
     {
         if scope.depth() > 0 {
-            return matches!(
-                self.kind(),
-                Kind::Word(Word::Keyword(Keyword::Elseif | Keyword::Else | Keyword::Endif))
-            );
+            return self.next_is(Expected::Elseif)
+                || self.next_is(Expected::Else)
+                || self.next_is(Expected::Endif);
         }
         match scope.place() {
             Place::Outside => false,
             Place::Instrument => self.next_is(Expected::Endin),
-            Place::Definition => matches!(
-                self.kind(),
-                Kind::Word(Word::Keyword(Keyword::Endop | Keyword::Xout))
-            ),
+            Place::Definition => self.next_is(Expected::Endop) || self.next_is(Expected::Xout),
         }
     }
 
@@ -216,19 +212,21 @@ impl<'s> Parser<'s> {
         ensures goes { length self.new ≤ length self.old }
     {
         let mut chain = Vec::new(self.alloc());
-        chain.push(self.arm(scope)?)?;
-        while self.next_is(Expected::Elseif) {
-            self.skip();
+        loop {
             chain.push(self.arm(scope)?)?;
+            if !self.next_is(Expected::Elseif) {
+                let els = self.otherwise(scope)?;
+                return Ok((chain, els));
+            }
+            self.skip();
         }
-        let els = self.otherwise(scope)?;
-        Ok((chain, els))
     }
 
     // An arm, behind `if` or `elseif`.
     #[cycle(stmt)]
     fn arm(&mut self, scope: &Scope) -> Result<Arm, Or<OrcFault>>
-        ensures reads { Gives (λ a. (expression (out-Arm a).cond, block (out-Arm a).body.items)) result self.new (IsArm scope.now self.old) }
+        ensures reads { Gives (λ a. (expression (out-Arm a).cond, block (out-Arm a).body.items)) result self.new
+            (IsArm scope.now self.old) }
         ensures goes { length self.new ≤ length self.old }
     {
         let cond = self.condition(scope)?;

@@ -1,16 +1,15 @@
 // What a token is to the grammar.
-ghost use Rattle.std.specs.Prelude.{◌≡◌, ◌≤◌, ◌<◌, ◌^◌, IfOk, length};
-ghost use Rattle.std.specs.List.{All};
+ghost use Rattle.std.specs.Prelude.{◌≡◌, ◌≤◌, ◌<◌, ◌+◌, ◌^◌, length};
 ghost use Rattle.cs_grammar.specs.Kinds.{is, is_word, is_plain, ends_line};
-ghost use Rattle.cs_grammar.specs.Symbols.{symbols, kind_after, unquoted, counted};
+ghost use Rattle.cs_grammar.specs.Symbols.{symbols_from, bytes_of, kind_after, unquoted, counted};
+ghost use Rattle.cs_grammar.specs.Reading.{next, after};
+ghost use Rattle.cs_grammar.specs.inner.Reached.{Spanned};
 ghost use Rattle.cs_grammar.specs.declared.symbol.Kind.TheVariants as kind;
 ghost use Rattle.cs_words.specs.declared.word.Word.TheVariants as word;
 
-use cs_base::{MOST_LINE_TOKENS, Num, OutOfMemory};
+use cs_base::{MOST_LINE_TOKENS, Num};
 use cs_lex::{Mark, Token};
 use cs_words::{Keyword, Sign, Word, sign_of, word_of};
-use std::alloc::Global;
-use std::marker::Model;
 
 /// What a symbol is.
 #[derive(Clone, Copy)]
@@ -116,40 +115,12 @@ impl Expected {
     }
 }
 
-/// A token as the grammar sees it: what it is, its bytes (those of a text without its quotation marks), and its line.
-#[derive(Drop)]
-pub struct Symbol<'s> {
-    kind: Kind,
-    text: &'s [u8],
-    line: u32,
-}
-
-impl<'s> Model for Symbol<'s> {
-    ghost use Rattle.cs_grammar.specs.Symbols.{Symbol};
-
-    ghost Value = { Symbol };
-
-    ghost view = { λ s. record { kind = s.kind; text = s.text.now; line = s.line } };
-}
-
-impl<'s> Symbol<'s> {
-    pub fn kind(&self) -> Kind
-        ensures { result ≡ self.now.kind }
-    {
-        self.kind
-    }
-
-    pub fn text(&self) -> &'s [u8]
-        ensures { result.now ≡ self.now.text }
-    {
-        self.text
-    }
-
-    pub fn line(&self) -> u32
-        ensures { result ≡ self.now.line }
-    {
-        self.line
-    }
+/// The bytes of a token.
+pub fn bytes_of<'s>(source: &'s [u8], token: &Token) -> &'s [u8]
+    requires { (token.now.from ≤ token.now.to) × (token.now.to ≤ length source.now) }
+    ensures { result.now ≡ bytes_of source.now token.now }
+{
+    &source[token.from as usize..token.to as usize]
 }
 
 // What a token is that stands after `place` others of its line.
@@ -167,8 +138,8 @@ fn kind_after(place: usize, mark: Mark, bytes: &[u8]) -> Kind
     }
 }
 
-// A text without its quotation marks; other tokens whole.
-fn unquoted(mark: Mark, bytes: &[u8]) -> &[u8]
+/// A text without its quotation marks; other tokens whole.
+pub fn unquoted(mark: Mark, bytes: &[u8]) -> &[u8]
     ensures { result.now ≡ unquoted mark bytes.now }
 {
     match mark {
@@ -178,8 +149,8 @@ fn unquoted(mark: Mark, bytes: &[u8]) -> &[u8]
     }
 }
 
-// The place in its line of what follows a token.
-fn counted(place: usize, mark: Mark) -> usize
+/// The place in its line of what follows a token.
+pub fn counted(place: usize, mark: Mark) -> usize
     requires { place < 2 ^ 63 }
     ensures { result ≡ counted place mark }
 {
@@ -189,25 +160,25 @@ fn counted(place: usize, mark: Mark) -> usize
     }
 }
 
-/// The tokens of a source as symbols, each with its place in its line.
-pub fn symbols<'s>(
-    alloc: Global,
-    source: &'s [u8],
-    tokens: &[Token],
-) -> Result<Vec<Symbol<'s>>, OutOfMemory>
-    requires { All (λ t. (t.from ≤ t.to) × (t.to ≤ length source.now)) tokens.now }
-    ensures { IfOk result (λ found. found.items ≡ symbols source.now tokens.now) }
+/// What the first token is, which stands after `place` others of its line; End where there is none.
+pub fn first_kind(source: &[u8], place: usize, tokens: &[Token]) -> Kind
+    requires { Spanned (length source.now) tokens.now }
+    ensures { result ≡ (next (symbols_from source.now place tokens.now)).kind }
 {
-    let mut found = Vec::new(alloc);
-    let mut place: usize = 0;
-    for token in tokens {
-        let bytes = &source[token.from as usize..token.to as usize];
-        found.push(Symbol {
-            kind: kind_after(place, token.mark, bytes),
-            text: unquoted(token.mark, bytes),
-            line: token.line,
-        })?;
-        place = counted(place, token.mark);
+    match tokens {
+        [] => Kind::End,
+        [token, ..] => kind_after(place, token.mark, bytes_of(source, token)),
     }
-    Ok(found)
+}
+
+/// What the second token is, where the first stands after `place` others of its line; End where there is none.
+pub fn second_kind(source: &[u8], place: usize, tokens: &[Token]) -> Kind
+    requires spanned { Spanned (length source.now) tokens.now }
+    requires short { place + length tokens.now < 2 ^ 63 }
+    ensures { result ≡ (next (after (symbols_from source.now place tokens.now))).kind }
+{
+    match tokens {
+        [] => Kind::End,
+        [token, rest @ ..] => first_kind(source, counted(place, token.mark), rest),
+    }
 }

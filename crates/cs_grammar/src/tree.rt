@@ -102,7 +102,8 @@ pub struct Udo {
     pub result: Args,
 }
 
-/// An orchestra: its header lines, defined opcodes, statements outside both, and instruments, each in the order of the text.
+/// An orchestra: its header lines, defined opcodes, statements outside both, and instruments, each in the order of
+/// the text.
 #[derive(Drop)]
 pub struct Orc {
     pub head: Vec<HeadLine>,

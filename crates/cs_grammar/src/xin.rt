@@ -1,5 +1,5 @@
 // The first line of a definition: the names that take its inputs.
-ghost use Rattle.std.specs.Prelude.{◌≡◌, ◌≤◌, ◌<◌, ◌*◌, ◌^◌, ◌++◌, IfOk, IfSome, length};
+ghost use Rattle.std.specs.Prelude.{◌≡◌, ◌≤◌, ◌<◌, ◌^◌, ◌++◌, IfOk, IfSome, length};
 ghost use Rattle.cs_words.specs.NameSets.{has};
 ghost use Rattle.cs_grammar.specs.Reading.{next};
 ghost use Rattle.cs_grammar.specs.Inputs.{is_free, is_local};
@@ -9,37 +9,10 @@ ghost use Rattle.cs_grammar.specs.inner.Takes.{input_count, plus_one, is_input, 
 use crate::heading::Heading;
 use crate::parser::Parser;
 use crate::scope::Scope;
-use crate::symbol::{Expected, Symbol};
+use crate::symbol::Expected;
 use cs_base::{Names, Or, OrcFault, OrcKind, Rate};
 use cs_words::{is_global, name_rate};
 use std::alloc::AllocError;
-
-// A word of the profile that is neither a keyword nor an opcode.
-fn is_free(scope: &Scope, symbol: &Symbol) -> bool
-    ensures { result ≡ is_free scope.now symbol.now }
-{
-    symbol.kind().is_plain() && !scope.is_opcode(symbol)
-}
-
-// How many free words stand before `xin`, with commas between them: None where the line isn't of that form.
-fn input_count(scope: &Scope, symbols: &[Symbol]) -> Option<usize>
-    ensures count { result ≡ input_count scope.now symbols.now }
-    ensures within { IfSome result (λ n. 2 * n ≤ length symbols.now) }
-    ensures some { IfSome result (λ n. 1 ≤ n) }
-{
-    match symbols {
-        [word, next, rest @ ..] if is_free(scope, word) => {
-            if Expected::Xin.is(next.kind()) {
-                Some(1)
-            } else if Expected::Comma.is(next.kind()) {
-                plus_one(input_count(scope, rest))
-            } else {
-                None
-            }
-        }
-        _ => None,
-    }
-}
 
 fn plus_one(count: Option<usize>) -> Option<usize>
     requires { IfSome count (λ n. n < 2 ^ 63) }
@@ -77,6 +50,42 @@ fn is_among(names: &Names, name: &[u8]) -> bool
 }
 
 impl<'s> Parser<'s> {
+    // Whether the next symbol is a word of the profile that is neither a keyword nor an opcode.
+    fn at_free(&self, scope: &Scope) -> bool
+        ensures { result ≡ is_free scope.now (next self.now) }
+    {
+        self.kind().is_plain() && !self.at_opcode(scope)
+    }
+
+    // How many free words stand before `xin`, with commas between them: None where the line isn't of that form.
+    #[tactic(auto, using(crate::proofs::Steps::some_word))]
+    fn input_count(&self, scope: &Scope) -> Option<usize>
+        ensures count { result ≡ input_count scope.now self.now }
+        ensures some { IfSome result (λ n. 1 ≤ n) }
+    {
+        let mut ahead = self.again();
+        ahead.count_words(scope)
+    }
+
+    // The same by a reader that goes on: up to `xin`, or to where the line isn't of that form.
+    fn count_words(&mut self, scope: &Scope) -> Option<usize>
+        requires { length self.old < 2 ^ 63 }
+        ensures { result ≡ input_count scope.now self.old }
+    {
+        if !self.at_free(scope) {
+            return None;
+        }
+        self.skip();
+        if self.next_is(Expected::Xin) {
+            return Some(1);
+        }
+        if !self.next_is(Expected::Comma) {
+            return None;
+        }
+        self.skip();
+        plus_one(self.count_words(scope))
+    }
+
     // Whether the next symbol is a variable that each call has for itself.
     fn at_local(&self, scope: &Scope) -> bool
         ensures { result ≡ is_local scope.now (next self.now) }
@@ -136,7 +145,7 @@ impl<'s> Parser<'s> {
         if self.next_is(Expected::Xin) {
             return Err(self.fault(OrcKind::XinXout));
         }
-        match input_count(scope, self.rest()) {
+        match self.input_count(scope) {
             Some(count) => self.taken(scope, heading, count),
             None => self.no_names(heading),
         }

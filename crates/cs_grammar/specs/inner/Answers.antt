@@ -11,15 +11,19 @@ use Rattle.cs_grammar.specs.declared.symbol.Expected.TheVariants as expected
 use Rattle.cs_grammar.specs.declared.expr.Level.TheVariants as level
 use Rattle.cs_grammar.specs.declared.tree.StmtWhat.{StmtWhat}
 use Rattle.cs_grammar.specs.declared.definition.Inside.{Inside}
+use Rattle.cs_grammar.specs.declared.orc.Draft.{Draft}
 use Rattle.cs_grammar.specs.Tree.{Expression, of_what, Argument, argument, Block, block, joins, Definition, Orchestra}
+use Rattle.cs_grammar.specs.Tree.{orchestra}
 use Rattle.cs_grammar.specs.Headings.{Heading, types}
 use Rattle.cs_grammar.specs.inner.Takes.{inputs}
 use Rattle.cs_grammar.specs.Grammar.{ReadsExpr, ReadsStmt, ReadsBlock}
 use Rattle.cs_grammar.specs.Orchestra.{ReadsOrc, ReadsResult, behind_xout, definition_of}
 use Rattle.cs_grammar.specs.Symbols.{Symbol}
-use Rattle.cs_grammar.specs.Reading.{next, after, Left, Reading, left, both, three, mapped, next_is, through, ended, Scope, outside, misfit}
+use Rattle.cs_grammar.specs.Reading.{next, after, Left, Reading, left, both, three, mapped, next_is, through, ended}
+use Rattle.cs_grammar.specs.Reading.{Scope, outside, misfit}
 
--- What a call of the parser returns: a reading of the given kind, which leaves what is left then. Out of memory says nothing.
+-- What a call of the parser returns: a reading of the given kind, which leaves what is left then. Out of memory says
+-- nothing.
 abbrev pub Gives : {T A : Type 0} → (T → A) → Result T (Or OrcFault) → List Symbol → (Reading A → Type 0) → Type 0
 Gives see (Ok x) rest Is = Is (Ok (see x, rest))
 Gives see (Err (or.Fault f)) rest Is = Is (Err f)
@@ -58,11 +62,13 @@ IsClosed s end ts o = (c : Reading Expression) × ReadsExpr s level.Expr (Ok ts)
 
 -- a condition, with `then` and the end of its line
 abbrev pub IsCondition : Scope → List Symbol → Reading Expression → Type 0
-IsCondition s ts o = (c : Reading Expression) × ReadsExpr s level.Expr (Ok ts) c × (o ≡ ended s (through s expected.Then c))
+IsCondition s ts o = (c : Reading Expression) × ReadsExpr s level.Expr (Ok ts) c
+    × (o ≡ ended s (through s expected.Then c))
 
 -- the statements of an instrument, and the line of `endin`
 abbrev pub IsInstrBody : Scope → List (List ℕ) → List Symbol → Reading Block → Type 0
-IsInstrBody s d ts o = (b : Reading Block) × ReadsBlock s (Ok ts) b × (o ≡ ended (outside d) (through s expected.Endin b))
+IsInstrBody s d ts o = (b : Reading Block) × ReadsBlock s (Ok ts) b
+    × (o ≡ ended (outside d) (through s expected.Endin b))
 
 -- the names of a definition's inputs, its statements, its results
 abbrev pub Parts : Type 0
@@ -102,6 +108,9 @@ joined p q = record {
 abbrev pub OrcSoFar : List Symbol → Orchestra → List (List ℕ) → List ℕ → List Symbol → Type 0
 OrcSoFar first o d g now =
     (out : Reading Orchestra) → ReadsOrc d g (Ok now) out → ReadsOrc [] [] (Ok first) (mapped (joined o) out)
+
+abbrev pub IsDraft : List Symbol → Draft → List Symbol → Type 0
+IsDraft first d now = OrcSoFar first (orchestra d.orc) d.defined d.given now
 
 -- a call that reads on has read so far, or found the fault of the whole
 abbrev pub ReadsOn : {T : Type 0} → Result T (Or OrcFault) → List Symbol → Type 0 → Type 0

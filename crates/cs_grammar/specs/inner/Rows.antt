@@ -26,7 +26,8 @@ abbrev pub numbers : Scope → List ℕ → List Symbol → Reading (List ℕ)
 numbers s given [] = Err (misfit s orc.Unexpected [])
 numbers s given (t ∷ []) = mapped (λ n. n ∷ []) (one_number s given (t ∷ []))
 numbers s given (t ∷ c ∷ us) =
-    if is expected.Comma c.kind then numbers_behind (one_number s given (t ∷ c ∷ us)) (λ n. numbers s (given ++ n ∷ []) us)
+    if is expected.Comma c.kind
+    then numbers_behind (one_number s given (t ∷ c ∷ us)) (λ n. numbers s (given ++ n ∷ []) us)
     else mapped (λ n. n ∷ []) (one_number s given (t ∷ c ∷ us))
 
 -- a text as an argument, or in place of a result

@@ -1,4 +1,5 @@
-use Rattle.std.specs.Prelude.{ℕ, Bool, true, false, List, [], ◌∷◌, ◌++◌, ◌&&◌, ◌==◌, not, length, Option, Some, None, Ok, Err, if◌then◌else◌, zero, suc, ◌+◌}
+use Rattle.std.specs.Prelude.{ℕ, Bool, true, false, List, [], ◌∷◌, ◌++◌, ◌&&◌, ◌==◌, not, length, Option, Some, None}
+use Rattle.std.specs.Prelude.{Ok, Err, if◌then◌else◌, zero, suc, ◌+◌}
 use Rattle.cs_base.specs.declared.fault.OrcKind.TheVariants as orc
 use Rattle.cs_base.specs.declared.resource.Rate.{Rate}
 use Rattle.cs_base.specs.Rates.{same_rate}
@@ -23,7 +24,8 @@ input_count s [] = None
 input_count s (t ∷ []) = None
 input_count s (t ∷ c ∷ us) =
     if not (is_free s t) then None
-    else (if is expected.Xin c.kind then Some 1 else (if is expected.Comma c.kind then plus_one (input_count s us) else None))
+    else (if is expected.Xin c.kind then Some 1
+    else (if is expected.Comma c.kind then plus_one (input_count s us) else None))
 
 -- the names of n words, which have a symbol between them
 abbrev pub words : ℕ → List Symbol → List (List ℕ)
@@ -67,7 +69,8 @@ no_names h ts = if is_none h.ins then Ok ([], ts) else Err (record { line = h.li
 -- the inputs where n words stand before `xin`
 abbrev pub taken_so_many : Scope → Heading → List Symbol → ℕ → Reading (List (List ℕ))
 taken_so_many s h ts n =
-    if are_inputs s [] h.ins n ts then ended s (Ok (words n ts, after (at_xin n ts))) else Err (fault (at_xin n ts) orc.XinXout)
+    if are_inputs s [] h.ins n ts then ended s (Ok (words n ts, after (at_xin n ts)))
+    else Err (fault (at_xin n ts) orc.XinXout)
 
 abbrev pub taken : Scope → Heading → List Symbol → Option ℕ → Reading (List (List ℕ))
 taken s h ts None = no_names h ts

@@ -12,16 +12,19 @@ use Rattle.cs_grammar.specs.Tree.{expression}
 
 pub negation-returns-in_err-part-clause-reads : goal.negation-returns-in_err-part-clause-reads
 negation-returns-in_err-part-clause-reads t c =
-    failed expression expression _ _ _ _ _ _ c.from_residual.ensures.1 c.in_err-part.ensures.reads (λ f h. fact_neg c.requires (rw c.skip.ensures at h))
+    failed expression expression _ _ _ _ _ _ c.from_residual.ensures.1 c.in_err-part.ensures.reads
+    (λ f h. fact_neg c.requires (rw c.skip.ensures at h))
 
 pub bracket-returns-in_err-first-clause-reads : goal.bracket-returns-in_err-first-clause-reads
 bracket-returns-in_err-first-clause-reads t c =
-    failed expression expression _ _ _ _ _ _ c.from_residual.ensures.1 c.in_err-first.ensures.reads (λ f h. fact_group c.requires (rw c.skip.ensures at h) refl)
+    failed expression expression _ _ _ _ _ _ c.from_residual.ensures.1 c.in_err-first.ensures.reads
+    (λ f h. fact_group c.requires (rw c.skip.ensures at h) refl)
 
 pub bracket-returns-clause-reads : goal.bracket-returns-clause-reads
 bracket-returns-clause-reads t c =
     followed expression c.followed.result c.in_ok-first.first _ _ _ c.followed.ensures.value c.followed.ensures.passes
-    (λ st p. group_is (expression c.in_ok-first.first) c.expr.new.self st c.requires (rw c.skip.ensures at c.in_ok-first.ensures.reads)
+    (λ st p. group_is (expression c.in_ok-first.first) c.expr.new.self st c.requires
+    (rw c.skip.ensures at c.in_ok-first.ensures.reads)
     (sym c.next_is.ensures ∙ c.if-next_is.false) p)
 
 pub function-returns-in_err-argument-clause-reads : goal.function-returns-in_err-argument-clause-reads
@@ -32,11 +35,13 @@ function-returns-in_err-argument-clause-reads t c =
 pub function-returns-clause-reads : goal.function-returns-clause-reads
 function-returns-clause-reads t c =
     made expression _ _ _ _ c.applied.ensures.value c.applied.ensures.memory (call_is c.args.func
-    (Ok (expression c.in_ok-argument.argument, c.closed.new.self)) c.requires (rw (c.skip-2.ensures, c.skip.ensures) at c.in_ok-argument.ensures.reads))
+    (Ok (expression c.in_ok-argument.argument, c.closed.new.self)) c.requires
+    (rw (c.skip-2.ensures, c.skip.ensures) at c.in_ok-argument.ensures.reads))
 
 pub closed-returns-in_err-part-clause-reads : goal.closed-returns-in_err-part-clause-reads
 closed-returns-in_err-part-clause-reads t c =
-    failed expression expression _ _ _ _ _ _ c.from_residual.ensures.1 c.in_err-part.ensures.reads (λ f h. (Err f, h, refl))
+    failed expression expression _ _ _ _ _ _ c.from_residual.ensures.1 c.in_err-part.ensures.reads
+    (λ f h. (Err f, h, refl))
 
 pub closed-returns-clause-reads : goal.closed-returns-clause-reads
 closed-returns-clause-reads t c =
@@ -45,7 +50,8 @@ closed-returns-clause-reads t c =
 
 pub negation-returns-clause-reads : goal.negation-returns-clause-reads
 negation-returns-clause-reads t c =
-    made expression _ _ _ _ c.negated.ensures.value c.negated.ensures.memory (fact_neg c.requires (rw c.skip.ensures at c.in_ok-part.ensures.reads))
+    made expression _ _ _ _ c.negated.ensures.value c.negated.ensures.memory
+    (fact_neg c.requires (rw c.skip.ensures at c.in_ok-part.ensures.reads))
 
 pub choice-returns-in_err-yes-clause-reads : goal.choice-returns-in_err-yes-clause-reads
 choice-returns-in_err-yes-clause-reads t c =
@@ -55,22 +61,27 @@ choice-returns-in_err-yes-clause-reads t c =
 pub choice-returns-in_err-no-clause-reads : goal.choice-returns-in_err-no-clause-reads
 choice-returns-in_err-no-clause-reads t c =
     failed expression expression _ _ _ _ _ _ c.from_residual-in_err-no.ensures.1 c.in_err-no.ensures.reads
-    (λ f h ts m k. pick_is (expression c.args.cond) c.args.self.now m k c.requires (expression c.in_ok-yes.yes) c.closed.new.self (Err f)
+    (λ f h ts m k. pick_is (expression c.args.cond) c.args.self.now m k c.requires (expression c.in_ok-yes.yes)
+    c.closed.new.self (Err f)
     (rw c.skip.ensures at c.in_ok-yes.ensures.reads) h)
 
 pub choice-returns-clause-reads : goal.choice-returns-clause-reads
 choice-returns-clause-reads t c =
-    made expression _ _ _ _ c.picked.ensures.value c.picked.ensures.memory (λ ts m k. pick_is (expression c.args.cond) c.args.self.now m k c.requires
-    (expression c.in_ok-yes.yes) c.closed.new.self (Ok (expression c.in_ok-no.no, c.closed-2.new.self)) (rw c.skip.ensures at c.in_ok-yes.ensures.reads)
+    made expression _ _ _ _ c.picked.ensures.value c.picked.ensures.memory
+    (λ ts m k. pick_is (expression c.args.cond) c.args.self.now m k c.requires
+    (expression c.in_ok-yes.yes) c.closed.new.self (Ok (expression c.in_ok-no.no, c.closed-2.new.self))
+    (rw c.skip.ensures at c.in_ok-yes.ensures.reads)
     c.in_ok-no.ensures.reads)
 
 pub fact-returns-in-Alone-clause-reads : goal.fact-returns-in-Alone-clause-reads
 fact-returns-in-Alone-clause-reads t c =
-    alone expression c.atom.result c.atom.new.self c.args.self.now c.args.scope.now (sym c.in-Alone.ensures) c.atom.ensures.reads
+    alone expression c.atom.result c.atom.new.self c.args.self.now c.args.scope.now (sym c.in-Alone.ensures)
+    c.atom.ensures.reads
 
 pub expr-returns-in_err-value-clause-reads : goal.expr-returns-in_err-value-clause-reads
 expr-returns-in_err-value-clause-reads t c =
-    failed expression expression _ _ _ _ _ _ c.from_residual.ensures.1 c.in_err-value.ensures.reads (λ f h. raised c.args.level at.Fact (omega arith) h)
+    failed expression expression _ _ _ _ _ _ c.from_residual.ensures.1 c.in_err-value.ensures.reads
+    (λ f h. raised c.args.level at.Fact (omega arith) h)
 
 pub expr-loop-outer-init : goal.expr-loop-outer-init
 expr-loop-outer-init t c = record {
@@ -82,7 +93,8 @@ expr-loop-outer-init t c = record {
 pub expr-returns-in_err-value-2-clause-reads : goal.expr-returns-in_err-value-2-clause-reads
 expr-returns-in_err-value-2-clause-reads t c =
     failed expression expression _ _ _ _ _ _ c.from_residual-in_err-value-2.ensures.1 c.in_err-value-2.ensures.reads
-    (λ f h. raised c.args.level c.in-Some.outer c.in-Some.ensures.next.1 (binary c.in-Some.ensures.next.0 c.loop-outer.invariant.reads h))
+    (λ f h. raised c.args.level c.in-Some.outer c.in-Some.ensures.next.1
+    (binary c.in-Some.ensures.next.0 c.loop-outer.invariant.reads h))
 
 pub expr-loop-outer-preserved : goal.expr-loop-outer-preserved
 expr-loop-outer-preserved t c = record {
@@ -95,26 +107,39 @@ pub operators-returns-in_err-right-clause-reads : goal.operators-returns-in_err-
 operators-returns-in_err-right-clause-reads t c =
     let op : operator_of c.args.level (next c.loop-op.self).kind ≡ Some c.in-Some.op = cc in
     failed expression expression _ _ _ _ _ _ c.from_residual.ensures.1 c.in_err-right.ensures.reads
-    (λ f h. c.loop-op.invariant.reads (Err f) (right_fails (expression c.loop-op.left) f op c.requires (rw c.skip.ensures at h)))
+    (λ f h. c.loop-op.invariant.reads (Err f)
+    (right_fails (expression c.loop-op.left) f op c.requires (rw c.skip.ensures at h)))
 
 pub operators-returns-then-not-repeats-clause-reads : goal.operators-returns-then-not-repeats-clause-reads
 operators-returns-then-not-repeats-clause-reads t c =
     let op : operator_of c.args.level (next c.loop-op.self).kind ≡ Some c.in-Some.op = cc in
     c.loop-op.invariant.reads (Ok (expression c.in_ok-left.left, c.expr.new.self)) (subst
-    (λ v. ReadsTail c.args.scope.now c.args.level (Ok (expression c.loop-op.left, c.loop-op.self)) (Ok (v, c.expr.new.self)))
-    (sym c.in_ok-left.ensures.value) (one_alone op (sym c.if-not-repeats.ensures) c.requires (rw c.skip.ensures at c.in_ok-right.ensures.reads)))
+    (λ v. ReadsTail c.args.scope.now c.args.level (Ok (expression c.loop-op.left, c.loop-op.self))
+    (Ok (v, c.expr.new.self)))
+    (sym c.in_ok-left.ensures.value)
+    (one_alone op (sym c.if-not-repeats.ensures) c.requires (rw c.skip.ensures at c.in_ok-right.ensures.reads)))
 
 pub operators-loop-op-preserved : goal.operators-loop-op-preserved
 operators-loop-op-preserved t c =
     let op : operator_of c.args.level (next c.loop-op.self).kind ≡ Some c.in-Some.op = cc in
     record {
-      reads = λ out k. c.loop-op.invariant.reads out (one_more op (sym c.if-not-repeats.ensures) c.requires (rw c.skip.ensures at c.in_ok-right.ensures.reads)
-          (subst (λ v. ReadsTail c.args.scope.now c.args.level (Ok (v, c.expr.new.self)) out) c.in_ok-left.ensures.value k));
-      goes = omega (arith, c.in_ok-right.ensures.goes, c.loop-op.invariant.goes, ap length c.skip.ensures, after_size c.loop-op.self);
+      reads = λ out k. c.loop-op.invariant.reads out
+          (one_more op (sym c.if-not-repeats.ensures) c.requires (rw c.skip.ensures at c.in_ok-right.ensures.reads)
+          (subst (λ v. ReadsTail c.args.scope.now c.args.level (Ok (v, c.expr.new.self)) out) c.in_ok-left.ensures.value
+          k));
+      goes = omega (
+        arith,
+        c.in_ok-right.ensures.goes,
+        c.loop-op.invariant.goes,
+        ap length c.skip.ensures,
+        after_size
+            c.loop-op.self,
+      );
     }
 
 pub operators-returns-clause-reads : goal.operators-returns-clause-reads
 operators-returns-clause-reads t c =
-    let none : operator_of c.args.level (next c.loop-op.self).kind ≡ None = (ap (operator_of c.args.level) (sym c.kind.ensures) ∙ sym c.operator.ensures ∙
+    let none : operator_of c.args.level (next c.loop-op.self).kind ≡ None =
+    (ap (operator_of c.args.level) (sym c.kind.ensures) ∙ sym c.operator.ensures ∙
     none_of c.operator.result c.in_default.not-Some) in
     c.loop-op.invariant.reads (Ok (expression c.loop-op.left, c.loop-op.self)) (no_more none)

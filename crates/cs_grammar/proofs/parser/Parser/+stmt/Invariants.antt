@@ -33,11 +33,11 @@ invariant-block-loop-stmts l = record {
 abbrev pub decreases-block-loop-stmts : goal.decreases-block-loop-stmts
 decreases-block-loop-stmts l = length l.self
 
-abbrev pub invariant-arms-loop-self : goal.invariant-arms-loop-self
-invariant-arms-loop-self l = record {
+abbrev pub invariant-arms-loop-chain : goal.invariant-arms-loop-chain
+invariant-arms-loop-chain l = record {
   reads : ArmsSoFar l.scope l.fn.self l.chain.items l.self;
   goes : length l.self ≤ length l.fn.self;
 }
 
-abbrev pub decreases-arms-loop-self : goal.decreases-arms-loop-self
-decreases-arms-loop-self l = length l.self
+abbrev pub decreases-arms-loop-chain : goal.decreases-arms-loop-chain
+decreases-arms-loop-chain l = length l.self

@@ -10,29 +10,34 @@ use Rattle.cs_grammar.specs.inner.Answers.{OrcSoFar}
 pub returns-in_err-line-clause-reads : goal.returns-in_err-line-clause-reads
 returns-in_err-line-clause-reads c = λ first s.
     failed_on (λ (h : HeadLine). h) _ _ _ _ _ _ c.from_residual.ensures.1 c.in_err-line.ensures.reads
-    (λ f h. header_fails first c.args.self.now c.args.defined.now c.args.given.now (orchestra c.args.orc.now) s c.args.name f c.requires
+    (λ f h. header_fails first c.args.self.now c.args.draft.now.defined c.args.draft.now.given
+    (orchestra c.args.draft.now.orc) s c.args.name f c.requires
     (subst (λ x. header_line x c.args.name c.args.self.now ≡ Err f) c.outside.ensures (sym h)))
 
 pub returns-clause-reads : goal.returns-clause-reads
 returns-clause-reads c = λ first s.
     subst (λ xs. OrcSoFar first (record {
       head = xs;
-      opcodes = map definition c.args.orc.now.opcodes.items;
-      zero = block c.args.orc.now.zero.items;
+      opcodes = map definition c.args.draft.now.orc.opcodes.items;
+      zero = block c.args.draft.now.orc.zero.items;
       instrs =
-          map instrument c.args.orc.now.instrs.items;
-    }) c.args.defined.now c.args.given.now c.header_line.new.self) (sym c.in_ok-push.ensures.items)
-    (header_added first c.args.self.now c.args.defined.now c.args.given.now (orchestra c.args.orc.now) s c.args.name c.in_ok-line.line
+          map instrument c.args.draft.now.orc.instrs.items;
+    }) c.args.draft.now.defined c.args.draft.now.given c.header_line.new.self) (sym c.in_ok-push.ensures.items)
+    (header_added first c.args.self.now c.args.draft.now.defined c.args.draft.now.given (orchestra c.args.draft.now.orc)
+    s c.args.name c.in_ok-line.line
     c.header_line.new.self (record {
-      head = c.args.orc.now.head.items ++ c.in_ok-line.line ∷ [];
-      opcodes = map definition c.args.orc.now.opcodes.items;
-      zero = block c.args.orc.now.zero.items;
-      instrs = map instrument c.args.orc.now.instrs.items;
+      head = c.args.draft.now.orc.head.items ++ c.in_ok-line.line ∷ [];
+      opcodes = map definition c.args.draft.now.orc.opcodes.items;
+      zero = block c.args.draft.now.orc.zero.items;
+      instrs = map instrument c.args.draft.now.orc.instrs.items;
     }) c.requires
-    (subst (λ x. header_line x c.args.name c.args.self.now ≡ Ok (c.in_ok-line.line, c.header_line.new.self)) c.outside.ensures
-    (sym c.in_ok-line.ensures.reads)) (head_pushed c.args.orc.now.head.items c.in_ok-line.line (map definition c.args.orc.now.opcodes.items)
-    (block c.args.orc.now.zero.items) (map instrument c.args.orc.now.instrs.items)))
+    (subst (λ x. header_line x c.args.name c.args.self.now ≡ Ok (c.in_ok-line.line, c.header_line.new.self))
+    c.outside.ensures
+    (sym c.in_ok-line.ensures.reads))
+    (head_pushed c.args.draft.now.orc.head.items c.in_ok-line.line (map definition c.args.draft.now.orc.opcodes.items)
+    (block c.args.draft.now.orc.zero.items) (map instrument c.args.draft.now.orc.instrs.items)))
 
 pub returns-clause-goes : goal.returns-clause-goes
 returns-clause-goes c =
-    header_shorter c.outside.result c.args.name c.args.self.now c.in_ok-line.line c.header_line.new.self c.in_ok-line.ensures.reads
+    header_shorter c.outside.result c.args.name c.args.self.now c.in_ok-line.line c.header_line.new.self
+    c.in_ok-line.ensures.reads

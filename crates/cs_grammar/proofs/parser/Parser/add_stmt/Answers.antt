@@ -8,30 +8,36 @@ use Rattle.cs_grammar.specs.inner.Answers.{OrcSoFar}
 
 pub returns-in_err-stmt-clause-reads : goal.returns-in_err-stmt-clause-reads
 returns-in_err-stmt-clause-reads c = λ first s.
-    failed_on statement _ _ _ _ _ _ c.from_residual.ensures.1 c.in_err-stmt.ensures.reads (λ f h. stmt_fails first c.args.self.now c.args.defined.now
-    c.args.given.now (orchestra c.args.orc.now) s f c.requires (subst (λ x. ReadsStmt x c.args.self.now (Err f)) c.outside.ensures h))
+    failed_on statement _ _ _ _ _ _ c.from_residual.ensures.1 c.in_err-stmt.ensures.reads
+    (λ f h. stmt_fails first c.args.self.now c.args.draft.now.defined
+    c.args.draft.now.given (orchestra c.args.draft.now.orc) s f c.requires
+    (subst (λ x. ReadsStmt x c.args.self.now (Err f)) c.outside.ensures h))
 
 pub returns-clause-reads : goal.returns-clause-reads
 returns-clause-reads c = λ first s.
     subst (λ xs. OrcSoFar first (record {
-      head = c.args.orc.now.head.items;
-      opcodes = map definition c.args.orc.now.opcodes.items;
+      head = c.args.draft.now.orc.head.items;
+      opcodes = map definition c.args.draft.now.orc.opcodes.items;
       zero = block xs;
       instrs =
-          map instrument c.args.orc.now.instrs.items;
-    }) c.args.defined.now c.args.given.now c.stmt.new.self) (sym c.in_ok-push.ensures.items)
-    (stmt_added first c.args.self.now c.args.defined.now c.args.given.now (orchestra c.args.orc.now) s (statement c.in_ok-stmt.stmt) c.stmt.new.self
+          map instrument c.args.draft.now.orc.instrs.items;
+    }) c.args.draft.now.defined c.args.draft.now.given c.stmt.new.self) (sym c.in_ok-push.ensures.items)
+    (stmt_added first c.args.self.now c.args.draft.now.defined c.args.draft.now.given (orchestra c.args.draft.now.orc) s
+    (statement c.in_ok-stmt.stmt) c.stmt.new.self
     (record {
-      head = c.args.orc.now.head.items;
-      opcodes = map definition c.args.orc.now.opcodes.items;
+      head = c.args.draft.now.orc.head.items;
+      opcodes = map definition c.args.draft.now.orc.opcodes.items;
       zero = block
-          (c.args.orc.now.zero.items ++ c.in_ok-stmt.stmt ∷ []);
-      instrs = map instrument c.args.orc.now.instrs.items;
+          (c.args.draft.now.orc.zero.items ++ c.in_ok-stmt.stmt ∷ []);
+      instrs = map instrument c.args.draft.now.orc.instrs.items;
     }) c.requires
-    (subst (λ x. ReadsStmt x c.args.self.now (Ok (statement c.in_ok-stmt.stmt, c.stmt.new.self))) c.outside.ensures c.in_ok-stmt.ensures.reads)
-    (stmt_pushed c.args.orc.now.head.items (map definition c.args.orc.now.opcodes.items) c.args.orc.now.zero.items c.in_ok-stmt.stmt
-    (map instrument c.args.orc.now.instrs.items)))
+    (subst (λ x. ReadsStmt x c.args.self.now (Ok (statement c.in_ok-stmt.stmt, c.stmt.new.self))) c.outside.ensures
+    c.in_ok-stmt.ensures.reads)
+    (stmt_pushed c.args.draft.now.orc.head.items (map definition c.args.draft.now.orc.opcodes.items)
+    c.args.draft.now.orc.zero.items c.in_ok-stmt.stmt
+    (map instrument c.args.draft.now.orc.instrs.items)))
 
 pub returns-clause-goes : goal.returns-clause-goes
 returns-clause-goes c =
-    line_shorter c.outside.result c.args.self.now (statement c.in_ok-stmt.stmt) c.stmt.new.self c.in_ok-stmt.ensures.reads
+    line_shorter c.outside.result c.args.self.now (statement c.in_ok-stmt.stmt) c.stmt.new.self
+    c.in_ok-stmt.ensures.reads

@@ -8,11 +8,13 @@ use Rattle.cs_grammar.specs.Tree.{argument}
 
 pub returns-then-ends_line-clause-reads : goal.returns-then-ends_line-clause-reads
 returns-then-ends_line-clause-reads c =
-    subst (λ xs. ReadsArgs c.args.scope.now (Ok c.args.self.now) (Ok (map argument xs, c.args.self.now))) (sym c.new.ensures.items)
+    subst (λ xs. ReadsArgs c.args.scope.now (Ok c.args.self.now) (Ok (map argument xs, c.args.self.now)))
+    (sym c.new.ensures.items)
     (args_none (ap ends_line (sym c.kind.ensures) ∙ sym c.if-ends_line.ensures))
 
 pub returns-clause-reads : goal.returns-clause-reads
 returns-clause-reads c =
     weaker args_in c.list.result c.list.new.self (ReadsList c.args.scope.now role.Argument (Ok c.args.self.now))
-    (ReadsArgs c.args.scope.now (Ok c.args.self.now)) (λ o h. args_some (ap ends_line (sym c.kind.ensures) ∙ sym c.if-ends_line.ensures) h)
+    (ReadsArgs c.args.scope.now (Ok c.args.self.now))
+    (λ o h. args_some (ap ends_line (sym c.kind.ensures) ∙ sym c.if-ends_line.ensures) h)
     c.list.ensures.reads

@@ -1,4 +1,4 @@
-use Rattle.std.proofs.Common.{ℕ, List, Ok, Err, sym, map}
+use Rattle.std.proofs.Common.{Ok, Err, sym, map}
 use Rattle.cs_grammar.specs.declared.tree.Callee.{Callee}
 use Rattle.cs_grammar.proofs.Gives.{failed}
 use Rattle.cs_grammar.proofs.StmtRules.{args_in, bare_is}
@@ -9,16 +9,20 @@ use Rattle.cs_grammar.specs.Tree.{argument, of_what}
 
 pub returns-in_err-callee-clause-reads : goal.returns-in_err-callee-clause-reads
 returns-in_err-callee-clause-reads c =
-    failed (λ (n : Callee). n) (of_what (next c.args.self.now).line) _ _ _ _ _ _ c.from_residual.ensures.1 c.in_err-callee.ensures.reads
+    failed (λ (n : Callee). n) (of_what (next c.args.self.now).line) _ _ _ _ _ _ c.from_residual.ensures.1
+    c.in_err-callee.ensures.reads
     (λ f h. bare_is c.args.scope.now c.args.self.now (Err f) (Err f) c.requires (sym h) args_stop)
 
 pub returns-in_err-args-clause-reads : goal.returns-in_err-args-clause-reads
 returns-in_err-args-clause-reads c =
-    failed args_in (of_what (next c.args.self.now).line) _ _ _ _ _ _ c.from_residual-in_err-args.ensures.1 c.in_err-args.ensures.reads
-    (λ f h. bare_is c.args.scope.now c.args.self.now (Ok (c.in_ok-callee.callee, c.operation.new.self)) (Err f) c.requires
+    failed args_in (of_what (next c.args.self.now).line) _ _ _ _ _ _ c.from_residual-in_err-args.ensures.1
+    c.in_err-args.ensures.reads
+    (λ f h. bare_is c.args.scope.now c.args.self.now (Ok (c.in_ok-callee.callee, c.operation.new.self)) (Err f)
+    c.requires
     (sym c.in_ok-callee.ensures.reads) h)
 
 pub returns-clause-reads : goal.returns-clause-reads
 returns-clause-reads c =
     rw c.new.ensures (bare_is c.args.scope.now c.args.self.now (Ok (c.in_ok-callee.callee, c.operation.new.self))
-    (Ok (map argument c.in_ok-args.args.items, c.arguments.new.self)) c.requires (sym c.in_ok-callee.ensures.reads) c.in_ok-args.ensures.reads)
+    (Ok (map argument c.in_ok-args.args.items, c.arguments.new.self)) c.requires (sym c.in_ok-callee.ensures.reads)
+    c.in_ok-args.ensures.reads)

@@ -6,7 +6,8 @@ use Rattle.cs_grammar.specs.Tree.{expression}
 
 pub returns-in_err-cond-clause-reads : goal.returns-in_err-cond-clause-reads
 returns-in_err-cond-clause-reads c =
-    failed expression expression _ _ _ _ _ _ c.from_residual.ensures.1 c.in_err-cond.ensures.reads (λ f h. condition_is (Err f) h)
+    failed expression expression _ _ _ _ _ _ c.from_residual.ensures.1 c.in_err-cond.ensures.reads
+    (λ f h. condition_is (Err f) h)
 
 pub returns-clause-reads : goal.returns-clause-reads
 returns-clause-reads c =

@@ -23,9 +23,12 @@ returns-in_err-values-clause-reads c =
 pub returns-clause-reads : goal.returns-clause-reads
 returns-clause-reads c =
     weaker args_in c.judged.result c.values.new.self
-    (λ o. o ≡ results_of c.args.scope.now c.line-line.result c.args.outs.now (Ok (map argument c.in_ok-values.values.items, c.values.new.self)))
+    (λ o. o ≡ results_of c.args.scope.now c.line-line.result c.args.outs.now
+    (Ok (map argument c.in_ok-values.values.items, c.values.new.self)))
     (ReadsResult c.args.scope.now c.args.outs.now (Ok c.args.self.now))
-    (λ o e. subst (ReadsResult c.args.scope.now c.args.outs.now (Ok c.args.self.now)) (sym (rw c.line-line.ensures at e))
-    (given c.args.scope.now c.args.outs.now c.args.self.now (Ok (map argument c.in_ok-values.values.items, c.values.new.self))
+    (λ o e. subst (ReadsResult c.args.scope.now c.args.outs.now (Ok c.args.self.now))
+    (sym (rw c.line-line.ensures at e))
+    (given c.args.scope.now c.args.outs.now c.args.self.now
+    (Ok (map argument c.in_ok-values.values.items, c.values.new.self))
     (sym c.next_is.ensures ∙ c.if-not-next_is.false) c.in_ok-values.ensures.reads))
     c.judged.ensures

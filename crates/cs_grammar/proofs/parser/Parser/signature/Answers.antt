@@ -6,17 +6,23 @@ use Rattle.cs_grammar.proofs.parser.Parser.signature.Goals as goal
 
 pub returns-in_err-pass-clause-reads : goal.returns-in_err-pass-clause-reads
 returns-in_err-pass-clause-reads c =
-    unpassed (Unit {0}) (λ (p : List Rate × List Rate). p) _ _ _ _ _ _ c.from_residual-in_err-pass.ensures.1 c.in_err-pass.ensures.passes
-    (λ f p. signature_at c.args.scope.now c.args.self.now c.in_ok-outs.outs c.types.new.self (Err f) (Err f) (sym c.in_ok-outs.ensures.reads) p refl)
+    unpassed (Unit {0}) (λ (p : List Rate × List Rate). p) _ _ _ _ _ _ c.from_residual-in_err-pass.ensures.1
+    c.in_err-pass.ensures.passes
+    (λ f p. signature_at c.args.scope.now c.args.self.now c.in_ok-outs.outs c.types.new.self (Err f) (Err f)
+    (sym c.in_ok-outs.ensures.reads) p refl)
 
 pub returns-in_err-ins-clause-reads : goal.returns-in_err-ins-clause-reads
 returns-in_err-ins-clause-reads c =
-    failed (λ (p : List Rate). p) (λ (p : List Rate × List Rate). p) _ _ _ _ _ _ c.from_residual-in_err-ins.ensures.1 c.in_err-ins.ensures.reads
-    (λ f h. signature_at c.args.scope.now c.args.self.now c.in_ok-outs.outs c.types.new.self (Ok c.pass.new.self) (Err f)
+    failed (λ (p : List Rate). p) (λ (p : List Rate × List Rate). p) _ _ _ _ _ _ c.from_residual-in_err-ins.ensures.1
+    c.in_err-ins.ensures.reads
+    (λ f h. signature_at c.args.scope.now c.args.self.now c.in_ok-outs.outs c.types.new.self (Ok c.pass.new.self)
+    (Err f)
     (sym c.in_ok-outs.ensures.reads) c.in_ok-pass.ensures.passes (sym h))
 
 pub returns-clause-reads : goal.returns-clause-reads
 returns-clause-reads c =
-    followed (λ (p : List Rate × List Rate). p) c.ended.result (c.in_ok-outs.outs, c.in_ok-ins.ins) _ _ _ c.ended.ensures.value c.ended.ensures.passes
-    (λ st p. signature_line c.args.scope.now c.args.self.now c.in_ok-outs.outs c.types.new.self c.pass.new.self c.types-2.new.self c.in_ok-ins.ins st
+    followed (λ (p : List Rate × List Rate). p) c.ended.result (c.in_ok-outs.outs, c.in_ok-ins.ins) _ _ _
+    c.ended.ensures.value c.ended.ensures.passes
+    (λ st p. signature_line c.args.scope.now c.args.self.now c.in_ok-outs.outs c.types.new.self c.pass.new.self
+    c.types-2.new.self c.in_ok-ins.ins st
     (sym c.in_ok-outs.ensures.reads) c.in_ok-pass.ensures.passes (sym c.in_ok-ins.ensures.reads) p)

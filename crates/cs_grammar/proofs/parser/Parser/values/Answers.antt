@@ -7,10 +7,12 @@ use Rattle.cs_grammar.specs.Tree.{argument}
 
 pub returns-in_err-values-clause-reads : goal.returns-in_err-values-clause-reads
 returns-in_err-values-clause-reads c =
-    failed args_in args_in _ _ _ _ _ _ c.from_residual.ensures.1 c.in_err-values.ensures.reads (λ f h. xout (rw c.skip.ensures at h))
+    failed args_in args_in _ _ _ _ _ _ c.from_residual.ensures.1 c.in_err-values.ensures.reads
+    (λ f h. xout (rw c.skip.ensures at h))
 
 pub returns-clause-reads : goal.returns-clause-reads
 returns-clause-reads c =
     followed args_in c.ended.result c.in_ok-values.values _ _ _ c.ended.ensures.value c.ended.ensures.passes
     (λ st p. subst (ReadsXout c.args.scope.now c.args.self.now)
-    (ended_is c.args.scope.now (map argument c.in_ok-values.values.items) c.list.new.self st p) (xout (rw c.skip.ensures at c.in_ok-values.ensures.reads)))
+    (ended_is c.args.scope.now (map argument c.in_ok-values.values.items) c.list.new.self st p)
+    (xout (rw c.skip.ensures at c.in_ok-values.ensures.reads)))
