@@ -38,7 +38,7 @@ mod zak;
 pub use area_rows::{mix_row, read_row, write_row, write_value};
 pub use gather::{block, step};
 pub use outputs::Outputs;
-pub use places::{area_of, index};
+pub use places::{area_in, area_of, index};
 pub use player::Player;
 pub use registers::Registers;
 pub use state::{Setting, State};

@@ -1,7 +1,7 @@
 // Where a resource has its cells, and what numbers name.
 ghost use Rattle.std.specs.Prelude.{◌≡◌, ◌+◌, ◌<◌, ◌≤◌, length, slice_get, IfSome, Some};
 ghost use Rattle.cs_meaning.specs.Pieces.{index};
-ghost use Rattle.cs_voice_meaning.specs.Placing.{area_of};
+ghost use Rattle.cs_voice_meaning.specs.Placing.{HasArea, area_of};
 
 use cs_base::{Num, Res};
 use cs_cells::{Area, Layout};
@@ -19,8 +19,20 @@ pub fn area_of(layout: &Layout, res: Res) -> Option<Area>
     }
 }
 
+/// The area of a resource that has one.
+pub fn area_in(layout: &Layout, res: Res) -> Area
+    requires { HasArea layout.now res }
+    ensures value { area_of layout.now res ≡ Some result }
+    ensures small { result.first + result.length ≤ 65536 }
+{
+    match area_of(layout, res) {
+        Some(area) => area,
+        None => unreachable!(),
+    }
+}
+
 /// The area at a place, which ends within the cells that a layout may have.
-pub(crate) fn area_at(layout: &Layout, place: u32) -> Area
+fn area_at(layout: &Layout, place: u32) -> Area
     requires { place < length layout.now }
     ensures value { slice_get layout.now place ≡ Some result }
     ensures small { result.first + result.length ≤ 65536 }

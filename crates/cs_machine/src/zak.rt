@@ -1,68 +1,96 @@
 // Zak places that are cleared.
-ghost use Rattle.std.specs.Prelude.{◌≡◌, ℕ, pos, true, length, Some, if◌then◌else◌};
+ghost use Rattle.std.specs.Prelude.{◌≡◌, ◌≤◌, ◌<◌, ◌&&◌, ℕ, pos, true, length, Some, if◌then◌else◌};
+ghost use Rattle.cs_base.specs.Rates.{same_res};
 ghost use Rattle.cs_machine.specs.Access.{AreSpaces, CanTouch, spaces_of};
-ghost use Rattle.cs_machine.specs.inner.Numbers.{clears, lies_between};
+ghost use Rattle.cs_machine.specs.inner.Numbers.{cleared_in, end_of, from_of};
 ghost use Rattle.cs_cells.specs.Cells.{cell};
 ghost use Rattle.cs_cells.specs.declared.footprint.Area.{Area};
-ghost use Rattle.cs_ir.specs.Resources.{reaches, zak_place};
+ghost use Rattle.cs_ir.specs.Resources.{places_of, reaches, zak_place};
 ghost use Rattle.cs_meaning.specs.Pieces.{Piece, is_cleared};
 ghost use Rattle.cs_voice_meaning.specs.Placing.{area_of};
 ghost use Rattle.cs_voice_meaning.specs.VoiceWorld.{lies_cleared};
 
 use crate::area_rows::clear;
-use crate::places::{area_at, index};
-use cs_base::{Num, Res};
-use cs_cells::{Bank, Layout};
-use cs_ir::Reach;
+use crate::places::{area_in, index};
+use crate::state::Setting;
+use cs_base::Num;
+use cs_cells::Bank;
+use cs_ir::{Reach, places_of, zak_place};
 use cs_words::Space;
 
-/// Sets the places from one value to another to 0, as far as the space has them and the reach goes: by a look at each
-/// area.
+/// Sets the places from one value to another to 0, as far as the space has them and the reach goes.
 pub fn clear_places<B: Bank>(
     bank: &mut B,
-    layout: &Layout,
+    at: &Setting<'_>,
     space: Space,
     reach: Reach,
     first: Num,
     last: Num,
 )
-    requires spaces { AreSpaces layout.now }
-    requires write { (n : ℕ) (area : Area) → reaches reach n ≡ true → area_of layout.now (zak_place space n) ≡ Some area
+    requires spaces { AreSpaces at.now.layout.now }
+    requires zak { spaces_of at.now.layout.now ≡ at.now.spaces }
+    requires write { (n : ℕ) (area : Area) → n < places_of at.now.spaces space → reaches reach n ≡ true
+        → area_of at.now.layout.now (zak_place space n) ≡ Some area
         → CanTouch (B.can_set (B.rest bank.old)) (length (B.cells bank.old)) area }
-    ensures cells { (piece : Piece) → piece.spaces ≡ spaces_of layout.now → cell (B.cells bank.new)
-        ≡ (λ a. if lies_cleared layout.now (is_cleared piece space reach first last) a then pos 0
+    ensures cells { (piece : Piece) → piece.spaces ≡ at.now.spaces → cell (B.cells bank.new)
+        ≡ (λ a. if lies_cleared at.now.layout.now (is_cleared piece space reach first last) a then pos 0
         else cell (B.cells bank.old) a) }
     ensures long { length (B.cells bank.new) ≡ length (B.cells bank.old) }
     ensures rest { B.rest bank.new ≡ B.rest bank.old }
 {
     // No two areas are of one resource.
-    let _ = layout.words();
-    let from = index(first);
+    let _ = at.layout.words();
+    let places = places_of(at.spaces, space) as usize;
     let to = index(last);
-    for place in 0..layout.len() {
-        let area = area_at(layout, place);
-        if clears(space, reach, from, to, area.res) {
-            clear(bank, area);
-        }
+    let end = end_of(places, to);
+    let since = index(first);
+    let from = from_of(end, since);
+    for n in from..end {
+        clear_place(bank, at, space, reach, n);
     }
 }
 
-fn clears(space: Space, reach: Reach, first: Option<usize>, last: Option<usize>, res: Res) -> bool
-    ensures { result ≡ clears space reach first last res }
+/// Sets one place of a space to 0, where it is within reach.
+fn clear_place<B: Bank>(bank: &mut B, at: &Setting<'_>, space: Space, reach: Reach, number: usize)
+    requires spaces { AreSpaces at.now.layout.now }
+    requires zak { spaces_of at.now.layout.now ≡ at.now.spaces }
+    requires number { number < places_of at.now.spaces space }
+    requires write { (area : Area) → reaches reach number ≡ true
+        → area_of at.now.layout.now (zak_place space number) ≡ Some area
+        → CanTouch (B.can_set (B.rest bank.old)) (length (B.cells bank.old)) area }
+    ensures cells { cell (B.cells bank.new) ≡ cleared_in at.now.layout.now (λ g. reaches reach number
+        && same_res g (zak_place space number)) (cell (B.cells bank.old)) }
+    ensures long { length (B.cells bank.new) ≡ length (B.cells bank.old) }
+    ensures rest { B.rest bank.new ≡ B.rest bank.old }
 {
-    match (space, res) {
-        (Space::Control, Res::ZakK(n)) => reach.contains(n) && lies_between(first, last, n),
-        (Space::Audio, Res::ZakA(n)) => reach.contains(n) && lies_between(first, last, n),
-        _ => false,
+    // No two areas are of one resource.
+    let _ = at.layout.words();
+    if reach.contains(number) {
+        let area = area_in(at.layout, zak_place(space, number));
+        clear(bank, area);
     }
 }
 
-fn lies_between(first: Option<usize>, last: Option<usize>, number: usize) -> bool
-    ensures { result ≡ lies_between first last number }
+/// The number behind the last that is cleared of so many: behind the whole number below a value, where there is one.
+fn end_of(places: usize, last: Option<usize>) -> usize
+    ensures value { result ≡ end_of places last }
+    ensures within { result ≤ places }
 {
-    match (first, last) {
-        (_, None) => false,
-        (None, Some(last)) => number <= last,
-        (Some(first), Some(last)) => first <= number && number <= last,
+    match last {
+        Some(n) if n < places => n + 1,
+        Some(_) => places,
+        None => 0,
+    }
+}
+
+/// The first number that is cleared: the whole number below a value, where it is 0 or more, and the end at most.
+fn from_of(end: usize, first: Option<usize>) -> usize
+    ensures value { result ≡ from_of end first }
+    ensures within { result ≤ end }
+{
+    match first {
+        Some(n) if n < end => n,
+        Some(_) => end,
+        None => 0,
     }
 }

@@ -21,7 +21,7 @@ use crate::TableAt;
 use crate::tables::{Finds, find, table_number};
 use cs_base::{Head, MOST_DELAY_SAMPLES, Num, OutOfMemory, Rate, Res};
 use cs_cells::Layout;
-use cs_machine::{Player, State, area_of};
+use cs_machine::{Player, State, area_in};
 use cs_signal::{argument, delay_samples};
 use cs_ugen::Unit;
 use cs_words::{Opcode, signature_of};
@@ -200,10 +200,8 @@ fn on_live<'p>(layout: &Layout, table: usize, number: i64, unit: Unit) -> Player
     } }
     ensures small { (area : Area) → result.area ≡ Some area → area.first + area.length ≤ 65536 }
 {
-    match area_of(layout, Res::Table(table)) {
-        Some(area) => Player::on_live(number, unit, area),
-        None => unreachable!(),
-    }
+    let area = area_in(layout, Res::Table(table));
+    Player::on_live(number, unit, area)
 }
 
 /// A unit comes into its place.

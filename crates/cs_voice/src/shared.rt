@@ -7,16 +7,15 @@ ghost use Rattle.cs_cells.specs.Cells.{cell};
 ghost use Rattle.cs_ir.specs.Validity.{has_register, has_value};
 ghost use Rattle.cs_ir.specs.Waves.{held};
 ghost use Rattle.cs_ir.specs.declared.op.Act.TheVariants as act;
-ghost use Rattle.cs_cells.specs.declared.footprint.Area.{Area};
 ghost use Rattle.cs_ir.specs.declared.register.Reg.{Reg};
 ghost use Rattle.cs_machine.specs.Registers.{IsWritten, values};
-ghost use Rattle.cs_voice_meaning.specs.Placing.{area_of, cell_count, wave_in, with_wave};
+ghost use Rattle.cs_voice_meaning.specs.Placing.{cell_count, wave_in, with_wave};
 ghost use Rattle.cs_machine.specs.States.{HasRoom, MayTouch};
 
 use cs_base::{Num, Rate, Res};
 use cs_cells::{Area, Bank};
 use cs_ir::Reg;
-use cs_machine::{Registers, Setting, State, area_of, read_row, write_row, write_value};
+use cs_machine::{Registers, Setting, State, area_in, read_row, write_row, write_value};
 
 /// Reads what notes share into a register: the act `Load`.
 pub(crate) fn load<B: Bank>(
@@ -36,7 +35,7 @@ pub(crate) fn load<B: Bank>(
     ensures same { B.cells bank.new ≡ B.cells bank.old }
     ensures rest { B.rest bank.new ≡ B.rest bank.old }
 {
-    let area = area_at(at, res);
+    let area = area_in(at.layout, res);
     read(
         &mut state.regs,
         &mut state.row,
@@ -59,20 +58,8 @@ pub(crate) fn save<B: Bank>(state: &mut State<'_>, at: &Setting<'_>, res: Res, x
     ensures long { length (B.cells bank.new) ≡ length (B.cells bank.old) }
     ensures rest { B.rest bank.new ≡ B.rest bank.old }
 {
-    let area = area_at(at, res);
+    let area = area_in(at.layout, res);
     write(&state.regs, &mut state.row, x, res.rate(), area, bank);
-}
-
-/// The area of a resource that has one.
-pub(crate) fn area_at(at: &Setting<'_>, res: Res) -> Area
-    requires { (area : Area) × (area_of at.now.layout.now res ≡ Some area) }
-    ensures value { area_of at.now.layout.now res ≡ Some result }
-    ensures small { result.first + result.length ≤ 65536 }
-{
-    match area_of(at.layout, res) {
-        Some(area) => area,
-        None => unreachable!(),
-    }
 }
 
 /// A register takes what an area holds of a value of some rate.

@@ -16,11 +16,11 @@ ghost use Rattle.cs_words.specs.declared.catalogue.Shape.TheVariants as shape;
 ghost use Rattle.cs_words.specs.declared.catalogue.Space.TheVariants as space;
 ghost use Rattle.cs_machine.specs.States.{HasRoom};
 
-use crate::shared::{area_at, read, write};
+use crate::shared::{read, write};
 use cs_base::{Num, Rate, Res};
 use cs_cells::{Area, Bank};
 use cs_ir::{Reach, Reg, places_of, zak_place};
-use cs_machine::{Registers, Setting, State, clear_places, index, mix_row};
+use cs_machine::{Registers, Setting, State, area_in, clear_places, index, mix_row};
 use cs_words::Space;
 
 /// The zak places that an op may touch: those of a space that are within its reach.
@@ -54,7 +54,7 @@ pub(crate) fn zak_get<B: Bank>(
 {
     match place(at, within.space, within.reach, state.regs.first(number)) {
         Some(res) => {
-            let area = area_at(at, res);
+            let area = area_in(at.layout, res);
             read(
                 &mut state.regs,
                 &mut state.row,
@@ -91,7 +91,7 @@ pub(crate) fn zak_put<B: Bank>(
     ensures rest { B.rest bank.new ≡ B.rest bank.old }
 {
     if let Some(res) = place(at, within.space, within.reach, state.regs.first(number)) {
-        let area = area_at(at, res);
+        let area = area_in(at.layout, res);
         write(&state.regs, &mut state.row, x, res.rate(), area, bank);
     }
 }
@@ -120,7 +120,7 @@ pub(crate) fn zak_mix<B: Bank>(
     ensures rest { B.rest bank.new ≡ B.rest bank.old }
 {
     if let Some(res) = place(at, Space::Audio, reach, state.regs.first(number)) {
-        let area = area_at(at, res);
+        let area = area_in(at.layout, res);
         mix_row(bank, area, state.regs.row(x.index));
     }
 }
@@ -149,7 +149,7 @@ pub(crate) fn zak_clear<B: Bank>(
 {
     clear_places(
         bank,
-        at.layout,
+        at,
         within.space,
         within.reach,
         state.regs.first(first),

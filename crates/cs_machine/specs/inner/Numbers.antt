@@ -1,5 +1,6 @@
 -- Whole numbers that values name, as the code looks at them, and areas that are worked on from the front.
-use Rattle.std.specs.Prelude.{ℕ, ℤ, pos, Bool, false, ◌&&◌, List, nat_le, Option, Some, None, if◌then◌else◌}
+use Rattle.std.specs.Prelude.{ℕ, ℤ, pos, Bool, false, ◌+◌, ◌&&◌, List, nat_le, nat_lt, Option, Some, None}
+use Rattle.std.specs.Prelude.{if◌then◌else◌}
 use Rattle.cs_base.specs.declared.resource.Res.{Res}
 use Rattle.cs_base.specs.declared.resource.Res.TheVariants as res
 use Rattle.cs_words.specs.declared.catalogue.Space.{Space}
@@ -9,19 +10,21 @@ use Rattle.cs_ir.specs.declared.op.Reach.{Reach}
 use Rattle.cs_cells.specs.declared.footprint.Area.{Area}
 use Rattle.cs_voice_meaning.specs.VoiceWorld.{lies_cleared}
 
--- whether a number lies from one to another, each the whole part of a value; a first below 0 is before all, a last
--- below 0 none
-abbrev pub lies_between : Option ℕ → Option ℕ → ℕ → Bool
-lies_between None None n = false
-lies_between (Some m) None n = false
-lies_between None (Some k) n = nat_le n k
-lies_between (Some m) (Some k) n = nat_le m n && nat_le n k
+-- of so many numbers the one behind the last that isn't above a value's whole part; before an end the first that isn't
+-- below a value's whole part. A value below 0 has none.
+abbrev pub end_of : ℕ → Option ℕ → ℕ
+end_of count None = 0
+end_of count (Some k) = if nat_lt k count then k + 1 else count
 
--- whether a resource that has an area is a place that is cleared
-abbrev pub clears : Space → Reach → Option ℕ → Option ℕ → Res → Bool
-clears space.Control reach first last (res.ZakK n) = reaches reach n && lies_between first last n
-clears space.Audio reach first last (res.ZakA n) = reaches reach n && lies_between first last n
-clears s reach first last r = false
+abbrev pub from_of : ℕ → Option ℕ → ℕ
+from_of end None = 0
+from_of end (Some m) = if nat_lt m end then m else end
+
+-- whether a resource is a place of a space that is cleared: within reach, from one number on and before another
+abbrev pub clears : Space → Reach → ℕ → ℕ → Res → Bool
+clears space.Control reach from end (res.ZakK n) = reaches reach n && (nat_le from n && nat_lt n end)
+clears space.Audio reach from end (res.ZakA n) = reaches reach n && (nat_le from n && nat_lt n end)
+clears s reach from end g = false
 
 -- the cells after those of these places were cleared
 abbrev pub cleared_in : List Area → (Res → Bool) → (ℕ → ℤ) → ℕ → ℤ

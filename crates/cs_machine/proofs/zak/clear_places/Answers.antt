@@ -1,44 +1,69 @@
-use Rattle.std.proofs.Common.{◌∙◌, ap, arith, length, sym}
+use Rattle.std.proofs.Common.{◌≡◌, ◌<◌, ◌+◌, ◌∙◌, ◌&&◌, ap, arith, length, refl}
+use Rattle.cs_base.specs.Rates.{same_res}
 use Rattle.cs_cells.specs.Cells.{cell}
-use Rattle.std.proofs.lemmas.List.{take_all}
+use Rattle.cs_ir.specs.Resources.{places_of, reaches, zak_place}
 use Rattle.cs_meaning.specs.Pieces.{index}
-use Rattle.cs_voice_meaning.specs.Placing.{area_of}
-use Rattle.cs_machine.specs.inner.Numbers.{cleared_in, clears}
-use Rattle.cs_machine.proofs.Clearing.{all_cleared, clears_reach, one_cleared, one_left}
-use Rattle.cs_machine.proofs.Found.{own}
+use Rattle.cs_machine.specs.inner.Numbers.{cleared_in, clears, end_of, from_of}
+use Rattle.cs_machine.proofs.Clearing.{all_cleared, cleared_twice, clears_more, none_cleared, nothing_cleared}
 use Rattle.cs_machine.proofs.Writing.{touch_again}
-use Rattle.cs_machine.proofs.zak.clear_places.Goals.{then-clears, else-clears}
 use Rattle.cs_machine.proofs.zak.clear_places.Goals as goal
 
-pub clear-requires-clause-write : goal.clear-requires-clause-write
-clear-requires-clause-write g c =
-    let is = sym c.clears.ensures ∙ c.if-clears.true in
-    let n = clears_reach c.args.space c.args.reach c.index-from.result c.index-to.result c.area_at-area.result.res is in
-    let at = own c.args.layout.now c.loop-place.place c.area_at-area.result c.words.ensures.laid c.area_at-area.ensures.value in
-    touch_again g.B.Bank.can_set (g.B.Bank.rest c.args.bank.now) (g.B.Bank.rest c.loop-place.bank) (length (g.B.Bank.cells c.args.bank.now)) (length (g.B.Bank.cells c.loop-place.bank)) c.area_at-area.result
-    c.loop-place.invariant.rest c.loop-place.invariant.long
-    (c.requires.write n.0 c.area_at-area.result n.1 (ap (λ r. area_of c.args.layout.now r) n.2 ∙ at))
+pub loop-n-init : goal.loop-n-init
+loop-n-init g c = record {
+  cells = nothing_cleared c.args.at.now.layout.now
+      (clears c.args.space c.args.reach c.from_of-from.result c.from_of-from.result)
+      (cell (g.B.Bank.cells c.args.bank.now)) (none_cleared c.args.space c.args.reach c.from_of-from.result);
+  from = omega arith;
+  within = c.from_of-from.ensures.within;
+  long = refl;
+  rest = refl;
+}
 
-pub loop-place-preserved : goal.loop-place-preserved
-loop-place-preserved g c = elim c.if-clears.branch [
-  | then-clears w ↦ record {
-    cells = ap (λ b. cell (g.B.Bank.cells b)) w.bank-is ∙ one_cleared c.args.layout.now (clears c.args.space c.args.reach c.index-from.result c.index-to.result) c.loop-place.place c.area_at-area.result (cell (g.B.Bank.cells c.args.bank.now)) (cell (g.B.Bank.cells c.loop-place.bank)) (cell (g.B.Bank.cells w.clear.new.bank))
-        c.area_at-area.ensures.value (sym c.clears.ensures ∙ w.if-clears.true) c.loop-place.invariant.cells w.clear.ensures.cells;
-    long = ap (λ b. length (g.B.Bank.cells b)) w.bank-is ∙ w.clear.ensures.long ∙ c.loop-place.invariant.long;
-    rest = ap g.B.Bank.rest w.bank-is ∙ w.clear.ensures.rest ∙ c.loop-place.invariant.rest;
-  }
-  | else-clears w ↦ record {
-    cells = ap (λ b. cell (g.B.Bank.cells b)) w.bank-is ∙ one_left c.args.layout.now (clears c.args.space c.args.reach c.index-from.result c.index-to.result) c.loop-place.place c.area_at-area.result (cell (g.B.Bank.cells c.args.bank.now)) (cell (g.B.Bank.cells c.loop-place.bank))
-        c.area_at-area.ensures.value (sym c.clears.ensures ∙ w.if-clears.false) c.loop-place.invariant.cells;
-    long = ap (λ b. length (g.B.Bank.cells b)) w.bank-is ∙ c.loop-place.invariant.long;
-    rest = ap g.B.Bank.rest w.bank-is ∙ c.loop-place.invariant.rest;
-  }
-]
+pub clear_place-requires-clause-write : goal.clear_place-requires-clause-write
+clear_place-requires-clause-write g c area reached at =
+    touch_again g.B.Bank.can_set (g.B.Bank.rest c.args.bank.now) (g.B.Bank.rest c.loop-n.bank)
+    (length (g.B.Bank.cells c.args.bank.now)) (length (g.B.Bank.cells c.loop-n.bank)) area
+    c.loop-n.invariant.rest c.loop-n.invariant.long
+    (c.requires.write c.loop-n.n area low reached at)
+  where
+    low : c.loop-n.n < places_of c.args.at.now.spaces c.args.space
+    low =
+        let before = c.loop-n-test.true in
+        let within = c.end_of-end.ensures.within in
+        let places = c.places_of-places.ensures in
+        omega arith
+
+pub loop-n-preserved : goal.loop-n-preserved
+loop-n-preserved g c = record {
+  cells = c.clear_place.ensures.cells
+      ∙ ap (cleared_in c.args.at.now.layout.now
+      (λ r. reaches c.args.reach c.loop-n.n && same_res r (zak_place c.args.space c.loop-n.n))) c.loop-n.invariant.cells
+      ∙ cleared_twice c.args.at.now.layout.now (clears c.args.space c.args.reach c.from_of-from.result c.loop-n.n)
+      (λ r. reaches c.args.reach c.loop-n.n && same_res r (zak_place c.args.space c.loop-n.n))
+      (clears c.args.space c.args.reach c.from_of-from.result (c.loop-n.n + 1)) (cell (g.B.Bank.cells c.args.bank.now))
+      (clears_more c.args.space c.args.reach c.from_of-from.result c.loop-n.n c.loop-n.invariant.from);
+  from = let low = c.loop-n.invariant.from in omega arith;
+  within = let before = c.loop-n-test.true in omega arith;
+  long = c.clear_place.ensures.long ∙ c.loop-n.invariant.long;
+  rest = c.clear_place.ensures.rest ∙ c.loop-n.invariant.rest;
+}
 
 pub returns-clause-cells : goal.returns-clause-cells
 returns-clause-cells g c piece same =
-    c.loop-place.invariant.cells
-    ∙ ap (λ l. cleared_in l (clears c.args.space c.args.reach c.index-from.result c.index-to.result) (cell (g.B.Bank.cells c.args.bank.now))) (take_all c.loop-place.place c.args.layout.now (omega (arith, c.loop-place-test.false, c.len-place-end.ensures)))
-    ∙ ap (λ x. cleared_in c.args.layout.now (clears c.args.space c.args.reach x c.index-to.result) (cell (g.B.Bank.cells c.args.bank.now))) c.index-from.ensures
-    ∙ ap (λ x. cleared_in c.args.layout.now (clears c.args.space c.args.reach (index c.args.first) x) (cell (g.B.Bank.cells c.args.bank.now))) c.index-to.ensures
-    ∙ all_cleared c.args.layout.now piece c.args.space c.args.reach c.args.first c.args.last (cell (g.B.Bank.cells c.args.bank.now)) c.requires.spaces same c.words.ensures.laid
+    let at_end : c.loop-n.n ≡ c.end_of-end.result =
+    (let past = c.loop-n-test.false in let within = c.loop-n.invariant.within in omega arith) in
+    let cells = cell (g.B.Bank.cells c.args.bank.now) in
+    let places = places_of c.args.at.now.spaces c.args.space in
+    c.loop-n.invariant.cells
+    ∙ ap (λ n. cleared_in c.args.at.now.layout.now (clears c.args.space c.args.reach c.from_of-from.result n) cells)
+    (at_end ∙ end)
+    ∙ ap (λ m. cleared_in c.args.at.now.layout.now
+    (clears c.args.space c.args.reach m (end_of places (index c.args.last))) cells)
+    (c.from_of-from.ensures.value ∙ ap (λ e. from_of e c.index-since.result) end
+    ∙ ap (from_of (end_of places (index c.args.last))) c.index-since.ensures)
+    ∙ all_cleared c.args.at.now.layout.now piece c.args.at.now.spaces c.requires.spaces c.requires.zak same c.args.space
+    c.args.reach c.args.first c.args.last cells c.words-places.ensures.laid
+  where
+    end : c.end_of-end.result ≡ end_of (places_of c.args.at.now.spaces c.args.space) (index c.args.last)
+    end = c.end_of-end.ensures.value ∙ ap (λ k. end_of k c.index-to.result) c.places_of-places.ensures
+        ∙ ap (end_of (places_of c.args.at.now.spaces c.args.space)) c.index-to.ensures

@@ -12,8 +12,12 @@ use Rattle.cs_voice.proofs.shared.load.Goals as goal
 pub returns-clause-does : goal.returns-clause-does
 returns-clause-does g c = λ areas piece stock kinds counts at placed state.
     let before = cell (g.B.Bank.cells c.args.bank.now) in
-    writes areas piece kinds counts (act.Load c.args.res) c.args.into [] (wave_in (res_rate c.args.res) c.area_at-area.result before) c.args.state.now _
-    before (cell (g.B.Bank.cells c.read.new.bank)) (record { players = refl; outs = refl; delays = refl; ended = refl }) (ap cell c.read.ensures.same) state
-    (subst (λ r. IsWritten c.args.state.now.regs c.args.into (wave_in r c.area_at-area.result before) c.read.new.regs) c.rate.ensures c.read.ensures.values) c.read.ensures.row
-    (λ next asks cause. ap (λ o. write piece.head.ksmps c.args.into (wave_of o (res_rate c.args.res) before) (machine_of c.args.state.now before next asks cause))
-    (ap (λ l. area_of l c.args.res) (sym at.layout) ∙ c.area_at-area.ensures.value))
+    writes areas piece kinds counts (act.Load c.args.res) c.args.into []
+    (wave_in (res_rate c.args.res) c.area_in-area.result before) c.args.state.now _
+    before (cell (g.B.Bank.cells c.read.new.bank))
+    (record { players = refl; outs = refl; delays = refl; ended = refl }) (ap cell c.read.ensures.same) state
+    (subst (λ r. IsWritten c.args.state.now.regs c.args.into (wave_in r c.area_in-area.result before) c.read.new.regs)
+    c.rate.ensures c.read.ensures.values) c.read.ensures.row
+    (λ next asks cause. ap (λ o. write piece.head.ksmps c.args.into (wave_of o (res_rate c.args.res) before)
+    (machine_of c.args.state.now before next asks cause))
+    (ap (λ l. area_of l c.args.res) (sym at.layout) ∙ c.area_in-area.ensures.value))

@@ -14,7 +14,14 @@ pub returns-clause-does : goal.returns-clause-does
 returns-clause-does g c = λ into areas piece stock kinds counts at placed state.
     let before = cell (g.B.Bank.cells c.args.bank.now) in
     let after = cell (g.B.Bank.cells c.write.new.bank) in
-    changes areas piece kinds counts (act.Save c.args.res) into (c.args.x ∷ []) c.args.state.now _ before after (record { regs = refl; rest = record { players = refl; outs = refl; delays = refl; ended = refl } }) state c.write.ensures.row
+    let w = values c.args.state.now.regs c.args.x in
+    let ksmps = c.args.state.now.regs.ksmps in
+    changes areas piece kinds counts (act.Save c.args.res) into (c.args.x ∷ []) c.args.state.now _ before after
+    (record { regs = refl; rest = record { players = refl; outs = refl; delays = refl; ended = refl } }) state
+    c.write.ensures.row
     (λ next asks cause. ap (λ cells. machine_of c.args.state.now cells next asks cause)
-    (saved_here areas c.args.res c.area_at-area.result (res_rate c.args.res) (values c.args.state.now.regs c.args.x) c.args.state.now.regs.ksmps
-    piece.head.ksmps before after (ap (λ l. area_of l c.args.res) (sym at.layout) ∙ c.area_at-area.ensures.value) state.frames (subst (λ r. after ≡ with_wave (Some c.area_at-area.result) (held c.args.state.now.regs.ksmps r (values c.args.state.now.regs c.args.x)) before) c.rate.ensures c.write.ensures.cells)))
+    (saved_here areas c.args.res c.area_in-area.result (res_rate c.args.res) w ksmps
+    piece.head.ksmps before after (ap (λ l. area_of l c.args.res) (sym at.layout) ∙ c.area_in-area.ensures.value)
+    state.frames
+    (subst (λ r. after ≡ with_wave (Some c.area_in-area.result) (held ksmps r w) before) c.rate.ensures
+    c.write.ensures.cells)))

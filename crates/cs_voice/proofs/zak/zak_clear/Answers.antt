@@ -15,11 +15,19 @@ returns-clause-does g c = λ opcode into shaped areas piece stock kinds counts a
     let after = cell (g.B.Bank.cells c.clear_places.new.bank) in
     let f = values c.args.state.now.regs c.args.first in
     let l = values c.args.state.now.regs c.args.last in
-    changes areas piece kinds counts (act.Zak opcode c.args.within.reach) into (c.args.first ∷ c.args.last ∷ []) c.args.state.now _ before after
-    (record { regs = refl; rest = record { players = refl; outs = refl; delays = refl; ended = refl } }) state (state.row ∙ sym state.frames)
-    (λ next asks cause. clearing areas piece opcode c.args.within.reach into (machine_of c.args.state.now before next asks cause) c.args.within.space f l shaped
+    let space = c.args.within.space in
+    let reach = c.args.within.reach in
+    changes areas piece kinds counts (act.Zak opcode reach) into (c.args.first ∷ c.args.last ∷ []) c.args.state.now _
+    before after
+    (record { regs = refl; rest = record { players = refl; outs = refl; delays = refl; ended = refl } }) state
+    (state.row ∙ sym state.frames)
+    (λ next asks cause.
+    clearing areas piece opcode reach into (machine_of c.args.state.now before next asks cause) space f l shaped
     ∙ ap (λ cells. machine_of c.args.state.now cells next asks cause)
-    (ap (λ ls a. if lies_cleared ls (is_cleared piece c.args.within.space c.args.within.reach (f 0) (l 0)) a then pos 0 else before a) (sym at.layout)
-    ∙ ap (λ z a. if lies_cleared c.args.at.now.layout.now (is_cleared piece c.args.within.space c.args.within.reach z (l 0)) a then pos 0 else before a) (sym c.first.ensures)
-    ∙ ap (λ z a. if lies_cleared c.args.at.now.layout.now (is_cleared piece c.args.within.space c.args.within.reach c.first.result z) a then pos 0 else before a) (sym c.first-2.ensures)
-    ∙ sym (c.clear_places.ensures.cells piece (at.spaces ∙ sym c.requires.zak))))
+    (ap (λ ls a. if lies_cleared ls (is_cleared piece space reach (f 0) (l 0)) a then pos 0
+    else before a) (sym at.layout)
+    ∙ ap (λ z a. if lies_cleared c.args.at.now.layout.now (is_cleared piece space reach z (l 0)) a then pos 0
+    else before a) (sym c.first.ensures)
+    ∙ ap (λ z a. if lies_cleared c.args.at.now.layout.now (is_cleared piece space reach c.first.result z) a then pos 0
+    else before a) (sym c.first-2.ensures)
+    ∙ sym (c.clear_places.ensures.cells piece at.spaces)))

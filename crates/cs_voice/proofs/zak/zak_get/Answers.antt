@@ -19,24 +19,34 @@ returns-in-Some-clause-does g c = λ opcode shaped areas piece stock kinds count
     let before = cell (g.B.Bank.cells c.args.bank.now) in
     let v = values c.args.state.now.regs c.args.number in
     let res = c.in-Some.res in
-    writes areas piece kinds counts (act.Zak opcode c.args.within.reach) c.args.into (c.args.number ∷ []) (wave_in (res_rate res) c.area_at-area.result before)
-    c.args.state.now _ before (cell (g.B.Bank.cells c.read.new.bank)) (record { players = refl; outs = refl; delays = refl; ended = refl }) (ap cell c.read.ensures.same) state (subst (λ r. IsWritten c.args.state.now.regs c.args.into (wave_in r c.area_at-area.result before) c.read.new.regs) c.rate.ensures c.read.ensures.values) c.read.ensures.row
+    let s = c.args.within.space in
+    let reach = c.args.within.reach in
+    writes areas piece kinds counts (act.Zak opcode reach) c.args.into (c.args.number ∷ [])
+    (wave_in (res_rate res) c.area_in-area.result before) c.args.state.now _
+    before (cell (g.B.Bank.cells c.read.new.bank))
+    (record { players = refl; outs = refl; delays = refl; ended = refl }) (ap cell c.read.ensures.same) state
+    (subst (λ r. IsWritten c.args.state.now.regs c.args.into (wave_in r c.area_in-area.result before) c.read.new.regs)
+    c.rate.ensures c.read.ensures.values) c.read.ensures.row
     (λ next asks cause. let m = machine_of c.args.state.now before next asks cause in
-    getting areas piece opcode c.args.within.reach c.args.into m c.args.within.space v shaped
+    getting areas piece opcode reach c.args.into m s v shaped
     ∙ ap (λ w. write piece.head.ksmps c.args.into w m)
-    (at_reached c.args.at.now piece c.args.within.space c.args.within.reach (index (v 0)) res silence (λ q. read_cells areas q before) at.spaces
-    (ap (λ z. reached c.args.at.now c.args.within.space c.args.within.reach (index z)) (sym c.first.ensures) ∙ sym c.place.ensures ∙ c.in-Some.is)
-    ∙ ap (λ o. wave_of o (res_rate res) before) (ap (λ l. area_of l res) (sym at.layout) ∙ c.area_at-area.ensures.value)))
+    (at_reached c.args.at.now piece s reach (index (v 0)) res silence (λ q. read_cells areas q before) at.spaces
+    (ap (λ z. reached c.args.at.now s reach (index z)) (sym c.first.ensures) ∙ sym c.place.ensures ∙ c.in-Some.is)
+    ∙ ap (λ o. wave_of o (res_rate res) before)
+    (ap (λ l. area_of l res) (sym at.layout) ∙ c.area_in-area.ensures.value)))
 
 pub returns-in-None-clause-does : goal.returns-in-None-clause-does
 returns-in-None-clause-does g c = λ opcode shaped areas piece stock kinds counts at placed state.
     let before = cell (g.B.Bank.cells c.args.bank.now) in
     let v = values c.args.state.now.regs c.args.number in
-    writes areas piece kinds counts (act.Zak opcode c.args.within.reach) c.args.into (c.args.number ∷ []) silence
+    let s = c.args.within.space in
+    let reach = c.args.within.reach in
+    writes areas piece kinds counts (act.Zak opcode reach) c.args.into (c.args.number ∷ []) silence
     c.args.state.now _ before before (record { players = refl; outs = refl; delays = refl; ended = refl }) refl state
-    (subst (λ z. IsWritten c.args.state.now.regs c.args.into (constant z) c.hold.new.self) c.exact.ensures c.hold.ensures.values) c.hold.ensures.row
+    (subst (λ z. IsWritten c.args.state.now.regs c.args.into (constant z) c.hold.new.self) c.exact.ensures
+    c.hold.ensures.values) c.hold.ensures.row
     (λ next asks cause. let m = machine_of c.args.state.now before next asks cause in
-    getting areas piece opcode c.args.within.reach c.args.into m c.args.within.space v shaped
+    getting areas piece opcode reach c.args.into m s v shaped
     ∙ ap (λ w. write piece.head.ksmps c.args.into w m)
-    (not_reached c.args.at.now piece c.args.within.space c.args.within.reach (index (v 0)) silence (λ q. read_cells areas q before) at.spaces
-    (ap (λ z. reached c.args.at.now c.args.within.space c.args.within.reach (index z)) (sym c.first.ensures) ∙ sym c.place.ensures ∙ c.in-None.is)))
+    (not_reached c.args.at.now piece s reach (index (v 0)) silence (λ q. read_cells areas q before) at.spaces
+    (ap (λ z. reached c.args.at.now s reach (index z)) (sym c.first.ensures) ∙ sym c.place.ensures ∙ c.in-None.is)))

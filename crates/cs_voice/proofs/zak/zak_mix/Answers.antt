@@ -22,30 +22,42 @@ returns-in-Some-clause-does g c = λ opcode into shaped areas piece stock kinds 
     let v = values c.args.state.now.regs c.args.number in
     let w = values c.args.state.now.regs c.args.x in
     let res = c.in-Some.res in
-    let here = ap (λ z. reached c.args.at.now space.Audio c.args.reach (index z)) (sym c.first.ensures) ∙ sym c.place.ensures ∙ c.in-Some.is in
+    let ksmps = c.args.state.now.regs.ksmps in
+    let here =
+    ap (λ z. reached c.args.at.now space.Audio c.args.reach (index z)) (sym c.first.ensures) ∙ sym c.place.ensures
+    ∙ c.in-Some.is in
     let sound = reached_sound c.args.at.now c.args.reach (index (v 0)) res here in
-    changes areas piece kinds counts (act.Zak opcode c.args.reach) into (c.args.x ∷ c.args.number ∷ []) c.args.state.now _ before after
-    (record { regs = refl; rest = record { players = refl; outs = refl; delays = refl; ended = refl } }) state (state.row ∙ sym state.frames)
+    changes areas piece kinds counts (act.Zak opcode c.args.reach) into (c.args.x ∷ c.args.number ∷ [])
+    c.args.state.now _ before after
+    (record { regs = refl; rest = record { players = refl; outs = refl; delays = refl; ended = refl } }) state
+    (state.row ∙ sym state.frames)
     (λ next asks cause. let m = machine_of c.args.state.now before next asks cause in
     mixing areas piece opcode c.args.reach into m w v shaped
     ∙ ap (λ x. in_world x m)
-    (at_reached c.args.at.now piece space.Audio c.args.reach (index (v 0)) res m.world (λ q. saved (voice_model areas piece) q (added (read_cells areas q before) w) m.world) at.spaces here)
+    (at_reached c.args.at.now piece space.Audio c.args.reach (index (v 0)) res m.world
+    (λ q. saved (voice_model areas piece) q (added (read_cells areas q before) w) m.world) at.spaces here)
     ∙ ap (λ cells. machine_of c.args.state.now cells next asks cause)
-    (mixed_here areas res c.area_at-area.result w c.row.result.now c.args.state.now.regs.ksmps piece.head.ksmps before after
-    (ap (λ l. area_of l res) (sym at.layout) ∙ c.area_at-area.ensures.value) sound
-    (c.requires.sized.cells res c.area_at-area.result c.area_at-area.ensures.value (reached_value c.args.at.now space.Audio c.args.reach (index (v 0)) res here) ∙ ap (cell_count c.args.state.now.regs.ksmps) sound)
+    (mixed_here areas res c.area_in-area.result w c.row.result.now ksmps piece.head.ksmps before after
+    (ap (λ l. area_of l res) (sym at.layout) ∙ c.area_in-area.ensures.value) sound
+    (c.requires.sized.cells res c.area_in-area.result c.area_in-area.ensures.value
+    (reached_value c.args.at.now space.Audio c.args.reach (index (v 0)) res here) ∙ ap (cell_count ksmps) sound)
     c.row.ensures.long state.frames
-    (c.row.ensures.value ∙ ap (values c.args.state.now.regs) (sound_register c.args.x c.requires.sound)) c.mix_row.ensures.cells))
+    (c.row.ensures.value ∙ ap (values c.args.state.now.regs) (sound_register c.args.x c.requires.sound))
+    c.mix_row.ensures.cells))
 
 pub returns-in_default-clause-does : goal.returns-in_default-clause-does
 returns-in_default-clause-does g c = λ opcode into shaped areas piece stock kinds counts at placed state.
     let before = cell (g.B.Bank.cells c.args.bank.now) in
     let v = values c.args.state.now.regs c.args.number in
     let w = values c.args.state.now.regs c.args.x in
-    changes areas piece kinds counts (act.Zak opcode c.args.reach) into (c.args.x ∷ c.args.number ∷ []) c.args.state.now _ before before
-    (record { regs = refl; rest = record { players = refl; outs = refl; delays = refl; ended = refl } }) state (state.row ∙ sym state.frames)
+    changes areas piece kinds counts (act.Zak opcode c.args.reach) into (c.args.x ∷ c.args.number ∷ [])
+    c.args.state.now _ before before
+    (record { regs = refl; rest = record { players = refl; outs = refl; delays = refl; ended = refl } }) state
+    (state.row ∙ sym state.frames)
     (λ next asks cause. let m = machine_of c.args.state.now before next asks cause in
     mixing areas piece opcode c.args.reach into m w v shaped
     ∙ ap (λ x. in_world x m)
-    (not_reached c.args.at.now piece space.Audio c.args.reach (index (v 0)) m.world (λ q. saved (voice_model areas piece) q (added (read_cells areas q before) w) m.world) at.spaces
-    (ap (λ z. reached c.args.at.now space.Audio c.args.reach (index z)) (sym c.first.ensures) ∙ sym c.place.ensures ∙ c.in_default.is)))
+    (not_reached c.args.at.now piece space.Audio c.args.reach (index (v 0)) m.world
+    (λ q. saved (voice_model areas piece) q (added (read_cells areas q before) w) m.world) at.spaces
+    (ap (λ z. reached c.args.at.now space.Audio c.args.reach (index z)) (sym c.first.ensures) ∙ sym c.place.ensures
+    ∙ c.in_default.is)))

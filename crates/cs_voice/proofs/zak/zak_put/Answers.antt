@@ -23,26 +23,40 @@ returns-in-Some-clause-does g c = λ opcode into shaped areas piece stock kinds 
     let v = values c.args.state.now.regs c.args.number in
     let w = values c.args.state.now.regs c.args.x in
     let res = c.in-Some.res in
-    changes areas piece kinds counts (act.Zak opcode c.args.within.reach) into (c.args.x ∷ c.args.number ∷ []) c.args.state.now _ before after
-    (record { regs = refl; rest = record { players = refl; outs = refl; delays = refl; ended = refl } }) state c.write.ensures.row
+    let s = c.args.within.space in
+    let reach = c.args.within.reach in
+    let ksmps = c.args.state.now.regs.ksmps in
+    changes areas piece kinds counts (act.Zak opcode reach) into (c.args.x ∷ c.args.number ∷ []) c.args.state.now _
+    before after
+    (record { regs = refl; rest = record { players = refl; outs = refl; delays = refl; ended = refl } }) state
+    c.write.ensures.row
     (λ next asks cause. let m = machine_of c.args.state.now before next asks cause in
-    putting areas piece opcode c.args.within.reach into m c.args.within.space w v shaped
+    putting areas piece opcode reach into m s w v shaped
     ∙ ap (λ x. in_world x m)
-    (at_reached c.args.at.now piece c.args.within.space c.args.within.reach (index (v 0)) res m.world (λ q. saved (voice_model areas piece) q w m.world) at.spaces
-    (ap (λ z. reached c.args.at.now c.args.within.space c.args.within.reach (index z)) (sym c.first.ensures) ∙ sym c.place.ensures ∙ c.in-Some.is))
+    (at_reached c.args.at.now piece s reach (index (v 0)) res m.world
+    (λ q. saved (voice_model areas piece) q w m.world) at.spaces
+    (ap (λ z. reached c.args.at.now s reach (index z)) (sym c.first.ensures) ∙ sym c.place.ensures ∙ c.in-Some.is))
     ∙ ap (λ cells. machine_of c.args.state.now cells next asks cause)
-    (saved_here areas res c.area_at-area.result (res_rate res) w c.args.state.now.regs.ksmps piece.head.ksmps before after
-    (ap (λ l. area_of l res) (sym at.layout) ∙ c.area_at-area.ensures.value) state.frames (subst (λ r. after ≡ with_wave (Some c.area_at-area.result) (held c.args.state.now.regs.ksmps r (w)) before) c.rate.ensures c.write.ensures.cells)))
+    (saved_here areas res c.area_in-area.result (res_rate res) w ksmps piece.head.ksmps before after
+    (ap (λ l. area_of l res) (sym at.layout) ∙ c.area_in-area.ensures.value) state.frames
+    (subst (λ r. after ≡ with_wave (Some c.area_in-area.result) (held ksmps r w) before) c.rate.ensures
+    c.write.ensures.cells)))
 
 pub returns-in_default-clause-does : goal.returns-in_default-clause-does
 returns-in_default-clause-does g c = λ opcode into shaped areas piece stock kinds counts at placed state.
     let before = cell (g.B.Bank.cells c.args.bank.now) in
     let v = values c.args.state.now.regs c.args.number in
     let w = values c.args.state.now.regs c.args.x in
-    changes areas piece kinds counts (act.Zak opcode c.args.within.reach) into (c.args.x ∷ c.args.number ∷ []) c.args.state.now _ before before
-    (record { regs = refl; rest = record { players = refl; outs = refl; delays = refl; ended = refl } }) state (state.row ∙ sym state.frames)
+    let s = c.args.within.space in
+    let reach = c.args.within.reach in
+    changes areas piece kinds counts (act.Zak opcode reach) into (c.args.x ∷ c.args.number ∷ []) c.args.state.now _
+    before before
+    (record { regs = refl; rest = record { players = refl; outs = refl; delays = refl; ended = refl } }) state
+    (state.row ∙ sym state.frames)
     (λ next asks cause. let m = machine_of c.args.state.now before next asks cause in
-    putting areas piece opcode c.args.within.reach into m c.args.within.space w v shaped
+    putting areas piece opcode reach into m s w v shaped
     ∙ ap (λ x. in_world x m)
-    (not_reached c.args.at.now piece c.args.within.space c.args.within.reach (index (v 0)) m.world (λ q. saved (voice_model areas piece) q w m.world) at.spaces
-    (ap (λ z. reached c.args.at.now c.args.within.space c.args.within.reach (index z)) (sym c.first.ensures) ∙ sym c.place.ensures ∙ c.in_default.is)))
+    (not_reached c.args.at.now piece s reach (index (v 0)) m.world
+    (λ q. saved (voice_model areas piece) q w m.world) at.spaces
+    (ap (λ z. reached c.args.at.now s reach (index z)) (sym c.first.ensures) ∙ sym c.place.ensures
+    ∙ c.in_default.is)))
