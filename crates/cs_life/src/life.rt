@@ -14,7 +14,7 @@ use cs_base::OutOfMemory;
 use cs_cells::Bank;
 use cs_piece::{Playable, Setup};
 use cs_sched::Pending;
-use cs_voice::{Stage, TableAt, start};
+use cs_voice::{NewNote, Stage, TableAt, start};
 use std::alloc::Global;
 
 /// What is kept of a performance. `Stands` (specs/Standing) says at which moments it stands.
@@ -108,8 +108,13 @@ fn begin_outside<'t, B: Bank>(
     let Playable { instrument, foot } = setup.outside();
     let mut asks = Vec::new(alloc);
     let fields = Vec::new(alloc);
-    start(
-        alloc, instrument, foot, stage, made, fields, 0, &mut asks, bank,
-    )?;
+    let note = NewNote {
+        instrument,
+        foot,
+        stage,
+        made,
+        age: 0,
+    };
+    start(alloc, &note, fields, &mut asks, bank)?;
     Ok(())
 }

@@ -22,7 +22,7 @@ use cs_cells::{Bank, Job};
 use cs_ir::Ask;
 use cs_piece::Playable;
 use cs_sched::{Added, Asking, Due, Pending};
-use cs_voice::{Started, Voice, start};
+use cs_voice::{NewNote, Started, Voice, start};
 use std::alloc::Global;
 
 impl<'t> Life<'t> {
@@ -114,17 +114,14 @@ impl<'t> Life<'t> {
         let fields = fields.into_vec();
         let time = time_of(&fields);
         let mut asks = Vec::new(alloc);
-        let begun = start(
-            alloc,
-            playable.instrument,
-            playable.foot,
-            self.stage,
-            &self.made,
-            fields,
-            self.started,
-            &mut asks,
-            bank,
-        )?;
+        let new_note = NewNote {
+            instrument: playable.instrument,
+            foot: playable.foot,
+            stage: self.stage,
+            made: &self.made,
+            age: self.started,
+        };
+        let begun = start(alloc, &new_note, fields, &mut asks, bank)?;
         let at = Asking {
             cycle,
             time,

@@ -1,15 +1,14 @@
 -- What the code that begins a note leaves: the voice, or the cause.
-use Rattle.std.proofs.Common.{◌≡◌, ℕ, ℤ, pos, zero, suc, ◌-◌, ◌++◌, ◌<◌, ◌≤◌, Bool, true, List, [], ◌∷◌, length, map, slice_index_or, Option, Some, None, refl, sym, ◌∙◌, ap, subst, arith}
+use Rattle.std.proofs.Common.{◌≡◌, ℕ, ℤ, pos, zero, suc, ◌-◌, ◌++◌, Bool, true, List, [], ◌∷◌, length, map}
+use Rattle.std.proofs.Common.{slice_index_or, Option, Some, None, refl, sym, ◌∙◌, ap, subst, arith}
 use Rattle.std.specs.Option.{option_map}
 use Rattle.cs_ir.specs.Asks.{ask_of}
-use Rattle.cs_ir.specs.Instruments.{Numbered}
 use Rattle.cs_ir.specs.Machine.{Machine, new_machine, run}
 use Rattle.cs_ir.specs.Validity.{valid}
 use Rattle.cs_ir.specs.declared.ask.Ask.{Ask}
 use Rattle.cs_ir.specs.declared.op.Code.{Code}
 use Rattle.cs_ir.specs.declared.register.Counts.{Counts}
 use Rattle.cs_machine.specs.Access.{AreSpaces, spaces_of}
-use Rattle.cs_cells.specs.Areas.{word_count}
 use Rattle.cs_cells.specs.declared.footprint.Footprint.{Footprint}
 use Rattle.cs_cells.specs.declared.footprint.Area.{Area}
 use Rattle.cs_meaning.specs.Pieces.{Piece}
@@ -27,35 +26,41 @@ use Rattle.cs_voice.specs.Memory.{MakeVoice, table_of, voice_in}
 use Rattle.cs_voice.specs.VoiceData.{IsOn, made, sounding_on}
 use Rattle.cs_voice.specs.declared.stage.Stage.{Stage}
 use Rattle.cs_voice.specs.declared.stage.TableAt.{TableAt}
-use Rattle.cs_voice.specs.Passing.{CanPass, IsStateOf, Passes}
+use Rattle.cs_voice.specs.Passing.{CanInitialise, CanPass, IsStateOf, Passes}
 use Rattle.cs_voice.specs.Starting.{cause_of}
-use Rattle.cs_voice.specs.Starts.{IsLive, IsStarted, piece_at, sheet_at, started_as}
-use Rattle.cs_voice.specs.Tables.{CanAllBePlayed, tables_of}
+use Rattle.cs_voice.specs.Starts.{IsLive, IsStarted, sheet_for, started_as}
+use Rattle.cs_voice.specs.Tables.{tables_of}
 use Rattle.cs_voice.specs.declared.begin.Refusal.{Refusal}
 use Rattle.cs_voice.specs.declared.begin.Refusal.TheVariants as refusal
+use Rattle.cs_voice.specs.declared.note.NewNote.{NewNote}
 use Rattle.cs_voice.specs.declared.tables.Finds.{Finds}
 
 -- the tables that a voice keeps are those that it found, made
-tables_made : (tables : List TableAt) (ms : List Bool) → length ms ≡ length tables → map made (tables_of tables ms) ≡ map table_of tables
+tables_made : (tables : List TableAt) (ms : List Bool) → length ms ≡ length tables
+    → map made (tables_of tables ms) ≡ map table_of tables
 tables_made [] ms e = refl
 tables_made (t ∷ tables) [] e = absurd (omega arith)
 tables_made (t ∷ tables) (m ∷ ms) e = ap (λ ts. table_of t ∷ ts) (tables_made tables ms (omega arith))
 
 -- the units of a voice are those of its state
-units_as : (ps : List (Option PlayerData)) (u : ℕ) → slice_index_or (map (option_map playing) ps) u None ≡ option_map playing (slice_index_or ps u None)
+units_as : (ps : List (Option PlayerData)) (u : ℕ)
+    → slice_index_or (map (option_map playing) ps) u None ≡ option_map playing (slice_index_or ps u None)
 units_as [] u = refl
 units_as (p ∷ ps) zero = refl
 units_as (p ∷ ps) (suc u) = units_as ps u
 
 -- a new state of a sheet's code
-pub new_state : (s : Sheet) (counts : Counts) (state : State) → ((cells : ℕ → ℤ) → machine_of state cells 0 [] None ≡ new_machine (fresh_voice cells))
-    → ((areas : List Area) (piece : Piece) (kinds : Kinds) → piece.head.ksmps ≡ s.piece.head.ksmps → piece.head.nchnls ≡ s.piece.head.nchnls → IsStateIn areas piece kinds counts state)
+pub new_state : (s : Sheet) (counts : Counts) (state : State)
+    → ((cells : ℕ → ℤ) → machine_of state cells 0 [] None ≡ new_machine (fresh_voice cells))
+    → ((areas : List Area) (piece : Piece) (kinds : Kinds) → piece.head.ksmps ≡ s.piece.head.ksmps
+    → piece.head.nchnls ≡ s.piece.head.nchnls → IsStateIn areas piece kinds counts state)
     → IsPlayable s → (state.regs.counts ≡ counts) × IsStateOf s state.regs.counts state
 new_state s counts state fresh in_piece playable =
     let counted : state.regs.counts ≡ counts = (in_piece s.areas s.piece playable.kinds refl refl).registers in (
       counted,
       record {
-        in_piece = λ p. subst (λ k. IsStateIn s.areas s.piece p.kinds k state) (sym counted) (in_piece s.areas s.piece p.kinds refl refl);
+        in_piece = λ p. subst (λ k. IsStateIn s.areas s.piece p.kinds k state) (sym counted)
+            (in_piece s.areas s.piece p.kinds refl refl);
         delays = let e : state.delays ≡ 0 = ap (λ m. m.world.delays) (fresh (λ a. pos 0)) in omega arith;
       },
     )
@@ -77,7 +82,8 @@ module _ (s : Sheet) (first now : State) (before after : ℕ → ℤ) (asked giv
 
   -- the voice of a state
   sounds_so : (number age : ℕ) (stage : Stage) (foot : Footprint) (code : Code) (fields : List ℤ)
-      → sounding_on s (voice_in number age stage foot code fields now) ≡ voice_of s (machine_of now after passes.next passes.more (option_map cause_of refused))
+      → sounding_on s (voice_in number age stage foot code fields now)
+      ≡ voice_of s (machine_of now after passes.next passes.more (option_map cause_of refused))
   sounds_so number age stage foot code fields = λ i. record {
     sheet = s;
     regs = values now.regs;
@@ -88,31 +94,34 @@ module _ (s : Sheet) (first now : State) (before after : ℕ → ℤ) (asked giv
   }
 
   pub live : (number age : ℕ) (stage : Stage) (foot : Footprint) (code : Code) (fields : List ℤ) → refused ≡ None
-      → IsOn s (voice_in number age stage foot code fields now) → IsLive s (initialised s before) (voice_in number age stage foot code fields now)
+      → IsOn s (voice_in number age stage foot code fields now)
+      → IsLive s (initialised s before) (voice_in number age stage foot code fields now)
   live number age stage foot code fields none on = record {
     cause = cause_left ∙ ap (option_map cause_of) none;
     sounds = sounds_so number age stage foot code fields ∙ ap (voice_of s) (sym began);
     plays = on;
   }
 
-pub refused_so : (s : Sheet) (m : Machine VoiceState) (r : Refusal) → m.world.cause ≡ Some (cause_of r) → IsStarted s m (started_as r)
+pub refused_so : (s : Sheet) (m : Machine VoiceState) (r : Refusal) → m.world.cause ≡ Some (cause_of r)
+    → IsStarted s m (started_as r)
 refused_so s m (refusal.NoTable number) e = e
 refused_so s m (refusal.DelayTooLong samples) e = e
 
 -- the parts of a voice that plays from an instrument's sheet
-pub made_voice : (instrument : Numbered) (number age : ℕ) (foot : Footprint) (stage : Stage) (ms : List Bool) (fields : List ℤ) (perf : Code) (counts : Counts) (state : State)
-    → IsPlayable (sheet_at instrument age foot stage ms fields) → number ≡ instrument.number → perf ≡ instrument.perf → length ms ≡ length stage.tables.now
-    → AreSpaces stage.layout.now → spaces_of stage.layout.now ≡ stage.spaces → valid perf ≡ true
-    → counts ≡ perf.counts → IsStateOf (sheet_at instrument age foot stage ms fields) counts state
-    → MakeVoice number age stage foot perf fields state
-made_voice instrument number age foot stage ms fields perf counts state playable numbered same long places zak fine counted of = record {
-  sheet = sheet_at instrument age foot stage ms fields;
+pub made_voice : (note : NewNote) (number : ℕ) (fields : List ℤ) (perf : Code) (counts : Counts) (state : State)
+    → IsPlayable (sheet_for note fields) → number ≡ note.instrument.now.number → perf ≡ note.instrument.now.perf
+    → length note.made.now ≡ length note.stage.tables.now
+    → AreSpaces note.stage.layout.now → spaces_of note.stage.layout.now ≡ note.stage.spaces → valid perf ≡ true
+    → counts ≡ perf.counts → IsStateOf (sheet_for note fields) counts state
+    → MakeVoice number note.age note.stage note.foot.now perf fields state
+made_voice note number fields perf counts state playable numbered same long places zak fine counted of = record {
+  sheet = sheet_for note fields;
   parts = record {
     number = sym numbered;
     age = refl;
     head = refl;
     spaces = refl;
-    tables = tables_made stage.tables.now ms long;
+    tables = tables_made note.stage.tables.now note.made.now long;
     fields = λ k. refl;
     areas = refl;
     foot = refl;
@@ -122,53 +131,57 @@ made_voice instrument number age foot stage ms fields perf counts state playable
   spaces = places;
   zak = zak;
   fine = fine;
-  state = subst (λ k. IsStateIn stage.layout.now (piece_at stage ms fields) playable.kinds k state) counted (of.in_piece playable);
+  state = subst (λ k. IsStateIn note.stage.layout.now (sheet_for note fields).piece playable.kinds k state) counted
+      (of.in_piece playable);
 }
 
-pub on_sheet : (instrument : Numbered) (number age : ℕ) (foot : Footprint) (stage : Stage) (ms : List Bool) (fields : List ℤ) (perf : Code) (counts : Counts) (state : State)
-    → IsPlayable (sheet_at instrument age foot stage ms fields) → number ≡ instrument.number → perf ≡ instrument.perf → length ms ≡ length stage.tables.now
-    → AreSpaces stage.layout.now → spaces_of stage.layout.now ≡ stage.spaces → valid perf ≡ true
-    → counts ≡ perf.counts → IsStateOf (sheet_at instrument age foot stage ms fields) counts state
-    → IsOn (sheet_at instrument age foot stage ms fields) (voice_in number age stage foot perf fields state)
+pub on_sheet : (note : NewNote) (number : ℕ) (fields : List ℤ) (perf : Code) (counts : Counts) (state : State)
+    → IsPlayable (sheet_for note fields) → number ≡ note.instrument.now.number → perf ≡ note.instrument.now.perf
+    → length note.made.now ≡ length note.stage.tables.now
+    → AreSpaces note.stage.layout.now → spaces_of note.stage.layout.now ≡ note.stage.spaces → valid perf ≡ true
+    → counts ≡ perf.counts → IsStateOf (sheet_for note fields) counts state
+    → IsOn (sheet_for note fields) (voice_in number note.age note.stage note.foot.now perf fields state)
 unfolding made_voice
-on_sheet instrument number age foot stage ms fields perf counts state playable numbered same long places zak fine counted of =
-    (made_voice instrument number age foot stage ms fields perf counts state playable numbered same long places zak fine counted of).parts
+on_sheet note number fields perf counts state playable numbered same long places zak fine counted of =
+    (made_voice note number fields perf counts state playable numbered same long places zak fine counted of).parts
 
--- the code that begins a sheet's notes can be done over a bank of all cells
-pub can_pass : (get set : ℕ → Type 0) (count : ℕ) (finds : Finds) (instrument : Numbered) (age : ℕ) (foot : Footprint) (stage : Stage) (ms : List Bool) (fields : List ℤ) (init : Code) (state : State)
-    → finds.at.layout.now ≡ stage.layout.now → finds.at.head.now ≡ stage.head.now → finds.at.spaces ≡ stage.spaces
-    → finds.at.fields.now ≡ fields → finds.tables.now ≡ stage.tables.now → init ≡ instrument.init → valid init ≡ true
-    → ((cells : ℕ → ℤ) → machine_of state cells 0 [] None ≡ new_machine (fresh_voice cells))
-    → ((areas : List Area) (piece : Piece) (kinds : Kinds) → piece.head.ksmps ≡ stage.head.now.ksmps → piece.head.nchnls ≡ stage.head.now.nchnls → IsStateIn areas piece kinds init.counts state)
-    → IsPlayable (sheet_at instrument age foot stage ms fields) → length ms ≡ length stage.tables.now
-    → CanAllBePlayed stage.layout.now (tables_of stage.tables.now ms) → AreSpaces stage.layout.now
-    → spaces_of stage.layout.now ≡ stage.spaces
-    → ((a : ℕ) → a < word_count stage.layout.now → get a) → ((a : ℕ) → a < word_count stage.layout.now → set a) → word_count stage.layout.now ≤ count
-    → CanPass get set count finds ms init (sheet_at instrument age foot stage ms fields) state
-can_pass get set count finds instrument age foot stage ms fields init state layout head zs given tabled same fine fresh in_piece playable long can places zak gets sets words =
-    let new = new_state (sheet_at instrument age foot stage ms fields) init.counts state fresh in_piece playable in
+-- the code that begins a note can be done with what it finds
+pub can_pass : (get set : ℕ → Type 0) (count : ℕ) (finds : Finds) (note : NewNote) (fields : List ℤ) (init : Code)
+    (state : State)
+    → init ≡ note.instrument.now.init → valid init ≡ true → CanInitialise get set count finds note fields state
+    → CanPass get set count finds note.made.now init (sheet_for note fields) state
+can_pass get set count finds note fields init state same fine can =
+    let counts : Counts = note.instrument.now.init.counts in
+    let new = new_state (sheet_for note fields) counts state can.fresh can.in_piece can.playable in
     record {
       begin = record {
         found = record {
           setting = record {
-            layout = layout;
-            head = ap header_of_head (sym head);
-            spaces = sym zs;
-            fields = λ k. ap (λ f. argument f (k - 1)) (sym given);
+            layout = can.layout;
+            head = ap header_of_head (sym can.head);
+            spaces = sym can.zak;
+            fields = λ k. ap (λ f. argument f (k - 1)) (sym can.given);
           };
-          places = places;
-          spaces = zak;
-          made = long ∙ ap length (sym tabled);
-          tables = ap (λ ts. tables_of ts ms) (sym tabled);
-          can_be_played = can;
+          places = can.places;
+          spaces = can.spaces;
+          made = can.made ∙ ap length (sym can.found);
+          tables = ap (λ ts. tables_of ts note.made.now) (sym can.found);
+          can_be_played = can.tables;
         };
-        playable = playable;
+        playable = can.playable;
         state = new.1;
-        gets = gets;
-        sets = sets;
-        long = words;
+        gets = can.gets;
+        sets = can.sets;
+        long = can.cells;
       };
       same = ap (λ code. code.ops.items) (sym same);
       valid = fine;
-      counts = new.0;
+      counts = new.0 ∙ ap (λ (code : Code). code.counts) (sym same);
     }
+
+-- what holds of the p-fields holds of those that are found
+pub as_found : (get set : ℕ → Type 0) (count : ℕ) (finds : Finds) (note : NewNote) (fields : List ℤ) (state : State)
+    → CanInitialise get set count finds note fields state
+    → CanInitialise get set count finds note finds.at.fields.now state
+as_found get set count finds note fields state can =
+    subst (λ f. CanInitialise get set count finds note f state) (sym can.given) can

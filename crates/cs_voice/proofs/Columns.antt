@@ -1,16 +1,16 @@
 -- Places of frames that are filled channel by channel.
-use Rattle.std.proofs.Common.{◌≡◌, ℕ, zero, suc, ℤ, pos, ◌+◌, ◌-◌, ◌*◌, ◌/◌, ◌<◌, ◌≤◌, ◌≢◌, ◌==◌, List, [], ◌∷◌, ◌++◌, length, get_or, map, take, drop, replicate, slice_set, refl, sym, ◌∙◌, ap, subst, arith}
+use Rattle.std.proofs.Common.{◌≡◌, ℕ, zero, suc, ℤ, pos, ◌+◌, ◌-◌, ◌*◌, ◌/◌, ◌<◌, ◌≤◌, ◌≢◌, ◌==◌, List, [], ◌∷◌, ◌++◌}
+use Rattle.std.proofs.Common.{length, get_or, map, take, drop, replicate, slice_set, refl, sym, ◌∙◌, ap, subst, arith}
 use Rattle.std.specs.List.{flat_map, range_with_len}
 use Rattle.std.proofs.Math.Nat.{mul-le-mul}
 use Rattle.std.proofs.lemmas.Bool.{eqb-true}
 use Rattle.std.proofs.lemmas.Bool.Decides.{nat_tests}
 use Rattle.std.proofs.lemmas.Nat.{div-mul-add}
-use Rattle.std.proofs.lemmas.List.{get_or-set_same, get_or-set_other, get_or-take, get_or-drop, length-take, length-drop, take-append-drop, ext_get_or}
+use Rattle.std.proofs.lemmas.List.{get_or-set_same, get_or-set_other, get_or-take, get_or-drop, length-take}
+use Rattle.std.proofs.lemmas.List.{length-drop, take-append-drop, ext_get_or}
 use Rattle.std.proofs.lemmas.List.FromFn.{get_or-map-range_with_len, length-map-range_with_len}
 use Rattle.cs_base.proofs.Tests.{by_test}
-use Rattle.cs_base.specs.Numbers.{IsRaw}
 use Rattle.cs_machine.proofs.Frames.{apart}
-use Rattle.cs_signal.specs.Operands.{argument}
 use Rattle.cs_voice.specs.inner.Places.{place}
 
 -- A place of rows of n belongs to one row and one column.
@@ -31,10 +31,12 @@ within n frames j c row column =
     omega (arith, more, e)
 
 -- a place takes a number, and no other place does
-pub placed_here : (n : ℕ) (out : List ℤ) (j c : ℕ) (z : ℤ) → j * n + c < length out → place n (slice_set out (j * n + c) z) j c ≡ z
+pub placed_here : (n : ℕ) (out : List ℤ) (j c : ℕ) (z : ℤ) → j * n + c < length out
+    → place n (slice_set out (j * n + c) z) j c ≡ z
 placed_here n out j c z low = get_or-set_same out (j * n + c) z (pos 0) low
 
-pub placed_else : (n : ℕ) (out : List ℤ) (j c i d : ℕ) (z : ℤ) → i * n + d ≢ j * n + c → place n (slice_set out (j * n + c) z) i d ≡ place n out i d
+pub placed_else : (n : ℕ) (out : List ℤ) (j c i d : ℕ) (z : ℤ) → i * n + d ≢ j * n + c
+    → place n (slice_set out (j * n + c) z) i d ≡ place n out i d
 placed_else n out j c i d z other = get_or-set_other out (j * n + c) (i * n + d) z (pos 0) other
 
 pub other_frame : (n i j c : ℕ) → c < n → i ≢ j → i * n + c ≢ j * n + c
@@ -57,18 +59,22 @@ all_rows n f (suc frames) a out long each =
     (λ c low.
     let inside : c < n = omega (arith, low, length-take n out) in
     get_or-take n out c (pos 0) inside
-    ∙ (subst (λ k. get_or out k (pos 0) ≡ f a c) (omega arith) (subst (λ k. place n out 0 c ≡ f k c) (omega arith) (each 0 c (omega arith) inside))
+    ∙ (subst (λ k. get_or out k (pos 0) ≡ f a c) (omega arith)
+    (subst (λ k. place n out 0 c ≡ f k c) (omega arith) (each 0 c (omega arith) inside))
     ∙ sym (get_or-map-range_with_len (f a) 0 n c c (pos 0) inside (omega arith)))) in
     let rest : drop n out ≡ flat_map (λ j. map (f j) (range_with_len 0 n)) (range_with_len (a + 1) frames) =
     all_rows n f frames (a + 1) (drop n out) (length-drop n out ∙ omega (arith, long, whole))
     (λ j c row column.
     get_or-drop n out (j * n + c) (pos 0)
     ∙ (ap (λ k. get_or out k (pos 0)) (let e : n + (j * n + c) ≡ (suc j) * n + c = omega arith in e)
-    ∙ (each (suc j) c (omega (arith, row)) column ∙ ap (λ k. f k c) (let e : a + suc j ≡ a + 1 + j = omega arith in e)))) in
+    ∙ (each (suc j) c (omega (arith, row)) column
+    ∙ ap (λ k. f k c) (let e : a + suc j ≡ a + 1 + j = omega arith in e)))) in
     sym (take-append-drop n out) ∙ (λ i. first i ++ rest i)
 
--- Sums are put frame by frame from a frame on: what the frames up to this one have, those before, and the other channels.
-module _ (n c from : ℕ) (sums before out : List ℤ) (j : ℕ) (z : ℤ) (low : c < n) (inside : (from + j) * n + c < length out) where
+-- Sums are put frame by frame from a frame on: what the frames up to this one have, those before, and the other
+-- channels.
+module _ (n c from : ℕ) (sums before out : List ℤ) (j : ℕ) (z : ℤ) (low : c < n)
+    (inside : (from + j) * n + c < length out) where
   pub put_more : z ≡ get_or sums j (pos 0) → ((i : ℕ) → i < j → place n out (from + i) c ≡ get_or sums i (pos 0))
       → (i : ℕ) → i < j + 1 → place n (slice_set out ((from + j) * n + c) z) (from + i) c ≡ get_or sums i (pos 0)
   put_more is done i h = by_test (i == j)
@@ -76,40 +82,31 @@ module _ (n c from : ℕ) (sums before out : List ℤ) (j : ℕ) (z : ℤ) (low 
       ap (λ k. place n (slice_set out ((from + j) * n + c) z) (from + k) c) e
       ∙ (placed_here n out (from + j) c z inside ∙ (is ∙ ap (λ k. get_or sums k (pos 0)) (sym e))))
       (λ no. let other : i ≢ j = apart i j no in
-      placed_else n out (from + j) c (from + i) c z (other_frame n (from + i) (from + j) c low (λ e. other (omega (arith, e))))
+      placed_else n out (from + j) c (from + i) c z
+      (other_frame n (from + i) (from + j) c low (λ e. other (omega (arith, e))))
       ∙ done i (let m : i < j = grind (arith, nat_tests) in m))
 
   pub before_more : ((i : ℕ) → i < from → place n out i c ≡ place n before i c)
       → (i : ℕ) → i < from → place n (slice_set out ((from + j) * n + c) z) i c ≡ place n before i c
   before_more same i h =
-      placed_else n out (from + j) c i c z (other_frame n i (from + j) c low (λ e. absurd (omega (arith, h, e)))) ∙ same i h
+      placed_else n out (from + j) c i c z (other_frame n i (from + j) c low (λ e. absurd (omega (arith, h, e))))
+      ∙ same i h
 
   pub others_more : ((i d : ℕ) → d < n → d ≢ c → place n out i d ≡ place n before i d)
       → (i d : ℕ) → d < n → d ≢ c → place n (slice_set out ((from + j) * n + c) z) i d ≡ place n before i d
-  others_more same i d high other = placed_else n out (from + j) c i d z (other_channel n i (from + j) c d low high other) ∙ same i d high other
+  others_more same i d high other =
+      placed_else n out (from + j) c i d z (other_channel n i (from + j) c d low high other) ∙ same i d high other
 
 -- frames counted from one of them on
-pub from_frame : (P : ℕ → Type 0) (from count : ℕ) → ((j : ℕ) → j < count → P (from + j)) → (j : ℕ) → from ≤ j → j < from + count → P j
+pub from_frame : (P : ℕ → Type 0) (from count : ℕ) → ((j : ℕ) → j < count → P (from + j)) → (j : ℕ) → from ≤ j
+    → j < from + count → P j
 from_frame P from count h j low high =
     let e : from + (j - from) ≡ j = omega (arith, low) in subst P e (h (j - from) (omega (arith, low, high)))
 
 -- a piece of a row has what the row has from there on
-pub part_at : (row : List ℤ) (from count j : ℕ) → j < count → get_or (take count (drop from row)) j (pos 0) ≡ get_or row (from + j) (pos 0)
+pub part_at : (row : List ℤ) (from count j : ℕ) → j < count
+    → get_or (take count (drop from row)) j (pos 0) ≡ get_or row (from + j) (pos 0)
 part_at row from count j low = get_or-take count (drop from row) j (pos 0) low ∙ get_or-drop from row j (pos 0)
-
--- a number of one list comes into its place in another
-set_copied : (xs ys : List ℤ) (i : ℕ) (z : ℤ) → i < length xs → i < length ys → z ≡ get_or xs i (pos 0)
-    → slice_set (take i xs ++ drop i ys) i z ≡ take (suc i) xs ++ drop (suc i) ys
-set_copied [] ys i z low high is = absurd (omega (arith, low))
-set_copied (x ∷ xs) [] i z low high is = absurd (omega (arith, high))
-set_copied (x ∷ xs) (y ∷ ys) zero z low high is = ap (λ k. k ∷ ys) is
-set_copied (x ∷ xs) (y ∷ ys) (suc i) z low high is = ap (λ l. x ∷ l) (set_copied xs ys i z (omega (arith, low)) (omega (arith, high)) is)
-
-pub copied_more : (xs ys part : List ℤ) (i : ℕ) (z : ℤ) → i < length xs → length ys ≡ length xs → z ≡ get_or xs i (pos 0) → part ≡ take i xs ++ drop i ys
-    → slice_set part i z ≡ take (i + 1) xs ++ drop (i + 1) ys
-copied_more xs ys part i z low long is so_far =
-    ap (λ l. slice_set l i z) so_far ∙ set_copied xs ys i z low (omega (arith, low, long)) is
-    ∙ ap (λ k. take k xs ++ drop k ys) (let e : suc i ≡ i + 1 = omega arith in e)
 
 -- zeros are zeros
 pub zeros_have : (m k j : ℕ) → get_or (take k (replicate m (pos 0))) j (pos 0) ≡ pos 0
@@ -119,15 +116,9 @@ zeros_have (suc m) zero j = refl
 zeros_have (suc m) (suc k) zero = refl
 zeros_have (suc m) (suc k) (suc j) = zeros_have m k j
 
-pub raw_more : (row : List ℤ) (j : ℕ) (y : ℤ) → y ≡ argument row j → IsRaw y → ((i : ℕ) → i < j → IsRaw (argument row i))
-    → (i : ℕ) → i < j + 1 → IsRaw (argument row i)
-raw_more row j y is raw done i h = by_test (i == j)
-    (λ yes. let e : i ≡ j = eqb-true i j yes in
-    subst IsRaw (is ∙ ap (argument row) (sym e)) raw)
-    (λ no. done i (let m : i < j = grind (arith, nat_tests) in m))
-
 pub all_frames : (n : ℕ) (f : ℕ → ℕ → ℤ) (frames : ℕ) (out : List ℤ) → length out ≡ frames * n
     → ((j c : ℕ) → j < frames → c < n → place n out j c ≡ f j c)
     → out ≡ flat_map (λ j. map (f j) (range_with_len 0 n)) (range_with_len 0 frames)
 all_frames n f frames out long each =
-    all_rows n f frames 0 out long (λ j c row column. each j c row column ∙ ap (λ k. f k c) (let e : j ≡ 0 + j = omega arith in e))
+    all_rows n f frames 0 out long
+    (λ j c row column. each j c row column ∙ ap (λ k. f k c) (let e : j ≡ 0 + j = omega arith in e))

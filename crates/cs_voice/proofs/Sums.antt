@@ -1,5 +1,6 @@
 -- Sums of what voices give, one voice after another.
-use Rattle.std.proofs.Common.{◌≡◌, ℕ, zero, suc, ℤ, pos, ◌+◌, ◌<◌, ◌≤◌, ◌+ℤ◌, List, [], ◌∷◌, ◌++◌, length, get_or, take, nat_lt, refl, sym, ◌∙◌, ap, subst, arith, ltb-true}
+use Rattle.std.proofs.Common.{◌≡◌, ℕ, zero, suc, ℤ, pos, ◌+◌, ◌<◌, ◌+ℤ◌, List, [], ◌∷◌, ◌++◌, length, get_or, take}
+use Rattle.std.proofs.Common.{nat_lt, refl, sym, ◌∙◌, ap, subst, arith, ltb-true}
 use Rattle.std.proofs.Math.IntN.{+ℤ_assoc, +ℤ_idl, +ℤ_idr}
 use Rattle.std.proofs.lemmas.Int.{ints}
 use Rattle.std.proofs.lemmas.List.{get_or_past, take_more}
@@ -8,7 +9,7 @@ use Rattle.cs_base.specs.Limits.{most_notes}
 use Rattle.cs_base.specs.Numbers.{IsRaw}
 use Rattle.cs_machine.specs.Outputs.{outs}
 use Rattle.cs_machine.proofs.Frames.{at_or_past}
-use Rattle.cs_wav.specs.Wav.{IsMix, added}
+use Rattle.cs_wav.specs.Wav.{TakesMore, added}
 use Rattle.cs_voice.specs.VoiceData.{VoiceData}
 use Rattle.cs_voice.specs.Mixing.{sum_at}
 use Rattle.cs_voice.specs.inner.Places.{IsSumOf}
@@ -29,24 +30,20 @@ nothing = record { low = omega (arith, ints); high = omega (arith, ints) }
 pub one_more : (n : ℕ) (x z : ℤ) → IsSumOf n x → IsRaw z → IsSumOf (n + 1) (x +ℤ z)
 one_more n x z s r = record { low = omega (arith, ints, s.low, r.0); high = omega (arith, ints, s.high, r.1) }
 
--- A raw number more is a sum that the mix may have.
-near : (n : ℕ) (x z : ℤ) → n < most_notes → IsSumOf n x → IsRaw z → IsMix (x +ℤ z)
-near n x z few s r = (omega (arith, ints, few, s.low, r.0), omega (arith, ints, few, s.high, r.1))
-
-nothing_near : IsMix (pos 0 +ℤ pos 0)
-nothing_near = (omega (arith, ints), omega (arith, ints))
-
-pub fits : (n : ℕ) (xs ys : List ℤ) → n < most_notes → length ys ≡ length xs → ((j : ℕ) → j < length xs → IsSumOf n (get_or xs j (pos 0)))
-    → ((j : ℕ) → j < length ys → IsRaw (get_or ys j (pos 0))) → (j : ℕ) → IsMix (get_or xs j (pos 0) +ℤ get_or ys j (pos 0))
-fits n xs ys few long sums raw j = by_test (nat_lt j (length xs))
-    (λ yes. let low : j < length xs = ltb-true j (length xs) yes in
-    near n (get_or xs j (pos 0)) (get_or ys j (pos 0)) few (sums j low) (raw j (subst (λ k. j < k) (sym long) low)))
-    (λ no. let far : length xs ≤ j = at_or_past j (length xs) no in
-    subst (λ z. IsMix (z +ℤ get_or ys j (pos 0))) (sym (get_or_past xs j (pos 0) far))
-    (subst (λ z. IsMix (pos 0 +ℤ z)) (sym (get_or_past ys j (pos 0) (subst (λ k. k ≤ j) (sym long) far))) nothing_near))
+-- The sum of fewer voices than there may be takes one more.
+pub room_for_more : (n : ℕ) (xs : List ℤ) → n < most_notes → ((j : ℕ) → j < length xs → IsSumOf n (get_or xs j (pos 0)))
+    → (j : ℕ) → TakesMore (get_or xs j (pos 0))
+room_for_more n xs few sums j = by_test (nat_lt j (length xs))
+    (λ yes. let s = sums j (ltb-true j (length xs) yes) in
+    (omega (arith, ints, few, s.low), omega (arith, ints, few, s.high)))
+    (λ no. subst TakesMore (sym (get_or_past xs j (pos 0) (at_or_past j (length xs) no))) nothing_taken)
+  where
+    nothing_taken : TakesMore (pos 0)
+    nothing_taken = (omega (arith, ints), omega (arith, ints))
 
 -- what was added, place by place
-pub added_at : (xs ys : List ℤ) (j : ℕ) → length ys ≡ length xs → get_or (added xs ys) j (pos 0) ≡ get_or xs j (pos 0) +ℤ get_or ys j (pos 0)
+pub added_at : (xs ys : List ℤ) (j : ℕ) → length ys ≡ length xs
+    → get_or (added xs ys) j (pos 0) ≡ get_or xs j (pos 0) +ℤ get_or ys j (pos 0)
 added_at [] [] j long = sym (+ℤ_idl (pos 0))
 added_at [] (y ∷ ys) j long = absurd (omega (arith, long))
 added_at (x ∷ xs) [] j long = absurd (omega (arith, long))
@@ -57,13 +54,15 @@ pub added_long : (xs ys : List ℤ) → length ys ≡ length xs → length (adde
 added_long [] [] long = refl
 added_long [] (y ∷ ys) long = absurd (omega (arith, long))
 added_long (x ∷ xs) [] long = absurd (omega (arith, long))
-added_long (x ∷ xs) (y ∷ ys) long = let e : length (added xs ys) ≡ length xs = added_long xs ys (omega (arith, long)) in ap suc e
+added_long (x ∷ xs) (y ∷ ys) long = let e : length (added xs ys) ≡ length xs =
+    added_long xs ys (omega (arith, long)) in ap suc e
 
 pub nothing_raw : IsRaw (pos 0)
 nothing_raw = (omega (arith, ints), omega (arith, ints))
 
 -- the voices so far, and one more
-pub sum_so_far : (voices : List VoiceData) (k : ℕ) (v : VoiceData) (frame channel : ℕ) → k < length voices → v ≡ get_or voices k v
+pub sum_so_far : (voices : List VoiceData) (k : ℕ) (v : VoiceData) (frame channel : ℕ) → k < length voices
+    → v ≡ get_or voices k v
     → sum_at (take (k + 1) voices) frame channel ≡ sum_at (take k voices) frame channel +ℤ outs v.outs channel frame
 sum_so_far voices k v frame channel low is =
     ap (λ l. sum_at l frame channel) (take_more voices k v low ∙ ap (λ x. take k voices ++ x ∷ []) (sym is))

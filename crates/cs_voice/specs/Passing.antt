@@ -3,24 +3,28 @@ use Rattle.std.specs.Prelude.{ℕ, ℤ, Bool, ◌≡◌, ◌≤◌, ◌<◌, ◌
 use Rattle.std.specs.Option.{option_map}
 use Rattle.cs_base.specs.Limits.{most_delay_samples}
 use Rattle.cs_ir.specs.Asks.{ask_of}
-use Rattle.cs_ir.specs.Machine.{acts, run}
+use Rattle.cs_ir.specs.Machine.{acts, new_machine, run}
 use Rattle.cs_ir.specs.Validity.{is_fine, valid}
 use Rattle.cs_ir.specs.declared.ask.Ask.{Ask}
 use Rattle.cs_ir.specs.declared.op.Code.{Code}
 use Rattle.cs_ir.specs.declared.op.Op.{Op}
 use Rattle.cs_ir.specs.declared.register.Counts.{Counts}
 use Rattle.cs_cells.specs.Areas.{word_count}
+use Rattle.cs_cells.specs.declared.footprint.Area.{Area}
+use Rattle.cs_meaning.specs.Pieces.{Piece}
 use Rattle.cs_machine.specs.Access.{AreSpaces, spaces_of}
 use Rattle.cs_machine.specs.Registers.{values}
 use Rattle.cs_voice_meaning.specs.Placing.{HasArea}
-use Rattle.cs_voice_meaning.specs.VoiceWorld.{voice_world}
-use Rattle.cs_voice_meaning.specs.Follows.{ActNamed}
+use Rattle.cs_voice_meaning.specs.VoiceWorld.{fresh_voice, voice_world}
+use Rattle.cs_voice_meaning.specs.Follows.{ActNamed, Kinds}
 use Rattle.cs_voice_meaning.specs.Voices.{Sheet, IsPlayable, has_channel}
 use Rattle.cs_machine.specs.States.{machine_of, IsSettingOf, IsStateIn}
 use Rattle.cs_machine.specs.declared.state.State.{State}
 use Rattle.cs_voice.specs.Starting.{cause_of}
+use Rattle.cs_voice.specs.Starts.{sheet_for}
 use Rattle.cs_voice.specs.Tables.{CanAllBePlayed, tables_of}
 use Rattle.cs_voice.specs.declared.begin.Refusal.{Refusal}
+use Rattle.cs_voice.specs.declared.note.NewNote.{NewNote}
 use Rattle.cs_voice.specs.declared.tables.Finds.{Finds}
 
 -- What a note that begins finds is what its sheet says, and can be played on.
@@ -48,7 +52,8 @@ pub record IsOpOf (s : Sheet) (counts : Counts) (op : Op) : Type 0 where
 
 -- A note of a sheet can begin: what it finds is what the sheet says, the sheet can be played, the state is one of its
 -- code, and each cell of the piece can be read and written.
-pub record CanBegin (get set : ℕ → Type 0) (count : ℕ) (finds : Finds) (ms : List Bool) (s : Sheet) (now : State) : Type 0 where
+pub record CanBegin (get set : ℕ → Type 0) (count : ℕ) (finds : Finds) (ms : List Bool) (s : Sheet)
+    (now : State) : Type 0 where
   pub found : IsFound finds ms s
   pub playable : IsPlayable s
   pub state : IsStateOf s now.regs.counts now
@@ -57,29 +62,55 @@ pub record CanBegin (get set : ℕ → Type 0) (count : ℕ) (finds : Finds) (ms
   pub long : word_count s.areas ≤ count
 
 -- so can a code of the sheet; and an op of such a code
-pub record CanPass (get set : ℕ → Type 0) (count : ℕ) (finds : Finds) (ms : List Bool) (code : Code) (s : Sheet) (now : State) : Type 0 where
+pub record CanPass (get set : ℕ → Type 0) (count : ℕ) (finds : Finds) (ms : List Bool) (code : Code) (s : Sheet)
+    (now : State) : Type 0 where
   pub begin : CanBegin get set count finds ms s now
   pub same : s.init ≡ code.ops.items
   pub valid : valid code ≡ true
   pub counts : now.regs.counts ≡ code.counts
 
-pub record CanDoOp (get set : ℕ → Type 0) (count : ℕ) (finds : Finds) (ms : List Bool) (op : Op) (s : Sheet) (now : State) : Type 0 where
+pub record CanDoOp (get set : ℕ → Type 0) (count : ℕ) (finds : Finds) (ms : List Bool) (op : Op) (s : Sheet)
+    (now : State) : Type 0 where
   pub begin : CanBegin get set count finds ms s now
   pub fine : IsOpOf s now.regs.counts op
 
+-- A note can begin with these p-fields, in a new state of its first code: it finds what it plays in, it can be played,
+-- its tables too, its layout has the zak places of the piece, and each cell of the piece can be read and written.
+pub record CanInitialise (get set : ℕ → Type 0) (count : ℕ) (finds : Finds) (note : NewNote) (fields : List ℤ)
+    (now : State) : Type 0 where
+  pub layout : finds.at.layout.now ≡ note.stage.layout.now
+  pub head : finds.at.head.now ≡ note.stage.head.now
+  pub zak : finds.at.spaces ≡ note.stage.spaces
+  pub given : finds.at.fields.now ≡ fields
+  pub found : finds.tables.now ≡ note.stage.tables.now
+  pub playable : IsPlayable (sheet_for note fields)
+  pub made : length note.made.now ≡ length note.stage.tables.now
+  pub tables : CanAllBePlayed note.stage.layout.now (sheet_for note fields).piece.tables
+  pub places : AreSpaces note.stage.layout.now
+  pub spaces : spaces_of note.stage.layout.now ≡ note.stage.spaces
+  pub gets : (a : ℕ) → a < word_count note.stage.layout.now → get a
+  pub sets : (a : ℕ) → a < word_count note.stage.layout.now → set a
+  pub cells : word_count note.stage.layout.now ≤ count
+  pub fresh : (cells : ℕ → ℤ) → machine_of now cells 0 [] None ≡ new_machine (fresh_voice cells)
+  pub in_piece : (areas : List Area) (piece : Piece) (kinds : Kinds) → piece.head.ksmps ≡ note.stage.head.now.ksmps
+      → piece.head.nchnls ≡ note.stage.head.now.nchnls
+      → IsStateIn areas piece kinds note.instrument.now.init.counts now
+
 -- An op is done: state and cells become what it makes of them in the world of voices, what it asks for comes behind
 -- what was asked for, and where it is refused it is for the same cause.
-pub record IsDone (s : Sheet) (op : Op) (old : State) (before : ℕ → ℤ) (asked : List Ask) (new : State) (after : ℕ → ℤ) (given : List Ask)
-    (refused : Option Refusal) : Type 0 where
+pub record IsDone (s : Sheet) (op : Op) (old : State) (before : ℕ → ℤ) (asked : List Ask) (new : State)
+    (after : ℕ → ℤ) (given : List Ask) (refused : Option Refusal) : Type 0 where
   pub more : List (List ℤ)
   pub asks : given ≡ asked ++ map ask_of more
-  pub machine : (next : ℕ) (earlier : List (List ℤ)) → machine_of new after next (earlier ++ more) (option_map cause_of refused)
-      ≡ acts (voice_world s.areas s.piece) op.act op.into (map (values old.regs) op.from) (machine_of old before next earlier None)
+  pub machine : (next : ℕ) (earlier : List (List ℤ))
+      → machine_of new after next (earlier ++ more) (option_map cause_of refused)
+      ≡ acts (voice_world s.areas s.piece) op.act op.into (map (values old.regs) op.from)
+      (machine_of old before next earlier None)
   pub state : IsStateOf s old.regs.counts new
 
 -- The code is done, to its end or up to what is refused; of the machine the place of the next op alone isn't told.
-pub record Passes (s : Sheet) (old : State) (before : ℕ → ℤ) (asked : List Ask) (new : State) (after : ℕ → ℤ) (given : List Ask)
-    (refused : Option Refusal) : Type 0 where
+pub record Passes (s : Sheet) (old : State) (before : ℕ → ℤ) (asked : List Ask) (new : State)
+    (after : ℕ → ℤ) (given : List Ask) (refused : Option Refusal) : Type 0 where
   pub next : ℕ
   pub more : List (List ℤ)
   pub asks : given ≡ asked ++ map ask_of more

@@ -15,6 +15,7 @@ use Rattle.cs_voice.specs.declared.stage.Stage.{Stage}
 use Rattle.cs_voice.specs.Tables.{tables_of}
 use Rattle.cs_voice.specs.declared.begin.Refusal.{Refusal}
 use Rattle.cs_voice.specs.declared.begin.Refusal.TheVariants as refusal
+use Rattle.cs_voice.specs.declared.note.NewNote.{NewNote}
 use Rattle.cs_voice.specs.declared.note.Started.{Started}
 use Rattle.cs_voice.specs.declared.note.Started.TheVariants as started
 
@@ -39,6 +40,10 @@ sheet_at instrument age foot stage made fields = record {
   init = instrument.init.ops.items;
   perf = instrument.perf.ops.items;
 }
+
+-- what a note that is to begin plays from, with these p-fields
+abbrev pub sheet_for : NewNote → List ℤ → Sheet
+sheet_for note fields = sheet_at note.instrument.now note.age note.foot.now note.stage note.made.now fields
 
 -- the voice that a machine has become, which plays from a sheet
 pub record IsLive (s : Sheet) (m : Machine VoiceState) (v : VoiceData) : Type 0 where

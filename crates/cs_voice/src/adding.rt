@@ -91,54 +91,35 @@ fn sum_voices(voices: &[Voice<'_>], frames: usize, from: usize, channel: usize, 
         channel }
     ensures long { length sums.new ≡ length sums.old }
 {
-    let mut room = [0; FRAMES];
-    let part = &mut room[..sums.len()];
     for voice in voices {
-        add_voice(voice, from, channel, part, sums);
+        add_voice(voice, from, channel, sums);
     }
 }
 
-/// Adds what a voice gives to a channel from a frame on; nothing, where it is silent there. `part` is room for as many
-/// numbers.
-fn add_voice(voice: &Voice<'_>, from: usize, channel: usize, part: &mut [i64], sums: &mut [i64])
+/// Adds what a voice gives to a channel from a frame on; nothing, where it is silent there.
+fn add_voice(voice: &Voice<'_>, from: usize, channel: usize, sums: &mut [i64])
     requires from { from + length sums.old ≤ voice.now.outs.ksmps }
-    requires part { length part.old ≡ length sums.old }
     requires room { HasRoom sums.old }
     ensures sums { (j : ℕ) → j < length sums.old → slice_index_or sums.new j (pos 0)
         ≡ slice_index_or sums.old j (pos 0) +ℤ outs voice.now.outs channel (from + j) }
     ensures raw { (j : ℕ) → j < length sums.old → IsRaw (outs voice.now.outs channel (from + j)) }
     ensures long { length sums.new ≡ length sums.old }
-    ensures part { length part.new ≡ length part.old }
 {
     if let Some(row) = voice.channel(channel) {
-        add_row(&row[from..from + sums.len()], part, sums);
+        add_row(&row[from..from + sums.len()], sums);
     }
 }
 
 /// Adds a row, a number a frame.
-fn add_row(row: &[Num], part: &mut [i64], sums: &mut [i64])
+fn add_row(row: &[Num], sums: &mut [i64])
     requires long { length row.now ≡ length sums.old }
-    requires part { length part.old ≡ length sums.old }
     requires room { HasRoom sums.old }
     ensures sums { (j : ℕ) → slice_index_or sums.new j (pos 0) ≡ slice_index_or sums.old j (pos 0) +ℤ argument row.now
         j }
     ensures raw { (j : ℕ) → j < length row.now → IsRaw (argument row.now j) }
     ensures long { length sums.new ≡ length sums.old }
-    ensures part { length part.new ≡ length part.old }
 {
-    copy_raw(row, part);
-    add_block(sums, part);
-}
-
-/// Whole 65,536ths of each number.
-fn copy_raw(row: &[Num], part: &mut [i64])
-    requires { length part.old ≡ length row.now }
-    ensures value { part.new ≡ row.now }
-    ensures raw { (j : ℕ) → j < length row.now → IsRaw (argument row.now j) }
-{
-    for j in 0..row.len() {
-        part[j] = row[j].raw();
-    }
+    add_block(sums, row);
 }
 
 /// Sums come into their places of a channel from a frame on.

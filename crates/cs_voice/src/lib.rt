@@ -37,6 +37,6 @@ mod zak;
 
 pub use adding::mix;
 pub use laws::voices_perform;
-pub use note::{Started, start};
+pub use note::{NewNote, Started, start};
 pub use stage::{Stage, TableAt};
 pub use voice::Voice;

@@ -5,7 +5,7 @@ ghost use Rattle.cs_cells.specs.Areas.{word_count};
 ghost use Rattle.cs_cells.specs.Cells.{cell};
 ghost use Rattle.cs_ir.specs.Asks.{ask_of};
 ghost use Rattle.cs_voice_meaning.specs.Voices.{IsPlayable, initialised};
-ghost use Rattle.cs_voice.specs.Starts.{IsStarted, piece_at, sheet_at, started_as};
+ghost use Rattle.cs_voice.specs.Starts.{IsStarted, sheet_for, started_as};
 ghost use Rattle.cs_voice.specs.Tables.{CanAllBePlayed};
 
 use crate::begin::Refusal;
@@ -30,8 +30,21 @@ pub enum Started<'p> {
     DelayTooLong { samples: u64 },
 }
 
-/// Begins a note of an instrument: `made` says of each table of the stage whether it has been made by now, `fields` are
-/// the p-fields from p1 on, `age` is how many notes were started before.
+/// A note that is to begin.
+#[derive(Clone, Copy)]
+pub struct NewNote<'m, 'p> {
+    /// What it plays.
+    pub instrument: &'p Instrument,
+    /// What its codes touch of what notes share.
+    pub foot: &'p Footprint,
+    pub stage: Stage<'p>,
+    /// Of each table of the stage, whether it has been made by now.
+    pub made: &'m [bool],
+    /// How many notes were started before it.
+    pub age: u64,
+}
+
+/// Begins a note; `fields` are its p-fields, from p1 on.
 ///
 /// It does the code that begins the instrument's notes. What that asks for comes behind `asks`, in order. It stops
 /// where a unit asks for a table that isn't there, or where the delays become too long together; what was written to
@@ -39,57 +52,53 @@ pub enum Started<'p> {
 /// may have been done.
 pub fn start<'p, B: Bank>(
     alloc: Global,
-    instrument: &'p Instrument,
-    foot: &'p Footprint,
-    stage: Stage<'p>,
-    made: &[bool],
+    note: &NewNote<'_, 'p>,
     fields: Vec<Num>,
-    age: u64,
     asks: &mut Vec<Ask>,
     bank: &mut B,
 ) -> Result<Started<'p>, OutOfMemory>
-    requires playable { IsPlayable (sheet_at instrument.now age foot.now stage made.now fields.items) }
-    requires made { length made.now ≡ length stage.tables.now }
-    requires tables { CanAllBePlayed stage.layout.now (piece_at stage made.now fields.items).tables }
-    requires places { AreSpaces stage.layout.now }
-    requires spaces { spaces_of stage.layout.now ≡ stage.spaces }
-    requires get { (a : ℕ) → a < word_count stage.layout.now → B.can_get (B.rest bank.old) a }
-    requires set { (a : ℕ) → a < word_count stage.layout.now → B.can_set (B.rest bank.old) a }
-    requires cells { word_count stage.layout.now ≤ length (B.cells bank.old) }
-    ensures started { let s = sheet_at instrument.now age foot.now stage.entry made.now fields.items in
+    requires playable { IsPlayable (sheet_for note.now fields.items) }
+    requires made { length note.now.made.now ≡ length note.now.stage.tables.now }
+    requires tables { CanAllBePlayed note.now.stage.layout.now (sheet_for note.now fields.items).piece.tables }
+    requires places { AreSpaces note.now.stage.layout.now }
+    requires spaces { spaces_of note.now.stage.layout.now ≡ note.now.stage.spaces }
+    requires get { (a : ℕ) → a < word_count note.now.stage.layout.now → B.can_get (B.rest bank.old) a }
+    requires set { (a : ℕ) → a < word_count note.now.stage.layout.now → B.can_set (B.rest bank.old) a }
+    requires cells { word_count note.now.stage.layout.now ≤ length (B.cells bank.old) }
+    ensures started { let s = sheet_for note.now fields.items in
         IfOk result (IsStarted s (initialised s (cell (B.cells bank.old)))) }
-    ensures cells { let s = sheet_at instrument.now age foot.now stage.entry made.now fields.items in
+    ensures cells { let s = sheet_for note.now fields.items in
         OnOk result (cell (B.cells bank.new) ≡ (initialised s (cell (B.cells bank.old))).world.shared) }
-    ensures asks { let s = sheet_at instrument.now age foot.now stage.entry made.now fields.items in
+    ensures asks { let s = sheet_for note.now fields.items in
         OnOk result (asks.new.items ≡ asks.old.items ++ map ask_of
         (initialised s (cell (B.cells bank.old))).world.asks) }
     ensures long { length (B.cells bank.new) ≡ length (B.cells bank.old) }
     ensures rest { B.rest bank.new ≡ B.rest bank.old }
 {
-    let init = instrument.init();
     let finds = Finds {
         at: Setting {
-            head: stage.head,
-            layout: stage.layout,
-            spaces: stage.spaces,
+            head: note.stage.head,
+            layout: note.stage.layout,
+            spaces: note.stage.spaces,
             fields: &fields,
         },
-        tables: stage.tables,
+        tables: note.stage.tables,
     };
-    let frames = stage.head.ksmps as usize;
-    let channels = stage.head.nchnls as usize;
+    let init = note.instrument.init();
+    let frames = note.stage.head.ksmps as usize;
+    let channels = note.stage.head.nchnls as usize;
     let mut state = State::new(alloc, init.counts, frames, channels)?;
-    let refusal = pass(alloc, &mut state, &finds, made, init, asks, bank)?;
+    let refusal = pass(alloc, &mut state, &finds, note, asks, bank)?;
     if let Some(refusal) = refusal {
         return Ok(refused(refusal));
     }
-    let number = instrument.number();
-    let perf = instrument.perf();
+    let number = note.instrument.number();
+    let perf = note.instrument.perf();
     let parts = Body {
         number,
-        age,
-        stage,
-        foot,
+        age: note.age,
+        stage: note.stage,
+        foot: note.foot,
         code: perf,
         fields,
         state,

@@ -1,31 +1,32 @@
 // The code that a note begins with.
-ghost use Rattle.std.specs.Prelude.{◌≡◌, length, IfOk};
+ghost use Rattle.std.specs.Prelude.{◌≡◌, ℤ, List, length, IfOk};
 ghost use Rattle.cs_cells.specs.Cells.{cell};
-ghost use Rattle.cs_voice_meaning.specs.Voices.{Sheet};
-ghost use Rattle.cs_voice.specs.Passing.{CanPass, Passes};
+ghost use Rattle.cs_voice.specs.Passing.{CanInitialise, Passes};
+ghost use Rattle.cs_voice.specs.Starts.{sheet_for};
 
+use crate::NewNote;
 use crate::asks::{ask, gather};
 use crate::begin::{Refusal, Start, begin, seek};
 use crate::run::{Starter, run};
 use crate::tables::Finds;
 use cs_base::{Num, OutOfMemory};
 use cs_cells::Bank;
-use cs_ir::{Act, Ask, Code, Op};
+use cs_ir::{Act, Ask, Op};
 use cs_machine::State;
 use std::alloc::Global;
 use std::mem;
 
 /// What a note begins with.
 #[derive(Drop)]
-struct Beginning<'s, 'p> {
+struct Beginning<'s, 'm, 'p> {
     alloc: Global,
     finds: Finds<'s, 'p>,
-    made: &'s [bool],
+    made: &'m [bool],
     settled: Vec<Num>,
     asks: Vec<Ask>,
 }
 
-impl<'p> Starter<'p> for Beginning<'_, 'p> {
+impl<'p> Starter<'p> for Beginning<'_, '_, 'p> {
     ghost use Rattle.std.specs.Prelude.{Some};
 
     ghost finds = { λ b. Some (b.finds, b.made.now) };
@@ -66,31 +67,30 @@ impl<'p> Starter<'p> for Beginning<'_, 'p> {
     }
 }
 
-/// Does the code to its end, or up to what is refused. What was written and asked for before a refusal stays.
+/// Does the code that begins a note to its end, or up to what is refused. What was written and asked for before a
+/// refusal stays.
 pub(crate) fn pass<'s, 'p, B: Bank>(
     alloc: Global,
     state: &mut State<'p>,
     finds: &Finds<'s, 'p>,
-    made: &'s [bool],
-    code: &Code,
+    note: &NewNote<'_, 'p>,
     asks: &mut Vec<Ask>,
     bank: &mut B,
 ) -> Result<Option<Refusal>, OutOfMemory>
-    requires { (s : Sheet) × CanPass (B.can_get (B.rest bank.old)) (B.can_set (B.rest bank.old))
-        (length (B.cells bank.old))
-        finds.now made.now code.now s state.old }
-    ensures passes { IfOk result (λ refused. (s : Sheet) → CanPass (B.can_get (B.rest bank.old))
-        (B.can_set (B.rest bank.old))
-        (length (B.cells bank.old)) finds.now made.now code.now s state.old
-        → Passes s state.old (cell (B.cells bank.old)) asks.old.items state.new (cell (B.cells bank.new))
-        asks.new.items refused) }
+    requires { CanInitialise (B.can_get (B.rest bank.old)) (B.can_set (B.rest bank.old)) (length (B.cells bank.old))
+        finds.now note.now finds.now.at.fields.now
+        state.old }
+    ensures passes { IfOk result (λ refused. (fields : List ℤ) → finds.now.at.fields.now ≡ fields
+        → Passes (sheet_for note.now fields) state.old (cell (B.cells bank.old)) asks.old.items state.new
+        (cell (B.cells bank.new)) asks.new.items refused) }
     ensures long { length (B.cells bank.new) ≡ length (B.cells bank.old) }
     ensures rest { B.rest bank.new ≡ B.rest bank.old }
 {
+    let code = note.instrument.init();
     let mut beginning = Beginning {
         alloc,
         finds: *finds,
-        made,
+        made: note.made,
         settled: Vec::new(alloc),
         asks: Vec::new(alloc),
     };

@@ -1,5 +1,6 @@
 -- What the sound file of a mix is. A definition that says `width` is of samples of that width.
-use Rattle.std.specs.Prelude.{◌≤ℤ◌, ℕ, suc, ◌+◌, ◌-◌, ◌*◌, ◌%◌, ◌^◌, ℤ, pos, negsuc, neg_ℤ, int_lt, ◌+ℤ◌, ◌*ℤ◌, Bool, ◌||◌, List, [], ◌∷◌, ◌++◌, length, codes, replicate}
+use Rattle.std.specs.Prelude.{◌≤ℤ◌, ℕ, suc, ◌+◌, ◌-◌, ◌*◌, ◌%◌, ◌^◌, ℤ, pos, negsuc, neg_ℤ, int_lt, ◌+ℤ◌, ◌*ℤ◌, Bool}
+use Rattle.std.specs.Prelude.{◌||◌, List, [], ◌∷◌, ◌++◌, length, codes, replicate}
 use Rattle.std.specs.Int.{int_max, int_min, int_div_euclid, bytes_low_first}
 use Rattle.std.specs.List.{flat_map}
 use Rattle.cs_base.specs.Widths.{bytes_of, greatest_of, least_of}
@@ -48,7 +49,8 @@ size_of width frames head = frames * head.nchnls * bytes_of width
 abbrev pub header_len : ℕ
 header_len = 44
 
--- its front; the size in it is that of all that follows its first eight bytes, with the byte 0 behind samples of odd size
+-- its front; the size in it is that of all that follows its first eight bytes, with the byte 0 behind samples of odd
+-- size
 abbrev pub riff_part : ℕ → List ℕ
 riff_part size = codes "RIFF" ++ little_bytes 4 (header_len - 8 + size + size % 2) ++ codes "WAVE"
 
@@ -81,6 +83,10 @@ greatest_mix = pos 72057594037927936
 -- what a sum of notes may be: no greater than that in size
 abbrev pub IsMix : ℤ → Type 0
 IsMix z = (neg_ℤ greatest_mix ≤ℤ z) × (z ≤ℤ greatest_mix)
+
+-- a sum of notes that is one again with any number more
+abbrev pub TakesMore : ℤ → Type 0
+TakesMore z = (neg_ℤ (pos 71916856549572608) ≤ℤ z) × (z ≤ℤ pos 71916856549572608)
 
 -- two lists of one length, added value by value
 abbrev pub added : List ℤ → List ℤ → List ℤ

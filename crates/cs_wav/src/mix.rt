@@ -1,16 +1,19 @@
 // The notes of a cycle are summed before anything is brought into range.
-ghost use Rattle.std.specs.Prelude.{◌≡◌, ℕ, pos, length, slice_index_or, ◌+ℤ◌};
-ghost use Rattle.cs_wav.specs.Wav.{IsMix, added};
+ghost use Rattle.std.specs.Prelude.{◌≡◌, ◌<◌, ℕ, pos, length, slice_index_or};
+ghost use Rattle.cs_base.specs.Numbers.{IsRaw};
+ghost use Rattle.cs_wav.specs.Wav.{added, TakesMore};
 
-/// Adds one note's output to the mix, value by value, both in 65,536ths. The two are equally long, and
-/// no sum is greater than 2^56 in size.
-pub fn add_block(mix: &mut [i64], part: &[i64])
+use cs_base::Num;
+
+/// Adds a row of one note's output to the mix, value by value, both in 65,536ths. The two are equally long. No value of
+/// the mix is greater than 2^56 - 2^47 in size, so no sum is greater than 2^56.
+pub fn add_block(mix: &mut [i64], part: &[Num])
     requires same { length mix.old ≡ length part.now }
-    requires fits { (i : ℕ)
-        → IsMix (slice_index_or mix.old i (pos 0) +ℤ slice_index_or part.now i (pos 0)) }
-    ensures { mix.new ≡ added mix.old part.now }
+    requires room { (i : ℕ) → TakesMore (slice_index_or mix.old i (pos 0)) }
+    ensures sums { mix.new ≡ added mix.old part.now }
+    ensures raw { (i : ℕ) → i < length part.now → IsRaw (slice_index_or part.now i (pos 0)) }
 {
-    for (i, value) in part.iter().enumerate() {
-        mix[i] += *value;
+    for i in 0..part.len() {
+        mix[i] += part[i].raw();
     }
 }

@@ -19,7 +19,7 @@ loop-voice-preserved c =
       near = λ j low.
           let there : j < length c.loop-voice.sums = omega (arith, low, inv.long) in
           subst (IsSumOf (k + 1)) (sym (c.add_voice.ensures.sums j there))
-          (one_more k (get_or c.loop-voice.sums j (pos 0)) (outs v.outs d (c.args.from + j)) (inv.near j low) (c.add_voice.ensures.raw j there));
+          (one_more k (get_or c.loop-voice.sums j (pos 0)) (outs v.outs d (c.args.from + j)) (inv.near j low)
+          (c.add_voice.ensures.raw j there));
       long = c.add_voice.ensures.long ∙ inv.long;
-      part = c.add_voice.ensures.part ∙ inv.part;
     }
