@@ -1,5 +1,6 @@
 -- A cycle from the moment before it to the moment after it.
-use Rattle.std.proofs.Common.{◌≡◌, ◌≤◌, ◌<◌, ℕ, suc, ◌+◌, ◌*◌, ◌^◌, ℤ, Bool, List, [], ◌∷◌, length, refl, ap, sym, ◌∙◌, subst, arith}
+use Rattle.std.proofs.Common.{◌≡◌, ◌≤◌, ◌<◌, ℕ, suc, ◌+◌, ◌*◌, ◌^◌, ℤ, Bool, List, [], ◌∷◌, length, refl, ap, sym, ◌∙◌}
+use Rattle.std.proofs.Common.{subst, arith}
 use Rattle.std.proofs.Math.Nat.{mul-le-mul, mul-le-mul_left}
 use Rattle.std.specs.List.{count_by}
 use Rattle.std.proofs.lemmas.List.Sums.{count_by-le-length}
@@ -22,7 +23,8 @@ use Rattle.cs_perform.proofs.Frames.{count_by_both, frames_before_more, length-f
 use Rattle.cs_perform.proofs.Standings.{count_active}
 
 -- the moment after a cycle is the one before the next
-pub moment_after : (c : Composition) (n : ℕ) → turned_off (performed c (begins c n (moment_at c n))) ≡ moment_at c (n + 1)
+pub moment_after : (c : Composition) (n : ℕ)
+    → turned_off (performed c (begins c n (moment_at c n))) ≡ moment_at c (n + 1)
 moment_after c n = ap (moment_at c) (let e : suc n ≡ n + 1 = omega arith in e)
 
 -- as many notes as began are performed
@@ -31,8 +33,10 @@ length-serial : (c : Composition) (made : List ℕ) (shared : Res → Wave) (act
 length-serial c made shared [] = refl
 length-serial c made shared (a ∷ rest) = ap suc (length-serial c made (next c made shared a).note.world.shared rest)
 
-pub counts_cycle : (c : Composition) (n : ℕ) (life : Life) (voices : List VoiceData) (cells : Cells) (before now : Tally)
-    → Stands c life voices cells (begins c n (moment_at c n)) → now.cycles ≡ before.cycles + 1 → now.notes ≡ before.notes + length voices
+pub counts_cycle : (c : Composition) (n : ℕ) (life : Life) (voices : List VoiceData) (cells : Cells)
+    (before now : Tally)
+    → Stands c life voices cells (begins c n (moment_at c n)) → now.cycles ≡ before.cycles + 1
+    → now.notes ≡ before.notes + length voices
     → CountsCycle c n before now
 counts_cycle c n life voices cells before now st cycles notes =
     let m : Moment = begins c n (moment_at c n) in
@@ -51,7 +55,8 @@ pub block_small : (k n : ℕ) → k ≤ 4096 → n ≤ 16 → k * n ≤ 65536
 block_small k n a b = let h : k * n ≤ 4096 * 16 = mul-le-mul a b in omega (arith, h)
 
 -- the count of samples out of range stays small
-pub outside_fits : (c : Composition) (p : ℤ → Bool) (n outside more : ℕ) → n < 2 ^ 32 → c.head.ksmps * c.head.nchnls ≤ 65536
+pub outside_fits : (c : Composition) (p : ℤ → Bool) (n outside more : ℕ) → n < 2 ^ 32
+    → c.head.ksmps * c.head.nchnls ≤ 65536
     → outside ≡ count_by p (frames_before c n) → more < 2 ^ 32 → outside + more < 2 ^ 64
 outside_fits c p n outside more small block is few =
     let some : count_by p (frames_before c n) ≤ length (frames_before c n) = count_by-le-length p (frames_before c n) in
@@ -63,10 +68,12 @@ outside_fits c p n outside more small block is few =
 pub values_fit : (cycles ksmps channels width : ℕ) → cycles * ksmps * channels * width ≤ most_wav_bytes → 1 ≤ width
     → cycles * ksmps * channels ≤ most_wav_bytes
 values_fit cycles ksmps channels width bytes some =
-    let h : cycles * ksmps * channels * 1 ≤ cycles * ksmps * channels * width = mul-le-mul_left (cycles * ksmps * channels) some in
+    let h : cycles * ksmps * channels * 1 ≤ cycles * ksmps * channels * width =
+    mul-le-mul_left (cycles * ksmps * channels) some in
     omega (arith, h, bytes)
 
-pub frames_fit : (cycles ksmps channels width : ℕ) → cycles * ksmps * channels * width ≤ most_wav_bytes → 1 ≤ width → 1 ≤ channels
+pub frames_fit : (cycles ksmps channels width : ℕ) → cycles * ksmps * channels * width ≤ most_wav_bytes → 1 ≤ width
+    → 1 ≤ channels
     → cycles * ksmps ≤ most_wav_bytes
 frames_fit cycles ksmps channels width bytes some one =
     let h : cycles * ksmps * 1 ≤ cycles * ksmps * channels = mul-le-mul_left (cycles * ksmps) one in
@@ -79,7 +86,8 @@ some_width ThreeBytes = omega arith
 
 -- the count of samples out of range, with those of one cycle more
 pub counted_more : (c : Composition) (p : ℤ → Bool) (n : ℕ) (mix : List ℤ) (outside more : ℕ) → mix ≡ mix_in c n
-    → outside ≡ count_by p (frames_before c n) → more ≡ count_by p mix → outside + more ≡ count_by p (frames_before c (n + 1))
+    → outside ≡ count_by p (frames_before c n) → more ≡ count_by p mix
+    → outside + more ≡ count_by p (frames_before c (n + 1))
 counted_more c p n mix outside more is so_far here =
     ap (λ (k : ℕ). k + more) so_far ∙ ap (λ (k : ℕ). count_by p (frames_before c n) + k) (here ∙ ap (count_by p) is)
     ∙ sym (count_by_both p (frames_before c n) (mix_in c n)) ∙ sym (ap (count_by p) (frames_before_more c n))

@@ -1,25 +1,29 @@
 -- The bytes that a sink has taken, where it is written: piece behind piece, up to the whole file.
-use Rattle.std.proofs.Common.{◌≡◌, ◌≤◌, ◌<◌, ℕ, zero, suc, ◌+◌, ◌*◌, ◌-◌, ◌^◌, ℤ, List, [], ◌∷◌, ◌++◌, length, replicate, refl, ap, sym, ◌∙◌, subst, inl, inr, arith, append_assoc, append-nil, if◌then◌else◌, ⊎_elim, ◌⊎◌, Err}
+use Rattle.std.proofs.Common.{◌≡◌, ◌≤◌, ◌<◌, ℕ, zero, suc, ◌+◌, ◌*◌, ◌-◌, ◌^◌, ℤ, List, [], ◌∷◌, ◌++◌, length}
+use Rattle.std.proofs.Common.{replicate, refl, ap, sym, ◌∙◌, subst, inl, inr, arith, append_assoc, append-nil}
+use Rattle.std.proofs.Common.{if◌then◌else◌, ⊎_elim, ◌⊎◌, Some, Err}
 use Rattle.std.specs.Result.{IsErrOf}
 use Rattle.std.proofs.lemmas.List.{replicate-append-replicate}
 use Rattle.cs_base.specs.declared.head.Head.{Head}
 use Rattle.cs_edge.specs.declared.moves.Move.{Move}
 use Rattle.cs_edge.specs.declared.moves.Move.TheVariants.{Write}
-use Rattle.cs_edge.specs.Told.{IsFront, Rose}
-use Rattle.cs_edge.specs.Moves.{SinkTold, AreAll, Grown, TakenMore, WroteMore, Wrote, Stopped, Finished}
-use Rattle.cs_edge.proofs.Chains.{follows_on, grown_on, front_more}
+use Rattle.cs_edge.specs.Told.{Follows, IsFront, Rose}
+use Rattle.cs_edge.specs.Moves.{SinkTold, Held, AreAll, Grown, TakenMore, WroteMore, Wrote, Stopped, Finished}
+use Rattle.cs_edge.specs.Moves.{open_file}
+use Rattle.cs_edge.proofs.Chains.{follows_as, follows_on, grown_on, front_more}
 use Rattle.cs_edge.proofs.Stories.{more_none, more_twice, wrote_on, stopped_writes, stopped_untouched}
 use Rattle.cs_perform.specs.Hearing.{IfWritten}
+use Rattle.cs_perform.specs.Performances.{HasAtLeast}
 use Rattle.cs_perform.specs.declared.order.Output.{Output}
 use Rattle.cs_perform.specs.declared.order.Output.TheVariants.{SoundFile, Nothing}
-use Rattle.cs_perform.specs.inner.Ends.{Finishes, Stops, padding}
 
 all_both : (move : Move) (x y : List Move) → AreAll move x → AreAll move y → AreAll move (x ++ y)
 all_both move x y p q = (p.0 + q.0, rw (p.1, q.1) (replicate-append-replicate p.0 q.0 move))
 
 pub more_both : (a b c : SinkTold) (xs ys : List ℕ) → WroteMore a b xs → WroteMore b c ys → WroteMore a c (xs ++ ys)
 more_both a b c xs ys w m = record {
-  taken = follows_on (TakenMore xs) (TakenMore ys) (TakenMore (xs ++ ys)) (more_twice xs ys) a.held b.held c.held w.taken m.taken;
+  taken = follows_on (TakenMore xs) (TakenMore ys) (TakenMore (xs ++ ys)) (more_twice xs ys) a.held b.held c.held
+      w.taken m.taken;
   made = follows_on (Grown (AreAll Write)) (Grown (AreAll Write)) (Grown (AreAll Write))
       (grown_on (AreAll Write) (AreAll Write) (AreAll Write) (all_both Write)) a.moves b.moves c.moves w.made m.made;
   later = omega (arith, w.later, m.later);
@@ -38,6 +42,34 @@ pub front_behind : (before front bytes : List ℕ) → IsFront front bytes → I
 front_behind before front bytes f =
     (f.0, ap (λ (l : List ℕ). before ++ l) f.1 ∙ sym (append_assoc before front f.0))
 
+-- WHAT A SINK HAS KEPT
+
+pub wrote_keeps : (a b : SinkTold) (name least bytes : List ℕ) → Wrote a b name bytes → IsFront least bytes
+    → HasAtLeast name least a b
+wrote_keeps a b name least bytes w f =
+    follows_as (λ _ held. held ≡ open_file name bytes) (λ _ held. (held.name ≡ Some name) × IsFront least held.bytes)
+    (λ x y e. (
+      ap (λ (h : Held). h.name) e,
+      subst (λ (l : List ℕ). IsFront least l) (sym (ap (λ (h : Held). h.bytes) e))
+          f,
+    )) a.held b.held w.taken
+
+-- a call that took nothing
+pub keeps_still : (a b c : SinkTold) (name least : List ℕ) → HasAtLeast name least a b
+    → Follows b.held c.held (λ before now. now ≡ before)
+    → HasAtLeast name least a c
+keeps_still a b c name least k same =
+    let P : Held → Type 0 = λ held. (held.name ≡ Some name) × IsFront least held.bytes in
+    follows_on (λ _ held. P held) (λ before now. now ≡ before) (λ _ held. P held) (λ x y z p q. subst P (sym q) p)
+    a.held b.held c.held k same
+
+pub keeps_less : (a b : SinkTold) (name less least : List ℕ) → IsFront less least → HasAtLeast name least a b
+    → HasAtLeast name less a b
+keeps_less a b name less least f k =
+    follows_as (λ _ held. (held.name ≡ Some name) × IsFront least held.bytes)
+    (λ _ held. (held.name ≡ Some name) × IsFront less held.bytes)
+    (λ x y p. (p.0, front_of_front less least y.bytes f p.1)) a.held b.held k
+
 -- A SINK THAT IS WRITTEN, OR NOT
 
 module _ {W : Type 0} (tells : W → SinkTold) where
@@ -55,33 +87,33 @@ module _ {W : Type 0} (tells : W → SinkTold) where
   file_written SoundFile a b c name xs ys p q = wrote_on (tells a) (tells b) (tells c) name xs ys p q
   file_written Nothing a b c name xs ys p q = q ∙ p
 
-  pub file_stopped : (w : Output) (a b : W) (name front whole : List ℕ) → IfWritten tells w a b (λ x y. Wrote x y name front)
+  pub file_stopped : (w : Output) (a b : W) (name front whole : List ℕ)
+      → IfWritten tells w a b (λ x y. Wrote x y name front)
       → IsFront front whole → IfWritten tells w a b (λ x y. Stopped x y name whole)
   file_stopped SoundFile a b name front whole p f = stopped_writes (tells a) (tells b) name front whole p f
   file_stopped Nothing a b name front whole p f = p
 
-  pub file_untouched : (w : Output) (a : W) (name whole : List ℕ) → IfWritten tells w a a (λ x y. Stopped x y name whole)
+  pub file_untouched : (w : Output) (a : W) (name whole : List ℕ)
+      → IfWritten tells w a a (λ x y. Stopped x y name whole)
   file_untouched SoundFile a name whole = stopped_untouched (tells a) (tells a) name whole refl
   file_untouched Nothing a name whole = refl
 
-  pub file_finished : (w : Output) (a b c : W) (name bytes last : List ℕ) → IfWritten tells w a b (λ x y. Wrote x y name bytes)
-      → IfWritten tells w b c (Finishes last) → IfWritten tells w a c (λ x y. Finished x y name (bytes ++ last))
-  file_finished SoundFile a b c name bytes last p q = q (tells a) name bytes p
-  file_finished Nothing a b c name bytes last p q = q ∙ p
-
-  pub file_not_finished : (w : Output) (a b c : W) (name bytes last : List ℕ) → IfWritten tells w a b (λ x y. Wrote x y name bytes)
-      → IfWritten tells w b c (Stops last) → IfWritten tells w a c (λ x y. Stopped x y name (bytes ++ last))
-  file_not_finished SoundFile a b c name bytes last p q = q (tells a) name bytes p
-  file_not_finished Nothing a b c name bytes last p q = q ∙ p
-
-  pub file_paused : (w : Output) (a b : W) (name bytes : List ℕ) (Q : Type 0) → IfWritten tells w a b (λ x y. Wrote x y name bytes)
+  pub file_paused : (w : Output) (a b : W) (name bytes : List ℕ) (Q : Type 0)
+      → IfWritten tells w a b (λ x y. Wrote x y name bytes)
       → IfWritten tells w a b (λ x y. Q ⊎ Wrote x y name bytes)
   file_paused SoundFile a b name bytes Q p = inr p
   file_paused Nothing a b name bytes Q p = p
 
-  pub file_unbegun : (w : Output) (a : W) (name bytes : List ℕ) (Q : Type 0) → Q → IfWritten tells w a a (λ x y. Q ⊎ Wrote x y name bytes)
+  pub file_unbegun : (w : Output) (a : W) (name bytes : List ℕ) (Q : Type 0) → Q
+      → IfWritten tells w a a (λ x y. Q ⊎ Wrote x y name bytes)
   file_unbegun SoundFile a name bytes Q q = inl q
   file_unbegun Nothing a name bytes Q q = refl
+
+  pub file_kept : (w : Output) (a b : W) (name least bytes : List ℕ)
+      → IfWritten tells w a b (λ x y. Wrote x y name bytes)
+      → IsFront least bytes → IfWritten tells w a b (HasAtLeast name least)
+  file_kept SoundFile a b name least bytes p f = wrote_keeps (tells a) (tells b) name least bytes p f
+  file_kept Nothing a b name least bytes p f = p
 
   -- the count of faults doesn't fall meanwhile
   pub faults_after : (w : Output) (a b : W) (bytes : List ℕ) → IfWritten tells w a b (λ x y. WroteMore x y bytes)

@@ -1,5 +1,6 @@
 -- The frames and notes of the first cycles, and of one more.
-use Rattle.std.proofs.Common.{◌≡◌, ◌≤◌, ℕ, zero, suc, ◌+◌, ◌*◌, ◌-◌, ℤ, Bool, List, [], ◌∷◌, ◌++◌, length, map, sum, refl, ap, sym, ◌∙◌, subst, arith, append_assoc, append-nil, zero-add, cond}
+use Rattle.std.proofs.Common.{◌≡◌, ◌≤◌, ℕ, zero, suc, ◌+◌, ◌*◌, ◌-◌, ℤ, Bool, List, [], ◌∷◌, ◌++◌, length, map, sum}
+use Rattle.std.proofs.Common.{refl, ap, sym, ◌∙◌, subst, arith, append_assoc, append-nil, zero-add, cond}
 use Rattle.std.specs.List.{count_by, flat_map, range_with_len, sum_by}
 use Rattle.std.proofs.lemmas.List.{map-append, length-append}
 use Rattle.std.proofs.lemmas.List.Concat.{flat_map-append}
@@ -22,7 +23,8 @@ numbers_more n =
     ap (range_with_len 0) (let e : n + 1 ≡ suc n = omega arith in e) ∙ range_more 0 n
     ∙ ap (λ (k : ℕ). range_with_len 0 n ++ k ∷ []) (let e : 0 + n ≡ n = omega arith in e)
 
-pub rows_more : {A : Type 0} (f : ℕ → List A) (n : ℕ) → flat_map f (range_with_len 0 (n + 1)) ≡ flat_map f (range_with_len 0 n) ++ f n
+pub rows_more : {A : Type 0} (f : ℕ → List A) (n : ℕ)
+    → flat_map f (range_with_len 0 (n + 1)) ≡ flat_map f (range_with_len 0 n) ++ f n
 rows_more {A} f n =
     ap (flat_map f) (numbers_more n) ∙ flat_map-append f (range_with_len 0 n) (n ∷ [])
     ∙ ap (λ (l : List A). flat_map f (range_with_len 0 n) ++ l) (append-nil (f n))
@@ -41,7 +43,8 @@ pub notes_before_more : (c : Composition) (n : ℕ) → notes_before c (n + 1) �
 notes_before_more c n = sum_more (λ k. length (played_in c k)) n
 
 -- a list of rows of one length
-length-rows : {A : Type 0} (f : ℕ → List A) (k : ℕ) → ((x : ℕ) → length (f x) ≡ k) → (xs : List ℕ) → length (flat_map f xs) ≡ length xs * k
+length-rows : {A : Type 0} (f : ℕ → List A) (k : ℕ) → ((x : ℕ) → length (f x) ≡ k) → (xs : List ℕ)
+    → length (flat_map f xs) ≡ length xs * k
 length-rows f k each [] = let e : 0 ≡ 0 * k = omega arith in e
 length-rows f k each (x ∷ xs) =
     length-append (f x) (flat_map f xs) ∙ ap (λ (n : ℕ). n + length (flat_map f xs)) (each x)

@@ -1,5 +1,7 @@
 -- A performance grows cycle by cycle.
-use Rattle.std.proofs.Common.{◌≡◌, ◌≤◌, ◌<◌, ℕ, ◌+◌, ◌*◌, ◌-◌, ◌^◌, ℤ, List, [], ◌++◌, length, refl, ap, sym, ◌∙◌, subst, arith}
+use Rattle.std.proofs.Common.{◌≡◌, ◌≤◌, ◌<◌, ℕ, ◌+◌, ◌*◌, ◌-◌, ◌^◌, ℤ, List, [], ◌++◌, length, refl, ap, sym, ◌∙◌}
+use Rattle.std.proofs.Common.{subst, arith, Err}
+use Rattle.std.specs.Result.{IsErrOf}
 use Rattle.cs_base.specs.Limits.{most_notes}
 use Rattle.cs_base.specs.declared.width.SampleWidth.{SampleWidth}
 use Rattle.cs_piece_meaning.specs.Course.{played_in}
@@ -11,43 +13,78 @@ use Rattle.cs_edge.specs.Moves.{SinkTold, WroteMore}
 use Rattle.cs_wav.specs.Wav.{samples_of}
 use Rattle.cs_wav.proofs.Files.{samples_of-nil, samples_of-append}
 use Rattle.cs_perform.specs.Hearing.{Told, IfWritten}
-use Rattle.cs_perform.specs.Performances.{Performed}
+use Rattle.cs_perform.specs.Performances.{Lent, Performed}
 use Rattle.cs_perform.specs.declared.order.Output.{Output}
-use Rattle.cs_perform.specs.inner.Plays.{PausedOn, PlayedOn, PlayedInPart}
+use Rattle.cs_perform.specs.declared.order.PlayFault.{PlayFault}
+use Rattle.cs_perform.specs.declared.order.PlayFault.TheVariants as fault
+use Rattle.cs_perform.specs.inner.Plays.{BreaksCycle, PausedOn, PlayedOn, PlayedInPart, PlaysCycle}
 use Rattle.cs_perform.specs.inner.Stands.{CountsCycle}
 use Rattle.cs_perform.proofs.Files.{front_all, front_behind, more_written, none_written}
 use Rattle.cs_perform.proofs.Frames.{frames_before_more, notes_before_more}
 use Rattle.cs_perform.proofs.Telling.{told_nothing, told_twice}
 
--- no cycle yet
-pub performed_none : {T : Type 0} (S : T → List ℤ → Type 0) (c : Composition) (taps : List T) (tally : Tally)
-    → Performed S c 0 taps taps tally tally
-performed_none S c taps tally = record {
-  told = told_nothing S taps;
-  cycles = omega arith;
-  notes = omega arith;
-}
+module _ {T W : Type 0} (S : T → List ℤ → Type 0) (c : Composition) where
+  -- no cycle yet
+  pub performed_none : (a b : Lent T W) → b.taps ≡ a.taps → b.tally ≡ a.tally → Performed S c 0 a b
+  performed_none a b e f = record {
+    told = subst (λ (l : List T). Told S a.taps l []) (sym e) (told_nothing S a.taps);
+    cycles = ap (λ (y : Tally). y.cycles) f ∙ (let none : a.tally.cycles ≡ a.tally.cycles + 0 = omega arith in none);
+    notes = ap (λ (y : Tally). y.notes) f
+        ∙ (let none : a.tally.notes ≡ a.tally.notes + notes_before c 0 = omega arith in none);
+  }
 
--- one cycle more
-pub performed_more : {T : Type 0} (S : T → List ℤ → Type 0) (c : Composition) (n : ℕ) (t0 t1 t2 : List T) (y0 y1 y2 : Tally)
-    → Performed S c n t0 t1 y0 y1 → Told S t1 t2 (mix_in c n) → CountsCycle c n y1 y2 → Performed S c (n + 1) t0 t2 y0 y2
-performed_more S c n t0 t1 t2 y0 y1 y2 p told counts =
-    let cycles : y2.cycles ≡ y1.cycles + 1 = counts.cycles in
-    let notes : y2.notes ≡ y1.notes + length (played_in c n) = counts.notes in
-    let cycles' : y1.cycles ≡ y0.cycles + n = p.cycles in
-    let notes' : y1.notes ≡ y0.notes + notes_before c n = p.notes in
-    let more : notes_before c (n + 1) ≡ notes_before c n + length (played_in c n) = notes_before_more c n in
-    record {
-      told = subst (Told S t0 t2) (sym (frames_before_more c n)) (told_twice S t0 t1 t2 (frames_before c n) (mix_in c n) p.told told);
-      cycles = omega (arith, cycles, cycles');
-      notes = omega (arith, notes, notes', more);
-    }
+  -- from before the sink was begun on, or until after it was ended
+  pub performed_from : (n : ℕ) (a b d : Lent T W) → b.taps ≡ a.taps → b.tally ≡ a.tally → Performed S c n b d
+      → Performed S c n a d
+  performed_from n a b d e f p = record {
+    told = subst (λ (l : List T). Told S l d.taps (frames_before c n)) e p.told;
+    cycles = p.cycles ∙ ap (λ (y : Tally). y.cycles + n) f;
+    notes = p.notes ∙ ap (λ (y : Tally). y.notes + notes_before c n) f;
+  }
+
+  pub performed_until : (n : ℕ) (a b d : Lent T W) → d.taps ≡ b.taps → d.tally ≡ b.tally → Performed S c n a b
+      → Performed S c n a d
+  performed_until n a b d e f p = record {
+    told = subst (λ (l : List T). Told S a.taps l (frames_before c n)) (sym e) p.told;
+    cycles = ap (λ (y : Tally). y.cycles) f ∙ p.cycles;
+    notes = ap (λ (y : Tally). y.notes) f ∙ p.notes;
+  }
+
+  -- one cycle more
+  pub performed_more : (n : ℕ) (a b d : Lent T W) → Performed S c n a b → Told S b.taps d.taps (mix_in c n)
+      → CountsCycle c n b.tally d.tally
+      → Performed S c (n + 1) a d
+  performed_more n a b d p told counts =
+      let cycles : d.tally.cycles ≡ b.tally.cycles + 1 = counts.cycles in
+      let notes : d.tally.notes ≡ b.tally.notes + length (played_in c n) = counts.notes in
+      let cycles' : b.tally.cycles ≡ a.tally.cycles + n = p.cycles in
+      let notes' : b.tally.notes ≡ a.tally.notes + notes_before c n = p.notes in
+      let more : notes_before c (n + 1) ≡ notes_before c n + length (played_in c n) = notes_before_more c n in
+      record {
+        told = subst (Told S a.taps d.taps) (sym (frames_before_more c n))
+            (told_twice S a.taps b.taps d.taps (frames_before c n) (mix_in c n) p.told told);
+        cycles = omega (arith, cycles, cycles');
+        notes = omega (arith, notes, notes', more);
+      }
 
 -- the samples of one cycle more
 pub samples_more : (c : Composition) (width : SampleWidth) (dbfs : ℤ) (n : ℕ)
-    → samples_of width dbfs (frames_before c (n + 1)) ≡ samples_of width dbfs (frames_before c n) ++ samples_of width dbfs (mix_in c n)
+    → samples_of width dbfs (frames_before c (n + 1)) ≡ samples_of width dbfs (frames_before c n)
+    ++ samples_of width dbfs (mix_in c n)
 samples_more c width dbfs n =
     ap (samples_of width dbfs) (frames_before_more c n) ∙ samples_of-append width dbfs (frames_before c n) (mix_in c n)
+
+-- the samples of all cycles but the last stand in front of those of all
+sounds_before : (c : Composition) (width : SampleWidth) (dbfs : ℤ) (n : ℕ) → 1 ≤ n
+    → IsFront (samples_of width dbfs (frames_before c (n - 1))) (samples_of width dbfs (frames_before c n))
+sounds_before c width dbfs n some =
+    let more : List ℕ = samples_of width dbfs (mix_in c (n - 1)) in
+    let again : n - 1 + 1 ≡ n = omega arith in (
+      more,
+      subst (λ (k : ℕ). samples_of width dbfs (frames_before c k) ≡ samples_of width dbfs (frames_before c (n - 1))
+          ++ more) again
+          (samples_more c width dbfs (n - 1)),
+    )
 
 -- no more than 512 notes a cycle
 few_more : (c : Composition) (n : ℕ) → notes_before c n ≤ n * most_notes → length (played_in c n) ≤ most_notes
@@ -56,81 +93,96 @@ few_more c n few here =
     let more : notes_before c (n + 1) ≡ notes_before c n + length (played_in c n) = notes_before_more c n in
     omega (arith, more)
 
-module _ {T W : Type 0} (S : T → List ℤ → Type 0) (tells : W → SinkTold) where
-  pub played_none : (c : Composition) (output : Output) (width : SampleWidth) (dbfs : ℤ) (t : List T) (y : Tally) (w : W)
-      → PlayedOn S tells c output 0 t t y y w w (samples_of width dbfs (frames_before c 0))
-  played_none c output width dbfs t y w =
-      let P : List ℕ → Type 0 = λ bytes. IfWritten tells output w w (λ before now. WroteMore before now bytes) in
+module _ {T W : Type 0} (S : T → List ℤ → Type 0) (tells : W → SinkTold) (c : Composition) (output : Output)
+    (width : SampleWidth) (dbfs : ℤ) where
+  abbrev samples : ℕ → List ℕ
+  samples n = samples_of width dbfs (frames_before c n)
+
+  pub played_none : (a : Lent T W) → PlayedOn S tells c output 0 a a (samples 0)
+  played_none a =
+      let P : List ℕ → Type 0 = λ bytes. IfWritten tells output a.wav a.wav (λ x y. WroteMore x y bytes) in
       record {
-        performed = performed_none S c t y;
+        performed = performed_none S c a a refl refl;
         few = omega arith;
-        written = subst P (sym (samples_of-nil width dbfs)) (none_written tells output w);
+        written = subst P (sym (samples_of-nil width dbfs)) (none_written tells output a.wav);
       }
 
-  pub played_more : (c : Composition) (output : Output) (width : SampleWidth) (dbfs : ℤ) (n : ℕ) (mix : List ℤ) (t0 t1 t2 : List T) (y0 y1 y2 : Tally) (w0 w1 w2 : W)
-      → mix ≡ mix_in c n → PlayedOn S tells c output n t0 t1 y0 y1 w0 w1 (samples_of width dbfs (frames_before c n))
-      → Told S t1 t2 mix → CountsCycle c n y1 y2
-      → IfWritten tells output w1 w2 (λ before now. WroteMore before now (samples_of width dbfs mix))
-      → PlayedOn S tells c output (n + 1) t0 t2 y0 y2 w0 w2 (samples_of width dbfs (frames_before c (n + 1)))
-  played_more c output width dbfs n mix t0 t1 t2 y0 y1 y2 w0 w1 w2 is p tells_mix counts wrote_mix =
-      let P : List ℕ → Type 0 = λ bytes. IfWritten tells output w0 w2 (λ before now. WroteMore before now bytes) in
-      let Q : List ℤ → Type 0 = λ l. Told S t1 t2 l in
-      let R : List ℤ → Type 0 = λ l. IfWritten tells output w1 w2 (λ before now. WroteMore before now (samples_of width dbfs l)) in
-      let told = subst Q is tells_mix in
-      let wrote = subst R is wrote_mix in
+  pub played_more : (n : ℕ) (a b d : Lent T W) → PlayedOn S tells c output n a b (samples n)
+      → PlaysCycle S tells c output n b d (samples_of width dbfs (mix_in c n))
+      → PlayedOn S tells c output (n + 1) a d (samples (n + 1))
+  played_more n a b d p more =
+      let P : List ℕ → Type 0 = λ bytes. IfWritten tells output a.wav d.wav (λ x y. WroteMore x y bytes) in
       record {
-        performed = performed_more S c n t0 t1 t2 y0 y1 y2 p.performed told counts;
-        few = few_more c n p.few counts.few;
+        performed = performed_more S c n a b d p.performed more.told more.counted;
+        few = few_more c n p.few more.counted.few;
         written = subst P (sym (samples_more c width dbfs n))
-            (more_written tells output w0 w1 w2 (samples_of width dbfs (frames_before c n)) (samples_of width dbfs (mix_in c n)) p.written wrote);
+            (more_written tells output a.wav b.wav d.wav (samples n) (samples_of width dbfs (mix_in c n)) p.written
+            more.written);
       }
 
   -- the sink failed in this cycle
-  pub played_stopped : (c : Composition) (output : Output) (width : SampleWidth) (dbfs : ℤ) (n : ℕ) (mix : List ℤ) (t0 t1 t2 : List T) (y0 y1 y2 : Tally) (w0 w1 w2 : W)
-      → n < c.cycles → mix ≡ mix_in c n → PlayedOn S tells c output n t0 t1 y0 y1 w0 w1 (samples_of width dbfs (frames_before c n))
-      → Told S t1 t2 mix → CountsCycle c n y1 y2
-      → (front : List ℕ) × IsFront front (samples_of width dbfs mix)
-      × IfWritten tells output w1 w2 (λ before now. WroteMore before now front)
-      → PlayedInPart S tells c output width dbfs t0 t2 y0 y2 w0 w2
-  played_stopped c output width dbfs n mix t0 t1 t2 y0 y1 y2 w0 w1 w2 lt is p tells_mix counts s =
-      let Q : List ℤ → Type 0 = λ l. Told S t1 t2 l in
-      let F : List ℤ → Type 0 = λ l. IsFront s.0 (samples_of width dbfs l) in
-      let told = subst Q is tells_mix in
-      let front = subst F is s.1 in
-      record {
-        cycles = n + 1;
-        within = omega arith;
-        front = samples_of width dbfs (frames_before c n) ++ s.0;
-        is_front = subst (IsFront (samples_of width dbfs (frames_before c n) ++ s.0)) (sym (samples_more c width dbfs n))
-            (front_behind (samples_of width dbfs (frames_before c n)) s.0 (samples_of width dbfs (mix_in c n)) front);
-        played = record {
-          performed = performed_more S c n t0 t1 t2 y0 y1 y2 p.performed told counts;
-          few = few_more c n p.few counts.few;
-          written = more_written tells output w0 w1 w2 (samples_of width dbfs (frames_before c n)) s.0 p.written s.2;
-        };
-      }
+  pub played_stopped : (n : ℕ) (a b d : Lent T W) → n < c.cycles → PlayedOn S tells c output n a b (samples n)
+      → BreaksCycle S tells c output width dbfs n b d → PlayedInPart S tells c output width dbfs a d
+  played_stopped n a b d lt p s = record {
+    cycles = n + 1;
+    within = omega arith;
+    front = samples n ++ s.front;
+    is_front = subst (IsFront (samples n ++ s.front)) (sym (samples_more c width dbfs n))
+        (front_behind (samples n) s.front (samples_of width dbfs (mix_in c n)) s.is_front);
+    kept = λ some. let last : n + 1 - 1 ≡ n =
+        omega arith in subst (λ (k : ℕ). IsFront (samples k) (samples n ++ s.front)) (sym last) (s.front, refl);
+    played = record {
+      performed = performed_more S c n a b d p.performed s.played.told s.played.counted;
+      few = few_more c n p.few s.played.counted.few;
+      written = more_written tells output a.wav b.wav d.wav (samples n) s.front p.written s.played.written;
+    };
+  }
 
   -- memory was refused before this cycle
-  pub played_before : (c : Composition) (output : Output) (width : SampleWidth) (dbfs : ℤ) (n : ℕ) (t0 t1 : List T) (y0 y1 y2 : Tally) (w0 w1 : W)
-      → n ≤ c.cycles → y2 ≡ y1 → PlayedOn S tells c output n t0 t1 y0 y1 w0 w1 (samples_of width dbfs (frames_before c n))
-      → PlayedInPart S tells c output width dbfs t0 t1 y0 y2 w0 w1
-  played_before c output width dbfs n t0 t1 y0 y1 y2 w0 w1 le same p = record {
+  played_before : (n : ℕ) (a b d : Lent T W) → n ≤ c.cycles → d ≡ b → PlayedOn S tells c output n a b (samples n)
+      → PlayedInPart S tells c output width dbfs a d
+  played_before n a b d le same p = record {
     cycles = n;
     within = le;
-    front = samples_of width dbfs (frames_before c n);
-    is_front = front_all (samples_of width dbfs (frames_before c n));
-    played =
-        let P : Tally → Type 0 = λ y. PlayedOn S tells c output n t0 t1 y0 y w0 w1 (samples_of width dbfs (frames_before c n)) in
-        subst P (sym same) p;
+    front = samples n;
+    is_front = front_all (samples n);
+    kept = λ some. sounds_before c width dbfs n some;
+    played = subst (λ (l : Lent T W). PlayedOn S tells c output n a l (samples n)) (sym same) p;
   }
 
-  pub paused_before : (c : Composition) (output : Output) (width : SampleWidth) (dbfs : ℤ) (n : ℕ) (t0 t1 : List T) (y0 y1 y2 : Tally) (w0 w1 : W)
-      → n ≤ c.cycles → y2 ≡ y1 → PlayedOn S tells c output n t0 t1 y0 y1 w0 w1 (samples_of width dbfs (frames_before c n))
-      → PausedOn S tells c output width dbfs t0 t1 y0 y2 w0 w1
-  paused_before c output width dbfs n t0 t1 y0 y1 y2 w0 w1 le same p = record {
+  pub paused_before : (n : ℕ) (a b d : Lent T W) → n ≤ c.cycles → d ≡ b → PlayedOn S tells c output n a b (samples n)
+      → PausedOn S tells c output width dbfs a d
+  paused_before n a b d le same p = record {
     cycles = n;
     within = le;
-    played =
-        let P : Tally → Type 0 = λ y. PlayedOn S tells c output n t0 t1 y0 y w0 w1 (samples_of width dbfs (frames_before c n)) in
-        subst P (sym same) p;
+    played = subst (λ (l : Lent T W). PlayedOn S tells c output n a l (samples n)) (sym same) p;
   }
+
+  -- whatever stopped this cycle
+  pub part_stopped : {A : Type 0} (f : PlayFault) (n : ℕ) (a b d : Lent T W) → n < c.cycles
+      → PlayedOn S tells c output n a b (samples n)
+      → (IsErrOf {T = A} (Err f) fault.Sink → BreaksCycle S tells c output width dbfs n b d)
+      → (IsErrOf {T = A} (Err f) fault.OutOfMemory → d ≡ b) → PlayedInPart S tells c output width dbfs a d
+  part_stopped fault.Sink n a b d lt p broken same = played_stopped n a b d lt p (broken refl)
+  part_stopped fault.OutOfMemory n a b d lt p broken same = played_before n a b d (omega arith) (same refl) p
+
+-- A cycle, by what its notes, the taps and the sink did.
+module _ {T W : Type 0} (S : T → List ℤ → Type 0) (tells : W → SinkTold) (c : Composition) (output : Output)
+    (width : SampleWidth) (dbfs dbfs' : ℤ)
+    (n : ℕ) (mix : List ℤ) (a b : Lent T W) (is : mix ≡ mix_in c n) (same : dbfs' ≡ dbfs)
+    (told : Told S a.taps b.taps mix) (counts : CountsCycle c n a.tally b.tally) where
+  samples_are : samples_of width dbfs' mix ≡ samples_of width dbfs (mix_in c n)
+  samples_are = ap (λ (d : ℤ). samples_of width d mix) same ∙ ap (samples_of width dbfs) is
+
+  plays : (bytes : List ℕ) → IfWritten tells output a.wav b.wav (λ x y. WroteMore x y bytes)
+      → PlaysCycle S tells c output n a b bytes
+  plays bytes wrote = record { told = subst (Told S a.taps b.taps) is told; counted = counts; written = wrote }
+
+  pub plays_cycle : IfWritten tells output a.wav b.wav (λ x y. WroteMore x y (samples_of width dbfs' mix))
+      → PlaysCycle S tells c output n a b (samples_of width dbfs (mix_in c n))
+  plays_cycle wrote = subst (PlaysCycle S tells c output n a b) samples_are (plays (samples_of width dbfs' mix) wrote)
+
+  pub breaks_cycle : (front : List ℕ) × IsFront front (samples_of width dbfs' mix)
+      × IfWritten tells output a.wav b.wav (λ x y. WroteMore x y front)
+      → BreaksCycle S tells c output width dbfs n a b
+  breaks_cycle s = record { front = s.0; is_front = subst (IsFront s.0) samples_are s.1; played = plays s.0 s.2 }

@@ -1,5 +1,6 @@
 -- What is kept of a performance, from step to step.
-use Rattle.std.proofs.Common.{◌≡◌, ◌≤◌, ◌<◌, ℕ, zero, suc, ℤ, pos, List, [], ◌∷◌, length, map, replicate, refl, ap, sym, ◌∙◌, subst, arith}
+use Rattle.std.proofs.Common.{◌≡◌, ◌≤◌, ◌<◌, ℕ, zero, suc, ℤ, pos, List, [], ◌∷◌, length, map, replicate, refl, ap, sym}
+use Rattle.std.proofs.Common.{◌∙◌, subst, arith}
 use Rattle.std.specs.List.{All}
 use Rattle.std.proofs.lemmas.List.{length-map}
 use Rattle.std.proofs.lemmas.Slice.Zip.{AllZip-long}
@@ -18,6 +19,8 @@ use Rattle.cs_voice.specs.VoiceData.{VoiceData}
 use Rattle.cs_voice.specs.VoiceMeaning.{voice_job}
 use Rattle.cs_desk.specs.declared.course.Course.{Course}
 use Rattle.cs_desk.specs.Courses.{IsCourseOf}
+use Rattle.cs_perform.specs.declared.stand.Stand.{Stand}
+use Rattle.cs_perform.specs.inner.Stands.{IsAt}
 
 -- as many notes play as there are voices, and ends of notes
 pub count_active : (c : Composition) (life : Life) (voices : List VoiceData) (cells : Cells) (m : Moment)
@@ -27,10 +30,12 @@ count_active c life voices cells m s = AllZip-long (Plays c life.stage life.made
 pub count_ends : (c : Composition) (life : Life) (voices : List VoiceData) (cells : Cells) (m : Moment)
     → Stands c life voices cells m → length voices ≡ length life.ends.items
 count_ends c life voices cells m s =
-    sym (count_active c life voices cells m s) ∙ sym (length-map m.active (λ (a : Active). a.ends)) ∙ sym (ap length s.ends)
+    sym (count_active c life voices cells m s) ∙ sym (length-map m.active (λ (a : Active). a.ends))
+    ∙ sym (ap length s.ends)
 
 -- as many cells as the layout has
-pub count_cells : (s : SetupData) (life : Life) (voices : List VoiceData) (cells : Cells) (m : Moment) → life.setup.now ≡ s
+pub count_cells : (s : SetupData) (life : Life) (voices : List VoiceData) (cells : Cells) (m : Moment)
+    → life.setup.now ≡ s
     → Stands (composition_of s) life voices cells m → length cells ≡ word_count s.layout
 count_cells s life voices cells m is st =
     st.stand.long ∙ ap word_count (st.layout ∙ ap (λ (t : SetupData). t.layout) is)
@@ -41,17 +46,23 @@ pub of_setup : (s : SetupData) (life : Life) (voices : List VoiceData) (cells : 
 of_setup s life voices cells m is st =
     let P : SetupData → Type 0 = λ t. Stands (composition_of t) life voices cells m in subst P (sym is) st
 
-pub begun_at : (s t : SetupData) (life next : Life) (voices voices' : List VoiceData) (cells cells' : Cells) (cycle : ℕ) (m : Moment)
-    → t ≡ s → ((m : Moment) → Stands (composition_of t) life voices cells m → Stands (composition_of t) next voices' cells' (begins (composition_of t) cycle m))
-    → Stands (composition_of s) life voices cells m → Stands (composition_of s) next voices' cells' (begins (composition_of s) cycle m)
+pub begun_at : (s t : SetupData) (life next : Life) (voices voices' : List VoiceData) (cells cells' : Cells) (cycle : ℕ)
+    (m : Moment)
+    → t ≡ s → ((m : Moment) → Stands (composition_of t) life voices cells m
+    → Stands (composition_of t) next voices' cells' (begins (composition_of t) cycle m))
+    → Stands (composition_of s) life voices cells m
+    → Stands (composition_of s) next voices' cells' (begins (composition_of s) cycle m)
 begun_at s t life next voices voices' cells cells' cycle m is step st =
     let P : SetupData → Type 0 = λ u. Stands (composition_of u) life voices cells m in
-    let Q : SetupData → Type 0 = λ u. Stands (composition_of u) next voices' cells' (begins (composition_of u) cycle m) in
+    let Q : SetupData → Type 0 =
+    λ u. Stands (composition_of u) next voices' cells' (begins (composition_of u) cycle m) in
     subst Q is (step m (subst P (sym is) st))
 
 -- what is so of voices in the areas of the stage is so of them in those of the desk
-pub areas_of_desk : (s : SetupData) (life : Life) (areas : List Area) (voices : List VoiceData) (cells : Cells) (m : Moment)
-    → life.setup.now ≡ s → areas ≡ s.layout → Stands (composition_of s) life voices cells m → life.stage.layout.now ≡ areas
+pub areas_of_desk : (s : SetupData) (life : Life) (areas : List Area) (voices : List VoiceData) (cells : Cells)
+    (m : Moment)
+    → life.setup.now ≡ s → areas ≡ s.layout → Stands (composition_of s) life voices cells m
+    → life.stage.layout.now ≡ areas
 areas_of_desk s life areas voices cells m is e st = st.layout ∙ ap (λ (t : SetupData). t.layout) is ∙ sym e
 
 -- words of 0 are cells of 0
@@ -60,7 +71,8 @@ zero_cells zero = refl
 zero_cells (suc n) = ap (λ (l : List ℤ). pos 0 ∷ l) (zero_cells n)
 
 -- a course is its own
-pub own_course : (feet : List Footprint) (course : Course) → IsCourseOf feet course → IsCourseOf course.feet.items course
+pub own_course : (feet : List Footprint) (course : Course) → IsCourseOf feet course
+    → IsCourseOf course.feet.items course
 own_course feet course is =
     let P : List Footprint → Type 0 = λ l. IsCourseOf l course in subst P (sym is.feet_are) is
 
@@ -82,22 +94,30 @@ kept_course course next same feet is =
 -- voices and cells that came back
 pub ran_at : (c : Composition) (life : Life) (voices voices' : List VoiceData) (cells cells' : Cells) (m : Moment)
     → voices' ≡ serial_jobs voice_job voices cells → cells' ≡ serial_cells voice_job voices cells
-    → Stands c life (serial_jobs voice_job voices cells) (serial_cells voice_job voices cells) m → Stands c life voices' cells' m
+    → Stands c life (serial_jobs voice_job voices cells) (serial_cells voice_job voices cells) m
+    → Stands c life voices' cells' m
 ran_at c life voices voices' cells cells' m jobs left st =
     let P : List VoiceData → Type 0 = λ l. Stands c life l (serial_cells voice_job voices cells) m in
     let Q : Cells → Type 0 = λ l. Stands c life voices' l m in
     subst Q (sym left) (subst P (sym jobs) st)
 
 -- the footprints of the voices are in the desk's areas
-pub areas_same : (s : SetupData) (life : Life) (areas : List Area) (voices : List VoiceData) (cells : Cells) (m : Moment)
+pub areas_same : (s : SetupData) (life : Life) (areas : List Area) (voices : List VoiceData) (cells : Cells)
+    (m : Moment)
     → life.setup.now ≡ s → areas ≡ s.layout → Stands (composition_of s) life voices cells m
     → All (λ (v : VoiceData). v.areas ≡ life.stage.layout.now) voices → All (λ (v : VoiceData). v.areas ≡ areas) voices
-areas_same s life areas voices cells m is e st all k d lt = all k d lt ∙ areas_of_desk s life areas voices cells m is e st
+areas_same s life areas voices cells m is e st all k d lt =
+    all k d lt ∙ areas_of_desk s life areas voices cells m is e st
 
-pub feet_in_areas : (s : SetupData) (life : Life) (areas : List Area) (voices : List VoiceData) (cells : Cells) (m : Moment)
+pub feet_in_areas : (s : SetupData) (life : Life) (areas : List Area) (voices : List VoiceData) (cells : Cells)
+    (m : Moment)
     → life.setup.now ≡ s → areas ≡ s.layout → Stands (composition_of s) life voices cells m
     → All (λ (v : VoiceData). IsFootprint (length life.stage.layout.now) v.foot) voices
     → All (λ (v : VoiceData). IsFootprint (length areas) v.foot) voices
 feet_in_areas s life areas voices cells m is e st all =
     let P : List Area → Type 0 = λ l. All (λ (v : VoiceData). IsFootprint (length l) v.foot) voices in
     subst P (areas_of_desk s life areas voices cells m is e st) all
+
+-- how all stands, said of what a call took
+pub stands_so : (s : SetupData) (stand : Stand) (m : Moment) → IsAt s stand m → IsAt s stand m
+stands_so s stand m at = at

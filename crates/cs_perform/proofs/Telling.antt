@@ -1,5 +1,6 @@
 -- Taps that are told one after another, and again and again.
-use Rattle.std.proofs.Common.{◌≡◌, ◌<◌, ◌≤◌, ◌+◌, ℕ, zero, suc, ℤ, List, [], ◌∷◌, ◌++◌, length, take, drop, set, get_or, sym, ap, subst, ◌∙◌, append_assoc, append-nil, arith}
+use Rattle.std.proofs.Common.{◌≡◌, ◌<◌, ◌≤◌, ◌+◌, ℕ, zero, suc, ℤ, List, [], ◌∷◌, ◌++◌, length, take, drop, set, get_or}
+use Rattle.std.proofs.Common.{sym, ap, subst, ◌∙◌, append_assoc, append-nil, arith}
 use Rattle.std.specs.List.{AllZip}
 use Rattle.std.proofs.Math.Seq.{take-length}
 use Rattle.std.proofs.lemmas.List.{drop-drop, drop-set-lt, get_or-drop, length-set, take_more, take_more_set}
@@ -7,7 +8,8 @@ use Rattle.std.proofs.lemmas.List.Elements.{AllZip-push}
 use Rattle.cs_perform.specs.Hearing.{Told}
 
 -- The first taps were told, the others not yet.
-pub record ToldFirst {T : Type 0} (stands_for : T → List ℤ → Type 0) (before now : List T) (frames : List ℤ) (n : ℕ) : Type 0 where
+pub record ToldFirst {T : Type 0} (stands_for : T → List ℤ → Type 0) (before now : List T) (frames : List ℤ)
+    (n : ℕ) : Type 0 where
   pub first : Told stands_for (take n before) (take n now) frames
   pub rest : drop n now ≡ drop n before
   pub long : length now ≡ length before
@@ -32,11 +34,14 @@ told_one_more {T} S before now frames i x y lt is told r =
     let here : R (get_or before i x) y = subst (λ z. R z y) (is ∙ same) told in
     let pushed : AllZip R (take i before ++ get_or before i x ∷ []) (take i now ++ y ∷ []) =
     AllZip-push R (take i before) (take i now) (get_or before i x) y r.first here in
-    let left : take (i + 1) before ≡ take i before ++ get_or before i x ∷ [] = take_more before i x (omega (arith, r.long)) in
+    let left : take (i + 1) before ≡ take i before ++ get_or before i x ∷ [] =
+    take_more before i x (omega (arith, r.long)) in
     let right : take (i + 1) (set now i y) ≡ take i now ++ y ∷ [] = take_more_set now i y lt in
     record {
-      first = subst (λ l. AllZip R (take (i + 1) before) l) (sym right) (subst (λ l. AllZip R l (take i now ++ y ∷ [])) (sym left) pushed);
-      rest = drop-set-lt (i + 1) now i y (omega arith) ∙ sym (drop-drop 1 i now) ∙ ap (drop 1) r.rest ∙ drop-drop 1 i before;
+      first = subst (λ l. AllZip R (take (i + 1) before) l) (sym right)
+          (subst (λ l. AllZip R l (take i now ++ y ∷ [])) (sym left) pushed);
+      rest = drop-set-lt (i + 1) now i y (omega arith) ∙ sym (drop-drop 1 i now) ∙ ap (drop 1) r.rest
+          ∙ drop-drop 1 i before;
       long = length-set now i y ∙ r.long;
     }
 

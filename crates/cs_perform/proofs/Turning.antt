@@ -1,5 +1,6 @@
 -- The levels of a course are the turns of the notes that play.
-use Rattle.std.proofs.Common.{◌≡◌, ℕ, ◌+◌, Bool, List, [], ◌∷◌, ◌++◌, length, map, refl, ap, sym, ◌∙◌, subst, append_assoc, append-nil}
+use Rattle.std.proofs.Common.{◌≡◌, ℕ, ◌+◌, Bool, List, [], ◌∷◌, ◌++◌, length, map, refl, ap, sym, ◌∙◌, subst}
+use Rattle.std.proofs.Common.{append_assoc, append-nil}
 use Rattle.std.specs.List.{AllZip, flat_map, range_with_len}
 use Rattle.cs_cells.specs.declared.footprint.Area.{Area}
 use Rattle.cs_cells.specs.declared.footprint.Footprint.{Footprint}
@@ -16,13 +17,15 @@ use Rattle.cs_perform.proofs.Frames.{rows_more}
 foot_of : (c : Composition) (stage : Stage) (flags : List Bool) (areas : List Area) (v : VoiceData) (a : Active)
     → stage.layout.now ≡ areas → Plays c stage flags v a → IsFootOf areas a.body v.foot
 foot_of c stage flags areas v a e p =
-    let here : IsFootOf stage.layout.now a.body p.foot = record { uses = p.of.uses; writes = p.of.writes; there = p.of.there } in
+    let here : IsFootOf stage.layout.now a.body p.foot =
+    record { uses = p.of.uses; writes = p.of.writes; there = p.of.there } in
     let P : List Area → Type 0 = λ l. IsFootOf l a.body p.foot in
     let Q : Footprint → Type 0 = λ f. IsFootOf areas a.body f in
     subst Q p.on.foot (subst P e here)
 
 -- the footprints of voices are those of their notes
-pub feet_of_notes : (c : Composition) (stage : Stage) (flags : List Bool) (areas : List Area) (voices : List VoiceData) (active : List Active)
+pub feet_of_notes : (c : Composition) (stage : Stage) (flags : List Bool) (areas : List Area) (voices : List VoiceData)
+    (active : List Active)
     → stage.layout.now ≡ areas → AllZip (Plays c stage flags) voices active
     → AllZip (λ (a : Active) (f : Footprint). IsFootOf areas a.body f) active (map (λ (v : VoiceData). v.foot) voices)
 feet_of_notes c stage flags areas [] [] e p = tt
@@ -40,18 +43,23 @@ told_both Untold xs ys = refl
 pub nothing_told : (lines : TurnLines) (line start : List ℕ) → lines ≡ Untold → start ≡ start ++ if_told lines line
 nothing_told lines line start is = sym (append-nil start) ∙ ap (λ (l : TurnLines). start ++ if_told l line) (sym is)
 
-pub lines_more : (c : Composition) (n : ℕ) → turn_lines_before c (n + 1) ≡ turn_lines_before c n ++ line_of n (turns_in c (notes_in c n))
+pub lines_more : (c : Composition) (n : ℕ)
+    → turn_lines_before c (n + 1) ≡ turn_lines_before c n ++ line_of n (turns_in c (notes_in c n))
 lines_more c n = rows_more (λ cycle. line_of cycle (turns_in c (notes_in c cycle))) n
 
 -- the lines of one cycle more
-pub told_more : (lines : TurnLines) (c : Composition) (n : ℕ) (start before now : List ℕ) → before ≡ start ++ if_told lines (turn_lines_before c n)
-    → now ≡ before ++ if_told lines (line_of n (turns_in c (notes_in c n))) → now ≡ start ++ if_told lines (turn_lines_before c (n + 1))
+pub told_more : (lines : TurnLines) (c : Composition) (n : ℕ) (start before now : List ℕ)
+    → before ≡ start ++ if_told lines (turn_lines_before c n)
+    → now ≡ before ++ if_told lines (line_of n (turns_in c (notes_in c n)))
+    → now ≡ start ++ if_told lines (turn_lines_before c (n + 1))
 told_more lines c n start before now so_far here =
     let line : List ℕ = line_of n (turns_in c (notes_in c n)) in
     here ∙ ap (λ (l : List ℕ). l ++ if_told lines line) so_far
     ∙ append_assoc start (if_told lines (turn_lines_before c n)) (if_told lines line)
-    ∙ ap (λ (l : List ℕ). start ++ l) (told_both lines (turn_lines_before c n) line ∙ ap (if_told lines) (sym (lines_more c n)))
+    ∙ ap (λ (l : List ℕ). start ++ l)
+    (told_both lines (turn_lines_before c n) line ∙ ap (if_told lines) (sym (lines_more c n)))
 
-pub no_lines : (lines : TurnLines) (c : Composition) (start : List ℕ) → start ≡ start ++ if_told lines (turn_lines_before c 0)
+pub no_lines : (lines : TurnLines) (c : Composition) (start : List ℕ)
+    → start ≡ start ++ if_told lines (turn_lines_before c 0)
 no_lines Told c start = sym (append-nil start)
 no_lines Untold c start = sym (append-nil start)

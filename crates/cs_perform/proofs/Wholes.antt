@@ -1,5 +1,7 @@
 -- The whole file, and its fronts.
-use Rattle.std.proofs.Common.{◌≡◌, ◌≤◌, ◌<◌, ℕ, zero, suc, ◌+◌, ◌*◌, ◌-◌, ◌%◌, ◌==◌, Bool, true, false, ℤ, Result, Err, List, [], ◌∷◌, ◌++◌, length, replicate, refl, ap, sym, ◌∙◌, subst, arith, append_assoc, append-nil, if◌then◌else◌}
+use Rattle.std.proofs.Common.{◌≡◌, ◌≤◌, ◌<◌, ℕ, zero, suc, ◌+◌, ◌*◌, ◌-◌, ◌%◌, ◌==◌, Bool, true, false, ℤ, Result, Ok}
+use Rattle.std.proofs.Common.{Err, OnOk, List, [], ◌∷◌, ◌++◌, length, replicate, refl, ap, sym, ◌∙◌, subst, arith}
+use Rattle.std.proofs.Common.{append_assoc, append-nil, if◌then◌else◌}
 use Rattle.std.proofs.Math.Nat.{mul_assoc}
 use Rattle.std.proofs.lemmas.Bool.{eqb-true, eq-eqb}
 use Rattle.std.specs.Result.{IsErrOf}
@@ -8,24 +10,26 @@ use Rattle.cs_base.specs.declared.head.Head.{Head}
 use Rattle.cs_base.specs.declared.width.SampleWidth.{SampleWidth}
 use Rattle.cs_piece_meaning.specs.Heard.{frames_before, frames_of, mix_in}
 use Rattle.cs_piece_meaning.specs.Moments.{Composition}
-use Rattle.cs_desk.specs.declared.receipt.Tally.{Tally}
-use Rattle.cs_edge.specs.Told.{IsFront}
+use Rattle.cs_edge.specs.Told.{IsFront, Rose}
 use Rattle.cs_edge.specs.Moves.{SinkTold, WroteMore, Wrote, Stopped, Finished}
 use Rattle.cs_piece.specs.Setups.{SetupData, composition_of}
 use Rattle.cs_wav.specs.Wav.{header_bytes, samples_of, size_of, wav_of}
 use Rattle.cs_wav.proofs.Files.{samples_of-append}
 use Rattle.cs_perform.specs.Hearing.{IfWritten}
-use Rattle.cs_perform.specs.Performances.{IsPart, IsPaused, IsWhole, Performed, file_after, front_after}
+use Rattle.cs_perform.specs.Performances.{HasAtLeast, IsPart, IsPaused, IsWhole, Lent, Performed, Performs, file_after}
+use Rattle.cs_perform.specs.Performances.{front_after}
 use Rattle.cs_perform.specs.declared.order.Order.{Order}
-use Rattle.cs_perform.specs.declared.order.Outcome.{Outcome}
+use Rattle.cs_perform.specs.declared.order.Output.{Output}
+use Rattle.cs_perform.specs.declared.order.Output.TheVariants.{SoundFile, Nothing}
 use Rattle.cs_perform.specs.declared.order.PlayFault.{PlayFault}
 use Rattle.cs_perform.specs.declared.order.PlayFault.TheVariants as fault
-use Rattle.cs_perform.specs.inner.Crews.{Performs}
-use Rattle.cs_perform.specs.inner.Ends.{Finishes, Stops, padding}
+use Rattle.cs_perform.specs.inner.Ends.{Breaks, Closes, Finishes, Stops, padding}
 use Rattle.cs_perform.specs.inner.Plays.{PausedOn, PlayedInPart, PlayedOn}
-use Rattle.cs_perform.proofs.Files.{file_finished, file_not_finished, file_paused, file_stopped, file_unbegun, file_untouched, file_written, front_all, front_behind, front_of_front}
+use Rattle.cs_perform.proofs.Files.{error_as, faults_after, faults_begun, file_kept, file_paused, file_stopped}
+use Rattle.cs_perform.proofs.Files.{file_unbegun, file_untouched, file_written, front_all, front_behind, front_of_front}
+use Rattle.cs_perform.proofs.Files.{keeps_less, rose_later}
 use Rattle.cs_perform.proofs.Frames.{frames_before_more, length-frames_before}
-use Rattle.cs_perform.proofs.Performing.{performed_none}
+use Rattle.cs_perform.proofs.Performing.{performed_from, performed_none, performed_until}
 
 -- the byte 0 behind samples of odd size
 one_or_none : (r : ℕ) → r < 2 → padding (r == 1) ≡ replicate r 0
@@ -34,24 +38,31 @@ one_or_none (suc zero) lt = refl
 one_or_none (suc (suc r)) lt = absurd (omega arith)
 
 -- the header and the samples of all cycles, and the byte 0 where it stands behind them, are the file
-wav_is : (c : Composition) (head : Head) (width : SampleWidth) (last : List ℕ) → last ≡ replicate (length (frames_of c) * bytes_of width % 2) 0
+wav_is : (c : Composition) (head : Head) (width : SampleWidth) (last : List ℕ)
+    → last ≡ replicate (length (frames_of c) * bytes_of width % 2) 0
     → front_after c head width c.cycles ++ last ≡ wav_of (frames_of c) head width
 unfolding wav_of
 wav_is c head width last e = ap (λ (l : List ℕ). front_after c head width c.cycles ++ l) e
 
-pub wav_ends : (c : Composition) (head : Head) (width : SampleWidth) (odd : Bool) (values : ℕ) → values ≡ length (frames_of c)
-    → odd ≡ (values * bytes_of width % 2 == 1) → front_after c head width c.cycles ++ padding odd ≡ wav_of (frames_of c) head width
+pub wav_ends : (c : Composition) (head : Head) (width : SampleWidth) (odd : Bool) (values : ℕ)
+    → values ≡ length (frames_of c)
+    → odd ≡ (values * bytes_of width % 2 == 1)
+    → front_after c head width c.cycles ++ padding odd ≡ wav_of (frames_of c) head width
 wav_ends c head width odd values e is =
     wav_is c head width (padding odd)
-    (ap padding is ∙ one_or_none (values * bytes_of width % 2) (omega arith) ∙ ap (λ (k : ℕ). replicate (k * bytes_of width % 2) 0) e)
+    (ap padding is ∙ one_or_none (values * bytes_of width % 2) (omega arith)
+    ∙ ap (λ (k : ℕ). replicate (k * bytes_of width % 2) 0) e)
 
 -- the file after the last cycle is whole
-pub file_after_all : (c : Composition) (head : Head) (width : SampleWidth) → file_after c head width c.cycles ≡ wav_of (frames_of c) head width
+pub file_after_all : (c : Composition) (head : Head) (width : SampleWidth)
+    → file_after c head width c.cycles ≡ wav_of (frames_of c) head width
 file_after_all c head width =
-    ap (λ (b : Bool). if b then wav_of (frames_of c) head width else front_after c head width c.cycles) (eq-eqb c.cycles c.cycles refl)
+    ap (λ (b : Bool). if b then wav_of (frames_of c) head width else front_after c head width c.cycles)
+    (eq-eqb c.cycles c.cycles refl)
 
 -- header and samples are a front of it
-front_of_wav : (c : Composition) (head : Head) (width : SampleWidth) → IsFront (front_after c head width c.cycles) (wav_of (frames_of c) head width)
+front_of_wav : (c : Composition) (head : Head) (width : SampleWidth)
+    → IsFront (front_after c head width c.cycles) (wav_of (frames_of c) head width)
 front_of_wav c head width =
     let last : List ℕ = replicate (length (frames_of c) * bytes_of width % 2) 0 in
     (last, sym (wav_is c head width last refl))
@@ -63,7 +74,8 @@ front_by_test c head width n true e =
     subst P (sym (eqb-true n c.cycles e)) (front_of_wav c head width)
 front_by_test c head width n false e = front_all (front_after c head width n)
 
-pub front_in_file : (c : Composition) (head : Head) (width : SampleWidth) (n : ℕ) → IsFront (front_after c head width n) (file_after c head width n)
+pub front_in_file : (c : Composition) (head : Head) (width : SampleWidth) (n : ℕ)
+    → IsFront (front_after c head width n) (file_after c head width n)
 front_in_file c head width n = front_by_test c head width n (n == c.cycles) refl
 
 -- the frames of some cycles stand in front of those of more
@@ -81,23 +93,31 @@ frames_front c n (suc k) =
     record {
       rest = p.rest ++ mix_in c (n + k);
       split = ap (frames_before c) (let e : n + suc k ≡ (n + k) + 1 = omega arith in e) ∙ frames_before_more c (n + k)
-          ∙ ap (λ (l : List ℤ). l ++ mix_in c (n + k)) p.split ∙ append_assoc (frames_before c n) p.rest (mix_in c (n + k));
+          ∙ ap (λ (l : List ℤ). l ++ mix_in c (n + k)) p.split
+          ∙ append_assoc (frames_before c n) p.rest (mix_in c (n + k));
     }
 
 front_of_all : (c : Composition) (head : Head) (width : SampleWidth) (n : ℕ) → n ≤ c.cycles
     → IsFront (front_after c head width n) (front_after c head width c.cycles)
 front_of_all c head width n le =
     let opening : List ℕ = header_bytes width (length (frames_of c) * bytes_of width) head in
-    let p : FramesFront c n c.cycles = subst (FramesFront c n) (let e : n + (c.cycles - n) ≡ c.cycles = omega arith in e) (frames_front c n (c.cycles - n)) in
-    front_behind opening (samples_of width head.dbfs (frames_before c n)) (samples_of width head.dbfs (frames_of c))
-    (samples_of width head.dbfs p.rest, ap (samples_of width head.dbfs) p.split ∙ samples_of-append width head.dbfs (frames_before c n) p.rest)
+    let p : FramesFront c n c.cycles =
+    subst (FramesFront c n) (let e : n + (c.cycles - n) ≡ c.cycles = omega arith in e)
+    (frames_front c n (c.cycles - n)) in
+    front_behind opening (samples_of width head.dbfs (frames_before c n)) (samples_of width head.dbfs (frames_of c)) (
+      samples_of width head.dbfs p.rest,
+      ap (samples_of width head.dbfs) p.split
+          ∙ samples_of-append width head.dbfs (frames_before c n) p.rest,
+    )
 
 -- and so is the file after any number of cycles
 file_front_by : (c : Composition) (head : Head) (width : SampleWidth) (n : ℕ) (b : Bool) → n ≤ c.cycles
-    → IsFront (if b then wav_of (frames_of c) head width else front_after c head width n) (wav_of (frames_of c) head width)
+    → IsFront (if b then wav_of (frames_of c) head width else front_after c head width n)
+    (wav_of (frames_of c) head width)
 file_front_by c head width n true le = front_all (wav_of (frames_of c) head width)
 file_front_by c head width n false le =
-    front_of_front (front_after c head width n) (front_after c head width c.cycles) (wav_of (frames_of c) head width) (front_of_all c head width n le)
+    front_of_front (front_after c head width n) (front_after c head width c.cycles) (wav_of (frames_of c) head width)
+    (front_of_all c head width n le)
     (front_of_wav c head width)
 
 pub file_front : (c : Composition) (head : Head) (width : SampleWidth) (n : ℕ) → n ≤ c.cycles
@@ -108,168 +128,288 @@ file_front c head width n le = file_front_by c head width n (n == c.cycles) le
 pub values_are : (c : Composition) (frames channels : ℕ) → frames ≡ c.cycles * c.head.ksmps → channels ≡ c.head.nchnls
     → frames * channels ≡ length (frames_of c)
 values_are c frames channels e f =
-    ap (λ (k : ℕ). k * channels) e ∙ ap (λ (k : ℕ). c.cycles * c.head.ksmps * k) f ∙ mul_assoc c.cycles c.head.ksmps c.head.nchnls
+    ap (λ (k : ℕ). k * channels) e ∙ ap (λ (k : ℕ). c.cycles * c.head.ksmps * k) f
+    ∙ mul_assoc c.cycles c.head.ksmps c.head.nchnls
     ∙ sym (length-frames_before c c.cycles)
 
-pub header_is : (c : Composition) (head : Head) (width : SampleWidth) (frames : ℕ) (first : List ℕ) → frames ≡ c.cycles * c.head.ksmps
+pub header_is : (c : Composition) (head : Head) (width : SampleWidth) (frames : ℕ) (first : List ℕ)
+    → frames ≡ c.cycles * c.head.ksmps
     → head.nchnls ≡ c.head.nchnls → first ≡ header_bytes width (size_of width frames head) head
     → first ≡ header_bytes width (length (frames_of c) * bytes_of width) head
 header_is c head width frames first e f is =
     is ∙ ap (λ (k : ℕ). header_bytes width (k * bytes_of width) head) (values_are c frames head.nchnls e f)
 
 -- all of them, and header and samples stand in the file
-pub all_written : {W : Type 0} (tells : W → SinkTold) (c : Composition) (head : Head) (order : Order) (name first : List ℕ) (w0 w1 w2 : W)
+pub all_written : {W : Type 0} (tells : W → SinkTold) (c : Composition) (head : Head) (order : Order)
+    (name first : List ℕ) (w0 w1 w2 : W)
     → first ≡ header_bytes order.width (length (frames_of c) * bytes_of order.width) head
     → IfWritten tells order.output w0 w1 (λ before now. Wrote before now name first)
-    → IfWritten tells order.output w1 w2 (λ before now. WroteMore before now (samples_of order.width head.dbfs (frames_of c)))
+    → IfWritten tells order.output w1 w2
+    (λ before now. WroteMore before now (samples_of order.width head.dbfs (frames_of c)))
     → IfWritten tells order.output w0 w2 (λ before now. Wrote before now name (front_after c head order.width c.cycles))
 all_written tells c head order name first w0 w1 w2 is begun more =
     let sounds : List ℕ = samples_of order.width head.dbfs (frames_of c) in
-    let P : List ℕ → Type 0 = λ l. IfWritten tells order.output w0 w2 (λ before now. Wrote before now name (l ++ sounds)) in
+    let P : List ℕ → Type 0 =
+    λ l. IfWritten tells order.output w0 w2 (λ before now. Wrote before now name (l ++ sounds)) in
     subst P is (file_written tells order.output w0 w1 w2 name first sounds begun more)
 
+-- the end of a file, by its last bytes
+module _ {W : Type 0} (tells : W → SinkTold) (c : Composition) (head : Head) (width : SampleWidth) where
+  pub closes : (w : Output) (a b : W) (last : List ℕ)
+      → front_after c head width c.cycles ++ last ≡ wav_of (frames_of c) head width
+      → IfWritten tells w a b (Finishes last) → IfWritten tells w a b (Closes c head width)
+  closes SoundFile a b last e p =
+      λ start name wrote. subst (Finished start (tells b) name) e
+      (p start name (front_after c head width c.cycles) wrote)
+  closes Nothing a b last e p = p
+
+  pub breaks : (w : Output) (a b : W) (last : List ℕ)
+      → front_after c head width c.cycles ++ last ≡ wav_of (frames_of c) head width
+      → IfWritten tells w a b (Stops last) → IfWritten tells w a b (Breaks c head width)
+  breaks SoundFile a b last e p = λ start name wrote.
+      let both = p start name (front_after c head width c.cycles) wrote in
+      (subst (Stopped start (tells b) name) (e ∙ sym (file_after_all c head width)) both.0, both.1)
+  breaks Nothing a b last e p = p
+
+  file_closed : (w : Output) (a b d : W) (name : List ℕ)
+      → IfWritten tells w a b (λ x y. Wrote x y name (front_after c head width c.cycles))
+      → IfWritten tells w b d (Closes c head width)
+      → IfWritten tells w a d (λ x y. Finished x y name (wav_of (frames_of c) head width))
+  file_closed SoundFile a b d name p q = q (tells a) name p
+  file_closed Nothing a b d name p q = q ∙ p
+
+  file_broken : (w : Output) (a b d : W) (name : List ℕ)
+      → IfWritten tells w a b (λ x y. Wrote x y name (front_after c head width c.cycles))
+      → IfWritten tells w b d (Breaks c head width)
+      → IfWritten tells w a d (λ x y. Stopped x y name (file_after c head width c.cycles))
+  file_broken SoundFile a b d name p q = (q (tells a) name p).0
+  file_broken Nothing a b d name p q = q ∙ p
+
+  broken_kept : (w : Output) (a b d : W) (name : List ℕ)
+      → IfWritten tells w a b (λ x y. Wrote x y name (front_after c head width c.cycles))
+      → IfWritten tells w b d (Breaks c head width)
+      → IfWritten tells w a d (HasAtLeast name (front_after c head width (c.cycles - 1)))
+  broken_kept SoundFile a b d name p q =
+      keeps_less (tells a) (tells d) name (front_after c head width (c.cycles - 1)) (front_after c head width c.cycles)
+      (front_of_all c head width (c.cycles - 1) (omega arith)) (q (tells a) name p).1
+  broken_kept Nothing a b d name p q = q ∙ p
+
+pub not_ok : {A : Type 0} (x : A) (f : PlayFault) → IsErrOf {T = A} (Ok x) f → ⊥
+not_ok x f e = cc
+
+pub not_sink : {A : Type 0} → IsErrOf {T = A} (Err fault.OutOfMemory) fault.Sink → ⊥
+not_sink e = cc
+
+not_memory : {A : Type 0} → IsErrOf {T = A} (Err fault.Sink) fault.OutOfMemory → ⊥
+not_memory e = cc
+
 module _ {T W : Type 0} (S : T → List ℤ → Type 0) (tells : W → SinkTold) where
-  -- nothing was done
-  pub part_untouched : (c : Composition) (head : Head) (order : Order) (name : List ℕ) (t : List T) (y : Tally) (w : W)
-      → IsPart S tells c head order name t t y y w w
-  part_untouched c head order name t y w = record {
-    cycles = 0;
-    within = omega arith;
-    performed = performed_none S c t y;
-    written = file_untouched tells order.output w name (file_after c head order.width 0);
+  -- the same, of what another call answered
+  pub performs_ok : {A B : Type 0} (s : SetupData) (order : Order) (name : List ℕ) (a b : Lent T W) (x : A) (y : B)
+      → Performs S tells s order name a b (let r : Result A PlayFault = Ok x in r)
+      → Performs S tells s order name a b (let r : Result B PlayFault = Ok y in r)
+  performs_ok s order name a b x y p = record {
+    whole = p.whole;
+    part = tt;
+    memory = λ e. absurd (not_ok y fault.OutOfMemory e);
+    sink = λ e. absurd (not_ok y fault.Sink e);
   }
 
-  -- the file was begun in part
-  pub part_begun : (c : Composition) (head : Head) (order : Order) (name first : List ℕ) (t : List T) (y : Tally) (w0 w1 : W)
-      → first ≡ header_bytes order.width (length (frames_of c) * bytes_of order.width) head
-      → ((rest : List ℕ) → IfWritten tells order.output w0 w1 (λ before now. Stopped before now name (first ++ rest)))
-      → IsPart S tells c head order name t t y y w0 w1
-  part_begun c head order name first t y w0 w1 is s =
-      let sounds : List ℕ = samples_of order.width head.dbfs (frames_before c 0) in
-      let f = front_in_file c head order.width 0 in
-      let same : first ++ (sounds ++ f.0) ≡ file_after c head order.width 0 =
-      sym (append_assoc first sounds f.0) ∙ ap (λ (l : List ℕ). (l ++ sounds) ++ f.0) is ∙ sym f.1 in
-      let P : List ℕ → Type 0 = λ l. IfWritten tells order.output w0 w1 (λ before now. Stopped before now name l) in
-      record {
-        cycles = 0;
-        within = omega arith;
-        performed = performed_none S c t y;
-        written = subst P same (s (sounds ++ f.0));
-      }
-
-  -- some cycles were played
-  pub part_played : (c : Composition) (head : Head) (order : Order) (name first : List ℕ) (t0 t1 : List T) (y0 y1 : Tally) (w0 w1 w2 : W)
-      → first ≡ header_bytes order.width (length (frames_of c) * bytes_of order.width) head
-      → IfWritten tells order.output w0 w1 (λ before now. Wrote before now name first)
-      → PlayedInPart S tells c order.output order.width head.dbfs t0 t1 y0 y1 w1 w2
-      → IsPart S tells c head order name t0 t1 y0 y1 w0 w2
-  part_played c head order name first t0 t1 y0 y1 w0 w1 w2 is begun p =
-      let sounds : List ℕ = samples_of order.width head.dbfs (frames_before c p.cycles) in
-      let front : IsFront (first ++ p.front) (first ++ sounds) = front_behind first p.front sounds p.is_front in
-      let P : List ℕ → Type 0 = λ l. IsFront (first ++ p.front) (l ++ sounds) in
-      record {
-        cycles = p.cycles;
-        within = p.within;
-        performed = p.played.performed;
-        written = file_stopped tells order.output w0 w2 name (first ++ p.front) (file_after c head order.width p.cycles)
-            (file_written tells order.output w0 w1 w2 name first p.front begun p.played.written)
-            (front_of_front (first ++ p.front) (front_after c head order.width p.cycles) (file_after c head order.width p.cycles)
-            (subst P is front) (front_in_file c head order.width p.cycles));
-      }
-
-  -- but memory was refused behind the last
-  pub part_unclosed : (c : Composition) (head : Head) (order : Order) (name : List ℕ) (t0 t1 : List T) (y0 y1 : Tally) (w0 w2 : W)
-      → Performed S c c.cycles t0 t1 y0 y1
-      → IfWritten tells order.output w0 w2 (λ before now. Wrote before now name (front_after c head order.width c.cycles))
-      → IsPart S tells c head order name t0 t1 y0 y1 w0 w2
-  part_unclosed c head order name t0 t1 y0 y1 w0 w2 p wrote = record {
-    cycles = c.cycles;
-    within = omega arith;
-    performed = p;
-    written = file_stopped tells order.output w0 w2 name (front_after c head order.width c.cycles) (file_after c head order.width c.cycles) wrote
-        (front_in_file c head order.width c.cycles);
-  }
-
-  -- or the sink failed at the end
-  pub part_unfinished : (c : Composition) (head : Head) (order : Order) (name : List ℕ) (odd : Bool) (t0 t1 : List T) (y0 y1 : Tally) (w0 w2 w3 : W)
-      → front_after c head order.width c.cycles ++ padding odd ≡ wav_of (frames_of c) head order.width
-      → Performed S c c.cycles t0 t1 y0 y1
-      → IfWritten tells order.output w0 w2 (λ before now. Wrote before now name (front_after c head order.width c.cycles))
-      → IfWritten tells order.output w2 w3 (Stops (padding odd)) → IsPart S tells c head order name t0 t1 y0 y1 w0 w3
-  part_unfinished c head order name odd t0 t1 y0 y1 w0 w2 w3 e p wrote stops =
-      let P : List ℕ → Type 0 = λ l. IfWritten tells order.output w0 w3 (λ before now. Stopped before now name l) in
-      record {
-        cycles = c.cycles;
-        within = omega arith;
-        performed = p;
-        written = subst P (e ∙ sym (file_after_all c head order.width))
-            (file_not_finished tells order.output w0 w2 w3 name (front_after c head order.width c.cycles) (padding odd) wrote stops);
-      }
-
-  -- or all was done
-  pub whole : (c : Composition) (head : Head) (order : Order) (name : List ℕ) (odd : Bool) (t0 t1 : List T) (y0 y1 : Tally) (w0 w2 w3 : W)
-      → front_after c head order.width c.cycles ++ padding odd ≡ wav_of (frames_of c) head order.width
-      → Performed S c c.cycles t0 t1 y0 y1
-      → IfWritten tells order.output w0 w2 (λ before now. Wrote before now name (front_after c head order.width c.cycles))
-      → IfWritten tells order.output w2 w3 (Finishes (padding odd)) → IsWhole S tells c head order name t0 t1 y0 y1 w0 w3
-  whole c head order name odd t0 t1 y0 y1 w0 w2 w3 e p wrote ends =
-      let P : List ℕ → Type 0 = λ l. IfWritten tells order.output w0 w3 (λ before now. Finished before now name l) in
-      record {
-        performed = p;
-        written = subst P e
-            (file_finished tells order.output w0 w2 w3 name (front_after c head order.width c.cycles) (padding odd) wrote ends);
-      }
-
-  -- memory was refused before the sink was begun
-  pub paused_untouched : (c : Composition) (head : Head) (order : Order) (name : List ℕ) (t : List T) (y : Tally) (w : W)
-      → IsPaused S tells c head order name t t y y w w
-  paused_untouched c head order name t y w = record {
-    cycles = 0;
-    within = omega arith;
-    performed = performed_none S c t y;
-    written = file_unbegun tells order.output w name (front_after c head order.width 0) _ (refl, refl);
-  }
-
-  -- or between two cycles
-  pub paused_between : (c : Composition) (head : Head) (order : Order) (name first : List ℕ) (t0 t1 : List T) (y0 y1 : Tally) (w0 w1 w2 : W)
-      → first ≡ header_bytes order.width (length (frames_of c) * bytes_of order.width) head
-      → IfWritten tells order.output w0 w1 (λ before now. Wrote before now name first)
-      → PausedOn S tells c order.output order.width head.dbfs t0 t1 y0 y1 w1 w2
-      → IsPaused S tells c head order name t0 t1 y0 y1 w0 w2
-  paused_between c head order name first t0 t1 y0 y1 w0 w1 w2 is begun p =
-      let sounds : List ℕ = samples_of order.width head.dbfs (frames_before c p.cycles) in
-      let P : List ℕ → Type 0 = λ l. IfWritten tells order.output w0 w2 (λ before now. Wrote before now name (l ++ sounds)) in
-      record {
-        cycles = p.cycles;
-        within = p.within;
-        performed = p.played.performed;
-        written = file_paused tells order.output w0 w2 name (front_after c head order.width p.cycles) _
-            (subst P is (file_written tells order.output w0 w1 w2 name first sounds begun p.played.written));
-      }
-
-  -- or behind the last
-  pub paused_unclosed : (c : Composition) (head : Head) (order : Order) (name : List ℕ) (t0 t1 : List T) (y0 y1 : Tally) (w0 w2 : W)
-      → Performed S c c.cycles t0 t1 y0 y1
-      → IfWritten tells order.output w0 w2 (λ before now. Wrote before now name (front_after c head order.width c.cycles))
-      → IsPaused S tells c head order name t0 t1 y0 y1 w0 w2
-  paused_unclosed c head order name t0 t1 y0 y1 w0 w2 p wrote = record {
-    cycles = c.cycles;
-    within = omega arith;
-    performed = p;
-    written = file_paused tells order.output w0 w2 name (front_after c head order.width c.cycles) _ wrote;
+  pub performs_err : {A B : Type 0} (s : SetupData) (order : Order) (name : List ℕ) (a b : Lent T W) (f : PlayFault)
+      → Performs S tells s order name a b (let r : Result A PlayFault = Err f in r)
+      → Performs S tells s order name a b (let r : Result B PlayFault = Err f in r)
+  performs_err s order name a b f p = record {
+    whole = tt;
+    part = p.part;
+    memory = λ e. p.memory (error_as f fault.OutOfMemory e);
+    sink = λ e. p.sink (error_as f fault.Sink e);
   }
 
   -- memory was refused before anything was done
-  not_the_sink : IsErrOf {T = Outcome} (Err fault.OutOfMemory) fault.Sink → ⊥
-  not_the_sink e = cc
+  pub performs_nothing : {A : Type 0} (s : SetupData) (order : Order) (name : List ℕ) (a : Lent T W)
+      → Performs S tells s order name a a (let r : Result A PlayFault = Err fault.OutOfMemory in r)
+  performs_nothing s order name a =
+      let c : Composition = composition_of s in
+      record {
+        whole = tt;
+        part = record {
+          cycles = 0;
+          within = omega arith;
+          performed = performed_none S c a a refl refl;
+          written = file_untouched tells order.output a.wav name (file_after c s.orchestra.head order.width 0);
+          kept = λ some. absurd (omega arith);
+        };
+        memory = λ e. record {
+          cycles = 0;
+          within = omega arith;
+          performed = performed_none S c a a refl refl;
+          written = file_unbegun tells order.output a.wav name (front_after c s.orchestra.head order.width 0) _
+              (refl, refl);
+        };
+        sink = λ e. absurd (not_sink e);
+      }
 
-  pub performs_nothing : (s : SetupData) (order : Order) (name : List ℕ) (t : List T) (y : Tally) (w : W)
-      → Performs S tells s order name t t y y w w (let r : Result Outcome PlayFault = Err fault.OutOfMemory in r)
-  performs_nothing s order name t y w = record {
-    whole = tt;
-    outcome = tt;
-    turns = tt;
-    part = part_untouched (composition_of s) s.orchestra.head order name t y w;
-    memory = λ e. paused_untouched (composition_of s) s.orchestra.head order name t y w;
-    sink = λ e. absurd (not_the_sink e);
-  }
+  -- from before the sink was begun on
+  module _ (s : SetupData) (order : Order) (name first : List ℕ) (a b : Lent T W) (taps : b.taps ≡ a.taps)
+      (tally : b.tally ≡ a.tally)
+      (is : first ≡ header_bytes order.width (length (frames_of (composition_of s)) * bytes_of order.width)
+      s.orchestra.head) where
+    abbrev c : Composition
+    c = composition_of s
+
+    abbrev head : Head
+    head = s.orchestra.head
+
+    -- the file was begun in part
+    part_begun : ((rest : List ℕ) → IfWritten tells order.output a.wav b.wav (λ x y. Stopped x y name (first ++ rest)))
+        → IsPart S tells c head order name a b
+    part_begun stopped =
+        let sounds : List ℕ = samples_of order.width head.dbfs (frames_before c 0) in
+        let f = front_in_file c head order.width 0 in
+        let same : first ++ (sounds ++ f.0) ≡ file_after c head order.width 0 =
+        sym (append_assoc first sounds f.0) ∙ ap (λ (l : List ℕ). (l ++ sounds) ++ f.0) is ∙ sym f.1 in
+        record {
+          cycles = 0;
+          within = omega arith;
+          performed = performed_none S c a b taps tally;
+          written = subst (λ (l : List ℕ). IfWritten tells order.output a.wav b.wav (λ x y. Stopped x y name l)) same
+              (stopped (sounds ++ f.0));
+          kept = λ some. absurd (omega arith);
+        }
+
+    pub performs_unbegun : {A : Type 0}
+        → ((rest : List ℕ) → IfWritten tells order.output a.wav b.wav (λ x y. Stopped x y name (first ++ rest)))
+        → order.output ≡ SoundFile → Rose (tells a.wav).faults (tells b.wav).faults
+        → Performs S tells s order name a b (let r : Result A PlayFault = Err fault.Sink in r)
+    performs_unbegun stopped written rose = record {
+      whole = tt;
+      part = part_begun stopped;
+      memory = λ e. absurd (not_memory e);
+      sink = λ e. (written, rose);
+    }
+
+    module _ (begun : IfWritten tells order.output a.wav b.wav (λ x y. Wrote x y name first)) (d : Lent T W) where
+      later : (tells a.wav).faults ≤ (tells b.wav).faults
+      later = faults_begun tells order.output a.wav b.wav name first begun
+
+      -- some cycles were played
+      part_played : PlayedInPart S tells c order.output order.width head.dbfs b d → IsPart S tells c head order name a d
+      part_played p =
+          let sounds : List ℕ = samples_of order.width head.dbfs (frames_before c p.cycles) in
+          let front : IsFront (first ++ p.front) (first ++ sounds) = front_behind first p.front sounds p.is_front in
+          record {
+            cycles = p.cycles;
+            within = p.within;
+            performed = performed_from S c p.cycles a b d taps tally p.played.performed;
+            written = file_stopped tells order.output a.wav d.wav name (first ++ p.front)
+                (file_after c head order.width p.cycles)
+                (file_written tells order.output a.wav b.wav d.wav name first p.front begun p.played.written)
+                (front_of_front (first ++ p.front) (front_after c head order.width p.cycles)
+                (file_after c head order.width p.cycles)
+                (subst (λ (l : List ℕ). IsFront (first ++ p.front) (l ++ sounds)) is front)
+                (front_in_file c head order.width p.cycles));
+            kept = λ some. let before : List ℕ = samples_of order.width head.dbfs (frames_before c (p.cycles - 1)) in
+                file_kept tells order.output a.wav d.wav name (front_after c head order.width (p.cycles - 1))
+                (first ++ p.front)
+                (file_written tells order.output a.wav b.wav d.wav name first p.front begun p.played.written)
+                (subst (λ (l : List ℕ). IsFront (l ++ before) (first ++ p.front)) is
+                (front_behind first before p.front (p.kept some)));
+          }
+
+      -- and memory was refused between two of them
+      paused_between : PausedOn S tells c order.output order.width head.dbfs b d
+          → IsPaused S tells c head order name a d
+      paused_between p =
+          let sounds : List ℕ = samples_of order.width head.dbfs (frames_before c p.cycles) in
+          record {
+            cycles = p.cycles;
+            within = p.within;
+            performed = performed_from S c p.cycles a b d taps tally p.played.performed;
+            written = file_paused tells order.output a.wav d.wav name (front_after c head order.width p.cycles) _
+                (subst (λ (l : List ℕ). IfWritten tells order.output a.wav d.wav (λ x y. Wrote x y name (l ++ sounds)))
+                is
+                (file_written tells order.output a.wav b.wav d.wav name first sounds begun p.played.written));
+          }
+
+      pub performs_in_part : {A B : Type 0} (f : PlayFault)
+          → PlayedInPart S tells c order.output order.width head.dbfs b d
+          → (IsErrOf {T = A} (Err f) fault.OutOfMemory → PausedOn S tells c order.output order.width head.dbfs b d)
+          → (IsErrOf {T = A} (Err f) fault.Sink
+          → (order.output ≡ SoundFile) × Rose (tells b.wav).faults (tells d.wav).faults)
+          → Performs S tells s order name a d (let r : Result B PlayFault = Err f in r)
+      performs_in_part f part memory sink = record {
+        whole = tt;
+        part = part_played part;
+        memory = λ e. paused_between (memory (error_as f fault.OutOfMemory e));
+        sink = λ e. let told = sink (error_as f fault.Sink e) in (told.0, rose_later _ _ _ later told.1);
+      }
+
+      -- all cycles were played, and it was closed, or not
+      module _ (all : PlayedOn S tells c order.output c.cycles b d (samples_of order.width head.dbfs (frames_of c)))
+          (z : Lent T W)
+          (taps' : z.taps ≡ d.taps) (tally' : z.tally ≡ d.tally) where
+        performed : Performed S c c.cycles a z
+        performed = performed_until S c c.cycles a d z taps' tally'
+            (performed_from S c c.cycles a b d taps tally all.performed)
+
+        wrote : IfWritten tells order.output a.wav d.wav
+            (λ x y. Wrote x y name (front_after c head order.width c.cycles))
+        wrote = all_written tells c head order name first a.wav b.wav d.wav is begun all.written
+
+        pub performs_closed : {A : Type 0} (r : Result A PlayFault)
+            → OnOk r (IfWritten tells order.output d.wav z.wav (Closes c head order.width))
+            → (IsErrOf r fault.Sink → IfWritten tells order.output d.wav z.wav (Breaks c head order.width))
+            → (IsErrOf r fault.Sink → (order.output ≡ SoundFile) × Rose (tells d.wav).faults (tells z.wav).faults)
+            → (IsErrOf r fault.OutOfMemory → z.wav ≡ d.wav) → Performs S tells s order name a z r
+        performs_closed (Ok x) ended broken sink same = record {
+          whole = record {
+            performed = performed;
+            written =
+                file_closed tells c head order.width order.output a.wav d.wav z.wav name wrote ended;
+          };
+          part = tt;
+          memory = λ e. absurd (not_ok x fault.OutOfMemory e);
+          sink = λ e. absurd (not_ok x fault.Sink e);
+        }
+        performs_closed (Err fault.Sink) ended broken sink same = record {
+          whole = tt;
+          part = record {
+            cycles = c.cycles;
+            within = omega arith;
+            performed = performed;
+            written = file_broken tells c head order.width order.output a.wav d.wav z.wav name wrote (broken refl);
+            kept = λ some. broken_kept tells c head order.width order.output a.wav d.wav z.wav name wrote (broken refl);
+          };
+          memory = λ e. absurd (not_memory e);
+          sink = λ e. let told = sink refl in
+              let more : (tells b.wav).faults ≤ (tells d.wav).faults =
+              faults_after tells order.output b.wav d.wav _ all.written in
+              (told.0, rose_later _ _ _ (omega (arith, later, more)) told.1);
+        }
+        performs_closed (Err fault.OutOfMemory) ended broken sink same =
+            let still : IfWritten tells order.output a.wav z.wav
+            (λ x y. Wrote x y name (front_after c head order.width c.cycles)) =
+            subst (λ (w : W). IfWritten tells order.output a.wav w
+            (λ x y. Wrote x y name (front_after c head order.width c.cycles))) (sym (same refl)) wrote in
+            record {
+              whole = tt;
+              part = record {
+                cycles = c.cycles;
+                within = omega arith;
+                performed = performed;
+                written = file_stopped tells order.output a.wav z.wav name (front_after c head order.width c.cycles)
+                    (file_after c head order.width c.cycles) still
+                    (front_in_file c head order.width c.cycles);
+                kept = λ some. file_kept tells order.output a.wav z.wav name
+                    (front_after c head order.width (c.cycles - 1)) (front_after c head order.width c.cycles)
+                    still (front_of_all c head order.width (c.cycles - 1) (omega arith));
+              };
+              memory = λ e. record {
+                cycles = c.cycles;
+                within = omega arith;
+                performed = performed;
+                written = file_paused tells order.output a.wav z.wav name (front_after c head order.width c.cycles) _
+                    still;
+              };
+              sink = λ e. absurd (not_sink e);
+            }

@@ -2,4 +2,5 @@
 pub mod Crews
 pub mod Ends
 pub mod Plays
+pub mod Recordings
 pub mod Stands

@@ -1,24 +1,28 @@
 // One control cycle.
-ghost use Rattle.std.specs.Prelude.{◌≡◌, ◌+◌, ◌*◌, ◌≤◌, ◌^◌, ℕ, ℤ, List, ◌++◌, length, IfOk, OnOk, OnErr};
+ghost use Rattle.std.specs.Prelude.{◌≡◌, ◌+◌, ◌*◌, ◌≤◌, ◌^◌, ℕ, ℤ, List, ◌++◌, length, IfOk, OnOk, OnErr, IsErrOf};
 ghost use Rattle.std.specs.List.{count_by};
 ghost use Rattle.cs_base.specs.Widths.{bytes_of};
 ghost use Rattle.cs_piece_meaning.specs.Course.{begins, moment_at};
 ghost use Rattle.cs_piece_meaning.specs.Heard.{mix_in};
 ghost use Rattle.cs_piece_meaning.specs.Moments.{Moment};
-ghost use Rattle.cs_edge.specs.Told.{HasCause, IsFront};
+ghost use Rattle.cs_edge.specs.Told.{HasCause, IsFront, Rose};
 ghost use Rattle.cs_edge.specs.Moves.{WroteMore};
 ghost use Rattle.cs_perform.specs.Hearing.{IfWritten, Told};
-ghost use Rattle.cs_perform.specs.Performances.{if_told};
+ghost use Rattle.cs_perform.specs.Performances.{if_told, lent};
 ghost use Rattle.cs_perform.specs.declared.order.Output.TheVariants.{SoundFile};
 ghost use Rattle.cs_perform.specs.declared.order.TurnLines.TheVariants.{Untold};
 ghost use Rattle.cs_perform.specs.declared.performers.Performers.TheVariants.{Caller, Crew};
+ghost use Rattle.cs_perform.specs.inner.Plays.{BreaksCycle, PlaysCycle};
+ghost use Rattle.cs_perform.specs.inner.Recordings.{IsRecordingOf};
 ghost use Rattle.cs_perform.specs.inner.Stands.{CountsCycle, IsAt, IsReady};
-ghost use Rattle.cs_piece.specs.Setups.{SetupData, composition_of};
+ghost use Rattle.cs_piece.specs.Setups.{composition_of};
 ghost use Rattle.cs_turns.specs.Turns.{line_of, notes_in, turns_in};
 ghost use Rattle.cs_wav.specs.Wav.{is_out_of_range, samples_of};
 
-use crate::order::{Order, TurnLines};
+use crate::loan::Loan;
+use crate::order::{Order, Performance, PlayFault};
 use crate::performers::Performers;
+use crate::recording::Recording;
 use crate::stand::Stand;
 use crate::taps::tell;
 use crate::turns::tell_turns;
@@ -26,45 +30,101 @@ use crate::writing::put;
 use cs_base::{Head, OutOfMemory};
 use cs_desk::Tally;
 use cs_edge::{Failed, Gate, Sink, Tap};
-use cs_piece::Setup;
 use cs_pool::Pool;
 use cs_voice::Voice;
 use cs_wav::pcm_block;
-use std::alloc::Global;
 use std::sync::Wait;
 use std::thread::Threads;
 
+/// A cycle is performed, and its samples are written.
+pub(crate) fn play_cycle<'t, K: Sink, R: Threads + Wait + Sync, G: Gate + Sync>(
+    performance: &Performance<'t>,
+    pool: &mut Pool<'_, Voice<'t>, R, G>,
+    cycle: u32,
+    stand: Stand<'t>,
+    recording: &mut Recording,
+    loan: &mut Loan<'_, K>,
+) -> Result<Stand<'t>, PlayFault>
+    requires at { IsAt performance.now.setup.now stand (moment_at (composition_of performance.now.setup.now) cycle) }
+    requires recorded { IsRecordingOf performance.now.setup.now performance.now.order cycle recording.old }
+    requires tally { (loan.old.tally.now.cycles ≤ 2 ^ 63) × (loan.old.tally.now.notes ≤ 2 ^ 63) }
+    ensures at { IfOk result (λ next. IsAt performance.now.setup.now next
+        (moment_at (composition_of performance.now.setup.now) (cycle + 1))) }
+    ensures recorded { OnOk result (IsRecordingOf performance.now.setup.now performance.now.order (cycle + 1)
+        recording.new) }
+    ensures played { let s = performance.now.setup.now in let c = composition_of s in
+        let order = performance.now.order in
+        OnOk result (PlaysCycle (λ t h. stands_for t h) K.tells c order.output cycle
+        (lent loan.old.wav.now loan.old.taps.now.items loan.old.tally.now)
+        (lent loan.new.wav.now loan.new.taps.now.items loan.new.tally.now)
+        (samples_of order.width s.orchestra.head.dbfs (mix_in c cycle))) }
+    ensures broken { let s = performance.now.setup.now in let order = performance.now.order in
+        IsErrOf result PlayFault.Sink → BreaksCycle (λ t h. stands_for t h) K.tells (composition_of s) order.output
+        order.width s.orchestra.head.dbfs cycle
+        (lent loan.old.wav.now loan.old.taps.now.items loan.old.tally.now)
+        (lent loan.new.wav.now loan.new.taps.now.items loan.new.tally.now) }
+    ensures sink { IsErrOf result PlayFault.Sink → (performance.now.order.output ≡ SoundFile)
+        × Rose (K.tells loan.old.wav.now).faults (K.tells loan.new.wav.now).faults }
+    ensures memory { IsErrOf result PlayFault.OutOfMemory
+        → lent loan.new.wav.now loan.new.taps.now.items loan.new.tally.now
+        ≡ lent loan.old.wav.now loan.old.taps.now.items loan.old.tally.now }
+    ensures same { (loan.new.wav.ghost_name ≡ loan.old.wav.ghost_name)
+        × (loan.new.taps.ghost_name ≡ loan.old.taps.ghost_name)
+        × (loan.new.tally.ghost_name ≡ loan.old.tally.ghost_name) }
+{
+    let Ok(stand) = sound_cycle(performance, pool, cycle, stand, recording, loan.tally) else {
+        return Err(PlayFault::OutOfMemory);
+    };
+    let head = &performance.setup.orchestra().head;
+    let mix = &recording.mix;
+    let Ok(outside) = pour(
+        performance.order,
+        head,
+        mix,
+        &mut recording.samples,
+        loan.wav,
+        loan.taps,
+    ) else {
+        drop(stand);
+        return Err(PlayFault::Sink);
+    };
+    let more = u64::from(outside);
+    recording.out_of_range += more;
+    Ok(stand)
+}
+
 /// The notes of a cycle begin, perform it and leave, and the tally counts it. Its mix is in the block, and its line
 /// of turns behind the others, where they are told.
-pub(crate) fn play_cycle<'t, R: Threads + Wait + Sync, G: Gate + Sync>(
-    alloc: Global,
-    setup: &Setup,
+fn sound_cycle<'t, R: Threads + Wait + Sync, G: Gate + Sync>(
+    performance: &Performance<'t>,
     pool: &mut Pool<'_, Voice<'t>, R, G>,
-    lines: TurnLines,
     cycle: u32,
     mut stand: Stand<'t>,
-    mix: &mut [i64],
+    recording: &mut Recording,
     tally: &mut Tally,
-    turns: &mut Vec<u8>,
 ) -> Result<Stand<'t>, OutOfMemory>
-    requires at { IsAt setup.now stand (moment_at (composition_of setup.now) cycle) }
-    requires mix { length mix.old ≡ setup.now.orchestra.head.ksmps * setup.now.orchestra.head.nchnls }
+    requires at { IsAt performance.now.setup.now stand (moment_at (composition_of performance.now.setup.now) cycle) }
+    requires mix { length recording.old.mix.items
+        ≡ performance.now.setup.now.orchestra.head.ksmps * performance.now.setup.now.orchestra.head.nchnls }
     requires tally { (tally.old.cycles ≤ 2 ^ 63) × (tally.old.notes ≤ 2 ^ 63) }
-    ensures at { IfOk result (λ next. IsAt setup.now next (moment_at (composition_of setup.now) (cycle + 1))) }
-    ensures heard { OnOk result (mix.new ≡ mix_in (composition_of setup.now) cycle) }
-    ensures counted { OnOk result (CountsCycle (composition_of setup.now) cycle tally.old tally.new) }
-    ensures turns { OnOk result (turns.new.items
-        ≡ turns.old.items ++ if_told lines (line_of cycle
-        (turns_in (composition_of setup.now) (notes_in (composition_of setup.now) cycle)))) }
+    ensures at { IfOk result (λ next. IsAt performance.now.setup.now next
+        (moment_at (composition_of performance.now.setup.now) (cycle + 1))) }
+    ensures heard { OnOk result (recording.new.mix.items ≡ mix_in (composition_of performance.now.setup.now) cycle) }
+    ensures turns { let c = composition_of performance.now.setup.now in
+        OnOk result (recording.new.turns.items ≡ recording.old.turns.items
+        ++ if_told performance.now.order.turns (line_of cycle (turns_in c (notes_in c cycle)))) }
+    ensures counted { OnOk result (CountsCycle (composition_of performance.now.setup.now) cycle tally.old tally.new) }
     ensures memory { OnErr result (tally.new ≡ tally.old) }
+    ensures samples { recording.new.samples.items ≡ recording.old.samples.items }
+    ensures out_of_range { recording.new.out_of_range ≡ recording.old.out_of_range }
 {
-    let by = Performers::of_next(pool, lines);
-    let Ok(()) = prepare(alloc, setup, by, lines, cycle, &mut stand, turns) else {
+    let by = Performers::of_next(pool, performance.order.turns);
+    let Ok(()) = prepare(performance, by, cycle, &mut stand, &mut recording.turns) else {
         drop(stand);
         return Err(OutOfMemory);
     };
     let mut stand = stand.run(pool, by, cycle, tally);
-    stand.mix_into(&setup.orchestra().head, mix);
+    stand.mix_into(&performance.setup.orchestra().head, &mut recording.mix);
     stand.end();
     Ok(stand)
 }
@@ -72,29 +132,28 @@ pub(crate) fn play_cycle<'t, R: Threads + Wait + Sync, G: Gate + Sync>(
 /// The notes of a cycle begin. Where the crew performs them, all is made ready for it, and their line of turns is
 /// told.
 fn prepare(
-    alloc: Global,
-    setup: &Setup,
+    performance: &Performance<'_>,
     by: Performers,
-    lines: TurnLines,
     cycle: u32,
     stand: &mut Stand<'_>,
     turns: &mut Vec<u8>,
 ) -> Result<(), OutOfMemory>
-    requires at { (m : Moment) × IsAt setup.now stand.old m }
-    requires untold { by ≡ Caller → lines ≡ Untold }
-    ensures begun { OnOk result ((m : Moment) → IsAt setup.now stand.old m
-        → IsAt setup.now stand.new (begins (composition_of setup.now) cycle m)) }
+    requires at { (m : Moment) × IsAt performance.now.setup.now stand.old m }
+    requires untold { by ≡ Caller → performance.now.order.turns ≡ Untold }
+    ensures begun { OnOk result ((m : Moment) → IsAt performance.now.setup.now stand.old m
+        → IsAt performance.now.setup.now stand.new (begins (composition_of performance.now.setup.now) cycle m)) }
     ensures ready { OnOk result (by ≡ Crew → IsReady stand.new) }
-    ensures turns { OnOk result ((m : Moment) → IsAt setup.now stand.old m → turns.new.items
-        ≡ turns.old.items ++ if_told lines (line_of cycle
-        (turns_in (composition_of setup.now) (begins (composition_of setup.now) cycle m).active))) }
+    ensures turns { let c = composition_of performance.now.setup.now in
+        OnOk result ((m : Moment) → IsAt performance.now.setup.now stand.old m → turns.new.items
+        ≡ turns.old.items ++ if_told performance.now.order.turns
+        (line_of cycle (turns_in c (begins c cycle m).active))) }
 {
-    stand.begin(alloc, cycle)?;
+    stand.begin(performance.alloc, cycle)?;
     match by {
         Performers::Caller => Ok(()),
         Performers::Crew => {
-            stand.make_ready(alloc, setup.layout())?;
-            tell_turns(alloc, setup, lines, cycle, stand, turns)
+            stand.make_ready(performance.alloc, performance.setup.layout())?;
+            tell_turns(performance, cycle, stand, turns)
         }
     }
 }
@@ -119,6 +178,7 @@ pub(crate) fn pour<K: Sink>(
     ensures ordered { OnErr result (order.output ≡ SoundFile) }
     ensures cause { HasCause (K.tells wav.old).faults (K.tells wav.new).faults result }
     ensures out_of_range { IfOk result (λ n. n ≡ count_by (is_out_of_range order.width head.now.dbfs) mix.now) }
+    ensures long { length out.new ≡ length out.old }
 {
     tell(taps, mix);
     let outside = pcm_block(order.width, mix, head.dbfs, out);

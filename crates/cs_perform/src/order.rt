@@ -1,5 +1,7 @@
 // What a performance is asked for, and what comes of it.
 use cs_base::{Bytes, SampleWidth};
+use cs_piece::Setup;
+use std::alloc::Global;
 
 /// Where the samples go.
 #[derive(Clone, Copy)]
@@ -23,6 +25,17 @@ pub struct Order {
     pub output: Output,
     pub width: SampleWidth,
     pub turns: TurnLines,
+}
+
+/// What is performed: a piece, as the order says, into a sound file of this name.
+#[derive(Clone, Copy)]
+pub struct Performance<'t> {
+    /// Where memory comes from.
+    pub alloc: Global,
+    pub setup: &'t Setup,
+    pub order: Order,
+    /// The name under which the sound file is begun.
+    pub name: &'t str,
 }
 
 /// What comes out beside the sound.

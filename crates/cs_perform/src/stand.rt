@@ -6,6 +6,7 @@ ghost use Rattle.cs_piece_meaning.specs.Course.{begins, moment_at, opening, perf
 ghost use Rattle.cs_piece_meaning.specs.Heard.{mix_in};
 ghost use Rattle.cs_piece_meaning.specs.Moments.{Moment};
 ghost use Rattle.cs_desk.specs.Desk.{areas, cells};
+ghost use Rattle.cs_life.specs.Standing.{kept_count};
 ghost use Rattle.cs_perform.specs.declared.performers.Performers.TheVariants.{Crew};
 ghost use Rattle.cs_perform.specs.inner.Stands.{IsAt, IsReady};
 ghost use Rattle.cs_piece.specs.Setups.{SetupData, composition_of};
@@ -38,6 +39,13 @@ pub(crate) struct Stand<'t> {
     pub voices: Vec<Voice<'t>>,
     pub desk: Desk<Voice<'t>>,
     pub course: Course,
+}
+
+/// How many starts there were: those that started a note, and those that started nothing.
+#[derive(Clone, Copy)]
+pub(crate) struct Starts {
+    pub started: u64,
+    pub not_started: u64,
 }
 
 impl<'t> Stand<'t> {
@@ -104,70 +112,33 @@ impl<'t> Stand<'t> {
         ensures cycles { tally.new.cycles ≡ tally.old.cycles + 1 }
         ensures notes { tally.new.notes ≡ tally.old.notes + length self.entry.voices.items }
     {
+        let Stand {
+            life,
+            voices,
+            desk,
+            course,
+        } = self;
+        serial_runs_perform();
         match by {
-            Performers::Caller => self.run_alone(pool, cycle, tally),
-            Performers::Crew => self.run_by_crew(pool, cycle, tally),
-        }
-    }
-
-    /// The notes that play perform the cycle by the crew.
-    fn run_by_crew<R: Threads + Wait + Sync, G: Gate + Sync>(
-        self,
-        pool: &mut Pool<'_, Voice<'t>, R, G>,
-        cycle: u32,
-        tally: &mut Tally,
-    ) -> Stand<'t>
-        requires at { (s : SetupData) × (m : Moment) × IsAt s self m }
-        requires ready { IsReady self }
-        requires tally { (tally.old.cycles ≤ 2 ^ 63) × (tally.old.notes ≤ 2 ^ 63) }
-        ensures performed { (s : SetupData) (m : Moment) → IsAt s self.entry m
-            → IsAt s result (performed (composition_of s) m) }
-        ensures cycles { tally.new.cycles ≡ tally.old.cycles + 1 }
-        ensures notes { tally.new.notes ≡ tally.old.notes + length self.entry.voices.items }
-    {
-        let Stand {
-            life,
-            voices,
-            desk,
-            course: Course { graph, feet },
-        } = self;
-        serial_runs_perform();
-        let (voices, desk, graph) = run_counted(pool, cycle, graph, desk, voices, tally);
-        Stand {
-            life,
-            voices,
-            desk,
-            course: Course { graph, feet },
-        }
-    }
-
-    /// The notes that play perform the cycle by the caller alone.
-    fn run_alone<R: Threads + Wait + Sync, G: Gate + Sync>(
-        self,
-        pool: &mut Pool<'_, Voice<'t>, R, G>,
-        cycle: u32,
-        tally: &mut Tally,
-    ) -> Stand<'t>
-        requires at { (s : SetupData) × (m : Moment) × IsAt s self m }
-        requires tally { (tally.old.cycles ≤ 2 ^ 63) × (tally.old.notes ≤ 2 ^ 63) }
-        ensures performed { (s : SetupData) (m : Moment) → IsAt s self.entry m
-            → IsAt s result (performed (composition_of s) m) }
-        ensures cycles { tally.new.cycles ≡ tally.old.cycles + 1 }
-        ensures notes { tally.new.notes ≡ tally.old.notes + length self.entry.voices.items }
-    {
-        let Stand {
-            life,
-            voices,
-            desk,
-            course,
-        } = self;
-        serial_runs_perform();
-        let (voices, desk) = run_counted_alone(pool, cycle, desk, voices, tally);
-        Stand {
-            life,
-            voices,
-            desk,
-            course,
+            Performers::Caller => {
+                let (voices, desk) = run_counted_alone(pool, cycle, desk, voices, tally);
+                Stand {
+                    life,
+                    voices,
+                    desk,
+                    course,
+                }
+            }
+            Performers::Crew => {
+                let Course { graph, feet } = course;
+                let (voices, desk, graph) = run_counted(pool, cycle, graph, desk, voices, tally);
+                Stand {
+                    life,
+                    voices,
+                    desk,
+                    course: Course { graph, feet },
+                }
+            }
         }
     }
 
@@ -195,6 +166,25 @@ impl<'t> Stand<'t> {
         ensures ended { (s : SetupData) (m : Moment) → IsAt s self.old m → IsAt s self.new (turned_off m) }
     {
         self.life.end_cycle(&mut self.voices);
+    }
+
+    /// The events at the very end, in the cycle after the last, are done.
+    pub fn close(mut self, alloc: Global, cycle: u32) -> Result<Starts, OutOfMemory>
+        requires at { (s : SetupData) × (m : Moment) × IsAt s self m }
+        ensures starts { IfOk result (λ n. (s : SetupData) (m : Moment) → IsAt s self.entry m
+            → (n.started ≡ kept_count (begins (composition_of s) cycle m).started)
+            × (n.not_started ≡ kept_count (begins (composition_of s) cycle m).not_started)) }
+    {
+        let begun = self.begin(alloc, cycle);
+        let starts = Starts {
+            started: self.life.started(),
+            not_started: self.life.not_started(),
+        };
+        drop(self);
+        match begun {
+            Ok(()) => Ok(starts),
+            Err(refused) => Err(refused),
+        }
     }
 }
 

@@ -5,34 +5,32 @@ ghost use Rattle.cs_piece.specs.Setups.{composition_of};
 ghost use Rattle.cs_voice.specs.Memory.{table_of};
 ghost use Rattle.cs_voice.specs.VoiceData.{made};
 
-use crate::blocks::Blocks;
+use crate::order::Performance;
+use crate::recording::Recording;
 use crate::stand::Stand;
-use cs_base::{OutOfMemory, SampleWidth};
-use cs_piece::Setup;
+use cs_base::OutOfMemory;
 use cs_voice::TableAt;
-use std::alloc::Global;
 
-/// All that is made before the sink is begun: what is kept from cycle to cycle, at the opening, and the blocks of a
+/// All that is made before the sink is begun: what is kept from cycle to cycle, at the opening, and a recording of no
 /// cycle.
 #[derive(Drop)]
 pub(crate) struct Start<'t> {
     pub stand: Stand<'t>,
-    pub blocks: Blocks,
+    pub recording: Recording,
 }
 
 impl<'t> Start<'t> {
-    /// That of a piece with these tables, in samples of this width.
+    /// The start of a piece with these tables.
     pub fn new(
-        alloc: Global,
-        setup: &'t Setup,
+        performance: &Performance<'t>,
         tables: &'t [TableAt<'t>],
-        width: SampleWidth,
     ) -> Result<Start<'t>, OutOfMemory>
-        requires { map table_of tables.now ≡ map made (composition_of setup.now).tables }
-        ensures { IfOk result (IsStart setup.now width) }
+        requires { map table_of tables.now ≡ map made (composition_of performance.now.setup.now).tables }
+        ensures { IfOk result (IsStart performance.now.setup.now performance.now.order) }
     {
-        let blocks = Blocks::new(alloc, &setup.orchestra().head, width)?;
-        let stand = Stand::new(alloc, setup, tables)?;
-        Ok(Start { stand, blocks })
+        let head = &performance.setup.orchestra().head;
+        let recording = Recording::new(performance.alloc, head, performance.order.width)?;
+        let stand = Stand::new(performance.alloc, performance.setup, tables)?;
+        Ok(Start { stand, recording })
     }
 }

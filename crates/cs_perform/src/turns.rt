@@ -6,47 +6,43 @@ ghost use Rattle.cs_perform.specs.inner.Stands.{IsAt, IsReady};
 ghost use Rattle.cs_piece.specs.Setups.{composition_of};
 ghost use Rattle.cs_turns.specs.Turns.{line_of, turns_in};
 
-use crate::order::TurnLines;
+use crate::order::{Performance, TurnLines};
 use crate::stand::Stand;
 use cs_base::OutOfMemory;
-use cs_piece::Setup;
 use cs_turns::{add_turns, layouts_have_the_stock, turns_are_levels};
-use std::alloc::Global;
 
 /// Adds the line of a cycle whose notes have begun, where it is told.
 pub(crate) fn tell_turns(
-    alloc: Global,
-    setup: &Setup,
-    lines: TurnLines,
+    performance: &Performance<'_>,
     cycle: u32,
     stand: &Stand<'_>,
     turns: &mut Vec<u8>,
 ) -> Result<(), OutOfMemory>
-    requires at { (m : Moment) × IsAt setup.now stand.now m }
+    requires at { (m : Moment) × IsAt performance.now.setup.now stand.now m }
     requires ready { IsReady stand.now }
-    ensures { OnOk result ((m : Moment) → IsAt setup.now stand.now m
-        → turns.new.items ≡ turns.old.items ++ if_told lines
-        (line_of cycle (turns_in (composition_of setup.now) m.active))) }
+    ensures { OnOk result ((m : Moment) → IsAt performance.now.setup.now stand.now m
+        → turns.new.items ≡ turns.old.items ++ if_told performance.now.order.turns
+        (line_of cycle (turns_in (composition_of performance.now.setup.now) m.active))) }
 {
-    match lines {
-        TurnLines::Told => add_line(alloc, setup, cycle, stand, turns),
+    match performance.order.turns {
+        TurnLines::Told => add_line(performance, cycle, stand, turns),
         TurnLines::Untold => Ok(()),
     }
 }
 
 fn add_line(
-    alloc: Global,
-    setup: &Setup,
+    performance: &Performance<'_>,
     cycle: u32,
     stand: &Stand<'_>,
     turns: &mut Vec<u8>,
 ) -> Result<(), OutOfMemory>
     requires { IsReady stand.now }
-    ensures { OnOk result ((m : Moment) → IsAt setup.now stand.now m
-        → turns.new.items ≡ turns.old.items ++ line_of cycle (turns_in (composition_of setup.now) m.active)) }
+    ensures { OnOk result ((m : Moment) → IsAt performance.now.setup.now stand.now m
+        → turns.new.items ≡ turns.old.items
+        ++ line_of cycle (turns_in (composition_of performance.now.setup.now) m.active)) }
 {
-    setup.facts();
+    performance.setup.facts();
     layouts_have_the_stock();
     turns_are_levels();
-    add_turns(alloc, turns, cycle, &stand.course.graph)
+    add_turns(performance.alloc, turns, cycle, &stand.course.graph)
 }

@@ -12,7 +12,7 @@ use Rattle.cs_edge.specs.Files.{ShelfTold}
 use Rattle.cs_edge.specs.Moves.{SinkTold, WroteMore}
 use Rattle.cs_edge.specs.Told.{Rose}
 use Rattle.cs_life.specs.Standing.{kept_count}
-use Rattle.cs_perform.specs.Performances.{IsOutcomeOf, IsPart, IsPaused, IsWhole, if_told}
+use Rattle.cs_perform.specs.Performances.{IsOutcomeOf, IsPart, IsPaused, IsWhole, if_told, lent}
 use Rattle.cs_command.specs.declared.reading.Unread.{Unread}
 use Rattle.cs_command.specs.declared.reading.Unread.TheVariants as unasked
 use Rattle.cs_perform.specs.declared.order.Outcome.{Outcome}
@@ -170,7 +170,7 @@ module _ {F K T B : Type 0} (see : Sight F K T B) where
   pub whole_sounded : (asked : Asked) (c : Composition) (head : Head) (o : Outcome) (s : Status) (shelf : F) (wav wav' : K) (talk talk' : T)
       (taps taps' : List B) (tally tally' : Tally)
       → header_of_head head ≡ c.head
-      → IsWhole see.stands see.wav c head (order_of asked) asked.sound_file taps taps' tally tally' wav wav'
+      → IsWhole see.stands see.wav c head (order_of asked) asked.sound_file (lent wav taps tally) (lent wav' taps' tally')
       → IsOutcomeOf c asked.width o → o.turns ≡ if_told (lines_of asked.turns) (turn_lines_of c)
       → HasReported (see.talk talk) (see.talk talk') (counts_in (counts_told o) ++ flat_map (λ tap. see.line tap line_room) taps' ++ o.turns) s
       → HasSounded see asked c s (scene shelf wav talk taps tally) (scene shelf wav' talk' taps' tally')
@@ -193,8 +193,8 @@ module _ {F K T B : Type 0} (see : Sight F K T B) where
   in_part : (asked : Asked) (c : Composition) (head : Head) (f : PlayFault) (t : Status) (shelf : F) (wav wav' : K) (talk talk' : T)
       (taps taps' : List B) (tally tally' : Tally)
       → t ≡ fault_status f → header_of_head head ≡ c.head
-      → IsPart see.stands see.wav c head (order_of asked) asked.sound_file taps taps' tally tally' wav wav'
-      → (f ≡ fault.OutOfMemory → IsPaused see.stands see.wav c head (order_of asked) asked.sound_file taps taps' tally tally' wav wav')
+      → IsPart see.stands see.wav c head (order_of asked) asked.sound_file (lent wav taps tally) (lent wav' taps' tally')
+      → (f ≡ fault.OutOfMemory → IsPaused see.stands see.wav c head (order_of asked) asked.sound_file (lent wav taps tally) (lent wav' taps' tally'))
       → (f ≡ fault.Sink → (output_of asked.silent ≡ SoundFile) × Rose (see.wav wav).faults (see.wav wav').faults)
       → Says (see.talk talk) (see.talk talk') (message_of t [])
       → HasSounded see asked c (fault_status f) (scene shelf wav talk taps tally) (scene shelf wav' talk' taps' tally')
@@ -212,8 +212,8 @@ module _ {F K T B : Type 0} (see : Sight F K T B) where
   pub part_sounded : (asked : Asked) (c : Composition) (head : Head) (f : PlayFault) (r t : Status) (shelf : F) (wav wav' : K) (talk talk' : T)
       (taps taps' : List B) (tally tally' : Tally)
       → r ≡ t → t ≡ fault_status f → header_of_head head ≡ c.head
-      → IsPart see.stands see.wav c head (order_of asked) asked.sound_file taps taps' tally tally' wav wav'
-      → (f ≡ fault.OutOfMemory → IsPaused see.stands see.wav c head (order_of asked) asked.sound_file taps taps' tally tally' wav wav')
+      → IsPart see.stands see.wav c head (order_of asked) asked.sound_file (lent wav taps tally) (lent wav' taps' tally')
+      → (f ≡ fault.OutOfMemory → IsPaused see.stands see.wav c head (order_of asked) asked.sound_file (lent wav taps tally) (lent wav' taps' tally'))
       → (f ≡ fault.Sink → (output_of asked.silent ≡ SoundFile) × Rose (see.wav wav).faults (see.wav wav').faults)
       → Says (see.talk talk) (see.talk talk') (message_of t [])
       → HasSounded see asked c r (scene shelf wav talk taps tally) (scene shelf wav' talk' taps' tally')

@@ -4,7 +4,7 @@ use Rattle.cs_base.specs.declared.head.Head.{Head}
 use Rattle.cs_piece_meaning.specs.Moments.{Composition}
 use Rattle.cs_edge.specs.Moves.{WroteMore}
 use Rattle.cs_edge.specs.Told.{Rose}
-use Rattle.cs_perform.specs.Performances.{IsPart, IsPaused, IsWhole}
+use Rattle.cs_perform.specs.Performances.{IsPart, IsPaused, IsWhole, Lent, lent}
 use Rattle.cs_perform.specs.declared.order.Order.{Order}
 use Rattle.cs_perform.specs.declared.order.Output.{Output}
 use Rattle.cs_perform.specs.declared.order.Output.TheVariants.{SoundFile, Nothing}
@@ -40,6 +40,10 @@ lines_of false = Untold
 abbrev pub order_of : Asked → Order
 order_of asked = record { output = output_of asked.silent; width = asked.width; turns = lines_of asked.turns }
 
+-- what of it is lent to a performance
+abbrev pub lent_in : {F K T B : Type 0} → Scene F K T B → Lent B K
+lent_in s = lent s.wav s.taps s.tally
+
 module _ {F K T B : Type 0} (see : Sight F K T B) where
   -- The sound file, the meters and the tally are as before.
   pub record IsUntouched (before now : Scene F K T B) : Type 0 where
@@ -58,23 +62,20 @@ module _ {F K T B : Type 0} (see : Sight F K T B) where
   pub record WasPerformed (asked : Asked) (c : Composition) (before now : Scene F K T B) : Type 0 where
     pub head : Head
     pub head_is : header_of_head head ≡ c.head
-    pub whole : IsWhole see.stands see.wav c head (order_of asked) asked.sound_file before.taps now.taps before.tally now.tally
-        before.wav now.wav
+    pub whole : IsWhole see.stands see.wav c head (order_of asked) asked.sound_file (lent_in before) (lent_in now)
 
   -- Some number of its first cycles were.
   pub record WasPartlyPerformed (asked : Asked) (c : Composition) (before now : Scene F K T B) : Type 0 where
     pub head : Head
     pub head_is : header_of_head head ≡ c.head
-    pub part : IsPart see.stands see.wav c head (order_of asked) asked.sound_file before.taps now.taps before.tally now.tally
-        before.wav now.wav
+    pub part : IsPart see.stands see.wav c head (order_of asked) asked.sound_file (lent_in before) (lent_in now)
 
   -- Some number of its first cycles were, and the sound file, where it was begun, has its header and the samples of
   -- just these.
   pub record WasPaused (asked : Asked) (c : Composition) (before now : Scene F K T B) : Type 0 where
     pub head : Head
     pub head_is : header_of_head head ≡ c.head
-    pub paused : IsPaused see.stands see.wav c head (order_of asked) asked.sound_file before.taps now.taps before.tally now.tally
-        before.wav now.wav
+    pub paused : IsPaused see.stands see.wav c head (order_of asked) asked.sound_file (lent_in before) (lent_in now)
 
   -- the report, with the lines of the meters as they are now
   abbrev pub report_in : Asked → Composition → Scene F K T B → List ℕ

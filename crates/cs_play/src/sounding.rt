@@ -1,11 +1,9 @@
 // A piece is performed and reported on.
-ghost use Rattle.std.specs.Prelude.{◌≡◌, ◌≤◌, ◌*◌, ◌^◌, ◌++◌, ⊤, IfOk, IsErrOf, OnErr, OnOk, flat_map};
+ghost use Rattle.std.specs.Prelude.{◌≡◌, ◌≤◌, ◌*◌, ◌^◌, ◌++◌, ⊤, flat_map};
 ghost use Rattle.cs_base.specs.Limits.{most_wav_bytes};
 ghost use Rattle.cs_base.specs.Widths.{bytes_of};
 ghost use Rattle.cs_edge.specs.Files.{ShelfTold};
-ghost use Rattle.cs_edge.specs.Told.{Rose};
-ghost use Rattle.cs_perform.specs.Performances.{IsOutcomeOf, IsPart, IsPaused, IsWhole, if_told};
-ghost use Rattle.cs_perform.specs.declared.order.Output.TheVariants.{SoundFile};
+ghost use Rattle.cs_perform.specs.Performances.{PerformsPiece, lent};
 ghost use Rattle.cs_play.specs.Endings.{lines_of, order_of, output_of};
 ghost use Rattle.cs_play.specs.Scene.{scene, sight};
 ghost use Rattle.cs_play.specs.inner.Sounding.{HasReported, HasSounded, counts_told};
@@ -13,12 +11,11 @@ ghost use Rattle.cs_play.specs.inner.Stopping.{fault_status};
 ghost use Rattle.cs_arguments.specs.Orders.{asked_in};
 ghost use Rattle.cs_piece.specs.Setups.{composition_of};
 ghost use Rattle.cs_report.specs.Report.{counts_in, line_room};
-ghost use Rattle.cs_turns.specs.Turns.{turn_lines_of};
 
 use cs_arguments::Order;
 use cs_desk::Tally;
 use cs_edge::{Gate, Sink, Tap};
-use cs_perform::{Crew, Outcome, Output, PlayFault, TurnLines, perform};
+use cs_perform::{Crew, Outcome, Output, Performance, PlayFault, TurnLines, perform};
 use cs_piece::Setup;
 use cs_pool::crew_size;
 use cs_report::{Counts, Status, report, say_end};
@@ -102,33 +99,17 @@ fn play<R: Threads + Wait + Sync, K: Sink, G: Gate + Sync>(
     requires tally { (tally.old.cycles ≤ 2 ^ 62) × (tally.old.notes ≤ 2 ^ 62) }
     requires bytes { setup.now.plot.cycles * setup.now.orchestra.head.ksmps * setup.now.orchestra.head.nchnls
         * bytes_of order.now.width ≤ most_wav_bytes }
-    ensures whole { OnOk result (IsWhole (λ t h. stands_for t h) K.tells
-        (composition_of setup.now) setup.now.orchestra.head
-        (order_of (asked_in order.now)) order.now.sound_file.now taps.old.items taps.new.items tally.old tally.new wav.old wav.new) }
-    ensures outcome { IfOk result (IsOutcomeOf (composition_of setup.now) order.now.width) }
-    ensures turns { IfOk result (λ o. o.turns ≡ if_told (lines_of order.now.turns)
-        (turn_lines_of (composition_of setup.now))) }
-    ensures part { OnErr result (IsPart (λ t h. stands_for t h) K.tells
-        (composition_of setup.now) setup.now.orchestra.head
-        (order_of (asked_in order.now)) order.now.sound_file.now taps.old.items taps.new.items tally.old tally.new wav.old wav.new) }
-    ensures memory { IsErrOf result PlayFault.OutOfMemory
-        → IsPaused (λ t h. stands_for t h) K.tells (composition_of setup.now)
-        setup.now.orchestra.head (order_of (asked_in order.now)) order.now.sound_file.now taps.old.items taps.new.items
-        tally.old tally.new wav.old wav.new }
-    ensures sink { IsErrOf result PlayFault.Sink → ((order_of (asked_in order.now)).output ≡ SoundFile)
-        × Rose (K.tells wav.old).faults (K.tells wav.new).faults }
+    ensures { PerformsPiece (λ t h. stands_for t h) K.tells setup.now (order_of (asked_in order.now))
+        order.now.sound_file.now (lent wav.old taps.old.items tally.old) (lent wav.new taps.new.items tally.new) result }
 {
     let crew = Crew::new(rt, workers_of(rt, order.workers.number()), gate);
-    perform(
+    let performance = Performance {
         alloc,
         setup,
-        performing(order),
-        &crew,
-        order.sound_file,
-        wav,
-        taps,
-        tally,
-    )
+        order: performing(order),
+        name: order.sound_file,
+    };
+    perform(&performance, &crew, wav, taps, tally)
 }
 
 /// As many workers as are asked for, though no more than there are processors, or two where there is one.

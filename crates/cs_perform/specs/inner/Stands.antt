@@ -1,9 +1,6 @@
 -- How all that is kept of a performance stands.
-use Rattle.std.specs.Prelude.{ℕ, ◌≡◌, ◌+◌, ◌*◌, ◌≤◌, List, length, map}
+use Rattle.std.specs.Prelude.{ℕ, ◌≡◌, ◌+◌, ◌≤◌, List, length, map}
 use Rattle.cs_base.specs.Limits.{most_notes}
-use Rattle.cs_base.specs.Widths.{bytes_of}
-use Rattle.cs_base.specs.declared.head.Head.{Head}
-use Rattle.cs_base.specs.declared.width.SampleWidth.{SampleWidth}
 use Rattle.cs_piece_meaning.specs.Course.{opening, played_in}
 use Rattle.cs_piece_meaning.specs.Moments.{Composition, Moment}
 use Rattle.cs_desk.specs.Desk.{areas, cells, HasRoom}
@@ -11,10 +8,11 @@ use Rattle.cs_desk.specs.declared.receipt.Tally.{Tally}
 use Rattle.cs_life.specs.Standing.{Stands}
 use Rattle.cs_piece.specs.Setups.{SetupData, composition_of}
 use Rattle.cs_voice.specs.VoiceData.{VoiceData}
-use Rattle.cs_perform.specs.declared.blocks.Blocks.{Blocks}
+use Rattle.cs_perform.specs.declared.order.Order.{Order}
 use Rattle.cs_perform.specs.declared.stand.Stand.{Stand}
 use Rattle.cs_perform.specs.declared.start.Start.{Start}
 use Rattle.cs_desk.specs.Courses.{IsCourseOf}
+use Rattle.cs_perform.specs.inner.Recordings.{IsRecordingOf}
 
 -- what is kept stands at a moment of a setup's performance, and the course is one
 pub record IsAt (s : SetupData) (stand : Stand) (m : Moment) : Type 0 where
@@ -34,12 +32,7 @@ pub record CountsCycle (c : Composition) (n : ℕ) (before now : Tally) : Type 0
   pub notes : now.notes ≡ before.notes + length (played_in c n)
   pub few : length (played_in c n) ≤ most_notes
 
--- the blocks of a cycle have place for its mix and its samples
-pub record AreBlocksOf (head : Head) (bytes : ℕ) (b : Blocks) : Type 0 where
-  pub mix : length b.mix.items ≡ head.ksmps * head.nchnls
-  pub out : length b.out.items ≡ head.ksmps * head.nchnls * bytes
-
--- what a performance begins with: all that is kept stands at the opening, and the blocks have place
-pub record IsStart (s : SetupData) (width : SampleWidth) (start : Start) : Type 0 where
+-- what a performance begins with: all that is kept stands at the opening, and nothing is recorded
+pub record IsStart (s : SetupData) (order : Order) (start : Start) : Type 0 where
   pub at : IsAt s start.stand (opening (composition_of s))
-  pub place : AreBlocksOf s.orchestra.head (bytes_of width) start.blocks
+  pub recorded : IsRecordingOf s order 0 start.recording

@@ -1,69 +1,115 @@
-use Rattle.std.proofs.Common.{ap, subst, sym}
-use Rattle.cs_piece_meaning.specs.Course.{begins, moment_at, performed}
-use Rattle.cs_piece_meaning.specs.Moments.{Composition, Moment}
+use Rattle.std.proofs.Common.{◌≡◌, ◌≤◌, ◌<◌, ◌*◌, ◌+◌, ◌^◌, ℕ, ℤ, Bool, List, [], length, refl, ap, sym, ◌∙◌, arith}
+use Rattle.std.specs.List.{count_by}
+use Rattle.std.proofs.lemmas.List.Sums.{count_by-le-length}
+use Rattle.cs_base.specs.Widths.{bytes_of}
+use Rattle.cs_base.specs.declared.head.Head.{Head}
+use Rattle.cs_desk.specs.declared.receipt.Tally.{Tally}
+use Rattle.cs_piece_meaning.specs.Heard.{mix_in}
+use Rattle.cs_piece_meaning.specs.Moments.{Composition}
 use Rattle.cs_piece.specs.Setups.{composition_of}
 use Rattle.cs_typed.specs.declared.tree.TypedOrc.{TypedOrc}
-use Rattle.cs_perform.specs.inner.Stands.{IsAt}
-use Rattle.cs_perform.proofs.Cycles.{counts_cycle, moment_after}
+use Rattle.cs_wav.specs.Wav.{is_out_of_range}
+use Rattle.cs_perform.specs.Performances.{lent}
+use Rattle.cs_perform.proofs.Blocks.{slice_written}
+use Rattle.cs_perform.proofs.Cycles.{block_small, counted_more, outside_fits}
+use Rattle.cs_perform.proofs.Frames.{length-mix_in}
+use Rattle.cs_perform.proofs.Performing.{breaks_cycle, plays_cycle}
+use Rattle.cs_perform.proofs.Turning.{told_more}
+use Rattle.cs_perform.proofs.Wholes.{not_ok, not_sink}
 use Rattle.cs_perform.proofs.cycle.play_cycle.Goals as goal
 
-pub prepare-requires : goal.prepare-requires
-prepare-requires g c = record {
-  at = (moment_at (composition_of c.args.setup.now) c.args.cycle, c.requires.at);
-  untold = c.of_next-by.ensures;
-}
+pub returns-in_default-clause-memory : goal.returns-in_default-clause-memory
+returns-in_default-clause-memory g c e =
+    ap (λ (y : Tally). lent c.args.loan.now.wav.now c.args.loan.now.taps.now.items y) c.in_default.ensures.memory
 
-pub run-stand-requires-clause-at : goal.run-stand-requires-clause-at
-run-stand-requires-clause-at g c κs lives =
-    let piece : Composition = composition_of c.args.setup.now in
-    let m : Moment = moment_at piece c.args.cycle in
-    (c.args.setup.now, begins piece c.args.cycle m, c.in-Ok.ensures.begun m c.requires.at)
+pub returns-in_default-clause-broken : goal.returns-in_default-clause-broken
+returns-in_default-clause-broken g c e = absurd (not_sink e)
 
-pub mix_into-requires-clause-at : goal.mix_into-requires-clause-at
-mix_into-requires-clause-at g c =
-    let piece : Composition = composition_of c.args.setup.now in
-    let m : Moment = moment_at piece c.args.cycle in (
-      c.args.setup.now,
-      performed piece (begins piece c.args.cycle m),
-      c.run-stand.ensures.performed c.args.setup.now (begins piece c.args.cycle m) (c.in-Ok.ensures.begun m c.requires.at),
-      ap (λ (o : TypedOrc). o.head) (sym c.orchestra.ensures),
-    )
+pub returns-clause-broken : goal.returns-clause-broken
+returns-clause-broken g c e = absurd (not_ok _ _ e)
 
-pub end-requires : goal.end-requires
-end-requires g c =
-    let piece : Composition = composition_of c.args.setup.now in
-    let m : Moment = moment_at piece c.args.cycle in
+pub pour-requires-clause-few : goal.pour-requires-clause-few
+pour-requires-clause-few g c =
+    let piece : Composition = composition_of c.args.performance.now.setup.now in
+    let head : Head = c.args.performance.now.setup.now.orchestra.head in
+    let long : length c.deref.result.now ≡ head.ksmps * head.nchnls =
+    ap length (c.deref.ensures.value ∙ c.in-Ok.ensures.heard) ∙ length-mix_in piece c.args.cycle in
+    let small : head.ksmps * head.nchnls ≤ 65536 =
+    block_small head.ksmps head.nchnls head.ksmps_in_range.1 head.nchnls_in_range.1 in
+    omega (arith, long, small)
+
+pub pour-requires-clause-room : goal.pour-requires-clause-room
+pour-requires-clause-room g c =
+    let piece : Composition = composition_of c.args.performance.now.setup.now in
+    let head : Head = c.args.performance.now.setup.now.orchestra.head in
+    let long : length c.deref.result.now ≡ head.ksmps * head.nchnls =
+    ap length (c.deref.ensures.value ∙ c.in-Ok.ensures.heard) ∙ length-mix_in piece c.args.cycle in
+    ap length (c.deref_mut.ensures.value ∙ c.in-Ok.ensures.samples) ∙ c.requires.recorded.blocks.samples
+    ∙ ap (λ (k : ℕ). k * bytes_of c.args.performance.now.order.width) (sym long)
+
+pub returns-in_default-pour-clause-broken : goal.returns-in_default-pour-clause-broken
+returns-in_default-pour-clause-broken g c e =
+    breaks_cycle (λ b h. (goal.Tap-dyn g (b.vtable, b.value)).stands_for b.value h) g.K.Sink.tells
+    (composition_of c.args.performance.now.setup.now)
+    c.args.performance.now.order.output c.args.performance.now.order.width
+    c.args.performance.now.setup.now.orchestra.head.dbfs c.orchestra.result.now.head.dbfs
+    c.args.cycle c.deref.result.now _ _ (c.deref.ensures.value ∙ c.in-Ok.ensures.heard)
+    (ap (λ (o : TypedOrc). o.head.dbfs) c.orchestra.ensures)
+    c.in_default-pour.ensures.told c.in-Ok.ensures.counted c.in_default-pour.ensures.stopped
+
+pub returns-in_default-pour-clause-sink : goal.returns-in_default-pour-clause-sink
+returns-in_default-pour-clause-sink g c e =
+    (c.in_default-pour.ensures.ordered, c.in_default-pour.ensures.cause.rose refl)
+
+pub overflow_add-recording : goal.overflow_add-recording
+overflow_add-recording g c =
+    let piece : Composition = composition_of c.args.performance.now.setup.now in
+    let head : Head = c.args.performance.now.setup.now.orchestra.head in
+    let small : head.ksmps * head.nchnls ≤ 65536 =
+    block_small head.ksmps head.nchnls head.ksmps_in_range.1 head.nchnls_in_range.1 in
+    let long : length c.deref.result.now ≡ head.ksmps * head.nchnls =
+    ap length (c.deref.ensures.value ∙ c.in-Ok.ensures.heard) ∙ length-mix_in piece c.args.cycle in
+    let p : ℤ → Bool = is_out_of_range c.args.performance.now.order.width head.dbfs in
+    let q : ℤ → Bool = is_out_of_range c.args.performance.now.order.width c.orchestra.result.now.head.dbfs in
+    let here : c.in-Ok-pour.outside ≡ count_by q c.deref.result.now = c.in-Ok-pour.ensures.out_of_range in
+    let some : count_by q c.deref.result.now ≤ length c.deref.result.now = count_by-le-length q c.deref.result.now in
+    let fits : c.sound_cycle.new.recording.out_of_range + c.in-Ok-pour.outside < 2 ^ 64 =
+    outside_fits piece p c.args.cycle c.sound_cycle.new.recording.out_of_range c.in-Ok-pour.outside (omega arith) small
+    (c.in-Ok.ensures.out_of_range ∙ c.requires.recorded.out_of_range) (omega (arith, here, some, long, small)) in
+    omega (arith, fits, c.from-more.ensures)
+
+pub returns-clause-played : goal.returns-clause-played
+returns-clause-played g c =
+    plays_cycle (λ b h. (goal.Tap-dyn g (b.vtable, b.value)).stands_for b.value h) g.K.Sink.tells
+    (composition_of c.args.performance.now.setup.now)
+    c.args.performance.now.order.output c.args.performance.now.order.width
+    c.args.performance.now.setup.now.orchestra.head.dbfs c.orchestra.result.now.head.dbfs
+    c.args.cycle c.deref.result.now _ _ (c.deref.ensures.value ∙ c.in-Ok.ensures.heard)
+    (ap (λ (o : TypedOrc). o.head.dbfs) c.orchestra.ensures)
+    c.in-Ok-pour.ensures.told c.in-Ok.ensures.counted c.in-Ok-pour.ensures.written
+
+pub returns-clause-recorded : goal.returns-clause-recorded
+returns-clause-recorded g c =
+    let piece : Composition = composition_of c.args.performance.now.setup.now in
+    let head : Head = c.args.performance.now.setup.now.orchestra.head in
+    let is : c.deref.result.now ≡ mix_in piece c.args.cycle = c.deref.ensures.value ∙ c.in-Ok.ensures.heard in
+    let long : length c.pour.new.out ≡ c.sound_cycle.new.recording.samples.len =
+    c.in-Ok-pour.ensures.long ∙ c.deref_mut.ensures.len in
     record {
-      at = (
-        c.args.setup.now,
-        performed piece (begins piece c.args.cycle m),
-        c.run-stand.ensures.performed c.args.setup.now (begins piece c.args.cycle m) (c.in-Ok.ensures.begun m c.requires.at),
-      );
+      blocks = record {
+        mix = ap length c.in-Ok.ensures.heard ∙ length-mix_in piece c.args.cycle;
+        samples = ap length (slice_written c.sound_cycle.new.recording.samples.len c.pour.new.out
+            c.sound_cycle.new.recording.samples.items long)
+            ∙ c.in-Ok-pour.ensures.long ∙ ap length (c.deref_mut.ensures.value ∙ c.in-Ok.ensures.samples)
+            ∙ c.requires.recorded.blocks.samples;
+      };
+      out_of_range = counted_more piece (is_out_of_range c.args.performance.now.order.width head.dbfs) c.args.cycle
+          c.deref.result.now
+          c.sound_cycle.new.recording.out_of_range c.from-more.result is
+          (c.in-Ok.ensures.out_of_range ∙ c.requires.recorded.out_of_range)
+          (c.from-more.ensures ∙ c.in-Ok-pour.ensures.out_of_range
+          ∙ ap (λ (o : TypedOrc). count_by (is_out_of_range c.args.performance.now.order.width o.head.dbfs)
+          c.deref.result.now) c.orchestra.ensures);
+      turns = told_more c.args.performance.now.order.turns piece c.args.cycle [] c.args.recording.now.turns.items _
+          c.requires.recorded.turns c.in-Ok.ensures.turns;
     }
-
-pub returns-clause-at : goal.returns-clause-at
-returns-clause-at g c =
-    let piece : Composition = composition_of c.args.setup.now in
-    let m : Moment = moment_at piece c.args.cycle in
-    let P : Moment → Type 0 = λ after. IsAt c.args.setup.now c.end.new.self after in
-    subst P (moment_after piece c.args.cycle)
-    (c.end.ensures.ended c.args.setup.now (performed piece (begins piece c.args.cycle m))
-    (c.run-stand.ensures.performed c.args.setup.now (begins piece c.args.cycle m) (c.in-Ok.ensures.begun m c.requires.at)))
-
-pub returns-clause-heard : goal.returns-clause-heard
-returns-clause-heard g c =
-    let piece : Composition = composition_of c.args.setup.now in
-    let m : Moment = moment_at piece c.args.cycle in
-    c.mix_into.ensures c.args.setup.now c.args.cycle
-    (c.run-stand.ensures.performed c.args.setup.now (begins piece c.args.cycle m) (c.in-Ok.ensures.begun m c.requires.at))
-    (ap (λ (o : TypedOrc). o.head) (sym c.orchestra.ensures))
-
-pub returns-clause-counted : goal.returns-clause-counted
-returns-clause-counted g c =
-    let piece : Composition = composition_of c.args.setup.now in
-    let m : Moment = moment_at piece c.args.cycle in
-    let at = c.in-Ok.ensures.begun m c.requires.at in
-    counts_cycle piece c.args.cycle c.prepare.new.stand.life _ _ c.args.tally.now c.run-stand.new.tally at.stands c.run-stand.ensures.cycles c.run-stand.ensures.notes
-
-pub returns-clause-turns : goal.returns-clause-turns
-returns-clause-turns g c = c.in-Ok.ensures.turns (moment_at (composition_of c.args.setup.now) c.args.cycle) c.requires.at

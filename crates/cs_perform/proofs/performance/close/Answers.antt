@@ -1,9 +1,37 @@
-use Rattle.std.proofs.Common.{◌∙◌}
+use Rattle.std.proofs.Common.{◌≡◌, ℕ, refl, ap, ◌∙◌}
+use Rattle.cs_piece_meaning.specs.Course.{begins, moment_at}
+use Rattle.cs_piece_meaning.specs.Moments.{Composition}
+use Rattle.cs_life.specs.Standing.{kept_count}
+use Rattle.cs_piece.specs.Setups.{composition_of}
+use Rattle.cs_tempo.specs.declared.plot.Plot.{Plot}
+use Rattle.cs_perform.proofs.Wholes.{breaks, closes}
 use Rattle.cs_perform.proofs.performance.close.Goals as goal
 
-pub returns-in-Ok : goal.returns-in-Ok
-returns-in-Ok c = record {
-  started = λ s m at.
-      let after = c.in-Ok.ensures.begun s m at in
-      (c.started.ensures ∙ after.stands.started, c.not_started.ensures ∙ after.stands.not_started);
-}
+pub frames_in-frames-requires : goal.frames_in-frames-requires
+frames_in-frames-requires g c = (c.args.performance.now.order.width, c.requires.bytes)
+
+pub returns-in-Ok-finish-clause-starts : goal.returns-in-Ok-finish-clause-starts
+returns-in-Ok-finish-clause-starts g c =
+    let piece : Composition = composition_of c.args.performance.now.setup.now in
+    let last : ℕ = c.args.performance.now.setup.now.plot.cycles in
+    let all : c.plot.result.now.cycles ≡ last = ap (λ (p : Plot). p.cycles) c.plot.ensures in
+    let counts = c.in-Ok.ensures.starts c.args.performance.now.setup.now (moment_at piece last) c.requires.at in
+    record {
+      started = counts.0 ∙ ap (λ (k : ℕ). kept_count (begins piece k (moment_at piece last)).started) all;
+      not_started = counts.1 ∙ ap (λ (k : ℕ). kept_count (begins piece k (moment_at piece last)).not_started) all;
+    }
+
+pub returns-in-Ok-finish-clause-ended : goal.returns-in-Ok-finish-clause-ended
+returns-in-Ok-finish-clause-ended g c =
+    closes g.K.Sink.tells (composition_of c.args.performance.now.setup.now)
+    c.args.performance.now.setup.now.orchestra.head c.args.performance.now.order.width
+    c.args.performance.now.order.output _ _ _ c.ends_odd-odd.ensures c.in-Ok-finish.ensures.finished
+
+pub returns-in-Err-clause-broken : goal.returns-in-Err-clause-broken
+returns-in-Err-clause-broken g c e =
+    breaks g.K.Sink.tells (composition_of c.args.performance.now.setup.now)
+    c.args.performance.now.setup.now.orchestra.head c.args.performance.now.order.width
+    c.args.performance.now.order.output _ _ _ c.ends_odd-odd.ensures c.in-Err.ensures.stopped
+
+pub returns-in-Err-clause-sink : goal.returns-in-Err-clause-sink
+returns-in-Err-clause-sink g c e = (c.in-Err.ensures.told, c.in-Err.ensures.cause.rose refl)

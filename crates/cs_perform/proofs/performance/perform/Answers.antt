@@ -1,11 +1,11 @@
-use Rattle.cs_piece.specs.Setups.{composition_of}
-use Rattle.cs_perform.proofs.Wholes.{part_untouched, paused_untouched}
+use Rattle.cs_perform.proofs.Wholes.{performs_nothing}
 use Rattle.cs_perform.proofs.performance.perform.Goals as goal
 
-pub returns-in_default-clause-part : goal.returns-in_default-clause-part
-returns-in_default-clause-part g c =
-    part_untouched (λ b h. (goal.Tap-dyn g (b.vtable, b.value)).stands_for b.value h) g.K.Sink.tells (composition_of c.args.setup.now) _ _ _ _ _ _
-
-pub returns-in_default-clause-memory : goal.returns-in_default-clause-memory
-returns-in_default-clause-memory g c e =
-    paused_untouched (λ b h. (goal.Tap-dyn g (b.vtable, b.value)).stands_for b.value h) g.K.Sink.tells (composition_of c.args.setup.now) _ _ _ _ _ _
+pub returns-in_default : goal.returns-in_default
+returns-in_default g c = record {
+  performed = performs_nothing (λ b h. (goal.Tap-dyn g (b.vtable, b.value)).stands_for b.value h) g.K.Sink.tells
+      c.args.performance.now.setup.now
+      c.args.performance.now.order c.args.performance.now.name.now _;
+  outcome = tt;
+  turns = tt;
+}

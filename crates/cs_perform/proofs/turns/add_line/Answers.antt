@@ -14,18 +14,22 @@ use Rattle.cs_perform.proofs.turns.add_line.Goals as goal
 
 pub returns : goal.returns
 returns c =
-    let s : SetupData = c.args.setup.now in
+    let s : SetupData = c.args.performance.now.setup.now in
     let piece : Composition = composition_of s in
     let stock : stock_of s.layout ≡ stock_in piece =
-    ap stock_of c.facts.ensures.areas ∙ c.layouts_have_the_stock.ensures piece piece.head.ksmps (typed.orchestra s.orchestra).globals in
-    let P : List Footprint → List Active → Type 0 = λ l active. AllZip (λ (a : Active) (f : Footprint). IsFootOf s.layout a.body f) active l in
+    ap stock_of c.facts.ensures.areas
+    ∙ c.layouts_have_the_stock.ensures piece piece.head.ksmps (typed.orchestra s.orchestra).globals in
+    let P : List Footprint → List Active → Type 0 =
+    λ l active. AllZip (λ (a : Active) (f : Footprint). IsFootOf s.layout a.body f) active l in
     on_ok_weaker c.add_turns.result
     (λ added m at. added
     ∙ ap (λ (g : Dependencies). c.args.turns.now.items ++ line_of c.args.cycle g.levels) c.deref.ensures
     ∙ ap (λ (l : List ℕ). c.args.turns.now.items ++ line_of c.args.cycle l)
-    (c.turns_are_levels.ensures piece s.layout m.active c.args.stand.now.course.feet.items c.args.stand.now.course.graph.value.levels stock
+    (c.turns_are_levels.ensures piece s.layout m.active c.args.stand.now.course.feet.items
+    c.args.stand.now.course.graph.value.levels stock
     (subst (λ (l : List Footprint). P l m.active) c.requires.feet
-    (feet_of_notes piece c.args.stand.now.life.stage c.args.stand.now.life.made.items s.layout c.args.stand.now.voices.items m.active
+    (feet_of_notes piece c.args.stand.now.life.stage c.args.stand.now.life.made.items s.layout
+    c.args.stand.now.voices.items m.active
     (at.stands.layout ∙ ap (λ (t : SetupData). t.layout) at.setup) at.stands.stand.play))
     at.course.notes at.course.levelled))
     c.add_turns.ensures.added

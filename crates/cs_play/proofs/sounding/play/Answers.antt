@@ -1,4 +1,4 @@
 use Rattle.cs_play.proofs.sounding.play.Goals as goal
 
-pub returns-clause-whole : goal.returns-clause-whole
-returns-clause-whole g c = rw c.performing.ensures at c.perform.ensures.whole
+pub returns : goal.returns
+returns g c = rw c.performing.ensures at c.perform.ensures
