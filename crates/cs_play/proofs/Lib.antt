@@ -1,5 +1,6 @@
 pub mod Deciding
 pub mod Meanings
+pub mod NoPiece
 pub mod Runs
 pub mod Sounds
 pub mod TwoRuns

@@ -1,9 +1,9 @@
 -- How a run ends: one lemma for each way out.
-use Rattle.std.proofs.Common.{◌≡◌, ◌++◌, ◌*◌, ℕ, List, [], Bool, true, false, not, Result, Some, None, Ok, Err, refl, ap, sym, subst, ◌∙◌, inl, inr}
+use Rattle.std.proofs.Common.{◌≡◌, ◌++◌, ◌*◌, ℕ, List, [], Bool, true, false, Result, Some, Ok, Err, refl, ap, sym, subst, ◌∙◌, inl, inr}
 use Rattle.std.specs.List.{count_by, flat_map}
 use Rattle.std.specs.Result.{IfErr, IfOk, IsErr, OnOk}
 use Rattle.cs_base.specs.declared.head.Head.{Head}
-use Rattle.cs_piece.specs.Setups.{SetupData, composition_of}
+use Rattle.cs_piece.specs.Setups.{composition_of}
 use Rattle.cs_piece_meaning.specs.Course.{closing}
 use Rattle.cs_piece_meaning.specs.Heard.{frames_of}
 use Rattle.cs_piece_meaning.specs.Moments.{Composition}
@@ -13,32 +13,27 @@ use Rattle.cs_edge.specs.Moves.{SinkTold, WroteMore}
 use Rattle.cs_edge.specs.Told.{Rose}
 use Rattle.cs_life.specs.Standing.{kept_count}
 use Rattle.cs_perform.specs.Performances.{IsOutcomeOf, IsPart, IsPaused, IsWhole, if_told, lent}
-use Rattle.cs_command.specs.declared.reading.Unread.{Unread}
-use Rattle.cs_command.specs.declared.reading.Unread.TheVariants as unasked
 use Rattle.cs_perform.specs.declared.order.Outcome.{Outcome}
 use Rattle.cs_perform.specs.declared.order.Output.TheVariants.{SoundFile}
 use Rattle.cs_perform.specs.declared.order.TurnLines.{TurnLines}
 use Rattle.cs_perform.specs.declared.order.PlayFault.{PlayFault}
 use Rattle.cs_perform.specs.declared.order.PlayFault.TheVariants as fault
-use Rattle.cs_play.specs.Endings.{EndsBy, IsLoaded, IsRefusal, IsUntouched, lines_of, order_of, output_of}
+use Rattle.cs_play.specs.Endings.{EndsBy, IsUnplayed, IsUntouched, lines_of, order_of, output_of}
+use Rattle.cs_play.specs.Preparing.{IsPrepared, IsReadFor, IsUnprepared}
 use Rattle.cs_play.specs.Report.{counts_of, report_of}
 use Rattle.cs_play.specs.Runs.{IsRun}
 use Rattle.cs_play.specs.Scene.{Scene, Sight, scene, sight}
 use Rattle.cs_play.specs.inner.Sounding.{HasReported, HasSounded, counts_told}
-use Rattle.cs_play.specs.inner.Stopping.{HasStopped, fault_status, name_in, stop_status, unread_status}
+use Rattle.cs_play.specs.declared.preparing.Prepared.{Prepared}
+use Rattle.cs_play.specs.inner.Stopping.{fault_status}
 use Rattle.cs_report.specs.Report.{count_lines, counts_in, line_room}
-use Rattle.cs_report.specs.Status.{refusal}
 use Rattle.cs_report.specs.Talk.{Says, SaysPart, message_of}
 use Rattle.cs_report.specs.declared.status.Status.{Status}
 use Rattle.cs_report.specs.declared.status.Status.TheVariants as status
+use Rattle.cs_arguments.specs.Orders.{asked_in}
 use Rattle.cs_arguments.specs.Reading.{Asked, Text, reading}
-use Rattle.cs_source.specs.Loaded.{CannotRead, LeavesUnread, SourceMeans, WasRead}
-use Rattle.cs_source.specs.declared.loading.Stop.{Stop}
-use Rattle.cs_source.specs.declared.loading.Stop.TheVariants as stop
+use Rattle.cs_source.specs.Loaded.{IsLoaded}
 use Rattle.cs_base.specs.declared.width.SampleWidth.{SampleWidth}
-use Rattle.cs_base.specs.declared.refusal.Refusal.TheVariants as why
-use Rattle.cs_csd.specs.declared.refused.Refused.{Refused}
-use Rattle.cs_csd.specs.declared.refused.Refused.TheVariants as refused
 use Rattle.cs_turns.specs.Turns.{turn_lines_of}
 use Rattle.cs_typed.specs.TypedTree.{header_of_head}
 use Rattle.cs_wav.specs.Wav.{is_out_of_range}
@@ -62,100 +57,28 @@ said_as : (a b : SinkTold) (s t : Status) (name : List ℕ) → t ≡ s → Says
 said_as a b s t name e says = let P : Status → Type 0 = λ x. Says a b (message_of x name) in subst P e says
 
 module _ {F K T B : Type 0} (see : Sight F K T B) where
-  -- a status is what was said to be one
-  pub is_status : (words : List Text) (r s : Status) (before now : Scene F K T B) → r ≡ s → IsRun see words s before now → IsRun see words r before now
-  is_status words r s before now e run = let P : Status → Type 0 = λ x. IsRun see words x before now in subst P (sym e) run
-
   untouched : (shelf shelf' : F) (wav : K) (talk talk' : T) (taps : List B) (tally : Tally)
       → IsUntouched see (scene shelf wav talk taps tally) (scene shelf' wav talk' taps tally)
   untouched shelf shelf' wav talk talk' taps tally = record { wav = refl; taps = refl; tally = refl }
 
-  usage_run : (words : List Text) (shelf : F) (wav : K) (talk talk' : T) (taps : List B) (tally : Tally) → reading words ≡ None
-      → Says (see.talk talk) (see.talk talk') (message_of status.Usage [])
-      → IsRun see words status.Usage (scene shelf wav talk taps tally) (scene shelf wav talk' taps tally)
-  usage_run words shelf wav talk talk' taps tally e says = record {
-    ended = record { unread = e; shelf = refl; untouched = untouched shelf shelf wav talk talk' taps tally; line = says };
-    shelf = inl refl;
-  }
+  -- NO PIECE, and nothing was performed
+  module _ (words : List Text) (shelf shelf' : F) (wav : K) (talk talk' : T) (taps : List B) (tally : Tally) where
+    unplayed : (s : Status) → IsUnprepared see.shelf s words shelf shelf' (see.talk talk) (see.talk talk')
+        → IsUnplayed see s words (scene shelf wav talk taps tally) (scene shelf' wav talk' taps tally)
+    unplayed s h = record { unprepared = h; untouched = untouched shelf shelf' wav talk talk' taps tally }
 
-  -- want of memory as the words were read
-  starved_run : (words : List Text) (shelf : F) (wav : K) (talk talk' : T) (taps : List B) (tally : Tally)
-      → Says (see.talk talk) (see.talk talk') (message_of status.OutOfMemory [])
-      → IsRun see words status.OutOfMemory (scene shelf wav talk taps tally) (scene shelf wav talk' taps tally)
-  starved_run words shelf wav talk talk' taps tally says = record {
-    ended = record { performed = inl (untouched shelf shelf wav talk talk' taps tally); line = says };
-    shelf = inl refl;
-  }
-
-  -- words that aren't read
-  pub unasked_run : (words : List Text) (u : Unread) (r t : Status) (shelf : F) (wav : K) (talk talk' : T) (taps : List B) (tally : Tally)
-      → r ≡ t → t ≡ unread_status u → (u ≡ unasked.Usage → reading words ≡ None) → Says (see.talk talk) (see.talk talk') (message_of t [])
-      → IsRun see words r (scene shelf wav talk taps tally) (scene shelf wav talk' taps tally)
-  unasked_run words unasked.Usage r t shelf wav talk talk' taps tally e h none says =
-      is_status words r status.Usage (scene shelf wav talk taps tally) (scene shelf wav talk' taps tally) (e ∙ h)
-      (usage_run words shelf wav talk talk' taps tally (none refl) (said_as (see.talk talk) (see.talk talk') status.Usage t [] h says))
-  unasked_run words unasked.OutOfMemory r t shelf wav talk talk' taps tally e h none says =
-      is_status words r status.OutOfMemory (scene shelf wav talk taps tally) (scene shelf wav talk' taps tally) (e ∙ h)
-      (starved_run words shelf wav talk talk' taps tally (said_as (see.talk talk) (see.talk talk') status.OutOfMemory t [] h says))
-
-  -- want of memory as the source was read
-  unloaded_run : (words : List Text) (asked : Asked) (shelf shelf' : F) (wav : K) (talk talk' : T) (taps : List B) (tally : Tally)
-      → reading words ≡ Some asked → WasRead (see.shelf shelf) (see.shelf shelf') asked.piece
-      → Says (see.talk talk) (see.talk talk') (message_of status.OutOfMemory [])
-      → IsRun see words status.OutOfMemory (scene shelf wav talk taps tally) (scene shelf' wav talk' taps tally)
-  unloaded_run words asked shelf shelf' wav talk talk' taps tally e was says = record {
-    ended = record { performed = inl (untouched shelf shelf' wav talk talk' taps tally); line = says };
-    shelf = inr (asked, e, was);
-  }
-
-  unread_run : (words : List Text) (asked : Asked) (name : List ℕ) (shelf shelf' : F) (wav : K) (talk talk' : T) (taps : List B) (tally : Tally)
-      → reading words ≡ Some asked → WasRead (see.shelf shelf) (see.shelf shelf') asked.piece
-      → CannotRead (see.shelf shelf) (see.shelf shelf') asked.piece name
-      → Says (see.talk talk) (see.talk talk') (message_of status.ShelfFault name)
-      → IsRun see words status.ShelfFault (scene shelf wav talk taps tally) (scene shelf' wav talk' taps tally)
-  unread_run words asked name shelf shelf' wav talk talk' taps tally e was unread says = record {
-    ended = (asked, e, record { name = name; unread = unread; untouched = untouched shelf shelf' wav talk talk' taps tally; line = says });
-    shelf = inr (asked, e, was);
-  }
-
-  loaded : (asked : Asked) (r : Result Composition Refused) (before now : Scene F K T B)
-      → SourceMeans (see.shelf before.shelf) asked.width asked.piece r → LeavesUnread (see.shelf before.shelf) (see.shelf now.shelf) asked.piece
-      → IsLoaded see asked before now r
-  loaded asked r before now means rest = record { means = means; rest = rest }
-
-  -- each refusal ends as its status says
-  ends_refused : (words : List Text) (asked : Asked) (r : Refused) (before now : Scene F K T B) → reading words ≡ Some asked → IsRefusal see r asked before now
-      → EndsBy see (refusal r) words before now
-  ends_refused words asked (refused.Csd f) before now e is = (asked, e, is)
-  ends_refused words asked (refused.Texts (why.Orc f)) before now e is = (asked, e, is)
-  ends_refused words asked (refused.Texts (why.Score f)) before now e is = (asked, e, is)
-  ends_refused words asked (refused.Texts (why.Limit h)) before now e is = (asked, e, is)
-
-  refused_run : (words : List Text) (asked : Asked) (r : Refused) (shelf shelf' : F) (wav : K) (talk talk' : T) (taps : List B) (tally : Tally)
-      → reading words ≡ Some asked → WasRead (see.shelf shelf) (see.shelf shelf') asked.piece
-      → SourceMeans (see.shelf shelf) asked.width asked.piece (Err r) → LeavesUnread (see.shelf shelf) (see.shelf shelf') asked.piece
-      → Says (see.talk talk) (see.talk talk') (message_of (refusal r) [])
-      → IsRun see words (refusal r) (scene shelf wav talk taps tally) (scene shelf' wav talk' taps tally)
-  refused_run words asked r shelf shelf' wav talk talk' taps tally e was means rest says = record {
-    ended = ends_refused words asked r (scene shelf wav talk taps tally) (scene shelf' wav talk' taps tally) e
-        (record { loaded = loaded asked (Err r) (scene shelf wav talk taps tally) (scene shelf' wav talk' taps tally) means rest; untouched = untouched shelf shelf' wav talk talk' taps tally; line = says });
-    shelf = inr (asked, e, was);
-  }
-
-  -- a source of which there is no piece
-  stopped : (words : List Text) (asked : Asked) (s : Stop) (shelf shelf' : F) (wav : K) (talk talk' : T) (taps : List B) (tally : Tally)
-      → reading words ≡ Some asked → WasRead (see.shelf shelf) (see.shelf shelf') asked.piece
-      → ((r : Refused) → s ≡ stop.Refused r → SourceMeans (see.shelf shelf) asked.width asked.piece (Err r))
-      → ((r : Refused) → s ≡ stop.Refused r → LeavesUnread (see.shelf shelf) (see.shelf shelf') asked.piece)
-      → ((name : _) → s ≡ stop.Unread name → CannotRead (see.shelf shelf) (see.shelf shelf') asked.piece name.now)
-      → Says (see.talk talk) (see.talk talk') (message_of (stop_status s) (name_in s))
-      → IsRun see words (stop_status s) (scene shelf wav talk taps tally) (scene shelf' wav talk' taps tally)
-  stopped words asked (stop.Unread name) shelf shelf' wav talk talk' taps tally e was means rest unread says =
-      unread_run words asked name.now shelf shelf' wav talk talk' taps tally e was (unread name refl) says
-  stopped words asked (stop.Refused r) shelf shelf' wav talk talk' taps tally e was means rest unread says =
-      refused_run words asked r shelf shelf' wav talk talk' taps tally e was (means r refl) (rest r refl) says
-  stopped words asked stop.OutOfMemory shelf shelf' wav talk talk' taps tally e was means rest unread says =
-      unloaded_run words asked shelf shelf' wav talk talk' taps tally e was says
+    ends_unplayed : (s : Status) → IsUnprepared see.shelf s words shelf shelf' (see.talk talk) (see.talk talk')
+        → EndsBy see s words (scene shelf wav talk taps tally) (scene shelf' wav talk' taps tally)
+    ends_unplayed status.Ok h = absurd h.cause
+    ends_unplayed status.TalkFault h = absurd h.cause
+    ends_unplayed status.SinkFault h = absurd h.cause
+    ends_unplayed status.OutOfMemory h = record { performed = inl (untouched shelf shelf' wav talk talk' taps tally); line = h.line }
+    ends_unplayed status.Usage h = unplayed status.Usage h
+    ends_unplayed status.ShelfFault h = unplayed status.ShelfFault h
+    ends_unplayed (status.OrcRefused f) h = unplayed (status.OrcRefused f) h
+    ends_unplayed (status.ScoreRefused f) h = unplayed (status.ScoreRefused f) h
+    ends_unplayed (status.Limit l) h = unplayed (status.Limit l) h
+    ends_unplayed (status.CsdRefused f) h = unplayed (status.CsdRefused f) h
 
   -- A COMPOSITION, which was performed
 
@@ -223,90 +146,77 @@ module _ {F K T B : Type 0} (see : Sight F K T B) where
 
   -- The piece of a source that was performed. The shelf has no part in its performance.
   module _ (words : List Text) (asked : Asked) (c : Composition) (shelf shelf' : F) (wav wav' : K) (talk talk' : T) (taps taps' : List B)
-      (tally tally' : Tally) (e : reading words ≡ Some asked) (was : WasRead (see.shelf shelf) (see.shelf shelf') asked.piece)
-      (means : SourceMeans (see.shelf shelf) asked.width asked.piece (Ok c))
-      (rest : LeavesUnread (see.shelf shelf) (see.shelf shelf') asked.piece) where
+      (tally tally' : Tally) (e : reading words ≡ Some asked)
+      (loaded : IsLoaded (see.shelf shelf) (see.shelf shelf') asked.width asked.piece (Ok c)) where
     abbrev before : Scene F K T B
     before = scene shelf wav talk taps tally
 
     abbrev now : Scene F K T B
     now = scene shelf' wav' talk' taps' tally'
 
-    is_loaded : IsLoaded see asked before now (Ok c)
-    is_loaded = loaded asked (Ok c) before now means rest
-
-    pub sounded_run : (s : Status)
+    pub ends_sounded : (s : Status)
         → HasSounded (sight (λ (_ : Unit {0}). see.shelf shelf) see.wav see.talk see.stands see.line) asked c s
         (scene tt wav talk taps tally) (scene tt wav' talk' taps' tally')
-        → IsRun see words s before now
-    sounded_run status.Ok h = record {
-      ended = (
+        → EndsBy see s words before now
+    ends_sounded status.Ok h = (
+      asked,
+      e,
+      record { c = c; loaded = loaded; performed = record { head = h.0.head; head_is = h.0.head_is; whole = h.0.whole }; report = h.1 },
+    )
+    ends_sounded status.TalkFault h = (
+      asked,
+      e,
+      record { c = c; loaded = loaded; performed = record { head = h.0.head; head_is = h.0.head_is; whole = h.0.whole }; report = h.1 },
+    )
+    ends_sounded status.SinkFault h = (
+      asked,
+      e,
+      record {
+        c = c;
+        loaded = loaded;
+        performed = record { head = h.0.head; head_is = h.0.head_is; part = h.0.part };
+        written = h.1;
+        rose = h.2;
+        line = h.3;
+      },
+    )
+    ends_sounded status.OutOfMemory h = record {
+      performed = inr (
         asked,
         e,
-        record { c = c; loaded = is_loaded; performed = record { head = h.0.head; head_is = h.0.head_is; whole = h.0.whole }; report = h.1 },
+        record { c = c; loaded = loaded; performed = record { head = h.0.head; head_is = h.0.head_is; paused = h.0.paused } },
       );
-      shelf = inr (asked, e, was);
+      line = h.1;
     }
-    sounded_run status.TalkFault h = record {
-      ended = (
-        asked,
-        e,
-        record { c = c; loaded = is_loaded; performed = record { head = h.0.head; head_is = h.0.head_is; whole = h.0.whole }; report = h.1 },
-      );
-      shelf = inr (asked, e, was);
-    }
-    sounded_run status.SinkFault h = record {
-      ended = (
-        asked,
-        e,
-        record {
-          c = c;
-          loaded = is_loaded;
-          performed = record { head = h.0.head; head_is = h.0.head_is; part = h.0.part };
-          written = h.1;
-          rose = h.2;
-          line = h.3;
-        },
-      );
-      shelf = inr (asked, e, was);
-    }
-    sounded_run status.OutOfMemory h = record {
-      ended = record {
-        performed = inr (
-          asked,
-          e,
-          record { c = c; loaded = is_loaded; performed = record { head = h.0.head; head_is = h.0.head_is; paused = h.0.paused } },
-        );
-        line = h.1;
-      };
-      shelf = inr (asked, e, was);
-    }
-    sounded_run status.Usage h = absurd h
-    sounded_run status.ShelfFault h = absurd h
-    sounded_run (status.OrcRefused f) h = absurd h
-    sounded_run (status.ScoreRefused f) h = absurd h
-    sounded_run (status.Limit l) h = absurd h
-    sounded_run (status.CsdRefused f) h = absurd h
+    ends_sounded status.Usage h = absurd h
+    ends_sounded status.ShelfFault h = absurd h
+    ends_sounded (status.OrcRefused f) h = absurd h
+    ends_sounded (status.ScoreRefused f) h = absurd h
+    ends_sounded (status.Limit l) h = absurd h
+    ends_sounded (status.CsdRefused f) h = absurd h
 
-  -- What was loaded, a piece or what keeps it from its sound.
-  pub loaded_run : (words : List Text) (asked : Asked) (l : Result SetupData Stop) (r : Status) (shelf shelf' : F) (wav wav' : K)
-      (talk talk' : T) (taps taps' : List B) (tally tally' : Tally)
-      → reading words ≡ Some asked → WasRead (see.shelf shelf) (see.shelf shelf') asked.piece
-      → IfOk l (λ s. SourceMeans (see.shelf shelf) asked.width asked.piece (Ok (composition_of s)))
-      → OnOk l (LeavesUnread (see.shelf shelf) (see.shelf shelf') asked.piece)
-      → ((q : Refused) → l ≡ Err (stop.Refused q) → SourceMeans (see.shelf shelf) asked.width asked.piece (Err q))
-      → ((q : Refused) → l ≡ Err (stop.Refused q) → LeavesUnread (see.shelf shelf) (see.shelf shelf') asked.piece)
-      → ((name : _) → l ≡ Err (stop.Unread name) → CannotRead (see.shelf shelf) (see.shelf shelf') asked.piece name.now)
-      → IfOk l (λ s. (told : ShelfTold) → HasSounded (sight (λ (_ : Unit {0}). told) see.wav see.talk see.stands see.line) asked (composition_of s) r
-      (scene tt wav talk taps tally) (scene tt wav' talk' taps' tally'))
-      → IfErr l (λ s. HasStopped s r (see.talk talk) (see.talk talk'))
-      → (IsErr l → (wav' ≡ wav) × (taps' ≡ taps) × (tally' ≡ tally))
+  -- What was prepared, a piece or what keeps the run from its sound. Talk is `mid` when that is known.
+  pub prepared_run : (words : List Text) (p : Result Prepared Status) (r : Status) (shelf shelf' : F) (wav wav' : K)
+      (talk mid talk' : T) (taps taps' : List B) (tally tally' : Tally)
+      → IsReadFor see.shelf words shelf shelf'
+      → IfOk p (IsPrepared see.shelf words shelf shelf')
+      → OnOk p (mid ≡ talk)
+      → IfErr p (λ s. IsUnprepared see.shelf s words shelf shelf' (see.talk talk) (see.talk mid))
+      → IfOk p (λ x. (told : ShelfTold) → HasSounded (sight (λ (_ : Unit {0}). told) see.wav see.talk see.stands see.line)
+      (asked_in x.order) (composition_of x.setup) r (scene tt wav mid taps tally) (scene tt wav' talk' taps' tally'))
+      → IfErr p (λ s. r ≡ s)
+      → (IsErr p → (wav' ≡ wav) × (talk' ≡ mid) × (taps' ≡ taps) × (tally' ≡ tally))
       → IsRun see words r (scene shelf wav talk taps tally) (scene shelf' wav' talk' taps' tally')
-  loaded_run words asked (Ok s) r shelf shelf' wav wav' talk talk' taps taps' tally tally' e was means rest refused left unread sounds ends still =
-      sounded_run words asked (composition_of s) shelf shelf' wav wav' talk talk' taps taps' tally tally' e was means rest r (sounds (see.shelf shelf))
-  loaded_run words asked (Err s) r shelf shelf' wav wav' talk talk' taps taps' tally tally' e was means rest refused left unread sounds ends still =
+  prepared_run words (Ok p) r shelf shelf' wav wav' talk mid talk' taps taps' tally tally' was prepared quiet unprepared sounds stopped still =
+      let c : Composition = composition_of p.setup in
+      let P : T → Type 0 = λ t. HasSounded (sight (λ (_ : Unit {0}). see.shelf shelf) see.wav see.talk see.stands see.line) (asked_in p.order) c r
+      (scene tt wav t taps tally) (scene tt wav' talk' taps' tally') in
+      record {
+        ended = ends_sounded words (asked_in p.order) c shelf shelf' wav wav' talk talk' taps taps' tally tally' prepared.asked prepared.loaded r
+            (subst P quiet (sounds (see.shelf shelf)));
+        shelf = was;
+      }
+  prepared_run words (Err s) r shelf shelf' wav wav' talk mid talk' taps taps' tally tally' was prepared quiet unprepared sounds stopped still =
       let same = still refl in
-      rw (same.0, same.1, same.2)
-      (is_status words r (stop_status s) (scene shelf wav talk taps tally) (scene shelf' wav talk' taps tally) ends.status_is
-      (stopped words asked s shelf shelf' wav talk talk' taps tally e was (λ q h. refused q (ap (λ (x : Stop). Err x) h))
-      (λ q h. left q (ap (λ (x : Stop). Err x) h)) (λ name h. unread name (ap (λ (x : Stop). Err x) h)) ends.line))
+      rw (stopped, same.0, same.1, same.2, same.3)
+      (record { ended = ends_unplayed words shelf shelf' wav talk mid taps tally s unprepared; shelf = was })

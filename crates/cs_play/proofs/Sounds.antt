@@ -12,7 +12,7 @@ use Rattle.cs_perform.proofs.Wholes.{front_in_file}
 use Rattle.cs_piece_meaning.specs.Heard.{frames_of}
 use Rattle.cs_piece_meaning.specs.Moments.{Composition}
 use Rattle.cs_play.specs.Alike.{AreTexts}
-use Rattle.cs_play.specs.Endings.{EndsBy, IsCutShort, IsLoaded, IsOk, IsSinkFault, IsTalkFault, WasPartlyPerformed, WasPaused, WasPerformed, output_of}
+use Rattle.cs_play.specs.Endings.{EndsBy, HasLoaded, IsCutShort, IsOk, IsSinkFault, IsTalkFault, WasPartlyPerformed, WasPaused, WasPerformed, output_of}
 use Rattle.cs_play.specs.Runs.{IsRun}
 use Rattle.cs_play.specs.Scene.{Scene, Sight}
 use Rattle.cs_play.specs.Sounds.{HoldsSoundFront}
@@ -132,7 +132,7 @@ module _ (t : Texts) (asked : Asked) (c : Composition) (head : Head) (means : Me
 module _ {F K T B : Type 0} (see : Sight F K T B) (pair : OnePair) (words : List Text) (before now : Scene F K T B) (asked : Asked) (t : Texts)
     (e : reading words ≡ Some asked) (known : AreTexts (see.shelf before.shelf).files asked.piece t) (y : Held)
     (holds : (see.wav now.wav).held ≡ Some y) where
-  meant : (c : Composition) → IsLoaded see asked before now (Ok c) → Mean asked.width t (Ok c)
+  meant : (c : Composition) → HasLoaded see asked before now (Ok c) → Mean asked.width t (Ok c)
   meant c loaded = known_means pair (see.shelf before.shelf) asked.width asked.piece t (Ok c) known loaded.means
 
   -- the file of a run that ended Ok
@@ -159,20 +159,20 @@ module _ {F K T B : Type 0} (see : Sight F K T B) (pair : OnePair) (words : List
       by true w = untouched w
       by false w = f w
 
-  performed_front : (c : Composition) → IsLoaded see asked before now (Ok c) → WasPerformed see asked c before now → Front
+  performed_front : (c : Composition) → HasLoaded see asked before now (Ok c) → WasPerformed see asked c before now → Front
   performed_front c loaded p =
       written_front (λ b n. Finished b n asked.sound_file (wav_of (frames_of c) p.head asked.width))
       (finished_front t asked c p.head (meant c loaded) p.head_is (see.wav before.wav) (see.wav now.wav) y holds) p.whole.written
 
   module _ (fronts : AreFronts) where
-    partly_front : (c : Composition) → IsLoaded see asked before now (Ok c) → WasPartlyPerformed see asked c before now → Front
+    partly_front : (c : Composition) → HasLoaded see asked before now (Ok c) → WasPartlyPerformed see asked c before now → Front
     partly_front c loaded p =
         let bytes : List ℕ = file_after c p.head asked.width p.part.cycles in
         written_front (λ b n. Stopped b n asked.sound_file bytes)
         (stopped_front t asked c p.head (meant c loaded) p.head_is (see.wav before.wav) (see.wav now.wav) y bytes holds
         (fronts c p.head asked.width p.part.cycles p.part.within)) p.part.written
 
-    paused_front : (c : Composition) → IsLoaded see asked before now (Ok c) → WasPaused see asked c before now → Front
+    paused_front : (c : Composition) → HasLoaded see asked before now (Ok c) → WasPaused see asked c before now → Front
     paused_front c loaded p =
         let bytes : List ℕ = front_after c p.head asked.width p.paused.cycles in
         written_front (λ b n. ((p.paused.cycles ≡ 0) × (now.wav ≡ before.wav)) ⊎ Wrote b n asked.sound_file bytes)
@@ -193,12 +193,12 @@ module _ {F K T B : Type 0} (see : Sight F K T B) (pair : OnePair) (words : List
         ⊎_elim (λ same. untouched same.wav)
         (λ r. let one : IsCutShort see asked before now = the_asked words (λ a. IsCutShort see a before now) asked e r in
         paused_front one.c one.loaded one.performed) h.performed
-    front_at status.ShelfFault h = untouched h.2.untouched.wav
+    front_at status.ShelfFault h = untouched h.untouched.wav
     front_at status.Usage h = untouched h.untouched.wav
-    front_at (status.OrcRefused f) h = untouched h.2.untouched.wav
-    front_at (status.ScoreRefused f) h = untouched h.2.untouched.wav
-    front_at (status.Limit l) h = untouched h.2.untouched.wav
-    front_at (status.CsdRefused f) h = untouched h.2.untouched.wav
+    front_at (status.OrcRefused f) h = untouched h.untouched.wav
+    front_at (status.ScoreRefused f) h = untouched h.untouched.wav
+    front_at (status.Limit l) h = untouched h.untouched.wav
+    front_at (status.CsdRefused f) h = untouched h.untouched.wav
 
     pub holds_front : (s : Status) → IsRun see words s before now → Front
     holds_front s run = front_at s run.ended

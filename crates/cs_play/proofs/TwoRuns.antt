@@ -1,7 +1,6 @@
 -- What two runs have in common.
 use Rattle.std.proofs.Common.{◌≡◌, ◌≢◌, ℕ, ℤ, List, Bool, true, false, ◌++◌, Option, Result, Some, None, Ok, Err, refl, ap, sym, subst, ◌∙◌, ⊎_elim}
 use Rattle.cs_base.specs.declared.head.Head.{Head}
-use Rattle.cs_base.specs.declared.refusal.Refusal.TheVariants as why
 use Rattle.cs_base.specs.declared.width.SampleWidth.{SampleWidth}
 use Rattle.cs_piece_meaning.specs.Heard.{frames_of}
 use Rattle.cs_piece_meaning.specs.Moments.{Composition}
@@ -13,7 +12,7 @@ use Rattle.cs_perform.specs.Hearing.{IfWritten}
 use Rattle.cs_perform.specs.Performances.{if_told}
 use Rattle.cs_turns.specs.Turns.{turn_lines_of}
 use Rattle.cs_play.specs.Alike.{AskAlike, HadNoFault, HoldAlike, SoundAlike, TellAlike}
-use Rattle.cs_play.specs.Endings.{EndsBy, IsLoaded, IsOk, IsRefusal, IsShelfFault, Reads, WasPerformed, lines_of, output_of, report_in}
+use Rattle.cs_play.specs.Endings.{IsOk, WasPerformed, lines_of, output_of, report_in}
 use Rattle.cs_play.specs.Report.{counts_of, meter_lines}
 use Rattle.cs_play.specs.Runs.{IsRun}
 use Rattle.cs_play.specs.Scene.{Scene, Sight}
@@ -21,14 +20,13 @@ use Rattle.cs_report.specs.Status.{refusal}
 use Rattle.cs_report.specs.declared.status.Status.{Status}
 use Rattle.cs_report.specs.declared.status.Status.TheVariants as status
 use Rattle.cs_arguments.specs.Reading.{Asked, Piece, Text, demo, one_file, reading, two_files}
-use Rattle.cs_source.specs.Loaded.{SourceMeans}
+use Rattle.cs_source.specs.Loaded.{CannotRead, SourceMeans}
 use Rattle.cs_source.specs.Texts.{LackWhereTold}
 use Rattle.cs_csd.specs.declared.refused.Refused.{Refused}
-use Rattle.cs_csd.specs.declared.refused.Refused.TheVariants as refused
 use Rattle.cs_typed.specs.Places.{Header}
 use Rattle.cs_typed.specs.TypedTree.{header_of_head}
 use Rattle.cs_wav.specs.Wav.{header_bytes, wav_of}
-use Rattle.cs_play.proofs.Deciding.{no_asked, the_asked}
+use Rattle.cs_play.proofs.Deciding.{EndedBy, by_memory, by_name, by_refusal, by_sound, by_words, ended_by, loaded, no_asked, the_asked, unread}
 use Rattle.cs_play.proofs.Meanings.{NoneLacking, OneMeaning, OnePair, alike_means, refused_composition, same_composition, same_refusal, source_lacks}
 
 -- THE SAME FILE
@@ -140,28 +138,17 @@ module _ {F K T B : Type 0} (see : Sight F K T B) (words : List Text) (asked : A
   abbrev Ended : Status → Type 0
   Ended s = EndedFor (see.shelf before.shelf) asked s
 
-  loaded_here : (r : Result Composition Refused) → Reads words (λ a. IsLoaded see a before now r) → SourceMeans (see.shelf before.shelf) asked.width asked.piece r
-  loaded_here r h = (the_asked words (λ a. IsLoaded see a before now r) asked e h).means
+  missing_for : (s : Status) (name : List ℕ) → s ≡ status.ShelfFault
+      → CannotRead (see.shelf before.shelf) (see.shelf now.shelf) asked.piece name → Ended s
+  missing_for s name is unread = ⊎_elim (λ rose. absurd (calm.shelf rose)) (λ lack. missing name is lack) unread.cause
 
-  refused_here : (r : Refused) → Reads words (λ a. IsRefusal see r a before now) → Ended (refusal r)
-  refused_here r h = refusing r refl (loaded_here (Err r) (h.0, h.1, h.2.loaded))
-
-  missing_here : Reads words (λ a. IsShelfFault see a before now) → Ended status.ShelfFault
-  missing_here h =
-      let one = the_asked words (λ a. IsShelfFault see a before now) asked e h in
-      ⊎_elim (λ rose. absurd (calm.shelf rose)) (λ lack. missing one.name refl lack) one.unread.cause
-
-  ended_for : (s : Status) → s ≢ status.OutOfMemory → EndsBy see s words before now → Ended s
-  ended_for status.Ok m h = sounding h.2.c refl (loaded_here (Ok h.2.c) (h.0, h.1, h.2.loaded))
-  ended_for status.TalkFault m h = absurd (calm.talk h.2.report.rose)
-  ended_for status.SinkFault m h = absurd (calm.wav h.2.rose)
-  ended_for status.OutOfMemory m h = absurd (m refl)
-  ended_for status.ShelfFault m h = missing_here h
-  ended_for status.Usage m h = absurd (no_asked (reading words) asked h.unread e)
-  ended_for (status.OrcRefused f) m h = refused_here (refused.Texts (why.Orc f)) h
-  ended_for (status.ScoreRefused f) m h = refused_here (refused.Texts (why.Score f)) h
-  ended_for (status.Limit l) m h = refused_here (refused.Texts (why.Limit l)) h
-  ended_for (status.CsdRefused f) m h = refused_here (refused.Csd f) h
+  ended_for : (s : Status) → s ≢ status.OutOfMemory → EndedBy see words before now s → Ended s
+  ended_for s m (by_sound c h is) =
+      sounding c (⊎_elim (λ ok. ok) (λ rose. absurd (⊎_elim calm.wav calm.talk rose)) is) (loaded see words before now asked e (Ok c) h)
+  ended_for s m (by_refusal r is h) = refusing r is (loaded see words before now asked e (Err r) h)
+  ended_for s m (by_name name is h) = missing_for s name is (unread see words before now asked e name h)
+  ended_for s m (by_words is none) = absurd (no_asked (reading words) asked none e)
+  ended_for s m (by_memory is) = absurd (m is)
 
 -- what one of two shelves lacks that tell alike the other lacks
 lack_there : (piece : Piece) (a b : Option (List NamedBytes)) (name : List ℕ) → TellAlike piece a b → LackWhereTold b piece name → LackWhereTold a piece name
@@ -215,5 +202,5 @@ module _ {F K T B F' K' T' B' : Type 0} (see : Sight F K T B) (see' : Sight F' K
       → IsRun see words s before now → IsRun see' others t before' now' → HadNoFault see before now → HadNoFault see' before' now'
       → s ≢ status.OutOfMemory → t ≢ status.OutOfMemory → s ≡ t
   end_alike m p none words others s t a b before now before' now' e h ask told run run' calm calm' room room' =
-      same_end m p none (see.shelf before.shelf) (see'.shelf before'.shelf) a told s t (ended_for see words a before now e calm s room run.ended)
-      (as_asked (see'.shelf before'.shelf) a b t ask (ended_for see' others b before' now' h calm' t room' run'.ended))
+      same_end m p none (see.shelf before.shelf) (see'.shelf before'.shelf) a told s t (ended_for see words a before now e calm s room (ended_by see words before now s run.ended))
+      (as_asked (see'.shelf before'.shelf) a b t ask (ended_for see' others b before' now' h calm' t room' (ended_by see' others before' now' t run'.ended)))

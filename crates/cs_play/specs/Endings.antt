@@ -1,5 +1,5 @@
 -- How a run of the program ends: for each status what has come about, and no more.
-use Rattle.std.specs.Prelude.{ℕ, ◌≡◌, ◌⊎◌, Bool, true, false, not, List, [], Some, None, Result, Ok, Err}
+use Rattle.std.specs.Prelude.{ℕ, ◌≡◌, ◌⊎◌, Bool, true, false, List, [], Result, Ok}
 use Rattle.cs_base.specs.declared.head.Head.{Head}
 use Rattle.cs_piece_meaning.specs.Moments.{Composition}
 use Rattle.cs_edge.specs.Moves.{WroteMore}
@@ -10,22 +10,16 @@ use Rattle.cs_perform.specs.declared.order.Output.{Output}
 use Rattle.cs_perform.specs.declared.order.Output.TheVariants.{SoundFile, Nothing}
 use Rattle.cs_perform.specs.declared.order.TurnLines.{TurnLines}
 use Rattle.cs_perform.specs.declared.order.TurnLines.TheVariants.{Told, Untold}
+use Rattle.cs_play.specs.Preparing.{IsUnprepared, Reads}
 use Rattle.cs_play.specs.Report.{report_of}
 use Rattle.cs_play.specs.Scene.{Scene, Sight}
-use Rattle.cs_report.specs.Status.{refusal}
 use Rattle.cs_report.specs.Talk.{Says, SaysPart, message_of}
 use Rattle.cs_report.specs.declared.status.Status.{Status}
 use Rattle.cs_report.specs.declared.status.Status.TheVariants as status
-use Rattle.cs_arguments.specs.Reading.{Asked, Text, reading}
-use Rattle.cs_source.specs.Loaded.{CannotRead, LeavesUnread, SourceMeans}
-use Rattle.cs_base.specs.declared.refusal.Refusal.TheVariants as why
+use Rattle.cs_arguments.specs.Reading.{Asked, Text}
+use Rattle.cs_source.specs.Loaded.{IsLoaded}
 use Rattle.cs_csd.specs.declared.refused.Refused.{Refused}
-use Rattle.cs_csd.specs.declared.refused.Refused.TheVariants as refused
 use Rattle.cs_typed.specs.TypedTree.{header_of_head}
-
--- the words ask for something of which P holds
-abbrev pub Reads : List Text → (Asked → Type 0) → Type 0
-Reads words P = (asked : Asked) × (reading words ≡ Some asked) × P asked
 
 -- the sound file is written, unless silence is asked for
 abbrev pub output_of : Bool → Output
@@ -51,11 +45,9 @@ module _ {F K T B : Type 0} (see : Sight F K T B) where
     pub taps : now.taps ≡ before.taps
     pub tally : now.tally ≡ before.tally
 
-  -- The source of the piece was read and means this: texts mean it which, where the shelf tells its files, are
-  -- theirs. What the shelf has left of them is what is over one byte more than a text may have.
-  pub record IsLoaded (asked : Asked) (before now : Scene F K T B) (r : Result Composition Refused) : Type 0 where
-    pub means : SourceMeans (see.shelf before.shelf) asked.width asked.piece r
-    pub rest : LeavesUnread (see.shelf before.shelf) (see.shelf now.shelf) asked.piece
+  -- the source of the piece was read and means this
+  abbrev pub HasLoaded : Asked → Scene F K T B → Scene F K T B → Result Composition Refused → Type 0
+  HasLoaded asked before now r = IsLoaded (see.shelf before.shelf) (see.shelf now.shelf) asked.width asked.piece r
 
   -- A composition was performed whole: each meter was told all its frames, the tally counts its cycles and their
   -- notes, and the sound file has its header and samples, or with `-n` had no call.
@@ -88,21 +80,21 @@ module _ {F K T B : Type 0} (see : Sight F K T B) where
   -- Ok: the source means a composition, which was performed whole, and talk has the report.
   pub record IsOk (asked : Asked) (before now : Scene F K T B) : Type 0 where
     pub c : Composition
-    pub loaded : IsLoaded asked before now (Ok c)
+    pub loaded : HasLoaded asked before now (Ok c)
     pub performed : WasPerformed asked c before now
     pub report : WroteMore (see.talk before.talk) (see.talk now.talk) (report_in asked c now)
 
   -- TalkFault: the same, but talk failed and has the front of the report.
   pub record IsTalkFault (asked : Asked) (before now : Scene F K T B) : Type 0 where
     pub c : Composition
-    pub loaded : IsLoaded asked before now (Ok c)
+    pub loaded : HasLoaded asked before now (Ok c)
     pub performed : WasPerformed asked c before now
     pub report : SaysPart (see.talk before.talk) (see.talk now.talk) (report_in asked c now)
 
   -- SinkFault: the source means a composition, of which some cycles were performed when the sound file failed.
   pub record IsSinkFault (asked : Asked) (before now : Scene F K T B) : Type 0 where
     pub c : Composition
-    pub loaded : IsLoaded asked before now (Ok c)
+    pub loaded : HasLoaded asked before now (Ok c)
     pub performed : WasPartlyPerformed asked c before now
     pub written : asked.silent ≡ false
     pub rose : Rose (see.wav before.wav).faults (see.wav now.wav).faults
@@ -111,7 +103,7 @@ module _ {F K T B : Type 0} (see : Sight F K T B) where
   -- Memory was refused while a composition was performed that the source means, between two cycles.
   pub record IsCutShort (asked : Asked) (before now : Scene F K T B) : Type 0 where
     pub c : Composition
-    pub loaded : IsLoaded asked before now (Ok c)
+    pub loaded : HasLoaded asked before now (Ok c)
     pub performed : WasPaused asked c before now
 
   -- OutOfMemory: nothing was performed, or some cycles of a composition.
@@ -119,34 +111,14 @@ module _ {F K T B : Type 0} (see : Sight F K T B) where
     pub performed : IsUntouched before now ⊎ Reads words (λ asked. IsCutShort asked before now)
     pub line : HasLine status.OutOfMemory [] before now
 
-  -- A refusal: the source means it, and nothing was performed.
-  pub record IsRefusal (r : Refused) (asked : Asked) (before now : Scene F K T B) : Type 0 where
-    pub loaded : IsLoaded asked before now (Err r)
+  -- Usage, ShelfFault and the refusals: there is no piece, and nothing was performed.
+  pub record IsUnplayed (s : Status) (words : List Text) (before now : Scene F K T B) : Type 0 where
+    pub unprepared : IsUnprepared see.shelf s words before.shelf now.shelf (see.talk before.talk) (see.talk now.talk)
     pub untouched : IsUntouched before now
-    pub line : HasLine (refusal r) [] before now
-
-  -- ShelfFault: a name of the source can't be read, the one begun last, and nothing was performed.
-  pub record IsShelfFault (asked : Asked) (before now : Scene F K T B) : Type 0 where
-    pub name : List ℕ
-    pub unread : CannotRead (see.shelf before.shelf) (see.shelf now.shelf) asked.piece name
-    pub untouched : IsUntouched before now
-    pub line : HasLine status.ShelfFault name before now
-
-  -- Usage: the words ask for nothing, and nothing was done.
-  pub record IsUsage (words : List Text) (before now : Scene F K T B) : Type 0 where
-    pub unread : reading words ≡ None
-    pub shelf : now.shelf ≡ before.shelf
-    pub untouched : IsUntouched before now
-    pub line : HasLine status.Usage [] before now
 
   abbrev pub EndsBy : Status → List Text → Scene F K T B → Scene F K T B → Type 0
   EndsBy status.Ok words before now = Reads words (λ asked. IsOk asked before now)
   EndsBy status.TalkFault words before now = Reads words (λ asked. IsTalkFault asked before now)
   EndsBy status.SinkFault words before now = Reads words (λ asked. IsSinkFault asked before now)
   EndsBy status.OutOfMemory words before now = IsStarved words before now
-  EndsBy status.ShelfFault words before now = Reads words (λ asked. IsShelfFault asked before now)
-  EndsBy status.Usage words before now = IsUsage words before now
-  EndsBy (status.OrcRefused f) words before now = Reads words (λ asked. IsRefusal (refused.Texts (why.Orc f)) asked before now)
-  EndsBy (status.ScoreRefused f) words before now = Reads words (λ asked. IsRefusal (refused.Texts (why.Score f)) asked before now)
-  EndsBy (status.Limit h) words before now = Reads words (λ asked. IsRefusal (refused.Texts (why.Limit h)) asked before now)
-  EndsBy (status.CsdRefused f) words before now = Reads words (λ asked. IsRefusal (refused.Csd f) asked before now)
+  EndsBy s words before now = IsUnplayed s words before now

@@ -1,15 +1,14 @@
 -- What a run of the program promises.
-use Rattle.std.specs.Prelude.{◌≡◌, ◌⊎◌, List}
-use Rattle.cs_play.specs.Endings.{EndsBy, Reads}
+use Rattle.std.specs.Prelude.{List}
+use Rattle.cs_play.specs.Endings.{EndsBy}
+use Rattle.cs_play.specs.Preparing.{IsReadFor}
 use Rattle.cs_play.specs.Scene.{Scene, Sight}
 use Rattle.cs_report.specs.declared.status.Status.{Status}
 use Rattle.cs_arguments.specs.Reading.{Text}
-use Rattle.cs_source.specs.Loaded.{WasRead}
 
 -- A run of the program over these words ended with this status.
 pub record IsRun {F K T B : Type 0} (see : Sight F K T B) (words : List Text) (s : Status) (before now : Scene F K T B) : Type 0 where
   -- What has come about by then.
   pub ended : EndsBy see s words before now
   -- The shelf had no call, or was read by the source that the words ask for, all of it or the front.
-  pub shelf : (now.shelf ≡ before.shelf)
-      ⊎ Reads words (λ asked. WasRead (see.shelf before.shelf) (see.shelf now.shelf) asked.piece)
+  pub shelf : IsReadFor see.shelf words before.shelf now.shelf

@@ -6,7 +6,7 @@ ghost use Rattle.cs_piece_meaning.specs.Moments.{Composition};
 ghost use Rattle.cs_edge.specs.Moves.{Held};
 ghost use Rattle.cs_edge.specs.Told.{Rose};
 ghost use Rattle.cs_play.specs.Alike.{AreTexts, AskAlike, HadNoFault, SoundAlike, TellAlike};
-ghost use Rattle.cs_play.specs.Endings.{Reads};
+ghost use Rattle.cs_play.specs.Preparing.{Reads};
 ghost use Rattle.cs_play.specs.Runs.{IsRun};
 ghost use Rattle.cs_play.specs.Scene.{Scene, sight};
 ghost use Rattle.cs_play.specs.Sounds.{HoldsSoundFront};

@@ -2,17 +2,20 @@
 //!
 //! The one contract: `csplay` ends as `IsRun` says (specs/Runs): each status by what has come about (`EndsBy`,
 //! specs/Endings), over what shelf, sound file, talk and meters tell before and after; and the shelf was read by the
-//! source that the words ask for, or not at all. What follows for every two runs and for every run are calls of
-//! `laws`: texts have one sound or one refusal (`IsSoundOf` of cs_source), the sound file holds it or a front of it,
-//! whatever the number of workers, and words, a lacking name, a refusal and a sound decide the status, want of memory
-//! aside.
+//! source that the words ask for, or not at all. What comes before the performance is `prepare`, which has no runtime:
+//! a piece (`IsPrepared`, specs/Preparing), or the status and the line of what keeps the run from it (`IsUnprepared`).
+//! What follows for every two runs and for every run are calls of `laws`: texts have one sound or one refusal
+//! (`IsSoundOf` of cs_source), the sound file holds it or a front of it, whatever the number of workers, and words, a
+//! lacking name, a refusal and a sound decide the status, want of memory aside.
 //!
 //! How many workers there are may be changed without anyone noticing; so may whatever `perform` leaves open.
 //!
-//! Modules in reading order: `top` (the whole run), `sounding` (a piece is performed and reported on), `laws`.
+//! Modules in reading order: `top` (the whole run), `preparing` (words and texts), `sounding` (a piece is performed and
+//! reported on), `laws`.
 #![tactic(auto)]
 
 mod laws;
+mod preparing;
 mod sounding;
 mod top;
 
@@ -21,4 +24,5 @@ pub use laws::{
     lacking_decides, refusals_decide, same_bytes, same_status, sound_files_hold_sounds,
     sounds_decide, texts_have_one_sound_or_refusal, words_decide,
 };
+pub use preparing::{Prepared, prepare};
 pub use top::csplay;

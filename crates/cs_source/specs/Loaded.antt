@@ -1,7 +1,8 @@
 -- What a shelf tells of a source that was read.
-use Rattle.std.specs.Prelude.{ℕ, ◌≡◌, ◌≤◌, ◌+◌, ◌⊎◌, Bool, true, false, List, [], ◌++◌, drop, if◌then◌else◌, Option, Some, None, Result, ⊤}
-use Rattle.cs_base.specs.Limits.{most_csd_bytes, most_orchestra_bytes, most_score_bytes}
+use Rattle.std.specs.Prelude.{ℕ, ◌≡◌, ◌≤◌, ◌+◌, ◌*◌, ◌⊎◌, Bool, true, false, List, [], ◌++◌, drop, if◌then◌else◌, Option, Some, None, Result, ⊤}
+use Rattle.cs_base.specs.Limits.{most_csd_bytes, most_orchestra_bytes, most_score_bytes, most_wav_bytes}
 use Rattle.cs_base.specs.declared.width.SampleWidth.{SampleWidth}
+use Rattle.cs_piece.specs.Setups.{SetupData}
 use Rattle.cs_piece_meaning.specs.Moments.{Composition}
 use Rattle.cs_edge.specs.Files.{ShelfTold, file_named}
 use Rattle.cs_edge.specs.Moves.{Grown, IsFrontOf, IsRun}
@@ -13,6 +14,7 @@ use Rattle.cs_arguments.specs.Reading.{Piece, two_files, one_file, demo}
 use Rattle.cs_source.specs.Meaning.{Mean}
 use Rattle.cs_source.specs.Texts.{Texts, both, csd, demo_notes, Fit, Have, HaveWhereTold, IsNameOf, LackWhereTold, is_too_long}
 use Rattle.cs_csd.specs.declared.refused.Refused.{Refused}
+use Rattle.cs_wav.specs.Wav.{size_of}
 
 -- Texts of a source mean this, and where the shelf tells its files it has them.
 pub record SourceMeans (before : ShelfTold) (width : SampleWidth) (piece : Piece) (r : Result Composition Refused)
@@ -21,6 +23,10 @@ pub record SourceMeans (before : ShelfTold) (width : SampleWidth) (piece : Piece
   pub fit : Fit piece texts
   pub have : HaveWhereTold before.files piece texts
   pub mean : Mean width texts r
+
+-- the samples of a piece, in this width, fit a sound file
+abbrev pub FitsFile : SampleWidth → SetupData → Type 0
+FitsFile width s = size_of width (s.plot.cycles * s.orchestra.head.ksmps) s.orchestra.head ≤ most_wav_bytes
 
 -- a text that is there, and is an orchestra that is too long
 abbrev pub is_there_too_long : Option (List ℕ) → Bool
@@ -71,6 +77,13 @@ IsLeftWhereTold (Some files) piece before now = (texts : Texts) × Have files pi
 -- No more of the texts was read, where the files are told.
 abbrev pub LeavesUnread : ShelfTold → ShelfTold → Piece → Type 0
 LeavesUnread before now piece = IsLeftWhereTold before.files piece before.left now.left
+
+-- The source of a piece was read and means this: texts mean it which, where the shelf tells its files, are theirs. What
+-- the shelf has left of them is what is over one byte more than a text may have.
+pub record IsLoaded (before now : ShelfTold) (width : SampleWidth) (piece : Piece) (r : Result Composition Refused)
+    : Type 0 where
+  pub means : SourceMeans before width piece r
+  pub rest : LeavesUnread before now piece
 
 -- the last begin is of this name, where the moves are told: after it come reads alone
 abbrev pub IsLastBegun : Option (List Move) → List ℕ → Type 0

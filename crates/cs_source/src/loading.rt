@@ -1,14 +1,12 @@
 // The piece of a source, read and compiled.
-ghost use Rattle.std.specs.Prelude.{◌≡◌, ◌≤◌, ◌*◌, Err, IfOk, Ok, OnOk};
-ghost use Rattle.cs_base.specs.Limits.{most_wav_bytes};
+ghost use Rattle.std.specs.Prelude.{◌≡◌, Err, IfOk, Ok};
 ghost use Rattle.cs_base.specs.declared.fault.Or.TheVariants as or;
 ghost use Rattle.cs_arguments.specs.Orders.{piece_in};
 ghost use Rattle.cs_piece.specs.Setups.{composition_of};
-ghost use Rattle.cs_source.specs.Loaded.{CannotRead, LeavesUnread, SourceMeans, WasRead};
+ghost use Rattle.cs_source.specs.Loaded.{CannotRead, FitsFile, IsLoaded, WasRead};
 ghost use Rattle.cs_source.specs.declared.loading.Stop.TheVariants as stop;
 ghost use Rattle.cs_csd.specs.declared.refused.Refused.{Refused};
 ghost use Rattle.cs_source.specs.inner.Read.{MeansAsRead};
-ghost use Rattle.cs_wav.specs.Wav.{size_of};
 
 use crate::meaning::compile_source;
 use crate::source::{SourceText, read_source};
@@ -30,27 +28,23 @@ pub enum Stop<'a> {
 }
 
 /// What the piece of a source needs to be performed, in samples of this width; or the first refusal of its texts, or
-/// the name that can't be read. Texts are read before any is refused, but the score isn't begun behind an orchestra
-/// of more than 1,048,576 bytes. The demo leaves the shelf as it was.
+/// the name that can't be read; or out of memory, which alone has no clause of its own. Texts are read before any is
+/// refused, but the score isn't begun behind an orchestra of more than 1,048,576 bytes. The demo leaves the shelf as it
+/// was.
 pub fn load<'a, F: Shelf>(
     alloc: Global,
     shelf: &mut F,
     source: &Source<'a>,
     width: SampleWidth,
 ) -> Result<Setup, Stop<'a>>
-    ensures piece { IfOk result (λ s. SourceMeans (F.tells shelf.old) width (piece_in source.now)
+    ensures piece { IfOk result (λ s. IsLoaded (F.tells shelf.old) (F.tells shelf.new) width (piece_in source.now)
         (Ok (composition_of s))) }
     // The samples of the piece fit a sound file.
-    ensures within { IfOk result (λ s. size_of width
-        (s.plot.cycles * s.orchestra.head.ksmps) s.orchestra.head ≤ most_wav_bytes) }
+    ensures within { IfOk result (λ s. FitsFile width s) }
     ensures refused { (r : Refused) → result ≡ Err (stop.Refused r)
-        → SourceMeans (F.tells shelf.old) width (piece_in source.now) (Err r) }
+        → IsLoaded (F.tells shelf.old) (F.tells shelf.new) width (piece_in source.now) (Err r) }
     ensures unread { (name : _) → result ≡ Err (stop.Unread name)
         → CannotRead (F.tells shelf.old) (F.tells shelf.new) (piece_in source.now) name.now }
-    // Out of memory alone has no clause.
-    ensures rest { OnOk result (LeavesUnread (F.tells shelf.old) (F.tells shelf.new) (piece_in source.now)) }
-    ensures rest_refused { (r : Refused) → result ≡ Err (stop.Refused r)
-        → LeavesUnread (F.tells shelf.old) (F.tells shelf.new) (piece_in source.now) }
     ensures shelf { WasRead (F.tells shelf.old) (F.tells shelf.new) (piece_in source.now) }
     ensures files { (F.tells shelf.new).files ≡ (F.tells shelf.old).files }
 {
@@ -64,8 +58,7 @@ pub fn load<'a, F: Shelf>(
 /// What the piece of texts that were read needs to be performed, or their first refusal.
 fn meant<'a>(alloc: Global, texts: &SourceText, width: SampleWidth) -> Result<Setup, Stop<'a>>
     ensures piece { IfOk result (λ s. MeansAsRead width texts.now (Ok (composition_of s))) }
-    ensures within { IfOk result (λ s. size_of width
-        (s.plot.cycles * s.orchestra.head.ksmps) s.orchestra.head ≤ most_wav_bytes) }
+    ensures within { IfOk result (λ s. FitsFile width s) }
     ensures refused { (r : Refused) → result ≡ Err (stop.Refused r) → MeansAsRead width texts.now (Err r) }
     ensures read { (name : _) → result ≡ Err (stop.Unread name) → ⊥ }
 {

@@ -1,12 +1,12 @@
 // What the texts of a source are compiled to.
-ghost use Rattle.std.specs.Prelude.{◌≡◌, ◌≤◌, ◌*◌, Err, IfOk, Ok, length, nat_lt};
-ghost use Rattle.cs_base.specs.Limits.{most_csd_bytes, most_wav_bytes};
+ghost use Rattle.std.specs.Prelude.{◌≡◌, Err, IfOk, Ok, length, nat_lt};
+ghost use Rattle.cs_base.specs.Limits.{most_csd_bytes};
 ghost use Rattle.cs_base.specs.declared.fault.Or.TheVariants as or;
 ghost use Rattle.cs_piece.specs.Setups.{composition_of};
+ghost use Rattle.cs_source.specs.Loaded.{FitsFile};
 ghost use Rattle.cs_source.specs.Meaning.{FileMeans, MeanAt, PartsMean};
 ghost use Rattle.cs_csd.specs.declared.refused.Refused.{Refused};
 ghost use Rattle.cs_source.specs.inner.Read.{MeansAsRead};
-ghost use Rattle.cs_wav.specs.Wav.{size_of};
 
 use crate::csd::{FirstLines, part_of, told_in};
 use crate::source::SourceText;
@@ -23,8 +23,7 @@ pub fn compile_source(
     width: SampleWidth,
 ) -> Result<Setup, Or<Refused>>
     ensures piece { IfOk result (λ s. MeansAsRead width source.now (Ok (composition_of s))) }
-    ensures within { IfOk result (λ s. size_of width
-        (s.plot.cycles * s.orchestra.head.ksmps) s.orchestra.head ≤ most_wav_bytes) }
+    ensures within { IfOk result (λ s. FitsFile width s) }
     ensures refused { (r : Refused) → result ≡ Err (or.Fault r) → MeansAsRead width source.now (Err r) }
 {
     match source {
@@ -45,8 +44,7 @@ pub fn compile_source(
 fn compile_file(alloc: Global, text: &[u8], width: SampleWidth) -> Result<Setup, Or<Refused>>
     ensures piece { IfOk result (λ s. FileMeans (nat_lt most_csd_bytes (length text.now)) width text.now
         (Ok (composition_of s))) }
-    ensures within { IfOk result (λ s. size_of width
-        (s.plot.cycles * s.orchestra.head.ksmps) s.orchestra.head ≤ most_wav_bytes) }
+    ensures within { IfOk result (λ s. FitsFile width s) }
     ensures refused { (r : Refused) → result ≡ Err (or.Fault r)
         → FileMeans (nat_lt most_csd_bytes (length text.now)) width text.now (Err r) }
 {
@@ -68,8 +66,7 @@ fn compile_parts(
     width: SampleWidth,
 ) -> Result<Setup, Or<Refused>>
     ensures piece { IfOk result (λ s. PartsMean width text.now (Ok parts) (Ok (composition_of s))) }
-    ensures within { IfOk result (λ s. size_of width
-        (s.plot.cycles * s.orchestra.head.ksmps) s.orchestra.head ≤ most_wav_bytes) }
+    ensures within { IfOk result (λ s. FitsFile width s) }
     ensures refused { (r : Refused) → result ≡ Err (or.Fault r) → PartsMean width text.now (Ok parts) (Err r) }
 {
     let first = FirstLines {
@@ -91,8 +88,7 @@ fn compile_at(
 ) -> Result<Setup, Or<Refused>>
     ensures piece { IfOk result (λ s. MeanAt width first.orc first.sco orchestra.now score.now
         (Ok (composition_of s))) }
-    ensures within { IfOk result (λ s. size_of width
-        (s.plot.cycles * s.orchestra.head.ksmps) s.orchestra.head ≤ most_wav_bytes) }
+    ensures within { IfOk result (λ s. FitsFile width s) }
     ensures refused { (r : Refused) → result ≡ Err (or.Fault r)
         → MeanAt width first.orc first.sco orchestra.now score.now (Err r) }
 {

@@ -1,9 +1,9 @@
-use Rattle.cs_play.proofs.Runs.{unasked_run}
+use Rattle.cs_command.specs.Words.{texts}
+use Rattle.cs_play.proofs.Runs.{prepared_run}
 use Rattle.cs_play.proofs.top.csplay.Goals as goal
 
-pub returns-in-Ok : goal.returns-in-Ok
-returns-in-Ok g c = c.follow.ensures _ c.in-Ok.ensures
-
-pub returns-in-Err : goal.returns-in-Err
-returns-in-Err g c =
-    unasked_run _ _ c.in-Err.unread _ c.status_of.result _ _ _ _ _ _ c.say_end.ensures.status c.status_of.ensures c.in-Err.ensures c.say_end.ensures.line
+pub returns : goal.returns
+returns g c =
+    prepared_run _ (texts c.args.words.now) c.prepare-prepared.result _ _ _ _ _ _ _ _ _ _ _ _ c.prepare-prepared.ensures.shelf
+    c.prepare-prepared.ensures.prepared c.prepare-prepared.ensures.talk c.prepare-prepared.ensures.unprepared
+    c.sound_prepared-status.ensures.sounded c.sound_prepared-status.ensures.stopped c.sound_prepared-status.ensures.untouched

@@ -1,0 +1,53 @@
+-- What the words and the source that they ask for come to before anything is performed: a piece, or why there is none.
+use Rattle.std.specs.Prelude.{ℕ, ◌≡◌, ◌⊎◌, List, Some, None, Ok, Err, ⊤}
+use Rattle.cs_base.specs.declared.refusal.Refusal.TheVariants as why
+use Rattle.cs_edge.specs.Files.{ShelfTold}
+use Rattle.cs_edge.specs.Moves.{SinkTold}
+use Rattle.cs_piece.specs.Setups.{composition_of}
+use Rattle.cs_csd.specs.declared.refused.Refused.{Refused}
+use Rattle.cs_csd.specs.declared.refused.Refused.TheVariants as refused
+use Rattle.cs_arguments.specs.Orders.{asked_in, piece_in}
+use Rattle.cs_arguments.specs.Reading.{Asked, Text, reading}
+use Rattle.cs_source.specs.Loaded.{CannotRead, IsLoaded, WasRead}
+use Rattle.cs_report.specs.Talk.{Says, message_of}
+use Rattle.cs_report.specs.declared.status.Status.{Status}
+use Rattle.cs_report.specs.declared.status.Status.TheVariants as status
+use Rattle.cs_play.specs.declared.preparing.Prepared.{Prepared}
+
+-- the words ask for something of which P holds
+abbrev pub Reads : List Text → (Asked → Type 0) → Type 0
+Reads words P = (asked : Asked) × (reading words ≡ Some asked) × P asked
+
+module _ {F : Type 0} (tells : F → ShelfTold) where
+  -- The shelf had no call, or was read by the source that the words ask for, all of it or the front.
+  abbrev pub IsReadFor : List Text → F → F → Type 0
+  IsReadFor words before now = (now ≡ before) ⊎ Reads words (λ asked. WasRead (tells before) (tells now) asked.piece)
+
+  -- A piece: the words ask for it, and its source means the composition of the setup.
+  pub record IsPrepared (words : List Text) (before now : F) (p : Prepared) : Type 0 where
+    pub asked : reading words ≡ Some (asked_in p.order)
+    pub loaded : IsLoaded (tells before) (tells now) p.order.width (piece_in p.order.source) (Ok (composition_of p.setup))
+
+  -- the source means this refusal
+  abbrev pub IsRefused : Refused → List Text → F → F → Type 0
+  IsRefused r words before now = Reads words (λ asked. IsLoaded (tells before) (tells now) asked.width asked.piece (Err r))
+
+  -- Why there is no piece, by the status that says so, and the name that can't be read where that is why: the words ask
+  -- for nothing, and the shelf had no call; the name can't be read, the one begun last; the source means a refusal.
+  -- Memory may be refused at any time.
+  abbrev pub HasNoPiece : Status → List ℕ → List Text → F → F → Type 0
+  HasNoPiece status.Usage name words before now = (reading words ≡ None) × (now ≡ before)
+  HasNoPiece status.ShelfFault name words before now =
+      Reads words (λ asked. CannotRead (tells before) (tells now) asked.piece name)
+  HasNoPiece (status.OrcRefused f) name words before now = IsRefused (refused.Texts (why.Orc f)) words before now
+  HasNoPiece (status.ScoreRefused f) name words before now = IsRefused (refused.Texts (why.Score f)) words before now
+  HasNoPiece (status.Limit h) name words before now = IsRefused (refused.Texts (why.Limit h)) words before now
+  HasNoPiece (status.CsdRefused f) name words before now = IsRefused (refused.Csd f) words before now
+  HasNoPiece status.OutOfMemory name words before now = ⊤
+  HasNoPiece _ name words before now = ⊥
+
+  -- There is no piece, and talk has the line of the status, or the front of it where its count rose.
+  pub record IsUnprepared (s : Status) (words : List Text) (before now : F) (talk_before talk_now : SinkTold) : Type 0 where
+    pub name : List ℕ
+    pub cause : HasNoPiece s name words before now
+    pub line : Says talk_before talk_now (message_of s name)

@@ -1,0 +1,94 @@
+// What comes before a performance: words and texts are read, and compiled or refused.
+ghost use Rattle.std.specs.Prelude.{◌≡◌, List, Ok, Some, IfErr, IfOk, OnOk};
+ghost use Rattle.cs_arguments.specs.Orders.{asked_in, piece_in};
+ghost use Rattle.cs_arguments.specs.Reading.{Text, reading};
+ghost use Rattle.cs_command.specs.Words.{texts};
+ghost use Rattle.cs_play.specs.Preparing.{IsPrepared, IsReadFor, IsUnprepared};
+ghost use Rattle.cs_play.specs.inner.Stopping.{HasStopped, unread_status};
+ghost use Rattle.cs_piece.specs.Setups.{composition_of};
+ghost use Rattle.cs_source.specs.Loaded.{FitsFile, IsLoaded, WasRead};
+
+use cs_arguments::Order;
+use cs_command::{Unread, read};
+use cs_edge::{Shelf, Sink};
+use cs_piece::Setup;
+use cs_report::{Status, say_end};
+use cs_source::{Stop, load};
+use std::alloc::Global;
+
+/// A piece that can be performed.
+#[derive(Drop)]
+pub struct Prepared<'w> {
+    /// What the words ask for.
+    pub order: Order<'w>,
+    /// What the piece needs to be performed.
+    pub setup: Setup,
+}
+
+/// All that comes before a performance: reads the words behind the program's name, takes the piece that they ask for
+/// from the shelf or makes the demo, and compiles it. Where there is no piece, says why on `talk`, and returns the
+/// status of it: Usage, ShelfFault, one of the four refusals or OutOfMemory (`IsUnprepared`). It has no runtime, so it
+/// waits for no worker.
+pub fn prepare<'w, F: Shelf, T: Sink>(
+    alloc: Global,
+    words: &'w [String],
+    shelf: &mut F,
+    talk: &mut T,
+) -> Result<Prepared<'w>, Status>
+    ensures prepared { IfOk result (IsPrepared F.tells (texts words.entry.now) shelf.old shelf.new) }
+    ensures within { IfOk result (λ p. FitsFile p.order.width p.setup) }
+    ensures unprepared { IfErr result (λ s. IsUnprepared F.tells s (texts words.entry.now) shelf.old shelf.new
+        (T.tells talk.old) (T.tells talk.new)) }
+    ensures talk { OnOk result (talk.new ≡ talk.old) }
+    ensures shelf { IsReadFor F.tells (texts words.entry.now) shelf.old shelf.new }
+{
+    let order = match read(alloc, words) {
+        Ok(order) => order,
+        Err(unread) => return Err(say_end(talk, status_of(unread), "")),
+    };
+    match load_for(alloc, &order, shelf, talk) {
+        Ok(setup) => Ok(Prepared { order, setup }),
+        Err(status) => Err(status),
+    }
+}
+
+fn status_of(unread: Unread) -> Status
+    ensures { result ≡ unread_status unread }
+{
+    match unread {
+        Unread::Usage => Status::Usage,
+        Unread::OutOfMemory => Status::OutOfMemory,
+    }
+}
+
+/// Loads the piece that the words ask for, or says why there is none.
+fn load_for<F: Shelf, T: Sink>(
+    alloc: Global,
+    order: &Order<'_>,
+    shelf: &mut F,
+    talk: &mut T,
+) -> Result<Setup, Status>
+    ensures loaded { IfOk result (λ s. IsLoaded (F.tells shelf.old) (F.tells shelf.new) order.now.width
+        (piece_in order.now.source) (Ok (composition_of s))) }
+    ensures within { IfOk result (λ s. FitsFile order.now.width s) }
+    ensures unprepared { (words : List Text) → reading words ≡ Some (asked_in order.now)
+        → IfErr result (λ s. IsUnprepared F.tells s words shelf.old shelf.new (T.tells talk.old) (T.tells talk.new)) }
+    ensures talk { OnOk result (talk.new ≡ talk.old) }
+    ensures shelf { WasRead (F.tells shelf.old) (F.tells shelf.new) (piece_in order.now.source) }
+{
+    match load(alloc, shelf, &order.source, order.width) {
+        Ok(setup) => Ok(setup),
+        Err(stop) => Err(say_stop(talk, stop)),
+    }
+}
+
+/// Says why there is no piece.
+fn say_stop<T: Sink>(talk: &mut T, stop: Stop<'_>) -> Status
+    ensures { HasStopped stop.entry result (T.tells talk.old) (T.tells talk.new) }
+{
+    match stop {
+        Stop::Unread(name) => say_end(talk, Status::ShelfFault, name),
+        Stop::Refused(refused) => say_end(talk, Status::of_refusal(refused), ""),
+        Stop::OutOfMemory => say_end(talk, Status::OutOfMemory, ""),
+    }
+}
