@@ -21,14 +21,27 @@ const LOOKS: u32 = 2_200;
 /// between them nobody has to be woken.
 const BRISK_LOOKS: u32 = 2_000;
 
-/// How often a helper that finds a task looks whether it still lies there before it takes it, some
-/// tens of microseconds together. A cycle that the caller has played by then is not shared at all:
+/// How often a helper that finds a task looks at least whether it still lies there before it takes it,
+/// some tens of microseconds together. A cycle that the caller has played by then is not shared at all:
 /// notes and cells that wander between processors would cost more than such a cycle takes.
 const HESITATION: u32 = 32_000;
+
+/// How often it looks for each note of the last cycle that it took part in, some 0.9 microseconds together:
+/// what sharing costs goes by the note.
+const LOOKS_A_NOTE: u32 = 800;
 
 /// How many tasks a helper takes at once after one that outlasted its hesitation. Then it hesitates
 /// again.
 const EAGER_TASKS: u32 = 32;
+
+/// How a helper goes about its next tasks.
+#[derive(Clone, Copy)]
+struct Pace {
+    /// How many of them it takes at once.
+    eager: u32,
+    /// How often it looks whether a task still lies there, where it isn't eager.
+    hesitation: u32,
+}
 
 /// Takes part in each cycle for which there is a task in the mailbox, until there will be none.
 pub(crate) fn help<J: Job + Drop, G: Gate, R: Wait>(
@@ -40,10 +53,13 @@ pub(crate) fn help<J: Job + Drop, G: Gate, R: Wait>(
 )
     requires { IsFree (arc_value mailbox) end }
 {
-    let mut eager = 0;
+    let mut pace = Pace {
+        eager: 0,
+        hesitation: HESITATION,
+    };
     for _ in rt.forever() {
         match await_word(rt, &mailbox, &parker) {
-            GIVEN => eager = serve(rt, gate, &mailbox, &mut end, eager),
+            GIVEN => pace = serve(rt, gate, &mailbox, &mut end, pace),
             OVER => return,
             _ => {}
         }
@@ -79,23 +95,23 @@ pub(crate) fn pause(look: u32, brisk: u32) {
 }
 
 /// One task, unless the caller has taken it back: the helper works at its seat, lets its share of
-/// the board go, gives the seat back, and leaves the group, in this order. `eager` is how many tasks
-/// it is still to take at once; so is the answer.
+/// the board go, gives the seat back, and leaves the group, in this order. Returns its pace for the next
+/// task.
 fn serve<J: Job + Drop, G: Gate, R: Wait>(
     rt: &R,
     gate: &G,
     mailbox: &Mailbox<J>,
     end: &mut HelperEnd<J>,
-    eager: u32,
-) -> u32
+    pace: Pace,
+) -> Pace
     requires { IsFree mailbox.now end.old }
     ensures { IsFree mailbox.now end.new }
 {
-    if eager == 0 {
-        hesitate(mailbox);
+    if pace.eager == 0 {
+        hesitate(mailbox, pace.hesitation);
     }
     let Some(task) = mailbox.take(end) else {
-        return 0;
+        return Pace { eager: 0, ..pace };
     };
     let Task {
         board,
@@ -104,15 +120,26 @@ fn serve<J: Job + Drop, G: Gate, R: Wait>(
         member,
     } = task;
     work(rt, &board, &mut seat, cycle, gate);
+    let next = pace.after(board.notes());
     drop(board);
     mailbox.give_back(end, seat);
     member.leave(mailbox, end);
-    eager.checked_sub(1).unwrap_or(EAGER_TASKS)
+    next
+}
+
+impl Pace {
+    /// The pace after a task of a cycle of so many notes.
+    fn after(self, notes: u32) -> Pace {
+        Pace {
+            eager: self.eager.checked_sub(1).unwrap_or(EAGER_TASKS),
+            hesitation: notes.saturating_mul(LOOKS_A_NOTE).max(HESITATION),
+        }
+    }
 }
 
 /// Lets the caller take a task back that it plays itself within a short while.
-fn hesitate<J: Job + Drop>(mailbox: &Mailbox<J>) {
-    for _ in 0..HESITATION {
+fn hesitate<J: Job + Drop>(mailbox: &Mailbox<J>, looks: u32) {
+    for _ in 0..looks {
         if mailbox.word() != GIVEN {
             return;
         }
