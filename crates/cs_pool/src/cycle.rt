@@ -118,8 +118,7 @@ impl<'e, J: Job + Send + Drop, R: Threads + Wait + Sync, G: Gate + Sync> Pool<'e
         (receipt, desk)
     }
 
-    /// How many helpers are to get a part in a cycle of this graph: as many as are of use, but one alone
-    /// after several misses in a row. Where it begins, the next cycle is for all.
+    /// How many helpers are to get a part in a cycle of this graph.
     fn wanted(&self, graph: &Graph) -> u32
         ensures { result ≡ 0
             → NeedsNoHelper (helpers self.now) graph.now.edges (length graph.now.levels) }
@@ -127,11 +126,7 @@ impl<'e, J: Job + Send + Drop, R: Threads + Wait + Sync, G: Gate + Sync> Pool<'e
         if self.lines.is_empty() {
             return 0;
         }
-        let useful = graph.useful_workers().saturating_sub(1);
-        if useful > 1 && self.sparing.is_wary() {
-            return 1;
-        }
-        useful
+        graph.useful_workers().saturating_sub(1)
     }
 
     /// The cycle on its board, by the caller and so many others, or as many as there are. It answers

@@ -5,10 +5,6 @@ ghost use Rattle.cs_pool.specs.Alone.{most_alone};
 /// The most cycles in a row that the caller plays alone before it offers one to the helpers again.
 const MOST_ALONE: u32 = 128;
 
-/// Where more cycles alone than so many would follow a miss, a cycle is offered to one helper only, since
-/// each helper that sleeps costs the caller a call of the system.
-const WARY: u32 = 16;
-
 /// How many of the next cycles the caller plays alone, and how many after the next one that it offers and
 /// that no helper begins. So short cycles neither wake helpers nor keep them looking, which would take the
 /// caller's processor time, and a short cycle among long ones costs one cycle alone.
@@ -28,11 +24,6 @@ impl Sparing {
             alone: 0,
             after_a_miss: 1,
         }
-    }
-
-    /// Whether several cycles in a row were offered in vain.
-    pub(crate) fn is_wary(&self) -> bool {
-        self.after_a_miss > WARY
     }
 
     /// The caller has played a cycle alone.
