@@ -1,6 +1,8 @@
 -- The laws of numbers, over whole numbers without bounds.
-use Rattle.std.proofs.Common.{◌≡◌, ℕ, zero, suc, ◌<◌, ℤ, pos, negsuc, neg_ℤ, ◌+ℤ◌, ◌-ℤ◌, ◌*ℤ◌, ◌≤ℤ◌, ◌<ℤ◌, Bool, true, false, arith, refl, subst, ◌≤◌, ◌&&◌, nat_le, if◌then◌else◌, List, Some, None}
-use Rattle.cs_base.specs.Decimals.{decimal_of, raw_of_decimal, is_numeral, whole_part, billionths_part, greatest_whole, after_point}
+use Rattle.std.proofs.Common.{◌≡◌, ℕ, zero, suc, ◌<◌, ℤ, pos, negsuc, neg_ℤ, ◌+ℤ◌, ◌-ℤ◌, ◌*ℤ◌, ◌≤ℤ◌, ◌<ℤ◌, Bool, true}
+use Rattle.std.proofs.Common.{false, arith, refl, subst, ◌≤◌, ◌&&◌, nat_le, if◌then◌else◌, List, Some, None}
+use Rattle.cs_base.specs.Decimals.{decimal_of, raw_of_decimal, is_numeral, whole_part, billionths_part, greatest_whole}
+use Rattle.cs_base.specs.Decimals.{after_point}
 use Rattle.cs_base.proofs.Digits.{billionths_below}
 use Rattle.std.specs.List.{list_all}
 use Rattle.std.specs.Char.{is_ascii_digit}
@@ -12,7 +14,8 @@ use Rattle.std.specs.Ordering.{int_eq, int_cmp, MatchOrdering}
 use Rattle.std.specs.Cmp.{int_ranks}
 use Rattle.std.specs.declared.cmp.Ordering.TheVariants.{Equal}
 use Rattle.std.proofs.lemmas.Int.{ints, clamps, by_lt_z}
-use Rattle.cs_base.specs.Numbers.{IsRaw, clamp, least, greatest, one, floor_div, quotient_by_zero, quotient_of, remainder_of, floor_of, int_of, frac_of}
+use Rattle.cs_base.specs.Numbers.{IsRaw, clamp, least, greatest, one, floor_div, quotient_by_zero, quotient_of}
+use Rattle.cs_base.specs.Numbers.{remainder_of, floor_of, int_of, frac_of}
 
 pub clamp_in_range : (z : ℤ) → IsRaw (clamp z)
 clamp_in_range z = (omega (arith, ints, clamps), omega (arith, ints, clamps))

@@ -1,5 +1,6 @@
 -- The first `*/` of a text.
-use Rattle.std.proofs.Common.{◌≡◌, ℕ, suc, ◌+◌, ◌<◌, ◌≤◌, true, false, not, List, [], ◌∷◌, length, drop, get_or, arith, ap, sym, ◌∙◌, refl, codes, nat_lt, if◌then◌else◌}
+use Rattle.std.proofs.Common.{◌≡◌, ℕ, suc, ◌+◌, ◌<◌, ◌≤◌, true, false, not, List, [], ◌∷◌, length, drop, get_or, arith}
+use Rattle.std.proofs.Common.{ap, sym, ◌∙◌, refl, codes, nat_lt, if◌then◌else◌}
 use Rattle.std.specs.List.{list_any}
 use Rattle.std.proofs.lemmas.List.{drop_more, length-append, length-drop}
 use Rattle.std.proofs.lemmas.Bool.Decides.{nat_tests}
@@ -13,7 +14,8 @@ close_later b rest h = rw h refl
 pub close_at_once : (b : ℕ) (rest : List ℕ) → closes (b ∷ rest) ≡ true → close_of (b ∷ rest) ≡ 0
 close_at_once b rest h = rw h refl
 
-any_later : (b : ℕ) (rest : List ℕ) → closes (b ∷ rest) ≡ false → list_any closes (tails (b ∷ rest)) ≡ list_any closes (tails rest)
+any_later : (b : ℕ) (rest : List ℕ) → closes (b ∷ rest) ≡ false
+    → list_any closes (tails (b ∷ rest)) ≡ list_any closes (tails rest)
 any_later b rest h = rw h refl
 
 any_at_once : (b : ℕ) (rest : List ℕ) → closes (b ∷ rest) ≡ true → list_any closes (tails (b ∷ rest)) ≡ true
@@ -35,8 +37,10 @@ one_on k n = grind (arith, nat_tests)
 pub close_is_there : (text : List ℕ) → nat_lt (close_of text) (length text) ≡ list_any closes (tails text)
 close_is_there [] = refl
 close_is_there (b ∷ rest) = by_test (closes (b ∷ rest))
-    (λ h. ap (λ n. nat_lt n (length (b ∷ rest))) (close_at_once b rest h) ∙ first_in (length rest) ∙ sym (any_at_once b rest h))
-    (λ h. ap (λ n. nat_lt n (length (b ∷ rest))) (close_later b rest h) ∙ one_on (close_of rest) (length rest) ∙ close_is_there rest ∙ sym (any_later b rest h))
+    (λ h. ap (λ n. nat_lt n (length (b ∷ rest))) (close_at_once b rest h) ∙ first_in (length rest)
+    ∙ sym (any_at_once b rest h))
+    (λ h. ap (λ n. nat_lt n (length (b ∷ rest))) (close_later b rest h) ∙ one_on (close_of rest) (length rest)
+    ∙ close_is_there rest ∙ sym (any_later b rest h))
 
 two_bytes : (text : List ℕ) → closes text ≡ true → 2 ≤ length text
 two_bytes text h =
@@ -51,21 +55,25 @@ close_fits (b ∷ rest) l = by_test (closes (b ∷ rest))
     (λ h. let is = close_later b rest h in let more = close_fits rest (omega (arith, is)) in omega (arith, is, more))
 
 -- one byte on
-pub close_next : (text : List ℕ) (at : ℕ) → at < length text → closes (drop at text) ≡ false → close_of (drop at text) ≡ 1 + close_of (drop (at + 1) text)
+pub close_next : (text : List ℕ) (at : ℕ) → at < length text → closes (drop at text) ≡ false
+    → close_of (drop at text) ≡ 1 + close_of (drop (at + 1) text)
 close_next text at l h =
     let split = drop_more text at 0 l in
     ap close_of split ∙ close_later (get_or text at 0) (drop (at + 1) text) (sym (ap closes split) ∙ h)
 
-pub close_here : (text : List ℕ) (at : ℕ) → at < length text → closes (drop at text) ≡ true → close_of (drop at text) ≡ 0
+pub close_here : (text : List ℕ) (at : ℕ) → at < length text → closes (drop at text) ≡ true
+    → close_of (drop at text) ≡ 0
 close_here text at l h =
     let split = drop_more text at 0 l in
     ap close_of split ∙ close_at_once (get_or text at 0) (drop (at + 1) text) (sym (ap closes split) ∙ h)
 
 there : (text : List ℕ) → close_of text < length text → list_any closes (tails text) ≡ true
-there text l = let e : nat_lt (close_of text) (length text) ≡ true = grind (arith, nat_tests, l) in sym (close_is_there text) ∙ e
+there text l = let e : nat_lt (close_of text) (length text) ≡ true =
+    grind (arith, nat_tests, l) in sym (close_is_there text) ∙ e
 
 not_there : (text : List ℕ) → length text ≤ close_of text → list_any closes (tails text) ≡ false
-not_there text l = let e : nat_lt (close_of text) (length text) ≡ false = grind (arith, nat_tests, l) in sym (close_is_there text) ∙ e
+not_there text l = let e : nat_lt (close_of text) (length text) ≡ false =
+    grind (arith, nat_tests, l) in sym (close_is_there text) ∙ e
 
 -- a comment that begins with `/*`, closed or not
 abbrev pub block_len_of : List ℕ → ℕ

@@ -1,5 +1,6 @@
 -- The value of digits, read from the left.
-use Rattle.std.proofs.Common.{◌≡◌, ℕ, ◌+◌, ◌-◌, ◌*◌, ◌^◌, ◌<◌, ◌≤◌, min, Bool, true, List, [], ◌∷◌, length, take, get_or, arith, inl, inr, ap, sym, ◌∙◌, lit<}
+use Rattle.std.proofs.Common.{◌≡◌, ℕ, ◌+◌, ◌-◌, ◌*◌, ◌^◌, ◌<◌, ◌≤◌, min, Bool, true, List, [], ◌∷◌, length, take}
+use Rattle.std.proofs.Common.{get_or, arith, inl, inr, ap, sym, ◌∙◌, lit<}
 use Rattle.std.specs.List.{list_all}
 use Rattle.std.specs.Char.{is_ascii_digit, digit_value}
 use Rattle.std.specs.Str.Parse.{digits_value, AllDigits}
@@ -25,13 +26,17 @@ all_digits (d ∷ ds) h =
     (digit_value_small d both.0, all_digits ds both.1)
 
 pub list_all-take : (n : ℕ) (p : ℕ → Bool) (xs : List ℕ) → list_all p xs ≡ true → list_all p (take n xs) ≡ true
-list_all-take n p xs h = list_all-from_AllPass p (take n xs) (All-take (λ x. p x ≡ true) n xs (AllPass-from_list_all p xs h))
+list_all-take n p xs h =
+    list_all-from_AllPass p (take n xs) (All-take (λ x. p x ≡ true) n xs (AllPass-from_list_all p xs h))
 
 -- one digit more, in arithmetic that stops at m
 capped : (m v d : ℕ) → min (min (min v m * 10) m + d) m ≡ min (v * 10 + d) m
 capped m v d = omega arith
 
-pub one_digit_more : (ds : List ℕ) (i v : ℕ) → list_all is_ascii_digit ds ≡ true → i < length ds → v ≡ min (digits_value 10 (take i ds)) 4294967295 → min (min (v * 10) 4294967295 + (get_or ds i 0 - 48)) 4294967295 ≡ min (digits_value 10 (take (i + 1) ds)) 4294967295
+pub one_digit_more : (ds : List ℕ) (i v : ℕ) → list_all is_ascii_digit ds ≡ true → i < length ds
+    → v ≡ min (digits_value 10 (take i ds)) 4294967295
+    → min (min (v * 10) 4294967295 + (get_or ds i 0 - 48)) 4294967295 ≡ min (digits_value 10 (take (i + 1) ds))
+    4294967295
 one_digit_more ds i v h l e =
     let d : is_ascii_digit (get_or ds i 0) ≡ true = AllPass-from_list_all is_ascii_digit ds h i 0 l in
     let more = digits_value_more 10 ds i l in
@@ -41,30 +46,38 @@ one_digit_more ds i v h l e =
 
 pub first_nine : (ds : List ℕ) → take (min (length ds) 9) ds ≡ take 9 ds
 first_nine ds = elim (leb_tells (length ds) 9) [
-  | inl h ↦ ap (λ k. take k ds) (let e : min (length ds) 9 ≡ length ds = omega arith in e) ∙ take_all (length ds) ds (omega arith) ∙ sym (take_all 9 ds h.1)
+  | inl h ↦ ap (λ k. take k ds) (let e : min (length ds) 9 ≡ length ds = omega arith in e)
+      ∙ take_all (length ds) ds (omega arith) ∙ sym (take_all 9 ds h.1)
   | inr h ↦ ap (λ k. take k ds) (let e : min (length ds) 9 ≡ 9 = omega arith in e)
 ]
 
-pub below_ten_to : (n : ℕ) (ds : List ℕ) → list_all is_ascii_digit ds ≡ true → n ≤ length ds → digits_value 10 (take n ds) < 10 ^ n
+pub below_ten_to : (n : ℕ) (ds : List ℕ) → list_all is_ascii_digit ds ≡ true → n ≤ length ds
+    → digits_value 10 (take n ds) < 10 ^ n
 below_ten_to n ds h l =
-    rw (length-take-le n ds l) at (digits_value-lt 10 (take n ds) (all_digits (take n ds) (list_all-take n is_ascii_digit ds h)))
+    rw (length-take-le n ds l) at
+    (digits_value-lt 10 (take n ds) (all_digits (take n ds) (list_all-take n is_ascii_digit ds h)))
 
 -- n digits of nine: their value, moved to the place of the ninth
 pub scaled : (v n : ℕ) → n ≤ 9 → v < 10 ^ n → v * 10 ^ (9 - n) < 10 ^ 9
 scaled v n l h =
-    let whole : 10 ^ n * 10 ^ (9 - n) ≡ 10 ^ 9 = sym (pow-add 10 n (9 - n)) ∙ ap (λ k. 10 ^ k) (let e : n + (9 - n) ≡ 9 = omega arith in e) in
+    let whole : 10 ^ n * 10 ^ (9 - n) ≡ 10 ^ 9 =
+    sym (pow-add 10 n (9 - n)) ∙ ap (λ k. 10 ^ k) (let e : n + (9 - n) ≡ 9 = omega arith in e) in
     rw whole at (mul-lt-mul_of_pos_right h (one-le-pow (9 - n) 10 (omega arith)))
 
-uncapped : (ds : List ℕ) (n v : ℕ) → list_all is_ascii_digit ds ≡ true → n ≡ min (length ds) 9 → v ≡ min (digits_value 10 (take n ds)) 4294967295 → (v ≡ digits_value 10 (take n ds)) × (v < 10 ^ n)
+uncapped : (ds : List ℕ) (n v : ℕ) → list_all is_ascii_digit ds ≡ true → n ≡ min (length ds) 9
+    → v ≡ min (digits_value 10 (take n ds)) 4294967295 → (v ≡ digits_value 10 (take n ds)) × (v < 10 ^ n)
 uncapped ds n v h en ev =
     let below = below_ten_to n ds h (omega arith) in
     let most : 10 ^ n ≤ 10 ^ 9 = pow-le-pow_right {n = 10} (lit< tt) (let e : n ≤ 9 = omega arith in e) in
     (omega arith, omega arith)
 
-pub billionths_fit : (ds : List ℕ) (n v p : ℕ) → list_all is_ascii_digit ds ≡ true → n ≡ min (length ds) 9 → v ≡ min (digits_value 10 (take n ds)) 4294967295 → p ≡ 10 ^ (9 - n) → v * p < 10 ^ 9
+pub billionths_fit : (ds : List ℕ) (n v p : ℕ) → list_all is_ascii_digit ds ≡ true → n ≡ min (length ds) 9
+    → v ≡ min (digits_value 10 (take n ds)) 4294967295 → p ≡ 10 ^ (9 - n) → v * p < 10 ^ 9
 billionths_fit ds n v p h en ev ep = rw ep (scaled v n (omega arith) (uncapped ds n v h en ev).1)
 
-pub billionths_are : (ds : List ℕ) (n v p : ℕ) → list_all is_ascii_digit ds ≡ true → n ≡ min (length ds) 9 → v ≡ min (digits_value 10 (take n ds)) 4294967295 → p ≡ 10 ^ (9 - n) → v * p ≡ digits_value 10 (take 9 ds) * 10 ^ (9 - length ds)
+pub billionths_are : (ds : List ℕ) (n v p : ℕ) → list_all is_ascii_digit ds ≡ true → n ≡ min (length ds) 9
+    → v ≡ min (digits_value 10 (take n ds)) 4294967295 → p ≡ 10 ^ (9 - n)
+    → v * p ≡ digits_value 10 (take 9 ds) * 10 ^ (9 - length ds)
 billionths_are ds n v p h en ev ep =
     let exact = (uncapped ds n v h en ev).0 in
     let same : take n ds ≡ take 9 ds = ap (λ k. take k ds) en ∙ first_nine ds in
@@ -72,10 +85,12 @@ billionths_are ds n v p h en ev ep =
     let value : v ≡ digits_value 10 (take 9 ds) = exact ∙ ap (digits_value 10) same in
     rw (value, place)
 
-pub billionths_below : (ds : List ℕ) → list_all is_ascii_digit ds ≡ true → digits_value 10 (take 9 ds) * 10 ^ (9 - length ds) < 10 ^ 9
+pub billionths_below : (ds : List ℕ) → list_all is_ascii_digit ds ≡ true
+    → digits_value 10 (take 9 ds) * 10 ^ (9 - length ds) < 10 ^ 9
 billionths_below ds h =
     let n = min (length ds) 9 in
     let below = below_ten_to n ds h (omega arith) in
     let value : digits_value 10 (take n ds) ≡ digits_value 10 (take 9 ds) = ap (digits_value 10) (first_nine ds) in
-    let place : 10 ^ (9 - n) ≡ 10 ^ (9 - length ds) = ap (λ k. 10 ^ k) (let e : 9 - min (length ds) 9 ≡ 9 - length ds = omega arith in e) in
+    let place : 10 ^ (9 - n) ≡ 10 ^ (9 - length ds) =
+    ap (λ k. 10 ^ k) (let e : 9 - min (length ds) 9 ≡ 9 - length ds = omega arith in e) in
     rw (value, place) at (scaled (digits_value 10 (take n ds)) n (omega arith) below)

@@ -1,5 +1,6 @@
 -- The order of rates, and equality of rates and resources.
-use Rattle.std.proofs.Common.{◌≡◌, ℕ, zero, suc, ◌+◌, ◌<◌, ◌≤◌, max, ◌⊎◌, inl, inr, Bool, true, false, ◌&&◌, ◌==◌, List, [], ◌∷◌, ◌++◌, length, take, get_or, nat_le, if◌then◌else◌, arith, ap, sym, ◌∙◌, refl}
+use Rattle.std.proofs.Common.{◌≡◌, ℕ, zero, suc, ◌+◌, ◌<◌, ◌≤◌, max, ◌⊎◌, inl, inr, Bool, true, false, ◌&&◌, ◌==◌, List}
+use Rattle.std.proofs.Common.{[], ◌∷◌, ◌++◌, length, take, get_or, nat_le, if◌then◌else◌, arith, ap, sym, ◌∙◌, refl}
 use Rattle.std.specs.List.{list_all}
 use Rattle.std.proofs.lemmas.Bool.{and_parts}
 use Rattle.std.proofs.lemmas.Bool.Decides.{nat_tests}
@@ -59,7 +60,8 @@ res_at-of (res.Table n) = refl
 
 -- a resource is known by its kind and its number
 pub kind_and_number : (r s : Res) → res_kind r ≡ res_kind s → res_number r ≡ res_number s → r ≡ s
-kind_and_number r s k n = sym (res_at-of r) ∙ ap (λ x. res_at x (res_number r)) k ∙ ap (res_at (res_kind s)) n ∙ res_at-of s
+kind_and_number r s k n =
+    sym (res_at-of r) ∙ ap (λ x. res_at x (res_number r)) k ∙ ap (res_at (res_kind s)) n ∙ res_at-of s
 
 pub same_res_is : (r s : Res) → same_res r s ≡ true → r ≡ s
 same_res_is r s h =
@@ -136,7 +138,8 @@ fastest_within [] rate.Init = refl
 fastest_within [] rate.Control = refl
 fastest_within [] rate.Audio = refl
 fastest_within (r ∷ rs) s =
-    ap (λ n. nat_le n (how_often s)) (faster_as_often r (fastest rs)) ∙ max_below (how_often r) (how_often (fastest rs)) (how_often s)
+    ap (λ n. nat_le n (how_often s)) (faster_as_often r (fastest rs))
+    ∙ max_below (how_often r) (how_often (fastest rs)) (how_often s)
     ∙ ap (λ b. within r s && b) (fastest_within rs s)
 
 pub fastest_above : (rs : List Rate) → list_all (λ r. within r (fastest rs)) rs ≡ true
@@ -147,9 +150,11 @@ fastest_least rs s h = fastest_within rs s ∙ h
 
 -- one rate more at the end
 pub fastest_more : (rs : List Rate) (r : Rate) → fastest (rs ++ r ∷ []) ≡ faster (fastest rs) r
-fastest_more rs r = as_often (fastest (rs ++ r ∷ [])) (faster (fastest rs) r) (often rs r ∙ sym (faster_as_often (fastest rs) r))
+fastest_more rs r = as_often (fastest (rs ++ r ∷ [])) (faster (fastest rs) r)
+    (often rs r ∙ sym (faster_as_often (fastest rs) r))
   where
-    often : (rs : List Rate) (r : Rate) → how_often (fastest (rs ++ r ∷ [])) ≡ max (how_often (fastest rs)) (how_often r)
+    often : (rs : List Rate) (r : Rate)
+        → how_often (fastest (rs ++ r ∷ [])) ≡ max (how_often (fastest rs)) (how_often r)
     often [] r = faster_as_often r rate.Init ∙ (omega arith)
     often (q ∷ rs) r =
         let here = faster_as_often q (fastest (rs ++ r ∷ [])) in
@@ -157,6 +162,8 @@ fastest_more rs r = as_often (fastest (rs ++ r ∷ [])) (faster (fastest rs) r) 
         let more = often rs r in
         omega (arith, here, there, more)
 
-pub fastest_step : (rs : List Rate) (i : ℕ) (f f' d : Rate) → i < length rs → f ≡ fastest (take i rs) → f' ≡ faster f (get_or rs i d) → f' ≡ fastest (take (i + 1) rs)
+pub fastest_step : (rs : List Rate) (i : ℕ) (f f' d : Rate) → i < length rs → f ≡ fastest (take i rs)
+    → f' ≡ faster f (get_or rs i d) → f' ≡ fastest (take (i + 1) rs)
 fastest_step rs i f f' d l e g =
-    g ∙ ap (λ x. faster x (get_or rs i d)) e ∙ sym (fastest_more (take i rs) (get_or rs i d)) ∙ ap fastest (sym (take_more rs i d l))
+    g ∙ ap (λ x. faster x (get_or rs i d)) e ∙ sym (fastest_more (take i rs) (get_or rs i d))
+    ∙ ap fastest (sym (take_more rs i d l))

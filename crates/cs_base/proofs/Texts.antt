@@ -1,12 +1,14 @@
 -- Line feeds and fronts of texts.
-use Rattle.std.proofs.Common.{◌≡◌, ℕ, ◌+◌, ◌-◌, ◌≤◌, Bool, true, List, ◌++◌, length, take, drop, count_by, nat_eq, arith, ap, sym, ◌∙◌, refl, if◌then◌else◌}
+use Rattle.std.proofs.Common.{◌≡◌, ℕ, ◌+◌, ◌-◌, ◌≤◌, Bool, true, List, ◌++◌, length, take, drop, count_by, nat_eq}
+use Rattle.std.proofs.Common.{arith, ap, sym, ◌∙◌, refl, if◌then◌else◌}
 use Rattle.std.proofs.lemmas.Bool.Decides.{Decides-eqb}
 use Rattle.std.proofs.lemmas.Slice.Eq.{starts_is}
 use Rattle.std.proofs.lemmas.List.{drop-take, take-append-drop, take-take}
 use Rattle.std.proofs.lemmas.List.Sums.{sum_by-append}
 use Rattle.cs_base.specs.Lines.{begins_with, is_feed, line_after}
 
-pub count_by-append : {A : Type 0} (p : A → Bool) (xs ys : List A) → count_by p (xs ++ ys) ≡ count_by p xs + count_by p ys
+pub count_by-append : {A : Type 0} (p : A → Bool) (xs ys : List A)
+    → count_by p (xs ++ ys) ≡ count_by p xs + count_by p ys
 count_by-append p xs ys = sum_by-append (λ x. if p x then 1 else 0) xs ys
 
 -- a text that begins with a front is that front and the rest
@@ -17,9 +19,10 @@ pub front_tests : (front text after : List ℕ) → text ≡ front ++ after → 
 front_tests front text after e = (starts_is {E = nat_eq} Decides-eqb text front (begins_with front text) refl).1 after e
 
 -- the line of a later place: that of an earlier one, and the line feeds between
-pub line_number : (text : List ℕ) (from to line feeds : ℕ) → from ≤ to → line ≡ line_after (take from text)
-    → feeds ≡ count_by is_feed (take (to - from) (drop from text)) → line + feeds ≡ line_after (take to text)
-line_number text from to line feeds l e f =
+pub line_number : (first : ℕ) (text : List ℕ) (from to line feeds : ℕ) → from ≤ to
+    → line ≡ line_after first (take from text) → feeds ≡ count_by is_feed (take (to - from) (drop from text))
+    → line + feeds ≡ line_after first (take to text)
+line_number first text from to line feeds l e f =
     let whole : from + (to - from) ≡ to = omega arith in
     let front : take from (take to text) ≡ take from text = take-take from to text l in
     let back : drop from (take to text) ≡ take (to - from) (drop from text) =
@@ -29,3 +32,7 @@ line_number text from to line feeds l e f =
     let a = ap (count_by is_feed) front in
     let b = ap (count_by is_feed) back in
     omega (arith, split, a, b, e, f)
+
+pub line_behind : (first : ℕ) (before text : List ℕ)
+    → line_after (line_after first before) text ≡ line_after first (before ++ text)
+line_behind first before text = omega (arith, count_by-append is_feed before text)

@@ -1,4 +1,6 @@
-use Rattle.std.specs.Prelude.{ℕ, ℤ, pos, List, Bool, length, take, ◌+◌, ◌-◌, ◌*◌, ◌/◌, ◌^◌, ◌==◌, ◌&&◌, nat_le, nat_lt, Option, Some, None, if◌then◌else◌}
+-- Decimals as a text writes them: their form, their parts, and the number that each is.
+use Rattle.std.specs.Prelude.{ℕ, ℤ, pos, List, Bool, length, take, ◌+◌, ◌-◌, ◌*◌, ◌/◌, ◌^◌, ◌==◌, ◌&&◌, nat_le, nat_lt}
+use Rattle.std.specs.Prelude.{Option, Some, None, if◌then◌else◌}
 use Rattle.std.specs.List.{before_first, after_first, list_all}
 use Rattle.std.specs.Char.{is_ascii_digit}
 use Rattle.std.specs.Str.{byte}

@@ -1,5 +1,7 @@
--- The bytes of all texts that no token and no field has: blanks and line feeds; how a text begins, and its lines.
-use Rattle.std.specs.Prelude.{ℕ, Bool, false, List, [], ◌∷◌, ◌+◌, ◌||◌, ◌==◌, not, nat_eq, count_by, length, min, if◌then◌else◌}
+-- The bytes of all texts that no token and no field has: blanks and line feeds; how a text begins, and its lines. Lines
+-- are those of a file and count from 1, whichever part of the file a text is.
+use Rattle.std.specs.Prelude.{ℕ, Bool, false, List, [], ◌∷◌, ◌+◌, ◌||◌, ◌==◌, not, nat_eq, count_by, length, min}
+use Rattle.std.specs.Prelude.{if◌then◌else◌}
 use Rattle.std.specs.List.{prefix_len, starts_with}
 
 abbrev pub space : ℕ
@@ -34,9 +36,21 @@ begins p (b ∷ rest) = p b
 abbrev pub begins_with : List ℕ → List ℕ → Bool
 begins_with front text = starts_with nat_eq text front
 
--- the line of what stands after a text: one more than its line feeds
-abbrev pub line_after : List ℕ → ℕ
-line_after before = count_by is_feed before + 1
+-- a text in a file, and the line of the file on which it begins
+pub record Excerpt : Type 0 where
+  pub first_line : ℕ
+  pub bytes : List ℕ
+
+abbrev pub excerpt : ℕ → List ℕ → Excerpt
+excerpt first bytes = record { first_line = first; bytes = bytes }
+
+-- a text that is a file of its own
+abbrev pub whole_file : List ℕ → Excerpt
+whole_file bytes = excerpt 1 bytes
+
+-- the line of what stands after a text that begins on a line: as many lines later as the text has line feeds
+abbrev pub line_after : ℕ → List ℕ → ℕ
+line_after first before = count_by is_feed before + first
 
 -- a line: its number, the place of its first byte, and its bytes without the line feed
 pub record Line : Type 0 where
@@ -59,9 +73,9 @@ lines_from number at (b ∷ rest) =
     if is_feed b then line number at [] ∷ lines_from (number + 1) (at + 1) rest
     else with_byte number at b (lines_from number (at + 1) rest)
 
--- the lines of a text
-abbrev pub lines_of : List ℕ → List Line
-lines_of text = lines_from 1 0 text
+-- the lines of a text that begins on this line
+abbrev pub lines_of : ℕ → List ℕ → List Line
+lines_of first text = lines_from first 0 text
 
 -- how many bytes a text's first line has, with its line feed
 abbrev pub next_len : List ℕ → ℕ

@@ -1,4 +1,6 @@
-use Rattle.std.specs.Prelude.{ℤ, List, [], ◌∷◌, pos, negsuc, ◌≤ℤ◌, ◌+ℤ◌, ◌-ℤ◌, ◌*ℤ◌, neg_ℤ, suc, if◌then◌else◌, unsigned_abs}
+-- The numbers of the profile, whole 65,536ths, and each operation as a formula over whole numbers without bounds.
+use Rattle.std.specs.Prelude.{ℤ, List, [], ◌∷◌, pos, negsuc, ◌≤ℤ◌, ◌+ℤ◌, ◌-ℤ◌, ◌*ℤ◌, neg_ℤ, suc, if◌then◌else◌}
+use Rattle.std.specs.Prelude.{unsigned_abs}
 use Rattle.std.specs.Int.{int_max, int_min, int_div_euclid, is_positive, is_negative}
 use Rattle.std.specs.Ordering.{int_eq}
 

@@ -1,7 +1,8 @@
 // Comments, as both languages have them.
 ghost use Rattle.std.specs.Prelude.{◌≡◌, ◌≤◌, ◌<◌, ◌+◌, length, drop, true, not, if◌then◌else◌};
 ghost use Rattle.std.specs.List.{list_any};
-ghost use Rattle.cs_base.specs.Comments.{tails, closes, close_of, begins_line_comment, begins_block_comment, begins_comment, is_open_comment, comment_len};
+ghost use Rattle.cs_base.specs.Comments.{tails, closes, close_of, begins_line_comment, begins_block_comment};
+ghost use Rattle.cs_base.specs.Comments.{begins_comment, is_open_comment, comment_len};
 
 use crate::lines::line_len;
 

@@ -1,10 +1,11 @@
 // Decimals as a text writes them: digits with a point among or beside them, and no sign.
-ghost use Rattle.std.specs.Prelude.{◌≡◌, ◌*◌, ◌^◌, ◌-◌, min, take, length, true, if◌then◌else◌, Some, None, ◌≤◌};
+ghost use Rattle.std.specs.Prelude.{◌≡◌, ◌*◌, ◌^◌, ◌-◌, min, take, length, true, Some, None};
 ghost use Rattle.std.specs.List.{list_all, position};
 ghost use Rattle.std.specs.Char.{is_ascii_digit};
 ghost use Rattle.std.specs.Str.Parse.{digits_value};
 ghost use Rattle.cs_base.specs.Numbers.{clamp};
-ghost use Rattle.cs_base.specs.Decimals.{is_point, before_point, after_point, decimal_of, raw_of_decimal, millionths_of};
+ghost use Rattle.cs_base.specs.Decimals.{is_point, before_point, after_point, decimal_of, raw_of_decimal};
+ghost use Rattle.cs_base.specs.Decimals.{millionths_of};
 
 use crate::{Num, ONE};
 

@@ -1,13 +1,18 @@
-// What holds of the arithmetic for all numbers, said once: calls that do nothing, whose contracts are the laws.
-ghost use Rattle.std.specs.Prelude.{◌≡◌, ◌↔◌, ◌⊎◌, true, ℤ, pos, neg_ℤ, ◌+ℤ◌, ◌-ℤ◌, ◌*ℤ◌, ◌≤ℤ◌, ◌<ℤ◌, ℕ, List, Some, None, codes};
-ghost use Rattle.std.specs.List.{list_all};
+// What holds of the definitions for all numbers and texts, said once: calls that do nothing, whose contracts are the
+// laws.
+ghost use Rattle.std.specs.Prelude.{◌≡◌, ◌↔◌, ◌⊎◌, true, ℤ, pos, neg_ℤ, ◌+ℤ◌, ◌*ℤ◌, ◌≤ℤ◌, ◌<ℤ◌, ℕ, List, Some};
+ghost use Rattle.std.specs.Prelude.{None, codes};
+ghost use Rattle.std.specs.Prelude.{◌++◌, take};
+ghost use Rattle.std.specs.List.{All, list_all};
 ghost use Rattle.std.specs.Cmp.{IsTotalOrder};
 ghost use Rattle.std.specs.Ordering.{int_cmp};
 ghost use Rattle.std.specs.declared.cmp.Ordering.TheVariants.{Equal};
 ghost use Rattle.cs_base.specs.declared.decimal.Decimal.{Decimal};
-ghost use Rattle.cs_base.specs.Numbers.{IsRaw, clamp, least, one, floor_div, sum_of, difference_of, product_of, quotient_of, remainder_of, floor_of, int_of, frac_of, abs_of};
+ghost use Rattle.cs_base.specs.Numbers.{IsRaw, clamp, least, one, floor_div, sum_of, difference_of, product_of};
+ghost use Rattle.cs_base.specs.Numbers.{quotient_of, remainder_of, floor_of, int_of, frac_of, abs_of};
 ghost use Rattle.cs_base.specs.Decimals.{decimal_of, raw_of_decimal};
 ghost use Rattle.cs_base.specs.Comments.{comment_len, is_open_comment};
+ghost use Rattle.cs_base.specs.Lines.{line_after, lines_of};
 ghost use Rattle.cs_base.specs.Rates.{same_rate, same_res, within, faster, fastest};
 ghost use Rattle.cs_base.specs.declared.resource.Rate.{Rate};
 ghost use Rattle.cs_base.specs.declared.resource.Res.{Res};
@@ -72,6 +77,15 @@ pub fn rates_are_ordered()
 pub fn sameness_is_equality()
     ensures rate { (r s : Rate) → (same_rate r s ≡ true) ↔ (r ≡ s) }
     ensures resource { (r s : Res) → (same_res r s ≡ true) ↔ (r ≡ s) }
+{}
+
+/// Each line of a text has the number of the line on which its first byte stands, and places behind a text stand on
+/// the lines on which they stand in the whole.
+pub fn lines_are_those_of_the_file()
+    ensures numbers { (first : ℕ) (text : List ℕ)
+        → All (λ l. l.number ≡ line_after first (take l.at text)) (lines_of first text) }
+    ensures behind { (first : ℕ) (before text : List ℕ)
+        → line_after (line_after first before) text ≡ line_after first (before ++ text) }
 {}
 
 /// The examples of docs/MEANING.md and docs/LANGUAGE.md, computed by the definitions: a number n is `n *ℤ one`.

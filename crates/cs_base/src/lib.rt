@@ -6,13 +6,15 @@
 //! specs/ may not.
 //!
 //! To be read in this order: `number` (arithmetic), `laws` (what holds of the definitions, and worked examples),
-//! `decimal` (numbers as a text writes them), `lines` and `comments` (what both languages have between their words),
-//! `fault`, `limit` and `refusal` (what a text is refused for), `head`, `resource` (rates, and what notes share),
-//! `per_rate`, `spaces`, `width` (the width of a sample), `items` (the one list type), `text`, `steps`.
+//! `decimal` (numbers as a text writes them), `excerpt` (a text in a file), `lines` and `comments` (what both languages
+//! have between their words), `fault`, `limit` and `refusal` (what a text is refused for), `head`, `resource` (rates,
+//! and what notes share), `per_rate`, `spaces`, `width` (the width of a sample), `items` (the one list type), `text`,
+//! `steps`.
 #![tactic(auto)]
 
 mod comments;
 mod decimal;
+mod excerpt;
 mod fault;
 mod head;
 mod items;
@@ -30,12 +32,13 @@ mod width;
 
 pub use comments::{begins_comment, comment_len, is_open_comment};
 pub use decimal::{Decimal, read_decimal};
+pub use excerpt::Excerpt;
 pub use fault::{Or, OrcFault, OrcKind, OutOfMemory, ScoreFault, ScoreKind};
 pub use head::Head;
 pub use items::{Bytes, Items, Name, Names, Numbers, Nums, Places, Rates};
 pub use laws::{
-    division_rounds_down, order_is_total, parts_of_a_number, rates_are_ordered, results_in_range,
-    sameness_is_equality, worked_examples,
+    division_rounds_down, lines_are_those_of_the_file, order_is_total, parts_of_a_number,
+    rates_are_ordered, results_in_range, sameness_is_equality, worked_examples,
 };
 pub use limit::{
     GREATEST_FIELD, GREATEST_INSTRUMENT, GREATEST_KSMPS, GREATEST_SR, GREATEST_TABLE,

@@ -1,6 +1,7 @@
 // Rates, and the resources that notes share.
 ghost use Rattle.std.specs.Prelude.{◌≡◌};
-ghost use Rattle.cs_base.specs.Rates.{how_often, is_init, is_control, is_audio, same_rate, within, faster, fastest, res_kind, res_number, res_rate, same_res};
+ghost use Rattle.cs_base.specs.Rates.{how_often, is_init, is_control, is_audio, same_rate, within, faster, fastest};
+ghost use Rattle.cs_base.specs.Rates.{res_kind, res_number, res_rate, same_res};
 
 /// How often a value changes: once a note, once a control cycle, or once a frame.
 #[derive(Clone, Copy, Debug, PartialEq, Eq)]

@@ -1,1 +1,2 @@
+pub mod PartLines
 pub mod Readings

@@ -9,7 +9,7 @@ use Rattle.cs_csd.specs.declared.line.Section.TheVariants as section
 
 -- the number of a text's last line; an empty text has one line
 abbrev pub last_line : List ℕ → ℕ
-last_line text = max 1 (length (lines_of text))
+last_line text = max 1 (length (lines_of 1 text))
 
 -- a line's bytes from the first on that is no blank
 abbrev pub after_blanks : List ℕ → List ℕ

@@ -1,5 +1,6 @@
 -- How a file is read: what its sections are, or its first fault. Each file has exactly one reading.
-use Rattle.std.specs.Prelude.{◌≡◌, ℕ, Bool, true, false, List, [], ◌∷◌, ◌+◌, ◌++◌, length, Some, None, unwrap_or, Result, Ok, Err}
+use Rattle.std.specs.Prelude.{◌≡◌, ℕ, Bool, true, false, List, [], ◌∷◌, ◌+◌, ◌++◌, length, Some, None, unwrap_or}
+use Rattle.std.specs.Prelude.{take, Result, Ok, Err}
 use Rattle.std.specs.List.{All}
 use Rattle.std.specs.Option.{is_some}
 use Rattle.cs_csd.specs.declared.line.LineMark.TheVariants as mark
@@ -11,7 +12,7 @@ use Rattle.cs_csd.specs.declared.part.CsdKind.TheVariants as kind
 use Rattle.cs_csd.specs.declared.part.Part.{Part}
 use Rattle.cs_csd.specs.declared.part.Parts.{Parts}
 use Rattle.cs_csd.specs.declared.scan.SectionsFound.{SectionsFound}
-use Rattle.cs_base.specs.Lines.{Line, lines_of}
+use Rattle.cs_base.specs.Lines.{Line, line_after, lines_of}
 use Rattle.cs_csd.specs.Lines.{last_line, mark_of, closes, is_start}
 
 abbrev pub fault : CsdKind → ℕ → CsdFault
@@ -21,6 +22,10 @@ fault k line = record { line = line; kind = k }
 abbrev pub part_between : Line → Line → Part
 part_between opener closer =
     record { from = opener.at + length opener.bytes + 1; to = closer.at; line = opener.number + 1 }
+
+-- the line of a part is that on which the part begins in the file
+abbrev pub BeginsOnItsLine : List ℕ → Part → Type 0
+BeginsOnItsLine text p = p.line ≡ line_after 1 (take p.from text)
 
 -- a score that isn't there
 abbrev pub no_text : Part
@@ -69,8 +74,8 @@ pub data Between (last : ℕ) : SectionsFound → List Line → Result Parts Csd
 -- What a file comes to: whatever stands before its first tag doesn't count.
 pub data Reading (text : List ℕ) : Result Parts CsdFault → Type 0 where
   begun : (before : List Line) (start : Line) (rest : List Line) (r : Result Parts CsdFault)
-      → lines_of text ≡ before ++ start ∷ rest → All (λ l. is_start l.bytes ≡ false) before
+      → lines_of 1 text ≡ before ++ start ∷ rest → All (λ l. is_start l.bytes ≡ false) before
       → is_start start.bytes ≡ true
       → Between (last_line text) nothing_found rest r → Reading text r
-  never : All (λ l. is_start l.bytes ≡ false) (lines_of text)
+  never : All (λ l. is_start l.bytes ≡ false) (lines_of 1 text)
       → Reading text (Err (fault kind.MissingTag (last_line text)))

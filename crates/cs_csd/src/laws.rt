@@ -1,6 +1,6 @@
 // What holds of every file, and worked examples: calls that do nothing, whose contracts are the laws.
 ghost use Rattle.std.specs.Prelude.{◌≡◌, ℕ, List, Result, Ok, Err, codes, ◌++◌};
-ghost use Rattle.cs_csd.specs.Sections.{Reading, fault};
+ghost use Rattle.cs_csd.specs.Sections.{BeginsOnItsLine, Reading, fault};
 ghost use Rattle.cs_csd.specs.declared.part.CsdFault.{CsdFault};
 ghost use Rattle.cs_csd.specs.declared.part.CsdKind.TheVariants as kind;
 ghost use Rattle.cs_csd.specs.declared.part.Parts.{Parts};
@@ -9,6 +9,12 @@ ghost use Rattle.cs_csd.specs.declared.part.Parts.{Parts};
 pub fn one_reading()
     ensures some { (text : List ℕ) → (r : Result Parts CsdFault) × Reading text r }
     ensures one { (text : List ℕ) (r s : Result Parts CsdFault) → Reading text r → Reading text s → r ≡ s }
+{}
+
+/// The parts of a file begin on the lines that they name.
+pub fn parts_begin_on_their_lines()
+    ensures { (text : List ℕ) (p : Parts) → Reading text (Ok p)
+        → BeginsOnItsLine text p.orc × BeginsOnItsLine text p.sco }
 {}
 
 /// Files of docs/LANGUAGE.md, read by hand: what stands before and after the two outer tags doesn't count, and places

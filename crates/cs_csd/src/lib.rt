@@ -1,8 +1,9 @@
 //! One file with an orchestra and a score, as Csound's `.csd` files have them: where each text stands.
 //!
 //! Its one contract: `split_csd` returns the parts of a file as specs/Sections.antt reads it, or the first fault of
-//! its tags with its line; each file has exactly one reading (`one_reading`). It can't be out of memory. How it goes
-//! along the lines (`scan`, specs/inner) may be changed without anyone above noticing.
+//! its tags with its line; each file has exactly one reading (`one_reading`), and parts begin on the lines that they
+//! name (`parts_begin_on_their_lines`). It can't be out of memory. How it goes along the lines (`scan`, specs/inner)
+//! may be changed without anyone above noticing.
 //!
 //! To be read in this order: `part` (what comes out), `line` (what a line says), `scan` (line after line), `split`,
 //! `laws`; `refused` (why the texts of a piece are refused, with the line in the file).
@@ -15,7 +16,7 @@ mod refused;
 mod scan;
 mod split;
 
-pub use laws::{files_worked_by_hand, one_reading};
+pub use laws::{files_worked_by_hand, one_reading, parts_begin_on_their_lines};
 pub use part::{CsdFault, CsdKind, Part, Parts};
 pub use refused::Refused;
 pub use split::split_csd;

@@ -9,11 +9,11 @@ use Rattle.std.proofs.lemmas.List.Elements.{All-nil, All-cons, All-append, All-h
 use Rattle.cs_lex.specs.declared.token.Mark.{Mark}
 use Rattle.cs_lex.specs.declared.token.Mark.TheVariants as mark
 use Rattle.cs_lex.specs.declared.token.Token.{Token}
-use Rattle.cs_lex.specs.Lexed.{Piece, text_of, AllFit, token_at, token_of, tokens_after, is_newline, merged, end_of}
+use Rattle.cs_lex.specs.Lexed.{TextPiece, text_of, AllFit, token_at, token_of, tokens_after, is_newline, merged, end_of}
 use Rattle.cs_lex.specs.Lexed.{Lexed, Precedes, IsEndedBy}
 use Rattle.cs_lex.specs.Bytes.{is_letter, is_word_byte}
 use Rattle.cs_lex.specs.Rows.{Fits}
-use Rattle.cs_base.specs.Lines.{begins}
+use Rattle.cs_base.specs.Lines.{Excerpt, begins}
 use Rattle.std.specs.Str.{byte}
 use Rattle.std.specs.Prelude.{slice_range}
 use Rattle.std.specs.List.{list_all}
@@ -61,25 +61,27 @@ span_there before span rest =
     ap (take (length before + length span - length before)) (behind before (span ++ rest))
     ∙ ap (λ k. take k (span ++ rest)) n ∙ front span rest
 
-of_piece : (source before : List ℕ) (m : Option Mark) (span rest : List ℕ) → source ≡ before ++ (span ++ rest)
+of_piece : (first : ℕ) (source before : List ℕ) (m : Option Mark) (span rest : List ℕ)
+    → source ≡ before ++ (span ++ rest)
     → Fits m span rest
-    → All (NoStops source) (token_of m before span)
-of_piece source before None span rest i f = All-nil (NoStops source)
-of_piece source before (Some m) span rest i f =
-    All-cons (NoStops source) (token_at m before span) []
+    → All (NoStops source) (token_of first m before span)
+of_piece first source before None span rest i f = All-nil (NoStops source)
+of_piece first source before (Some m) span rest i f =
+    All-cons (NoStops source) (token_at first m before span) []
     (λ e. subst HasNoStop (sym
     (ap (λ x. slice_range x (length before) (length before + length span)) i ∙ span_there before span rest))
     (word_stopless span rest (subst (λ x. Fits (Some x) span rest) e f))) (All-nil (NoStops source))
 
-of_pieces : (source before : List ℕ) (ps : List Piece) → source ≡ before ++ (text_of ps ++ []) → AllFit ps []
-    → All (NoStops source) (tokens_after before ps)
-of_pieces source before [] i f = All-nil (NoStops source)
-of_pieces source before (p ∷ ps) i f =
+of_pieces : (first : ℕ) (source before : List ℕ) (ps : List TextPiece) → source ≡ before ++ (text_of ps ++ [])
+    → AllFit ps []
+    → All (NoStops source) (tokens_after first before ps)
+of_pieces first source before [] i f = All-nil (NoStops source)
+of_pieces first source before (p ∷ ps) i f =
     let whole : source ≡ before ++ (p.span ++ (text_of ps ++ [])) =
     i ∙ ap (λ x. before ++ x) (append_assoc p.span (text_of ps) []) in
-    All-append (NoStops source) (token_of p.mark before p.span) (tokens_after (before ++ p.span) ps)
-    (of_piece source before p.mark p.span (text_of ps ++ []) whole f.0)
-    (of_pieces source (before ++ p.span) ps (whole ∙ sym (append_assoc before p.span (text_of ps ++ []))) f.1)
+    All-append (NoStops source) (token_of first p.mark before p.span) (tokens_after first (before ++ p.span) ps)
+    (of_piece first source before p.mark p.span (text_of ps ++ []) whole f.0)
+    (of_pieces first source (before ++ p.span) ps (whole ∙ sym (append_assoc before p.span (text_of ps ++ []))) f.1)
 
 of_merged : (source : List ℕ) (fed : Bool) (ts : List Token) → All (NoStops source) ts
     → All (NoStops source) (merged fed ts)
@@ -93,20 +95,22 @@ of_merged source fed (t ∷ ts) h =
     by true us h k = k
     by false us h k = All-cons (NoStops source) t us h k
 
-words_have_no_stop : (source : List ℕ) (ts : List Token) → Lexed source ts → All (NoStops source) ts
-words_have_no_stop source ts (ps, cut, is) =
+words_have_no_stop : (text : Excerpt) (ts : List Token) → Lexed text ts → All (NoStops text.bytes) ts
+words_have_no_stop text ts (ps, cut, is) =
+    let source = text.bytes in
+    let tokens = tokens_after text.first_line [] ps in
     subst (All (NoStops source)) (sym is)
-    (All-append (NoStops source) (merged true (tokens_after [] ps)) (end_of source ∷ [])
-    (of_merged source true (tokens_after [] ps) (of_pieces source [] ps cut.whole cut.fit))
-    (All-cons (NoStops source) (end_of source) [] (λ e. cc) (All-nil (NoStops source))))
+    (All-append (NoStops source) (merged true tokens) (end_of text ∷ [])
+    (of_merged source true tokens (of_pieces text.first_line source [] ps cut.whole cut.fit))
+    (All-cons (NoStops source) (end_of text) [] (λ e. cc) (All-nil (NoStops source))))
 
 -- ---- the laws
 
-pub tree_is_well_formed : (source : List ℕ) (tokens : List Token) (o : Orchestra) → Lexed source tokens
-    → Tree source tokens o → IsWellFormed o
-tree_is_well_formed source tokens o l (rest, h) =
+pub tree_is_well_formed : (text : Excerpt) (tokens : List Token) (o : Orchestra) → Lexed text tokens
+    → Tree text.bytes tokens o → IsWellFormed o
+tree_is_well_formed text tokens o l (rest, h) =
     let f = fine_orc Words words_after words_next Words (λ ts q e. words_after ts q) (λ ts q e. q) (λ ts q. q) h
-    (words_from source 0 tokens (words_have_no_stop source tokens l)) in
+    (words_from text.bytes 0 tokens (words_have_no_stop text tokens l)) in
     record {
       outside = f.outside_all;
       instruments = f.instruments;
@@ -226,14 +230,14 @@ from_zero : (ts : List Symbol) → From 0 ts
 from_zero [] = tt
 from_zero (t ∷ ts) = ((λ e. omega arith), from_zero ts)
 
-pub tree_in_order : (source : List ℕ) (tokens front : List Token) (e : Token) (o : Orchestra) → AllPairs Precedes tokens
+pub tree_in_order : (text : Excerpt) (tokens front : List Token) (e : Token) (o : Orchestra) → AllPairs Precedes tokens
     → AllPairs IsEndedBy tokens
-    → tokens ≡ front ++ e ∷ [] → All (λ t. t.mark ≢ mark.End) front → Lexed source tokens → Tree source tokens o
-    → InOrder o
-tree_in_order source tokens front e o p q i h l (rest, k) =
+    → tokens ≡ front ++ e ∷ [] → All (λ t. t.mark ≢ mark.End) front → Lexed text tokens
+    → Tree text.bytes tokens o → InOrder o
+tree_in_order text tokens front e o p q i h l (rest, k) =
     in_order k (
-      words_from source 0 tokens (words_have_no_stop source tokens l),
-      sorted_from source 0 tokens p q (ends_last front tokens e i h),
+      words_from text.bytes 0 tokens (words_have_no_stop text tokens l),
+      sorted_from text.bytes 0 tokens p q (ends_last front tokens e i h),
       from_zero
-          (symbols source tokens),
+          (symbols text.bytes tokens),
     )

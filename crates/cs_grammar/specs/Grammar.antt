@@ -1,3 +1,5 @@
+-- The grammar, by its cases. Each relation is between what is left of a text and the reading of it: the tree and what
+-- is then left, or the first fault. Each rule is one case; a fault ends the reading of every part that would follow.
 use Rattle.std.specs.Prelude.{ℕ, Bool, true, false, List, [], ◌∷◌, ◌≡◌, ◌||◌, nat_lt, if◌then◌else◌, Some, None, Ok}
 use Rattle.std.specs.Prelude.{Err}
 use Rattle.cs_base.specs.declared.fault.OrcFault.{OrcFault}
@@ -26,9 +28,6 @@ use Rattle.cs_grammar.specs.Reading.{deeper, fault, misfit, through, ended}
 use Rattle.cs_grammar.specs.Kinds.{is, ends_line}
 use Rattle.cs_grammar.specs.Parts.{tighter, repeats, operator, part_form, atom}
 use Rattle.cs_grammar.specs.Lines.{line_form, target, ReadsTargets, operation}
-
--- The grammar, by its cases. Each relation is between what is left of a text and the reading of it: the tree and what
--- is then left, or the first fault. Each rule is one case; a fault ends the reading of every part that would follow.
 
 -- An expression of a level: `expr`, `and`, `cmp`, `sum`, `term` by their operators, and `fact` by how it begins.
 mutual

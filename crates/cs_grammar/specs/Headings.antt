@@ -1,3 +1,4 @@
+-- The line of `opcode`.
 use Rattle.std.specs.Prelude.{ℕ, ℤ, pos, Bool, false, List, [], ◌&&◌, ◌==◌, not, map, Ok, Err, if◌then◌else◌}
 use Rattle.std.specs.List.{list_all}
 use Rattle.cs_base.specs.declared.fault.OrcKind.{OrcKind}

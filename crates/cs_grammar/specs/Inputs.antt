@@ -1,3 +1,4 @@
+-- The line of `xin`.
 use Rattle.std.specs.Prelude.{ℕ, Bool, true, false, List, [], ◌∷◌, ◌≡◌, ◌≢◌, ◌&&◌, not, map, Ok, Err}
 use Rattle.std.specs.List.{All, AllPairs}
 use Rattle.cs_base.specs.declared.fault.OrcKind.TheVariants as orc

@@ -1,3 +1,4 @@
+-- What a symbol is: the tests on kinds that the rules of the grammar ask for.
 use Rattle.std.specs.Prelude.{Bool, true, false}
 use Rattle.cs_words.specs.declared.word.Keyword.TheVariants as key
 use Rattle.cs_words.specs.declared.word.Word.TheVariants as word

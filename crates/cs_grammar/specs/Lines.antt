@@ -1,3 +1,4 @@
+-- What a line is by the words that it begins with, and the parts of lines that aren't expressions.
 use Rattle.std.specs.Prelude.{ℕ, ℤ, pos, Bool, true, false, List, [], ◌∷◌, ◌++◌, ◌≡◌, ◌/◌, ◌%◌, ◌&&◌, ◌==◌, not, codes}
 use Rattle.std.specs.Prelude.{Option, Some, None, Ok, Err}
 use Rattle.std.specs.Prelude.{if◌then◌else◌, nat_le, nat_lt}

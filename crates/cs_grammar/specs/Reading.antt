@@ -1,3 +1,4 @@
+-- What a reading is: a value and the symbols that are left, or a fault; and where a line stands.
 use Rattle.std.specs.Prelude.{ℕ, Bool, false, List, [], ◌∷◌, ◌+◌, ◌==◌, Result, Ok, Err, if◌then◌else◌, nat_lt}
 use Rattle.std.specs.List.{list_any}
 use Rattle.cs_base.specs.declared.fault.OrcFault.{OrcFault}

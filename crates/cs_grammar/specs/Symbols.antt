@@ -1,3 +1,4 @@
+-- The tokens of a text as the grammar sees them.
 use Rattle.std.specs.Prelude.{ℕ, List, [], ◌∷◌, ◌+◌, ◌-◌, if◌then◌else◌, nat_le, slice_range, length}
 use Rattle.cs_base.specs.Limits.{most_line_tokens}
 use Rattle.cs_lex.specs.declared.token.Mark.{Mark}

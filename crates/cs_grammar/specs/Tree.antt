@@ -1,3 +1,4 @@
+-- The tree of an orchestra as definitions see it: the same shapes, without boxes' addresses and vectors' capacities.
 use Rattle.std.specs.Prelude.{ℕ, ℤ, List, [], ◌∷◌, map}
 use Rattle.cs_base.specs.declared.resource.Rate.{Rate}
 use Rattle.cs_words.specs.declared.word.HeadName.{HeadName}
@@ -18,7 +19,6 @@ use Rattle.cs_grammar.specs.declared.tree.Instr.{Instr}
 use Rattle.cs_grammar.specs.declared.tree.Udo.{Udo}
 use Rattle.cs_grammar.specs.declared.tree.Orc.{Orc}
 
--- The tree as the definitions see it: the same shapes, without boxes' addresses and vectors' capacities.
 pub data Expression : Type 0 where
   number : ℤ → Expression
   var : List ℕ → Expression

@@ -1,3 +1,4 @@
+-- What holds of every tree of a text: ranges, names, places of calls, and the order of lines.
 use Rattle.std.specs.Prelude.{ℕ, true, false, List, [], ◌∷◌, ◌++◌, ◌≡◌, ◌≢◌, ◌≤◌, ◌<◌, ◌+◌, length, map}
 use Rattle.std.specs.Str.{byte}
 use Rattle.std.specs.List.{All, AllPairs}

@@ -10,7 +10,8 @@ ghost use Rattle.cs_grammar.specs.Symbols.{Symbol};
 ghost use Rattle.cs_grammar.specs.declared.symbol.Expected.TheVariants as expected;
 ghost use Rattle.cs_grammar.specs.declared.symbol.Kind.TheVariants as kind;
 ghost use Rattle.cs_grammar.specs.Reading.{next, after, next_is};
-ghost use Rattle.cs_grammar.specs.Parts.{tighter, rank, is_at, repeats, operator_of, part_form, part_form_of, no_part, one_symbol, atom};
+ghost use Rattle.cs_grammar.specs.Parts.{tighter, rank, is_at, repeats, operator_of, part_form, part_form_of, no_part};
+ghost use Rattle.cs_grammar.specs.Parts.{one_symbol, atom};
 ghost use Rattle.cs_grammar.specs.inner.Answers.{Gives, IsClosed};
 ghost use Rattle.cs_grammar.specs.Grammar.{ReadsExpr, ReadsTail};
 

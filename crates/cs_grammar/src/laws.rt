@@ -1,5 +1,6 @@
 // What holds of the grammar, for every list of tokens: a call that does nothing, whose contract is the laws.
 ghost use Rattle.std.specs.Prelude.{◌≡◌, ◌⊎◌, ℕ, List};
+ghost use Rattle.cs_base.specs.Lines.{Excerpt};
 ghost use Rattle.cs_base.specs.declared.fault.OrcKind.{OrcKind};
 ghost use Rattle.cs_lex.specs.declared.token.Token.{Token};
 ghost use Rattle.cs_lex.specs.Lexed.{Lexed};
@@ -12,7 +13,8 @@ use cs_lex::tokens_stand_in_the_text;
 /// The tokens of every text have either one tree or one first fault.
 pub fn one_reading()
     ensures some { (source : List ℕ) (tokens : List Token)
-        → ((orc : Orchestra) × Tree source tokens orc) ⊎ ((line : ℕ) × (kind : OrcKind) × ParseFault source tokens line kind) }
+        → ((orc : Orchestra) × Tree source tokens orc)
+        ⊎ ((line : ℕ) × (kind : OrcKind) × ParseFault source tokens line kind) }
     ensures one_tree { (source : List ℕ) (tokens : List Token) (o p : Orchestra)
         → Tree source tokens o → Tree source tokens p → o ≡ p }
     ensures one_fault { (source : List ℕ) (tokens : List Token) (l m : ℕ) (j k : OrcKind)
@@ -25,10 +27,10 @@ pub fn one_reading()
 /// not be, an `if` stands inside at most 99 others, and no instrument's number and no opcode's name is given twice.
 /// The lines of its parts ascend in the order of the text.
 pub fn trees_are_well_formed()
-    ensures well_formed { (source : List ℕ) (tokens : List Token) (orc : Orchestra)
-        → Lexed source tokens → Tree source tokens orc → IsWellFormed orc }
-    ensures in_order { (source : List ℕ) (tokens : List Token) (orc : Orchestra)
-        → Lexed source tokens → Tree source tokens orc → InOrder orc }
+    ensures well_formed { (text : Excerpt) (tokens : List Token) (orc : Orchestra)
+        → Lexed text tokens → Tree text.bytes tokens orc → IsWellFormed orc }
+    ensures in_order { (text : Excerpt) (tokens : List Token) (orc : Orchestra)
+        → Lexed text tokens → Tree text.bytes tokens orc → InOrder orc }
 {
     tokens_stand_in_the_text();
 }

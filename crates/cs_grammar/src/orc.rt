@@ -16,7 +16,7 @@ use crate::parser::Parser;
 use crate::scope::{Given, Scope};
 use crate::symbol::{Expected, Kind};
 use crate::tree::{HeadLine, Instr, Orc, Stmts};
-use cs_base::{GREATEST_INSTRUMENT, Num, Numbers, ONE, Or, OrcFault, OrcKind};
+use cs_base::{Excerpt, GREATEST_INSTRUMENT, Num, Numbers, ONE, Or, OrcFault, OrcKind};
 use cs_lex::{Tokens, tokens_stand_in_the_text};
 use cs_words::{HeadName, Keyword, NameSet, Word};
 use std::alloc::Global;
@@ -300,15 +300,16 @@ impl<'s> Parser<'s> {
     }
 }
 
-/// Reads the tokens of a source into the tree of its orchestra, or finds its first fault: kinds 5 to 11 and 20 to 23.
+/// Reads the tokens of a text into the tree of its orchestra, or finds its first fault: kinds 5 to 11 and 20 to 23.
+/// Lines are those of the tokens.
 #[tactic(auto, using(crate::proofs::Steps::spanned))]
-pub fn parse(alloc: Global, source: &[u8], tokens: &Tokens) -> Result<Orc, Or<OrcFault>>
-    requires { Lexed source.now tokens.now }
-    ensures tree { IfOk result (λ orc. Tree source.now tokens.now (orchestra orc)) }
+pub fn parse(alloc: Global, text: &Excerpt, tokens: &Tokens) -> Result<Orc, Or<OrcFault>>
+    requires { Lexed text.now tokens.now }
+    ensures tree { IfOk result (λ orc. Tree text.now.bytes tokens.now (orchestra orc)) }
     ensures fault { (f : OrcFault) → result ≡ Err (or.Fault f)
-        → ParseFault source.now tokens.now f.line f.kind }
+        → ParseFault text.now.bytes tokens.now f.line f.kind }
 {
     tokens_stand_in_the_text();
-    let mut parser = Parser::new(alloc, source, tokens.as_slice());
+    let mut parser = Parser::new(alloc, text.bytes(), tokens.as_slice());
     parser.orc()
 }

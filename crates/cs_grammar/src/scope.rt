@@ -2,7 +2,8 @@
 ghost use Rattle.std.specs.Prelude.{◌≡◌, ◌++◌, ◌∷◌, [], false, OnOk, ◌<◌};
 ghost use Rattle.cs_base.specs.Limits.{most_nested_ifs};
 ghost use Rattle.cs_words.specs.NameSets.{has};
-ghost use Rattle.cs_grammar.specs.Reading.{outside, in_instrument, in_definition, deeper, has_number, misfit_kind, keyword_kind, early, open_kind, instr_kind, x_kind};
+ghost use Rattle.cs_grammar.specs.Reading.{outside, in_instrument, in_definition, deeper, has_number, misfit_kind};
+ghost use Rattle.cs_grammar.specs.Reading.{keyword_kind, early, open_kind, instr_kind, x_kind};
 ghost use Rattle.cs_grammar.specs.Parts.{is_opcode};
 ghost use Rattle.cs_grammar.specs.Lines.{is_own};
 

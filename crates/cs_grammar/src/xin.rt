@@ -4,7 +4,8 @@ ghost use Rattle.cs_words.specs.NameSets.{has};
 ghost use Rattle.cs_grammar.specs.Reading.{next};
 ghost use Rattle.cs_grammar.specs.Inputs.{is_free, is_local};
 ghost use Rattle.cs_grammar.specs.inner.Answers.{Gives};
-ghost use Rattle.cs_grammar.specs.inner.Takes.{input_count, plus_one, is_input, are_inputs, words, at_xin, inputs, no_names, taken_so_many, is_none, first_fits, after_first};
+ghost use Rattle.cs_grammar.specs.inner.Takes.{input_count, plus_one, is_input, are_inputs, words, at_xin, inputs};
+ghost use Rattle.cs_grammar.specs.inner.Takes.{no_names, taken_so_many, is_none, first_fits, after_first};
 
 use crate::heading::Heading;
 use crate::parser::Parser;

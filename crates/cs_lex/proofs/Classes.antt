@@ -24,7 +24,8 @@ Means class.Sign b = (is_short_sign b ≡ true) × (b ≢ 47) × (b ≢ 59)
 Means class.Stray b = is_stray b ≡ true
 Means class.Bad b = is_allowed b ≡ false
 
-pick : (b : Bool) (c d : Class) (n : ℕ) → (b ≡ true → Means c n) → (b ≡ false → Means d n) → Means (if b then c else d) n
+pick : (b : Bool) (c d : Class) (n : ℕ) → (b ≡ true → Means c n) → (b ≡ false → Means d n)
+    → Means (if b then c else d) n
 pick true c d n f g = f refl
 pick false c d n f g = g refl
 
@@ -56,5 +57,8 @@ class_means b =
     pick (b == 92) _ _ b (λ h. is b 92 h) (λ n9.
     pick (is_short_sign b) _ _ b (λ h. (h, is_not b 47 n7, is_not b 59 n8)) (λ n10.
     pick (is_allowed b) class.Stray class.Bad b
-    (λ h. and_not (is_allowed b) _ h (or_false _ _ (or_false _ _ (or_false _ _ (or_false _ _ (or_false _ _ (or_false _ _ (or_false _ _ (or_false _ _ n1 n2) n3) n4) n5) n6) n8) n9) n10))
+    (λ h. and_not (is_allowed b) _ h
+    (or_false _ _ (or_false _ _
+    (or_false _ _ (or_false _ _ (or_false _ _ (or_false _ _ (or_false _ _ (or_false _ _ n1 n2) n3) n4) n5) n6) n8) n9)
+    n10))
     (λ h. h)))))))))))

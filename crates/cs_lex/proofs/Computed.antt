@@ -1,21 +1,22 @@
 -- What a text reads as, computed: for worked examples.
-use Rattle.std.proofs.Common.{◌≡◌, ℕ, zero, suc, true, List, [], ◌∷◌, ◌++◌, drop, take, ap, sym, ◌∙◌, refl, subst, Result, Ok, Err}
+use Rattle.std.proofs.Common.{◌≡◌, ℕ, zero, suc, true, List, [], ◌∷◌, ◌++◌, drop, take, ap, sym, ◌∙◌, refl, subst}
+use Rattle.std.proofs.Common.{Result, Ok, Err}
 use Rattle.std.proofs.lemmas.List.{append_assoc, take_at, drop_at}
 use Rattle.cs_base.specs.declared.fault.OrcKind.{OrcKind}
 use Rattle.cs_lex.specs.declared.token.Token.{Token}
 use Rattle.cs_lex.specs.declared.front.Front.{Front}
 use Rattle.cs_lex.specs.Rows.{Fits, IsFault}
 use Rattle.cs_lex.specs.inner.Front.{front_of}
-use Rattle.cs_base.specs.Lines.{line_after}
-use Rattle.cs_lex.specs.Lexed.{Piece, text_of, IsCut, Lexed, LexFault, tokens_after, merged, end_of}
+use Rattle.cs_base.specs.Lines.{excerpt, line_after}
+use Rattle.cs_lex.specs.Lexed.{TextPiece, text_of, IsCut, Lexed, LexFault, tokens_after, merged, end_of}
 use Rattle.cs_lex.proofs.Sound.{Starts, Right, front_right}
 
 -- so many pieces, and what is left after them
 pub record Got : Type 0 where
-  pub pieces : List Piece
+  pub pieces : List TextPiece
   pub rest : List ℕ
 
-abbrev pub put : Piece → Got → Got
+abbrev pub put : TextPiece → Got → Got
 put p g = record { pieces = p ∷ g.pieces; rest = g.rest }
 
 abbrev pub got_on : (List ℕ → Got) → List ℕ → Result Front OrcKind → Got
@@ -34,8 +35,13 @@ is_cut_on text f g s c =
     let after : drop f.len text ≡ s.after = ap (drop f.len) s.whole ∙ drop_at s.span s.after f.len (sym s.len) in
     let rest : s.after ≡ text_of g.pieces ++ g.rest = sym after ∙ c.whole in
     record {
-      whole = s.whole ∙ ap (λ t. t ++ s.after) (sym span) ∙ ap (λ t. take f.len text ++ t) rest ∙ sym (append_assoc (take f.len text) (text_of g.pieces) g.rest);
-      fit = (subst (λ t. Fits f.mark t (text_of g.pieces ++ g.rest)) (sym span) (subst (Fits f.mark s.span) rest s.fits), c.fit);
+      whole = s.whole ∙ ap (λ t. t ++ s.after) (sym span) ∙ ap (λ t. take f.len text ++ t) rest
+          ∙ sym (append_assoc (take f.len text) (text_of g.pieces) g.rest);
+      fit = (
+        subst (λ t. Fits f.mark t (text_of g.pieces ++ g.rest)) (sym span)
+            (subst (Fits f.mark s.span) rest s.fits),
+        c.fit,
+      );
     }
 
 pub is_cut : (n : ℕ) (text : List ℕ) → IsCut text (got n text).pieces (got n text).rest
@@ -43,18 +49,23 @@ is_cut zero text = record { whole = refl; fit = tt }
 is_cut (suc n) [] = record { whole = refl; fit = tt }
 is_cut (suc n) (b ∷ rest) = on (front_of (b ∷ rest)) (front_right b rest) (is_cut n)
   where
-    on : (r : Result Front OrcKind) → Right (b ∷ rest) r → ((t : List ℕ) → IsCut t (got n t).pieces (got n t).rest) → IsCut (b ∷ rest) (got_on (got n) (b ∷ rest) r).pieces (got_on (got n) (b ∷ rest) r).rest
+    on : (r : Result Front OrcKind) → Right (b ∷ rest) r → ((t : List ℕ) → IsCut t (got n t).pieces (got n t).rest)
+        → IsCut (b ∷ rest) (got_on (got n) (b ∷ rest) r).pieces (got_on (got n) (b ∷ rest) r).rest
     on (Err k) h cut = record { whole = refl; fit = tt }
     on (Ok f) h cut = is_cut_on (b ∷ rest) f (got n (drop f.len (b ∷ rest))) h (cut (drop f.len (b ∷ rest)))
 
 -- nothing is left: these are the tokens
-pub reads : (n : ℕ) (source : List ℕ) (tokens : List Token) → (got n source).rest ≡ [] → tokens ≡ merged true (tokens_after [] (got n source).pieces) ++ end_of source ∷ [] → Lexed source tokens
-reads n source tokens none is = ((got n source).pieces, subst (IsCut source (got n source).pieces) none (is_cut n source), is)
+pub reads : (first : ℕ) (n : ℕ) (source : List ℕ) (tokens : List Token) → (got n source).rest ≡ []
+    → tokens ≡ merged true (tokens_after first [] (got n source).pieces) ++ end_of (excerpt first source) ∷ []
+    → Lexed (excerpt first source) tokens
+reads first n source tokens none is =
+    ((got n source).pieces, subst (IsCut source (got n source).pieces) none (is_cut n source), is)
 
 -- a fault is left
-pub refuses : (n : ℕ) (source : List ℕ) (line : ℕ) (kind : OrcKind) (b : ℕ) (rest : List ℕ) → (got n source).rest ≡ b ∷ rest → front_of (b ∷ rest) ≡ Err kind
-    → line ≡ line_after (text_of (got n source).pieces) → LexFault source line kind
-refuses n source line kind b rest left fault is = (
+pub refuses : (first : ℕ) (n : ℕ) (source : List ℕ) (line : ℕ) (kind : OrcKind) (b : ℕ) (rest : List ℕ)
+    → (got n source).rest ≡ b ∷ rest → front_of (b ∷ rest) ≡ Err kind
+    → line ≡ line_after first (text_of (got n source).pieces) → LexFault (excerpt first source) line kind
+refuses first n source line kind b rest left fault is = (
   (got n source).pieces,
   (got n source).rest,
   is_cut n source,

@@ -1,5 +1,6 @@
 -- Fronts of a text: runs, splits, and the longest span of a form.
-use Rattle.std.proofs.Common.{◌≡◌, ◌≢◌, ◌+◌, ◌≤◌, ℕ, Bool, true, false, ◌&&◌, List, [], ◌∷◌, ◌++◌, length, drop, take, arith, ap, sym, ◌∙◌, refl, inl, inr, ◌==◌}
+use Rattle.std.proofs.Common.{◌≡◌, ◌≢◌, ◌+◌, ◌≤◌, ℕ, Bool, true, false, ◌&&◌, List, [], ◌∷◌, ◌++◌, length, drop, take}
+use Rattle.std.proofs.Common.{arith, ap, sym, ◌∙◌, refl, inl, inr, ◌==◌}
 use Rattle.std.specs.List.{list_all}
 use Rattle.std.proofs.lemmas.Bool.{and_parts, and_from, false≢true}
 use Rattle.std.proofs.lemmas.Bool.Decides.{leb_tells, nat_tests}
@@ -60,12 +61,14 @@ no_run p (y ∷ ys) h = rw h refl
 
 -- a run ends where a byte of another kind stands
 pub run_is : (p : ℕ → Bool) (xs ys : List ℕ) → list_all p xs ≡ true → begins p ys ≡ false → run p (xs ++ ys) ≡ length xs
-run_is p xs ys h k = run_past p xs ys h ∙ ap (λ n. length xs + n) (no_run p ys k) ∙ (let e : length xs + 0 ≡ length xs = omega arith in e)
+run_is p xs ys h k = run_past p xs ys h ∙ ap (λ n. length xs + n) (no_run p ys k)
+    ∙ (let e : length xs + 0 ≡ length xs = omega arith in e)
 
 -- ---- the longest span of a form
 
 -- where a byte of a kind that the form excludes follows, no longer span has the form
-pub longest_to : (p : ℕ → Bool) (form : List ℕ → Bool) (span after : List ℕ) → form span ≡ true → begins p after ≡ false → ((c : ℕ) (more : List ℕ) → p c ≡ false → form (span ++ c ∷ more) ≡ false) → Longest form span after
+pub longest_to : (p : ℕ → Bool) (form : List ℕ → Bool) (span after : List ℕ) → form span ≡ true → begins p after ≡ false
+    → ((c : ℕ) (more : List ℕ) → p c ≡ false → form (span ++ c ∷ more) ≡ false) → Longest form span after
 longest_to p form span after fits ends cut = record {
   fits = fits;
   stops = λ more rest some e. stop more rest some (sym (ap (begins p) e) ∙ ends);
@@ -75,11 +78,13 @@ longest_to p form span after fits ends cut = record {
     stop [] rest some h = absurd (some refl)
     stop (c ∷ more) rest some h = cut c more h
 
-pub list_all_cut : (p : ℕ → Bool) (xs : List ℕ) (c : ℕ) (more : List ℕ) → p c ≡ false → list_all p (xs ++ c ∷ more) ≡ false
+pub list_all_cut : (p : ℕ → Bool) (xs : List ℕ) (c : ℕ) (more : List ℕ) → p c ≡ false
+    → list_all p (xs ++ c ∷ more) ≡ false
 list_all_cut p xs c more h = list_all-append p xs (c ∷ more) ∙ (rw h (and-false (list_all p xs)))
 
 -- two ways to split one text: where the first front is no longer, the second is it and more
-pub split_more : (a b c d : List ℕ) → a ++ b ≡ c ++ d → length a ≤ length c → (more : List ℕ) × (c ≡ a ++ more) × (b ≡ more ++ d)
+pub split_more : (a b c d : List ℕ) → a ++ b ≡ c ++ d → length a ≤ length c
+    → (more : List ℕ) × (c ≡ a ++ more) × (b ≡ more ++ d)
 split_more [] b c d e l = (c, refl, e)
 split_more (x ∷ a) b [] d e l = absurd (omega arith)
 split_more (x ∷ a) b (y ∷ c) d e l =
@@ -90,18 +95,22 @@ pub by_order : {P : Type 0} (m n : ℕ) → (m ≤ n → P) → (n ≤ m → P) 
 by_order m n f g = elim (leb_tells m n) [ inl h ↦ f h.1 | inr h ↦ g (omega arith) ]
 
 -- two longest spans of one form at one text are the same
-pub longest_once : (form : List ℕ → Bool) (a b c d : List ℕ) → Longest form a b → Longest form c d → a ++ b ≡ c ++ d → a ≡ c
+pub longest_once : (form : List ℕ → Bool) (a b c d : List ℕ) → Longest form a b → Longest form c d → a ++ b ≡ c ++ d
+    → a ≡ c
 longest_once form a b c d h k e = by_order (length a) (length c)
     (λ l. meet a b c d h k (split_more a b c d e l))
     (λ l. sym (meet c d a b k h (split_more c d a b (sym e) l)))
   where
-    meet : (a b c d : List ℕ) → Longest form a b → Longest form c d → (more : List ℕ) × (c ≡ a ++ more) × (b ≡ more ++ d) → a ≡ c
+    meet : (a b c d : List ℕ) → Longest form a b → Longest form c d
+        → (more : List ℕ) × (c ≡ a ++ more) × (b ≡ more ++ d) → a ≡ c
     meet a b c d h k ([], e, f) = sym (e ∙ append-nil a)
-    meet a b c d h k (x ∷ more, e, f) = absurd (false≢true (sym (h.stops (x ∷ more) d (λ n. cc) f) ∙ (ap form (sym e) ∙ k.fits)))
+    meet a b c d h k (x ∷ more, e, f) =
+        absurd (false≢true (sym (h.stops (x ∷ more) d (λ n. cc) f) ∙ (ap form (sym e) ∙ k.fits)))
 
 -- ---- bytes
 
-pub first_is : (p : ℕ → Bool) (text : List ℕ) → begins p text ≡ true → (b : ℕ) × (rest : List ℕ) × (text ≡ b ∷ rest) × (p b ≡ true)
+pub first_is : (p : ℕ → Bool) (text : List ℕ) → begins p text ≡ true
+    → (b : ℕ) × (rest : List ℕ) × (text ≡ b ∷ rest) × (p b ≡ true)
 first_is p [] h = absurd (false≢true h)
 first_is p (b ∷ rest) h = (b, rest, refl, h)
 
@@ -113,7 +122,8 @@ and_last true b h k = k
 and_last false b h k = cc
 
 -- a byte that fails a test, with what stands before and after it
-pub where_fails : (p : ℕ → Bool) (xs : List ℕ) → list_all p xs ≡ false → (before : List ℕ) × (b : ℕ) × (after : List ℕ) × (xs ≡ before ++ b ∷ after) × (p b ≡ false)
+pub where_fails : (p : ℕ → Bool) (xs : List ℕ) → list_all p xs ≡ false
+    → (before : List ℕ) × (b : ℕ) × (after : List ℕ) × (xs ≡ before ++ b ∷ after) × (p b ≡ false)
 where_fails p [] h = absurd (false≢true (sym h))
 where_fails p (x ∷ xs) h = by_test (p x)
     (λ k.
@@ -121,14 +131,16 @@ where_fails p (x ∷ xs) h = by_test (p x)
     (x ∷ found.0, found.1, found.2, ap (λ t. x ∷ t) found.3, found.4))
     (λ k. ([], x, xs, refl, k))
 
-pub list_all_both : (p q : ℕ → Bool) (xs : List ℕ) → list_all p xs ≡ true → list_all q xs ≡ true → list_all (λ b. p b && q b) xs ≡ true
+pub list_all_both : (p q : ℕ → Bool) (xs : List ℕ) → list_all p xs ≡ true → list_all q xs ≡ true
+    → list_all (λ b. p b && q b) xs ≡ true
 list_all_both p q [] h k = refl
 list_all_both p q (x ∷ xs) h k =
     let a = and_parts (p x) (list_all p xs) h in
     let b = and_parts (q x) (list_all q xs) k in
     and_from (p x && q x) _ (and_from (p x) (q x) a.0 b.0) (list_all_both p q xs a.1 b.1)
 
-pub list_all_weaken : (p q : ℕ → Bool) → ((b : ℕ) → p b ≡ true → q b ≡ true) → (xs : List ℕ) → list_all p xs ≡ true → list_all q xs ≡ true
+pub list_all_weaken : (p q : ℕ → Bool) → ((b : ℕ) → p b ≡ true → q b ≡ true) → (xs : List ℕ) → list_all p xs ≡ true
+    → list_all q xs ≡ true
 list_all_weaken p q w [] h = refl
 list_all_weaken p q w (x ∷ xs) h =
     let a = and_parts (p x) (list_all p xs) h in

@@ -1,44 +1,47 @@
-use Rattle.std.specs.Prelude.{ℕ, Bool, true, false, List, [], ◌∷◌, ◌++◌, ◌≡◌, ◌≢◌, ◌<◌, ◌≤◌, ◌+◌, ◌-◌, ◌&&◌, length, max, Option, Some, None, if◌then◌else◌, count_by, slice_index}
+-- The tokens of a text as a whole, or its first fault: the text falls into pieces, each of which is of a row.
+use Rattle.std.specs.Prelude.{ℕ, Bool, true, false, List, [], ◌∷◌, ◌++◌, ◌≡◌, ◌≢◌, ◌<◌, ◌≤◌, ◌+◌, ◌-◌, ◌&&◌, length}
+use Rattle.std.specs.Prelude.{take, Option, Some, None, if◌then◌else◌}
 use Rattle.cs_base.specs.declared.fault.OrcKind.{OrcKind}
 use Rattle.cs_lex.specs.declared.token.Mark.{Mark}
 use Rattle.cs_lex.specs.declared.token.Mark.TheVariants as mark
 use Rattle.cs_lex.specs.declared.token.Token.{Token}
-use Rattle.cs_base.specs.Lines.{is_feed, line_after}
+use Rattle.cs_base.specs.Lines.{Excerpt, line_after}
 use Rattle.cs_lex.specs.Rows.{Fits, IsFault}
 
 -- a piece of the text: a token by its mark, or what stands between tokens
-pub record Piece : Type 0 where
+pub record TextPiece : Type 0 where
   pub mark : Option Mark
   pub span : List ℕ
 
 -- the text that pieces make
-abbrev pub text_of : List Piece → List ℕ
+abbrev pub text_of : List TextPiece → List ℕ
 text_of [] = []
 text_of (p ∷ ps) = p.span ++ text_of ps
 
 -- each piece is of its row's form, with what follows it
-abbrev pub AllFit : List Piece → List ℕ → Type 0
+abbrev pub AllFit : List TextPiece → List ℕ → Type 0
 AllFit [] rest = Unit {0}
 AllFit (p ∷ ps) rest = Fits p.mark p.span (text_of ps ++ rest) × AllFit ps rest
 
 -- a text falls into these pieces, up to a rest
-pub record IsCut (source : List ℕ) (pieces : List Piece) (rest : List ℕ) : Type 0 where
+pub record IsCut (source : List ℕ) (pieces : List TextPiece) (rest : List ℕ) : Type 0 where
   pub whole : source ≡ text_of pieces ++ rest
   pub fit : AllFit pieces rest
 
--- the token of a span that stands after a text
-abbrev pub token_at : Mark → List ℕ → List ℕ → Token
-token_at m before span =
-    record { mark = m; from = length before; to = length before + length span; line = line_after before }
+-- the token of a span that stands after the front of a text that begins on line `first`
+abbrev pub token_at : ℕ → Mark → List ℕ → List ℕ → Token
+token_at first m before span =
+    record { mark = m; from = length before; to = length before + length span; line = line_after first before }
 
-abbrev pub token_of : Option Mark → List ℕ → List ℕ → List Token
-token_of None before span = []
-token_of (Some m) before span = token_at m before span ∷ []
+abbrev pub token_of : ℕ → Option Mark → List ℕ → List ℕ → List Token
+token_of first None before span = []
+token_of first (Some m) before span = token_at first m before span ∷ []
 
--- the tokens of pieces that stand after a text, each line feed among them
-abbrev pub tokens_after : List ℕ → List Piece → List Token
-tokens_after before [] = []
-tokens_after before (p ∷ ps) = token_of p.mark before p.span ++ tokens_after (before ++ p.span) ps
+-- the tokens of pieces that stand after such a front, each line feed among them
+abbrev pub tokens_after : ℕ → List ℕ → List TextPiece → List Token
+tokens_after first before [] = []
+tokens_after first before (p ∷ ps) =
+    token_of first p.mark before p.span ++ tokens_after first (before ++ p.span) ps
 
 abbrev pub is_newline_mark : Mark → Bool
 is_newline_mark mark.NewLine = true
@@ -53,26 +56,26 @@ abbrev pub merged : Bool → List Token → List Token
 merged fed [] = []
 merged fed (t ∷ ts) = (if fed && is_newline t then [] else t ∷ []) ++ merged (is_newline t) ts
 
--- End, after the last byte. Its line is the last that has a byte, and at least 1.
-abbrev pub end_of : List ℕ → Token
-end_of source = record {
+-- End, after the last byte, on whose line it stands; in a text without bytes it stands on the first line
+abbrev pub end_of : Excerpt → Token
+end_of text = record {
   mark = mark.End;
-  from = length source;
-  to = length source;
-  line = max 1 (count_by is_feed source + (if is_feed (slice_index source (length source - 1)) then 0 else 1));
+  from = length text.bytes;
+  to = length text.bytes;
+  line = line_after text.first_line (take (length text.bytes - 1) text.bytes);
 }
 
--- the tokens of a text
-abbrev pub Lexed : List ℕ → List Token → Type 0
-Lexed source tokens =
-    (pieces : List Piece) × IsCut source pieces []
-    × (tokens ≡ merged true (tokens_after [] pieces) ++ end_of source ∷ [])
+-- the tokens of a text, each with its line in the file
+abbrev pub Lexed : Excerpt → List Token → Type 0
+Lexed text tokens =
+    (pieces : List TextPiece) × IsCut text.bytes pieces []
+    × (tokens ≡ merged true (tokens_after text.first_line [] pieces) ++ end_of text ∷ [])
 
--- the first fault of a text: the text before it falls into pieces
-abbrev pub LexFault : List ℕ → ℕ → OrcKind → Type 0
-LexFault source line kind =
-    (pieces : List Piece) × (rest : List ℕ) × IsCut source pieces rest × IsFault rest kind
-    × (line ≡ line_after (text_of pieces))
+-- the first fault of a text, with its line in the file: the text before it falls into pieces
+abbrev pub LexFault : Excerpt → ℕ → OrcKind → Type 0
+LexFault text line kind =
+    (pieces : List TextPiece) × (rest : List ℕ) × IsCut text.bytes pieces rest × IsFault rest kind
+    × (line ≡ line_after text.first_line (text_of pieces))
 
 -- a token that stands before another: it ends where the other begins or before, and on no later line
 abbrev pub Precedes : Token → Token → Type 0

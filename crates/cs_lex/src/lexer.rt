@@ -1,26 +1,37 @@
 // One pass over the text: piece after piece, each where the one before it ends.
-ghost use Rattle.std.specs.Prelude.{◌≡◌, ◌≤◌, ◌<◌, ◌+◌, ◌^◌, length, IfOk, OnOk, ◌++◌, count_by};
+ghost use Rattle.std.specs.Prelude.{◌≡◌, ◌≤◌, ◌<◌, ◌+◌, ◌-◌, ◌^◌, length, IfOk, OnOk, ◌++◌, count_by};
 ghost use Rattle.cs_base.specs.declared.fault.OrcFault.{OrcFault};
 ghost use Rattle.cs_base.specs.declared.fault.Or.TheVariants as or;
-ghost use Rattle.cs_base.specs.Limits.{most_orchestra_bytes};
-ghost use Rattle.cs_base.specs.Lines.{is_feed, line_after};
+ghost use Rattle.cs_base.specs.Limits.{most_csd_bytes, most_orchestra_bytes};
+ghost use Rattle.cs_base.specs.Lines.{excerpt, is_feed};
 ghost use Rattle.cs_lex.specs.Lexed.{Lexed, LexFault, end_of, merged};
 ghost use Rattle.cs_lex.specs.inner.Front.{given, fed_by};
 
 use crate::front::Front;
 use crate::{Mark, Token, Tokens};
-use cs_base::{Or, OrcFault, feeds};
+use cs_base::{Excerpt, Or, OrcFault, feeds};
 use std::alloc::{AllocError, Global};
 
 /// Reads an orchestra of at most 1,048,576 bytes into its tokens, or finds its first fault.
-pub fn lex(alloc: Global, source: &[u8]) -> Result<Tokens, Or<OrcFault>>
-    requires { length source.now ≤ most_orchestra_bytes }
-    ensures tokens { IfOk result (λ tokens. Lexed source.now tokens) }
-    ensures fault { (f : OrcFault) → result ≡ Err (or.Fault f) → LexFault source.now f.line f.kind }
+pub fn lex(alloc: Global, text: &Excerpt) -> Result<Tokens, Or<OrcFault>>
+    requires { length text.now.bytes ≤ most_orchestra_bytes }
+    ensures tokens { IfOk result (λ tokens. Lexed text.now tokens) }
+    ensures fault { (f : OrcFault) → result ≡ Err (or.Fault f) → LexFault text.now f.line f.kind }
+{
+    read(alloc, text.first_line(), text.bytes())
+}
+
+// The same of a text that begins on this line.
+fn read(alloc: Global, first_line: u32, source: &[u8]) -> Result<Tokens, Or<OrcFault>>
+    requires line { first_line ≤ most_csd_bytes + 1 }
+    requires small { length source.now ≤ most_orchestra_bytes }
+    ensures tokens { IfOk result (λ tokens. Lexed (excerpt first_line source.now) tokens) }
+    ensures fault { (f : OrcFault) → result ≡ Err (or.Fault f)
+        → LexFault (excerpt first_line source.now) f.line f.kind }
 {
     let mut tokens = Tokens::new(alloc);
     let mut at: usize = 0;
-    let mut line: u32 = 1;
+    let mut line = first_line;
     // Whether a line feed, or nothing, stands before.
     let mut fed = true;
     while at < source.len() {
@@ -76,17 +87,18 @@ fn line_past(line: u32, piece: &[u8]) -> u32
     line + feeds(piece)
 }
 
+// End, where the text ends on this line.
 fn end_of(source: &[u8], line: u32) -> Token
     requires small { length source.now ≤ most_orchestra_bytes }
-    requires line { line ≡ line_after source.now }
-    ensures { result ≡ end_of source.now }
+    requires line { count_by is_feed source.now ≤ line }
+    ensures { result ≡ end_of (excerpt (line - count_by is_feed source.now) source.now) }
 {
-    let ends_with_feed = source.len() > 0 && source[source.len() - 1] == b'\n';
+    let last = &source[source.len().saturating_sub(1)..];
     let at = source.len() as u32;
     Token {
         mark: Mark::End,
         from: at,
         to: at,
-        line: if ends_with_feed { line - 1 } else { line },
+        line: line - feeds(last),
     }
 }

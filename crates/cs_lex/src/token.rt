@@ -1,3 +1,4 @@
+// What a text is read into: its tokens.
 use cs_base::{Items, Num};
 
 /// What a token is. Of a Number the value is kept; every other token is known by its bytes.
@@ -17,7 +18,7 @@ pub enum Mark {
     End,
 }
 
-/// A token: its bytes are those of the source from `from` to before `to`. Its line counts from 1.
+/// A token: its bytes are those of the text from `from` to before `to`, and its line is one of the text's file.
 #[derive(Clone, Copy, Debug, PartialEq, Eq)]
 pub struct Token {
     pub mark: Mark,

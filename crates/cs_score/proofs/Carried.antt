@@ -1,7 +1,10 @@
 -- A statement's fields, filled by those of the one before.
-use Rattle.std.proofs.Common.{◌≡◌, ℕ, ℤ, zero, suc, ◌+◌, ◌<◌, ◌≤◌, min, max, Bool, true, false, List, [], ◌∷◌, ◌++◌, length, drop, take, map, set, get_or, arith, ap, sym, ◌∙◌, refl, append_assoc, Option, Some, None, Result, Ok, Err, IfOk, IsSome, subst, slice_get, unwrap_or, if◌then◌else◌}
+use Rattle.std.proofs.Common.{◌≡◌, ℕ, ℤ, zero, suc, ◌+◌, ◌<◌, ◌≤◌, min, max, Bool, true, false, List, [], ◌∷◌, ◌++◌}
+use Rattle.std.proofs.Common.{length, drop, take, map, set, get_or, arith, ap, sym, ◌∙◌, refl, append_assoc, Option}
+use Rattle.std.proofs.Common.{Some, None, Result, Ok, Err, IfOk, IsSome, subst, slice_get, unwrap_or, if◌then◌else◌}
 use Rattle.std.specs.List.{range_with_len}
-use Rattle.std.proofs.lemmas.List.{drop_more, drop_all, get_or_at, take_more, set_at, append-nil, length-take-le, same_lists}
+use Rattle.std.proofs.lemmas.List.{drop_more, drop_all, get_or_at, take_more, set_at, append-nil, length-take-le}
+use Rattle.std.proofs.lemmas.List.{same_lists}
 use Rattle.std.proofs.lemmas.List.FromFn.{length-map-range_with_len, get_or-map-range_with_len}
 use Rattle.cs_score.specs.declared.field.Field.{Field}
 use Rattle.cs_score.specs.declared.field.Field.TheVariants.{Number, Same, After, Ahead, Foreign, Unreadable}
@@ -10,7 +13,8 @@ use Rattle.cs_score.specs.Carry.{taken, field, count, fields, continues}
 use Rattle.cs_score.specs.Notes.{values_of}
 use Rattle.cs_base.specs.declared.fault.ScoreKind.TheVariants.{NothingToCarry}
 use Rattle.cs_score.specs.Notes.{gap_by}
-use Rattle.cs_score.specs.inner.State.{filled, filled_one, completed, fields_read, instr_read, p1_before, p2_read, IsKept, IsLast}
+use Rattle.cs_score.specs.inner.State.{filled, filled_one, completed, fields_read, instr_read, p1_before, p2_read}
+use Rattle.cs_score.specs.inner.State.{IsKept, IsLast}
 use Rattle.cs_score.specs.inner.Values.{AreValues}
 use Rattle.cs_score.specs.declared.field.InstrumentNumber.{InstrumentNumber}
 use Rattle.cs_score.specs.declared.last.LastNote.{LastNote}
@@ -47,7 +51,8 @@ filled_rest (suc n) (f ∷ fs) [] l = drop_all n fs (omega arith)
 filled_rest (suc n) (f ∷ fs) (g ∷ gs) l = filled_rest n fs gs (omega arith)
 
 -- and so are their values, where no field from p4 on is written
-pub taken_whole : (ws before fields : List Field) (more : List ℤ) → length ws ≤ 3 → AreValues before more → fields ≡ filled ws before
+pub taken_whole : (ws before fields : List Field) (more : List ℤ) → length ws ≤ 3 → AreValues before more
+    → fields ≡ filled ws before
     → AreValues fields more
 taken_whole ws before fields more l v e = (
   ap (values_of NothingToCarry) (ap (drop 3) e ∙ filled_rest 3 ws before l) ∙ v.0,
@@ -55,19 +60,23 @@ taken_whole ws before fields more l v e = (
 )
 
 -- what the next statement may take from one is what the code keeps of it
-kept_one : (last next : LastNote) (written fields : List Field) (instr : InstrumentNumber) (p2 : ℕ) → instr_read last written ≡ Ok instr →
-    fields ≡ fields_read last written → p2_read last written ≡ Ok p2 → IsLast instr p2 fields next → IsKept last written next
+kept_one : (last next : LastNote) (written fields : List Field) (instr : InstrumentNumber) (p2 : ℕ)
+    → instr_read last written ≡ Ok instr →
+    fields ≡ fields_read last written → p2_read last written ≡ Ok p2 → IsLast instr p2 fields next
+    → IsKept last written next
 kept_one last next written fields instr p2 i f p l =
     let P : Option InstrumentNumber → Type 0 = λ o. IsSome o in
     record {
       is_instr = i ∙ sym (ap p1_before l.is_instr);
       stands = subst P (sym l.is_instr) refl;
       is_p2 = p ∙ ap Ok (sym l.is_p2);
-      is_gap = l.is_gap ∙ ap (λ r. gap_by r (slice_get fields 2)) (sym (ap p1_before l.is_instr)) ∙ ap (λ fs. gap_by (p1_before next.instr) (slice_get fs 2)) (sym l.is_fields);
+      is_gap = l.is_gap ∙ ap (λ r. gap_by r (slice_get fields 2)) (sym (ap p1_before l.is_instr))
+          ∙ ap (λ fs. gap_by (p1_before next.instr) (slice_get fs 2)) (sym l.is_fields);
       is_fields = l.is_fields ∙ f;
     }
 
-pub kept_is : (r : Result NoteRead StatementFault) (last : LastNote) (written : List Field) (instr : InstrumentNumber) (p2 : ℕ) (fields : List Field) →
+pub kept_is : (r : Result NoteRead StatementFault) (last : LastNote) (written : List Field) (instr : InstrumentNumber)
+    (p2 : ℕ) (fields : List Field) →
     instr_read last written ≡ Ok instr → fields ≡ fields_read last written → p2_read last written ≡ Ok p2 →
     IfOk r (λ read. IsLast instr p2 fields read.last) → IfOk r (λ read. IsKept last written read.last)
 kept_is (Ok read) last written instr p2 fields i f p l = kept_one last read.last written fields instr p2 i f p l
@@ -93,7 +102,8 @@ pub now_at : (ws before now : List Field) (k : ℕ) (d : Field) → k < length w
 now_at ws before now k d l m e =
     let F = filled ws before in
     let small : k < length F = omega (arith, length-filled ws before) in
-    ap (λ t. get_or t k d) (e ∙ ap (λ t. take k F ++ t) (drop_more before k d m)) ∙ get_or_at (take k F) (get_or before k d) (drop (k + 1) before) d k (length-take-le k F (omega arith))
+    ap (λ t. get_or t k d) (e ∙ ap (λ t. take k F ++ t) (drop_more before k d m))
+    ∙ get_or_at (take k F) (get_or before k d) (drop (k + 1) before) d k (length-take-le k F (omega arith))
 
 -- ---- each field by looking back
 
@@ -119,7 +129,8 @@ taken_some (Ahead x) g = refl
 taken_some Foreign g = refl
 taken_some Unreadable g = refl
 
-get_of_filled : (ws before : List Field) (k : ℕ) → slice_get (filled ws before) k ≡ taken (slice_get ws k) (slice_get before k)
+get_of_filled : (ws before : List Field) (k : ℕ)
+    → slice_get (filled ws before) k ≡ taken (slice_get ws k) (slice_get before k)
 get_of_filled [] before k = refl
 get_of_filled (f ∷ fs) [] k = sym (taken_none (slice_get (f ∷ fs) k))
 get_of_filled (f ∷ fs) (g ∷ gs) zero = sym (taken_some f g)
@@ -134,9 +145,11 @@ pub field_is_kept : (rows : List Row) (k : ℕ) → field rows k ≡ slice_get (
 field_is_kept [] k = refl
 field_is_kept (row ∷ above) k =
     let b = continues (row ∷ above) in
-    ap (λ f. taken (slice_get row.fields k) (if b then f else None)) (field_is_kept above k) ∙ by_choice b row.fields (kept_fields above) k
+    ap (λ f. taken (slice_get row.fields k) (if b then f else None)) (field_is_kept above k)
+    ∙ by_choice b row.fields (kept_fields above) k
 
-count_choice : (b : Bool) (row before : List Field) → max (length row) (if b then length before else 0) ≡ length (completed b row before)
+count_choice : (b : Bool) (row before : List Field)
+    → max (length row) (if b then length before else 0) ≡ length (completed b row before)
 count_choice true row before = sym (length-filled row before)
 count_choice false row before = omega arith
 
@@ -144,7 +157,8 @@ count_is_kept : (rows : List Row) → count rows ≡ length (kept_fields rows)
 count_is_kept [] = refl
 count_is_kept (row ∷ above) =
     let b = continues (row ∷ above) in
-    ap (λ n. max (length row.fields) (if b then n else 0)) (count_is_kept above) ∙ count_choice b row.fields (kept_fields above)
+    ap (λ n. max (length row.fields) (if b then n else 0)) (count_is_kept above)
+    ∙ count_choice b row.fields (kept_fields above)
 
 get_or_is : (xs : List Field) (k : ℕ) (d : Field) → k < length xs → unwrap_or (slice_get xs k) Same ≡ get_or xs k d
 get_or_is [] k d l = absurd (omega arith)
@@ -159,10 +173,12 @@ fields_are_kept rows =
     let same_count : n ≡ length (kept_fields rows) = count_is_kept rows in
     same_lists (fields rows) (kept_fields rows) (len ∙ same_count)
     (λ k d h. let l : k < n = omega arith in
-    get_or-map-range_with_len at 0 n k k d l (omega arith) ∙ ap (λ f. unwrap_or f Same) (field_is_kept rows k) ∙ get_or_is (kept_fields rows) k d (omega arith))
+    get_or-map-range_with_len at 0 n k k d l (omega arith) ∙ ap (λ f. unwrap_or f Same) (field_is_kept rows k)
+    ∙ get_or_is (kept_fields rows) k d (omega arith))
 
 -- all fields of a statement, by those of the one before
-pub fields_next : (row : Row) (above : List Row) → fields (row ∷ above) ≡ completed (continues (row ∷ above)) row.fields (fields above)
+pub fields_next : (row : Row) (above : List Row)
+    → fields (row ∷ above) ≡ completed (continues (row ∷ above)) row.fields (fields above)
 fields_next row above =
     fields_are_kept (row ∷ above) ∙ ap (completed (continues (row ∷ above)) row.fields) (sym (fields_are_kept above))
 

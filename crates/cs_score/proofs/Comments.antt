@@ -1,5 +1,7 @@
 -- The text without its comments: byte by byte, as the code reads it, and by its pieces.
-use Rattle.std.proofs.Common.{◌≡◌, ℕ, zero, suc, ◌+◌, ◌-◌, ◌<◌, ◌≤◌, ◌==◌, max, Bool, true, false, List, [], ◌∷◌, ◌++◌, length, drop, take, map, get_or, arith, refl, ap, sym, ◌∙◌, append_assoc, append-nil, if◌then◌else◌}
+use Rattle.std.proofs.Common.{◌≡◌, ℕ, zero, suc, ◌+◌, ◌-◌, ◌<◌, ◌≤◌, ◌==◌, max, Bool, true, false, List, [], ◌∷◌, ◌++◌}
+use Rattle.std.proofs.Common.{length, drop, take, get_or, arith, refl, ap, sym, ◌∙◌, append_assoc, append-nil}
+use Rattle.std.proofs.Common.{if◌then◌else◌}
 use Rattle.std.proofs.lemmas.Bool.Decides.{nat_tests}
 use Rattle.std.proofs.lemmas.List.{drop_more, drop_all, length-append, length-drop, length-map, length-take}
 use Rattle.std.proofs.Math.Seq.{drop-nil, drop-append_seam, take-append_seam}
@@ -38,19 +40,22 @@ enough (suc n) zero [] l k = no_pieces (suc n)
 enough (suc n) zero (b ∷ rest) l k = absurd (omega arith)
 enough (suc n) (suc m) text l k =
     ap (λ t. plain_piece (comment_len text) text ++ t)
-    (enough n m (drop (max 1 (comment_len text)) text) (shorter (comment_len text) n text l) (shorter (comment_len text) m text k))
+    (enough n m (drop (max 1 (comment_len text)) text) (shorter (comment_len text) n text l)
+    (shorter (comment_len text) m text k))
 
 -- what is left of the plain form, where some bytes of the text are of a comment that began before
 abbrev pub behind : ℕ → List ℕ → List ℕ
 behind hidden text = spaces (take hidden text) ++ plain_of (drop hidden text)
 
-hidden_byte : (c b : ℕ) (rest : List ℕ) → (if suc c == 0 then b else space) ∷ behind (suc c - 1) rest ≡ space ∷ behind c rest
+hidden_byte : (c b : ℕ) (rest : List ℕ)
+    → (if suc c == 0 then b else space) ∷ behind (suc c - 1) rest ≡ space ∷ behind c rest
 hidden_byte c b rest = rw (not_none c, one_less c) refl
 
 still_hidden : (hidden : ℕ) (text : List ℕ) → hidden_here (suc hidden) text ≡ suc hidden
 still_hidden hidden text = rw (not_none hidden) refl
 
-first_byte : (c b : ℕ) (rest : List ℕ) → plain_piece c (b ∷ rest) ++ plain_pieces (length rest) (drop (max 1 c) (b ∷ rest))
+first_byte : (c b : ℕ) (rest : List ℕ)
+    → plain_piece c (b ∷ rest) ++ plain_pieces (length rest) (drop (max 1 c) (b ∷ rest))
     ≡ (if c == 0 then b else space) ∷ behind (c - 1) rest
 first_byte zero b rest = refl
 first_byte (suc c) b rest =
@@ -63,18 +68,22 @@ next_byte : (hidden b : ℕ) (rest : List ℕ) → behind hidden (b ∷ rest)
     ≡ (if hidden_here hidden (b ∷ rest) == 0 then b else space) ∷ behind (hidden_here hidden (b ∷ rest) - 1) rest
 next_byte zero b rest = first_byte (comment_len (b ∷ rest)) b rest
 next_byte (suc hidden) b rest =
-    sym (ap (λ n. (if n == 0 then b else space) ∷ behind (n - 1) rest) (still_hidden hidden (b ∷ rest)) ∙ hidden_byte hidden b rest)
+    sym (ap (λ n. (if n == 0 then b else space) ∷ behind (n - 1) rest) (still_hidden hidden (b ∷ rest))
+    ∙ hidden_byte hidden b rest)
 
 pub byte_read : (text plain plain' whole : List ℕ) (at hidden here hidden' b : ℕ) → at < length text
-    → here ≡ hidden_here hidden (drop at text) → b ≡ (if here == 0 then get_or text at 0 else space) → plain' ≡ plain ++ b ∷ []
-    → hidden' ≡ here - 1 → plain ++ behind hidden (drop at text) ≡ whole → plain' ++ behind hidden' (drop (at + 1) text) ≡ whole
+    → here ≡ hidden_here hidden (drop at text) → b ≡ (if here == 0 then get_or text at 0 else space)
+    → plain' ≡ plain ++ b ∷ []
+    → hidden' ≡ here - 1 → plain ++ behind hidden (drop at text) ≡ whole
+    → plain' ++ behind hidden' (drop (at + 1) text) ≡ whole
 byte_read text plain plain' whole at hidden here hidden' b l e is more less read =
     let split = drop_more text at 0 l in
     let first = get_or text at 0 in
     let rest = drop (at + 1) text in
     let now : here ≡ hidden_here hidden (first ∷ rest) = e ∙ ap (hidden_here hidden) split in
     let next : behind hidden (drop at text) ≡ b ∷ behind (here - 1) rest =
-    ap (behind hidden) split ∙ next_byte hidden first rest ∙ ap (λ n. (if n == 0 then first else space) ∷ behind (n - 1) rest) (sym now)
+    ap (behind hidden) split ∙ next_byte hidden first rest
+    ∙ ap (λ n. (if n == 0 then first else space) ∷ behind (n - 1) rest) (sym now)
     ∙ ap (λ x. x ∷ behind (here - 1) rest) (sym is) in
     ap (λ p. p ++ behind hidden' rest) more ∙ ap (λ n. (plain ++ b ∷ []) ++ behind n rest) less
     ∙ append_assoc plain (b ∷ []) (behind (here - 1) rest) ∙ ap (λ t. plain ++ t) (sym next) ∙ read
@@ -83,17 +92,27 @@ none_behind : (hidden : ℕ) → behind hidden [] ≡ []
 none_behind zero = refl
 none_behind (suc hidden) = refl
 
-pub bytes_read : (text plain whole : List ℕ) (at hidden : ℕ) → length text ≤ at → plain ++ behind hidden (drop at text) ≡ whole → plain ≡ whole
+pub bytes_read : (text plain whole : List ℕ) (at hidden : ℕ) → length text ≤ at
+    → plain ++ behind hidden (drop at text) ≡ whole → plain ≡ whole
 bytes_read text plain whole at hidden all read =
-    sym (append-nil plain) ∙ ap (λ t. plain ++ t) (sym (ap (behind hidden) (drop_all at text all) ∙ none_behind hidden)) ∙ read
+    sym (append-nil plain) ∙ ap (λ t. plain ++ t) (sym (ap (behind hidden) (drop_all at text all) ∙ none_behind hidden))
+    ∙ read
 
 -- the text without its comments is as long
 length-piece : (c : ℕ) (text : List ℕ) → length (plain_piece c text) + length (drop (max 1 c) text) ≡ length text
 length-piece zero text = omega (arith, length-take 1 text, length-drop 1 text)
 length-piece (suc c) text =
-    omega (arith, length-map (take (suc c) text) (λ _. space), length-take (suc c) text, length-drop (max 1 (suc c)) text, at_least_one c)
+    omega (
+      arith,
+      length-map (take (suc c) text) (λ _. space),
+      length-take (suc c) text,
+      length-drop (max 1 (suc c))
+          text,
+      at_least_one c,
+    )
 
-piece_and_rest : (n c : ℕ) (text : List ℕ) → length (plain_pieces n (drop (max 1 c) text)) ≡ length (drop (max 1 c) text)
+piece_and_rest : (n c : ℕ) (text : List ℕ)
+    → length (plain_pieces n (drop (max 1 c) text)) ≡ length (drop (max 1 c) text)
     → length (plain_piece c text ++ plain_pieces n (drop (max 1 c) text)) ≡ length text
 piece_and_rest n c text rest =
     omega (arith, length-append (plain_piece c text) (plain_pieces n (drop (max 1 c) text)), length-piece c text, rest)
@@ -111,17 +130,20 @@ length-plain text = length-pieces (length text) text (omega arith)
 -- the first of some pieces
 module _ (plain : List ℕ → List ℕ) (rest : List ℕ) where
   piece_first : (comment : Bool) (bytes : List ℕ) → 0 < length bytes → (comment ≡ false → length bytes ≡ 1)
-      → plain_piece (if comment then length bytes else 0) (bytes ++ rest) ++ plain (drop (max 1 (if comment then length bytes else 0)) (bytes ++ rest))
+      → plain_piece (if comment then length bytes else 0) (bytes ++ rest)
+      ++ plain (drop (max 1 (if comment then length bytes else 0)) (bytes ++ rest))
       ≡ (if comment then spaces bytes else bytes) ++ plain rest
   piece_first comment [] some one = absurd (omega arith)
   piece_first true (b ∷ bytes) some one =
-      ap (λ n. plain_piece (suc (length bytes)) (b ∷ bytes ++ rest) ++ plain (drop n (b ∷ bytes ++ rest))) (at_least_one (length bytes))
+      ap (λ n. plain_piece (suc (length bytes)) (b ∷ bytes ++ rest) ++ plain (drop n (b ∷ bytes ++ rest)))
+      (at_least_one (length bytes))
       ∙ ap (λ t. plain_piece (suc (length bytes)) (b ∷ bytes ++ rest) ++ plain t) (drop-append_seam bytes rest)
       ∙ ap (λ t. (space ∷ spaces t) ++ plain rest) (take-append_seam bytes rest)
   piece_first false (b ∷ []) some one = refl
   piece_first false (b ∷ c ∷ bytes) some one = absurd (omega (arith, one refl))
 
-all_pieces : (n : ℕ) (pieces : List CommentOrByte) → AllFit pieces → length (text_of pieces) ≤ n → plain_pieces n (text_of pieces) ≡ plain_by pieces
+all_pieces : (n : ℕ) (pieces : List CommentOrByte) → AllFit pieces → length (text_of pieces) ≤ n
+    → plain_pieces n (text_of pieces) ≡ plain_by pieces
 all_pieces n [] fit l = no_pieces n
 all_pieces zero (p ∷ ps) fit l = absurd (omega (arith, length-append p.bytes (text_of ps), fit.0.some))
 all_pieces (suc n) (p ∷ ps) fit l =

@@ -1,5 +1,6 @@
 -- The pairs of a tempo, one by one, and their ranges.
-use Rattle.std.proofs.Common.{◌≡◌, ℕ, ◌+◌, ◌<◌, ◌≤◌, ◌==◌, true, List, [], ◌∷◌, ◌++◌, length, drop, get_or, arith, ap, sym, ◌∙◌, refl, subst, append_assoc, Option, Some, None, Result, Ok, Err, nat_le}
+use Rattle.std.proofs.Common.{◌≡◌, ℕ, ◌+◌, ◌<◌, ◌≤◌, ◌==◌, true, List, [], ◌∷◌, ◌++◌, length, drop, get_or, arith, ap}
+use Rattle.std.proofs.Common.{sym, ◌∙◌, refl, subst, append_assoc, Option, Some, None, Result, Ok, Err, nat_le}
 use Rattle.std.proofs.lemmas.List.{drop_more, drop_all, append-nil}
 use Rattle.std.proofs.lemmas.Bool.Decides.{nat_tests}
 use Rattle.cs_base.specs.declared.fault.ScoreKind.{ScoreKind}
@@ -14,7 +15,8 @@ use Rattle.cs_score.specs.Ranges.{beats_end, AreRising, AreTempoPoints}
 use Rattle.cs_score.specs.Statements.{follows, as_beat, as_tempo, points_of}
 
 -- two readings that went well
-pub and_then_ok : {A B E : Type 0} → (r : Result A E) (f : A → Result B E) (y : B) → and_then r f ≡ Ok y → (x : A) × (r ≡ Ok x) × (f x ≡ Ok y)
+pub and_then_ok : {A B E : Type 0} → (r : Result A E) (f : A → Result B E) (y : B) → and_then r f ≡ Ok y
+    → (x : A) × (r ≡ Ok x) × (f x ≡ Ok y)
 and_then_ok (Ok x) f y e = (x, refl, e)
 and_then_ok (Err k) f y e = cc
 
@@ -30,7 +32,8 @@ abbrev pub empty : Field
 empty = Number zero
 
 prepended : (points : List TempoPoint) (p : TempoPoint) (r : Result (List TempoPoint) ScoreKind)
-    → and_then (and_then r (λ ps. Ok (p ∷ ps))) (λ ps. Ok (points ++ ps)) ≡ and_then r (λ ps. Ok ((points ++ p ∷ []) ++ ps))
+    → and_then (and_then r (λ ps. Ok (p ∷ ps))) (λ ps. Ok (points ++ ps)) ≡ and_then r
+    (λ ps. Ok ((points ++ p ∷ []) ++ ps))
 prepended points p (Ok ps) = ap Ok (sym (append_assoc points (p ∷ []) ps))
 prepended points p (Err k) = refl
 
@@ -46,7 +49,8 @@ with_beat g fs beat = and_then (number_of BadNumber g) (λ m. and_then (as_tempo
 abbrev with_first : Option ℕ → Field → Field → List Field → Result (List TempoPoint) ScoreKind
 with_first last f g fs = and_then (number_of BadNumber f) (λ n. and_then (as_beat last n) (with_beat g fs))
 
-one_pair : (last : Option ℕ) (f g : Field) (fs : List Field) (n m : Signed) (beat tempo : ℕ) → number_of BadNumber f ≡ Ok n
+one_pair : (last : Option ℕ) (f g : Field) (fs : List Field) (n m : Signed) (beat tempo : ℕ)
+    → number_of BadNumber f ≡ Ok n
     → as_beat last n ≡ Ok beat → number_of BadNumber g ≡ Ok m → as_tempo m ≡ Ok tempo
     → points_of last (f ∷ g ∷ fs) ≡ with_tempo beat fs tempo
 one_pair last f g fs n m beat tempo a b c d =
@@ -55,12 +59,16 @@ one_pair last f g fs n m beat tempo a b c d =
     ∙ and_then_by (number_of BadNumber g) (λ m. and_then (as_tempo m) (with_tempo beat fs)) m c
     ∙ and_then_by (as_tempo m) (with_tempo beat fs) tempo d
 
-pub pair_split : (fs : List Field) (at : ℕ) → at + 1 < length fs → drop at fs ≡ get_or fs at empty ∷ get_or fs (at + 1) empty ∷ drop (at + 2) fs
+pub pair_split : (fs : List Field) (at : ℕ) → at + 1 < length fs
+    → drop at fs ≡ get_or fs at empty ∷ get_or fs (at + 1) empty ∷ drop (at + 2) fs
 pair_split fs at l =
     drop_more fs at empty (omega arith)
-    ∙ ap (λ t. get_or fs at empty ∷ t) (drop_more fs (at + 1) empty l ∙ ap (λ n. get_or fs (at + 1) empty ∷ drop n fs) (let e : at + 1 + 1 ≡ at + 2 = omega arith in e))
+    ∙ ap (λ t. get_or fs at empty ∷ t)
+    (drop_more fs (at + 1) empty l
+    ∙ ap (λ n. get_or fs (at + 1) empty ∷ drop n fs) (let e : at + 1 + 1 ≡ at + 2 = omega arith in e))
 
-pub pair_read : (fs : List Field) (at : ℕ) (last : Option ℕ) (points points' : List TempoPoint) (n m : Signed) (beat tempo : ℕ) (whole : Result (List TempoPoint) ScoreKind)
+pub pair_read : (fs : List Field) (at : ℕ) (last : Option ℕ) (points points' : List TempoPoint) (n m : Signed)
+    (beat tempo : ℕ) (whole : Result (List TempoPoint) ScoreKind)
     → at + 1 < length fs → number_of BadNumber (get_or fs at empty) ≡ Ok n → as_beat last n ≡ Ok beat
     → number_of BadNumber (get_or fs (at + 1) empty) ≡ Ok m → as_tempo m ≡ Ok tempo
     → points' ≡ points ++ record { beat = beat; tempo = tempo } ∷ []
@@ -69,13 +77,16 @@ pub pair_read : (fs : List Field) (at : ℕ) (last : Option ℕ) (points points'
 pair_read fs at last points points' n m beat tempo whole l a b c d more read =
     let rest = drop (at + 2) fs in
     read
-    ∙ ap (λ r. and_then r (λ ps. Ok (points ++ ps))) (ap (points_of last) (pair_split fs at l) ∙ one_pair last (get_or fs at empty) (get_or fs (at + 1) empty) rest n m beat tempo a b c d)
+    ∙ ap (λ r. and_then r (λ ps. Ok (points ++ ps)))
+    (ap (points_of last) (pair_split fs at l)
+    ∙ one_pair last (get_or fs at empty) (get_or fs (at + 1) empty) rest n m beat tempo a b c d)
     ∙ prepended points (point beat tempo) (points_of (Some beat) rest)
     ∙ ap (λ p. and_then (points_of (Some beat) rest) (λ ps. Ok (p ++ ps))) (sym more)
 
 -- ---- the ranges of points
 
-beat_range : (last : Option ℕ) (n : Signed) (beat : ℕ) → as_beat last n ≡ Ok beat → (follows last beat ≡ true) × (beat < beats_end)
+beat_range : (last : Option ℕ) (n : Signed) (beat : ℕ) → as_beat last n ≡ Ok beat
+    → (follows last beat ≡ true) × (beat < beats_end)
 beat_range last n beat e = grind (arith, nat_tests)
 
 tempo_range : (n : Signed) (tempo : ℕ) → as_tempo n ≡ Ok tempo → (1000000 ≤ tempo) × (tempo ≤ 60000000000)
@@ -83,28 +94,40 @@ tempo_range n tempo e = grind (arith, nat_tests)
 
 -- ---- a fault in the beat of a pair
 
-number_fault : (last : Option ℕ) (f : Field) (rest : List Field) (k : ScoreKind) → number_of BadNumber f ≡ Err k → points_of last (f ∷ rest) ≡ Err k
-number_fault last f [] k e = and_then_fault (number_of BadNumber f) (λ n. and_then (as_beat last n) (λ _. Err MissingField)) k e
-number_fault last f (g ∷ fs) k e = and_then_fault (number_of BadNumber f) (λ n. and_then (as_beat last n) (with_beat g fs)) k e
+number_fault : (last : Option ℕ) (f : Field) (rest : List Field) (k : ScoreKind) → number_of BadNumber f ≡ Err k
+    → points_of last (f ∷ rest) ≡ Err k
+number_fault last f [] k e =
+    and_then_fault (number_of BadNumber f) (λ n. and_then (as_beat last n) (λ _. Err MissingField)) k e
+number_fault last f (g ∷ fs) k e =
+    and_then_fault (number_of BadNumber f) (λ n. and_then (as_beat last n) (with_beat g fs)) k e
 
-beat_fault : (last : Option ℕ) (f : Field) (rest : List Field) (n : Signed) (k : ScoreKind) → number_of BadNumber f ≡ Ok n
+beat_fault : (last : Option ℕ) (f : Field) (rest : List Field) (n : Signed) (k : ScoreKind)
+    → number_of BadNumber f ≡ Ok n
     → as_beat last n ≡ Err k → points_of last (f ∷ rest) ≡ Err k
-beat_fault last f [] n k e g = and_then_by (number_of BadNumber f) (λ n. and_then (as_beat last n) (λ _. Err MissingField)) n e ∙ and_then_fault (as_beat last n) (λ _. Err MissingField) k g
-beat_fault last f (h ∷ fs) n k e g = and_then_by (number_of BadNumber f) (λ n. and_then (as_beat last n) (with_beat h fs)) n e ∙ and_then_fault (as_beat last n) (with_beat h fs) k g
+beat_fault last f [] n k e g =
+    and_then_by (number_of BadNumber f) (λ n. and_then (as_beat last n) (λ _. Err MissingField)) n e
+    ∙ and_then_fault (as_beat last n) (λ _. Err MissingField) k g
+beat_fault last f (h ∷ fs) n k e g =
+    and_then_by (number_of BadNumber f) (λ n. and_then (as_beat last n) (with_beat h fs)) n e
+    ∙ and_then_fault (as_beat last n) (with_beat h fs) k g
 
-pub fault_read : (fs : List Field) (at : ℕ) (last : Option ℕ) (points : List TempoPoint) (k : ScoreKind) (whole : Result (List TempoPoint) ScoreKind)
+pub fault_read : (fs : List Field) (at : ℕ) (last : Option ℕ) (points : List TempoPoint) (k : ScoreKind)
+    (whole : Result (List TempoPoint) ScoreKind)
     → at < length fs → points_of last (get_or fs at empty ∷ drop (at + 1) fs) ≡ Err k
     → whole ≡ and_then (points_of last (drop at fs)) (λ ps. Ok (points ++ ps)) → whole ≡ Err k
 fault_read fs at last points k whole l e read =
-    read ∙ ap (λ t. and_then (points_of last t) (λ ps. Ok (points ++ ps))) (drop_more fs at empty l) ∙ and_then_fault (points_of last (get_or fs at empty ∷ drop (at + 1) fs)) (λ ps. Ok (points ++ ps)) k e
+    read ∙ ap (λ t. and_then (points_of last t) (λ ps. Ok (points ++ ps))) (drop_more fs at empty l)
+    ∙ and_then_fault (points_of last (get_or fs at empty ∷ drop (at + 1) fs)) (λ ps. Ok (points ++ ps)) k e
 
-pub number_fault_read : (fs : List Field) (at : ℕ) (last : Option ℕ) (points : List TempoPoint) (k : ScoreKind) (whole : Result (List TempoPoint) ScoreKind)
+pub number_fault_read : (fs : List Field) (at : ℕ) (last : Option ℕ) (points : List TempoPoint) (k : ScoreKind)
+    (whole : Result (List TempoPoint) ScoreKind)
     → at < length fs → number_of BadNumber (get_or fs at empty) ≡ Err k
     → whole ≡ and_then (points_of last (drop at fs)) (λ ps. Ok (points ++ ps)) → whole ≡ Err k
 number_fault_read fs at last points k whole l e read =
     fault_read fs at last points k whole l (number_fault last (get_or fs at empty) (drop (at + 1) fs) k e) read
 
-pub beat_fault_read : (fs : List Field) (at : ℕ) (last : Option ℕ) (points : List TempoPoint) (n : Signed) (k : ScoreKind) (whole : Result (List TempoPoint) ScoreKind)
+pub beat_fault_read : (fs : List Field) (at : ℕ) (last : Option ℕ) (points : List TempoPoint) (n : Signed)
+    (k : ScoreKind) (whole : Result (List TempoPoint) ScoreKind)
     → at < length fs → number_of BadNumber (get_or fs at empty) ≡ Ok n → as_beat last n ≡ Err k
     → whole ≡ and_then (points_of last (drop at fs)) (λ ps. Ok (points ++ ps)) → whole ≡ Err k
 beat_fault_read fs at last points n k whole l e g read =
@@ -112,7 +135,8 @@ beat_fault_read fs at last points n k whole l e g read =
 
 -- ---- all points
 
-rising_by : (last beat tempo : ℕ) (rest ps : List TempoPoint) → point beat tempo ∷ rest ≡ ps → last ≤ beat → beat < beats_end
+rising_by : (last beat tempo : ℕ) (rest ps : List TempoPoint) → point beat tempo ∷ rest ≡ ps → last ≤ beat
+    → beat < beats_end
     → (1000000 ≤ tempo) × (tempo ≤ 60000000000) → AreRising beat rest → AreRising last ps
 rising_by last beat tempo rest ps e l m t r =
     subst (AreRising last) e (l, record { beat = m; slow = t.0; fast = t.1 }, r)
@@ -122,7 +146,8 @@ tempo_by : (beat tempo : ℕ) (rest ps : List TempoPoint) → point beat tempo �
 tempo_by beat tempo rest ps e z m t r =
     subst AreTempoPoints e (z, (omega arith, record { beat = m; slow = t.0; fast = t.1 }, r))
 
-later_points : (last : ℕ) (fs : List Field) (ps : List TempoPoint) → points_of (Some last) fs ≡ Ok ps → AreRising last ps
+later_points : (last : ℕ) (fs : List Field) (ps : List TempoPoint) → points_of (Some last) fs ≡ Ok ps
+    → AreRising last ps
 later_points last [] ps e = subst (AreRising last) (let nil : [] ≡ ps = cc in nil) tt
 later_points last (f ∷ []) ps e =
     let a = and_then_ok (number_of BadNumber f) (λ n. and_then (as_beat (Some last) n) (λ _. Err MissingField)) ps e in
@@ -162,7 +187,10 @@ first_points (f ∷ g ∷ fs) ps l e =
     at_start : (n : ℕ) → (n == 0) ≡ true → n ≡ 0
     at_start n h = grind (arith, nat_tests)
 
-pub all_points : (fs : List Field) (at : ℕ) (last : Option ℕ) (points : List TempoPoint) → 0 < length fs → length fs ≤ at
+pub all_points : (fs : List Field) (at : ℕ) (last : Option ℕ) (points : List TempoPoint) → 0 < length fs
+    → length fs ≤ at
     → points_of None fs ≡ and_then (points_of last (drop at fs)) (λ ps. Ok (points ++ ps)) → AreTempoPoints points
 all_points fs at last points some l read =
-    first_points fs points some (read ∙ ap (λ t. and_then (points_of last t) (λ ps. Ok (points ++ ps))) (drop_all at fs l) ∙ ap Ok (append-nil points))
+    first_points fs points some
+    (read ∙ ap (λ t. and_then (points_of last t) (λ ps. Ok (points ++ ps))) (drop_all at fs l)
+    ∙ ap Ok (append-nil points))

@@ -1,5 +1,6 @@
 -- The words of a line, one by one.
-use Rattle.std.proofs.Common.{◌≡◌, ℕ, suc, ◌+◌, ◌<◌, true, false, not, List, [], ◌∷◌, ◌++◌, length, drop, take, map, get_or, arith, ap, sym, ◌∙◌, refl, subst, append_assoc}
+use Rattle.std.proofs.Common.{◌≡◌, ℕ, suc, ◌+◌, ◌<◌, true, false, not, List, [], ◌∷◌, ◌++◌, length, drop, take, map}
+use Rattle.std.proofs.Common.{get_or, arith, ap, sym, ◌∙◌, refl, subst, append_assoc}
 use Rattle.std.specs.List.{prefix_len}
 use Rattle.std.proofs.lemmas.List.{drop_more, drop-drop}
 use Rattle.cs_score.specs.declared.field.Field.{Field}
@@ -14,10 +15,12 @@ word_len text = prefix_len is_word_byte text
 blank_first : (b : ℕ) (rest : List ℕ) → is_blank b ≡ true → words (b ∷ rest) ≡ words rest
 blank_first b rest h = rw h refl
 
-lone_first : (b : ℕ) (rest : List ℕ) → is_blank b ≡ false → begins is_word_byte rest ≡ false → words (b ∷ rest) ≡ (b ∷ []) ∷ words rest
+lone_first : (b : ℕ) (rest : List ℕ) → is_blank b ≡ false → begins is_word_byte rest ≡ false
+    → words (b ∷ rest) ≡ (b ∷ []) ∷ words rest
 lone_first b rest h k = rw (h, k) refl
 
-joined_first : (b : ℕ) (rest : List ℕ) → is_blank b ≡ false → begins is_word_byte rest ≡ true → words (b ∷ rest) ≡ with_first b (words rest)
+joined_first : (b : ℕ) (rest : List ℕ) → is_blank b ≡ false → begins is_word_byte rest ≡ true
+    → words (b ∷ rest) ≡ with_first b (words rest)
 joined_first b rest h k = rw (h, k) refl
 
 len_blank : (b : ℕ) (rest : List ℕ) → is_blank b ≡ true → word_len (b ∷ rest) ≡ 0
@@ -27,21 +30,26 @@ pub len_word : (b : ℕ) (rest : List ℕ) → is_blank b ≡ false → word_len
 len_word b rest h = rw h (omega arith)
 
 -- the word at the front of a text that begins with no blank, and the words after it
-word_first : (b : ℕ) (rest : List ℕ) → is_blank b ≡ false → words (b ∷ rest) ≡ (b ∷ take (word_len rest) rest) ∷ words (drop (word_len rest) rest)
+word_first : (b : ℕ) (rest : List ℕ) → is_blank b ≡ false
+    → words (b ∷ rest) ≡ (b ∷ take (word_len rest) rest) ∷ words (drop (word_len rest) rest)
 word_first b [] h = rw h refl
 word_first b (c ∷ rest) h = by_test (is_blank c)
-    (λ k. subst (λ n. words (b ∷ c ∷ rest) ≡ (b ∷ take n (c ∷ rest)) ∷ words (drop n (c ∷ rest))) (sym (len_blank c rest k)) (lone_first b (c ∷ rest) h (ap not k)))
-    (λ k. subst (λ n. words (b ∷ c ∷ rest) ≡ (b ∷ take n (c ∷ rest)) ∷ words (drop n (c ∷ rest))) (sym (len_word c rest k)) (joined_first b (c ∷ rest) h (ap not k) ∙ ap (with_first b) (word_first c rest k)))
+    (λ k. subst (λ n. words (b ∷ c ∷ rest) ≡ (b ∷ take n (c ∷ rest)) ∷ words (drop n (c ∷ rest)))
+    (sym (len_blank c rest k)) (lone_first b (c ∷ rest) h (ap not k)))
+    (λ k. subst (λ n. words (b ∷ c ∷ rest) ≡ (b ∷ take n (c ∷ rest)) ∷ words (drop n (c ∷ rest)))
+    (sym (len_word c rest k)) (joined_first b (c ∷ rest) h (ap not k) ∙ ap (with_first b) (word_first c rest k)))
 
 one_word : (text : List ℕ) → 0 < length text → is_blank (get_or text 0 0) ≡ false
     → words text ≡ take (word_len text) text ∷ words (drop (word_len text) text)
 one_word [] l h = absurd (omega arith)
 one_word (b ∷ rest) l h =
-    subst (λ n. words (b ∷ rest) ≡ take n (b ∷ rest) ∷ words (drop n (b ∷ rest))) (sym (len_word b rest h)) (word_first b rest h)
+    subst (λ n. words (b ∷ rest) ≡ take n (b ∷ rest) ∷ words (drop n (b ∷ rest))) (sym (len_word b rest h))
+    (word_first b rest h)
 
 -- ---- one turn of the reader
 
-pub blank_read : (line : List ℕ) (at : ℕ) → at < length line → is_blank (get_or line at 0) ≡ true → words (drop at line) ≡ words (drop (at + 1) line)
+pub blank_read : (line : List ℕ) (at : ℕ) → at < length line → is_blank (get_or line at 0) ≡ true
+    → words (drop at line) ≡ words (drop (at + 1) line)
 blank_read line at l h = ap words (drop_more line at 0 l) ∙ blank_first (get_or line at 0) (drop (at + 1) line) h
 
 pub word_read : (line : List ℕ) (at len : ℕ) (fields fields' : List Field) (f : Field) → at < length line
@@ -52,7 +60,8 @@ word_read line at len fields fields' f l h e is more read =
     let split = drop_more line at 0 l in
     let text = drop at line in
     let word : words text ≡ take len text ∷ words (drop len text) =
-    subst (λ n. words text ≡ take n text ∷ words (drop n text)) (sym e) (one_word text (omega (arith, ap length split)) (ap (λ t. is_blank (get_or t 0 0)) split ∙ h)) in
+    subst (λ n. words text ≡ take n text ∷ words (drop n text)) (sym e)
+    (one_word text (omega (arith, ap length split)) (ap (λ t. is_blank (get_or t 0 0)) split ∙ h)) in
     ap (λ fs. fs ++ map field_of (words (drop (at + len) line))) more
     ∙ append_assoc fields (f ∷ []) (map field_of (words (drop (at + len) line)))
     ∙ ap (λ g. fields ++ g ∷ map field_of (words (drop (at + len) line))) is

@@ -1,5 +1,6 @@
 -- What an `i` statement writes and what it takes from those before it. A list of rows stands newest first.
-use Rattle.std.specs.Prelude.{ℕ, Bool, true, false, List, [], ◌∷◌, ◌&&◌, ◌==◌, not, length, max, map, nat_le, slice_get, unwrap_or, Option, Some, None, Result, Ok, Err, if◌then◌else◌}
+use Rattle.std.specs.Prelude.{ℕ, Bool, true, false, List, [], ◌∷◌, ◌&&◌, ◌==◌, not, length, max, map, nat_le, slice_get}
+use Rattle.std.specs.Prelude.{unwrap_or, Option, Some, None, Result, Ok, Err, if◌then◌else◌}
 use Rattle.std.specs.List.{range_with_len}
 use Rattle.cs_base.specs.Limits.{greatest_instrument}
 use Rattle.cs_base.specs.declared.fault.ScoreKind.{ScoreKind}

@@ -1,5 +1,6 @@
 -- What a field of a line says, wherever it stands.
-use Rattle.std.specs.Prelude.{ℕ, ℤ, pos, neg_ℤ, Bool, true, false, List, ◌&&◌, ◌||◌, ◌==◌, length, slice_index, drop, codes, nat_lt, Option, Some, None, if◌then◌else◌}
+use Rattle.std.specs.Prelude.{ℕ, ℤ, pos, neg_ℤ, Bool, true, false, List, ◌&&◌, ◌||◌, ◌==◌, length, slice_index, drop}
+use Rattle.std.specs.Prelude.{codes, nat_lt, Option, Some, None, if◌then◌else◌}
 use Rattle.std.specs.List.{list_any}
 use Rattle.std.specs.Str.{byte}
 use Rattle.std.specs.Option.{option_map}

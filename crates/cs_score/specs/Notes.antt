@@ -1,9 +1,11 @@
 -- An `i` statement: its fields in order, then their count, and what it asks for.
-use Rattle.std.specs.Prelude.{ℕ, ◌+◌, ℤ, Bool, false, List, [], ◌∷◌, length, drop, nat_lt, slice_get, Option, Some, None, Result, Ok, Err, if◌then◌else◌}
+use Rattle.std.specs.Prelude.{ℕ, ◌+◌, ℤ, Bool, false, List, [], ◌∷◌, length, drop, nat_lt, slice_get, Option, Some}
+use Rattle.std.specs.Prelude.{None, Result, Ok, Err, if◌then◌else◌}
 use Rattle.cs_base.specs.Decimals.{millionths_of}
 use Rattle.cs_base.specs.Limits.{greatest_field}
 use Rattle.cs_base.specs.declared.fault.ScoreKind.{ScoreKind}
-use Rattle.cs_base.specs.declared.fault.ScoreKind.TheVariants.{BadStatement, BadNumber, MissingField, NothingToCarry, NegativeTime}
+use Rattle.cs_base.specs.declared.fault.ScoreKind.TheVariants.{BadStatement, BadNumber, MissingField, NothingToCarry}
+use Rattle.cs_base.specs.declared.fault.ScoreKind.TheVariants.{NegativeTime}
 use Rattle.cs_score.specs.declared.field.InstrumentNumber.{InstrumentNumber}
 use Rattle.cs_score.specs.declared.field.Signed.{Signed}
 use Rattle.cs_score.specs.declared.field.Field.{Field}

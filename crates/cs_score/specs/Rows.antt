@@ -3,7 +3,7 @@ use Rattle.std.specs.Prelude.{ℕ, Bool, List, [], ◌∷◌, ◌++◌, ◌+◌,
 use Rattle.std.specs.Char.{is_ascii_alphabetic}
 use Rattle.std.specs.List.{prefix_len}
 use Rattle.std.specs.Str.{byte}
-use Rattle.cs_base.specs.Lines.{Line, begins, is_blank, line_after, lines_of}
+use Rattle.cs_base.specs.Lines.{Excerpt, Line, begins, is_blank, line_after, lines_of}
 use Rattle.cs_score.specs.declared.row.StatementLetter.{StatementLetter}
 use Rattle.cs_score.specs.declared.row.StatementLetter.TheVariants as letter
 use Rattle.cs_score.specs.declared.row.Row.{Row}
@@ -38,16 +38,16 @@ abbrev pub row_at : ℕ → List ℕ → List Row
 row_at line [] = []
 row_at line (b ∷ rest) = record { line = line; letter = letter_of b; fields = map field_of (words rest) } ∷ []
 
--- the statement of a line, if it has one; its line number is that of its letter in the text with its comments
-abbrev pub row_of : List ℕ → Line → List Row
-row_of source l =
+-- the statement of a line, if it has one; its line is that of its letter in the text with its comments
+abbrev pub row_of : Excerpt → Line → List Row
+row_of text l =
     let indent = prefix_len is_blank l.bytes in
-    row_at (line_after (take (l.at + indent) source)) (drop indent l.bytes)
+    row_at (line_after text.first_line (take (l.at + indent) text.bytes)) (drop indent l.bytes)
 
-abbrev pub rows_in : List ℕ → List Line → List Row
-rows_in source [] = []
-rows_in source (l ∷ ls) = row_of source l ++ rows_in source ls
+abbrev pub rows_in : Excerpt → List Line → List Row
+rows_in text [] = []
+rows_in text (l ∷ ls) = row_of text l ++ rows_in text ls
 
 -- the statements of a text
-abbrev pub rows_of : List ℕ → List Row
-rows_of source = rows_in source (lines_of (plain_of source))
+abbrev pub rows_of : Excerpt → List Row
+rows_of text = rows_in text (lines_of text.first_line (plain_of text.bytes))

@@ -1,11 +1,14 @@
 -- The statements of a score, line after line, or its first fault.
-use Rattle.std.specs.Prelude.{ℕ, ℤ, pos, Bool, true, false, List, [], ◌∷◌, ◌++◌, ◌&&◌, ◌==◌, not, length, drop, nat_le, nat_lt, slice_get, Option, Some, None, Result, Ok, Err, if◌then◌else◌}
+use Rattle.std.specs.Prelude.{ℕ, ℤ, pos, Bool, true, false, List, [], ◌∷◌, ◌++◌, ◌&&◌, ◌==◌, not, length, drop, nat_le}
+use Rattle.std.specs.Prelude.{nat_lt, slice_get, Option, Some, None, Result, Ok, Err, if◌then◌else◌}
 use Rattle.std.specs.Option.{option_or}
 use Rattle.std.specs.Ordering.{int_eq}
 use Rattle.cs_base.specs.Limits.{greatest_table}
+use Rattle.cs_base.specs.Lines.{Excerpt}
 use Rattle.cs_base.specs.declared.fault.ScoreFault.{ScoreFault}
 use Rattle.cs_base.specs.declared.fault.ScoreKind.{ScoreKind}
-use Rattle.cs_base.specs.declared.fault.ScoreKind.TheVariants.{BadStatement, BadNumber, MissingField, BadTempo, BadGen, BadTableSize, TableResized, NotInProfile}
+use Rattle.cs_base.specs.declared.fault.ScoreKind.TheVariants.{BadStatement, BadNumber, MissingField, BadTempo, BadGen}
+use Rattle.cs_base.specs.declared.fault.ScoreKind.TheVariants.{BadTableSize, TableResized, NotInProfile}
 use Rattle.cs_gen.specs.declared.check.GenFault.{GenFault}
 use Rattle.cs_gen.specs.declared.check.GenFault.TheVariants as gen
 use Rattle.cs_gen.specs.Faults.{table_fault}
@@ -213,6 +216,6 @@ abbrev pub up_to_end : List Row → List Row
 up_to_end [] = []
 up_to_end (row ∷ rows) = row ∷ (if is_end row.letter then [] else up_to_end rows)
 
--- the statements of a score's text, or the first fault
-unfoldable pub score_of : List ℕ → Result (List ScoreStmt) ScoreFault
+-- the statements of a score's text, or the first fault, with lines of the file in which the text stands
+unfoldable pub score_of : Excerpt → Result (List ScoreStmt) ScoreFault
 score_of text = statements_of [] (up_to_end (rows_of text))

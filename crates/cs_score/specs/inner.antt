@@ -1,6 +1,7 @@
 -- What private clauses alone cite.
 pub mod Counts
 pub mod Hidden
+pub mod Left
 pub mod Past
 pub mod State
 pub mod Values

@@ -4,7 +4,8 @@ ghost use Rattle.std.proofs.Props.{props};
 ghost use Rattle.cs_score.specs.Carry.{is_same};
 ghost use Rattle.cs_score.specs.Notes.{note_of, valued_note};
 ghost use Rattle.cs_score.specs.Ranges.{HasRange, IsInstrument, beats_end};
-ghost use Rattle.cs_score.specs.inner.State.{Ends, IsKept, IsLast, NoteAnswers, completed, filled, filled_one, instr_read, note_read, note_with, p1_before};
+ghost use Rattle.cs_score.specs.inner.State.{Ends, IsKept, IsLast, NoteAnswers, completed, filled, filled_one};
+ghost use Rattle.cs_score.specs.inner.State.{instr_read, note_read, note_with, p1_before};
 ghost use Rattle.cs_score.specs.inner.Values.{AreValues};
 
 use crate::field::{Field, InstrumentNumber};

@@ -3,7 +3,8 @@ ghost use Rattle.std.specs.Prelude.{◌≡◌, true, ◌==◌, ◌≤ℤ◌, pos
 ghost use Rattle.std.specs.List.{list_any};
 ghost use Rattle.cs_base.specs.Lines.{begins};
 ghost use Rattle.cs_base.specs.declared.decimal.Decimal.{Decimal};
-ghost use Rattle.cs_score.specs.Fields.{field_of, is_foreign, is_only, number_field, signed, signed_of, caret_field, raw_of, whole_of, size_of, is_whole, is_below_zero, is_negative_time};
+ghost use Rattle.cs_score.specs.Fields.{field_of, is_foreign, is_only, number_field, signed, signed_of, caret_field};
+ghost use Rattle.cs_score.specs.Fields.{raw_of, whole_of, size_of, is_whole, is_below_zero, is_negative_time};
 ghost use Rattle.cs_score.specs.Carry.{number_of};
 
 use cs_base::{Decimal, Num, ScoreKind, read_decimal};

@@ -1,5 +1,6 @@
 // The statements of a score that are kept: all of them, until they pass a limit. Those after that aren't counted.
-ghost use Rattle.std.specs.Prelude.{◌≡◌, ◌++◌, ◌∷◌, [], ℕ, List, nat_lt, cond, All, IfOk, OnOk, Option, Some, None, Err, if◌then◌else◌};
+ghost use Rattle.std.specs.Prelude.{◌≡◌, ◌++◌, ◌∷◌, [], ℕ, List, nat_lt, cond, All, IfOk, OnOk, Option, Some, None};
+ghost use Rattle.std.specs.Prelude.{Err, if◌then◌else◌};
 ghost use Rattle.std.specs.Option.{is_none, option_or};
 ghost use Rattle.cs_base.specs.declared.limit.LimitHit.{LimitHit};
 ghost use Rattle.cs_score.specs.declared.statement.ScoreStmt.{ScoreStmt};

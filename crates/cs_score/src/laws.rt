@@ -1,5 +1,6 @@
 // What holds of every score: calls that do nothing, whose contracts are the laws.
-ghost use Rattle.std.specs.Prelude.{◌≡◌, ℕ, List, Ok};
+ghost use Rattle.std.specs.Prelude.{◌≡◌, List, Ok};
+ghost use Rattle.cs_base.specs.Lines.{Excerpt};
 ghost use Rattle.cs_score.specs.declared.statement.ScoreStmt.{ScoreStmt};
 ghost use Rattle.cs_score.specs.Plain.{AllFit, CommentOrByte, plain_by, plain_of, text_of};
 ghost use Rattle.cs_score.specs.Sizes.{HaveOneSize};
@@ -12,6 +13,6 @@ pub fn comments_are_spaces()
 
 /// Tables of one number have one size, in the whole score: that of the first of them.
 pub fn tables_keep_one_size()
-    ensures { (text : List ℕ) (statements : List ScoreStmt) → score_of text ≡ Ok statements
+    ensures { (text : Excerpt) (statements : List ScoreStmt) → score_of text ≡ Ok statements
         → HaveOneSize statements }
 {}

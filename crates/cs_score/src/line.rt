@@ -1,15 +1,16 @@
 // The lines of a text, one by one.
-ghost use Rattle.std.specs.Prelude.{◌≡◌, ◌<◌, ◌≤◌, ◌+◌, ◌-◌, ◌++◌, drop, take, length, IfOk};
+ghost use Rattle.std.specs.Prelude.{◌≡◌, ◌<◌, ◌≤◌, ◌+◌, ◌-◌, ◌++◌, take, length, IfOk};
 ghost use Rattle.std.specs.Option.{option_to_list};
-ghost use Rattle.cs_base.specs.Limits.{most_score_bytes};
-ghost use Rattle.cs_base.specs.Lines.{line_after, lines_from};
-ghost use Rattle.cs_score.specs.Rows.{row_at, rows_in};
+ghost use Rattle.cs_base.specs.Limits.{most_csd_bytes, most_score_bytes};
+ghost use Rattle.cs_base.specs.Lines.{line_after};
+ghost use Rattle.cs_score.specs.Rows.{row_at};
+ghost use Rattle.cs_score.specs.inner.Left.{rows_from};
 
 use crate::row::{Row, StatementLetter, fields_of};
-use cs_base::{blanks_len, feeds, line_len, next_len};
+use cs_base::{Excerpt, blanks_len, feeds, line_len, next_len};
 use std::alloc::{AllocError, Global};
 
-/// A line that was read: its statement, if it has one, and the place and the line number of what follows.
+/// A line that was read: its statement, if it has one, and the place and the line of what follows.
 #[derive(Drop)]
 pub struct LineRead {
     pub row: Option<Row>,
@@ -17,22 +18,23 @@ pub struct LineRead {
     pub line: u32,
 }
 
-/// Reads the line of a text at a place; `plain` is the text without its comments, and `line` the line number there.
+/// Reads the line of a text at a place; `plain` is the text without its comments, and `line` the line there.
 pub fn read_line(
     alloc: Global,
-    text: &[u8],
+    text: &Excerpt,
     plain: &[u8],
     at: usize,
     line: u32,
 ) -> Result<LineRead, AllocError>
-    requires small { length text.now ≤ most_score_bytes }
-    requires plain { length plain.now ≡ length text.now }
+    requires first { text.now.first_line ≤ most_csd_bytes + 1 }
+    requires small { length text.now.bytes ≤ most_score_bytes }
+    requires plain { length plain.now ≡ length text.now.bytes }
     requires at { at < length plain.now }
-    requires line { line ≡ line_after (take at text.now) }
-    ensures row { IfOk result (λ r. rows_in text.now (lines_from 1 at (drop at plain.now))
-        ≡ option_to_list r.row ++ rows_in text.now (lines_from 1 r.next (drop r.next plain.now))) }
+    requires line { line ≡ line_after text.now.first_line (take at text.now.bytes) }
+    ensures row { IfOk result (λ r. rows_from text.now plain.now at
+        ≡ option_to_list r.row ++ rows_from text.now plain.now r.next) }
     ensures next { IfOk result (λ r. (at < r.next) × (r.next ≤ length plain.now)) }
-    ensures line { IfOk result (λ r. r.line ≡ line_after (take r.next text.now)) }
+    ensures line { IfOk result (λ r. r.line ≡ line_after text.now.first_line (take r.next text.now.bytes)) }
 {
     let rest = &plain[at..];
     let bytes = &rest[..line_len(rest)];
@@ -48,15 +50,16 @@ pub fn read_line(
     })
 }
 
-// The line number at a place, from that at an earlier one.
-fn line_on(text: &[u8], line: u32, from: usize, to: usize) -> u32
-    requires small { length text.now ≤ most_score_bytes }
+// The line of a place, from that of an earlier one.
+fn line_on(text: &Excerpt, line: u32, from: usize, to: usize) -> u32
+    requires first { text.now.first_line ≤ most_csd_bytes + 1 }
+    requires small { length text.now.bytes ≤ most_score_bytes }
     requires from { from ≤ to }
-    requires to { to ≤ length text.now }
-    requires line { line ≡ line_after (take from text.now) }
-    ensures { result ≡ line_after (take to text.now) }
+    requires to { to ≤ length text.now.bytes }
+    requires line { line ≡ line_after text.now.first_line (take from text.now.bytes) }
+    ensures { result ≡ line_after text.now.first_line (take to text.now.bytes) }
 {
-    line + feeds(&text[from..to])
+    line + feeds(&text.bytes()[from..to])
 }
 
 // A statement, where a line has one after its blanks: its letter, and its fields.

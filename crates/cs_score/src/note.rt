@@ -1,11 +1,13 @@
 // An `i` statement: what it writes, what it takes from the one before, and what it asks for.
-ghost use Rattle.std.specs.Prelude.{◌≡◌, ◌<◌, ◌≤◌, ◌+◌, ◌-◌, ◌^◌, Some, Ok, Err, IfOk, OnOk, IfSome, slice_get, drop, length};
+ghost use Rattle.std.specs.Prelude.{◌≡◌, ◌<◌, ◌≤◌, ◌+◌, ◌-◌, ◌^◌, Some, Ok, Err, IfOk, OnOk, IfSome, slice_get, drop};
+ghost use Rattle.std.specs.Prelude.{length};
 ghost use Rattle.cs_base.specs.Limits.{greatest_field};
 ghost use Rattle.cs_base.specs.declared.fault.ScoreKind.TheVariants.{NothingToCarry};
 ghost use Rattle.cs_score.specs.Ranges.{IsInstrument, number_or_one, HasRange, beats_end};
 ghost use Rattle.cs_score.specs.declared.statement.ScoreWhat.{ScoreWhat};
 ghost use Rattle.cs_score.specs.Carry.{and_then, as_instrument, p1_by};
-ghost use Rattle.cs_score.specs.Notes.{as_time, moved, p2_by, gap_by, start_of, as_length, p3_by, times_of, values_of, fewest, counted, note_by};
+ghost use Rattle.cs_score.specs.Notes.{as_time, moved, p2_by, gap_by, start_of, as_length, p3_by, times_of, values_of};
+ghost use Rattle.cs_score.specs.Notes.{fewest, counted, note_by};
 ghost use Rattle.cs_score.specs.inner.State.{Answers, Ends, p1_before};
 ghost use Rattle.cs_score.specs.inner.Values.{AreValues};
 

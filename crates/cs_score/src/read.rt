@@ -17,14 +17,14 @@ use crate::past::Past;
 use crate::row::{Row, StatementLetter};
 use crate::statement_fault::StatementFault;
 use crate::{ScoreStmt, ScoreStmts};
-use cs_base::{Or, Refusal, ScoreFault};
+use cs_base::{Excerpt, Or, Refusal, ScoreFault};
 use std::alloc::Global;
 
 /// Reads a score of at most 4,194,304 bytes into its statements, or finds its first fault, else the first limit that
 /// its statements pass: that on table numbers, else that on statements. What is carried and the base of a section are
 /// resolved.
-pub fn read_score(alloc: Global, text: &[u8]) -> Result<ScoreStmts, Or<Refusal>>
-    requires { length text.now ≤ most_score_bytes }
+pub fn read_score(alloc: Global, text: &Excerpt) -> Result<ScoreStmts, Or<Refusal>>
+    requires { length text.now.bytes ≤ most_score_bytes }
     ensures statements { IfOk result (λ statements. score_of text.now ≡ Ok statements) }
     ensures within { IfOk result (λ statements. limit_of_score statements ≡ None) }
     ensures ranges { IfOk result (λ statements. All IsInRange statements) }
@@ -39,17 +39,17 @@ pub fn read_score(alloc: Global, text: &[u8]) -> Result<ScoreStmts, Or<Refusal>>
 }
 
 // Reads the whole text; of its statements those are kept that pass no limit.
-fn read_all(alloc: Global, text: &[u8]) -> Result<KeptStatements, Or<ScoreFault>>
-    requires { length text.now ≤ most_score_bytes }
+fn read_all(alloc: Global, text: &Excerpt) -> Result<KeptStatements, Or<ScoreFault>>
+    requires { length text.now.bytes ≤ most_score_bytes }
     ensures whole { IfOk result (IsWhole text.now) }
     ensures ranges { IfOk result (λ kept. All IsInRange kept.statements) }
     ensures fault { (f : ScoreFault) → result ≡ Err (or.Fault f) → score_of text.now ≡ Err f }
 {
-    let plain = plain(alloc, text)?;
+    let plain = plain(alloc, text.bytes())?;
     let mut past = Past::new(alloc);
     let mut kept = KeptStatements::new(alloc);
     let mut at = 0;
-    let mut line = 1;
+    let mut line = text.first_line();
     while at < plain.len() {
         let read = read_line(alloc, text, &plain, at, line)?;
         at = read.next;

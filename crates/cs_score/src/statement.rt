@@ -1,3 +1,4 @@
+// What a score is read into: its statements.
 use cs_base::{Items, Num, Nums};
 
 /// A point of a tempo statement: from this beat on the tempo.

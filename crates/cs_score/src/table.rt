@@ -4,7 +4,9 @@ ghost use Rattle.std.specs.HashMap.{get};
 ghost use Rattle.cs_base.specs.declared.fault.ScoreKind.TheVariants.{BadNumber};
 ghost use Rattle.cs_gen.specs.Faults.{table_fault};
 ghost use Rattle.cs_score.specs.Ranges.{beats_end, IsTableNumber};
-ghost use Rattle.cs_score.specs.Statements.{time_of, time_at, as_whole, whole_at, as_table_number, table_number_at, extend_of, table_by, written_table, is_other_size, table_refusal, refusal_of, base_by};
+ghost use Rattle.cs_score.specs.Statements.{time_of, time_at, as_whole, whole_at, as_table_number, table_number_at};
+ghost use Rattle.cs_score.specs.Statements.{extend_of, table_by, written_table, is_other_size, table_refusal};
+ghost use Rattle.cs_score.specs.Statements.{refusal_of, base_by};
 ghost use Rattle.cs_score.specs.inner.State.{Answers, HasWrittenRange};
 
 use crate::ScoreWhat;

@@ -1,5 +1,6 @@
 -- The time of a beat by the time of a point at or before it.
-use Rattle.std.proofs.Common.{◌≡◌, ℕ, zero, suc, ◌+◌, ◌-◌, ◌*◌, ◌^◌, ◌<◌, ◌≤◌, min, List, [], ◌∷◌, drop, take, length, get_or, arith, refl, sym}
+use Rattle.std.proofs.Common.{◌≡◌, ℕ, zero, suc, ◌+◌, ◌-◌, ◌*◌, ◌^◌, ◌<◌, ◌≤◌, min, List, [], ◌∷◌, drop, take, length}
+use Rattle.std.proofs.Common.{get_or, arith, refl, sym}
 use Rattle.std.proofs.lemmas.List.{drop-drop, take_rest, get_or_read}
 use Rattle.std.proofs.lemmas.Nat.{mul-le, div_below}
 use Rattle.cs_score.specs.Ranges.{AreRising, beats_end}
@@ -25,12 +26,14 @@ rises_to f (p ∷ later) zero some r = r.0
 rises_to f (p ∷ later) (suc k) some r = omega (arith, r.0, rises_to p.beat later k (omega arith) r.2)
 
 -- a whole part is the same whichever later beat it lies before
-whole_part : (p q : TempoPoint) (rest : List TempoPoint) (x y : ℕ) → q.beat ≤ x → q.beat ≤ y → part_of p (q ∷ rest) x ≡ part_of p (q ∷ rest) y
+whole_part : (p q : TempoPoint) (rest : List TempoPoint) (x y : ℕ) → q.beat ≤ x → q.beat ≤ y
+    → part_of p (q ∷ rest) x ≡ part_of p (q ∷ rest) y
 unfolding part_of
 whole_part p q rest x y a b =
     let e : min x q.beat ≡ min y q.beat = omega arith in rw e refl
 
-nothing_yet : (p : TempoPoint) (later : List TempoPoint) (x : ℕ) → Rises (p ∷ later) → x ≤ p.beat → time_along (p ∷ later) x ≡ 0
+nothing_yet : (p : TempoPoint) (later : List TempoPoint) (x : ℕ) → Rises (p ∷ later) → x ≤ p.beat
+    → time_along (p ∷ later) x ≡ 0
 nothing_yet p later x r early = omega (arith, along_small p later x r.0 r.1)
 
 -- the time of a beat is that of a point at or before it, and what passes from there
@@ -42,23 +45,28 @@ time_from (p ∷ later) zero x r some h = omega (arith, nothing_yet p later p.be
 time_from (p ∷ []) (suc k) x r some h = absurd (omega arith)
 time_from (p ∷ q ∷ rest) (suc k) x r some h =
     let on = rises_on p (q ∷ rest) r in
-    let low : q.beat ≤ (point_at (q ∷ rest) k).beat = rises_to q.beat (q ∷ rest) k (omega arith) (omega arith, on.0, on.1) in
+    let low : q.beat ≤ (point_at (q ∷ rest) k).beat =
+    rises_to q.beat (q ∷ rest) k (omega arith) (omega arith, on.0, on.1) in
     let e = whole_part p q rest x (point_at (q ∷ rest) k).beat (omega arith) low in
     omega (arith, e, time_from (q ∷ rest) k x on (omega arith) h)
 
-rises_by_one : (ps : List TempoPoint) (j : ℕ) → Rises ps → j + 1 < length ps → (point_at ps j).beat ≤ (point_at ps (j + 1)).beat
+rises_by_one : (ps : List TempoPoint) (j : ℕ) → Rises ps → j + 1 < length ps
+    → (point_at ps j).beat ≤ (point_at ps (j + 1)).beat
 rises_by_one [] j r some = absurd (omega arith)
 rises_by_one (p ∷ later) zero r some = rises_to p.beat later 0 (omega arith) r.1
-rises_by_one (p ∷ later) (suc j) r some = let e : suc j + 1 ≡ suc (j + 1) = omega arith in rw e (rises_by_one later j (rises_on p later r) (omega arith))
+rises_by_one (p ∷ later) (suc j) r some = let e : suc j + 1 ≡ suc (j + 1) =
+    omega arith in rw e (rises_by_one later j (rises_on p later r) (omega arith))
 
-nothing_from : (ps : List TempoPoint) (k : ℕ) → Rises ps → k < length ps → time_along (drop k ps) (point_at ps k).beat ≡ 0
+nothing_from : (ps : List TempoPoint) (k : ℕ) → Rises ps → k < length ps
+    → time_along (drop k ps) (point_at ps k).beat ≡ 0
 nothing_from [] k r some = absurd (omega arith)
 nothing_from (p ∷ later) zero r some = nothing_yet p later p.beat r (omega arith)
 nothing_from (p ∷ later) (suc k) r some = nothing_from later k (rises_on p later r) (omega arith)
 
 -- the time of the next point
 pub next_time : (ps : List TempoPoint) (j part : ℕ) → Rises ps → j + 1 < length ps →
-    time_along (drop j ps) (point_at ps (j + 1)).beat ≡ part + time_along (drop 1 (drop j ps)) (point_at ps (j + 1)).beat →
+    time_along (drop j ps) (point_at ps (j + 1)).beat ≡ part + time_along (drop 1 (drop j ps))
+    (point_at ps (j + 1)).beat →
     time_along ps (point_at ps j).beat + part ≡ time_along ps (point_at ps (j + 1)).beat
 next_time ps j part r some e =
     let up : (point_at ps j).beat ≤ (point_at ps (j + 1)).beat = rises_by_one ps j r some in
@@ -85,7 +93,8 @@ cycle_small ns sr ksmps early slow some =
     div_below (2 * ns * sr + ksmps * 10 ^ 9) (2 * ksmps * 10 ^ 9) (2 ^ 47) (omega arith) (omega (arith, m))
 
 -- a clock's reading: the time of a point, and what passes from there
-pub reading : (ps : List TempoPoint) (times : List ℕ) (k x t part : ℕ) → IsTimed ps times → k < length ps → (point_at ps k).beat ≤ x →
+pub reading : (ps : List TempoPoint) (times : List ℕ) (k x t part : ℕ) → IsTimed ps times → k < length ps
+    → (point_at ps k).beat ≤ x →
     t ≡ get_or times k t → part ≡ time_along (take (length ps - k) (drop k ps)) x → t + part ≡ time_of ps x
 reading [] times k x t part timed some early at e = absurd (omega arith)
 reading (p ∷ later) times k x t part timed some early at e =

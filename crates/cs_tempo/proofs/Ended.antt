@@ -1,5 +1,6 @@
 -- The stop that ends a held note: by the notes that sound, and by counting.
-use Rattle.std.proofs.Common.{◌≡◌, ℕ, zero, suc, ◌<◌, Bool, true, false, cond, ◌==◌, ◌&&◌, List, [], ◌∷◌, ◌++◌, length, drop, Option, Some, None, slice_get, ℤ, arith, refl, ap, ◌∙◌, ⊎_elim, append_assoc}
+use Rattle.std.proofs.Common.{◌≡◌, ℕ, zero, suc, ◌<◌, Bool, true, false, cond, ◌==◌, ◌&&◌, List, [], ◌∷◌, ◌++◌, length}
+use Rattle.std.proofs.Common.{drop, Option, Some, None, slice_get, ℤ, arith, refl, ap, ◌∙◌, ⊎_elim, append_assoc}
 use Rattle.std.proofs.lemmas.Bool.{cases_Bool}
 use Rattle.std.proofs.lemmas.Bool.Decides.{nat_tests}
 use Rattle.std.proofs.lemmas.List.{length_push}
@@ -8,7 +9,8 @@ use Rattle.cs_score.specs.declared.statement.ScoreWhat.TheVariants.{Note, Hold, 
 use Rattle.cs_score.specs.declared.statement.ScoreStmt.{ScoreStmt}
 use Rattle.cs_tempo.specs.inner.Counted.{sounding_after, sounding, own_stop, stops_of, stop_after}
 use Rattle.cs_tempo.specs.Pairing.{held_after, held, ends_here, or_later, ending_stop}
-use Rattle.cs_tempo.proofs.Sorting.{Each, each_more}
+use Rattle.std.specs.List.{AllByRecursion as Each}
+use Rattle.cs_tempo.proofs.Elements.{each_more}
 
 -- one more turn changes places and number alike
 one_more : (n index : ℕ) (w : ScoreWhat) (h : List ℕ) → length (held_after n index w h) ≡ sounding_after n w (length h)
@@ -26,7 +28,8 @@ one_more n index Section h = refl
 held_counted : (n : ℕ) (earlier : List ScoreStmt) → length (held n earlier) ≡ sounding n earlier
 unfolding held sounding
 held_counted n [] = refl
-held_counted n (s ∷ earlier) = one_more n (length earlier) s.what (held n earlier) ∙ ap (sounding_after n s.what) (held_counted n earlier)
+held_counted n (s ∷ earlier) =
+    one_more n (length earlier) s.what (held n earlier) ∙ ap (sounding_after n s.what) (held_counted n earlier)
 
 push_each : (P : ℕ → Type 0) (xs : List ℕ) (x : ℕ) → Each P xs → P x → Each P (xs ++ x ∷ [])
 push_each P [] x e p = (p, tt)
@@ -66,7 +69,8 @@ ended true true at rest later p q = refl
 ended true false at rest later p q = absurd (cc)
 ended false c at rest later p q = absurd (cc)
 
-sounds_on : (b c : Bool) (at k : ℕ) (rest : Option ℕ) (later : List ℕ) → b ≡ true → c ≡ false → rest ≡ slice_get later k →
+sounds_on : (b c : Bool) (at k : ℕ) (rest : Option ℕ) (later : List ℕ) → b ≡ true → c ≡ false → rest ≡ slice_get later k
+    →
     or_later (cond (b && c) (Some at) None) rest ≡ slice_get (cond b (at ∷ []) [] ++ later) (suc k)
 sounds_on true true at k rest later p q h = absurd (cc)
 sounds_on true false at k rest later p q h = h
@@ -82,8 +86,10 @@ apart a index h = grind (arith, nat_tests)
 
 -- one turn: the stop ends the note, or it sounds on with those before it that still sound
 module _ (n index : ℕ) where
-  step : (k : ℕ) (w : ScoreWhat) (ahead behind : List ℕ) (rest : Option ℕ) (later : List ℕ) → Each (λ p. p < index) ahead →
-      ((front back : List ℕ) → held_after n k w (ahead ++ index ∷ behind) ≡ front ++ index ∷ back → Each (λ p. p < index) front → rest ≡ slice_get later (length front)) →
+  step : (k : ℕ) (w : ScoreWhat) (ahead behind : List ℕ) (rest : Option ℕ) (later : List ℕ)
+      → Each (λ p. p < index) ahead →
+      ((front back : List ℕ) → held_after n k w (ahead ++ index ∷ behind) ≡ front ++ index ∷ back
+      → Each (λ p. p < index) front → rest ≡ slice_get later (length front)) →
       or_later (ends_here n index (ahead ++ index ∷ behind) w) rest ≡ slice_get (own_stop n w ++ later) (length ahead)
   step k (Hold instr at given more) ahead behind rest later low go =
       ⊎_elim
@@ -97,8 +103,10 @@ module _ (n index : ℕ) where
       (cases_Bool (n == instr))
   step k (Stop instr at) (a ∷ ahead) behind rest later low go =
       ⊎_elim
-      (λ t. sounds_on (n == instr) (index == a) at (length ahead) rest later t (apart a index low.0) (go ahead behind (rw t refl) low.1))
-      (λ f. another (n == instr) (index == a) at (suc (length ahead)) rest later f (go (a ∷ ahead) behind (rw f refl) low))
+      (λ t. sounds_on (n == instr) (index == a) at (length ahead) rest later t (apart a index low.0)
+      (go ahead behind (rw t refl) low.1))
+      (λ f. another (n == instr) (index == a) at (suc (length ahead)) rest later f
+      (go (a ∷ ahead) behind (rw f refl) low))
       (cases_Bool (n == instr))
   step k (Note instr at len more) ahead behind rest later low go = go ahead behind refl low
   step k (Table number at size gen args) ahead behind rest later low go = go ahead behind refl low
@@ -106,24 +114,29 @@ module _ (n index : ℕ) where
   step k (Tempo points) ahead behind rest later low go = go ahead behind refl low
   step k Section ahead behind rest later low go = go ahead behind refl low
 
-  counted : (ahead behind : List ℕ) (earlier later : List ScoreStmt) → held n earlier ≡ ahead ++ index ∷ behind → Each (λ p. p < index) ahead →
+  counted : (ahead behind : List ℕ) (earlier later : List ScoreStmt) → held n earlier ≡ ahead ++ index ∷ behind
+      → Each (λ p. p < index) ahead →
       ending_stop n index earlier later ≡ slice_get (stops_of n later) (length ahead)
   unfolding ending_stop stops_of held
   counted ahead behind earlier [] e low = none_there [] (length ahead) refl
   counted ahead behind earlier (s ∷ later) e low =
       ap (λ h. or_later (ends_here n index h s.what) (ending_stop n index (s ∷ earlier) later)) e
       ∙ step (length earlier) s.what ahead behind (ending_stop n index (s ∷ earlier) later) (stops_of n later) low
-      (λ front back e' low'. counted front back (s ∷ earlier) later (ap (held_after n (length earlier) s.what) e ∙ e') low')
+      (λ front back e' low'. counted front back (s ∷ earlier) later (ap (held_after n (length earlier) s.what) e ∙ e')
+      low')
 
-held_now : (n at : ℕ) (given : ℤ) (more : List ℤ) (k : ℕ) (h : List ℕ) → held_after n k (Hold n at given more) h ≡ h ++ k ∷ []
+held_now : (n at : ℕ) (given : ℤ) (more : List ℤ) (k : ℕ) (h : List ℕ)
+    → held_after n k (Hold n at given more) h ≡ h ++ k ∷ []
 held_now n at given more k h = let same : (n == n) ≡ true = grind (arith, nat_tests) in rw same refl
 
 -- the stop that ends a held note, where it starts as the last that sounds
-pub first_ended : (h : ScoreStmt) (n at : ℕ) (given : ℤ) (more : List ℤ) (earlier later : List ScoreStmt) → h.what ≡ Hold n at given more →
+pub first_ended : (h : ScoreStmt) (n at : ℕ) (given : ℤ) (more : List ℤ) (earlier later : List ScoreStmt)
+    → h.what ≡ Hold n at given more →
     ending_stop n (length earlier) (h ∷ earlier) later ≡ stop_after n earlier later
 unfolding held
 first_ended h n at given more earlier later e =
     counted n (length earlier) (held n earlier) [] (h ∷ earlier) later
-    (ap (λ w. held_after n (length earlier) w (held n earlier)) e ∙ held_now n at given more (length earlier) (held n earlier))
+    (ap (λ w. held_after n (length earlier) w (held n earlier)) e
+    ∙ held_now n at given more (length earlier) (held n earlier))
     (held_lower n earlier)
     ∙ ap (slice_get (stops_of n later)) (held_counted n earlier)

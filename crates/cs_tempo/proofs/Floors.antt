@@ -1,5 +1,6 @@
 -- The time along a ramp as its formula with a sign.
-use Rattle.std.proofs.Common.{◌≡◌, ℕ, ℤ, zero, suc, ◌+◌, ◌-◌, ◌*◌, ◌/◌, ◌<◌, ◌≤◌, pos, neg_ℤ, ◌+ℤ◌, ◌-ℤ◌, ◌*ℤ◌, unsigned_abs, arith, refl, ap, sym, subst, ◌∙◌, ⊎_elim}
+use Rattle.std.proofs.Common.{◌≡◌, ℕ, ℤ, zero, suc, ◌+◌, ◌-◌, ◌*◌, ◌/◌, ◌<◌, ◌≤◌, pos, neg_ℤ, ◌+ℤ◌, ◌-ℤ◌, ◌*ℤ◌}
+use Rattle.std.proofs.Common.{unsigned_abs, arith, refl, ap, sym, ◌∙◌, ⊎_elim}
 use Rattle.std.specs.Int.{int_div_euclid}
 use Rattle.std.proofs.Math.Nat.{div-le_self, mul-zero}
 use Rattle.std.proofs.lemmas.Nat.{mul-le}
@@ -8,7 +9,8 @@ use Rattle.std.proofs.lemmas.Bool.{cases_lt}
 use Rattle.cs_base.specs.Numbers.{floor_div}
 use Rattle.cs_tempo.specs.Time.{ramp_time}
 use Rattle.cs_tempo.specs.inner.Ramps.{ramp_in_parts, rounded_up}
-use Rattle.cs_tempo.proofs.Ramps.{ramp_up, ramp_down, ramp_grows, ramp_small, ramp_of_nothing, nothing_shared, quotient_below, quotient_above, up_least, up_most, shorter_within}
+use Rattle.cs_tempo.proofs.Ramps.{ramp_up, ramp_down, ramp_grows, ramp_small, ramp_of_nothing, nothing_shared}
+use Rattle.cs_tempo.proofs.Ramps.{quotient_below, quotient_above, up_least, up_most, shorter_within}
 
 times_up : (f l y : ℕ) → f ≤ l → (pos l -ℤ pos f) *ℤ pos y ≡ pos ((l - f) * y)
 times_up f l y h = let e : pos l -ℤ pos f ≡ pos (l - f) = omega (arith, ints) in ap (λ z. z *ℤ pos y) e
@@ -18,7 +20,8 @@ neg_times zero n = omega (arith, ints)
 neg_times (suc m) n = refl
 
 times_down : (f l y : ℕ) → l ≤ f → (pos l -ℤ pos f) *ℤ pos y ≡ neg_ℤ (pos ((f - l) * y))
-times_down f l y h = let e : pos l -ℤ pos f ≡ neg_ℤ (pos (f - l)) = omega (arith, ints) in ap (λ z. z *ℤ pos y) e ∙ neg_times (f - l) y
+times_down f l y h = let e : pos l -ℤ pos f ≡ neg_ℤ (pos (f - l)) =
+    omega (arith, ints) in ap (λ z. z *ℤ pos y) e ∙ neg_times (f - l) y
 
 -- a quotient of n + 1 rounded up is one more than that of n rounded down
 same_quotient : (d u q n : ℕ) → 0 < d → suc n ≤ d * u → d * u < suc n + d → d * q ≤ n → n < d * q + d → u ≡ q + 1
@@ -26,7 +29,8 @@ same_quotient d u q n h a b c e =
     ⊎_elim
     (λ (l : u < q + 1). let m : d * u ≤ d * q = mul-le d u d q (omega arith) (omega arith) in absurd (omega (arith, m)))
     (λ (l : q + 1 ≤ u). ⊎_elim
-    (λ (g : q + 1 < u). let m : d * (q + 2) ≤ d * u = mul-le d (q + 2) d u (omega arith) (omega arith) in absurd (omega (arith, m)))
+    (λ (g : q + 1 < u). let m : d * (q + 2) ≤ d * u =
+    mul-le d (q + 2) d u (omega arith) (omega arith) in absurd (omega (arith, m)))
     (λ (g : u ≤ q + 1). omega arith)
     (cases_lt (q + 1) u))
     (cases_lt u (q + 1))
@@ -44,29 +48,38 @@ none_up : (d : ℕ) → 0 < d → rounded_up 0 d ≡ 0
 none_up d h =
     let a = up_most 0 d h in
     ⊎_elim
-    (λ (l : 0 < rounded_up 0 d). let m : d * 1 ≤ d * rounded_up 0 d = mul-le d 1 d (rounded_up 0 d) (omega arith) l in absurd (omega (arith, a, m)))
+    (λ (l : 0 < rounded_up 0 d). let m : d * 1 ≤ d * rounded_up 0 d =
+    mul-le d 1 d (rounded_up 0 d) (omega arith) l in absurd (omega (arith, a, m)))
     (λ (l : rounded_up 0 d ≤ 0). omega arith)
     (cases_lt 0 (rounded_up 0 d))
 
-fallen : (n d e : ℕ) → 0 < d → rounded_up n d ≤ e → pos (e - rounded_up n d) ≡ pos e +ℤ int_div_euclid (neg_ℤ (pos n)) (pos d)
-fallen zero d e h within = let u : rounded_up 0 d ≡ 0 = none_up d h in let z : 0 / d ≡ 0 = omega (arith, div-le_self 0 d) in omega (arith, ints, u, z)
+fallen : (n d e : ℕ) → 0 < d → rounded_up n d ≤ e
+    → pos (e - rounded_up n d) ≡ pos e +ℤ int_div_euclid (neg_ℤ (pos n)) (pos d)
+fallen zero d e h within = let u : rounded_up 0 d ≡ 0 = none_up d h in let z : 0 / d ≡ 0 =
+    omega (arith, div-le_self 0 d) in omega (arith, ints, u, z)
 fallen (suc n) d e h within = let u = up_of_more n d h in omega (arith, ints, u)
 
-falls_within : (f l s x : ℕ) → 1000000 ≤ l → l ≤ f → 1 ≤ s → x ≤ s → rounded_up ((f - l) * (x * x)) (2 * s * 1000000) ≤ f * x / 1000000
+falls_within : (f l s x : ℕ) → 1000000 ≤ l → l ≤ f → 1 ≤ s → x ≤ s
+    → rounded_up ((f - l) * (x * x)) (2 * s * 1000000) ≤ f * x / 1000000
 falls_within f l s zero low falls some inside =
     let n : (f - l) * (0 * 0) ≡ 0 = omega arith in
-    let u : rounded_up ((f - l) * (0 * 0)) (2 * s * 1000000) ≡ 0 = ap (λ m. rounded_up m (2 * s * 1000000)) n ∙ none_up (2 * s * 1000000) (omega arith) in omega (arith, u)
+    let u : rounded_up ((f - l) * (0 * 0)) (2 * s * 1000000) ≡ 0 =
+    ap (λ m. rounded_up m (2 * s * 1000000)) n ∙ none_up (2 * s * 1000000) (omega arith) in omega (arith, u)
 falls_within f l s (suc x) low falls some inside = shorter_within f l s (suc x) low falls (omega arith) inside
 
 ramp_is : (f l s x : ℕ) → 1000000 ≤ f → 1000000 ≤ l → 1 ≤ s → x ≤ s →
-    pos (ramp_in_parts f l s x) ≡ pos (f * x / 1000000) +ℤ floor_div ((pos l -ℤ pos f) *ℤ pos (x * x)) (pos (2 * s * 1000000))
+    pos (ramp_in_parts f l s x) ≡ pos (f * x / 1000000) +ℤ floor_div ((pos l -ℤ pos f) *ℤ pos (x * x))
+    (pos (2 * s * 1000000))
 ramp_is f l s x low low' some inside =
     ⊎_elim
     (λ (h : l < f).
     let d : ℕ = 2 * s * 1000000 in
-    let within : rounded_up ((f - l) * (x * x)) (2 * s * 1000000) ≤ f * x / 1000000 = falls_within f l s x low' (omega arith) some inside in
-    ap pos (sym (ramp_down f l s x h)) ∙ fallen ((f - l) * (x * x)) (2 * s * 1000000) (f * x / 1000000) (omega arith) within
-    ∙ ap (λ z. pos (f * x / 1000000) +ℤ floor_div z (pos (2 * s * 1000000))) (sym (times_down f l (x * x) (omega arith))))
+    let within : rounded_up ((f - l) * (x * x)) (2 * s * 1000000) ≤ f * x / 1000000 =
+    falls_within f l s x low' (omega arith) some inside in
+    ap pos (sym (ramp_down f l s x h))
+    ∙ fallen ((f - l) * (x * x)) (2 * s * 1000000) (f * x / 1000000) (omega arith) within
+    ∙ ap (λ z. pos (f * x / 1000000) +ℤ floor_div z (pos (2 * s * 1000000)))
+    (sym (times_down f l (x * x) (omega arith))))
     (λ (h : f ≤ l).
     ap pos (sym (ramp_up f l s x h))
     ∙ ap (λ z. pos (f * x / 1000000) +ℤ floor_div z (pos (2 * s * 1000000))) (sym (times_up f l (x * x) h)))
@@ -107,7 +120,8 @@ no_less_than_nothing f l s x low low' inside =
     ap pos (ramp_time_is f l s x low low' inside) ∙ sym (formula_is f l s x low low' inside)
 
 -- time never falls along a ramp, and a millionth of a beat takes at most 60,000 nanoseconds
-pub ramp_time_grows : (f l s x y : ℕ) → 1000000 ≤ f → 1000000 ≤ l → x ≤ y → y ≤ s → ramp_time f l s x ≤ ramp_time f l s y
+pub ramp_time_grows : (f l s x y : ℕ) → 1000000 ≤ f → 1000000 ≤ l → x ≤ y → y ≤ s
+    → ramp_time f l s x ≤ ramp_time f l s y
 ramp_time_grows f l s x y low low' order inside =
     let a = ramp_time_is f l s x low low' (omega (arith, order, inside)) in
     let b = ramp_time_is f l s y low low' inside in

@@ -1,5 +1,6 @@
 pub mod Climbs
 pub mod Clocks
+pub mod Elements
 pub mod Ended
 pub mod Firsts
 pub mod Floors

@@ -1,5 +1,6 @@
 -- The order of a section's turns: sorted by their keys they are the statements in order.
-use Rattle.std.proofs.Common.{◌≡◌, ℕ, zero, suc, ◌+◌, ◌<◌, ◌≤◌, true, false, List, [], ◌∷◌, ◌++◌, length, get_or, drop, take, map, ℤ, arith, refl, ap, sym, ◌∙◌, ⊎_elim, append_assoc, append-nil}
+use Rattle.std.proofs.Common.{◌≡◌, ℕ, zero, suc, ◌+◌, ◌<◌, ◌≤◌, true, false, List, [], ◌∷◌, ◌++◌, length, get_or, drop}
+use Rattle.std.proofs.Common.{take, map, ℤ, arith, refl, ap, sym, ◌∙◌, ⊎_elim, append_assoc, append-nil}
 use Rattle.std.specs.Cmp.{IsTotalOrder}
 use Rattle.std.specs.Ordering.{is_lt, nat_cmp, int_cmp, ordering_then}
 use Rattle.std.specs.declared.cmp.Ordering.{Ordering}
@@ -12,11 +13,14 @@ use Rattle.cs_score.specs.declared.statement.ScoreStmt.{ScoreStmt}
 use Rattle.cs_tempo.specs.declared.order.SortKey.{SortKey}
 use Rattle.cs_tempo.specs.Order.{has_turn, beat_of, p1_of, p3_of, order_of, put, in_order}
 use Rattle.cs_tempo.specs.inner.Turns.{turn_of, own_turn, turns_from, turn_order, inserted, sorted}
-use Rattle.cs_tempo.proofs.Sorting.{Each, each_more, each_sorted}
+use Rattle.std.specs.List.{AllByRecursion as Each}
+use Rattle.cs_tempo.proofs.Elements.{each_more}
+use Rattle.cs_tempo.proofs.Sorting.{each_sorted}
 
 pub turn_total : IsTotalOrder turn_order
 turn_total =
-    then_total (on_total (λ (t : SortKey). t.at) nat_cmp_total) (then_total (on_total (λ (t : SortKey). t.p1) int_cmp_total)
+    then_total (on_total (λ (t : SortKey). t.at) nat_cmp_total)
+    (then_total (on_total (λ (t : SortKey). t.p1) int_cmp_total)
     (then_total (on_total (λ (t : SortKey). t.p3) int_cmp_total) (on_total (λ (t : SortKey). t.index) nat_cmp_total)))
 
 both_equal : (o p : Ordering) → ordering_then o p ≡ Equal → (o ≡ Equal) × (p ≡ Equal)
@@ -44,7 +48,8 @@ not_less m k h = grind (arith, nat_tests)
 
 -- a later index decides nothing
 later_place : (a b c : Ordering) (k m : ℕ) → k < m
-    → is_lt (ordering_then a (ordering_then b (ordering_then c (nat_cmp m k)))) ≡ is_lt (ordering_then a (ordering_then b c))
+    → is_lt (ordering_then a (ordering_then b (ordering_then c (nat_cmp m k)))) ≡ is_lt
+    (ordering_then a (ordering_then b c))
 later_place Less b c k m h = refl
 later_place Greater b c k m h = refl
 later_place Equal Less c k m h = refl
@@ -73,7 +78,8 @@ module _ (section : List ScoreStmt) (d : ScoreStmt) where
   next : (k : ℕ) (s : ScoreStmt) (later : List ScoreStmt) → drop k section ≡ s ∷ later → drop (k + 1) section ≡ later
   next k s later e = ap (drop 1) (sym (drop_more section k d (below k s later e)) ∙ e)
 
-  same_test : (k : ℕ) (s : ScoreStmt) (u : SortKey) → IsFrom (k + 1) u → is_lt (turn_order u (turn_of k s.what)) ≡ is_lt (order_of (stmt u).what s.what)
+  same_test : (k : ℕ) (s : ScoreStmt) (u : SortKey) → IsFrom (k + 1) u
+      → is_lt (turn_order u (turn_of k s.what)) ≡ is_lt (order_of (stmt u).what s.what)
   same_test k s u f =
       ap (λ t. is_lt (turn_order t (turn_of k s.what))) f.is
       ∙ later_place (nat_cmp (beat_of (stmt u).what) (beat_of s.what)) (int_cmp (p1_of (stmt u).what) (p1_of s.what))
@@ -100,47 +106,64 @@ module _ (section : List ScoreStmt) (d : ScoreStmt) where
   turns_are k (s ∷ later) e =
       let rest = more_from k _ (turns_are (k + 1) later (next k s later e)) in
       ⊎_elim
-      (λ t. rw t (record { after = omega arith; within = below k s later e; is = ap (λ x. turn_of k x.what) (sym (here k s later e)) }, rest))
+      (λ t. rw t (
+        record {
+          after = omega arith;
+          within = below k s later e;
+          is =
+              ap (λ x. turn_of k x.what) (sym (here k s later e));
+        },
+        rest,
+      ))
       (λ f. rw f rest)
       (cases_Bool (has_turn s.what))
 
   -- the statements of the sorted turns
-  pub order_is : (k : ℕ) (later : List ScoreStmt) → drop k section ≡ later → map stmt (sorted turn_order (turns_from k later)) ≡ in_order later
+  pub order_is : (k : ℕ) (later : List ScoreStmt) → drop k section ≡ later
+      → map stmt (sorted turn_order (turns_from k later)) ≡ in_order later
   unfolding turns_from in_order
   order_is k [] e = refl
   order_is k (s ∷ later) e =
       let more = turns_are (k + 1) later (next k s later e) in
       let ih = order_is (k + 1) later (next k s later e) in
       ⊎_elim
-      (λ t. rw t (put_is k s (sorted turn_order (turns_from (k + 1) later)) (here k s later e) (each_sorted turn_order turn_total (IsFrom (k + 1)) _ more) ∙ ap (put s) ih))
+      (λ t. rw t (put_is k s (sorted turn_order (turns_from (k + 1) later)) (here k s later e)
+      (each_sorted turn_order turn_total (IsFrom (k + 1)) _ more) ∙ ap (put s) ih))
       (λ f. rw f ih)
       (cases_Bool (has_turn s.what))
 
 -- a walk over a section: the turns so far, and those of the rest
-pub turn_more : (section : List ScoreStmt) (k : ℕ) (s : ScoreStmt) (done : List SortKey) → k < length section → s ≡ get_or section k s →
+pub turn_more : (section : List ScoreStmt) (k : ℕ) (s : ScoreStmt) (done : List SortKey) → k < length section
+    → s ≡ get_or section k s →
     (done ++ own_turn k s.what) ++ turns_from (k + 1) (drop (k + 1) section) ≡ done ++ turns_from k (drop k section)
 unfolding turns_from
 turn_more section k s done some at =
     append_assoc done (own_turn k s.what) (turns_from (k + 1) (drop (k + 1) section)) ∙ ap (λ r. done ++ r)
     (sym (at_drop_more (turns_from k) section k s some ∙ ap (λ u. turns_from k (u ∷ drop (k + 1) section)) (sym at)))
 
-pub turn_none : (section : List ScoreStmt) (k : ℕ) (done : List SortKey) → length section ≤ k → done ++ turns_from k (drop k section) ≡ done
+pub turn_none : (section : List ScoreStmt) (k : ℕ) (done : List SortKey) → length section ≤ k
+    → done ++ turns_from k (drop k section) ≡ done
 unfolding turns_from
 turn_none section k done all = ap (λ r. done ++ r) (at_drop_all (turns_from k) section k all) ∙ append-nil done
 
-pub each_at : {X : Type 0} (P : X → Type 0) (xs : List X) → Each P xs → (k : ℕ) (d : X) → k < length xs → P (get_or xs k d)
+pub each_at : {X : Type 0} (P : X → Type 0) (xs : List X) → Each P xs → (k : ℕ) (d : X) → k < length xs
+    → P (get_or xs k d)
 each_at P [] e k d some = absurd (omega arith)
 each_at P (x ∷ xs) e zero d some = e.0
 each_at P (x ∷ xs) e (suc k) d some = each_at P xs e.1 k d (omega arith)
 
 -- the sorted turns lie in the section
-pub turns_within : (section : List ScoreStmt) (d : ScoreStmt) (k : ℕ) (e : SortKey) → k < length (sorted turn_order (turns_from 0 section)) →
+pub turns_within : (section : List ScoreStmt) (d : ScoreStmt) (k : ℕ) (e : SortKey)
+    → k < length (sorted turn_order (turns_from 0 section)) →
     (get_or (sorted turn_order (turns_from 0 section)) k e).index < length section
 turns_within section d k e some =
-    (each_at (IsFrom section d 0) _ (each_sorted turn_order turn_total (IsFrom section d 0) _ (turns_are section d 0 section refl)) k e some).within
+    (each_at (IsFrom section d 0) _
+    (each_sorted turn_order turn_total (IsFrom section d 0) _ (turns_are section d 0 section refl)) k e some).within
 
 -- a walk that takes what it finds
-pub taken_more : {A B C : Type 0} (f : A → C) (g : B → C) (taken : List A) (a : A) (bs : List B) (k : ℕ) (e : B) → k < length bs → f a ≡ g (get_or bs k e) →
+pub taken_more : {A B C : Type 0} (f : A → C) (g : B → C) (taken : List A) (a : A) (bs : List B) (k : ℕ) (e : B)
+    → k < length bs → f a ≡ g (get_or bs k e) →
     map f taken ≡ map g (take k bs) → map f (taken ++ a ∷ []) ≡ map g (take (k + 1) bs)
 taken_more f g taken a bs k e some at h =
-    map_push f taken a ∙ ap (λ r. r ++ f a ∷ []) h ∙ ap (λ x. map g (take k bs) ++ x ∷ []) at ∙ sym (map_more g bs k e some)
+    map_push f taken a ∙ ap (λ r. r ++ f a ∷ []) h ∙ ap (λ x. map g (take k bs) ++ x ∷ []) at
+    ∙ sym (map_more g bs k e some)

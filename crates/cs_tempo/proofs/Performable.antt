@@ -1,13 +1,15 @@
 -- The plot of a score that passes no limit can be performed.
-use Rattle.std.proofs.Common.{◌≡◌, ℕ, zero, suc, ◌+◌, ◌<◌, ◌≤◌, ◌&&◌, nat_le, nat_lt, Bool, true, false, cond, List, [], ◌∷◌, ◌++◌, length, map, sum, take, get_or, Option, Some, None, IfOk, OnOk, Result, Ok, Err, refl, ap, sym, subst, ◌∙◌, arith, append_assoc, add-one, if◌then◌else◌, ⊎_elim}
-use Rattle.std.specs.List.{All, count_by}
+use Rattle.std.proofs.Common.{◌≡◌, ℕ, zero, suc, ◌+◌, ◌<◌, ◌≤◌, ◌&&◌, nat_le, nat_lt, Bool, true, false, cond, List, []}
+use Rattle.std.proofs.Common.{◌∷◌, ◌++◌, length, map, sum, take, get_or, Option, Some, None, IfOk, OnOk, Result, Ok}
+use Rattle.std.proofs.Common.{Err, refl, ap, sym, subst, ◌∙◌, arith, append_assoc, add-one, if◌then◌else◌, ⊎_elim}
+use Rattle.std.specs.List.{All, AllByRecursion as Each, count_by}
 use Rattle.std.specs.List.Sorted.{IsNonDecreasingBy}
-use Rattle.std.specs.Option.{option_or}
 use Rattle.std.specs.Ordering.{is_lt}
 use Rattle.std.proofs.lemmas.Bool.{cases_Bool}
 use Rattle.std.proofs.lemmas.Bool.Decides.{nat_tests}
 use Rattle.std.proofs.lemmas.List.{length-append, take_all}
 use Rattle.std.proofs.lemmas.List.Sums.{sum_by-cons, sum_by_more}
+use Rattle.cs_base.proofs.Tests.{both_none}
 use Rattle.cs_base.specs.Limits.{most_events}
 use Rattle.cs_base.specs.declared.fault.Or.{Or}
 use Rattle.cs_base.specs.declared.head.Head.{Head}
@@ -28,10 +30,10 @@ use Rattle.cs_tempo.specs.Pairing.{stop_of}
 use Rattle.cs_tempo.specs.Performable.{IsActInRange, IsPerformable}
 use Rattle.cs_tempo.specs.Plot.{Setting, acts_of, events_along, events_from, plot_of, setting_of}
 use Rattle.cs_tempo.specs.Sections.{at_front, ends_section, length_of, sections_of}
-use Rattle.cs_tempo.proofs.Climbs.{climb_far, each_append, from_climbs, from_within, one_act, sections_in_range}
+use Rattle.cs_tempo.proofs.Climbs.{climb_far, from_climbs, from_within, one_act, sections_in_range}
 use Rattle.cs_tempo.proofs.Orders.{each_at}
 use Rattle.cs_tempo.proofs.Shorts.{bytes_within, counts_within, notes_within}
-use Rattle.cs_tempo.proofs.Sorting.{Each, each_from_index}
+use Rattle.cs_tempo.proofs.Elements.{each_append, each_from_index, in_order_each}
 
 -- ---- a test that no item of a list passes
 
@@ -39,14 +41,17 @@ one_not : {A : Type 0} (b : Bool) (x : A) (o : Option A) → (if b then Some x e
 one_not true x o e = absurd (cc)
 one_not false x o e = (refl, e)
 
-none_passes : {A : Type 0} (passes : List A → A → Bool) (before xs : List A) → first_at passes before xs ≡ None → (i : ℕ) (d : A) → i < length xs
+none_passes : {A : Type 0} (passes : List A → A → Bool) (before xs : List A) → first_at passes before xs ≡ None
+    → (i : ℕ) (d : A) → i < length xs
     → passes (before ++ take (suc i) xs) (get_or xs i d) ≡ false
 unfolding first_at
 none_passes passes before [] e i d lt = absurd (omega arith)
-none_passes passes before (x ∷ xs) e zero d lt = (one_not (passes (before ++ x ∷ []) x) x (first_at passes (before ++ x ∷ []) xs) e).0
+none_passes passes before (x ∷ xs) e zero d lt =
+    (one_not (passes (before ++ x ∷ []) x) x (first_at passes (before ++ x ∷ []) xs) e).0
 none_passes passes before (x ∷ xs) e (suc i) d lt =
     ap (λ (l : List _). passes l (get_or xs i d)) (sym (append_assoc before (x ∷ []) (take (suc i) xs)))
-    ∙ none_passes passes (before ++ x ∷ []) xs (one_not (passes (before ++ x ∷ []) x) x (first_at passes (before ++ x ∷ []) xs) e).1 i d (omega arith)
+    ∙ none_passes passes (before ++ x ∷ []) xs
+    (one_not (passes (before ++ x ∷ []) x) x (first_at passes (before ++ x ∷ []) xs) e).1 i d (omega arith)
 
 not_more : (m n : ℕ) → nat_lt m n ≡ false → n ≤ m
 not_more m n e = grind (arith, nat_tests)
@@ -58,7 +63,8 @@ abbrev InOrder : List Event → Type 0
 InOrder [] = Unit {0}
 InOrder (e ∷ later) = Each (λ f. e.cycle ≤ f.cycle) later × InOrder later
 
-all_after : (e : Event) (events : List Event) → ((k : ℕ) (d : Event) → k < length events → e.cycle ≤ (get_or events k d).cycle)
+all_after : (e : Event) (events : List Event)
+    → ((k : ℕ) (d : Event) → k < length events → e.cycle ≤ (get_or events k d).cycle)
     → Each (λ f. e.cycle ≤ f.cycle) events
 all_after e [] h = tt
 all_after e (x ∷ events) h = (h 0 x (omega arith), all_after e events (λ k d lt. h (suc k) d (omega arith)))
@@ -70,12 +76,15 @@ ordered (e ∷ events) h = (
   ordered events (λ i j d up lt. h (suc i) (suc j) d (omega arith) (omega arith)),
 )
 
-all_before : (xs : List Event) (n : ℕ) (d : Event) → InOrder xs → n < length xs → Each (λ e. e.cycle ≤ (get_or xs n d).cycle) (take (suc n) xs)
+all_before : (xs : List Event) (n : ℕ) (d : Event) → InOrder xs → n < length xs
+    → Each (λ e. e.cycle ≤ (get_or xs n d).cycle) (take (suc n) xs)
 all_before [] n d order lt = absurd (omega arith)
 all_before (x ∷ xs) zero d order lt = (omega arith, tt)
-all_before (x ∷ xs) (suc n) d order lt = (each_at (λ f. x.cycle ≤ f.cycle) xs order.0 n d (omega arith), all_before xs n d order.1 (omega arith))
+all_before (x ∷ xs) (suc n) d order lt =
+    (each_at (λ f. x.cycle ≤ f.cycle) xs order.0 n d (omega arith), all_before xs n d order.1 (omega arith))
 
-then_active : (s c m end : ℕ) → m ≤ c → s ≤ m → (nat_le s c && nat_lt c end) ≡ true → (nat_le s m && nat_lt m end) ≡ true
+then_active : (s c m end : ℕ) → m ≤ c → s ≤ m → (nat_le s c && nat_lt c end) ≡ true
+    → (nat_le s m && nat_lt m end) ≡ true
 then_active s c m end h k active = grind (arith, nat_tests)
 
 active_then : (c m : ℕ) (e : Event) → m ≤ c → e.cycle ≤ m → is_active c e ≡ true → is_active m e ≡ true
@@ -89,10 +98,18 @@ one_le true true h = omega arith
 one_le true false h = absurd (let no_test : ◌≡◌ {A = Bool} false true = h refl in cc)
 one_le false q h = omega arith
 
-count_le : {X : Type 0} (p q : X → Bool) (xs : List X) → Each (λ x. p x ≡ true → q x ≡ true) xs → count_by p xs ≤ count_by q xs
+count_le : {X : Type 0} (p q : X → Bool) (xs : List X) → Each (λ x. p x ≡ true → q x ≡ true) xs
+    → count_by p xs ≤ count_by q xs
 count_le p q [] all = omega arith
 count_le p q (x ∷ xs) all =
-    omega (arith, sum_by-cons (λ y. cond (p y) 1 0) x xs, sum_by-cons (λ y. cond (q y) 1 0) x xs, one_le (p x) (q x) all.0, count_le p q xs all.1)
+    omega (
+      arith,
+      sum_by-cons (λ y. cond (p y) 1 0) x xs,
+      sum_by-cons (λ y. cond (q y) 1 0) x xs,
+      one_le (p x) (q x)
+          all.0,
+      count_le p q xs all.1,
+    )
 
 each_as : {X : Type 0} (P Q : X → Type 0) → ((x : X) → P x → Q x) → (xs : List X) → Each P xs → Each Q xs
 each_as P Q weaker [] h = tt
@@ -101,39 +118,49 @@ each_as P Q weaker (x ∷ xs) h = (weaker x h.0, each_as P Q weaker xs h.1)
 -- an active note more is one of those that are active where it starts
 few_more : (c n : ℕ) (xs : List Event) (d : Event) → InOrder xs → n < length xs
     → nat_lt 512 (count_by (is_active (get_or xs n d).cycle) (take (suc n) xs)) ≡ false
-    → (b : Bool) → is_active c (get_or xs n d) ≡ b → count_by (is_active c) (take n xs) ≤ 512 → count_by (is_active c) (take (suc n) xs) ≤ 512
+    → (b : Bool) → is_active c (get_or xs n d) ≡ b → count_by (is_active c) (take n xs) ≤ 512
+    → count_by (is_active c) (take (suc n) xs) ≤ 512
 few_more c n xs d order lt passed true e before =
     let m = (get_or xs n d).cycle in
     let since : m ≤ c = since_active m c (m + cycles_in (get_or xs n d).act) e in
     let all : Each (λ f. f.cycle ≤ m) (take (suc n) xs) = all_before xs n d order lt in
-    let all' = each_as (λ f. f.cycle ≤ m) (λ f. is_active c f ≡ true → is_active m f ≡ true) (λ f k. active_then c m f since k) (take (suc n) xs) all in
-    let few : count_by (is_active m) (take (suc n) xs) ≤ 512 = not_more 512 (count_by (is_active m) (take (suc n) xs)) passed in
+    let all' = each_as (λ f. f.cycle ≤ m) (λ f. is_active c f ≡ true → is_active m f ≡ true)
+    (λ f k. active_then c m f since k) (take (suc n) xs) all in
+    let few : count_by (is_active m) (take (suc n) xs) ≤ 512 =
+    not_more 512 (count_by (is_active m) (take (suc n) xs)) passed in
     omega (arith, few, count_le (is_active c) (is_active m) (take (suc n) xs) all')
 few_more c n xs d order lt passed false e before =
     let P : ℕ → Type 0 = λ k. count_by (is_active c) (take k xs) ≤ 512 in
-    subst P (add-one n) (rw (sum_by_more (λ f. cond (is_active c f) 1 0) xs n d lt, e) (let same : count_by (is_active c) (take n xs) + 0 ≤ 512 = omega arith in same))
+    subst P (add-one n) (rw (sum_by_more (λ f. cond (is_active c f) 1 0) xs n d lt, e)
+    (let same : count_by (is_active c) (take n xs) + 0 ≤ 512 = omega arith in same))
 
-few_upto : (c : ℕ) (xs : List Event) (d : Event) → InOrder xs → first_at passes_notes [] xs ≡ None → (n : ℕ) → n ≤ length xs
+few_upto : (c : ℕ) (xs : List Event) (d : Event) → InOrder xs → first_at passes_notes [] xs ≡ None → (n : ℕ)
+    → n ≤ length xs
     → count_by (is_active c) (take n xs) ≤ 512
 few_upto c xs d order none zero h = omega arith
 few_upto c xs d order none (suc n) h =
-    few_more c n xs d order (omega arith) (none_passes passes_notes [] xs none n d (omega arith)) (is_active c (get_or xs n d)) refl
+    few_more c n xs d order (omega arith) (none_passes passes_notes [] xs none n d (omega arith))
+    (is_active c (get_or xs n d)) refl
     (few_upto c xs d order none n (omega arith))
 
-few_active : (c : ℕ) (xs : List Event) → InOrder xs → first_at passes_notes [] xs ≡ None → count_by (is_active c) xs ≤ 512
+few_active : (c : ℕ) (xs : List Event) → InOrder xs → first_at passes_notes [] xs ≡ None
+    → count_by (is_active c) xs ≤ 512
 few_active c [] order none = omega arith
 few_active c (x ∷ xs) order none =
     let P : List Event → Type 0 = λ l. count_by (is_active c) l ≤ 512 in
-    subst P (take_all (length (x ∷ xs)) (x ∷ xs) (omega arith)) (few_upto c (x ∷ xs) x order none (length (x ∷ xs)) (omega arith))
+    subst P (take_all (length (x ∷ xs)) (x ∷ xs) (omega arith))
+    (few_upto c (x ∷ xs) x order none (length (x ∷ xs)) (omega arith))
 
 -- ---- no more events than statements
 
 counts_few : (score : List ScoreStmt) → first_at passes_events [] score ≡ None → count_by counts score ≤ most_events
 counts_few [] none = omega arith
 counts_few (s ∷ later) none =
-    let whole : take (suc (length later)) (s ∷ later) ≡ s ∷ later = take_all (suc (length later)) (s ∷ later) (omega arith) in
+    let whole : take (suc (length later)) (s ∷ later) ≡ s ∷ later =
+    take_all (suc (length later)) (s ∷ later) (omega arith) in
     not_more most_events (count_by counts (s ∷ later))
-    (ap (λ l. nat_lt most_events (count_by counts l)) (sym whole) ∙ none_passes passes_events [] (s ∷ later) none (length later) s (omega arith))
+    (ap (λ l. nat_lt most_events (count_by counts l)) (sym whole)
+    ∙ none_passes passes_events [] (s ∷ later) none (length later) s (omega arith))
 
 along_few : (set : Setting) (earlier ss : List ScoreStmt) → length (events_along set earlier ss) ≤ length ss
 unfolding events_along
@@ -167,28 +194,38 @@ order_few (s ∷ later) =
     let more = order_few later in
     let one = sum_by-cons (λ u. cond (counts u) 1 0) s later in
     ⊎_elim
-    (λ t. rw t (omega (arith, put_longer s (in_order later), more, one, ap {B = ℕ} (λ b. cond b 1 0) (turn_counts s.what t))))
+    (λ t. rw t (omega (
+      arith,
+      put_longer s (in_order later),
+      more,
+      one,
+      ap {B = ℕ} (λ b. cond b 1 0)
+          (turn_counts s.what t),
+    )))
     (λ f. rw f (omega (arith, more, one)))
     (cases_Bool (has_turn s.what))
 
 abbrev counted_in : List (List ScoreStmt) → ℕ
 counted_in sections = sum (map (count_by counts) sections)
 
-from_few : (head : Head) (offset : ℕ) (sections : List (List ScoreStmt)) → length (events_from head offset sections) ≤ counted_in sections
+from_few : (head : Head) (offset : ℕ) (sections : List (List ScoreStmt))
+    → length (events_from head offset sections) ≤ counted_in sections
 unfolding events_from
 from_few head offset [] = omega arith
 from_few head offset (section ∷ others) =
     let set : Setting = setting_of head offset section in
     omega (
       arith,
-      length-append (events_along set [] (in_order section)) (events_from head (offset + length_of head section) others),
+      length-append (events_along set [] (in_order section))
+          (events_from head (offset + length_of head section) others),
       along_few set [] (in_order section),
       order_few section,
       from_few head (offset + length_of head section) others,
       sum_by-cons (λ (n : ℕ). n) (count_by counts section) (map (count_by counts) others),
     )
 
-front_counts : (s : ScoreStmt) (sections : List (List ScoreStmt)) → counted_in (at_front s sections) ≡ cond (counts s) 1 0 + counted_in sections
+front_counts : (s : ScoreStmt) (sections : List (List ScoreStmt))
+    → counted_in (at_front s sections) ≡ cond (counts s) 1 0 + counted_in sections
 front_counts s [] = omega arith
 front_counts s (first ∷ others) =
     omega (
@@ -205,19 +242,28 @@ sections_count (s ∷ later) =
     let more = sections_count later in
     let one = sum_by-cons (λ u. cond (counts u) 1 0) s later in
     ⊎_elim
-    (λ t. rw t (omega (arith, more, one, sum_by-cons (λ (n : ℕ). n) (count_by counts []) (map (count_by counts) (sections_of later)))))
+    (λ t. rw t (omega (
+      arith,
+      more,
+      one,
+      sum_by-cons (λ (n : ℕ). n) (count_by counts [])
+          (map (count_by counts) (sections_of later)),
+    )))
     (λ f. rw f (omega (arith, more, one, front_counts s (sections_of later))))
     (cases_Bool (ends_section s.what))
 
 -- ---- what events do
 
-act_in_range : (set : Setting) (stop : Option ℕ) (w : ScoreWhat) (a : EventAct) → HasRange w → acts_of set stop w ≡ a ∷ [] → IsActInRange a
+act_in_range : (set : Setting) (stop : Option ℕ) (w : ScoreWhat) (a : EventAct) → HasRange w
+    → acts_of set stop w ≡ a ∷ [] → IsActInRange a
 unfolding acts_of
-act_in_range set stop (Note instr at len more) a r e = subst IsActInRange (one_is e) (r.0, omega arith, omega (arith, r.2), refl)
+act_in_range set stop (Note instr at len more) a r e =
+    subst IsActInRange (one_is e) (r.0, omega arith, omega (arith, r.2), refl)
   where
     one_is : {x y : EventAct} → x ∷ [] ≡ y ∷ [] → x ≡ y
     one_is e = cc
-act_in_range set stop (Hold instr at given more) a r e = subst IsActInRange (one_is e) (r.0, omega arith, omega (arith, r.3), refl)
+act_in_range set stop (Hold instr at given more) a r e =
+    subst IsActInRange (one_is e) (r.0, omega arith, omega (arith, r.3), refl)
   where
     one_is : {x y : EventAct} → x ∷ [] ≡ y ∷ [] → x ≡ y
     one_is e = cc
@@ -230,7 +276,8 @@ act_in_range set stop (Extend at) a r e = absurd (cc)
 act_in_range set stop (Tempo points) a r e = absurd (cc)
 act_in_range set stop Section a r e = absurd (cc)
 
-along_in_range : (set : Setting) (earlier ss : List ScoreStmt) → Each IsInRange ss → Each (λ (e : Event). IsActInRange e.act) (events_along set earlier ss)
+along_in_range : (set : Setting) (earlier ss : List ScoreStmt) → Each IsInRange ss
+    → Each (λ (e : Event). IsActInRange e.act) (events_along set earlier ss)
 unfolding events_along
 along_in_range set earlier [] r = tt
 along_in_range set earlier (s ∷ ss) r =
@@ -239,28 +286,14 @@ along_in_range set earlier (s ∷ ss) r =
     (λ e. rw e.1 (act_in_range set (stop_of earlier ss s) s.what e.0 r.0 e.1, along_in_range set (s ∷ earlier) ss r.1))
     (one_act set (stop_of earlier ss s) s.what)
 
-put_each : (P : ScoreStmt → Type 0) (s : ScoreStmt) (us : List ScoreStmt) → P s → Each P us → Each P (put s us)
-unfolding put
-put_each P s [] p e = (p, tt)
-put_each P s (u ∷ us) p e =
-    ⊎_elim (λ t. rw t (e.0, put_each P s us p e.1)) (λ f. rw f (p, e)) (cases_Bool (is_lt (order_of u.what s.what)))
-
-order_in_range : (P : ScoreStmt → Type 0) (section : List ScoreStmt) → Each P section → Each P (in_order section)
-unfolding in_order
-order_in_range P [] e = tt
-order_in_range P (s ∷ later) e =
-    ⊎_elim
-    (λ t. rw t (put_each P s (in_order later) e.0 (order_in_range P later e.1)))
-    (λ f. rw f (order_in_range P later e.1))
-    (cases_Bool (has_turn s.what))
-
 from_in_range : (head : Head) (offset : ℕ) (sections : List (List ScoreStmt)) → Each (All IsInRange) sections
     → Each (λ (e : Event). IsActInRange e.act) (events_from head offset sections)
 unfolding events_from
 from_in_range head offset [] r = tt
 from_in_range head offset (section ∷ others) r =
     each_append _ _ _
-    (along_in_range (setting_of head offset section) [] (in_order section) (order_in_range IsInRange section (each_from_index IsInRange section r.0)))
+    (along_in_range (setting_of head offset section) [] (in_order section)
+    (in_order_each IsInRange section (each_from_index IsInRange section r.0)))
     (from_in_range head (offset + length_of head section) others r.1)
 
 -- ---- the plot
@@ -269,22 +302,25 @@ no_statement : (which : Limit) (o : Option ScoreStmt) → at_statement which o �
 no_statement which None e = refl
 no_statement which (Some s) e = absurd (cc)
 
-second_none : (a b : Option LimitHit) → option_or a b ≡ None → b ≡ None
-second_none None b h = h
-second_none (Some x) b h = absurd (cc)
-
-pub performable : (head : Head) (score : List ScoreStmt) → All IsInRange score → limit_of head score ≡ None → IsPerformable head (plot_of head score)
+pub performable : (head : Head) (score : List ScoreStmt) → All IsInRange score → limit_of head score ≡ None
+    → IsPerformable head (plot_of head score)
 performable head score r h =
     let events = events_from head 0 (sections_of score) in
     let sections = sections_in_range score r in
     let rises = climb_far 0 _ (from_climbs head 0 (sections_of score) sections) in
-    let none = no_statement limit.Events (first_at passes_events [] score) (second_none (at_statement limit.Tables (first_at passes_tables [] score)) _ (counts_within head score h)) in
+    let none = no_statement limit.Events (first_at passes_events [] score)
+    (both_none (at_statement limit.Tables (first_at passes_tables [] score)) _ (counts_within head score h)).1 in
     record {
       bytes = bytes_within head score h;
       in_order = rises;
       count = omega (arith, from_few head 0 (sections_of score), sections_count score, counts_few score none);
       few = λ c. few_active c events (ordered events rises) (notes_within head score h);
-      within = λ k d some. omega (arith, each_at (λ (e : Event). e.cycle + cycles_in e.act ≤ 0 + sum (map (length_of head) (sections_of score))) _ (from_within head 0 (sections_of score) sections) k d some);
+      within = λ k d some. omega (
+        arith,
+        each_at
+            (λ (e : Event). e.cycle + cycles_in e.act ≤ 0 + sum (map (length_of head) (sections_of score))) _
+            (from_within head 0 (sections_of score) sections) k d some,
+      );
       each = each_at (λ (e : Event). IsActInRange e.act) events (from_in_range head 0 (sections_of score) sections);
     }
 

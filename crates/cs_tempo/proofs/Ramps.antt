@@ -1,6 +1,8 @@
 -- Ramps: the time along one never falls, and a millionth of a beat takes at most 60,000 nanoseconds.
-use Rattle.std.proofs.Common.{◌≡◌, ℕ, zero, suc, ◌+◌, ◌-◌, ◌*◌, ◌/◌, ◌<◌, ◌≤◌, arith, ap, refl, ◌∙◌, ⊎_elim, ◌⊎◌, inl, inr, lit<}
-use Rattle.std.proofs.Math.Nat.{mul-le-mul_left, mul-div-le, le_of_mul-le-mul_left, eq-or-lt_of_le, div-le_self, mul-zero}
+use Rattle.std.proofs.Common.{◌≡◌, ℕ, zero, suc, ◌+◌, ◌-◌, ◌*◌, ◌/◌, ◌<◌, ◌≤◌, arith, ap, refl, ◌∙◌, ⊎_elim, ◌⊎◌, inl}
+use Rattle.std.proofs.Common.{inr, lit<}
+use Rattle.std.proofs.Math.Nat.{mul-le-mul_left, mul-div-le, le_of_mul-le-mul_left, eq-or-lt_of_le, div-le_self}
+use Rattle.std.proofs.Math.Nat.{mul-zero}
 use Rattle.std.proofs.lemmas.Nat.{le-div, mul-le, mod_below, div_below, div-add-mod'}
 use Rattle.std.proofs.lemmas.Bool.{cases_lt}
 use Rattle.std.proofs.lemmas.Bool.Decides.{nat_tests, leb_tells}
@@ -21,7 +23,8 @@ quotient_above a d h = omega (arith, div-add-mod' a d, mod_below a d h)
 -- The heart: of a falling beat D + e .. e at two places x and x + k of a ramp of T half places, what is lost by
 -- rounding is less than what the k places take, each at least M.
 heart : (M T D e x k u qx qy cx cy : ℕ) → M ≤ e → 1 ≤ k → T ≡ x + (x + k) + u → M * qx ≤ (D + e) * x →
-    (D + e) * (x + k) < M * qy + M → D * (x * x) ≤ T * M * cx → T * M * cy < D * ((x + k) * (x + k)) + T * M → qx + cy ≤ qy + cx
+    (D + e) * (x + k) < M * qy + M → D * (x * x) ≤ T * M * cx → T * M * cy < D * ((x + k) * (x + k)) + T * M
+    → qx + cy ≤ qy + cx
 heart M T D e x k u qx qy cx cy low some halves below above up down =
     ⊎_elim
     (λ (h : qy + cx < qx + cy).
@@ -39,7 +42,8 @@ heart M T D e x k u qx qy cx cy low some halves below above up down =
 pub longer_small : (r s x : ℕ) → 1 ≤ x → x ≤ s → 2000000 * (r * (x * x) / (2 * s * 1000000)) ≤ r * x
 longer_small r s x some inside =
     let q : ℕ = r * (x * x) / (2 * s * 1000000) in
-    let a : (2 * s * 1000000) * (r * (x * x) / (2 * s * 1000000)) ≤ r * (x * x) = quotient_below (r * (x * x)) (2 * s * 1000000) in
+    let a : (2 * s * 1000000) * (r * (x * x) / (2 * s * 1000000)) ≤ r * (x * x) =
+    quotient_below (r * (x * x)) (2 * s * 1000000) in
     let b : r * x * x ≤ r * x * s = mul-le-mul_left (r * x) inside in
     le_of_mul-le-mul_left {k = s} (omega (arith, a, b)) (omega arith)
 
@@ -51,23 +55,28 @@ pub up_most : (n d : ℕ) → 0 < d → d * rounded_up n d < n + d
 up_most n d h = omega (arith, quotient_below (n + (d - 1)) d)
 
 up_of_nothing : (n d : ℕ) → 0 < d → rounded_up (n * (0 * 0)) d ≡ 0
-up_of_nothing n d h = let a : n * (0 * 0) + (d - 1) < 1 * d = omega arith in omega (arith, div_below (n * (0 * 0) + (d - 1)) d 1 h a)
+up_of_nothing n d h = let a : n * (0 * 0) + (d - 1) < 1 * d =
+    omega arith in omega (arith, div_below (n * (0 * 0) + (d - 1)) d 1 h a)
 
 zero_or_more : (n : ℕ) → (n ≡ 0) ⊎ (0 < n)
 zero_or_more zero = inl refl
 zero_or_more (suc n) = inr (omega arith)
 
 paid : (D l s x k : ℕ) → 1000000 ≤ l → 1 ≤ s → 1 ≤ k → x + k ≤ s →
-    (D + l) * x / 1000000 + rounded_up (D * ((x + k) * (x + k))) (2 * s * 1000000) ≤ (D + l) * (x + k) / 1000000 + rounded_up (D * (x * x)) (2 * s * 1000000)
+    (D + l) * x / 1000000 + rounded_up (D * ((x + k) * (x + k))) (2 * s * 1000000)
+    ≤ (D + l) * (x + k) / 1000000 + rounded_up (D * (x * x)) (2 * s * 1000000)
 paid D l s x k low some more inside =
     heart 1000000 (2 * s) D l x k (2 * s - (x + (x + k))) ((D + l) * x / 1000000) ((D + l) * (x + k) / 1000000)
-    (rounded_up (D * (x * x)) (2 * s * 1000000)) (rounded_up (D * ((x + k) * (x + k))) (2 * s * 1000000)) low more (omega arith)
+    (rounded_up (D * (x * x)) (2 * s * 1000000)) (rounded_up (D * ((x + k) * (x + k))) (2 * s * 1000000)) low more
+    (omega arith)
     (quotient_below ((D + l) * x) 1000000) (quotient_above ((D + l) * (x + k)) 1000000 (lit< tt))
-    (up_least (D * (x * x)) (2 * s * 1000000) (omega arith)) (up_most (D * ((x + k) * (x + k))) (2 * s * 1000000) (omega arith))
+    (up_least (D * (x * x)) (2 * s * 1000000) (omega arith))
+    (up_most (D * ((x + k) * (x + k))) (2 * s * 1000000) (omega arith))
 
 -- what a fall takes between two places is at most what the beats between them last
 pub shorter_pays : (f l s x y : ℕ) → 1000000 ≤ l → l ≤ f → 1 ≤ s → x ≤ y → y ≤ s →
-    f * x / 1000000 + rounded_up ((f - l) * (y * y)) (2 * s * 1000000) ≤ f * y / 1000000 + rounded_up ((f - l) * (x * x)) (2 * s * 1000000)
+    f * x / 1000000 + rounded_up ((f - l) * (y * y)) (2 * s * 1000000)
+    ≤ f * y / 1000000 + rounded_up ((f - l) * (x * x)) (2 * s * 1000000)
 shorter_pays f l s x y low falls some order inside =
     ⊎_elim
     (λ (e : x ≡ y). rw e (omega arith))
@@ -84,7 +93,8 @@ ramp_grows f l s x y low order inside =
     ⊎_elim
     (λ t. rw t.0 (
     let a = div_grows (f * x) (f * y) 1000000 (mul-le-mul_left f order) in
-    let b = div_grows ((l - f) * (x * x)) ((l - f) * (y * y)) (2 * s * 1000000) (mul-le-mul_left (l - f) (mul-le x x y y order order)) in
+    let b = div_grows ((l - f) * (x * x)) ((l - f) * (y * y)) (2 * s * 1000000)
+    (mul-le-mul_left (l - f) (mul-le x x y y order order)) in
     omega (arith, a, b)))
     (λ t. rw t.0 (
     ⊎_elim
@@ -105,7 +115,8 @@ unfolding ramp_in_parts
 ramp_of_nothing f l s =
     let a : f * 0 / 1000000 ≡ 0 = ap (λ n. n / 1000000) (mul-zero f) in
     ⊎_elim
-    (λ t. rw t.0 (let b : (l - f) * (0 * 0) / (2 * s * 1000000) ≡ 0 = ap (λ n. n / (2 * s * 1000000)) (mul-zero (l - f)) ∙ nothing_shared (2 * s * 1000000) in omega (arith, a, b)))
+    (λ t. rw t.0 (let b : (l - f) * (0 * 0) / (2 * s * 1000000) ≡ 0 =
+    ap (λ n. n / (2 * s * 1000000)) (mul-zero (l - f)) ∙ nothing_shared (2 * s * 1000000) in omega (arith, a, b)))
     (λ t. rw t.0 (omega (arith, a)))
     (leb_tells f l)
 
@@ -145,6 +156,7 @@ pub ramp_up : (f l s x : ℕ) → f ≤ l → f * x / 1000000 + (l - f) * (x * x
 unfolding ramp_in_parts
 ramp_up f l s x h = grind (arith, nat_tests)
 
-pub ramp_down : (f l s x : ℕ) → l < f → f * x / 1000000 - rounded_up ((f - l) * (x * x)) (2 * s * 1000000) ≡ ramp_in_parts f l s x
+pub ramp_down : (f l s x : ℕ) → l < f
+    → f * x / 1000000 - rounded_up ((f - l) * (x * x)) (2 * s * 1000000) ≡ ramp_in_parts f l s x
 unfolding ramp_in_parts
 ramp_down f l s x h = grind (arith, nat_tests)

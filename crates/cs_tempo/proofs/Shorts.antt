@@ -1,25 +1,17 @@
 -- A score that passes no limit is short.
-use Rattle.std.proofs.Common.{◌≡◌, ℕ, ◌*◌, ◌^◌, ◌≤◌, Bool, true, false, nat_lt, Option, Some, None, List, [], map, sum, arith, refl, if◌then◌else◌}
-use Rattle.std.specs.Option.{option_or}
+use Rattle.std.proofs.Common.{◌≡◌, ℕ, ◌*◌, ◌^◌, ◌≤◌, Bool, true, false, nat_lt, Option, Some, None, List, [], map, sum}
+use Rattle.std.proofs.Common.{arith, refl, if◌then◌else◌}
 use Rattle.std.proofs.lemmas.Bool.Decides.{nat_tests}
 use Rattle.std.proofs.lemmas.Nat.{mul-le}
 use Rattle.cs_base.specs.Limits.{most_wav_bytes}
 use Rattle.cs_base.specs.declared.head.Head.{Head}
-use Rattle.cs_base.specs.declared.limit.LimitHit.{LimitHit}
+use Rattle.cs_base.proofs.Tests.{both_none}
 use Rattle.cs_score.specs.declared.statement.ScoreStmt.{ScoreStmt}
 use Rattle.cs_score.specs.Limits.{first_at, limit_of_score}
 use Rattle.cs_tempo.specs.declared.plot.Event.{Event}
 use Rattle.cs_tempo.specs.Sections.{sections_of, length_of}
 use Rattle.cs_tempo.specs.Plot.{events_from}
 use Rattle.cs_tempo.specs.Limits.{at_event, bytes_hit, limit_of, limit_of_sections, passes_bytes, passes_notes}
-
-first_none : (a b : Option LimitHit) → option_or a b ≡ None → a ≡ None
-first_none None b h = refl
-first_none (Some x) b h = absurd (cc)
-
-rest_none : (a b : Option LimitHit) → option_or a b ≡ None → b ≡ None
-rest_none None b h = h
-rest_none (Some x) b h = absurd (cc)
 
 not_passed : (b : Bool) → (if b then bytes_hit else None) ≡ None → b ≡ false
 not_passed true h = absurd (cc)
@@ -43,16 +35,18 @@ module _ (head : Head) (score : List ScoreStmt) (h : limit_of head score ≡ Non
 
   -- none of its limits is passed
   pub counts_within : limit_of_score score ≡ None
-  counts_within = first_none (limit_of_score score) _ h
+  counts_within = (both_none (limit_of_score score) _ h).0
 
   after : limit_of_sections head (sections_of score) ≡ None
-  after = rest_none (limit_of_score score) _ h
+  after = (both_none (limit_of_score score) _ h).1
 
   pub bytes_within : cycles * head.ksmps * head.nchnls * 2 ≤ most_wav_bytes
-  bytes_within = few_bytes (cycles * head.ksmps * head.nchnls * 2) (not_passed (passes_bytes head cycles) (first_none (if passes_bytes head cycles then bytes_hit else None) _ after))
+  bytes_within = few_bytes (cycles * head.ksmps * head.nchnls * 2)
+      (not_passed (passes_bytes head cycles)
+      (both_none (if passes_bytes head cycles then bytes_hit else None) _ after).0)
 
   pub notes_within : first_at passes_notes [] (events_from head 0 (sections_of score)) ≡ None
-  notes_within = no_event _ (rest_none (if passes_bytes head cycles then bytes_hit else None) _ after)
+  notes_within = no_event _ (both_none (if passes_bytes head cycles then bytes_hit else None) _ after).1
 
   pub plot_short : cycles ≤ 2 ^ 30
   plot_short = few_cycles cycles head.ksmps head.nchnls head.ksmps_in_range.0 head.nchnls_in_range.0 bytes_within

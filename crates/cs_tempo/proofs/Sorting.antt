@@ -1,29 +1,18 @@
 -- Sorting by a total order in which only the same value is equal: a sorted permutation is the list by insertion.
-use Rattle.std.proofs.Common.{◌≡◌, ℕ, suc, ◌<◌, ◌≤◌, Bool, true, false, cond, List, [], ◌∷◌, length, get_or, arith, refl, ap, sym, ◌∙◌, ⊎_elim, ◌⊎◌, inl, inr}
+use Rattle.std.proofs.Common.{◌≡◌, ℕ, suc, ◌<◌, ◌≤◌, Bool, true, false, cond, List, [], ◌∷◌, length, get_or, arith}
+use Rattle.std.proofs.Common.{refl, ap, sym, ◌∙◌, ⊎_elim, ◌⊎◌, inl, inr}
 use Rattle.std.specs.Cmp.{IsTotalOrder, IsStrictWeakOrder}
 use Rattle.std.specs.Ordering.{is_lt, is_eq, ordering_reverse}
 use Rattle.std.specs.declared.cmp.Ordering.{Ordering}
 use Rattle.std.specs.declared.cmp.Ordering.TheVariants.{Less, Equal, Greater}
-use Rattle.std.specs.List.{sum_by}
+use Rattle.std.specs.List.{AllByRecursion as Each, sum_by}
 use Rattle.std.specs.List.Sorted.{IsSorted, IsPermutation}
 use Rattle.std.proofs.lemmas.List.Sums.{sum_by-cons}
 use Rattle.std.proofs.lemmas.List.Sorted.{sum_by-IsPermutation, sorted_far, ranks_by}
 use Rattle.std.proofs.lemmas.Cmp.{tied_itself}
 use Rattle.std.proofs.lemmas.Bool.{cases_Bool}
 use Rattle.cs_tempo.specs.inner.Turns.{inserted, sorted}
-
--- a claim on each item of a list
-abbrev pub Each : {X : Type 0} (P : X → Type 0) → List X → Type 0
-Each P [] = Unit {0}
-Each P (x ∷ xs) = P x × Each P xs
-
-pub each_more : {X : Type 0} (P Q : X → Type 0) (xs : List X) → ((x : X) → P x → Q x) → Each P xs → Each Q xs
-each_more P Q [] h e = tt
-each_more P Q (x ∷ xs) h e = (h x e.0, each_more P Q xs h e.1)
-
-pub each_from_index : {X : Type 0} (P : X → Type 0) (xs : List X) → ((j : ℕ) (d : X) → j < length xs → P (get_or xs j d)) → Each P xs
-each_from_index P [] h = tt
-each_from_index P (x ∷ xs) h = (h 0 x (omega arith), each_from_index P xs (λ j d l. h (suc j) d (omega arith)))
+use Rattle.cs_tempo.proofs.Elements.{each_from_index, each_more}
 
 three_ways : (o : Ordering) → (o ≡ Less) ⊎ ((o ≡ Equal) ⊎ (o ≡ Greater))
 three_ways Less = inl refl
@@ -77,7 +66,15 @@ module _ {X : Type 0} (R : X → X → Ordering) (o : IsTotalOrder R) (same : (x
       let f : X → ℕ = λ u. cond (is_eq (R z u)) 1 0 in
       ⊎_elim
       (λ t. rw t (
-      omega (arith, sum_by-cons f y (inserted R x ys), count_inserted z x ys, sum_by-cons f x ys, sum_by-cons f x (y ∷ ys), sum_by-cons f y ys)))
+      omega (
+        arith,
+        sum_by-cons f y (inserted R x ys),
+        count_inserted z x ys,
+        sum_by-cons f x ys,
+        sum_by-cons f x
+            (y ∷ ys),
+        sum_by-cons f y ys,
+      )))
       (λ e. rw e refl)
       (cases_Bool (is_lt (R y x)))
 
@@ -85,13 +82,21 @@ module _ {X : Type 0} (R : X → X → Ordering) (o : IsTotalOrder R) (same : (x
   count_sorted z [] = refl
   count_sorted z (x ∷ xs) =
       let f : X → ℕ = λ u. cond (is_eq (R z u)) 1 0 in
-      omega (arith, count_inserted z x (sorted R xs), count_sorted z xs, sum_by-cons f x (sorted R xs), sum_by-cons f x xs)
+      omega (
+        arith,
+        count_inserted z x (sorted R xs),
+        count_sorted z xs,
+        sum_by-cons f x (sorted R xs),
+        sum_by-cons f x
+            xs,
+      )
 
   none_counted : (z : X) (xs : List X) → Each (λ y. is_eq (R z y) ≡ false) xs → count z xs ≡ 0
   none_counted z [] e = refl
   none_counted z (x ∷ xs) e =
       let f : X → ℕ = λ u. cond (is_eq (R z u)) 1 0 in
-      let zero_here : f x ≡ 0 = ap (λ b. cond b 1 0) e.0 in omega (arith, sum_by-cons f x xs, none_counted z xs e.1, zero_here)
+      let zero_here : f x ≡ 0 =
+      ap (λ b. cond b 1 0) e.0 in omega (arith, sum_by-cons f x xs, none_counted z xs e.1, zero_here)
 
   -- what is below a first item is none of the items behind it
   apart : (x y z : X) → R x y ≡ Less → is_lt (R z y) ≡ false → is_eq (R x z) ≡ false
@@ -110,8 +115,10 @@ module _ {X : Type 0} (R : X → X → Ordering) (o : IsTotalOrder R) (same : (x
       let f : X → ℕ = λ u. cond (is_eq (R x u)) 1 0 in
       let here : f x ≡ 1 = ap (λ c. cond (is_eq c) 1 0) (tied_itself o x) in omega (arith, sum_by-cons f x xs, here)
 
-  not_below : (x y : X) (xs ys : List X) → R x y ≡ Less → Rising R o (y ∷ ys) → ((z : X) → count z (x ∷ xs) ≡ count z (y ∷ ys)) → ⊥
-  not_below x y xs ys low r e = omega (arith, counted_itself x xs, none_counted x (y ∷ ys) (below_all x y ys low r), e x)
+  not_below : (x y : X) (xs ys : List X) → R x y ≡ Less → Rising R o (y ∷ ys)
+      → ((z : X) → count z (x ∷ xs) ≡ count z (y ∷ ys)) → ⊥
+  not_below x y xs ys low r e =
+      omega (arith, counted_itself x xs, none_counted x (y ∷ ys) (below_all x y ys low r), e x)
 
   heads : (x y : X) (xs ys : List X) → x ≡ y → xs ≡ ys → x ∷ xs ≡ y ∷ ys
   heads x y xs ys p q = ap (λ h. h ∷ xs) p ∙ ap (λ t. y ∷ t) q
@@ -133,7 +140,8 @@ module _ {X : Type 0} (R : X → X → Ordering) (o : IsTotalOrder R) (same : (x
       (λ g'. absurd (not_below y x ys xs (o.antisymm y x ∙ ap ordering_reverse g') r (λ z. sym (e z)))) g)
       (three_ways (R x y))
 
-  rising_from_far : (xs : List X) → ((i j : ℕ) (d : X) → i ≤ j → j < length xs → is_lt (R (get_or xs j d) (get_or xs i d)) ≡ false) → Rising R o xs
+  rising_from_far : (xs : List X)
+      → ((i j : ℕ) (d : X) → i ≤ j → j < length xs → is_lt (R (get_or xs j d) (get_or xs i d)) ≡ false) → Rising R o xs
   rising_from_far [] h = tt
   rising_from_far (x ∷ xs) h = (
     each_from_index (λ y. is_lt (R y x) ≡ false) xs (λ j d l. h 0 (suc j) d (omega arith) (omega arith)),
@@ -143,5 +151,6 @@ module _ {X : Type 0} (R : X → X → Ordering) (o : IsTotalOrder R) (same : (x
   -- what std's sort gives
   pub is_sorted : (xs ys : List X) → IsPermutation xs ys → IsSorted R ys → ys ≡ sorted R xs
   is_sorted xs ys p s =
-      one_order ys (sorted R xs) (rising_from_far ys (sorted_far (λ x y. is_lt (R x y)) (order R o) ys s)) (rising_sorted R o xs)
+      one_order ys (sorted R xs) (rising_from_far ys (sorted_far (λ x y. is_lt (R x y)) (order R o) ys s))
+      (rising_sorted R o xs)
       (λ z. sum_by-IsPermutation (λ y. cond (is_eq (R z y)) 1 0) xs ys p ∙ sym (count_sorted z xs))

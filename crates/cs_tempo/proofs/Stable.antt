@@ -1,5 +1,7 @@
--- The order of a section by its own rule: nothing stands before what comes before it, and what is equal keeps its order.
-use Rattle.std.proofs.Common.{◌≡◌, zero, suc, Bool, true, false, cond, List, [], ◌∷◌, filter, arith, refl, ap, sym, ◌∙◌, if◌then◌else◌, AllPairs}
+-- The order of a section by its own rule: nothing stands before what comes before it, and what is equal keeps its
+-- order.
+use Rattle.std.proofs.Common.{◌≡◌, zero, suc, Bool, true, false, cond, List, [], ◌∷◌, filter, arith, refl, ap, sym, ◌∙◌}
+use Rattle.std.proofs.Common.{if◌then◌else◌, AllPairs}
 use Rattle.std.specs.Cmp.{IsTotalOrder}
 use Rattle.std.specs.Ordering.{is_lt, is_eq}
 use Rattle.std.specs.declared.cmp.Ordering.{Ordering}
@@ -14,7 +16,8 @@ use Rattle.cs_tempo.proofs.Sorting.{Rising, rising_sorted}
 
 what_total : IsTotalOrder order_of
 what_total =
-    then_total (on_total beat_of nat_cmp_total) (then_total (on_total p1_of int_cmp_total) (on_total p3_of int_cmp_total))
+    then_total (on_total beat_of nat_cmp_total)
+    (then_total (on_total p1_of int_cmp_total) (on_total p3_of int_cmp_total))
 
 abbrev by_order : ScoreStmt → ScoreStmt → Ordering
 by_order s u = order_of s.what u.what
@@ -33,10 +36,13 @@ put_is s (u ∷ us) = ap (λ rest. if is_lt (order_of u.what s.what) then u ∷ 
 in_order_is : (section : List ScoreStmt) → in_order section ≡ sorted by_order (turns section)
 unfolding in_order
 in_order_is [] = refl
-in_order_is (s ∷ later) = by (has_turn s.what) (put_is s (in_order later) ∙ ap (inserted by_order s) (in_order_is later)) (in_order_is later)
+in_order_is (s ∷ later) =
+    by (has_turn s.what) (put_is s (in_order later) ∙ ap (inserted by_order s) (in_order_is later)) (in_order_is later)
   where
-    by : (b : Bool) → put s (in_order later) ≡ inserted by_order s (sorted by_order (turns later)) → in_order later ≡ sorted by_order (turns later)
-        → (if b then put s (in_order later) else in_order later) ≡ sorted by_order (cond b (s ∷ turns later) (turns later))
+    by : (b : Bool) → put s (in_order later) ≡ inserted by_order s (sorted by_order (turns later))
+        → in_order later ≡ sorted by_order (turns later)
+        → (if b then put s (in_order later) else in_order later) ≡ sorted by_order
+        (cond b (s ∷ turns later) (turns later))
     by true here more = here
     by false here more = more
 
@@ -62,12 +68,14 @@ module _ {X : Type 0} (R : X → X → Ordering) (o : IsTotalOrder R) where
   like_inserted : (x s : X) (us : List X) → filter (like x) (inserted R s us) ≡ filter (like x) (s ∷ us)
   like_inserted x s [] = refl
   like_inserted x s (u ∷ us) =
-      by_test (is_lt (R u s)) (λ low. rw low (past (like x u) (like x s) (like_inserted x s us) (none_before x s u low))) (λ high. rw high refl)
+      by_test (is_lt (R u s)) (λ low. rw low
+      (past (like x u) (like x s) (like_inserted x s us) (none_before x s u low))) (λ high. rw high refl)
     where
       past : (b c : Bool) → filter (like x) (inserted R s us) ≡ cond c (s ∷ filter (like x) us) (filter (like x) us)
           → (b ≡ true → c ≡ true → ⊥)
           → cond b (u ∷ filter (like x) (inserted R s us)) (filter (like x) (inserted R s us))
-          ≡ cond c (s ∷ cond b (u ∷ filter (like x) us) (filter (like x) us)) (cond b (u ∷ filter (like x) us) (filter (like x) us))
+          ≡ cond c (s ∷ cond b (u ∷ filter (like x) us) (filter (like x) us))
+          (cond b (u ∷ filter (like x) us) (filter (like x) us))
       past true true e apart = absurd (apart refl refl)
       past true false e apart = ap (λ rest. u ∷ rest) e
       past false true e apart = e
@@ -85,11 +93,16 @@ module _ {X : Type 0} (R : X → X → Ordering) (o : IsTotalOrder R) where
   rising_pairs (x ∷ xs) r (suc i) zero d l m = absurd (omega arith)
   rising_pairs (x ∷ xs) r (suc i) (suc j) d l m = rising_pairs xs r.1 i j d (omega arith) (omega arith)
 
-pub in_order_rises : (section : List ScoreStmt) → AllPairs (λ s u. is_lt (order_of u.what s.what) ≡ false) (in_order section)
+pub in_order_rises : (section : List ScoreStmt)
+    → AllPairs (λ s u. is_lt (order_of u.what s.what) ≡ false) (in_order section)
 in_order_rises section =
-    rw (in_order_is section) (rising_pairs by_order order_total (sorted by_order (turns section)) (rising_sorted by_order order_total (turns section)))
+    rw (in_order_is section)
+    (rising_pairs by_order order_total (sorted by_order (turns section))
+    (rising_sorted by_order order_total (turns section)))
 
 pub equal_keep_order : (section : List ScoreStmt) (s : ScoreStmt)
-    → filter (λ u. is_eq (order_of s.what u.what)) (in_order section) ≡ filter (λ u. is_eq (order_of s.what u.what)) (turns section)
+    → filter (λ u. is_eq (order_of s.what u.what)) (in_order section) ≡ filter (λ u. is_eq (order_of s.what u.what))
+    (turns section)
 equal_keep_order section s =
-    ap (filter (λ u. is_eq (order_of s.what u.what))) (in_order_is section) ∙ like_sorted by_order order_total s (turns section)
+    ap (filter (λ u. is_eq (order_of s.what u.what))) (in_order_is section)
+    ∙ like_sorted by_order order_total s (turns section)

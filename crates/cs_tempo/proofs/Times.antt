@@ -1,5 +1,6 @@
 -- Time along the points of a tempo: it never falls, and stays small.
-use Rattle.std.proofs.Common.{◌≡◌, ℕ, ◌+◌, ◌-◌, ◌*◌, ◌/◌, ◌^◌, ◌<◌, ◌≤◌, min, List, [], ◌∷◌, drop, length, get_or, arith, refl, subst}
+use Rattle.std.proofs.Common.{◌≡◌, ℕ, ◌+◌, ◌-◌, ◌*◌, ◌/◌, ◌^◌, ◌<◌, ◌≤◌, min, List, [], ◌∷◌, drop, length, get_or}
+use Rattle.std.proofs.Common.{arith, refl, subst}
 use Rattle.std.proofs.lemmas.List.{drop_more}
 use Rattle.std.proofs.Math.Nat.{mul-le-mul_left}
 use Rattle.std.proofs.lemmas.Nat.{le-div}
@@ -18,7 +19,8 @@ pub beat_fast : (t : ℕ) → 1000000 ≤ t → beat_length t ≤ 60000000000
 unfolding beat_length
 beat_fast t slow = div-le_of_le-mul t (omega arith)
 
-part_small : (p q : TempoPoint) (rest : List TempoPoint) (beat : ℕ) → IsTempoPoint p → IsTempoPoint q → p.beat ≤ q.beat →
+part_small : (p q : TempoPoint) (rest : List TempoPoint) (beat : ℕ) → IsTempoPoint p → IsTempoPoint q → p.beat ≤ q.beat
+    →
     part_of p (q ∷ rest) beat ≤ 60000 * (min beat q.beat - p.beat)
 unfolding part_of
 part_small p q rest beat a b order =
@@ -37,18 +39,21 @@ along_small p [] beat a r = omega (arith, last_small p beat a)
 along_small p (q ∷ rest) beat a r =
     omega (arith, part_small p q rest beat a r.1 r.0, along_small q rest beat r.1 r.2)
 
-part_grows : (p q : TempoPoint) (rest : List TempoPoint) (x y : ℕ) → IsTempoPoint p → IsTempoPoint q → p.beat ≤ q.beat → x ≤ y →
+part_grows : (p q : TempoPoint) (rest : List TempoPoint) (x y : ℕ) → IsTempoPoint p → IsTempoPoint q → p.beat ≤ q.beat
+    → x ≤ y →
     part_of p (q ∷ rest) x ≤ part_of p (q ∷ rest) y
 unfolding part_of
 part_grows p q rest x y a b order up =
-    ramp_time_grows (beat_length p.tempo) (beat_length q.tempo) (q.beat - p.beat) (min x q.beat - p.beat) (min y q.beat - p.beat)
+    ramp_time_grows (beat_length p.tempo) (beat_length q.tempo) (q.beat - p.beat) (min x q.beat - p.beat)
+    (min y q.beat - p.beat)
     (beat_slow p.tempo a.slow a.fast) (beat_slow q.tempo b.slow b.fast) (omega arith) (omega arith)
 
 last_grows : (p : TempoPoint) (x y : ℕ) → x ≤ y → part_of p [] x ≤ part_of p [] y
 unfolding part_of
 last_grows p x y up = div_grows _ _ 1000000 (mul-le-mul_left (beat_length p.tempo) (omega arith))
 
-pub along_grows : (p : TempoPoint) (later : List TempoPoint) (x y : ℕ) → IsTempoPoint p → AreRising p.beat later → x ≤ y →
+pub along_grows : (p : TempoPoint) (later : List TempoPoint) (x y : ℕ) → IsTempoPoint p → AreRising p.beat later → x ≤ y
+    →
     time_along (p ∷ later) x ≤ time_along (p ∷ later) y
 unfolding time_along
 along_grows p [] x y a r up = omega (arith, last_grows p x y up)
@@ -77,14 +82,16 @@ cycles_grow x y sr ksmps up =
 
 -- the first part of a time
 pub first_of_one : (ps : List TempoPoint) (d : TempoPoint) (beat r : ℕ) → 1 ≤ length ps → length ps < 2 →
-    r ≡ beat_length (get_or ps 0 d).tempo * (beat - (get_or ps 0 d).beat) / 1000000 → time_along ps beat ≡ r + time_along (drop 1 ps) beat
+    r ≡ beat_length (get_or ps 0 d).tempo * (beat - (get_or ps 0 d).beat) / 1000000
+    → time_along ps beat ≡ r + time_along (drop 1 ps) beat
 unfolding time_along part_of
 first_of_one [] d beat r some one e = absurd (omega arith)
 first_of_one (p ∷ []) d beat r some one e = rw e refl
 first_of_one (p ∷ q ∷ rest) d beat r some one e = absurd (omega arith)
 
 pub first_of_more : (ps : List TempoPoint) (d : TempoPoint) (beat r : ℕ) → 2 ≤ length ps →
-    r ≡ ramp_time (beat_length (get_or ps 0 d).tempo) (beat_length (get_or ps 1 d).tempo) ((get_or ps 1 d).beat - (get_or ps 0 d).beat)
+    r ≡ ramp_time (beat_length (get_or ps 0 d).tempo) (beat_length (get_or ps 1 d).tempo)
+    ((get_or ps 1 d).beat - (get_or ps 0 d).beat)
     (min beat (get_or ps 1 d).beat - (get_or ps 0 d).beat) → time_along ps beat ≡ r + time_along (drop 1 ps) beat
 unfolding time_along part_of
 first_of_more [] d beat r some e = absurd (omega arith)

@@ -1,12 +1,14 @@
 -- The walk along a section's turns.
-use Rattle.std.proofs.Common.{◌≡◌, ℕ, zero, suc, ◌+◌, ◌<◌, ◌≤◌, List, [], ◌∷◌, ◌++◌, drop, take, map, reverse, length, get_or, true, nat_eq, Option, Some, slice_get, arith, refl, ap, sym, ◌∙◌, append_assoc, append-nil, subst, ⊎_elim}
-use Rattle.std.specs.List.{All}
+use Rattle.std.proofs.Common.{◌≡◌, ℕ, zero, suc, ◌+◌, ◌<◌, ◌≤◌, List, [], ◌∷◌, ◌++◌, drop, take, map, reverse, length}
+use Rattle.std.proofs.Common.{get_or, true, nat_eq, Option, Some, slice_get, arith, refl, ap, sym, ◌∙◌, append_assoc}
+use Rattle.std.proofs.Common.{append-nil, subst, ⊎_elim}
+use Rattle.std.specs.List.{All, AllByRecursion as Each}
 use Rattle.std.specs.Option.{IfSome}
 use Rattle.std.specs.HashMap.{get}
-use Rattle.std.specs.Ordering.{is_lt}
 use Rattle.std.proofs.lemmas.Bool.{cases_Bool}
 use Rattle.std.proofs.lemmas.Bool.Decides.{nat_tests}
-use Rattle.std.proofs.lemmas.List.{drop_more, drop_all, take_more, reverse-append, length-reverse, length-take, get_or-map}
+use Rattle.std.proofs.lemmas.List.{drop_more, drop_all, take_more, reverse-append, length-reverse, length-take}
+use Rattle.std.proofs.lemmas.List.{get_or-map}
 use Rattle.cs_score.specs.Ranges.{IsInRange, HasRange}
 use Rattle.cs_score.specs.declared.statement.ScoreWhat.{ScoreWhat}
 use Rattle.cs_score.specs.declared.statement.ScoreWhat.TheVariants.{Note, Hold, Stop, Table, Extend, Tempo, Section}
@@ -14,7 +16,7 @@ use Rattle.cs_score.specs.declared.statement.ScoreStmt.{ScoreStmt}
 use Rattle.cs_tempo.specs.declared.plot.Event.{Event}
 use Rattle.cs_tempo.specs.inner.Clock.{Pace}
 use Rattle.cs_tempo.specs.Sections.{cycle_at, end_of, reach_of}
-use Rattle.cs_tempo.specs.Order.{has_turn, beat_of, put, in_order, order_of}
+use Rattle.cs_tempo.specs.Order.{has_turn, beat_of, in_order}
 use Rattle.cs_tempo.specs.Pairing.{ended_by, stop_of}
 use Rattle.cs_tempo.specs.inner.Counted.{own_stop, sounding, sounding_after, stops_of}
 use Rattle.cs_tempo.specs.inner.Stops.{Shows, Queues, AreQueues, ending}
@@ -22,15 +24,18 @@ use Rattle.cs_tempo.specs.inner.Queue.{Queue}
 use Rattle.cs_tempo.specs.inner.Events.{HasEnd, IsTurnIn}
 use Rattle.cs_tempo.specs.Plot.{Setting, events_at, events_along}
 use Rattle.cs_tempo.proofs.Ended.{first_ended}
-use Rattle.cs_tempo.proofs.Sorting.{Each}
+use Rattle.cs_tempo.proofs.Elements.{put_each}
 
-note_within : (pace : Pace) (cycles at len : ℕ) → end_of pace.head pace.tempo at len ≤ cycles → cycle_at pace.head pace.tempo at ≤ cycles
+note_within : (pace : Pace) (cycles at len : ℕ) → end_of pace.head pace.tempo at len ≤ cycles
+    → cycle_at pace.head pace.tempo at ≤ cycles
 note_within pace cycles at len h = grind (arith, nat_tests)
 
 -- a beat's cycle lies in its section
-pub start_within : (pace : Pace) (cycles : ℕ) (w : ScoreWhat) → HasRange w → reach_of pace.head pace.tempo w ≤ cycles → has_turn w ≡ true
+pub start_within : (pace : Pace) (cycles : ℕ) (w : ScoreWhat) → HasRange w → reach_of pace.head pace.tempo w ≤ cycles
+    → has_turn w ≡ true
     → HasEnd pace cycles (beat_of w)
-start_within pace cycles (Note instr at len more) r h t = record { beat = omega (arith, r.1); cycle = note_within pace cycles at len h }
+start_within pace cycles (Note instr at len more) r h t =
+    record { beat = omega (arith, r.1); cycle = note_within pace cycles at len h }
 start_within pace cycles (Hold instr at given more) r h t = record { beat = r.1; cycle = omega arith }
 start_within pace cycles (Stop instr at) r h t = record { beat = r.1; cycle = h }
 start_within pace cycles (Table number at size gen args) r h t = record { beat = r.1; cycle = h }
@@ -38,7 +43,8 @@ start_within pace cycles (Extend at) r h t = absurd (cc)
 start_within pace cycles (Tempo points) r h t = absurd (cc)
 start_within pace cycles Section r h t = absurd (cc)
 
-own_within : (pace : Pace) (cycles n : ℕ) (w : ScoreWhat) (later : List ℕ) → HasRange w → reach_of pace.head pace.tempo w ≤ cycles →
+own_within : (pace : Pace) (cycles n : ℕ) (w : ScoreWhat) (later : List ℕ) → HasRange w
+    → reach_of pace.head pace.tempo w ≤ cycles →
     Each (HasEnd pace cycles) later → Each (HasEnd pace cycles) (own_stop n w ++ later)
 own_within pace cycles n (Stop instr at) later r h e =
     ⊎_elim (λ t. rw t (record { beat = r.1; cycle = h }, e)) (λ f. rw f e) (cases_Bool (nat_eq n instr))
@@ -50,10 +56,12 @@ own_within pace cycles n (Tempo points) later r h e = e
 own_within pace cycles n Section later r h e = e
 
 -- each stop of an instrument lies in the section
-stops_within : (pace : Pace) (cycles n : ℕ) (ss : List ScoreStmt) → Each (IsTurnIn pace cycles) ss → Each (HasEnd pace cycles) (stops_of n ss)
+stops_within : (pace : Pace) (cycles n : ℕ) (ss : List ScoreStmt) → Each (IsTurnIn pace cycles) ss
+    → Each (HasEnd pace cycles) (stops_of n ss)
 unfolding stops_of
 stops_within pace cycles n [] e = tt
-stops_within pace cycles n (s ∷ ss) e = own_within pace cycles n s.what _ e.0.range e.0.reach (stops_within pace cycles n ss e.1)
+stops_within pace cycles n (s ∷ ss) e =
+    own_within pace cycles n s.what _ e.0.range e.0.reach (stops_within pace cycles n ss e.1)
 
 found_within : (P : ℕ → Type 0) (xs : List ℕ) (k : ℕ) → Each P xs → IfSome (slice_get xs k) P
 found_within P [] k e = tt
@@ -61,15 +69,19 @@ found_within P (x ∷ xs) zero e = e.0
 found_within P (x ∷ xs) (suc k) e = found_within P xs k e.1
 
 -- a turn's index in a walk
-pub ahead : (ss : List ScoreStmt) (k : ℕ) (s : ScoreStmt) → k < length ss → s ≡ get_or ss k s → drop k ss ≡ s ∷ drop (k + 1) ss
+pub ahead : (ss : List ScoreStmt) (k : ℕ) (s : ScoreStmt) → k < length ss → s ≡ get_or ss k s
+    → drop k ss ≡ s ∷ drop (k + 1) ss
 ahead ss k s some at = drop_more ss k s some ∙ ap (λ x. x ∷ drop (k + 1) ss) (sym at)
 
-pub behind : (ss : List ScoreStmt) (k : ℕ) (s : ScoreStmt) → k < length ss → s ≡ get_or ss k s → reverse (take (k + 1) ss) ≡ s ∷ reverse (take k ss)
+pub behind : (ss : List ScoreStmt) (k : ℕ) (s : ScoreStmt) → k < length ss → s ≡ get_or ss k s
+    → reverse (take (k + 1) ss) ≡ s ∷ reverse (take k ss)
 behind ss k s some at =
     ap reverse (take_more ss k s some ∙ ap (λ x. take k ss ++ x ∷ []) (sym at)) ∙ reverse-append (take k ss) (s ∷ [])
 
-pub events_step : (set : Setting) (ss : List ScoreStmt) (k : ℕ) (s : ScoreStmt) (done : List Event) → k < length ss → s ≡ get_or ss k s →
-    (done ++ events_at set (stop_of (reverse (take k ss)) (drop (k + 1) ss) s) s) ++ events_along set (reverse (take (k + 1) ss)) (drop (k + 1) ss)
+pub events_step : (set : Setting) (ss : List ScoreStmt) (k : ℕ) (s : ScoreStmt) (done : List Event) → k < length ss
+    → s ≡ get_or ss k s →
+    (done ++ events_at set (stop_of (reverse (take k ss)) (drop (k + 1) ss) s) s)
+    ++ events_along set (reverse (take (k + 1) ss)) (drop (k + 1) ss)
     ≡ done ++ events_along set (reverse (take k ss)) (drop k ss)
 unfolding events_along
 events_step set ss k s done some at =
@@ -85,7 +97,8 @@ module _ (earlier later : List ScoreStmt) (s : ScoreStmt) where
   ending_of : (w : ScoreWhat) (stops : ℕ → List ℕ) → s.what ≡ w → ((n : ℕ) → stops n ≡ own_stop n w ++ stops_of n later)
       → ending w stops (λ n. sounding n earlier) ≡ ended_by w (length earlier) (s ∷ earlier) later
   ending_of (Hold instr at given more) stops is e =
-      ap (λ xs. slice_get xs (sounding instr earlier)) (e instr) ∙ sym (first_ended s instr at given more earlier later is)
+      ap (λ xs. slice_get xs (sounding instr earlier)) (e instr)
+      ∙ sym (first_ended s instr at given more earlier later is)
   ending_of (Note instr at len more) stops is e = refl
   ending_of (Stop instr at) stops is e = refl
   ending_of (Table number at size gen args) stops is e = refl
@@ -102,7 +115,8 @@ module _ (earlier later : List ScoreStmt) (s : ScoreStmt) where
       → IfSome (ended_by w (length earlier) (s ∷ earlier) later) (HasEnd pace cycles)
   ended_within pace cycles (Hold instr at given more) is e =
       subst (λ (o : Option ℕ). IfSome o (HasEnd pace cycles)) (sym (first_ended s instr at given more earlier later is))
-      (found_within (HasEnd pace cycles) (stops_of instr later) (sounding instr earlier) (stops_within pace cycles instr later e))
+      (found_within (HasEnd pace cycles) (stops_of instr later) (sounding instr earlier)
+      (stops_within pace cycles instr later e))
   ended_within pace cycles (Note instr at len more) is e = tt
   ended_within pace cycles (Stop instr at) is e = tt
   ended_within pace cycles (Table number at size gen args) is e = tt
@@ -116,8 +130,10 @@ pub stop_within : (pace : Pace) (cycles : ℕ) (earlier later : List ScoreStmt) 
 stop_within pace cycles earlier later s e = ended_within earlier later s pace cycles s.what refl e
 
 few_more : (n : ℕ) (w : ScoreWhat) (m k : ℕ) → m ≤ k → sounding_after n w m ≤ suc k
-few_more n (Hold instr at given more) m k h = ⊎_elim (λ t. rw t (omega arith)) (λ f. rw f (omega arith)) (cases_Bool (nat_eq n instr))
-few_more n (Stop instr at) m k h = ⊎_elim (λ t. rw t (omega arith)) (λ f. rw f (omega arith)) (cases_Bool (nat_eq n instr))
+few_more n (Hold instr at given more) m k h =
+    ⊎_elim (λ t. rw t (omega arith)) (λ f. rw f (omega arith)) (cases_Bool (nat_eq n instr))
+few_more n (Stop instr at) m k h =
+    ⊎_elim (λ t. rw t (omega arith)) (λ f. rw f (omega arith)) (cases_Bool (nat_eq n instr))
 few_more n (Note instr at len more) m k h = omega arith
 few_more n (Table number at size gen args) m k h = omega arith
 few_more n (Extend at) m k h = omega arith
@@ -129,29 +145,27 @@ unfolding sounding
 few_sound n [] = omega arith
 few_sound n (s ∷ ss) = few_more n s.what (sounding n ss) (length ss) (few_sound n ss)
 
-pub few_queues : (queues : Queues) (earlier later : List ScoreStmt) (n : ℕ) (queue : Queue) → AreQueues queues earlier later
+pub few_queues : (queues : Queues) (earlier later : List ScoreStmt) (n : ℕ) (queue : Queue)
+    → AreQueues queues earlier later
     → get nat_eq queues n ≡ Some queue → queue.sounding ≤ length earlier
 few_queues queues earlier later n queue a e =
-    let shown : Shows (Some queue) (stops_of n later) (sounding n earlier) = subst (λ (o : Option Queue). Shows o (stops_of n later) (sounding n earlier)) e (a n) in
+    let shown : Shows (Some queue) (stops_of n later) (sounding n earlier) =
+    subst (λ (o : Option Queue). Shows o (stops_of n later) (sounding n earlier)) e (a n) in
     omega (arith, shown.1, few_sound n earlier)
 
 pub queues_step : (queues : Queues) (earlier later : List ScoreStmt) (s : ScoreStmt) →
-    ((n : ℕ) → Shows (get nat_eq queues n) (stops_of n later) (sounding_after n s.what (sounding n earlier))) → AreQueues queues (s ∷ earlier) later
+    ((n : ℕ) → Shows (get nat_eq queues n) (stops_of n later) (sounding_after n s.what (sounding n earlier)))
+    → AreQueues queues (s ∷ earlier) later
 unfolding sounding
 queues_step queues earlier later s h = h
 
-pub queues_at : (queues : Queues) (earlier later : List ScoreStmt) (s : ScoreStmt) (n : ℕ) → AreQueues queues earlier (s ∷ later) →
+pub queues_at : (queues : Queues) (earlier later : List ScoreStmt) (s : ScoreStmt) (n : ℕ)
+    → AreQueues queues earlier (s ∷ later) →
     Shows (get nat_eq queues n) (own_stop n s.what ++ stops_of n later) (sounding n earlier)
 unfolding stops_of
 queues_at queues earlier later s n a = a n
 
 -- the turns of a section in order
-put_each : (P : ScoreStmt → Type 0) (s : ScoreStmt) (us : List ScoreStmt) → P s → Each P us → Each P (put s us)
-unfolding put
-put_each P s [] p e = (p, tt)
-put_each P s (u ∷ us) p e =
-    ⊎_elim (λ t. rw t (e.0, put_each P s us p e.1)) (λ f. rw f (p, (e.0, e.1))) (cases_Bool (is_lt (order_of u.what s.what)))
-
 pub order_each : (pace : Pace) (cycles : ℕ) (section : List ScoreStmt) → All IsInRange section
     → All (λ s. reach_of pace.head pace.tempo s.what ≤ cycles) section →
     Each (IsTurnIn pace cycles) (in_order section)
@@ -160,20 +174,17 @@ order_each pace cycles [] r h = tt
 order_each pace cycles (s ∷ later) r h =
     let rest = order_each pace cycles later (λ k d l. r (suc k) d (omega arith)) (λ k d l. h (suc k) d (omega arith)) in
     ⊎_elim
-    (λ t. rw t (put_each (IsTurnIn pace cycles) s (in_order later) (record { range = r 0 s (omega arith); reach = h 0 s (omega arith); turn = t }) rest))
+    (λ t. rw t (put_each (IsTurnIn pace cycles) s (in_order later)
+    (record { range = r 0 s (omega arith); reach = h 0 s (omega arith); turn = t }) rest))
     (λ f. rw f rest)
     (cases_Bool (has_turn s.what))
-
-pub each_drop : {X : Type 0} (P : X → Type 0) (xs : List X) (k : ℕ) → Each P xs → Each P (drop k xs)
-each_drop P xs zero e = e
-each_drop P [] (suc k) e = tt
-each_drop P (x ∷ xs) (suc k) e = each_drop P xs k e.1
 
 pub each_map : {X Y : Type 0} (P : Y → Type 0) (f : X → Y) (xs : List X) → All (λ x. P (f x)) xs → Each P (map f xs)
 each_map P f [] a = tt
 each_map P f (x ∷ xs) a = (a 0 x (omega arith), each_map P f xs (λ k d l. a (suc k) d (omega arith)))
 
-at_each : {X Y : Type 0} (P : Y → Type 0) (f : X → Y) (x : X) (xs : List X) → Each P (map f (x ∷ xs)) → All (λ y. P (f y)) xs →
+at_each : {X Y : Type 0} (P : Y → Type 0) (f : X → Y) (x : X) (xs : List X) → Each P (map f (x ∷ xs))
+    → All (λ y. P (f y)) xs →
     All (λ y. P (f y)) (x ∷ xs)
 at_each P f x xs e rest zero d l = e.0
 at_each P f x xs e rest (suc k) d l = rest k d (omega arith)
@@ -183,7 +194,8 @@ all_map P f [] e = λ k d l. absurd (omega arith)
 all_map P f (x ∷ xs) e = at_each P f x xs e (all_map P f xs e.1)
 
 -- an item of a list that is seen through a function
-pub seen_at : {X Y : Type 0} (f : X → Y) (xs : List X) (k : ℕ) (x : X) → k < length xs → x ≡ get_or xs k x → f x ≡ get_or (map f xs) k (f x)
+pub seen_at : {X Y : Type 0} (f : X → Y) (xs : List X) (k : ℕ) (x : X) → k < length xs → x ≡ get_or xs k x
+    → f x ≡ get_or (map f xs) k (f x)
 seen_at f xs k x some at = ap f at ∙ sym (get_or-map f xs k x (f x) some)
 
 -- one step of the walk: the turn s at index k, with those before it and those behind it
@@ -194,18 +206,21 @@ module _ (ss : List ScoreStmt) (k : ℕ) (s : ScoreStmt) (some : k < length ss) 
   abbrev pub after : List ScoreStmt
   after = drop (k + 1) ss
 
-  pub lines_here : (queues : Queues) → AreQueues queues (reverse (take k ss)) (drop k ss) → AreQueues queues (reverse (take k ss)) (s ∷ drop (k + 1) ss)
+  pub lines_here : (queues : Queues) → AreQueues queues (reverse (take k ss)) (drop k ss)
+      → AreQueues queues (reverse (take k ss)) (s ∷ drop (k + 1) ss)
   lines_here queues a = subst (λ later. AreQueues queues (reverse (take k ss)) later) (ahead ss k s some here) a
 
   pub stop_is : (r : Option ℕ) (queues : Queues) → AreQueues queues (reverse (take k ss)) (drop k ss) →
-      ((stops : ℕ → List ℕ) (sounds : ℕ → ℕ) → ((n : ℕ) → Shows (get nat_eq queues n) (stops n) (sounds n)) → r ≡ ending s.what stops sounds) →
+      ((stops : ℕ → List ℕ) (sounds : ℕ → ℕ) → ((n : ℕ) → Shows (get nat_eq queues n) (stops n) (sounds n))
+      → r ≡ ending s.what stops sounds) →
       r ≡ stop_of (reverse (take k ss)) (drop (k + 1) ss) s
   stop_is r queues a h =
       h (λ n. stops_of n (s ∷ drop (k + 1) ss)) (λ n. sounding n (reverse (take k ss))) (lines_here queues a)
       ∙ ending_is (reverse (take k ss)) (drop (k + 1) ss) s
 
   pub lines_then : (queues queues' : Queues) → AreQueues queues (reverse (take k ss)) (drop k ss) →
-      ((n : ℕ) (stops : List ℕ) (sounds : ℕ) → Shows (get nat_eq queues n) (own_stop n s.what ++ stops) sounds → Shows (get nat_eq queues' n) stops (sounding_after n s.what sounds)) →
+      ((n : ℕ) (stops : List ℕ) (sounds : ℕ) → Shows (get nat_eq queues n) (own_stop n s.what ++ stops) sounds
+      → Shows (get nat_eq queues' n) stops (sounding_after n s.what sounds)) →
       AreQueues queues' (reverse (take (k + 1) ss)) (drop (k + 1) ss)
   lines_then queues queues' a h =
       subst (λ earlier. AreQueues queues' earlier (drop (k + 1) ss)) (sym (behind ss k s some here))

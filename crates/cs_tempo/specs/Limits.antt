@@ -1,5 +1,6 @@
 -- The limits on a score, in the order in which they are looked at, and the first that is passed.
-use Rattle.std.specs.Prelude.{ℕ, ◌+◌, ◌*◌, ◌&&◌, Bool, nat_lt, nat_le, count_by, map, sum, List, [], Option, Some, None, if◌then◌else◌}
+use Rattle.std.specs.Prelude.{ℕ, ◌+◌, ◌*◌, ◌&&◌, Bool, nat_lt, nat_le, count_by, map, sum, List, [], Option, Some, None}
+use Rattle.std.specs.Prelude.{if◌then◌else◌}
 use Rattle.std.specs.Option.{option_or}
 use Rattle.cs_base.specs.Limits.{most_notes, most_wav_bytes}
 use Rattle.cs_base.specs.declared.head.Head.{Head}

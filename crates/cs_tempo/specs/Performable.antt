@@ -14,7 +14,8 @@ use Rattle.cs_tempo.specs.Limits.{cycles_in, is_active}
 -- no fault, so its size is 2 to 65,537
 abbrev pub IsActInRange : EventAct → Type 0
 IsActInRange (act.Start instr cycles fields) =
-    IsInstrument instr × (3 ≤ length fields) × (length fields ≤ greatest_field) × (slice_get fields 0 ≡ Some (pos (instr * 65536)))
+    IsInstrument instr × (3 ≤ length fields) × (length fields ≤ greatest_field)
+    × (slice_get fields 0 ≡ Some (pos (instr * 65536)))
 IsActInRange (act.Table number size gen args) = IsTableNumber number × (table_fault size gen args ≡ None)
 
 -- the sound file is no longer than allowed; the events stand in the order of their cycles, no more of them than a score

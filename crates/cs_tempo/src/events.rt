@@ -1,5 +1,6 @@
 // The events of a section, at their control cycles.
-ghost use Rattle.std.specs.Prelude.{◌≡◌, ℕ, List, ◌≤◌, ◌<◌, ◌+◌, ◌-◌, ◌*◌, ◌^◌, ◌++◌, ◌∷◌, [], map, length, pos, IfOk, OnOk, IfSome};
+ghost use Rattle.std.specs.Prelude.{◌≡◌, ℕ, List, ◌≤◌, ◌<◌, ◌+◌, ◌-◌, ◌*◌, ◌^◌, ◌++◌, ◌∷◌, [], map, length, pos, IfOk};
+ghost use Rattle.std.specs.Prelude.{OnOk, IfSome};
 ghost use Rattle.std.specs.List.{All};
 ghost use Rattle.cs_score.specs.Ranges.{IsInRange, HasRange, IsInstrument, beats_end};
 ghost use Rattle.cs_tempo.specs.Time.{time_of, seconds_of};

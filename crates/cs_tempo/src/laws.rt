@@ -1,5 +1,6 @@
 // What holds of the definitions for every score: calls that do nothing, whose contracts are the laws.
-ghost use Rattle.std.specs.Prelude.{false, ◌≡◌, ◌≤◌, ◌+◌, ◌*◌, ◌/◌, ◌^◌, ℕ, List, [], ◌∷◌, Some, None, ℤ, pos, negsuc, ◌+ℤ◌, ◌-ℤ◌, ◌*ℤ◌};
+ghost use Rattle.std.specs.Prelude.{false, ◌≡◌, ◌≤◌, ◌+◌, ◌*◌, ◌/◌, ◌^◌, ℕ, List, [], ◌∷◌, Some, None, ℤ, pos, negsuc};
+ghost use Rattle.std.specs.Prelude.{◌+ℤ◌, ◌-ℤ◌, ◌*ℤ◌};
 ghost use Rattle.std.specs.List.{All, AllPairs, filter};
 ghost use Rattle.std.specs.Ordering.{is_eq, is_lt};
 ghost use Rattle.std.specs.List.Sorted.{IsNonDecreasingBy};
@@ -14,7 +15,7 @@ ghost use Rattle.cs_tempo.specs.Pairing.{ending_stop};
 ghost use Rattle.cs_score.specs.Worked.{at_line, held_note, note, stop, table, whole};
 ghost use Rattle.cs_tempo.specs.Order.{has_turn, in_order, order_of};
 ghost use Rattle.cs_tempo.specs.Plot.{plot_of};
-ghost use Rattle.cs_tempo.specs.Worked.{two_sections};
+ghost use Rattle.cs_tempo.specs.Worked.{held_at, stop_at, two_sections};
 ghost use Rattle.cs_tempo.specs.declared.plot.EventAct.TheVariants as act;
 ghost use Rattle.cs_tempo.specs.Limits.{cycles_in, limit_of};
 ghost use Rattle.cs_tempo.specs.Performable.{IsPerformable};
@@ -81,18 +82,12 @@ pub fn times_worked_by_hand()
 /// The pairing of docs/MEANING.md, computed: of held notes at beats 0, 1 and 2 and stops at beats 2, 3, 4 and 5 the
 /// first stop ends the first note, the next the second, and the one after it the third.
 pub fn pairings_worked_by_hand()
-    ensures first { let held : ℕ → ScoreStmt = λ at. record { line = 1; what = ScoreWhat.Hold 1 at (negsuc 65535) [] } in
-        let stop : ℕ → ScoreStmt = λ at. record { line = 1; what = ScoreWhat.Stop 1 at } in
-        ending_stop 1 0 (held 0 ∷ [])
-        (held 1 ∷ stop 2 ∷ held 2 ∷ stop 3 ∷ stop 4 ∷ stop 5 ∷ []) ≡ Some 2 }
-    ensures second { let held : ℕ → ScoreStmt = λ at. record { line = 1; what = ScoreWhat.Hold 1 at (negsuc 65535) [] } in
-        let stop : ℕ → ScoreStmt = λ at. record { line = 1; what = ScoreWhat.Stop 1 at } in
-        ending_stop 1 1 (held 1 ∷ held 0 ∷ [])
-        (stop 2 ∷ held 2 ∷ stop 3 ∷ stop 4 ∷ stop 5 ∷ []) ≡ Some 3 }
-    ensures third { let held : ℕ → ScoreStmt = λ at. record { line = 1; what = ScoreWhat.Hold 1 at (negsuc 65535) [] } in
-        let stop : ℕ → ScoreStmt = λ at. record { line = 1; what = ScoreWhat.Stop 1 at } in
-        ending_stop 1 3 (held 2 ∷ stop 2 ∷ held 1 ∷ held 0 ∷ [])
-        (stop 3 ∷ stop 4 ∷ stop 5 ∷ []) ≡ Some 4 }
+    ensures first { ending_stop 1 0 (held_at 0 ∷ [])
+        (held_at 1 ∷ stop_at 2 ∷ held_at 2 ∷ stop_at 3 ∷ stop_at 4 ∷ stop_at 5 ∷ []) ≡ Some 2 }
+    ensures second { ending_stop 1 1 (held_at 1 ∷ held_at 0 ∷ [])
+        (stop_at 2 ∷ held_at 2 ∷ stop_at 3 ∷ stop_at 4 ∷ stop_at 5 ∷ []) ≡ Some 3 }
+    ensures third { ending_stop 1 3 (held_at 2 ∷ stop_at 2 ∷ held_at 1 ∷ held_at 0 ∷ [])
+        (stop_at 3 ∷ stop_at 4 ∷ stop_at 5 ∷ []) ≡ Some 4 }
 {}
 
 /// The order of docs/MEANING.md, computed: at one beat tables, then by p1 (a stop's is negative), then by p3 (a held

@@ -2,7 +2,8 @@
 ghost use Rattle.std.specs.Prelude.{◌≡◌, ◌≤◌, ◌<◌, ◌+◌, ◌^◌, ◌∷◌, [], length, map, take, drop, IfOk};
 ghost use Rattle.std.specs.List.{All};
 ghost use Rattle.cs_score.specs.Ranges.{IsInRange, HasRange, beats_end};
-ghost use Rattle.cs_tempo.specs.Sections.{sections_of, own_points, or_else, tempo_of, end_of, reach_of, length_of, cycle_at};
+ghost use Rattle.cs_tempo.specs.Sections.{sections_of, own_points, or_else, tempo_of, end_of, reach_of, length_of};
+ghost use Rattle.cs_tempo.specs.Sections.{cycle_at};
 
 use crate::clock::Clock;
 use cs_base::OutOfMemory;

@@ -5,7 +5,8 @@ ghost use Rattle.cs_base.specs.Numbers.{IsRaw};
 ghost use Rattle.cs_score.specs.Ranges.{beats_end};
 ghost use Rattle.cs_score.specs.declared.statement.TempoPoint.{TempoPoint};
 ghost use Rattle.cs_tempo.specs.inner.Ramps.{rounded_up};
-ghost use Rattle.cs_tempo.specs.Time.{beat_length, ramp_time, time_along, time_of, IsTempo, Rises, cycle_of, seconds_of};
+ghost use Rattle.cs_tempo.specs.Time.{beat_length, ramp_time, time_along, time_of, IsTempo, Rises, cycle_of};
+ghost use Rattle.cs_tempo.specs.Time.{seconds_of};
 
 use cs_base::ONE;
 use cs_score::{TempoPoint, TempoPoints};

@@ -26,7 +26,7 @@ use Rattle.cs_typing.specs.Typing.{typed_outside, typed_instrument, typed_instru
 use Rattle.cs_typing.specs.declared.known.Channel.{Channel}
 use Rattle.cs_typing.specs.declared.known.Channel.TheVariants as channel
 use Rattle.cs_typing.proofs.Naming.{Tells, Give, BlockGives, ArmsGive, block_before, block_named}
-use Rattle.cs_typing.proofs.Rated.{both_none}
+use Rattle.cs_base.proofs.Tests.{both_none}
 
 -- ---- places of names
 

@@ -11,5 +11,6 @@ pub mod Rated
 pub mod RatedCalls
 pub mod RatedExpressions
 pub mod Renaming
+pub mod Rules
 pub mod WellRated
 pub mod Zaks

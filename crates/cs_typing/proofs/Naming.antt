@@ -2,37 +2,38 @@
 -- have which are known after a statement is one of each that stands in it.
 use Rattle.std.proofs.Common.{◌≡◌, ◌∙◌, ◌-◌, ◌==◌, ℕ, suc, Bool, true, false, not, ◌&&◌, ◌||◌, nat_le, List, [], ◌∷◌}
 use Rattle.std.proofs.Common.{length, map, Option, Some, None, arith, refl, sym, subst, if◌then◌else◌}
-use Rattle.std.specs.List.{All, list_all}
+use Rattle.std.specs.List.{All}
 use Rattle.std.specs.Option.{option_or}
 use Rattle.std.proofs.lemmas.Bool.{and_parts}
 use Rattle.std.proofs.lemmas.Bool.Decides.{nat_tests}
 use Rattle.std.proofs.lemmas.List.Elements.{All-cons, All-nil, All-head}
 use Rattle.cs_base.specs.Rates.{is_audio, is_init}
 use Rattle.cs_base.specs.declared.fault.OrcKind.TheVariants as orc
-use Rattle.cs_words.specs.Catalogue.{row_of, takes_count, result_count}
+use Rattle.cs_words.specs.Catalogue.{row_of, takes_count}
 use Rattle.cs_words.specs.declared.catalogue.Opcode.{Opcode}
 use Rattle.cs_words.specs.declared.catalogue.Opcode.TheVariants as op
 use Rattle.cs_grammar.specs.Tree.{Expression, number, var, field, head, neg, pair, pick, apply, Argument, value, text}
 use Rattle.cs_grammar.specs.Tree.{Statement, set, call, choose, Block, no_stmt, andthen, Arms, otherwise, arm}
 use Rattle.cs_grammar.specs.declared.tree.Callee.{Callee}
 use Rattle.cs_grammar.specs.declared.tree.Callee.TheVariants as callee
-use Rattle.cs_typed.specs.Places.{stands_outside}
 use Rattle.cs_typed.specs.TypedTree as typed
 use Rattle.cs_typed.specs.Variables.{EachInExpression, EachInArgument, EachInStatement, EachInBlock, EachInArms}
 use Rattle.cs_typed.specs.declared.setting.Setting.{Setting}
 use Rattle.cs_typed.specs.declared.tree.Var.{Var as Variable}
-use Rattle.cs_typing.specs.Calls.{all_fit, bound_of, may_result, is_even, kind_of, any_sound, channel_use, text_of}
-use Rattle.cs_typing.specs.Calls.{is_too_wide, all_known, rates_agree, counts_agree, call_fault, call_known}
+use Rattle.cs_typing.specs.Calls.{all_fit, bound_of, kind_of, any_sound, channel_use, text_of}
+use Rattle.cs_typing.specs.Calls.{all_known, call_fault, call_known}
 use Rattle.cs_typing.specs.Calls.{typed_arguments, typed_call}
 use Rattle.cs_typing.specs.Expressions.{is_condition, rate_of, reads_known, typed_expression}
 use Rattle.cs_typing.specs.Known.{Table, Shared, Known, known_with, knows, after_giving, given, given_all, used}
-use Rattle.cs_typing.specs.Known.{use_channel, clashes, variable, channel_of}
+use Rattle.cs_typing.specs.Known.{use_channel, variable, channel_of}
 use Rattle.cs_typing.specs.Settings.{at}
 use Rattle.cs_typing.specs.Statements.{may_set, set_fault, condition_fault, fault, block_fault, arms_fault, known}
 use Rattle.cs_typing.specs.Statements.{known_block, known_arms, typed_statement, typed_block, typed_arms}
 use Rattle.cs_typing.specs.declared.known.Channel.{Channel}
 use Rattle.cs_typing.specs.declared.known.Channel.TheVariants as channel
-use Rattle.cs_typing.proofs.Rated.{at_none, both_none}
+use Rattle.cs_base.proofs.Tests.{both_none}
+use Rattle.cs_typing.proofs.Rated.{at_none}
+use Rattle.cs_typing.proofs.Rules.{keeps_rules}
 
 -- each name that statements give has a property
 abbrev mutual
@@ -71,16 +72,6 @@ reads_right : (b c : Bool)
     → (if not b then Some orc.Undefined else (if not c then Some orc.RateMismatch else None)) ≡ None → b ≡ true
 reads_right true c h = refl
 reads_right false c h = absurd (cc h)
-
-no_rule_broken : (a b c d e : Bool)
-    → (if not a then Some orc.ArgCount else (if not b then Some orc.Undefined else
-    (if not c then Some orc.RateMismatch else
-    (if d then Some orc.ChannelRate else (if e then Some orc.OutCount else None))))) ≡ None → (a ≡ true) ×
-    (b ≡ true) × (c ≡ true)
-no_rule_broken true true true d e h = (refl, refl, refl)
-no_rule_broken true true false d e h = absurd (cc h)
-no_rule_broken true false c d e h = absurd (cc h)
-no_rule_broken false b c d e h = absurd (cc h)
 
 past_one : (m : ℕ) → (suc (suc m) - 1 == 0) ≡ false
 past_one m = grind (arith, nat_tests)
@@ -244,17 +235,11 @@ module _ (P : Variable → Type 0) (S : Known → Type 0) (G : List ℕ → Type
   call_named s n line (callee.Opcode o) results args h after g =
       let row = row_of o in
       let role = channel_use row.shape results args in
-      let right = no_rule_broken (counts_agree row results args) (all_known n args) (rates_agree s row results args)
-      (clashes n.shared role (text_of args)) (is_too_wide s row.shape args) h in
-      let counts = and_parts (length results == result_count row) (takes_count row (length args)) right.0 in
-      let fit = all_fit row (bound_of results) 0 args in
-      let may = list_all (may_result row) results in
-      let outer = and_parts (fit && may && is_even row.shape args) (s.inside || stands_outside row.shape) right.2 in
-      let middle = and_parts (fit && may) (is_even row.shape args) outer.0 in
-      let inner = and_parts fit may middle.0 in
+      let keeps = keeps_rules s n row results args h in
       let alone = channel_alone n role (text_of args) results after in (
-        results_named n role (text_of args) (length row.results == 0) results counts.0 after g,
-        arguments_named n o results args counts.1 inner.0 (channel_before n role (text_of args) alone) alone right.1,
+        results_named n role (text_of args) (length row.results == 0) results keeps.results_count after g,
+        arguments_named n o results args keeps.args_count keeps.fit
+            (channel_before n role (text_of args) alone) alone keeps.known,
       )
 
   -- ---- statements

@@ -5,8 +5,8 @@ use Rattle.std.specs.List.{All}
 use Rattle.std.specs.Option.{option_or}
 use Rattle.std.proofs.lemmas.Bool.{and_parts}
 use Rattle.std.proofs.lemmas.List.Elements.{All-cons, All-nil}
+use Rattle.cs_base.proofs.Tests.{both_none}
 use Rattle.cs_base.specs.Rates.{within, is_init, is_audio}
-use Rattle.cs_base.specs.declared.fault.OrcFault.{OrcFault}
 use Rattle.cs_base.specs.declared.fault.OrcKind.{OrcKind}
 use Rattle.cs_base.specs.declared.fault.OrcKind.TheVariants as orc
 use Rattle.cs_base.specs.declared.resource.Rate.TheVariants as rate
@@ -31,10 +31,6 @@ use Rattle.cs_typing.proofs.RatedCalls.{call_rated}
 pub at_none : (line : ℕ) (k : Option OrcKind) → at line k ≡ None → k ≡ None
 at_none line None h = refl
 at_none line (Some k) h = absurd (cc h)
-
-pub both_none : (f g : Option OrcFault) → option_or f g ≡ None → (f ≡ None) × (g ≡ None)
-both_none None g h = (refl, h)
-both_none (Some f) g h = absurd (cc h)
 
 no_rule_broken : (b c : Bool)
     → (if not b then Some orc.Undefined else (if not c then Some orc.RateMismatch else None)) ≡ None → c ≡ true

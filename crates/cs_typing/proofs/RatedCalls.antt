@@ -25,19 +25,20 @@ use Rattle.cs_words.specs.declared.catalogue.Shape.TheVariants as shape
 use Rattle.cs_grammar.specs.Tree.{Argument, value, text}
 use Rattle.cs_grammar.specs.declared.tree.Callee.{Callee}
 use Rattle.cs_grammar.specs.declared.tree.Callee.TheVariants as callee
-use Rattle.cs_typed.specs.Places.{stands_outside, is_starting, is_writing}
+use Rattle.cs_typed.specs.Places.{is_starting, is_writing}
 use Rattle.cs_typed.specs.declared.setting.Setting.{Setting}
 use Rattle.cs_typing.specs.declared.known.Channel.{Channel}
 use Rattle.cs_typing.specs.declared.known.Channel.TheVariants as channel
 use Rattle.cs_typing.specs.Calls.{fits, all_fit, bound_of, may_result, is_sound, is_even, kind_of, any_sound}
-use Rattle.cs_typing.specs.Calls.{channel_use, text_of, is_too_wide, all_known, rates_agree, counts_agree, row_fault}
+use Rattle.cs_typing.specs.Calls.{channel_use, is_too_wide, row_fault}
 use Rattle.cs_typing.specs.Calls.{call_fault, is_still, call_rate, typed_arguments, typed_call}
 use Rattle.cs_typing.specs.Expressions.{is_value, rate_of, typed_expression}
-use Rattle.cs_typing.specs.Known.{Known, Shared, variable, channel_of, clashes}
+use Rattle.cs_typing.specs.Known.{Known, Shared, variable, channel_of}
 use Rattle.cs_typed.specs.TypedTree as typed
 use Rattle.cs_typed.specs.WellRated.{var_rate, is_variable, is_channel, node_rate, IsRatedArgument, row_left}
 use Rattle.cs_typed.specs.WellRated.{fits_letter, fit_letters, bound_by, may_give, goes_beyond, stores_evenly}
 use Rattle.cs_typed.specs.WellRated.{suits_channel, keeps_still, is_of_sound, done_at, IsRatedCall, IsRatedStatement}
+use Rattle.cs_typing.proofs.Rules.{keeps_rules}
 use Rattle.cs_typing.proofs.RatedExpressions.{node_is, variable_rate, not_true, value_rated}
 
 -- ---- letters that take no text
@@ -348,18 +349,6 @@ suits_right n o results args c = refl
 
 -- ---- a call without a fault
 
-no_rule_broken : (a b c d e : Bool)
-    → (if not a then Some orc.ArgCount else (if not b then Some orc.Undefined else
-    (if not c then Some orc.RateMismatch else
-    (if d then Some orc.ChannelRate else (if e then Some orc.OutCount else None))))) ≡ None → (a ≡ true) ×
-    (c ≡ true) × (e ≡ false)
-no_rule_broken true true true false false h = (refl, refl, refl)
-no_rule_broken true true true false true h = absurd (cc h)
-no_rule_broken true true true true e h = absurd (cc h)
-no_rule_broken true true false d e h = absurd (cc h)
-no_rule_broken true false c d e h = absurd (cc h)
-no_rule_broken false b c d e h = absurd (cc h)
-
 equal : (i j : ℕ) → (i == j) ≡ true → i ≡ j
 equal i j h = grind (arith, nat_tests)
 
@@ -370,27 +359,20 @@ row_rated : (s : Setting) (n : Known) (o : Opcode) (results : List (List ℕ)) (
 row_rated s n o results args h =
     let row = row_of o in
     let role = channel_use row.shape results args in
-    let right = no_rule_broken (counts_agree row results args) (all_known n args) (rates_agree s row results args)
-    (clashes n.shared role (text_of args)) (is_too_wide s row.shape args) h in
-    let counts = and_parts (length results == result_count row) (takes_count row (length args)) right.0 in
-    let fit = all_fit row (bound_of results) 0 args in
-    let may = list_all (may_result row) results in
-    let outer = and_parts (fit && may && is_even row.shape args) (s.inside || stands_outside row.shape) right.1 in
-    let middle = and_parts (fit && may) (is_even row.shape args) outer.0 in
-    let inner = and_parts fit may middle.0 in
-    let letters = letters_right n o (bound_of results) results args counts.1 inner.0 in
+    let keeps = keeps_rules s n row results args h in
+    let letters = letters_right n o (bound_of results) results args keeps.args_count keeps.fit in
     record {
       done = done_right n role row.shape results args;
-      results = length-map results (variable n) ∙ equal (length results) (result_count row) counts.0;
-      given = given_right n row results inner.1;
+      results = length-map results (variable n) ∙ equal (length results) (result_count row) keeps.results_count;
+      given = given_right n row results keeps.may;
       count = letters.1;
       letters = ap (λ b. fit_letters (row_left o) b 0 (typed_arguments n role args)) (sym (bound_right n results))
           ∙ letters.0;
-      parts = parts_rated n role row (bound_of results) args 0 inner.0;
-      channels = channels_right n s o (bound_of results) results args inner.0 right.2;
-      suits = suits_right n o results args counts.1;
-      even = stores_right n o (bound_of results) results args inner.0 middle.1;
-      place = outer.1;
+      parts = parts_rated n role row (bound_of results) args 0 keeps.fit;
+      channels = channels_right n s o (bound_of results) results args keeps.fit keeps.width;
+      suits = suits_right n o results args keeps.args_count;
+      even = stores_right n o (bound_of results) results args keeps.fit keeps.even;
+      place = keeps.place;
     }
 
 pub call_rated : (s : Setting) (n : Known) (line : ℕ) (c : Callee) (results : List (List ℕ)) (args : List Argument)

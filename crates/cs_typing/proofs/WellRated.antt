@@ -6,7 +6,8 @@ use Rattle.cs_typing.specs.Known.{counts_of}
 use Rattle.cs_typing.specs.Settings.{header, settings_fault}
 use Rattle.cs_typing.specs.Typing.{items, items_fault, first_known, known_items, type_fault, typed_of}
 use Rattle.cs_typing.proofs.Counted.{outside_counted, instruments_counted, all_within}
-use Rattle.cs_typing.proofs.Rated.{both_none, items_rated}
+use Rattle.cs_base.proofs.Tests.{both_none}
+use Rattle.cs_typing.proofs.Rated.{items_rated}
 
 pub orchestra_rated : (o : Orchestra) → type_fault o ≡ None → IsWellRated (typed_of o)
 orchestra_rated o h =

@@ -6,8 +6,10 @@ ghost use Rattle.cs_words.specs.declared.sign.BinOp.TheVariants as op;
 ghost use Rattle.cs_words.specs.declared.word.Func.TheVariants as func;
 ghost use Rattle.cs_words.specs.declared.word.HeadName.TheVariants as head;
 ghost use Rattle.cs_grammar.specs.declared.tree.Callee.TheVariants as callee;
-ghost use Rattle.cs_grammar.specs.Tree.{number, var, field, neg, pair, apply, value, text, set, call, choose, no_stmt, otherwise, arm};
-ghost use Rattle.cs_typing.specs.Examples.{line, instr, orchestra, whole, lit, one, two, body_of, outside_of, calls, broken, eight_by_four, three, zak, zak_of_one_and_two, zak_in_an_if};
+ghost use Rattle.cs_grammar.specs.Tree.{number, var, field, neg, pair, apply, value, text, set, call, choose, no_stmt};
+ghost use Rattle.cs_grammar.specs.Tree.{otherwise, arm};
+ghost use Rattle.cs_typing.specs.Examples.{line, instr, orchestra, whole, lit, one, two, body_of, outside_of, calls};
+ghost use Rattle.cs_typing.specs.Examples.{broken, eight_by_four, three, zak, zak_of_one_and_two, zak_in_an_if};
 ghost use Rattle.cs_typing.specs.Settings.{in_range, header, settings_fault, zaks_of_block, zak_spaces};
 ghost use Rattle.cs_typing.specs.Typing.{type_fault};
 

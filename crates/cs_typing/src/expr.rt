@@ -4,7 +4,8 @@ ghost use Rattle.cs_grammar.specs.Tree.{expression};
 ghost use Rattle.std.specs.Box.{box_value};
 ghost use Rattle.cs_base.specs.Rates.{faster};
 ghost use Rattle.cs_base.specs.declared.resource.Rate.TheVariants as rate;
-ghost use Rattle.cs_typing.specs.Expressions.{rate_of, applied_rate, is_control_name, is_value, is_condition, reads_known, typed_expression};
+ghost use Rattle.cs_typing.specs.Expressions.{rate_of, applied_rate, is_control_name, is_value, is_condition};
+ghost use Rattle.cs_typing.specs.Expressions.{reads_known, typed_expression};
 ghost use Rattle.cs_typed.specs.TypedTree as typed;
 
 use crate::known::KnownNames;

@@ -4,7 +4,8 @@ ghost use Rattle.std.specs.Prelude.{◌≡◌, OnOk, map};
 ghost use Rattle.cs_grammar.specs.Tree as tree;
 ghost use Rattle.cs_grammar.specs.declared.tree.Arm.{out-Arm};
 ghost use Rattle.cs_typing.specs.Known.{no_names};
-ghost use Rattle.cs_typing.specs.Typing.{given_global, given_globals, globals, globals_of_block, globals_of_arms, globals_of_instruments, all_globals};
+ghost use Rattle.cs_typing.specs.Typing.{given_global, given_globals, globals, globals_of_block, globals_of_arms};
+ghost use Rattle.cs_typing.specs.Typing.{globals_of_instruments, all_globals};
 
 use crate::known::NamesByRate;
 use cs_base::{Name, OutOfMemory};

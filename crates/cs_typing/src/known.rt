@@ -1,6 +1,7 @@
 // What is known at a place of the text: names of variables and of channels, each with its number.
 ghost use Rattle.std.specs.Prelude.{◌≡◌, OnOk, IfOk};
-ghost use Rattle.cs_typing.specs.Known.{no_names, counts_of, of_rate, in_table, place_in, added, known_with, first_with, knows, variable, given};
+ghost use Rattle.cs_typing.specs.Known.{no_names, counts_of, of_rate, in_table, place_in, added, known_with};
+ghost use Rattle.cs_typing.specs.Known.{first_with, knows, variable, given};
 ghost use Rattle.cs_typing.specs.Known.{clashes, channel_of, use_channel, with_channel, global};
 ghost use Rattle.cs_grammar.specs.Tree as tree;
 ghost use Rattle.cs_typing.specs.Typing.{entered, first_known, shared_names};

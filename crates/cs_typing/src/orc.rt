@@ -9,7 +9,8 @@ ghost use Rattle.cs_typing.specs.Known.{first_with, no_names};
 ghost use Rattle.cs_typing.specs.Typing.{items, items_fault, item_fault, known_item, known_items, alone, body};
 ghost use Rattle.cs_typing.specs.Typing.{typed_instrument, typed_outside, typed_instruments, type_fault, typed_of};
 ghost use Rattle.cs_typing.specs.inner.Answers.{Gives};
-ghost use Rattle.cs_typing.specs.inner.Walk.{Judged, GivesOrc, parts_fault, typed_by, made_from, made_of, made_with, nothing, after_item, after_items};
+ghost use Rattle.cs_typing.specs.inner.Walk.{Judged, GivesOrc, parts_fault, typed_by, made_from, made_of, made_with};
+ghost use Rattle.cs_typing.specs.inner.Walk.{nothing, after_item, after_items};
 ghost use Rattle.cs_typing.specs.inner.Settled.{settings_of};
 
 use crate::known::{KnownNames, NamesByRate};

@@ -2,7 +2,8 @@
 ghost use Rattle.std.specs.Prelude.{◌≡◌, None, []};
 ghost use Rattle.cs_words.specs.declared.word.HeadName.TheVariants as head;
 ghost use Rattle.cs_grammar.specs.Tree.{block};
-ghost use Rattle.cs_typing.specs.Settings.{earlier, settings_fault, headers_fault, header_of, header, kr_fault, zaks_of_block, zak_spaces};
+ghost use Rattle.cs_typing.specs.Settings.{earlier, settings_fault, headers_fault, header_of, header, kr_fault};
+ghost use Rattle.cs_typing.specs.Settings.{zaks_of_block, zak_spaces};
 ghost use Rattle.cs_typing.specs.inner.Answers.{Gives};
 ghost use Rattle.cs_typing.specs.inner.Settled.{settings_of, told};
 

@@ -6,7 +6,9 @@ ghost use Rattle.cs_grammar.specs.declared.tree.Arm.{out-Arm};
 ghost use Rattle.cs_typing.specs.Expressions.{typed_expression};
 ghost use Rattle.cs_typing.specs.Known.{variable, given};
 ghost use Rattle.cs_typing.specs.Settings.{at};
-ghost use Rattle.cs_typing.specs.Statements.{may_set, set_fault, condition_fault, fault, block_fault, arms_fault, known, known_block, known_arms, typed_statement, typed_block, typed_arms, choice_rate, all_init};
+ghost use Rattle.cs_typing.specs.Statements.{may_set, set_fault, condition_fault, fault, block_fault, arms_fault};
+ghost use Rattle.cs_typing.specs.Statements.{known, known_block, known_arms, typed_statement, typed_block, typed_arms};
+ghost use Rattle.cs_typing.specs.Statements.{choice_rate, all_init};
 ghost use Rattle.cs_typed.specs.TypedTree as typed;
 ghost use Rattle.cs_typing.specs.inner.Answers.{Gives, GivesArm, GivesArms};
 

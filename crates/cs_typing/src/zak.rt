@@ -3,7 +3,8 @@ ghost use Rattle.std.specs.Prelude.{◌≡◌, ◌≤◌, map, true, false, None
 ghost use Rattle.std.specs.List.{list_all};
 ghost use Rattle.cs_grammar.specs.Tree as tree;
 ghost use Rattle.cs_grammar.specs.declared.tree.Arm.{out-Arm};
-ghost use Rattle.cs_typing.specs.Settings.{at, is_zakinit, is_size, zak_fault, zaks, zaks_of_block, zaks_of_arms, zaks_fault, places, sizes, zak_spaces};
+ghost use Rattle.cs_typing.specs.Settings.{at, is_zakinit, is_size, zak_fault, zaks, zaks_of_block, zaks_of_arms};
+ghost use Rattle.cs_typing.specs.Settings.{zaks_fault, places, sizes, zak_spaces};
 ghost use Rattle.cs_typing.specs.inner.Settled.{zak_at, after_zak, after_zaks};
 
 use crate::headers::{is_whole_to, whole};

@@ -1,6 +1,7 @@
 pub mod Binary
 pub mod Built
 pub mod Faulted
+pub mod Few
 pub mod Places
 pub mod Plain
 pub mod Priced

@@ -205,11 +205,11 @@ fair_defining opcodes fair d = record {
       (fair_template opcodes fair d);
 }
 
-fair_all : (opcodes : Opcodes) → AllFair opcodes → (ds : List Definition) → AllFair (defining_all opcodes ds)
+pub fair_all : (opcodes : Opcodes) → AllFair opcodes → (ds : List Definition) → AllFair (defining_all opcodes ds)
 fair_all opcodes fair [] = fair
 fair_all opcodes fair (d ∷ ds) = fair_all (defining opcodes d) (fair_defining opcodes fair d) ds
 
-fair_none : AllFair no_opcodes
+pub fair_none : AllFair no_opcodes
 fair_none = record { each = λ name. tt }
 
 pub fair_of : (ds : List Definition) (n : ℕ) → AllFair (opcodes_of ds n)

@@ -30,12 +30,12 @@ few_statements env b e =
     let few : 0 + total (counts_in env b) ≤ 2000 =
     within_all 0 (counts_in env b) (omega arith) none in omega (arith, few)
 
-second : (a b c : Option LimitHit) → option_or a (option_or b c) ≡ None → b ≡ None
+pub second : (a b c : Option LimitHit) → option_or a (option_or b c) ≡ None → b ≡ None
 second (Some f) b c e = absurd (none-some f (sym e))
 second None (Some f) c e = absurd (none-some f (sym e))
 second None None c e = refl
 
-third : (a b c : Option LimitHit) → option_or a (option_or b c) ≡ None → c ≡ None
+pub third : (a b c : Option LimitHit) → option_or a (option_or b c) ≡ None → c ≡ None
 third (Some f) b c e = absurd (none-some f (sym e))
 third None (Some f) c e = absurd (none-some f (sym e))
 third None None c e = e

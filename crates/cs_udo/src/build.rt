@@ -6,7 +6,8 @@ ghost use Rattle.cs_udo.specs.Counted.{call_count, counts, counts_in, counts_in_
 ghost use Rattle.cs_udo.specs.Expanded.{alone, assignments, defined, template};
 ghost use Rattle.cs_udo.specs.Names.{in_frame, renamed, renamed_argument, slots};
 ghost use Rattle.cs_udo.specs.declared.owner.Owner.TheVariants as owner;
-ghost use Rattle.cs_udo.specs.inner.Building.{opcodes_in, shown, with, building, building_block, building_call, MakesArms, MakesArm};
+ghost use Rattle.cs_udo.specs.inner.Building.{opcodes_in, shown, with, building, building_block, building_call};
+ghost use Rattle.cs_udo.specs.inner.Building.{MakesArms, MakesArm};
 ghost use Rattle.cs_udo.specs.inner.Owners.{owned};
 ghost use Rattle.cs_udo.specs.inner.Tallies.{total};
 

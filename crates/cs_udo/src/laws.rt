@@ -8,7 +8,9 @@ ghost use Rattle.cs_grammar.specs.Tree.{field, set, choose, no_stmt, otherwise, 
 ghost use Rattle.cs_udo.specs.Counted.{counts_in, line_passing, numbers_hit};
 ghost use Rattle.cs_udo.specs.Expanded.{opcodes_before};
 ghost use Rattle.cs_udo.specs.Expanding.{expanding};
-ghost use Rattle.cs_udo.specs.Worked.{literal, statements, instrument_1, twice, one_call, calls_twice, twice_expanded, four, calls_four, four_expanded, count, calls_count, count_expanded, wrong_call, text_call, uncalled, called_outside};
+ghost use Rattle.cs_udo.specs.Worked.{literal, statements, instrument_1, twice, one_call, calls_twice, twice_expanded};
+ghost use Rattle.cs_udo.specs.Worked.{four, calls_four, four_expanded, count, calls_count, count_expanded, wrong_call};
+ghost use Rattle.cs_udo.specs.Worked.{text_call, uncalled, called_outside};
 
 /// Expansions worked by hand: an opcode that doubles, called on its own result; one that calls it twice; one that
 /// counts, at two places; an orchestra without definitions, which stays; and calls that are refused: the number of

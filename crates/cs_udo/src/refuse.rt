@@ -3,7 +3,9 @@ ghost use Rattle.std.specs.Prelude.{◌≡◌, ◌==◌, ◌&&◌, ◌||◌, not
 ghost use Rattle.cs_base.specs.declared.fault.OrcKind.TheVariants as orc;
 ghost use Rattle.cs_grammar.specs.Tree as tree;
 ghost use Rattle.cs_grammar.specs.declared.tree.Arm.{out-Arm};
-ghost use Rattle.cs_udo.specs.Refused.{has_text, broken_rule, at, call_faults, uppermost_of, faults, faults_in, faults_in_arms, faults_outside, faults_of_definitions, faults_of_instruments, first_fault};
+ghost use Rattle.cs_udo.specs.Refused.{has_text, broken_rule, at, call_faults, uppermost_of, faults, faults_in};
+ghost use Rattle.cs_udo.specs.Refused.{faults_in_arms, faults_outside, faults_of_definitions, faults_of_instruments};
+ghost use Rattle.cs_udo.specs.Refused.{first_fault};
 ghost use Rattle.cs_udo.specs.Expanded.{Opcodes, no_opcodes, defined, template};
 ghost use Rattle.cs_udo.specs.inner.Library.{definitions_of};
 ghost use Rattle.cs_udo.specs.inner.Walks.{opcodes_at, listed, after_faults};

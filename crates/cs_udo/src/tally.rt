@@ -3,7 +3,8 @@ ghost use Rattle.std.specs.Prelude.{◌≡◌, ◌≤◌, ◌+◌, ℕ, List, If
 ghost use Rattle.std.specs.List.{prefix_len};
 ghost use Rattle.cs_grammar.specs.Tree as tree;
 ghost use Rattle.cs_grammar.specs.declared.tree.Arm.{out-Arm};
-ghost use Rattle.cs_udo.specs.Counted.{size_of, call_count, counts, counts_in, counts_in_arms, hit, numbers_hit, statements_hit, limits};
+ghost use Rattle.cs_udo.specs.Counted.{size_of, call_count, counts, counts_in, counts_in_arms, hit, numbers_hit};
+ghost use Rattle.cs_udo.specs.Counted.{statements_hit, limits};
 ghost use Rattle.cs_udo.specs.Expanded.{assignments, defined, template, opcodes_before};
 ghost use Rattle.cs_udo.specs.inner.Library.{definitions_of, opcodes_priced};
 ghost use Rattle.cs_udo.specs.inner.Tallies.{capped, after_count, after_counts, IsPriced, is_value, weight};

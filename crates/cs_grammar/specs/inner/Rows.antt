@@ -1,3 +1,4 @@
+-- Lists of words and numbers, as the parser goes along them.
 use Rattle.std.specs.Prelude.{ℕ, List, [], ◌∷◌, ◌++◌, Ok, Err, if◌then◌else◌}
 use Rattle.cs_base.specs.declared.fault.OrcKind.TheVariants as orc
 use Rattle.cs_grammar.specs.declared.symbol.Expected.TheVariants as expected

@@ -1,3 +1,4 @@
+-- How the parser takes the inputs of a definition.
 use Rattle.std.specs.Prelude.{ℕ, Bool, true, false, List, [], ◌∷◌, ◌++◌, ◌&&◌, ◌==◌, not, length, Option, Some, None}
 use Rattle.std.specs.Prelude.{Ok, Err, if◌then◌else◌, zero, suc, ◌+◌}
 use Rattle.cs_base.specs.declared.fault.OrcKind.TheVariants as orc

@@ -1,6 +1,7 @@
 -- How the reader finds the piece at the front of a text, row by row. Rows and Lexed say without this what a text
 -- reads as.
-use Rattle.std.specs.Prelude.{ℕ, Bool, List, [], ◌∷◌, ◌+◌, ◌&&◌, ◌==◌, not, length, take, drop, slice_index, nat_lt, codes, Option, Some, None, Result, Ok, Err, if◌then◌else◌}
+use Rattle.std.specs.Prelude.{ℕ, Bool, List, [], ◌∷◌, ◌+◌, ◌&&◌, ◌==◌, not, length, take, drop, slice_index, nat_lt}
+use Rattle.std.specs.Prelude.{codes, Option, Some, None, Result, Ok, Err, if◌then◌else◌}
 use Rattle.std.specs.List.{list_all, prefix_len}
 use Rattle.std.specs.Char.{is_ascii_digit}
 use Rattle.cs_base.specs.Decimals.{decimal_of, raw_of_decimal}

@@ -2,6 +2,7 @@
 use Rattle.std.specs.Prelude.{◌≡◌, ℕ, ◌≤◌, ◌==◌, length, count_by, List, [], None, Ok}
 use Rattle.std.specs.List.{list_any}
 use Rattle.cs_base.specs.Limits.{most_events}
+use Rattle.cs_base.specs.Lines.{Excerpt}
 use Rattle.cs_base.specs.declared.limit.Limit.TheVariants as limit
 use Rattle.cs_score.specs.declared.kept.TableNumbers.{TableNumbers}
 use Rattle.cs_score.specs.declared.kept.EventCount.{EventCount}
@@ -33,7 +34,7 @@ pub record Holds (all : List ScoreStmt) (kept : KeptStatements) : Type 0 where
   pub all_kept : kept.tables.hit ≡ None → kept.events.hit ≡ None → kept.statements ≡ all
 
 -- a whole text was read: its statements, and what is kept of them
-pub record IsWhole (text : List ℕ) (kept : KeptStatements) : Type 0 where
+pub record IsWhole (text : Excerpt) (kept : KeptStatements) : Type 0 where
   pub all : List ScoreStmt
   pub read : score_of text ≡ Ok all
   pub holds : Holds all kept

@@ -1,5 +1,6 @@
 -- What the code keeps of all rows that it has read, and how one row more changes that.
-use Rattle.std.specs.Prelude.{◌≡◌, ℕ, ℤ, Bool, false, List, [], ◌∷◌, ◌++◌, Option, Some, None, Result, Ok, Err, nat_eq, true, if◌then◌else◌}
+use Rattle.std.specs.Prelude.{◌≡◌, ℕ, ℤ, Bool, false, List, [], ◌∷◌, ◌++◌, Option, Some, None, Result, Ok, Err, nat_eq}
+use Rattle.std.specs.Prelude.{true, if◌then◌else◌}
 use Rattle.std.specs.HashMap.{get}
 use Rattle.std.specs.Option.{option_or, option_to_list}
 use Rattle.cs_base.specs.declared.fault.ScoreFault.{ScoreFault}
@@ -20,7 +21,8 @@ use Rattle.cs_score.specs.declared.statement.ScoreStmt.{ScoreStmt}
 use Rattle.cs_score.specs.Carry.{and_then, fields, is_note, p1}
 use Rattle.cs_score.specs.Notes.{gap, p2, ok_or_zero}
 use Rattle.cs_score.specs.Ranges.{HasRange}
-use Rattle.cs_score.specs.Statements.{at_line, base_after, base_by, base_of, ended, first_size, is_end, one, refusal_of, size_in, tempo_of, unless, written_table}
+use Rattle.cs_score.specs.Statements.{at_line, base_after, base_by, base_of, ended, first_size, is_end, one, refusal_of}
+use Rattle.cs_score.specs.Statements.{size_in, tempo_of, unless, written_table}
 use Rattle.cs_score.specs.inner.Counts.{Holds}
 use Rattle.cs_score.specs.inner.State.{IsKept, note_read, p1_before}
 

@@ -1,5 +1,6 @@
 -- What the code keeps of the rows that it has read.
-use Rattle.std.specs.Prelude.{◌≡◌, ◌+◌, ◌<◌, ℕ, Bool, false, List, [], ◌∷◌, Option, Some, None, Result, Ok, Err, slice_get, IsSome, if◌then◌else◌}
+use Rattle.std.specs.Prelude.{◌≡◌, ◌+◌, ◌<◌, ℕ, Bool, false, List, [], ◌∷◌, Option, Some, None, Result, Ok, Err}
+use Rattle.std.specs.Prelude.{slice_get, IsSome, if◌then◌else◌}
 use Rattle.cs_base.specs.declared.fault.ScoreKind.{ScoreKind}
 use Rattle.cs_base.specs.declared.fault.ScoreKind.TheVariants.{NothingToCarry}
 use Rattle.cs_score.specs.declared.last.LastNote.{LastNote}

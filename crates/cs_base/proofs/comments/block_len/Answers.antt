@@ -7,14 +7,17 @@ use Rattle.cs_base.proofs.comments.block_len.Goals as goal
 pub returns-then-close-text-clause-value : goal.returns-then-close-text-clause-value
 returns-then-close-text-clause-value c =
     let text = c.args.text.now in
-    (closed text c.close_of-close.result c.requires (c.close_of-close.ensures.value ∙ ap close_of (take_rest text 2)) c.if-close-text.true).0
+    (closed text c.close_of-close.result c.requires (c.close_of-close.ensures.value ∙ ap close_of (take_rest text 2))
+    c.if-close-text.true).0
 
 pub returns-then-close-text-clause-within : goal.returns-then-close-text-clause-within
 returns-then-close-text-clause-within c =
     let text = c.args.text.now in
-    (closed text c.close_of-close.result c.requires (c.close_of-close.ensures.value ∙ ap close_of (take_rest text 2)) c.if-close-text.true).1
+    (closed text c.close_of-close.result c.requires (c.close_of-close.ensures.value ∙ ap close_of (take_rest text 2))
+    c.if-close-text.true).1
 
 pub returns-else-close-text-clause-value : goal.returns-else-close-text-clause-value
 returns-else-close-text-clause-value c =
     let text = c.args.text.now in
-    unclosed text c.close_of-close.result c.requires (c.close_of-close.ensures.value ∙ ap close_of (take_rest text 2)) c.if-close-text.false
+    unclosed text c.close_of-close.result c.requires (c.close_of-close.ensures.value ∙ ap close_of (take_rest text 2))
+    c.if-close-text.false

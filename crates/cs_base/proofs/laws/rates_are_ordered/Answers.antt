@@ -1,4 +1,5 @@
-use Rattle.cs_base.proofs.Rates.{within_once, within_chain, within_either, faster_is_one, within_faster, fastest_above, fastest_least}
+use Rattle.cs_base.proofs.Rates.{within_once, within_chain, within_either, faster_is_one, within_faster, fastest_above}
+use Rattle.cs_base.proofs.Rates.{fastest_least}
 use Rattle.cs_base.proofs.laws.rates_are_ordered.Goals as goal
 
 pub returns-clause-once : goal.returns-clause-once

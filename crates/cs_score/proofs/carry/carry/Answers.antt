@@ -10,8 +10,10 @@ invariant_of-result-2 c =
     elim c.if-len-le-UP_TO_P3.branch [
       | then-len-le-UP_TO_P3 w ↦ record {
         taken_are_values = subst (λ t. IfSome t (AreValues c.in_ok-fields.fields)) (sym w.taken-is)
-            (taken_whole c.args.written c.args.last.fields c.in_ok-fields.fields c.args.last.more (omega (arith, w.if-len-le-UP_TO_P3.true, c.len.ensures)) c.args.last.more_are_values
+            (taken_whole c.args.written c.args.last.fields c.in_ok-fields.fields c.args.last.more
+            (omega (arith, w.if-len-le-UP_TO_P3.true, c.len.ensures)) c.args.last.more_are_values
             (c.in_ok-fields.ensures ∙ ap (λ ws. filled ws c.args.last.fields) c.as_slice.ensures));
       }
-      | else-len-le-UP_TO_P3 w ↦ record { taken_are_values = subst (λ t. IfSome t (AreValues c.in_ok-fields.fields)) (sym w.taken-is) tt }
+      | else-len-le-UP_TO_P3 w ↦ record
+          { taken_are_values = subst (λ t. IfSome t (AreValues c.in_ok-fields.fields)) (sym w.taken-is) tt }
     ]

@@ -3,4 +3,5 @@ use Rattle.cs_score.specs.inner.State.{filled}
 use Rattle.cs_score.proofs.carry.filled.Given as goal
 
 abbrev pub invariant-loop-k : goal.invariant-loop-k
-invariant-loop-k l = l.fields.items ≡ take l.k (filled l.written l.initial.fields.items) ++ drop l.k l.initial.fields.items
+invariant-loop-k l = l.fields.items ≡ take l.k (filled l.written l.initial.fields.items)
+    ++ drop l.k l.initial.fields.items

@@ -21,4 +21,5 @@ returns-clause-row c =
     (c.blanks_len-indent.ensures.value ∙ ap (λ t. prefix_len is_blank (take n t)) rest)
     (c.next_len.ensures ∙ ap next_len rest)
     c.line_on-row_line.ensures
-    (c.in_ok-row.ensures ∙ ap (row_at line) (take_rest (take n (take (length plain - at) (drop at plain))) indent) ∙ ap (λ t. row_at line (drop indent (take n t))) rest)
+    (c.in_ok-row.ensures ∙ ap (row_at line) (take_rest (take n (take (length plain - at) (drop at plain))) indent)
+    ∙ ap (λ t. row_at line (drop indent (take n t))) rest)

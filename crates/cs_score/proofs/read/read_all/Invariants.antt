@@ -7,7 +7,7 @@ use Rattle.cs_score.proofs.read.read_all.Given as goal
 abbrev pub invariant-loop-at : goal.invariant-loop-at
 invariant-loop-at l = record {
   within : l.at ≤ length l.plain.items;
-  line : l.line ≡ line_after (take l.at l.text);
+  line : l.line ≡ line_after l.text.first_line (take l.at l.text.bytes);
   read : Read l.text l.plain.items l.at l.past l.kept;
   ranges : All IsInRange l.kept.statements;
 }

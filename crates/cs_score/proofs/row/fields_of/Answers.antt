@@ -10,8 +10,13 @@ loop-at-preserved c =
     let len = c.word_len-len.result in
     let span : c.loop-at.at + len - c.loop-at.at ≡ len = omega arith in
     record {
-      within = omega (arith, length-take (length line - c.loop-at.at) (drop c.loop-at.at line), c.word_len-len.ensures.within);
-      read = word_read line c.loop-at.at len c.loop-at.fields _ c.of.result c.loop-at-test.true (sym c.if-is_blank.ensures)
+      within = omega (
+        arith,
+        length-take (length line - c.loop-at.at) (drop c.loop-at.at line),
+        c.word_len-len.ensures.within,
+      );
+      read = word_read line c.loop-at.at len c.loop-at.fields _ c.of.result c.loop-at-test.true
+          (sym c.if-is_blank.ensures)
           (c.word_len-len.ensures.value ∙ ap word_len (take_rest line c.loop-at.at))
           (c.of.ensures ∙ ap (λ n. field_of (take n (drop c.loop-at.at line))) span)
           c.in_ok-push.ensures.ok c.loop-at.invariant.read;

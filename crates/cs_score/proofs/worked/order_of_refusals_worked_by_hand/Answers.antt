@@ -34,3 +34,7 @@ returns-clause-resized_before_gen c = refl
 pub returns-clause-line_of_letter : goal.returns-clause-line_of_letter
 unfolding score_of table_fault is_size lengths is_gen has_negative_length
 returns-clause-line_of_letter c = refl
+
+pub returns-clause-line_of_the_file : goal.returns-clause-line_of_the_file
+unfolding score_of table_fault is_size lengths is_gen has_negative_length
+returns-clause-line_of_the_file c = refl

@@ -10,6 +10,8 @@ abbrev pub invariant-loop-event : goal.invariant-loop-event
 invariant-loop-event l = record {
   started : l.started ≡ count_by is_note (take l.event-index l.events);
   within : l.ended ≤ length l.ends.items;
-  below : (i j : ℕ) (d : Event) → i < l.ended → l.event-index ≤ j → j < length l.events → get_or l.ends.items i 0 ≤ (get_or l.events j d).cycle;
-  first : first_at passes_notes (take l.event-index l.events) (drop l.event-index l.events) ≡ first_at passes_notes [] l.events;
+  below : (i j : ℕ) (d : Event) → i < l.ended → l.event-index ≤ j → j < length l.events
+      → get_or l.ends.items i 0 ≤ (get_or l.events j d).cycle;
+  first : first_at passes_notes (take l.event-index l.events) (drop l.event-index l.events) ≡ first_at passes_notes []
+      l.events;
 }

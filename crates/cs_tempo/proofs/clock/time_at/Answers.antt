@@ -12,7 +12,8 @@ first_part-requires-clause-rising c = rw take_rest (rises_drop c.args.points.now
 pub first_part-requires-clause-beat : goal.first_part-requires-clause-beat
 first_part-requires-clause-beat c = point_in_range c.args.points.now c.args.k c.requires.within c.requires.rising
 
-step : (c : goal.After-first_part) → c.args.before + c.first_part.result ≡ time_along c.args.points.now (point_at c.args.points.now c.args.k).beat
+step : (c : goal.After-first_part)
+    → c.args.before + c.first_part.result ≡ time_along c.args.points.now (point_at c.args.points.now c.args.k).beat
 step c =
     let j : ℕ = c.args.k - 1 in
     let k : j + 1 ≡ c.args.k = omega arith in

@@ -7,5 +7,6 @@ use Rattle.cs_tempo.specs.Time.{cycle_of, seconds_of, time_along, part_of, ramp_
 use Rattle.cs_tempo.proofs.laws.plot_worked_by_hand.Goals as goal
 
 pub returns : goal.returns
-unfolding in_order put ending_stop held acts_of events_along events_from cycle_at length_of sections_of tempo_of cycle_of seconds_of time_along part_of ramp_time beat_length
+unfolding in_order put ending_stop held acts_of events_along events_from cycle_at length_of sections_of tempo_of
+    cycle_of seconds_of time_along part_of ramp_time beat_length
 returns c = λ head sr ksmps. rw sr (rw ksmps refl)

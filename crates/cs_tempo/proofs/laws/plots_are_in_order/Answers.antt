@@ -10,6 +10,10 @@ use Rattle.cs_tempo.proofs.laws.plots_are_in_order.Goals as goal
 pub returns : goal.returns
 returns c = record {
   order = λ head score r. climb_far 0 _ (from_climbs head 0 (sections_of score) (sections_in_range score r));
-  within = λ head score r k d some. omega (arith, each_at (λ (e : Event). e.cycle + cycles_in e.act ≤ 0 + sum (map (length_of head) (sections_of score))) _ (from_within head 0 (sections_of score) (sections_in_range score r)) k d some);
+  within = λ head score r k d some. omega (
+    arith,
+    each_at (λ (e : Event). e.cycle + cycles_in e.act ≤ 0 + sum (map (length_of head) (sections_of score))) _
+        (from_within head 0 (sections_of score) (sections_in_range score r)) k d some,
+  );
   short = plot_short;
 }

@@ -10,4 +10,5 @@ use Rattle.cs_tempo.proofs.scheduling.plot_sections.Goals as goal
 pub note_hit-requires : goal.note_hit-requires
 note_hit-requires c =
     subst (IsNonDecreasingBy (λ (e : Event). e.cycle)) (sym (c.deref-3.ensures.value ∙ c.in_ok-events.ensures))
-    (climb_far 0 _ (from_climbs c.args.head.now 0 (map (λ s. s.now) c.args.sections.now) (each_map (All IsInRange) (λ s. s.now) c.args.sections.now c.requires)))
+    (climb_far 0 _ (from_climbs c.args.head.now 0 (map (λ s. s.now) c.args.sections.now)
+    (each_map (All IsInRange) (λ s. s.now) c.args.sections.now c.requires)))

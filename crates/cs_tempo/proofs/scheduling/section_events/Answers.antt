@@ -9,4 +9,5 @@ new-requires c = subst IsTempo (sym c.tempo_of.ensures) (tempo_in_range c.args.s
 pub add_section-requires-clause-reach : goal.add_section-requires-clause-reach
 add_section-requires-clause-reach c = λ k d some.
     reach_moved _ c.args.head.now _ _ _ _ (get_or c.args.section.now k d).what c.in_ok-clock.ensures.head
-    (c.in_ok-clock.ensures.tempo ∙ c.tempo_of.ensures) c.requires.cycles (reach_all c.args.head.now c.args.section.now k d some)
+    (c.in_ok-clock.ensures.tempo ∙ c.tempo_of.ensures) c.requires.cycles
+    (reach_all c.args.head.now c.args.section.now k d some)

@@ -4,7 +4,8 @@ use Rattle.cs_tempo.proofs.section.length_of.Given as goal
 
 abbrev pub invariant-loop-statement : goal.invariant-loop-statement
 invariant-loop-statement l = record {
-  length : max l.length (greatest (map (λ s. reach_of l.clock.head (tempo_of l.section) s.what) (drop l.statement-index l.section)))
+  length : max l.length (greatest
+      (map (λ s. reach_of l.clock.head (tempo_of l.section) s.what) (drop l.statement-index l.section)))
       ≡ greatest (map (λ s. reach_of l.clock.head (tempo_of l.section) s.what) l.section);
   small : l.length ≤ 2 ^ 47;
 }

@@ -8,14 +8,16 @@ returns-then-x-eq0 c = rw c.if-x-eq0.true (sym (ramp_time_of_nothing c.args.firs
 
 pub overflow_sub-result : goal.overflow_sub-result
 overflow_sub-result c =
-    let h = shorter_within c.args.first c.args.last c.args.span c.args.x c.requires.last.0 (omega arith) (omega arith) c.requires.x in
+    let h = shorter_within c.args.first c.args.last c.args.span c.args.x c.requires.last.0 (omega arith) (omega arith)
+    c.requires.x in
     omega (arith, h, c.steady_time-even.ensures, c.shorter.ensures)
 
 pub returns-then-first-last : goal.returns-then-first-last
 returns-then-first-last c =
     rw (c.steady_time-even.ensures, c.longer.ensures.value)
     (ramp_up c.args.first c.args.last c.args.span c.args.x c.if-first-last.true
-    ∙ sym (ramp_time_is c.args.first c.args.last c.args.span c.args.x c.requires.first.0 c.requires.last.0 c.requires.x))
+    ∙ sym (ramp_time_is c.args.first c.args.last c.args.span c.args.x c.requires.first.0 c.requires.last.0
+    c.requires.x))
 
 pub returns-else-first-last : goal.returns-else-first-last
 returns-else-first-last c =

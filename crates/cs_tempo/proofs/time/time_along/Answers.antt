@@ -6,7 +6,8 @@ use Rattle.cs_tempo.proofs.time.time_along.Goals as goal
 
 pub returns-then-beat-points : goal.returns-then-beat-points
 returns-then-beat-points c =
-    let z = none_left c.args.points.now c.loop-k.k (record { beat = 0; tempo = 0 }) c.args.beat (omega arith) c.loop-k.invariant.rises c.if-beat-points.true in
+    let z = none_left c.args.points.now c.loop-k.k (record { beat = 0; tempo = 0 }) c.args.beat (omega arith)
+    c.loop-k.invariant.rises c.if-beat-points.true in
     omega (arith, z, c.loop-k.invariant.time)
 
 pub overflow_add-time : goal.overflow_add-time

@@ -5,7 +5,8 @@ use Rattle.cs_grammar.proofs.Rows.{block_is, arms_is}
 use Rattle.cs_typing.specs.Typing.{globals, globals_of_block, globals_of_arms}
 use Rattle.cs_typing.proofs.globals.+globals.Goals as goal
 
-pub globals_of_stmt-returns-in_ok-globals_of_arms-in-Choose : goal.globals_of_stmt-returns-in_ok-globals_of_arms-in-Choose
+pub globals_of_stmt-returns-in_ok-globals_of_arms-in-Choose :
+    goal.globals_of_stmt-returns-in_ok-globals_of_arms-in-Choose
 globals_of_stmt-returns-in_ok-globals_of_arms-in-Choose t c =
     let els = tree.block c.in-Choose.els.items in
     let seen : tree.statement c.args.s.now ≡ tree.choose c.args.s.now.line (tree.arms els c.in-Choose.list.items) =

@@ -3,4 +3,9 @@ use Rattle.cs_tempo.proofs.Times.{time_grows}
 use Rattle.cs_tempo.proofs.clock.Clock.span.Goals as goal
 
 pub overflow_sub-result : goal.overflow_sub-result
-overflow_sub-result c = omega (arith, time_grows c.args.self.now.tempo c.args.from c.args.to c.time.ensures.tempo c.requires.order, c.time.ensures.time, c.time-2.ensures.time)
+overflow_sub-result c = omega (
+  arith,
+  time_grows c.args.self.now.tempo c.args.from c.args.to c.time.ensures.tempo c.requires.order,
+  c.time.ensures.time,
+  c.time-2.ensures.time,
+)

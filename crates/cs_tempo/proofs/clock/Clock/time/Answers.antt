@@ -16,11 +16,14 @@ returns-then-is_empty-clause-time c =
 
 pub time_along-requires-clause-rising : goal.time_along-requires-clause-rising
 time_along-requires-clause-rising c =
-    rw take_rest (rises_drop c.self.inside.points.now c.ramp_of-k.result (tempo_rises c.self.inside.points.now c.self.invariant.tempo))
+    rw take_rest (rises_drop c.self.inside.points.now c.ramp_of-k.result
+    (tempo_rises c.self.inside.points.now c.self.invariant.tempo))
 
-read : (c : goal.After-time_along) → c.index.result.now + c.time_along.result ≡ time_of c.self.inside.points.now c.args.beat
+read : (c : goal.After-time_along)
+    → c.index.result.now + c.time_along.result ≡ time_of c.self.inside.points.now c.args.beat
 read c =
-    reading c.self.inside.points.now c.self.inside.times.items c.ramp_of-k.result c.args.beat c.index.result.now c.time_along.result
+    reading c.self.inside.points.now c.self.inside.times.items c.ramp_of-k.result c.args.beat c.index.result.now
+    c.time_along.result
     c.self.invariant c.ramp_of-k.ensures.within c.ramp_of-k.ensures.before c.index.ensures c.time_along.ensures.time
 
 pub overflow_add-result : goal.overflow_add-result

@@ -1,11 +1,11 @@
 use Rattle.std.proofs.Common.{length, ◌-◌, ◌≤◌}
 use Rattle.cs_lex.proofs.Reading.{Read}
-use Rattle.cs_lex.proofs.lexer.lex.Given as goal
+use Rattle.cs_lex.proofs.lexer.read.Given as goal
 
 abbrev pub invariant-loop-at : goal.invariant-loop-at
 invariant-loop-at l = record {
   within : l.at ≤ length l.source;
-  read : Read l.source l.at l.line l.fed l.tokens;
+  read : Read l.first_line l.source l.at l.line l.fed l.tokens;
 }
 
 abbrev pub decreases-loop-at : goal.decreases-loop-at

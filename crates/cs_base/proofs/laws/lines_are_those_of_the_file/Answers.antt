@@ -1,0 +1,9 @@
+use Rattle.cs_base.proofs.LineCuts.{lines_numbered}
+use Rattle.cs_base.proofs.Texts.{line_behind}
+use Rattle.cs_base.proofs.laws.lines_are_those_of_the_file.Goals as goal
+
+pub returns-clause-numbers : goal.returns-clause-numbers
+returns-clause-numbers c = lines_numbered
+
+pub returns-clause-behind : goal.returns-clause-behind
+returns-clause-behind c = line_behind
