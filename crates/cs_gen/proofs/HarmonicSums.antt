@@ -1,5 +1,6 @@
 -- The sum of the first harmonics, one more at a time.
-use Rattle.std.proofs.Common.{◌≡◌, ℕ, ◌+◌, ◌-◌, ◌*◌, ◌%◌, ◌^◌, ◌≤◌, ◌<◌, List, [], ◌∷◌, ◌++◌, map, length, ℤ, pos, ◌+ℤ◌, ◌*ℤ◌, unsigned_abs, refl, sym, ◌∙◌, ap, subst, suc, negsuc, ◌/◌, arith}
+use Rattle.std.proofs.Common.{◌≡◌, ℕ, ◌+◌, ◌-◌, ◌*◌, ◌%◌, ◌^◌, ◌≤◌, ◌<◌, List, [], ◌∷◌, ◌++◌, map, length, ℤ, pos, ◌+ℤ◌}
+use Rattle.std.proofs.Common.{◌*ℤ◌, unsigned_abs, refl, sym, ◌∙◌, ap, subst, suc, negsuc, ◌/◌, arith}
 use Rattle.std.specs.List.{range_with_len}
 use Rattle.std.proofs.lemmas.List.FromFn.{map-range_with_len_more}
 use Rattle.std.proofs.lemmas.Int.{ints}
@@ -32,7 +33,8 @@ pub first_harmonics-none : (len : ℕ) (strengths : List ℤ) (j : ℕ) → pos 
 unfolding first_harmonics
 first_harmonics-none len strengths j = refl
 
-pub first_harmonics-more : (len : ℕ) (strengths : List ℤ) (j i : ℕ) (sum part : ℤ) → sum ≡ first_harmonics len strengths j i →
+pub first_harmonics-more : (len : ℕ) (strengths : List ℤ) (j i : ℕ) (sum part : ℤ)
+    → sum ≡ first_harmonics len strengths j i →
     part ≡ harmonic len strengths j (i + 1) → sum +ℤ part ≡ first_harmonics len strengths j (i + 1)
 unfolding first_harmonics
 first_harmonics-more len strengths j i sum part e p =
@@ -40,7 +42,8 @@ first_harmonics-more len strengths j i sum part e p =
     let snoc = total-snoc (map (harmonic len strengths j) (range_with_len 1 i)) (harmonic len strengths j (i + 1)) in
     rw more (rw snoc cc)
 
-pub first_harmonics-all : (len : ℕ) (strengths : List ℤ) (j : ℕ) → first_harmonics len strengths j (length strengths) ≡ harmonics len strengths j
+pub first_harmonics-all : (len : ℕ) (strengths : List ℤ) (j : ℕ)
+    → first_harmonics len strengths j (length strengths) ≡ harmonics len strengths j
 unfolding first_harmonics harmonics harmonic
 first_harmonics-all len strengths j = refl
 
@@ -49,12 +52,14 @@ pub phase-more : (len i j : ℕ) → ((i + 1) * j % len + j % len) % len ≡ (i 
 phase-more len i j =
     mod-add-mod ((i + 1) * j) len (j % len) ∙ add-mod-mod ((i + 1) * j) j len ∙ ap (λ n. n % len) (omega arith)
 
-one_harmonic : (len : ℕ) (strengths : List ℤ) (j phase i : ℕ) (strength part : ℤ) → phase ≡ (i + 1) * j % len → strength ≡ argument strengths i →
+one_harmonic : (len : ℕ) (strengths : List ℤ) (j phase i : ℕ) (strength part : ℤ) → phase ≡ (i + 1) * j % len
+    → strength ≡ argument strengths i →
     part ≡ floor_div (strength *ℤ wave (phase * 2 ^ 24 / len)) full_scale → part ≡ harmonic len strengths j (i + 1)
 unfolding harmonic sine
 one_harmonic len strengths j phase i strength part come s p =
     let back : i + 1 - 1 ≡ i = omega arith in
-    rw back (p ∙ ap (λ z. floor_div (z *ℤ wave (phase * 2 ^ 24 / len)) full_scale) s ∙ ap (λ k. floor_div (argument strengths i *ℤ wave (k * 2 ^ 24 / len)) full_scale) come)
+    rw back (p ∙ ap (λ z. floor_div (z *ℤ wave (phase * 2 ^ 24 / len)) full_scale) s
+    ∙ ap (λ k. floor_div (argument strengths i *ℤ wave (k * 2 ^ 24 / len)) full_scale) come)
 
 -- what the sum over the harmonics keeps, after i of them
 pub record IsSummed (len : ℕ) (strengths : List ℤ) (j step phase i : ℕ) (sum : ℤ) : Type 0 where
@@ -64,7 +69,8 @@ pub record IsSummed (len : ℕ) (strengths : List ℤ) (j step phase i : ℕ) (s
   pub summed : sum ≡ first_harmonics len strengths j i
   pub bounded : unsigned_abs sum ≤ i * 2 ^ 47
 
-pub IsSummed-none : (len : ℕ) (strengths : List ℤ) (j : ℕ) → 0 < len → IsSummed len strengths j (j % len) (j % len) 0 (pos 0)
+pub IsSummed-none : (len : ℕ) (strengths : List ℤ) (j : ℕ) → 0 < len
+    → IsSummed len strengths j (j % len) (j % len) 0 (pos 0)
 IsSummed-none len strengths j some =
     record {
       stepped = refl;
@@ -74,7 +80,8 @@ IsSummed-none len strengths j some =
       bounded = omega arith;
     }
 
-pub IsSummed-more : (len : ℕ) (strengths : List ℤ) (j step phase i : ℕ) (sum : ℤ) → IsSummed len strengths j step phase i sum →
+pub IsSummed-more : (len : ℕ) (strengths : List ℤ) (j step phase i : ℕ) (sum : ℤ)
+    → IsSummed len strengths j step phase i sum →
     (next : ℕ) (strength part more : ℤ) → strength ≡ argument strengths i →
     part ≡ floor_div (strength *ℤ wave (phase * 2 ^ 24 / len)) full_scale → unsigned_abs part ≤ 2 ^ 47 →
     next ≡ (phase + step) % len → next < len → more ≡ sum +ℤ part →
@@ -82,14 +89,17 @@ pub IsSummed-more : (len : ℕ) (strengths : List ℤ) (j step phase i : ℕ) (s
 IsSummed-more len strengths j step phase i sum before next strength part more s p bound n inside m =
     record {
       stepped = before.stepped;
-      come = n ∙ ap (λ k. (k + step) % len) before.come ∙ ap (λ k. ((i + 1) * j % len + k) % len) before.stepped ∙ phase-more len i j;
+      come = n ∙ ap (λ k. (k + step) % len) before.come ∙ ap (λ k. ((i + 1) * j % len + k) % len) before.stepped
+          ∙ phase-more len i j;
       inside = inside;
-      summed = m ∙ first_harmonics-more len strengths j i sum part before.summed (one_harmonic len strengths j phase i strength part before.come s p);
+      summed = m ∙ first_harmonics-more len strengths j i sum part before.summed
+          (one_harmonic len strengths j phase i strength part before.come s p);
       bounded = subst (λ z. unsigned_abs z ≤ (i + 1) * 2 ^ 47) (sym m)
           (let far = unsigned_abs-sum sum part in let kept = before.bounded in omega arith);
     }
 
-pub IsSummed-all : (len : ℕ) (strengths : List ℤ) (j step phase i : ℕ) (sum : ℤ) → IsSummed len strengths j step phase i sum →
+pub IsSummed-all : (len : ℕ) (strengths : List ℤ) (j step phase i : ℕ) (sum : ℤ)
+    → IsSummed len strengths j step phase i sum →
     i ≡ length strengths → sum ≡ harmonics len strengths j
 IsSummed-all len strengths j step phase i sum s all =
     s.summed ∙ ap (first_harmonics len strengths j) all ∙ first_harmonics-all len strengths j

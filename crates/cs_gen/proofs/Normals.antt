@@ -1,5 +1,6 @@
 -- The greatest absolute value of a list.
-use Rattle.std.proofs.Common.{◌≡◌, ℕ, zero, suc, ◌+◌, ◌<◌, ◌≤◌, max, List, [], ◌∷◌, ◌++◌, get_or, take, length, ℤ, unsigned_abs, map, drop, arith}
+use Rattle.std.proofs.Common.{◌≡◌, ℕ, zero, suc, ◌+◌, ◌<◌, ◌≤◌, max, List, [], ◌∷◌, ◌++◌, get_or, take, length, ℤ}
+use Rattle.std.proofs.Common.{unsigned_abs, map, drop, arith}
 use Rattle.std.proofs.lemmas.List.{take_more}
 use Rattle.std.specs.Ordering.{ord_max, nat_cmp}
 use Rattle.std.proofs.lemmas.Bool.Decides.{nat_tests}
@@ -11,7 +12,8 @@ greatest-snoc [] x = omega arith
 greatest-snoc (y ∷ ys) x = let more = greatest-snoc ys x in omega (arith, more)
 
 -- one more value
-pub greatest-more : (xs : List ℤ) (i : ℕ) (x : ℤ) (most size more : ℕ) → i < length xs → most ≡ greatest (take i xs) → x ≡ get_or xs i x →
+pub greatest-more : (xs : List ℤ) (i : ℕ) (x : ℤ) (most size more : ℕ) → i < length xs → most ≡ greatest (take i xs)
+    → x ≡ get_or xs i x →
     size ≡ unsigned_abs x → more ≡ max most size → more ≡ greatest (take (i + 1) xs)
 greatest-more xs i x most size more h e p s m =
     let step = take_more xs i x h in
@@ -28,5 +30,6 @@ pub larger : (a b : ℕ) → ord_max nat_cmp a b ≡ max a b
 larger a b = grind (arith, nat_tests)
 
 -- a value that the loop has not come to is the one that was there
-pub still : (f : ℤ → ℤ) (xs ys : List ℤ) (i : ℕ) (d : ℤ) → i < length xs → ys ≡ map f (take i xs) ++ drop i xs → get_or ys i d ≡ get_or xs i d
+pub still : (f : ℤ → ℤ) (xs ys : List ℤ) (i : ℕ) (d : ℤ) → i < length xs → ys ≡ map f (take i xs) ++ drop i xs
+    → get_or ys i d ≡ get_or xs i d
 still f xs ys i d h e = rw e (grind (arith, common_steps))

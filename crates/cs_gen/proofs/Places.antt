@@ -1,5 +1,7 @@
 -- A table that is filled place by place.
-use Rattle.std.proofs.Common.{◌≡◌, ℕ, length, get_or, ◌-◌, ◌%◌, ◌<◌, zero-add, take, sym, subst, ◌≤ℤ◌, ◌+◌, ◌≤◌, List, [], ◌∷◌, ◌++◌, map, Bool, true, false, ◌||◌, ℤ, pos, unsigned_abs, ◌∙◌, ap, refl, Some, None, nat_le, ◌&&◌, ◌==◌, int_lt, if◌then◌else◌, arith}
+use Rattle.std.proofs.Common.{◌≡◌, ℕ, length, get_or, ◌-◌, ◌%◌, ◌<◌, zero-add, take, sym, subst, ◌≤ℤ◌, ◌+◌, ◌≤◌, List}
+use Rattle.std.proofs.Common.{[], ◌∷◌, ◌++◌, map, Bool, true, false, ◌||◌, ℤ, pos, unsigned_abs, ◌∙◌, ap, refl, Some}
+use Rattle.std.proofs.Common.{None, nat_le, ◌&&◌, ◌==◌, int_lt, if◌then◌else◌, arith}
 use Rattle.std.specs.List.{range_with_len, list_any, list_all}
 use Rattle.std.specs.Ordering.{int_eq}
 use Rattle.std.proofs.lemmas.List.FromFn.{map-range_with_len_more, length-map-range_with_len, get_or-map-range_with_len}
@@ -12,8 +14,8 @@ use Rattle.cs_gen.specs.Tables.{IsMade}
 use Rattle.cs_gen.specs.declared.check.GenFault.TheVariants.{Size, Unknown, NegativeLength}
 
 -- one more place
-pub map-range-push : {X : Type 0} (f : ℕ → X) (items more : List X) (j : ℕ) (x : X) → items ≡ map f (range_with_len 0 j) →
-    more ≡ items ++ x ∷ [] → x ≡ f j → more ≡ map f (range_with_len 0 (j + 1))
+pub map-range-push : {X : Type 0} (f : ℕ → X) (items more : List X) (j : ℕ) (x : X) → items ≡ map f (range_with_len 0 j)
+    → more ≡ items ++ x ∷ [] → x ≡ f j → more ≡ map f (range_with_len 0 (j + 1))
 map-range-push f items more j x e m p = let step = map-range_with_len_more f 0 j j (omega arith) in rw step cc
 
 -- what is done to each point of a list made place by place is done at each place
@@ -44,8 +46,10 @@ any_in_range size [] all any = absurd cc
 any_in_range size (x ∷ xs) all any =
     let b = bounds_of x (list_all (λ len. nat_le 2 len && nat_le len 65536) xs) all in
     let low = b.0 in let high = b.1 in
-    or_cases (int_eq size (pos x)) (int_eq size (pos (x + 1))) (list_any (λ len. int_eq size (pos len) || int_eq size (pos (len + 1))) xs) any
-    (λ e. sized size x e low (omega arith)) (λ e. sized size (x + 1) e (omega arith) (omega arith)) (λ e. any_in_range size xs b.2 e)
+    or_cases (int_eq size (pos x)) (int_eq size (pos (x + 1)))
+    (list_any (λ len. int_eq size (pos len) || int_eq size (pos (len + 1))) xs) any
+    (λ e. sized size x e low (omega arith)) (λ e. sized size (x + 1) e (omega arith) (omega arith))
+    (λ e. any_in_range size xs b.2 e)
 
 -- a size that is accepted
 is_size-range : (size : ℤ) → is_size size ≡ true → Sized size
@@ -55,7 +59,8 @@ is_size-range size h = any_in_range size lengths refl h
 some_is_none : {A : Type 0} (a : A) → Some a ≡ None → ⊥
 some_is_none a h = cc
 
-sized_none : (a b c : Bool) → (if a then if b then if c then Some NegativeLength else None else Some Unknown else Some Size) ≡ None → a ≡ true
+sized_none : (a b c : Bool)
+    → (if a then if b then if c then Some NegativeLength else None else Some Unknown else Some Size) ≡ None → a ≡ true
 sized_none true b c h = refl
 sized_none false b c h = absurd (some_is_none Size h)
 
@@ -66,10 +71,12 @@ accepted size gen args h =
     is_size-range size (sized_none (is_size size) (is_gen gen) ((unsigned_abs gen == 7) && has_negative_length args) h)
 
 -- the same where s and g are the size and the GEN as a call passes them
-pub accepted-range : (size gen : ℤ) (args : List ℤ) (s g : ℤ) → s ≡ size → g ≡ gen → table_fault s g args ≡ None → Sized size
+pub accepted-range : (size gen : ℤ) (args : List ℤ) (s g : ℤ) → s ≡ size → g ≡ gen → table_fault s g args ≡ None
+    → Sized size
 accepted-range size gen args s g es eg h = subst Sized es (accepted s g args h)
 
-pub accepted-bounds : (size gen : ℤ) (args : List ℤ) → table_fault size gen args ≡ None → (pos 2 ≤ℤ size) × (size ≤ℤ pos 65537)
+pub accepted-bounds : (size gen : ℤ) (args : List ℤ) → table_fault size gen args ≡ None
+    → (pos 2 ≤ℤ size) × (size ≤ℤ pos 65537)
 accepted-bounds size gen args h =
     let r = accepted size gen args h in let low = r.0 in let high = r.1 in let is = r.2 in
     (omega (arith, ints), omega (arith, ints))
@@ -94,13 +101,15 @@ pub points_of-normalised : (size gen : ℤ) (args kept : List ℤ) →
 unfolding points_of point
 points_of-normalised size gen args kept e =
     ap (λ ks. if int_lt (pos 0) gen then map (normalised (greatest ks)) ks else ks) e
-    ∙ chosen (int_lt (pos 0) gen) (plain_point (unsigned_abs size) (unsigned_abs gen) args) (range_with_len 0 (unsigned_abs size))
+    ∙ chosen (int_lt (pos 0) gen) (plain_point (unsigned_abs size) (unsigned_abs gen) args)
+    (range_with_len 0 (unsigned_abs size))
 
 -- a made table, by its points
 len_le : (n : ℕ) → len_of n ≤ n
 len_le n = omega arith
 
-pub is_made : (size gen : ℤ) (args points : List ℤ) → Sized size → points ≡ points_of size gen args → IsMade size gen args points
+pub is_made : (size gen : ℤ) (args points : List ℤ) → Sized size → points ≡ points_of size gen args
+    → IsMade size gen args points
 unfolding points_of
 is_made size gen args points sized e =
     let n : ℕ = unsigned_abs size in
@@ -111,7 +120,8 @@ is_made size gen args points sized e =
     let below : len ≤ length points = len_le (length points) in
     let front : length (take len points) ≡ len = length-take-le len points below in
     let each : (j : ℕ) → j < length points → get_or points j (pos 0) ≡ point size gen args j =
-    λ j h. ap (λ ps. get_or ps j (pos 0)) e ∙ get_or-map-range_with_len (point size gen args) 0 n j j (pos 0) (omega arith) (zero-add j) in
+    λ j h. ap (λ ps. get_or ps j (pos 0)) e
+    ∙ get_or-map-range_with_len (point size gen args) 0 n j j (pos 0) (omega arith) (zero-add j) in
     let guard : ℤ = get_or points (guard_place (length points)) (pos 0) in
     record {
       count = ap pos kept ∙ sized.2;
@@ -120,6 +130,8 @@ is_made size gen args points sized e =
       all = e;
       each = each;
       long = omega (arith, length-append (take len points) (guard ∷ []), front);
-      curve = λ j h. get_or_append_left (take len points) (guard ∷ []) (pos 0) j (omega (arith, front)) ∙ get_or-take len points j (pos 0) h ∙ each j (omega arith);
-      guard = get_or_at (take len points) guard [] (pos 0) len front ∙ each (guard_place (length points)) (guard_kept (length points) (omega arith));
+      curve = λ j h. get_or_append_left (take len points) (guard ∷ []) (pos 0) j (omega (arith, front))
+          ∙ get_or-take len points j (pos 0) h ∙ each j (omega arith);
+      guard = get_or_at (take len points) guard [] (pos 0) len front
+          ∙ each (guard_place (length points)) (guard_kept (length points) (omega arith));
     }

@@ -1,5 +1,6 @@
 -- Quotients rounded down: their bounds.
-use Rattle.std.proofs.Common.{◌≡◌, ℕ, zero, suc, ◌*◌, ◌/◌, ◌<◌, ◌≤◌, ℤ, pos, negsuc, neg_ℤ, ◌+ℤ◌, ◌-ℤ◌, ◌*ℤ◌, ◌≤ℤ◌, unsigned_abs, arith, subst, refl}
+use Rattle.std.proofs.Common.{◌≡◌, ℕ, zero, suc, ◌*◌, ◌/◌, ◌<◌, ◌≤◌, ℤ, pos, negsuc, neg_ℤ, ◌+ℤ◌, ◌-ℤ◌, ◌*ℤ◌, ◌≤ℤ◌}
+use Rattle.std.proofs.Common.{unsigned_abs, arith, subst, refl}
 use Rattle.std.proofs.Math.Nat.{div-le_of_le-mul}
 use Rattle.std.proofs.lemmas.Nat.{le-div, mul-le, div_below}
 use Rattle.std.proofs.lemmas.Int.{ints, unsigned_abs-mul}
@@ -61,12 +62,17 @@ floor_div_within z m n some h =
     (floor_div_le z (pos m) n some (below_within z (m * n) h))
 
 -- part of the way from 0 to d: j of n steps, rounded down
-pub part_way_up : (m j n : ℕ) → j < n → (pos 0 ≤ℤ floor_div (pos m *ℤ pos j) (pos n)) × (floor_div (pos m *ℤ pos j) (pos n) ≤ℤ pos m)
+pub part_way_up : (m j n : ℕ) → j < n
+    → (pos 0 ≤ℤ floor_div (pos m *ℤ pos j) (pos n)) × (floor_div (pos m *ℤ pos j) (pos n) ≤ℤ pos m)
 part_way_up m j n h =
-    let some : 0 < n = omega arith in
-    (omega (arith, ints), floor_div_le (pos m *ℤ pos j) (pos m) n some (let p : m * j ≤ m * n = mul-le m j m n (omega arith) (omega arith) in omega (arith, ints)))
+    let some : 0 < n = omega arith in (
+      omega (arith, ints),
+      floor_div_le (pos m *ℤ pos j) (pos m) n some
+          (let p : m * j ≤ m * n = mul-le m j m n (omega arith) (omega arith) in omega (arith, ints)),
+    )
 
-pub part_way_down : (m j n : ℕ) → j < n → (negsuc m ≤ℤ floor_div (negsuc m *ℤ pos j) (pos n)) × (floor_div (negsuc m *ℤ pos j) (pos n) ≤ℤ pos 0)
+pub part_way_down : (m j n : ℕ) → j < n
+    → (negsuc m ≤ℤ floor_div (negsuc m *ℤ pos j) (pos n)) × (floor_div (negsuc m *ℤ pos j) (pos n) ≤ℤ pos 0)
 part_way_down m j n h =
     let some : 0 < n = omega arith in
     let p : suc m * j ≤ suc m * n = mul-le (suc m) j (suc m) n (omega arith) (omega arith) in (
@@ -88,7 +94,8 @@ on_rise : (low high a b d : ℤ) → b -ℤ a ≡ d → (j n : ℕ) → j < n �
 on_rise low high a b (pos m) e j n h la lb ha hb =
     let part = part_way_up m j n h in moved_up low high a b (floor_div (pos m *ℤ pos j) (pos n)) m e part.0 part.1 la hb
 on_rise low high a b (negsuc m) e j n h la lb ha hb =
-    let part = part_way_down m j n h in moved_down low high a b (floor_div (negsuc m *ℤ pos j) (pos n)) m e part.0 part.1 lb ha
+    let part = part_way_down m j n h in moved_down low high a b (floor_div (negsuc m *ℤ pos j) (pos n)) m e part.0
+    part.1 lb ha
 
 -- a place on the line from a to b stays above what both ends are above, and below what both are below
 pub on_line : (low high a b : ℤ) (j n : ℕ) → j < n → low ≤ℤ a → low ≤ℤ b → a ≤ℤ high → b ≤ℤ high →
@@ -98,7 +105,8 @@ on_line low high a b j n h la lb ha hb = on_rise low high a b (b -ℤ a) refl j 
 -- a number within m, as a part of m in 65,536ths, is in range
 pub ratio_in_range : (z : ℤ) (m : ℕ) → 0 < m → unsigned_abs z ≤ m → IsRaw (floor_div (z *ℤ pos 65536) (pos m))
 ratio_in_range z m some h =
-    let product : unsigned_abs (z *ℤ pos 65536) ≤ 65536 * m = omega (arith, product_within z (pos 65536) m 65536 h (omega arith)) in
+    let product : unsigned_abs (z *ℤ pos 65536) ≤ 65536 * m =
+    omega (arith, product_within z (pos 65536) m 65536 h (omega arith)) in
     let small = floor_div_within (z *ℤ pos 65536) 65536 m some product in
     let low = above_within (floor_div (z *ℤ pos 65536) (pos m)) 65536 small in
     let high = below_within (floor_div (z *ℤ pos 65536) (pos m)) 65536 small in

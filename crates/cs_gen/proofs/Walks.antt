@@ -1,5 +1,7 @@
 -- A walk along GEN07's segments: from one to the next, and from one place to the next.
-use Rattle.std.proofs.Common.{◌≡◌, ℕ, zero, suc, ◌+◌, ◌-◌, ◌<◌, ◌≤◌, ◌==◌, nat_lt, true, false, List, get_or, map, sum, length, ℤ, pos, ◌+ℤ◌, ◌-ℤ◌, ◌*ℤ◌, ◌*◌, refl, sym, ◌∙◌, ap, subst, zero-add, arith, below_more}
+use Rattle.std.proofs.Common.{◌≡◌, ℕ, zero, suc, ◌+◌, ◌-◌, ◌<◌, ◌≤◌, ◌==◌, nat_lt, true, false, List, get_or, map, sum}
+use Rattle.std.proofs.Common.{length, ℤ, pos, ◌+ℤ◌, ◌-ℤ◌, ◌*ℤ◌, ◌*◌, refl, sym, ◌∙◌, ap, subst, zero-add, arith}
+use Rattle.std.proofs.Common.{below_more}
 use Rattle.std.specs.List.{range_with_len}
 use Rattle.std.proofs.lemmas.List.FromFn.{map-range_with_len_more, length-range_with_len, get_or-range_with_len}
 use Rattle.std.proofs.lemmas.List.Sums.{position_or_len_is}
@@ -31,13 +33,15 @@ HasPassed-more args j k begin end p real e low =
       passed = below_more (λ i. begin_of args (i + 1) ≤ j) k p.passed (omega arith);
     }
 
-pub HasReached-here : (args : List ℤ) (j k begin end : ℕ) → HasPassed args j k begin → end ≡ begin + length_of args k → j < end →
+pub HasReached-here : (args : List ℤ) (j k begin end : ℕ) → HasPassed args j k begin → end ≡ begin + length_of args k
+    → j < end →
     HasReached args j k begin
 HasReached-here args j k begin end p e h =
     let next : end ≡ begin_of args (k + 1) = e ∙ ap (λ b. b + length_of args k) p.begins ∙ sym (begin_of-more args k) in
     record { come = p; inside = λ _. omega arith }
 
-pub HasReached-end : (args : List ℤ) (j k begin : ℕ) → HasPassed args j k begin → segments_of args ≤ k → HasReached args j k begin
+pub HasReached-end : (args : List ℤ) (j k begin : ℕ) → HasPassed args j k begin → segments_of args ≤ k
+    → HasReached args j k begin
 HasReached-end args j k begin p h = record { come = p; inside = λ before. absurd (omega arith) }
 
 -- what is passed at a place is passed at the next
@@ -55,9 +59,11 @@ begins_before args j (suc i) begin p =
     let low : begin_of args (i + 1) ≤ j = p.passed i (omega arith) in
     let e : begin ≡ begin_of args (i + 1) = p.begins ∙ ap (begin_of args) (omega arith) in omega arith
 
-pub ends_after : (args : List ℤ) (j k begin : ℕ) → HasReached args j k begin → k < segments_of args → j - begin < length_of args k
+pub ends_after : (args : List ℤ) (j k begin : ℕ) → HasReached args j k begin → k < segments_of args
+    → j - begin < length_of args k
 ends_after args j k begin r h =
-    let far = r.inside h in let e = begin_of-more args k in let b = r.come.begins in let low = begins_before args j k begin r.come in omega arith
+    let far = r.inside h in let e = begin_of-more args k in let b = r.come.begins in
+    let low = begins_before args j k begin r.come in omega arith
 
 lower : (n m : ℕ) → n ≤ m → nat_lt m n ≡ false
 lower n m h = grind (arith, nat_tests)
@@ -79,12 +85,15 @@ segment_at-reached args j k begin r =
     let size : length (range_with_len 0 n) ≡ n = length-range_with_len 0 n in
     let real = r.come.real in
     position_or_len_is (λ i. nat_lt j (begin_of args (i + 1))) (range_with_len 0 n) k 0 (omega arith)
-    (λ i h. subst (λ x. nat_lt j (begin_of args (x + 1)) ≡ false) (sym (place n i (omega arith))) (lower (begin_of args (i + 1)) j (r.come.passed i h)))
-    (λ h. subst (λ x. nat_lt j (begin_of args (x + 1)) ≡ true) (sym (place n k (omega arith))) (higher (begin_of args (k + 1)) j (r.inside (omega arith))))
+    (λ i h. subst (λ x. nat_lt j (begin_of args (x + 1)) ≡ false) (sym (place n i (omega arith)))
+    (lower (begin_of args (i + 1)) j (r.come.passed i h)))
+    (λ h. subst (λ x. nat_lt j (begin_of args (x + 1)) ≡ true) (sym (place n k (omega arith)))
+    (higher (begin_of args (k + 1)) j (r.inside (omega arith))))
 
 -- the point at a place that a walk has reached: on a segment's line, at the end of all, and past it
 on_segment : (args : List ℤ) (j k begin : ℕ) → HasReached args j k begin → k < segments_of args →
-    segments args j ≡ value_of args k +ℤ floor_div ((value_of args (k + 1) -ℤ value_of args k) *ℤ pos (j - begin)) (pos (length_of args k))
+    segments args j ≡ value_of args k +ℤ floor_div ((value_of args (k + 1) -ℤ value_of args k) *ℤ pos (j - begin))
+    (pos (length_of args k))
 unfolding segments
 on_segment args j k begin r h =
     let at = segment_at-reached args j k begin r in
@@ -93,7 +102,8 @@ on_segment args j k begin r h =
     rw at (rw test (rw (← b) refl))
 
 pub is_on_segment : (args : List ℤ) (j k begin : ℕ) → HasReached args j k begin → k < segments_of args →
-    (here next z : ℤ) (length : ℕ) → here ≡ argument args (2 * k) → next ≡ argument args (2 * k + 2) → length ≡ length_of args k →
+    (here next z : ℤ) (length : ℕ) → here ≡ argument args (2 * k) → next ≡ argument args (2 * k + 2)
+    → length ≡ length_of args k →
     z ≡ here +ℤ floor_div ((next -ℤ here) *ℤ pos (j - begin)) (pos length) → z ≡ segments args j
 is_on_segment args j k begin r h here next z length eh en el ez =
     let twice : 2 * k + 2 ≡ 2 * (k + 1) = omega arith in
@@ -112,8 +122,8 @@ at_end args j k begin r h z =
     let b = r.come.begins in
     rw at (rw test (rw (← b) (rw z refl)))
 
-pub past_end : (args : List ℤ) (j k begin : ℕ) → HasReached args j k begin → segments_of args ≤ k → (j - begin ≡ 0 → ⊥) →
-    segments args j ≡ pos 0
+pub past_end : (args : List ℤ) (j k begin : ℕ) → HasReached args j k begin → segments_of args ≤ k → (j - begin ≡ 0 → ⊥)
+    → segments args j ≡ pos 0
 unfolding segments
 past_end args j k begin r h z =
     let at = segment_at-reached args j k begin r in

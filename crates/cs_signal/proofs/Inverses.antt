@@ -14,49 +14,49 @@ once_more k d =
     omega (arith, parts, same)
 
 -- the inverse of a number, rounded up, is at most one more
-pub inverse_near : (size : ℕ) → (9223372036854775806 / size + 1) * size ≤ 9223372036854775808 + size
+pub inverse_near : (size : ℕ) → (18446744073709551615 / size + 1) * size ≤ 18446744073709551616 + size
 inverse_near size =
-    let k : ℕ = 9223372036854775806 / size in
-    let parts : k * size + 9223372036854775806 % size ≡ 9223372036854775806 = div-add-mod' 9223372036854775806 size in
+    let k : ℕ = 18446744073709551615 / size in
+    let parts : k * size + 18446744073709551615 % size ≡ 18446744073709551615 = div-add-mod' 18446744073709551615 size in
     let more : (k + 1) * size ≡ k * size + size = once_more k size in
     omega (arith, parts, more)
 
-pub inverse_fits : (size : ℕ) → 1 ≤ size → 9223372036854775806 / size + 1 < 9223372036854775808
+pub inverse_fits : (size : ℕ) → 3 ≤ size → 18446744073709551615 / size + 1 < 9223372036854775808
 inverse_fits size some =
-    let k : ℕ = 9223372036854775806 / size in
-    let parts : k * size + 9223372036854775806 % size ≡ 9223372036854775806 = div-add-mod' 9223372036854775806 size in
-    let least : k * 1 ≤ k * size = mul-le k 1 k size (omega arith) some in
+    let k : ℕ = 18446744073709551615 / size in
+    let parts : k * size + 18446744073709551615 % size ≡ 18446744073709551615 = div-add-mod' 18446744073709551615 size in
+    let least : k * 3 ≤ k * size = mul-le k 3 k size (omega arith) some in
     omega (arith, parts, least)
 
 -- a quotient rounded down, times the divisor, is no further from 0 than the number by more than the divisor
-floor_size : (z : ℤ) → unsigned_abs (floor_div z (pos 9223372036854775808)) * 9223372036854775808
-    ≤ unsigned_abs z + 9223372036854775808
+floor_size : (z : ℤ) → unsigned_abs (floor_div z (pos 18446744073709551616)) * 18446744073709551616
+    ≤ unsigned_abs z + 18446744073709551616
 floor_size (pos a) = omega (arith, ints)
 floor_size (negsuc a) = omega (arith, ints)
 
 -- a guess times the divisor is little more than the number
 pub guess_small : (n inverse value guess : ℤ) → unsigned_abs n ≤ 2 ^ 61 → unsigned_abs value < 2 ^ 48
     → IsInverse value inverse
-    → guess ≡ floor_div (n *ℤ inverse) (pos 9223372036854775808) → unsigned_abs (guess *ℤ value) ≤ 2 ^ 61 + 2 ^ 49
+    → guess ≡ floor_div (n *ℤ inverse) (pos 18446744073709551616) → unsigned_abs (guess *ℤ value) ≤ 2 ^ 61 + 2 ^ 49
 guess_small n inverse value guess few low near is =
     let m : ℕ = unsigned_abs n in
     let v : ℕ = unsigned_abs inverse in
     let d : ℕ = unsigned_abs value in
     let g : ℕ = unsigned_abs guess in
-    let size : g * 9223372036854775808 ≤ m * v + 9223372036854775808 =
-    subst (λ z. unsigned_abs z * 9223372036854775808 ≤ m * v + 9223372036854775808) (sym is)
-    (subst (λ k. unsigned_abs (floor_div (n *ℤ inverse) (pos 9223372036854775808)) * 9223372036854775808
-    ≤ k + 9223372036854775808) (unsigned_abs-mul n inverse) (floor_size (n *ℤ inverse))) in
+    let size : g * 18446744073709551616 ≤ m * v + 18446744073709551616 =
+    subst (λ z. unsigned_abs z * 18446744073709551616 ≤ m * v + 18446744073709551616) (sym is)
+    (subst (λ k. unsigned_abs (floor_div (n *ℤ inverse) (pos 18446744073709551616)) * 18446744073709551616
+    ≤ k + 18446744073709551616) (unsigned_abs-mul n inverse) (floor_size (n *ℤ inverse))) in
     let k : ℕ = g - 1 in
-    let less : k * 9223372036854775808 ≤ m * v = omega (arith, size) in
-    let times : k * 9223372036854775808 * d ≤ m * v * d =
-    mul-le (k * 9223372036854775808) d (m * v) d less (omega arith) in
-    let left : k * 9223372036854775808 * d ≡ k * d * 9223372036854775808 =
-    mul_assoc k 9223372036854775808 d ∙ ap (λ x. k * x) (mul_comm 9223372036854775808 d)
-    ∙ sym (mul_assoc k d 9223372036854775808) in
+    let less : k * 18446744073709551616 ≤ m * v = omega (arith, size) in
+    let times : k * 18446744073709551616 * d ≤ m * v * d =
+    mul-le (k * 18446744073709551616) d (m * v) d less (omega arith) in
+    let left : k * 18446744073709551616 * d ≡ k * d * 18446744073709551616 =
+    mul_assoc k 18446744073709551616 d ∙ ap (λ x. k * x) (mul_comm 18446744073709551616 d)
+    ∙ sym (mul_assoc k d 18446744073709551616) in
     let right : m * v * d ≡ m * (v * d) = mul_assoc m v d in
-    let most : m * (v * d) ≤ 2 ^ 61 * (2 ^ 63 + 2 ^ 48) =
-    mul-le m (v * d) (2 ^ 61) (2 ^ 63 + 2 ^ 48) (omega (arith, few)) (omega (arith, near, low)) in
+    let most : m * (v * d) ≤ 2 ^ 61 * (2 ^ 64 + 2 ^ 48) =
+    mul-le m (v * d) (2 ^ 61) (2 ^ 64 + 2 ^ 48) (omega (arith, few)) (omega (arith, near, low)) in
     let part : k * d ≤ 2 ^ 61 + 2 ^ 47 = omega (arith, times, left, right, most) in
     let whole : g * d ≤ (k + 1) * d = mul-le g d (k + 1) d (omega arith) (omega arith) in
     let more : (k + 1) * d ≡ k * d + d = once_more k d in

@@ -3,6 +3,7 @@ pub mod Formulas
 pub mod Histories
 pub mod Inverses
 pub mod Levels
+pub mod Operands
 pub mod Pieces
 pub mod Ramps
 pub mod Rings

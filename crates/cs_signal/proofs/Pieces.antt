@@ -1,5 +1,6 @@
 -- A walk along the pieces of a linseg: at each, so many steps are left of the number.
-use Rattle.std.proofs.Common.{◌≡◌, ℕ, ◌+◌, ◌-◌, ◌<◌, ◌≤◌, nat_lt, true, false, List, get_or, length, ℤ, refl, sym, ◌∙◌, ap, subst, zero-add, arith, below_more}
+use Rattle.std.proofs.Common.{◌≡◌, ℕ, ◌+◌, ◌-◌, ◌<◌, ◌≤◌, nat_lt, true, false, List, get_or, length, ℤ, refl, sym, ◌∙◌}
+use Rattle.std.proofs.Common.{ap, subst, zero-add, arith, below_more}
 use Rattle.std.specs.List.{range_with_len}
 use Rattle.std.specs.Prelude.{slice_index}
 use Rattle.std.proofs.lemmas.List.{take_more}
@@ -13,13 +14,15 @@ use Rattle.cs_signal.specs.Linseg.{begin_of, piece_at, on_pieces}
 use Rattle.cs_signal.specs.Operands.{argument}
 use Rattle.cs_signal.specs.inner.Pieces.{HasPassed}
 
-pub begin_of-more : (lengths : List ℕ) (k : ℕ) → k < length lengths → begin_of lengths (k + 1) ≡ begin_of lengths k + slice_index lengths k
+pub begin_of-more : (lengths : List ℕ) (k : ℕ) → k < length lengths
+    → begin_of lengths (k + 1) ≡ begin_of lengths k + slice_index lengths k
 begin_of-more lengths k h = let more = take_more lengths k 0 h in rw more (grind (arith, common_steps))
 
 pub HasPassed-none : (lengths : List ℕ) (n : ℕ) → HasPassed lengths n 0 n
 HasPassed-none lengths n = record { begins = omega arith; passed = λ i h. absurd (omega arith) }
 
-pub HasPassed-more : (lengths : List ℕ) (n k left d : ℕ) → HasPassed lengths n k left → k < length lengths → d ≡ slice_index lengths k → d ≤ left →
+pub HasPassed-more : (lengths : List ℕ) (n k left d : ℕ) → HasPassed lengths n k left → k < length lengths
+    → d ≡ slice_index lengths k → d ≤ left →
     HasPassed lengths n (k + 1) (left - d)
 HasPassed-more lengths n k left d p h e low =
     let more = begin_of-more lengths k h in
@@ -38,19 +41,24 @@ higher n m h = grind (arith, nat_tests)
 place : (n i : ℕ) → i < n → get_or (range_with_len 0 n) i 0 ≡ i
 place n i h = get_or-range_with_len 0 n i 0 h ∙ zero-add i
 
-piece_at-here : (lengths : List ℕ) (n k left : ℕ) → HasPassed lengths n k left → k ≤ length lengths → (k < length lengths → left < slice_index lengths k) →
+piece_at-here : (lengths : List ℕ) (n k left : ℕ) → HasPassed lengths n k left → k ≤ length lengths
+    → (k < length lengths → left < slice_index lengths k) →
     piece_at lengths n ≡ k
 unfolding piece_at
 piece_at-here lengths n k left p real inside =
     let m : ℕ = length lengths in
     let size : length (range_with_len 0 m) ≡ m = length-range_with_len 0 m in
     position_or_len_is (λ i. nat_lt n (begin_of lengths (i + 1))) (range_with_len 0 m) k 0 (omega arith)
-    (λ i h. subst (λ x. nat_lt n (begin_of lengths (x + 1)) ≡ false) (sym (place m i (omega arith))) (lower (begin_of lengths (i + 1)) n (p.passed i (omega arith))))
-    (λ h. let h' : k < m = omega arith in let in_it = inside h' in let more = begin_of-more lengths k h' in let b = p.begins in
-    subst (λ x. nat_lt n (begin_of lengths (x + 1)) ≡ true) (sym (place m k h')) (higher (begin_of lengths (k + 1)) n (omega arith)))
+    (λ i h. subst (λ x. nat_lt n (begin_of lengths (x + 1)) ≡ false) (sym (place m i (omega arith)))
+    (lower (begin_of lengths (i + 1)) n (p.passed i (omega arith))))
+    (λ h. let h' : k < m = omega arith in let in_it = inside h' in
+    let more = begin_of-more lengths k h' in let b = p.begins in
+    subst (λ x. nat_lt n (begin_of lengths (x + 1)) ≡ true) (sym (place m k h'))
+    (higher (begin_of lengths (k + 1)) n (omega arith)))
 
 -- on a piece's line
-pub on_piece : (values : List ℤ) (lengths : List ℕ) (n k left d : ℕ) (here next : ℤ) → HasPassed lengths n k left → k < length lengths →
+pub on_piece : (values : List ℤ) (lengths : List ℕ) (n k left d : ℕ) (here next : ℤ) → HasPassed lengths n k left
+    → k < length lengths →
     d ≡ slice_index lengths k → left < d → here ≡ argument values k → next ≡ argument values (k + 1) →
     clamp (part_way here next left d) ≡ clamp (on_pieces values lengths n)
 unfolding on_pieces
@@ -62,7 +70,8 @@ on_piece values lengths n k left d here next p h ed inside eh en =
     rw at (rw test (rw e (rw (← ed) (rw (← eh) (rw (← en) refl)))))
 
 -- after the last piece
-pub after_pieces : (values : List ℤ) (lengths : List ℕ) (n k left : ℕ) → HasPassed lengths n k left → k ≡ length lengths →
+pub after_pieces : (values : List ℤ) (lengths : List ℕ) (n k left : ℕ) → HasPassed lengths n k left
+    → k ≡ length lengths →
     on_pieces values lengths n ≡ argument values k
 unfolding on_pieces
 after_pieces values lengths n k left p h =
@@ -70,6 +79,8 @@ after_pieces values lengths n k left p h =
     let test = lower (length lengths) k (omega arith) in
     rw at (rw test refl)
 
-pub last_value : (values : List ℤ) (lengths : List ℕ) (n k left : ℕ) (z : ℤ) → HasPassed lengths n k left → k ≡ length lengths →
+pub last_value : (values : List ℤ) (lengths : List ℕ) (n k left : ℕ) (z : ℤ) → HasPassed lengths n k left
+    → k ≡ length lengths →
     z ≡ argument values (length lengths) → clamp z ≡ clamp (on_pieces values lengths n)
-last_value values lengths n k left z p h e = ap clamp (e ∙ ap (argument values) (sym h) ∙ sym (after_pieces values lengths n k left p h))
+last_value values lengths n k left z p h e =
+    ap clamp (e ∙ ap (argument values) (sym h) ∙ sym (after_pieces values lengths n k left p h))

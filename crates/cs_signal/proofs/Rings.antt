@@ -1,6 +1,8 @@
 -- A list in a ring: as it is filled, and after a new value took the place of the oldest.
-use Rattle.std.proofs.Common.{◌≡◌, ℕ, suc, ◌+◌, ◌-◌, ◌<◌, ◌≤◌, ◌⊎◌, inl, inr, List, [], ◌∷◌, ◌++◌, length, take, drop, set, get_or, replicate, ℤ, pos, ap, sym, ◌∙◌, subst, arith, append_assoc}
-use Rattle.std.proofs.lemmas.List.{append-nil, drop_more, take_more_set, take_all, drop-set-lt, length-append, length-set}
+use Rattle.std.proofs.Common.{◌≡◌, ℕ, suc, ◌+◌, ◌-◌, ◌<◌, ◌≤◌, ◌⊎◌, inl, inr, List, [], ◌∷◌, ◌++◌, length, take, drop}
+use Rattle.std.proofs.Common.{set, get_or, replicate, ℤ, pos, ap, sym, ◌∙◌, subst, arith, append_assoc}
+use Rattle.std.proofs.lemmas.List.{append-nil, drop_more, take_more_set, take_all, drop-set-lt, length-append}
+use Rattle.std.proofs.lemmas.List.{length-set}
 use Rattle.std.proofs.Math.ListN.{drop_of_length-le}
 use Rattle.cs_signal.specs.Delay.{delay_step}
 use Rattle.cs_signal.specs.Steps.{run}
@@ -36,7 +38,8 @@ inside_ring place len next h (inl n) = omega (arith, n.0, n.1)
 inside_ring place len next h (inr n) = omega (arith, n.1, h)
 
 -- a step of a delay
-pub delayed : (ring : List ℤ) (oldest next : ℕ) (x value : ℤ) → oldest < length ring → value ≡ get_or ring oldest value → IsNextPlace oldest (length ring) next →
+pub delayed : (ring : List ℤ) (oldest next : ℕ) (x value : ℤ) → oldest < length ring → value ≡ get_or ring oldest value
+    → IsNextPlace oldest (length ring) next →
     (in_order (set ring oldest x) next, value) ≡ delay_step (in_order ring oldest) (x ∷ [])
 delayed ring oldest next x value h ev en =
     let first : value ≡ get_or (in_order ring oldest) 0 (pos 0) =
@@ -49,7 +52,8 @@ none_yet count =
     let e : count - 0 ≡ count = omega arith in
     ap (λ k. replicate k (pos 0) ++ []) e ∙ append-nil (replicate count (pos 0))
 
-pub full_line : (count : ℕ) (ring : List ℤ) (oldest : ℕ) → count ≤ length ring → line_in count ring oldest ≡ in_order ring oldest
+pub full_line : (count : ℕ) (ring : List ℤ) (oldest : ℕ) → count ≤ length ring
+    → line_in count ring oldest ≡ in_order ring oldest
 full_line count ring oldest h =
     let e : count - length ring ≡ 0 = omega arith in
     ap (λ k. replicate k (pos 0) ++ in_order ring oldest) e
@@ -80,18 +84,21 @@ goes_round at count oldest filled n next ring full turned out out' e long same d
     subst (λ m. (first : List ℤ) → HasRun delay_step at first m filled (in_order full 0) out
     → (in_order turned next, out') ≡ run delay_step at first 0 m) done.long later in
     ap (λ l. (l, out')) (full_line count turned next (omega (arith, long, same)))
-    ∙ on (line_in count ring 0) (subst (λ l. HasRun delay_step at (line_in count ring 0) n filled l out) (full_line count full 0 long) done)
+    ∙ on (line_in count ring 0)
+    (subst (λ l. HasRun delay_step at (line_in count ring 0) n filled l out) (full_line count full 0 long) done)
     ∙ ap (λ o. run delay_step at (line_in count ring o) 0 n) (sym e)
 
 -- a block all of whose frames find it full
 pub round : (at : ℕ → List ℤ) (count oldest n next : ℕ) (full turned out out' : List ℤ) →
     length out ≡ n → count ≤ length full → length turned ≡ length full →
-    ((first : List ℤ) → HasRun delay_step at first n 0 (in_order full oldest) out → (in_order turned next, out') ≡ run delay_step at first 0 n) →
+    ((first : List ℤ) → HasRun delay_step at first n 0 (in_order full oldest) out
+    → (in_order turned next, out') ≡ run delay_step at first 0 n) →
     (line_in count turned next, out') ≡ run delay_step at (line_in count full oldest) 0 n
 round at count oldest n next full turned out out' size long same later =
     let first : List ℤ = line_in count full oldest in
     ap (λ l. (l, out')) (full_line count turned next (omega (arith, long, same)))
-    ∙ later first (subst (λ l. HasRun delay_step at first n 0 l out) (full_line count full oldest long) (HasRun_none delay_step at first n out size))
+    ∙ later first (subst (λ l. HasRun delay_step at first n 0 l out) (full_line count full oldest long)
+    (HasRun_none delay_step at first n out size))
 
 -- a ring that isn't full is being filled from its first place on
 pub being_filled : (count len memory oldest : ℕ) → (count ≤ len) ⊎ ((oldest ≡ 0) × (count ≤ memory)) → len < count →

@@ -1,5 +1,7 @@
 -- A linen in its rise, and in its decay: its factor is a straight line.
-use Rattle.std.proofs.Common.{◌≡◌, ℕ, zero, suc, ◌+◌, ◌-◌, ◌%◌, ◌<◌, ◌≤◌, ◌⊎◌, inl, inr, ◌==◌, ◌||◌, nat_le, nat_lt, false, List, [], ◌∷◌, length, map, ℤ, pos, negsuc, ◌+ℤ◌, ◌-ℤ◌, ◌*ℤ◌, if◌then◌else◌, ap, sym, ◌∙◌, arith}
+use Rattle.std.proofs.Common.{◌≡◌, ℕ, zero, suc, ◌+◌, ◌-◌, ◌%◌, ◌<◌, ◌≤◌, ◌⊎◌, inl, inr, ◌==◌, ◌||◌, nat_le, nat_lt}
+use Rattle.std.proofs.Common.{false, List, [], ◌∷◌, length, map, ℤ, pos, negsuc, ◌+ℤ◌, ◌-ℤ◌, ◌*ℤ◌, if◌then◌else◌, ap}
+use Rattle.std.proofs.Common.{sym, ◌∙◌, arith}
 use Rattle.std.specs.List.{range_with_len}
 use Rattle.std.proofs.lemmas.Bool.Decides.{nat_tests}
 use Rattle.std.proofs.lemmas.Int.{ints}
@@ -14,17 +16,18 @@ use Rattle.cs_signal.specs.Pace.{last_number, number_after}
 use Rattle.cs_signal.specs.Steps.{run}
 use Rattle.cs_signal.specs.inner.Level.{IsRising, IsFalling}
 use Rattle.cs_signal.specs.inner.Ramp.{IsParted, ramp_of}
-use Rattle.cs_signal.proofs.Levels.{not_falling, risen}
+use Rattle.cs_signal.proofs.Levels.{linen_at_step, not_falling, risen}
 use Rattle.cs_signal.proofs.Ramps.{floor_is, spread}
+use Rattle.cs_signal.proofs.Walks.{led}
 
 -- steps whose factor is known are the amplitude by it
 linen_by : (x g : ℕ → ℤ) (s : LinenState) (j n : ℕ) → s.number + n ≤ last_number →
-    ((i : ℕ) → i < n → product_of (up_at s.rise (s.number + i)) (down_at s.duration s.decay (s.number + i)) ≡ g (j + i)) →
-    run linen_step (λ j. x j ∷ []) s j n ≡
-    (record { rise = s.rise; duration = s.duration; decay = s.decay; number = s.number + n }, map (λ i. product_of (x i) (g i)) (range_with_len j n))
-linen_by x g s j zero room h = ap (λ m. (record { rise = s.rise; duration = s.duration; decay = s.decay; number = m }, [])) (omega arith)
+    ((i : ℕ) → i < n → product_of (up_at s.rise (s.number + i)) (down_at s.duration s.decay (s.number + i)) ≡ g (j + i))
+    → run linen_step (λ j. x j ∷ []) s j n ≡
+    (linen_at_step s (s.number + n), map (λ i. product_of (x i) (g i)) (range_with_len j n))
+linen_by x g s j zero room h = ap (λ m. (linen_at_step s m, [])) (omega arith)
 linen_by x g s j (suc n) room h =
-    let t : LinenState = record { rise = s.rise; duration = s.duration; decay = s.decay; number = s.number + 1 } in
+    let t : LinenState = linen_at_step s (s.number + 1) in
     let e : number_after (s.number + 1) ≡ s.number + 1 = omega arith in
     let factor : ℕ → ℤ = λ m. product_of (up_at s.rise m) (down_at s.duration s.decay m) in
     let value : ℤ = product_of (x j) (factor s.number) in
@@ -32,10 +35,14 @@ linen_by x g s j (suc n) room h =
     let sum : (s.number + 1) + n ≡ s.number + suc n = omega arith in
     let later : (i : ℕ) → i < n → factor ((s.number + 1) + i) ≡ g ((j + 1) + i) =
     λ i p. ap factor (omega arith) ∙ h (i + 1) (omega arith) ∙ ap g (omega arith) in
-    ap (λ m. let u : LinenState = record { rise = s.rise; duration = s.duration; decay = s.decay; number = m } in ((run linen_step (λ j. x j ∷ []) u (j + 1) n).0, value ∷ (run linen_step (λ j. x j ∷ []) u (j + 1) n).1)) e
-    ∙ ap (λ r. (r.0, value ∷ r.1)) (linen_by x g t (j + 1) n (omega arith) later)
-    ∙ ap (λ m. (record { rise = s.rise; duration = s.duration; decay = s.decay; number = m }, value ∷ map (λ i. product_of (x i) (g i)) (range_with_len (j + 1) n))) sum
-    ∙ ap (λ z. (record { rise = s.rise; duration = s.duration; decay = s.decay; number = s.number + suc n }, product_of (x j) z ∷ map (λ i. product_of (x i) (g i)) (range_with_len (j + 1) n))) here
+    ap (λ m. led value (run linen_step (λ j. x j ∷ []) (linen_at_step s m) (j + 1) n)) e
+    ∙ ap (led value) (linen_by x g t (j + 1) n (omega arith) later)
+    ∙ ap (λ m. (linen_at_step s m, value ∷ map (λ i. product_of (x i) (g i)) (range_with_len (j + 1) n))) sum
+    ∙ ap (λ z. (
+      linen_at_step s (s.number + suc n),
+      product_of (x j) z
+          ∷ map (λ i. product_of (x i) (g i)) (range_with_len (j + 1) n),
+    )) here
 
 pub by_one : (z : ℤ) → product_of z one ≡ clamp z
 by_one z = ap clamp (floor_is (z *ℤ one) z 65536 0 (record { sum = omega (arith, ints); below = omega arith }))
@@ -46,16 +53,20 @@ one_by z = ap (λ p. clamp (floor_div p one)) (*ℤ_comm one z) ∙ by_one z
 not_risen : (rise n : ℕ) → n < rise → nat_le rise n ≡ false
 not_risen rise n h = grind (arith, nat_tests)
 
-does_fall : (duration decay n : ℕ) → 0 < decay → duration ≤ n + decay → (decay == 0 || nat_lt (n + decay) duration) ≡ false
+does_fall : (duration decay n : ℕ) → 0 < decay → duration ≤ n + decay
+    → (decay == 0 || nat_lt (n + decay) duration) ≡ false
 does_fall duration decay n some h = grind (arith, nat_tests)
 
 rises : (rise duration decay n : ℕ) → n < rise → (decay ≡ 0) ⊎ (n + decay < duration) →
     product_of (up_at rise n) (down_at duration decay n) ≡ clamp (part_way (pos 0) one n rise)
 rises rise duration decay n below level =
-    let up : up_at rise n ≡ floor_div (one *ℤ pos n) (pos rise) = ap (λ b. if b then one else floor_div (one *ℤ pos n) (pos rise)) (not_risen rise n below) in
+    let up : up_at rise n ≡ floor_div (one *ℤ pos n) (pos rise) =
+    ap (λ b. if b then one else floor_div (one *ℤ pos n) (pos rise)) (not_risen rise n below) in
     let down : down_at duration decay n ≡ one =
-    ap (λ b. if b then one else clamp (floor_div (one *ℤ (pos duration -ℤ pos n)) (pos decay))) (not_falling duration decay n level) in
-    let none : floor_div (one *ℤ pos n) (pos rise) ≡ pos 0 +ℤ floor_div (one *ℤ pos n) (pos rise) = omega (arith, ints) in
+    ap (λ b. if b then one else clamp (floor_div (one *ℤ (pos duration -ℤ pos n)) (pos decay)))
+    (not_falling duration decay n level) in
+    let none : floor_div (one *ℤ pos n) (pos rise) ≡ pos 0 +ℤ floor_div (one *ℤ pos n) (pos rise) =
+    omega (arith, ints) in
     ap (λ z. product_of z (down_at duration decay n)) up ∙ ap (product_of (floor_div (one *ℤ pos n) (pos rise))) down
     ∙ by_one (floor_div (one *ℤ pos n) (pos rise)) ∙ ap clamp none
 
@@ -82,38 +93,50 @@ falls : (rise duration decay n m : ℕ) → rise ≤ n → 0 < decay → duratio
 falls rise duration decay n m over some low e =
     let left : ℤ = floor_div (one *ℤ (pos duration -ℤ pos n)) (pos decay) in
     let fallen : ℤ = (pos 0 -ℤ one) *ℤ pos m in
-    let up : up_at rise n ≡ one = ap (λ b. if b then one else floor_div (one *ℤ pos n) (pos rise)) (risen rise n over) in
-    let down : down_at duration decay n ≡ clamp left = ap (λ b. if b then one else clamp left) (does_fall duration decay n some low) in
+    let up : up_at rise n ≡ one =
+    ap (λ b. if b then one else floor_div (one *ℤ pos n) (pos rise)) (risen rise n over) in
+    let down : down_at duration decay n ≡ clamp left =
+    ap (λ b. if b then one else clamp left) (does_fall duration decay n some low) in
     let whole : one *ℤ (pos duration -ℤ pos n) ≡ fallen +ℤ (one *ℤ pos decay) = omega (arith, ints, e) in
     let parts : left ≡ one +ℤ floor_div fallen (pos decay) =
     ap (λ z. floor_div z (pos decay)) whole ∙ floor_more fallen one decay some ∙ omega (arith, ints) in
     ap (λ z. product_of z (down_at duration decay n)) up ∙ ap (product_of one) down ∙ one_by (clamp left)
     ∙ clamp_same (clamp left) (clamp_in_range left) ∙ ap clamp parts
 
-level_on : (n i k decay duration : ℕ) → i < k → (decay ≡ 0) ⊎ (n + k + decay ≤ duration) → (decay ≡ 0) ⊎ ((n + i) + decay < duration)
+level_on : (n i k decay duration : ℕ) → i < k → (decay ≡ 0) ⊎ (n + k + decay ≤ duration)
+    → (decay ≡ 0) ⊎ ((n + i) + decay < duration)
 level_on n i k decay duration h (inl e) = inl e
 level_on n i k decay duration h (inr p) = inr (omega arith)
 
 pub linen_rises : (x : ℕ → ℤ) (s : LinenState) (n : ℕ) → IsRising s n →
-    run linen_step (λ j. x j ∷ []) s 0 n ≡
-    (record { rise = s.rise; duration = s.duration; decay = s.decay; number = s.number + n }, map (λ i. product_of (x i) (argument (ramp_of (pos 0) one s.number s.rise n) i)) (range_with_len 0 n))
+    run linen_step (λ j. x j ∷ []) s 0 n ≡ (
+      linen_at_step s (s.number + n),
+      map (λ i. product_of (x i) (argument (ramp_of (pos 0) one s.number s.rise n) i))
+          (range_with_len 0 n),
+    )
 linen_rises x s n h =
     let room = h.room in
     let rising = h.rising in
     linen_by x (λ i. argument (ramp_of (pos 0) one s.number s.rise n) i) s 0 n room
-    (λ i p. rises s.rise s.duration s.decay (s.number + i) (omega arith) (level_on s.number i n s.decay s.duration p h.before)
-    ∙ sym (get_or-map-range_with_len (λ m. clamp (part_way (pos 0) one m s.rise)) s.number n (0 + i) (s.number + i) (pos 0) (omega arith) (omega arith)))
+    (λ i p. rises s.rise s.duration s.decay (s.number + i) (omega arith)
+    (level_on s.number i n s.decay s.duration p h.before)
+    ∙ sym (get_or-map-range_with_len (λ m. clamp (part_way (pos 0) one m s.rise)) s.number n (0 + i) (s.number + i)
+    (pos 0) (omega arith) (omega arith)))
 
 pub linen_falls : (x : ℕ → ℤ) (s : LinenState) (n m : ℕ) → IsFalling s n → m + s.duration ≡ s.number + s.decay →
-    run linen_step (λ j. x j ∷ []) s 0 n ≡
-    (record { rise = s.rise; duration = s.duration; decay = s.decay; number = s.number + n }, map (λ i. product_of (x i) (argument (ramp_of one (pos 0) m s.decay n) i)) (range_with_len 0 n))
+    run linen_step (λ j. x j ∷ []) s 0 n ≡ (
+      linen_at_step s (s.number + n),
+      map (λ i. product_of (x i) (argument (ramp_of one (pos 0) m s.decay n) i))
+          (range_with_len 0 n),
+    )
 linen_falls x s n m h from =
     let room = h.room in
     let risen = h.risen in
     let low = h.falling in
     linen_by x (λ i. argument (ramp_of one (pos 0) m s.decay n) i) s 0 n room
     (λ i p. falls s.rise s.duration s.decay (s.number + i) (m + i) (omega arith) h.some (omega arith) (omega arith)
-    ∙ sym (get_or-map-range_with_len (λ k. clamp (part_way one (pos 0) k s.decay)) m n (0 + i) (m + i) (pos 0) (omega arith) (omega arith)))
+    ∙ sym (get_or-map-range_with_len (λ k. clamp (part_way one (pos 0) k s.decay)) m n (0 + i) (m + i) (pos 0)
+    (omega arith) (omega arith)))
 
 -- a pass over a ramp
 pub shaped_ramp : (x f : ℕ → ℤ) (a n : ℕ) (ramp out : List ℤ) → ramp ≡ map f (range_with_len a n) →
@@ -121,4 +144,5 @@ pub shaped_ramp : (x f : ℕ → ℤ) (a n : ℕ) (ramp out : List ℤ) → ramp
     out ≡ map (λ j. product_of (x j) (argument (map f (range_with_len a n)) j)) (range_with_len 0 n)
 shaped_ramp x f a n ramp out e h =
     h ∙ ap (λ l. map (λ j. product_of (x j) (argument l j)) (range_with_len 0 (length l))) e
-    ∙ ap (λ k. map (λ j. product_of (x j) (argument (map f (range_with_len a n)) j)) (range_with_len 0 k)) (length-map-range_with_len f a n)
+    ∙ ap (λ k. map (λ j. product_of (x j) (argument (map f (range_with_len a n)) j)) (range_with_len 0 k))
+    (length-map-range_with_len f a n)

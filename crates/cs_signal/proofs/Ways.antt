@@ -1,5 +1,6 @@
 -- A straight line before its end: its values lie between its ends.
-use Rattle.std.proofs.Common.{◌≡◌, ℕ, suc, ◌+◌, ◌*◌, ◌<◌, ◌≤◌, inl, inr, ⊎_elim, ℤ, pos, negsuc, ◌+ℤ◌, ◌-ℤ◌, ◌*ℤ◌, ◌≤ℤ◌, unsigned_abs, to_z, of_z, w64, ◌^◌, refl, ap, sym, ◌∙◌, subst, arith}
+use Rattle.std.proofs.Common.{◌≡◌, ℕ, suc, ◌+◌, ◌*◌, ◌<◌, ◌≤◌, inl, inr, ⊎_elim, ℤ, pos, negsuc, ◌+ℤ◌, ◌-ℤ◌, ◌*ℤ◌, ◌≤ℤ◌}
+use Rattle.std.proofs.Common.{unsigned_abs, to_z, of_z, w64, ◌^◌, refl, ap, sym, ◌∙◌, subst, arith}
 use Rattle.std.proofs.lemmas.Bool.{cases_lt}
 use Rattle.std.proofs.lemmas.Int.{ints}
 use Rattle.std.proofs.lemmas.Nat.{mul-le}
@@ -39,7 +40,8 @@ down a m d rest (negsuc b) h p =
     let below = p.below in
     let far : suc a * m ≤ suc a * d = mul-le (suc a) m (suc a) d (omega arith) h in
     let parts : suc b * d ≡ suc a * m + rest = omega (arith, ints) in
-    let most : suc b ≤ suc a = at_most (suc a) (suc b) d rest (omega arith) p.below in (omega (arith, ints), omega (arith, ints))
+    let most : suc b ≤ suc a = at_most (suc a) (suc b) d rest (omega arith) p.below in
+    (omega (arith, ints), omega (arith, ints))
 
 between : (from to whole rise : ℤ) (m d rest : ℕ) → IsRaw from → IsRaw to → m ≤ d → to -ℤ from ≡ rise →
     IsParted (rise *ℤ pos m) d whole rest → IsRaw (from +ℤ whole)
@@ -50,22 +52,27 @@ between from to whole (negsuc a) m d rest f t h e p =
     let w = down a m d rest whole h p in
     let low = w.0 in let high = w.1 in let f1 = f.1 in let t0 = t.0 in (omega (arith, ints), omega (arith, ints))
 
-pub on_way : (from to whole : ℤ) (m d rest : ℕ) → IsRaw from → IsRaw to → m ≤ d → IsParted ((to -ℤ from) *ℤ pos m) d whole rest → IsRaw (from +ℤ whole)
+pub on_way : (from to whole : ℤ) (m d rest : ℕ) → IsRaw from → IsRaw to → m ≤ d
+    → IsParted ((to -ℤ from) *ℤ pos m) d whole rest → IsRaw (from +ℤ whole)
 on_way from to whole m d rest f t h p = between from to whole (to -ℤ from) m d rest f t h refl p
 
 -- the same of a value and its distance from the first
-pub value_on_way : (from to value : ℤ) (m d rest : ℕ) → IsRaw from → IsRaw to → m ≤ d → IsParted ((to -ℤ from) *ℤ pos m) d (value -ℤ from) rest → IsRaw value
+pub value_on_way : (from to value : ℤ) (m d rest : ℕ) → IsRaw from → IsRaw to → m ≤ d
+    → IsParted ((to -ℤ from) *ℤ pos m) d (value -ℤ from) rest → IsRaw value
 value_on_way from to value m d rest f t h p =
     let e : from +ℤ (value -ℤ from) ≡ value = omega (arith, ints) in
     subst IsRaw e (on_way from to (value -ℤ from) m d rest f t h p)
 
-pub parts_of_value : (z from whole value : ℤ) (d rest : ℕ) → value ≡ from +ℤ whole → IsParted z d whole rest → IsParted z d (value -ℤ from) rest
+pub parts_of_value : (z from whole value : ℤ) (d rest : ℕ) → value ≡ from +ℤ whole → IsParted z d whole rest
+    → IsParted z d (value -ℤ from) rest
 parts_of_value z from whole value d rest e p =
     let same : whole ≡ value -ℤ from = omega (arith, ints) in subst (λ w. IsParted z d w rest) same p
 
 -- a value in range from the first one
 pub raw_clamped : (from value : ℤ) → IsRaw value → value ≡ clamp (from +ℤ (value -ℤ from))
-raw_clamped from value h = let e : from +ℤ (value -ℤ from) ≡ value = omega (arith, ints) in sym (ap clamp e ∙ clamp_same value h)
+raw_clamped from value h =
+    let e : from +ℤ (value -ℤ from) ≡ value = omega (arith, ints) in
+    sym (ap clamp e ∙ clamp_same value h)
 
 -- a value in range by its bits
 pub same_bits : (z : ℤ) → IsRaw z → to_z w64 (of_z w64 z) ≡ z
@@ -82,7 +89,8 @@ pub near : (from value : ℤ) → IsRaw from → IsRaw value → unsigned_abs (v
 near from value f v = let f0 = f.0 in let f1 = f.1 in let v0 = v.0 in let v1 = v.1 in omega (arith, ints)
 
 -- what a step adds to the distance
-pub step_bound : (d rest by rest' : ℕ) (w whole w' : ℤ) → IsAdvanced d w rest whole by w' rest' → unsigned_abs whole < 2 ^ 48 →
+pub step_bound : (d rest by rest' : ℕ) (w whole w' : ℤ) → IsAdvanced d w rest whole by w' rest'
+    → unsigned_abs whole < 2 ^ 48 →
     unsigned_abs w' ≤ unsigned_abs w + 2 ^ 49
 step_bound d rest by rest' w whole w' (inl h) small = let e = h.1 in omega (arith, ints)
 step_bound d rest by rest' w whole w' (inr h) small = let e = h.1 in omega (arith, ints)

@@ -20,7 +20,14 @@ inputs_by x by = x ∷ by.b0 ∷ by.b1 ∷ by.b2 ∷ by.a0 ∷ by.a1 ∷ by.a2 �
 
 -- coefficients that stay for a cycle
 abbrev pub all_held : Coefficients ℤ → Coefficients Operand
-all_held by = record { b0 = Held by.b0; b1 = Held by.b1; b2 = Held by.b2; a0 = Held by.a0; a1 = Held by.a1; a2 = Held by.a2 }
+all_held by = record {
+  b0 = Held by.b0;
+  b1 = Held by.b1;
+  b2 = Held by.b2;
+  a0 = Held by.a0;
+  a1 = Held by.a1;
+  a2 = Held by.a2;
+}
 
 -- coefficients at frame j of the cycle
 abbrev pub values_at : Coefficients Operand → ℕ → Coefficients ℤ

@@ -1,5 +1,5 @@
 -- What a unit was given in all its steps so far.
-use Rattle.std.specs.Prelude.{ℕ, List, map, reverse, ℤ}
+use Rattle.std.specs.Prelude.{ℕ, ◌-◌, List, [], length, map, reverse, ℤ, slice_index_or}
 use Rattle.cs_signal.specs.Operands.{argument}
 
 -- the values that an input had, step by step
@@ -13,3 +13,7 @@ ago k m steps = argument (reverse (signal k steps)) m
 -- the value that an input has in the last step
 abbrev pub now : ℕ → List (List ℤ) → ℤ
 now k steps = ago k 0 steps
+
+-- the inputs of the last step
+abbrev pub last_of : List (List ℤ) → List ℤ
+last_of steps = slice_index_or steps (length steps - 1) []

@@ -31,7 +31,8 @@ interp_step s inputs =
       clamp (part_way s.before k (s.sample + 1) s.ksmps),
     )
 
-pub record InterpStands (s : InterpState) (rate : Rate) (pace : Pace) (init : List ℤ) (steps : List (List ℤ)) : Type 0 where
+pub record InterpStands (s : InterpState) (rate : Rate) (pace : Pace) (init : List ℤ) (steps : List (List ℤ)) : Type
+    0 where
   pub ksmps : s.ksmps ≡ pace.ksmps
   pub sample : s.sample ≡ length steps % pace.ksmps
   pub before : s.before ≡ ago 0 s.sample steps

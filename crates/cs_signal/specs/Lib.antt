@@ -11,6 +11,7 @@ pub mod Linen
 pub mod Linseg
 pub mod Operands
 pub mod Pace
+pub mod Plain
 pub mod Samphold
 pub mod Steps
 pub mod Walk

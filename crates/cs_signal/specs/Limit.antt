@@ -3,24 +3,20 @@ use Rattle.std.specs.Prelude.{List, ℤ, pos, ◌+ℤ◌, int_lt, if◌then◌el
 use Rattle.std.specs.Int.{int_max, int_min}
 use Rattle.cs_base.specs.Numbers.{floor_div}
 use Rattle.cs_base.specs.declared.resource.Rate.{Rate}
-use Rattle.cs_signal.specs.History.{now}
 use Rattle.cs_signal.specs.Operands.{argument}
 use Rattle.cs_signal.specs.Pace.{Pace}
+use Rattle.cs_signal.specs.Plain.{plain_of, plain_step}
 
 -- a value brought between low and high; where low is above high, the middle of the two, rounded down
 abbrev pub limited : ℤ → ℤ → ℤ → ℤ
 limited x low high =
     if int_lt high low then floor_div (low +ℤ high) (pos 2) else int_max low (int_min x high)
 
-abbrev pub limit_of : Rate → Pace → List ℤ → List (List ℤ) → ℤ
-limit_of rate pace init steps = limited (now 0 steps) (now 1 steps) (now 2 steps)
+abbrev pub limit_value : List ℤ → ℤ
+limit_value inputs = limited (argument inputs 0) (argument inputs 1) (argument inputs 2)
 
--- the unit keeps nothing
-abbrev pub limit_start : Rate → Pace → List ℤ → Unit {0}
-limit_start rate pace init = tt
+abbrev pub limit_of : Rate → Pace → List ℤ → List (List ℤ) → ℤ
+limit_of = plain_of limit_value
 
 abbrev pub limit_step : Unit {0} → List ℤ → Unit {0} × ℤ
-limit_step s inputs = (tt, limited (argument inputs 0) (argument inputs 1) (argument inputs 2))
-
-abbrev pub LimitStands : Unit {0} → Rate → Pace → List ℤ → List (List ℤ) → Type 0
-LimitStands s rate pace init steps = Unit {0}
+limit_step = plain_step limit_value

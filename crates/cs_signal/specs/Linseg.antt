@@ -1,5 +1,6 @@
 -- linseg: straight pieces from value to value; after the last piece the last value.
-use Rattle.std.specs.Prelude.{ℕ, ◌≡◌, ◌+◌, ◌-◌, ◌*◌, ◌/◌, nat_lt, List, length, map, take, sum, ℤ, slice_index, if◌then◌else◌}
+use Rattle.std.specs.Prelude.{ℕ, ◌≡◌, ◌+◌, ◌-◌, ◌*◌, ◌/◌, nat_lt, List, length, map, take, sum, ℤ, slice_index}
+use Rattle.std.specs.Prelude.{if◌then◌else◌}
 use Rattle.std.specs.List.{position_or_len, range_with_len}
 use Rattle.cs_base.specs.Numbers.{clamp}
 use Rattle.cs_base.specs.declared.resource.Rate.{Rate}

@@ -6,6 +6,8 @@ ghost use Rattle.cs_signal.specs.Biquad.{all_held, biquad_step, filtered, inputs
 ghost use Rattle.cs_signal.specs.Operands.{operand_at, Lasts};
 ghost use Rattle.cs_signal.specs.Steps.{run};
 
+use crate::generator::Generator;
+use crate::operand::argument;
 use crate::{Divisor, Operand};
 use cs_base::Num;
 use std::marker::Model;
@@ -52,10 +54,10 @@ impl Biquad {
         }
     }
 
-    /// One step: the sum of the products of `b0`, `b1`, `b2` with the input and the two before it, less those of `a1`
-    /// and `a2` with the two results before, by `a0`.
+    // One step: the sum of the products of `b0`, `b1`, `b2` with the input and the two before it, less those of `a1`
+    // and `a2` with the two results before, by `a0`.
     #[inline(always)]
-    pub fn step(&mut self, x: Num, by: &Coefficients<Num>) -> Num
+    fn step(&mut self, x: Num, by: &Coefficients<Num>) -> Num
         ensures { (self.new, result) ≡ biquad_step self.old (inputs_by x by.now) }
     {
         self.step_by(x, by, None)
@@ -75,8 +77,8 @@ impl Biquad {
         y
     }
 
-    /// A step for each frame of `out`.
-    pub fn block(&mut self, x: &Operand, by: &Coefficients<Operand>, out: &mut [Num])
+    // A step for each frame of `out`.
+    fn block(&mut self, x: &Operand, by: &Coefficients<Operand>, out: &mut [Num])
         requires x { Lasts (length out.old) x.now }
         requires zeros { let n = length out.old in Lasts n by.now.b0 × Lasts n by.now.b1 × Lasts n by.now.b2 }
         requires poles { let n = length out.old in Lasts n by.now.a0 × Lasts n by.now.a1 × Lasts n by.now.a2 }
@@ -191,6 +193,41 @@ impl Biquad {
             x2: self.x2,
             y1: self.y1,
             y2: self.y2,
+        }
+    }
+}
+
+impl Generator for Biquad {
+    ghost step = { biquad_step };
+
+    ghost moving = { 7 };
+
+    fn tick(&mut self, inputs: &[Num]) -> Num {
+        let by = Coefficients {
+            b0: argument(inputs, 1),
+            b1: argument(inputs, 2),
+            b2: argument(inputs, 3),
+            a0: argument(inputs, 4),
+            a1: argument(inputs, 5),
+            a2: argument(inputs, 6),
+        };
+        self.step(argument(inputs, 0), &by)
+    }
+
+    fn render(&mut self, inputs: &[Operand], out: &mut [Num]) {
+        match inputs {
+            [x, b0, b1, b2, a0, a1, a2] => {
+                let by = Coefficients {
+                    b0: b0.copied(),
+                    b1: b1.copied(),
+                    b2: b2.copied(),
+                    a0: a0.copied(),
+                    a1: a1.copied(),
+                    a2: a2.copied(),
+                };
+                self.block(x, &by, out);
+            }
+            _ => unreachable!(),
         }
     }
 }

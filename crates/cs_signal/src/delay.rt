@@ -9,6 +9,7 @@ ghost use Rattle.cs_signal.specs.Walk.{HasRun};
 ghost use Rattle.cs_signal.specs.inner.Ring.{IsNextPlace, IsRing, in_order, line_in};
 
 use crate::Operand;
+use crate::generator::Generator;
 use crate::operand::argument;
 use crate::pace::delay_samples;
 use cs_base::{Head, Num};
@@ -50,8 +51,8 @@ impl Delay {
         })
     }
 
-    /// One step: the oldest value, in whose place the new one comes.
-    pub fn step(&mut self, x: Num) -> Num
+    // One step: the oldest value, in whose place the new one comes.
+    fn step(&mut self, x: Num) -> Num
         ensures { (self.new, result) ≡ delay_step self.old (x ∷ []) }
     {
         let mut out = [Num::of_raw(0)];
@@ -59,12 +60,29 @@ impl Delay {
         out[0]
     }
 
-    /// A step for each frame of `out`.
-    pub fn block(&mut self, x: &Operand, out: &mut [Num])
+    // A step for each frame of `out`.
+    fn block(&mut self, x: &Operand, out: &mut [Num])
         requires { Lasts (length out.old) x.now }
         ensures { (self.new, out.new) ≡ run delay_step (λ j. operand_at x.now j ∷ []) self.old 0 (length out.old) }
     {
         self.oldest = pass(&mut self.ring, self.count, self.oldest, x, out);
+    }
+}
+
+impl Generator for Delay {
+    ghost step = { delay_step };
+
+    ghost moving = { 1 };
+
+    fn tick(&mut self, inputs: &[Num]) -> Num {
+        self.step(argument(inputs, 0))
+    }
+
+    fn render(&mut self, inputs: &[Operand], out: &mut [Num]) {
+        match inputs {
+            [x] => self.block(x, out),
+            _ => unreachable!(),
+        }
     }
 }
 

@@ -5,6 +5,8 @@ ghost use Rattle.cs_signal.specs.Operands.{operand_at, Lasts};
 ghost use Rattle.cs_signal.specs.Steps.{run};
 
 use crate::Operand;
+use crate::generator::Generator;
+use crate::operand::argument;
 use cs_base::Num;
 use std::marker::Model;
 
@@ -32,9 +34,9 @@ impl Diff {
         }
     }
 
-    /// One step: this value less the one before.
+    // One step: this value less the one before.
     #[inline(always)]
-    pub fn step(&mut self, x: Num) -> Num
+    fn step(&mut self, x: Num) -> Num
         ensures { (self.new, result) ≡ diff_step self.old (x ∷ []) }
     {
         let risen = x.sub(self.before);
@@ -42,13 +44,30 @@ impl Diff {
         risen
     }
 
-    /// A step for each frame of `out`.
-    pub fn block(&mut self, x: &Operand, out: &mut [Num])
+    // A step for each frame of `out`.
+    fn block(&mut self, x: &Operand, out: &mut [Num])
         requires { Lasts (length out.old) x.now }
         ensures { (self.new, out.new) ≡ run diff_step (λ j. operand_at x.now j ∷ []) self.old 0 (length out.old) }
     {
         for j in 0..out.len() {
             out[j] = self.step(x.at(j));
+        }
+    }
+}
+
+impl Generator for Diff {
+    ghost step = { diff_step };
+
+    ghost moving = { 1 };
+
+    fn tick(&mut self, inputs: &[Num]) -> Num {
+        self.step(argument(inputs, 0))
+    }
+
+    fn render(&mut self, inputs: &[Operand], out: &mut [Num]) {
+        match inputs {
+            [x] => self.block(x, out),
+            _ => unreachable!(),
         }
     }
 }

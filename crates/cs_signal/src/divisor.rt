@@ -3,7 +3,7 @@ ghost use Rattle.std.specs.Prelude.{◌≡◌, ◌<◌, ◌≤◌, ◌+◌, ◌*
 ghost use Rattle.cs_base.specs.Numbers.{floor_div};
 ghost use Rattle.cs_signal.specs.inner.Inverses.{IsInverse};
 
-/// A divisor from 1 to 2^48 - 1, and about how many 2^63rds its inverse is.
+/// A divisor from 1 to 2^48 - 1, and about how many 2^64ths its inverse is.
 #[derive(Clone, Copy)]
 pub struct Divisor {
     value: i64,
@@ -39,27 +39,32 @@ impl Divisor {
     }
 }
 
-// How many 2^63rds the inverse of a number is, rounded up nearly always.
+// How many 2^64ths the inverse of a number is, rounded up. Those of 1 and 2 don't fit, and by -1 no guess is right; so
+// the compiler knows no sign of an inverse, and multiplies by it in one instruction.
 fn inverse_of(value: i64) -> i64
     requires { pos 1 ≤ℤ value }
     ensures { IsInverse value result }
 {
-    rounded_up(value.unsigned_abs()) as i64
+    if value < 3 {
+        -1
+    } else {
+        rounded_up(value.unsigned_abs()) as i64
+    }
 }
 
 fn rounded_up(size: u64) -> u64
-    requires { 1 ≤ size }
-    ensures near { result * size ≤ 2 ^ 63 + size }
+    requires { 3 ≤ size }
+    ensures near { result * size ≤ 2 ^ 64 + size }
     ensures fits { result < 2 ^ 63 }
 {
-    9_223_372_036_854_775_806 / size + 1
+    18_446_744_073_709_551_615 / size + 1
 }
 
-// How often 2^63 goes into a product.
+// How often 2^64 goes into a product: its upper word.
 #[inline(always)]
 fn upper(n: i64, inverse: i64) -> i64
     requires { unsigned_abs n ≤ 2 ^ 61 }
-    ensures { result ≡ floor_div (n *ℤ inverse) (pos 9223372036854775808) }
+    ensures { result ≡ floor_div (n *ℤ inverse) (pos 18446744073709551616) }
 {
     whole(product(n, inverse))
 }
@@ -77,9 +82,9 @@ fn product(x: i64, y: i64) -> i128
 #[inline(always)]
 fn whole(product: i128) -> i64
     requires { unsigned_abs product ≤ 2 ^ 125 }
-    ensures { result ≡ floor_div product (pos 9223372036854775808) }
+    ensures { result ≡ floor_div product (pos 18446744073709551616) }
 {
-    (product >> 63) as i64
+    (product >> 64) as i64
 }
 
 // Whether a guess, whose product with the divisor fits into 64 bits, is the quotient: what it leaves lies from 0 below

@@ -5,6 +5,8 @@ ghost use Rattle.cs_signal.specs.Operands.{operand_at, Lasts};
 ghost use Rattle.cs_signal.specs.Steps.{run};
 
 use crate::Operand;
+use crate::generator::Generator;
+use crate::operand::argument;
 use cs_base::Num;
 use std::marker::Model;
 
@@ -26,21 +28,38 @@ impl Downsamp {
         Downsamp {}
     }
 
-    /// One step, which is a control cycle: `x` is the cycle's first sample, and the result.
+    // One step, which is a control cycle: `x` is the cycle's first sample, and the result.
     #[inline(always)]
-    pub fn step(&mut self, x: Num) -> Num
+    fn step(&mut self, x: Num) -> Num
         ensures { (self.new, result) ≡ downsamp_step self.old (x ∷ []) }
     {
         x
     }
 
-    /// A step for each place of `out`.
-    pub fn block(&mut self, x: &Operand, out: &mut [Num])
+    // A step for each place of `out`.
+    fn block(&mut self, x: &Operand, out: &mut [Num])
         requires { Lasts (length out.old) x.now }
         ensures { (self.new, out.new) ≡ run downsamp_step (λ j. operand_at x.now j ∷ []) self.old 0 (length out.old) }
     {
         for j in 0..out.len() {
             out[j] = self.step(x.at(j));
+        }
+    }
+}
+
+impl Generator for Downsamp {
+    ghost step = { downsamp_step };
+
+    ghost moving = { 1 };
+
+    fn tick(&mut self, inputs: &[Num]) -> Num {
+        self.step(argument(inputs, 0))
+    }
+
+    fn render(&mut self, inputs: &[Operand], out: &mut [Num]) {
+        match inputs {
+            [x] => self.block(x, out),
+            _ => unreachable!(),
         }
     }
 }

@@ -6,6 +6,8 @@ ghost use Rattle.cs_signal.specs.Operands.{argument, operand_at, Lasts};
 ghost use Rattle.cs_signal.specs.Steps.{run};
 
 use crate::Operand;
+use crate::generator::Generator;
+use crate::operand::argument;
 use cs_base::Num;
 use std::marker::Model;
 
@@ -33,17 +35,17 @@ impl Integ {
         }
     }
 
-    /// One step: the sum with this value.
+    // One step: the sum with this value.
     #[inline(always)]
-    pub fn step(&mut self, x: Num) -> Num
+    fn step(&mut self, x: Num) -> Num
         ensures { (self.new, result) ≡ integ_step self.old (x ∷ []) }
     {
         self.sum = self.sum.add(x);
         self.sum
     }
 
-    /// A step for each frame of `out`.
-    pub fn block(&mut self, x: &Operand, out: &mut [Num])
+    // A step for each frame of `out`.
+    fn block(&mut self, x: &Operand, out: &mut [Num])
         requires { Lasts (length out.old) x.now }
         ensures { (self.new, out.new) ≡ run integ_step (λ j. operand_at x.now j ∷ []) self.old 0 (length out.old) }
     {
@@ -51,6 +53,23 @@ impl Integ {
             Operand::Held(value) => held(self.sum, *value, out),
             Operand::Row(values) => row(self.sum, values, out),
         };
+    }
+}
+
+impl Generator for Integ {
+    ghost step = { integ_step };
+
+    ghost moving = { 1 };
+
+    fn tick(&mut self, inputs: &[Num]) -> Num {
+        self.step(argument(inputs, 0))
+    }
+
+    fn render(&mut self, inputs: &[Operand], out: &mut [Num]) {
+        match inputs {
+            [x] => self.block(x, out),
+            _ => unreachable!(),
+        }
     }
 }
 

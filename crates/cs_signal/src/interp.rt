@@ -7,7 +7,9 @@ ghost use Rattle.cs_signal.specs.Pace.{pace_of};
 ghost use Rattle.cs_signal.specs.Steps.{run};
 
 use crate::Operand;
+use crate::generator::Generator;
 use crate::line::part_way;
+use crate::operand::argument;
 use cs_base::{Head, Num};
 use std::marker::Model;
 
@@ -43,8 +45,8 @@ impl Interp {
         }
     }
 
-    /// One step: `x` is the value of the control cycle.
-    pub fn step(&mut self, x: Num) -> Num
+    // One step: `x` is the value of the control cycle.
+    fn step(&mut self, x: Num) -> Num
         ensures { (self.new, result) ≡ interp_step self.old (x ∷ []) }
     {
         let value = part_way(self.before, x, self.sample + 1, self.ksmps);
@@ -55,13 +57,30 @@ impl Interp {
         value
     }
 
-    /// A step for each frame of `out`.
-    pub fn block(&mut self, x: &Operand, out: &mut [Num])
+    // A step for each frame of `out`.
+    fn block(&mut self, x: &Operand, out: &mut [Num])
         requires { Lasts (length out.old) x.now }
         ensures { (self.new, out.new) ≡ run interp_step (λ j. operand_at x.now j ∷ []) self.old 0 (length out.old) }
     {
         for j in 0..out.len() {
             out[j] = self.step(x.at(j));
+        }
+    }
+}
+
+impl Generator for Interp {
+    ghost step = { interp_step };
+
+    ghost moving = { 1 };
+
+    fn tick(&mut self, inputs: &[Num]) -> Num {
+        self.step(argument(inputs, 0))
+    }
+
+    fn render(&mut self, inputs: &[Operand], out: &mut [Num]) {
+        match inputs {
+            [x] => self.block(x, out),
+            _ => unreachable!(),
         }
     }
 }

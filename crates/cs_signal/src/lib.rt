@@ -1,14 +1,14 @@
 //! The units of lines, delays, filters and holds, and what units of every opcode share.
 //!
-//! The one contract: a unit's `start`, `step` and `block` do what the opcode's `.._start` and `.._step` of specs/ say.
-//! That these return the opcode's formula over all inputs so far is a law of cs_ugen for every opcode
-//! (`units_meet_their_formulas`), by the lemmas of proofs/Formulas. How a unit keeps what it has to remember, and how a
-//! block of frames is computed faster than step by step, may be changed without anyone above noticing; the formulas may
-//! not.
+//! The one contract: a unit's `start` is its opcode's `.._start` of specs/, its `tick` one `.._step`, and its `render` a
+//! run of such steps (`Generator`). That these return the opcode's formula over all inputs so far is a law of cs_ugen for
+//! every opcode (`units_meet_their_formulas`), by the lemmas of proofs/Formulas. How a unit keeps what it has to
+//! remember, and how a block of frames is computed faster than step by step, may be changed without anyone above
+//! noticing; the formulas may not.
 //!
-//! Modules in reading order: `pace` (times in steps), `operand` (inputs over a control cycle), `laws` (examples); then
-//! a module an opcode, `ramp` (many steps of a straight line by sums alone) and `divisor` (many quotients by one
-//! number).
+//! Modules in reading order: `pace` (times in steps), `operand` (inputs over a control cycle), `generator` (what a unit
+//! does), `laws` (examples); then a module an opcode, `ramp` (many steps of a straight line by sums alone) and `divisor`
+//! (many quotients by one number).
 #![tactic(auto)]
 
 mod biquad;
@@ -16,6 +16,7 @@ mod delay;
 mod diff;
 mod divisor;
 mod downsamp;
+mod generator;
 mod integ;
 mod interp;
 mod laws;
@@ -28,11 +29,12 @@ mod pace;
 mod ramp;
 mod samphold;
 
-pub use biquad::{Biquad, Coefficients};
+pub use biquad::Biquad;
 pub use delay::Delay;
 pub use diff::Diff;
 pub use divisor::Divisor;
 pub use downsamp::Downsamp;
+pub use generator::Generator;
 pub use integ::Integ;
 pub use interp::Interp;
 pub use laws::worked_examples;

@@ -7,6 +7,8 @@ ghost use Rattle.cs_signal.specs.Operands.{operand_at, Lasts};
 ghost use Rattle.cs_signal.specs.Steps.{run};
 
 use crate::Operand;
+use crate::generator::Generator;
+use crate::operand::argument;
 use cs_base::Num;
 use std::marker::Model;
 
@@ -28,16 +30,16 @@ impl Limit {
         Limit {}
     }
 
-    /// One step: the value brought between `low` and `high`, and the middle of the two where `low` is above `high`.
+    // One step: the value brought between `low` and `high`, and the middle of the two where `low` is above `high`.
     #[inline(always)]
-    pub fn step(&mut self, x: Num, low: Num, high: Num) -> Num
+    fn step(&mut self, x: Num, low: Num, high: Num) -> Num
         ensures { (self.new, result) ≡ limit_step self.old (x ∷ low ∷ high ∷ []) }
     {
         limited(x, low, high)
     }
 
-    /// A step for each frame of `out`.
-    pub fn block(&mut self, x: &Operand, low: &Operand, high: &Operand, out: &mut [Num])
+    // A step for each frame of `out`.
+    fn block(&mut self, x: &Operand, low: &Operand, high: &Operand, out: &mut [Num])
         requires x { Lasts (length out.old) x.now }
         requires low { Lasts (length out.old) low.now }
         requires high { Lasts (length out.old) high.now }
@@ -46,6 +48,27 @@ impl Limit {
     {
         for j in 0..out.len() {
             out[j] = self.step(x.at(j), low.at(j), high.at(j));
+        }
+    }
+}
+
+impl Generator for Limit {
+    ghost step = { limit_step };
+
+    ghost moving = { 3 };
+
+    fn tick(&mut self, inputs: &[Num]) -> Num {
+        self.step(
+            argument(inputs, 0),
+            argument(inputs, 1),
+            argument(inputs, 2),
+        )
+    }
+
+    fn render(&mut self, inputs: &[Operand], out: &mut [Num]) {
+        match inputs {
+            [x, low, high] => self.block(x, low, high, out),
+            _ => unreachable!(),
         }
     }
 }

@@ -5,7 +5,8 @@ ghost use Rattle.cs_signal.specs.Line.{LineState, line_start, line_step, part_wa
 ghost use Rattle.cs_signal.specs.Pace.{pace_of, last_number};
 ghost use Rattle.cs_signal.specs.Steps.{run};
 
-use crate::operand::argument;
+use crate::generator::Generator;
+use crate::operand::{Operand, argument};
 use crate::pace::{next_number, steps};
 use crate::ramp::ramp;
 use cs_base::{Head, Num, Rate};
@@ -45,8 +46,8 @@ impl Line {
         }
     }
 
-    /// One step.
-    pub fn step(&mut self) -> Num
+    // One step.
+    fn step(&mut self) -> Num
         ensures { (self.new, result) ≡ line_step self.old [] }
     {
         let value = part_way(self.from, self.to, self.number, self.way);
@@ -54,8 +55,8 @@ impl Line {
         value
     }
 
-    /// A step for each frame of `out`.
-    pub fn block(&mut self, out: &mut [Num])
+    // A step for each frame of `out`.
+    fn block(&mut self, out: &mut [Num])
         ensures { (self.new, out.new) ≡ run line_step (λ j. []) self.old 0 (length out.old) }
     {
         let count = out.len() as u64;
@@ -72,6 +73,23 @@ impl Line {
     {
         for j in 0..out.len() {
             out[j] = self.step();
+        }
+    }
+}
+
+impl Generator for Line {
+    ghost step = { line_step };
+
+    ghost moving = { 0 };
+
+    fn tick(&mut self, _inputs: &[Num]) -> Num {
+        self.step()
+    }
+
+    fn render(&mut self, inputs: &[Operand], out: &mut [Num]) {
+        match inputs {
+            [] => self.block(out),
+            _ => unreachable!(),
         }
     }
 }

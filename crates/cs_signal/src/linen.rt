@@ -10,10 +10,11 @@ ghost use Rattle.cs_signal.specs.inner.Ramp.{ramp_of};
 ghost use Rattle.cs_signal.specs.inner.Level.{IsFalling, IsLevel, IsRising};
 
 use crate::Operand;
+use crate::generator::Generator;
 use crate::operand::argument;
 use crate::pace::{next_number, steps};
 use crate::ramp::ramp;
-use cs_base::{Head, Num, Rate};
+use cs_base::{Head, Num, ONE, Rate};
 use std::marker::Model;
 
 /// A `linen` of a note: its times in steps, and the number of the step to come.
@@ -50,8 +51,8 @@ impl Linen {
         }
     }
 
-    /// One step.
-    pub fn step(&mut self, x: Num) -> Num
+    // One step.
+    fn step(&mut self, x: Num) -> Num
         ensures { (self.new, result) ≡ linen_step self.old (x ∷ []) }
     {
         let up = up_at(self.rise, self.number);
@@ -60,8 +61,8 @@ impl Linen {
         x.mul(up.mul(down))
     }
 
-    /// A step for each frame of `out`.
-    pub fn block(&mut self, x: &Operand, out: &mut [Num])
+    // A step for each frame of `out`.
+    fn block(&mut self, x: &Operand, out: &mut [Num])
         requires { Lasts (length out.old) x.now }
         ensures { (self.new, out.new) ≡ run linen_step (λ j. operand_at x.now j ∷ []) self.old 0 (length out.old) }
     {
@@ -80,7 +81,7 @@ impl Linen {
         }
     }
 
-    // Whether so many steps to come lie in the rise, and before the decay.
+    // Whether the next `count` steps lie in the rise, and before the decay.
     fn rises(&self, count: u64) -> bool
         ensures { result ≡ true → IsRising self.now count }
     {
@@ -89,7 +90,7 @@ impl Linen {
             && (self.decay == 0 || self.number + count + self.decay <= self.duration)
     }
 
-    // Whether so many steps to come lie in the decay, and after the rise.
+    // Whether the next `count` steps lie in the decay, and after the rise.
     fn falls(&self, count: u64) -> bool
         ensures { result ≡ true → IsFalling self.now count }
     {
@@ -100,7 +101,7 @@ impl Linen {
             && self.number <= self.duration
     }
 
-    // Whether so many steps to come lie after the rise and before the decay.
+    // Whether the next `count` steps lie after the rise and before the decay.
     fn is_level(&self, count: u64) -> bool
         ensures { result ≡ true → IsLevel self.now count }
     {
@@ -114,6 +115,23 @@ impl Linen {
     {
         for j in 0..out.len() {
             out[j] = self.step(x.at(j));
+        }
+    }
+}
+
+impl Generator for Linen {
+    ghost step = { linen_step };
+
+    ghost moving = { 1 };
+
+    fn tick(&mut self, inputs: &[Num]) -> Num {
+        self.step(argument(inputs, 0))
+    }
+
+    fn render(&mut self, inputs: &[Operand], out: &mut [Num]) {
+        match inputs {
+            [x] => self.block(x, out),
+            _ => unreachable!(),
         }
     }
 }
@@ -135,18 +153,18 @@ fn by_one(x: Num) -> Num
     Num::exact(x.raw())
 }
 
-// The amplitude under so many steps of the rise.
+// The amplitude under the steps of the rise from `number` on.
 fn rising(x: &Operand, number: u64, rise: u64, out: &mut [Num])
     requires some { number < rise }
     requires wide { rise < 2 ^ 49 }
     ensures { let ramp = ramp_of (pos 0) one number rise (length out.old) in
         out.new ≡ map (λ j. product_of (operand_at x.now j) (argument ramp j)) (range_with_len 0 (length out.old)) }
 {
-    ramp(Num::exact(0), Num::exact(65_536), number, rise, out);
+    ramp(Num::exact(0), Num::exact(ONE), number, rise, out);
     shape(x, out);
 }
 
-// The amplitude under so many steps of the decay.
+// The amplitude under the steps of the decay from `number` on.
 fn falling_on(x: &Operand, number: u64, decay: u64, out: &mut [Num])
     requires some { 0 < decay }
     requires wide { decay < 2 ^ 49 }
@@ -154,7 +172,7 @@ fn falling_on(x: &Operand, number: u64, decay: u64, out: &mut [Num])
     ensures { let ramp = ramp_of one (pos 0) number decay (length out.old) in
         out.new ≡ map (λ j. product_of (operand_at x.now j) (argument ramp j)) (range_with_len 0 (length out.old)) }
 {
-    ramp(Num::exact(65_536), Num::exact(0), number, decay, out);
+    ramp(Num::exact(ONE), Num::exact(0), number, decay, out);
     shape(x, out);
 }
 
@@ -184,7 +202,7 @@ fn product(x: Num, factor: Num) -> Num
 fn is_part(factor: Num) -> bool
     ensures { result ≡ true → unsigned_abs factor < 2 ^ 16 }
 {
-    0 <= factor.raw() && factor.raw() < 65_536
+    0 <= factor.raw() && factor.raw() < ONE
 }
 
 // The product where the factor is below one: it fits into 64 bits, and is in range.
@@ -220,7 +238,7 @@ fn up_at(rise: u64, n: u64) -> Num
     ensures { result ≡ up_at rise n }
 {
     if rise <= n {
-        Num::of_raw(65_536)
+        Num::of_raw(ONE)
     } else {
         Num::exact(part_of_one(n, rise) as i64)
     }
@@ -243,7 +261,7 @@ fn down_at(duration: u64, decay: u64, n: u64) -> Num
     ensures { result ≡ down_at duration decay n }
 {
     if decay == 0 || n + decay < duration {
-        Num::of_raw(65_536)
+        Num::of_raw(ONE)
     } else {
         falling(duration, decay, n)
     }

@@ -7,8 +7,9 @@ ghost use Rattle.cs_signal.specs.Pace.{pace_of, last_number};
 ghost use Rattle.cs_signal.specs.Steps.{run};
 ghost use Rattle.cs_signal.specs.inner.Pieces.{IsSpot};
 
+use crate::generator::Generator;
 use crate::line::part_way;
-use crate::operand::argument;
+use crate::operand::{Operand, argument};
 use crate::pace::{next_number, steps};
 use crate::ramp::ramp;
 use cs_base::{Head, Num, Rate};
@@ -50,8 +51,8 @@ impl Linseg {
         })
     }
 
-    /// One step.
-    pub fn step(&mut self) -> Num
+    // One step.
+    fn step(&mut self) -> Num
         ensures { (self.new, result) ≡ linseg_step self.old [] }
     {
         let value = on_pieces(&self.values, &self.lengths, self.number);
@@ -59,8 +60,8 @@ impl Linseg {
         value
     }
 
-    /// A step for each frame of `out`.
-    pub fn block(&mut self, out: &mut [Num])
+    // A step for each frame of `out`.
+    fn block(&mut self, out: &mut [Num])
         ensures { (self.new, out.new) ≡ run linseg_step (λ j. []) self.old 0 (length out.old) }
     {
         if !self.within_piece(out) {
@@ -100,6 +101,23 @@ impl Linseg {
     {
         for j in 0..out.len() {
             out[j] = self.step();
+        }
+    }
+}
+
+impl Generator for Linseg {
+    ghost step = { linseg_step };
+
+    ghost moving = { 0 };
+
+    fn tick(&mut self, _inputs: &[Num]) -> Num {
+        self.step()
+    }
+
+    fn render(&mut self, inputs: &[Operand], out: &mut [Num]) {
+        match inputs {
+            [] => self.block(out),
+            _ => unreachable!(),
         }
     }
 }

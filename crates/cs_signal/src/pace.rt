@@ -5,7 +5,7 @@ ghost use Rattle.cs_signal.specs.Pace.{from_zero, pace_of, samples_of, cycles_of
 
 use cs_base::{Head, Num, Rate};
 
-/// A time of so many seconds in whole samples, rounded down; none where it is below 0.
+/// A time in seconds as whole samples, rounded down; none where it is below 0.
 pub(crate) fn samples(time: Num, head: &Head) -> u64
     ensures value { result ≡ samples_of (pace_of head.now) time }
     ensures bounded { result < 2 ^ 49 }
@@ -13,7 +13,7 @@ pub(crate) fn samples(time: Num, head: &Head) -> u64
     counted(times(time, head.sr), 65_536)
 }
 
-/// A time of so many seconds in whole control cycles, rounded down; none where it is below 0.
+/// A time in seconds as whole control cycles, rounded down; none where it is below 0.
 fn cycles(time: Num, head: &Head) -> u64
     ensures value { result ≡ cycles_of (pace_of head.now) time }
     ensures bounded { result < 2 ^ 49 }
@@ -21,7 +21,7 @@ fn cycles(time: Num, head: &Head) -> u64
     counted(times(time, head.sr), 65_536 * head.ksmps)
 }
 
-/// A time of so many seconds in steps of a unit: of a sample each at audio rate, else of a control cycle each.
+/// A time in seconds as steps of a unit: of a sample each at audio rate, else of a control cycle each.
 pub(crate) fn steps(time: Num, rate: Rate, head: &Head) -> u64
     ensures value { result ≡ steps_of rate (pace_of head.now) time }
     ensures bounded { result < 2 ^ 49 }
@@ -32,7 +32,7 @@ pub(crate) fn steps(time: Num, rate: Rate, head: &Head) -> u64
     }
 }
 
-/// How many samples a delay of so many seconds is long: at least one.
+/// The samples of a delay of `time` seconds: at least one.
 pub fn delay_samples(time: Num, head: &Head) -> u64
     ensures value { result ≡ max 1 (samples_of (pace_of head.now) time) }
     ensures bounded { result < 2 ^ 49 }

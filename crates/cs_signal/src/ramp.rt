@@ -7,7 +7,7 @@ ghost use Rattle.cs_signal.specs.inner.Ramp.{IsAdvanced, IsParted, ramp_of};
 use crate::line::{quotient, raised, rise, times};
 use cs_base::Num;
 
-// A number as so many times a divisor and a rest below it.
+// A number as a multiple of a divisor and a rest below it.
 #[derive(Clone, Copy)]
 struct Parts {
     whole: i128,
@@ -42,7 +42,7 @@ fn before_end(from: Num, to: Num, n: u64, d: u64, out: &mut [Num])
     }
 }
 
-// A number within 64 bits as so many times a divisor and a rest below it.
+// A number within 64 bits as a multiple of a divisor and a rest below it.
 #[derive(Clone, Copy)]
 struct Near {
     whole: i64,
@@ -134,7 +134,7 @@ fn rise_of(from: Num, to: Num, d: u64) -> Parts
     parted(i128::from(rise(from, to)), d)
 }
 
-// The parts of a way, so many times.
+// The parts of `n` times a way.
 fn part_of(from: Num, to: Num, n: u64, d: u64) -> Parts
     requires some { 1 ≤ d }
     requires number { n ≤ last_number }

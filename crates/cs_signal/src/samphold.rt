@@ -5,6 +5,8 @@ ghost use Rattle.cs_signal.specs.Operands.{operand_at, Lasts};
 ghost use Rattle.cs_signal.specs.Steps.{run};
 
 use crate::Operand;
+use crate::generator::Generator;
+use crate::operand::argument;
 use cs_base::Num;
 use std::marker::Model;
 
@@ -32,9 +34,9 @@ impl Samphold {
         }
     }
 
-    /// One step: the value where the gate is above 0, else the last result.
+    // One step: the value where the gate is above 0, else the last result.
     #[inline(always)]
-    pub fn step(&mut self, x: Num, gate: Num) -> Num
+    fn step(&mut self, x: Num, gate: Num) -> Num
         ensures { (self.new, result) ≡ samphold_step self.old (x ∷ gate ∷ []) }
     {
         if gate.raw() > 0 {
@@ -43,8 +45,8 @@ impl Samphold {
         self.last
     }
 
-    /// A step for each frame of `out`.
-    pub fn block(&mut self, x: &Operand, gate: &Operand, out: &mut [Num])
+    // A step for each frame of `out`.
+    fn block(&mut self, x: &Operand, gate: &Operand, out: &mut [Num])
         requires x { Lasts (length out.old) x.now }
         requires gate { Lasts (length out.old) gate.now }
         ensures { let at = λ (j : ℕ). operand_at x.now j ∷ operand_at gate.now j ∷ [] in
@@ -52,6 +54,23 @@ impl Samphold {
     {
         for j in 0..out.len() {
             out[j] = self.step(x.at(j), gate.at(j));
+        }
+    }
+}
+
+impl Generator for Samphold {
+    ghost step = { samphold_step };
+
+    ghost moving = { 2 };
+
+    fn tick(&mut self, inputs: &[Num]) -> Num {
+        self.step(argument(inputs, 0), argument(inputs, 1))
+    }
+
+    fn render(&mut self, inputs: &[Operand], out: &mut [Num]) {
+        match inputs {
+            [x, gate] => self.block(x, gate, out),
+            _ => unreachable!(),
         }
     }
 }

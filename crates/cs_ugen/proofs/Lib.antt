@@ -7,5 +7,4 @@ pub mod Oscillators
 pub mod Phases
 pub mod Quotients
 pub mod Shorts
-pub mod Blocks
 pub mod Units

@@ -1,5 +1,6 @@
 -- Phases add up within a turn.
-use Rattle.std.proofs.Common.{◌≡◌, ℕ, ℤ, pos, negsuc, suc, ◌+◌, ◌*◌, ◌%◌, ◌+ℤ◌, ◌*ℤ◌, unsigned_abs, List, [], ◌∷◌, ◌++◌, map, refl, ap, sym, ◌∙◌, arith}
+use Rattle.std.proofs.Common.{◌≡◌, ℕ, ℤ, pos, negsuc, suc, ◌+◌, ◌*◌, ◌%◌, ◌+ℤ◌, ◌*ℤ◌, unsigned_abs, List, [], ◌∷◌, ◌++◌}
+use Rattle.std.proofs.Common.{map, refl, ap, sym, ◌∙◌, arith}
 use Rattle.std.proofs.Math.Nat.{mod-add-mod, add-mod-mod}
 use Rattle.std.proofs.lemmas.Int.{ints, int_rem_euclid_is}
 use Rattle.cs_base.specs.Numbers.{total}
@@ -53,12 +54,15 @@ unfolding phase_of
 phase-more rate pace start cs c =
     let f : ℤ → ℤ = increment rate pace in
     let so_far : ℤ = total (map f cs) in
-    let sums : total (map f (cs ++ c ∷ [])) ≡ so_far +ℤ f c = ap total (map-more f cs c) ∙ total-more (map f cs) (f c) in
-    let last : ((start *ℤ pos 256) +ℤ so_far) +ℤ f c ≡ (start *ℤ pos 256) +ℤ total (map f (cs ++ c ∷ [])) = omega (arith, ints, sums) in
+    let sums : total (map f (cs ++ c ∷ [])) ≡ so_far +ℤ f c =
+    ap total (map-more f cs c) ∙ total-more (map f cs) (f c) in
+    let last : ((start *ℤ pos 256) +ℤ so_far) +ℤ f c ≡ (start *ℤ pos 256) +ℤ total (map f (cs ++ c ∷ [])) =
+    omega (arith, ints, sums) in
     within_turn-add ((start *ℤ pos 256) +ℤ so_far) (f c) ∙ ap within_turn last
 
 -- one step more
-pub HasTurned-more : (t : Turning) (rate : Rate) (pace : Pace) (start : ℤ) (cs : List ℤ) (c : ℤ) → HasTurned t rate pace start cs →
+pub HasTurned-more : (t : Turning) (rate : Rate) (pace : Pace) (start : ℤ) (cs : List ℤ) (c : ℤ)
+    → HasTurned t rate pace start cs →
     HasTurned (turned t c) rate pace start (cs ++ c ∷ [])
 HasTurned-more t rate pace start cs c h = record {
   rate_is = h.rate_is;

@@ -1,93 +1,118 @@
 -- Each opcode by its own law.
-use Rattle.std.proofs.Common.{◌≡◌, ℤ, List, [], ◌∷◌, ◌++◌, refl, ap, ◌∙◌}
+use Rattle.std.proofs.Common.{◌≡◌, ℕ, zero, suc, ◌+◌, ℤ, List, [], ◌∷◌, ◌++◌, refl, ap, sym, subst, ◌∙◌}
 use Rattle.cs_base.specs.declared.resource.Rate.{Rate}
 use Rattle.cs_words.specs.declared.catalogue.Opcode.{Opcode}
 use Rattle.cs_words.specs.declared.catalogue.Opcode.TheVariants as op
-use Rattle.cs_signal.proofs.Formulas.{line_law, linseg_law, linen_law, delay_law, biquad_law, integ_law, diff_law, samphold_law, limit_law, interp_law, downsamp_law}
+use Rattle.cs_signal.proofs.Formulas as formulas
 use Rattle.cs_signal.specs.Pace.{Pace}
-use Rattle.cs_signal.specs.Steps.{IsUnit}
+use Rattle.cs_signal.specs.Steps.{IsUnit, run}
 use Rattle.cs_ugen.proofs.Oscillators.{oscil_is_unit, oscili_is_unit, phasor_is_unit, table_is_unit, tablei_is_unit}
-use Rattle.cs_ugen.specs.Units.{IsUnitOpcode, Stands, StateStands, gen, opcode_of, unit_start, unit_step}
+use Rattle.cs_ugen.specs.Units.{IsUnitOpcode, OfOpcode, Stands, StateStands, gen, of_opcode, of_unit, opcode_of}
+use Rattle.cs_ugen.specs.Units.{unit_start, unit_step, with_state}
+use Rattle.cs_ugen.specs.inner.Runs.{run_of, state_run}
 use Rattle.cs_ugen.specs.declared.unit.Kind.{Kind}
 use Rattle.cs_ugen.specs.declared.unit.Kind.TheVariants as unit
 
-pub state_starts : (o : Opcode) (rate : Rate) (pace : Pace) (settled : List ℤ) → IsUnitOpcode o → Stands (unit_start o rate pace settled) o rate pace settled []
-state_starts op.Oscil rate pace settled h = record { opcode = refl; state = oscil_is_unit.starts rate pace settled }
-state_starts op.Oscili rate pace settled h = record { opcode = refl; state = oscili_is_unit.starts rate pace settled }
-state_starts op.Phasor rate pace settled h = record { opcode = refl; state = phasor_is_unit.starts rate pace settled }
-state_starts op.Line rate pace settled h = record { opcode = refl; state = line_law.starts rate pace settled }
-state_starts op.Linseg rate pace settled h = record { opcode = refl; state = linseg_law.starts rate pace settled }
-state_starts op.Linen rate pace settled h = record { opcode = refl; state = linen_law.starts rate pace settled }
-state_starts op.Delay rate pace settled h = record { opcode = refl; state = delay_law.starts rate pace settled }
-state_starts op.Biquad rate pace settled h = record { opcode = refl; state = biquad_law.starts rate pace settled }
-state_starts op.Table rate pace settled h = record { opcode = refl; state = table_is_unit.starts rate pace settled }
-state_starts op.Tablei rate pace settled h = record { opcode = refl; state = tablei_is_unit.starts rate pace settled }
-state_starts op.Integ rate pace settled h = record { opcode = refl; state = integ_law.starts rate pace settled }
-state_starts op.Diff rate pace settled h = record { opcode = refl; state = diff_law.starts rate pace settled }
-state_starts op.Samphold rate pace settled h = record { opcode = refl; state = samphold_law.starts rate pace settled }
-state_starts op.Limit rate pace settled h = record { opcode = refl; state = limit_law.starts rate pace settled }
-state_starts op.Interp rate pace settled h = record { opcode = refl; state = interp_law.starts rate pace settled }
-state_starts op.Downsamp rate pace settled h = record { opcode = refl; state = downsamp_law.starts rate pace settled }
-state_starts op.Init rate pace settled h = absurd cc
-state_starts op.Tablew rate pace settled h = absurd cc
-state_starts op.Out rate pace settled h = absurd cc
-state_starts op.Outs rate pace settled h = absurd cc
-state_starts op.Outch rate pace settled h = absurd cc
-state_starts op.Turnoff rate pace settled h = absurd cc
-state_starts op.Zakinit rate pace settled h = absurd cc
-state_starts op.Zkr rate pace settled h = absurd cc
-state_starts op.Zar rate pace settled h = absurd cc
-state_starts op.Zkw rate pace settled h = absurd cc
-state_starts op.Zaw rate pace settled h = absurd cc
-state_starts op.Zawm rate pace settled h = absurd cc
-state_starts op.Zkcl rate pace settled h = absurd cc
-state_starts op.Zacl rate pace settled h = absurd cc
-state_starts op.Chnget rate pace settled h = absurd cc
-state_starts op.Chnset rate pace settled h = absurd cc
-state_starts op.Chnmix rate pace settled h = absurd cc
-state_starts op.Chnclear rate pace settled h = absurd cc
-state_starts op.Schedule rate pace settled h = absurd cc
-state_starts op.EventI rate pace settled h = absurd cc
+abbrev HasLaw : OfOpcode → Type 0
+HasLaw e = IsUnit e.formula e.start e.step e.stands
 
--- what the law of an opcode says of a unit
-record HasLaw (u : Kind) : Type 0 where
-  stays : (x : List ℤ) → opcode_of (unit_step u x).0 ≡ opcode_of u
-  answers : (rate : Rate) (pace : Pace) (settled : List ℤ) (before : List (List ℤ)) (x : List ℤ) → StateStands u rate pace settled before
-      → (unit_step u x).1 ≡ gen (opcode_of u) rate pace settled (before ++ x ∷ [])
-  goes_on : (rate : Rate) (pace : Pace) (settled : List ℤ) (before : List (List ℤ)) (x : List ℤ) → StateStands u rate pace settled before
-      → StateStands (unit_step u x).0 rate pace settled (before ++ x ∷ [])
+-- the law of each opcode that keeps something; one that keeps nothing has it by form, and so has what is no unit
+law_of : (o : Opcode) → HasLaw (of_opcode o)
+law_of op.Oscil = oscil_is_unit
+law_of op.Oscili = oscili_is_unit
+law_of op.Phasor = phasor_is_unit
+law_of op.Line = formulas.line_law
+law_of op.Linseg = formulas.linseg_law
+law_of op.Linen = formulas.linen_law
+law_of op.Delay = formulas.delay_law
+law_of op.Biquad = formulas.biquad_law
+law_of op.Table = table_is_unit
+law_of op.Tablei = tablei_is_unit
+law_of op.Integ = formulas.integ_law
+law_of op.Diff = formulas.diff_law
+law_of op.Samphold = formulas.samphold_law
+law_of op.Interp = formulas.interp_law
+law_of o = formulas.plain_law (λ x. ((of_opcode o).step tt x).1)
 
-has_law : (u : Kind) → HasLaw u
-unfolding gen
-has_law (unit.Oscil s) = record { stays = λ x. refl; answers = oscil_is_unit.answers s; goes_on = oscil_is_unit.goes_on s }
-has_law (unit.Oscili s) = record { stays = λ x. refl; answers = oscili_is_unit.answers s; goes_on = oscili_is_unit.goes_on s }
-has_law (unit.Phasor s) = record { stays = λ x. refl; answers = phasor_is_unit.answers s; goes_on = phasor_is_unit.goes_on s }
-has_law (unit.Line s) = record { stays = λ x. refl; answers = line_law.answers s; goes_on = line_law.goes_on s }
-has_law (unit.Linseg s) = record { stays = λ x. refl; answers = linseg_law.answers s; goes_on = linseg_law.goes_on s }
-has_law (unit.Linen s) = record { stays = λ x. refl; answers = linen_law.answers s; goes_on = linen_law.goes_on s }
-has_law (unit.Delay s) = record { stays = λ x. refl; answers = delay_law.answers s; goes_on = delay_law.goes_on s }
-has_law (unit.Biquad s) = record { stays = λ x. refl; answers = biquad_law.answers s; goes_on = biquad_law.goes_on s }
-has_law (unit.Table s) = record { stays = λ x. refl; answers = table_is_unit.answers s; goes_on = table_is_unit.goes_on s }
-has_law (unit.Tablei s) = record { stays = λ x. refl; answers = tablei_is_unit.answers s; goes_on = tablei_is_unit.goes_on s }
-has_law (unit.Integ s) = record { stays = λ x. refl; answers = integ_law.answers s; goes_on = integ_law.goes_on s }
-has_law (unit.Diff s) = record { stays = λ x. refl; answers = diff_law.answers s; goes_on = diff_law.goes_on s }
-has_law (unit.Samphold s) = record { stays = λ x. refl; answers = samphold_law.answers s; goes_on = samphold_law.goes_on s }
-has_law (unit.Limit s) = record { stays = λ x. refl; answers = limit_law.answers s; goes_on = limit_law.goes_on s }
-has_law (unit.Interp s) = record { stays = λ x. refl; answers = interp_law.answers s; goes_on = interp_law.goes_on s }
-has_law (unit.Downsamp s) = record { stays = λ x. refl; answers = downsamp_law.answers s; goes_on = downsamp_law.goes_on s }
+-- a unit that starts is that of its state before the first step
+begins : (o : Opcode) (rate : Rate) (pace : Pace) (settled : List ℤ)
+    → (of_opcode o).begin rate pace settled ≡ (of_opcode o).kind ((of_opcode o).start rate pace settled)
+begins op.Oscil rate pace settled = refl
+begins o rate pace settled = refl
+
+-- the unit of a state has this state, for each opcode of a unit
+state_found : (o : Opcode) → IsUnitOpcode o → (s : (of_opcode o).State)
+    → of_unit ((of_opcode o).kind s) ≡ with_state o s
+state_found op.Oscil is s = refl
+state_found o is s = cc
+
+-- each unit has an opcode of a unit, and is the unit of its state
+is_unit : (u : Kind) → IsUnitOpcode (opcode_of u)
+is_unit (unit.Oscil s) = refl
+is_unit u = refl
+
+whole : (u : Kind) → u ≡ (of_opcode (of_unit u).opcode).kind (of_unit u).state
+whole (unit.Oscil s) = refl
+whole u = refl
+
+-- what there is of a unit is by its opcode and its state
+by_state : (u : Kind) → of_unit u ≡ with_state (of_unit u).opcode (of_unit u).state
+by_state (unit.Oscil s) = refl
+by_state u = refl
+
+-- the unit of a state, and the steps that it has behind it
+kept : (o : Opcode) (rate : Rate) (pace : Pace) (settled : List ℤ) (inputs : List (List ℤ)) (u : Kind)
+    (s : (of_opcode o).State) → IsUnitOpcode o → u ≡ (of_opcode o).kind s
+    → (of_opcode o).stands s rate pace settled inputs → Stands u o rate pace settled inputs
+kept o rate pace settled inputs u s is same stands =
+    let found : of_unit u ≡ with_state o s = ap of_unit same ∙ state_found o is s in
+    record {
+      opcode = ap (λ v. v.opcode) found;
+      state = subst (λ v. v.stands rate pace settled inputs) (sym found) stands;
+    }
+
+pub state_starts : (o : Opcode) (rate : Rate) (pace : Pace) (settled : List ℤ) → IsUnitOpcode o
+    → Stands (unit_start o rate pace settled) o rate pace settled []
+state_starts o rate pace settled is =
+    kept o rate pace settled [] (unit_start o rate pace settled) ((of_opcode o).start rate pace settled) is
+    (begins o rate pace settled) ((law_of o).starts rate pace settled)
+
+-- a step of a unit is that of its state
+stepped : (u : Kind) (x : List ℤ) → unit_step u x ≡ (with_state (of_unit u).opcode (of_unit u).state).step x
+stepped u x = ap (λ v. v.step x) (by_state u)
+
+next : (u : Kind) (x : List ℤ) → of_unit (unit_step u x).0
+    ≡ with_state (opcode_of u) ((of_opcode (opcode_of u)).step (of_unit u).state x).0
+next u x = ap (λ r. of_unit r.0) (stepped u x)
+    ∙ state_found (opcode_of u) (is_unit u) ((of_opcode (opcode_of u)).step (of_unit u).state x).0
 
 pub opcode_stays : (u : Kind) (x : List ℤ) → opcode_of (unit_step u x).0 ≡ opcode_of u
-opcode_stays u x = (has_law u).stays x
+opcode_stays u x = ap (λ v. v.opcode) (next u x)
 
-pub answers : (u : Kind) (o : Opcode) (rate : Rate) (pace : Pace) (settled : List ℤ) (before : List (List ℤ)) (x : List ℤ) →
-    Stands u o rate pace settled before → (unit_step u x).1 ≡ gen o rate pace settled (before ++ x ∷ [])
+-- the steps behind a unit are those behind its state
+behind : (u : Kind) (rate : Rate) (pace : Pace) (settled : List ℤ) (inputs : List (List ℤ))
+    → StateStands u rate pace settled inputs
+    → (of_opcode (opcode_of u)).stands (of_unit u).state rate pace settled inputs
+behind u rate pace settled inputs h = subst (λ v. v.stands rate pace settled inputs) (by_state u) h
+
+pub answers : (u : Kind) (o : Opcode) (rate : Rate) (pace : Pace) (settled : List ℤ) (before : List (List ℤ))
+    (x : List ℤ) → Stands u o rate pace settled before → (unit_step u x).1 ≡ gen o rate pace settled (before ++ x ∷ [])
+unfolding gen
 answers u o rate pace settled before x h =
-    (has_law u).answers rate pace settled before x h.state ∙ ap (λ p. gen p rate pace settled (before ++ x ∷ [])) h.opcode
+    ap (λ r. r.1) (stepped u x)
+    ∙ (law_of (opcode_of u)).answers (of_unit u).state rate pace settled before x
+    (behind u rate pace settled before h.state)
+    ∙ ap (λ p. (of_opcode p).formula rate pace settled (before ++ x ∷ [])) h.opcode
 
-pub goes_on : (u : Kind) (o : Opcode) (rate : Rate) (pace : Pace) (settled : List ℤ) (before : List (List ℤ)) (x : List ℤ) →
-    Stands u o rate pace settled before → Stands (unit_step u x).0 o rate pace settled (before ++ x ∷ [])
-goes_on u o rate pace settled before x h =
-    record { opcode = opcode_stays u x ∙ h.opcode; state = (has_law u).goes_on rate pace settled before x h.state }
+pub goes_on : (u : Kind) (o : Opcode) (rate : Rate) (pace : Pace) (settled : List ℤ) (before : List (List ℤ))
+    (x : List ℤ) → Stands u o rate pace settled before
+    → Stands (unit_step u x).0 o rate pace settled (before ++ x ∷ [])
+goes_on u o rate pace settled before x h = record {
+  opcode = opcode_stays u x ∙ h.opcode;
+  state = subst (λ v. v.stands rate pace settled (before ++ x ∷ [])) (sym (next u x))
+      ((law_of (opcode_of u)).goes_on (of_unit u).state rate pace settled before x
+      (behind u rate pace settled before h.state));
+}
 
 -- the law of every opcode
 pub units : (o : Opcode) → IsUnitOpcode o → IsUnit (gen o) (unit_start o) unit_step (λ u. Stands u o)
@@ -96,3 +121,23 @@ units o is = record {
   answers = λ u rate pace settled before x h. answers u o rate pace settled before x h;
   goes_on = λ u rate pace settled before x h. goes_on u o rate pace settled before x h;
 }
+
+-- a run of a unit is the run of the state within it
+run_within : (o : Opcode) (is : IsUnitOpcode o) (at : ℕ → List ℤ) (s : (of_opcode o).State) (j n : ℕ) →
+    run unit_step at ((of_opcode o).kind s) j n
+    ≡ ((of_opcode o).kind (run (of_opcode o).step at s j n).0, (run (of_opcode o).step at s j n).1)
+run_within o is at s j zero = refl
+run_within o is at s j (suc n) =
+    let here = of_opcode o in
+    let same : unit_step (here.kind s) (at j) ≡ (here.kind (here.step s (at j)).0, (here.step s (at j)).1) =
+    ap (λ u. u.step (at j)) (state_found o is s) in
+    ap (λ r. ((run unit_step at r.0 (j + 1) n).0, r.1 ∷ (run unit_step at r.0 (j + 1) n).1)) same
+    ∙ ap (λ r. (r.0, (here.step s (at j)).1 ∷ r.1)) (run_within o is at (here.step s (at j)).0 (j + 1) n)
+
+by_cases : (u : Kind) (at : ℕ → List ℤ) (n : ℕ) → state_run u at n ≡ run_of (of_unit u) at n
+by_cases (unit.Oscil s) at n = refl
+by_cases u at n = refl
+
+pub runs : (u : Kind) (at : ℕ → List ℤ) (n : ℕ) → state_run u at n ≡ run unit_step at u 0 n
+runs u at n = by_cases u at n
+    ∙ sym (ap (λ v. run unit_step at v 0 n) (whole u) ∙ run_within (opcode_of u) (is_unit u) at (of_unit u).state 0 n)

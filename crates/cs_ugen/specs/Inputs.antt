@@ -1,10 +1,6 @@
 -- The inputs of a unit, step by step. A step's inputs are its moving arguments in the order of the text; a unit that
 -- reads a table has behind them all points of the table as they stand at that step, the guard point last.
-use Rattle.std.specs.Prelude.{ℤ, List, [], ◌-◌, length, take, slice_index_or}
-
--- the inputs of the last step
-abbrev pub last_of : List (List ℤ) → List ℤ
-last_of inputs = slice_index_or inputs (length inputs - 1) []
+use Rattle.std.specs.Prelude.{ℤ, List, ◌-◌, length, take}
 
 -- the inputs of the steps before the last
 abbrev pub before_last : List (List ℤ) → List (List ℤ)

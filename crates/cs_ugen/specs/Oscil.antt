@@ -4,7 +4,8 @@ use Rattle.cs_base.specs.Numbers.{product_of}
 use Rattle.cs_base.specs.declared.resource.Rate.{Rate}
 use Rattle.cs_signal.specs.Operands.{argument}
 use Rattle.cs_signal.specs.Pace.{Pace}
-use Rattle.cs_ugen.specs.Inputs.{before_last, last_of}
+use Rattle.cs_signal.specs.History.{last_of}
+use Rattle.cs_ugen.specs.Inputs.{before_last}
 use Rattle.cs_ugen.specs.Phases.{Turning, HasTurned, begun, turn, turned, phase_of}
 use Rattle.cs_ugen.specs.Points.{curve_len}
 

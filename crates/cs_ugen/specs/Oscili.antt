@@ -2,7 +2,8 @@
 use Rattle.std.specs.Prelude.{ℕ, ◌*◌, ◌/◌, ◌%◌, List, map, ℤ}
 use Rattle.cs_base.specs.declared.resource.Rate.{Rate}
 use Rattle.cs_signal.specs.Pace.{Pace}
-use Rattle.cs_ugen.specs.Inputs.{before_last, last_of}
+use Rattle.cs_signal.specs.History.{last_of}
+use Rattle.cs_ugen.specs.Inputs.{before_last}
 use Rattle.cs_ugen.specs.Oscil.{frequency, place_at, start, wave_by, wave_step}
 use Rattle.cs_ugen.specs.Phases.{Turning, HasTurned, begun, turn, phase_of}
 use Rattle.cs_ugen.specs.Points.{curve_len, between_points}

@@ -1,9 +1,10 @@
--- tablei: xndx, ifn reads a table at an index, on the straight line between two points. It keeps nothing from step to step.
+-- tablei: xndx, ifn reads a table at an index, on the straight line between two points. It keeps nothing from step to
+-- step.
 use Rattle.std.specs.Prelude.{ℕ, ◌-◌, ◌*◌, ◌/◌, ◌%◌, List, ℤ}
 use Rattle.cs_base.specs.declared.resource.Rate.{Rate}
 use Rattle.cs_gen.specs.Places.{from_zero_to}
 use Rattle.cs_signal.specs.Pace.{Pace}
-use Rattle.cs_ugen.specs.Inputs.{last_of}
+use Rattle.cs_signal.specs.History.{last_of}
 use Rattle.cs_ugen.specs.Points.{curve_len, between_points}
 use Rattle.cs_ugen.specs.Table.{index, index_step, points}
 

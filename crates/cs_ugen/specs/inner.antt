@@ -1,2 +1,3 @@
 -- What private clauses alone cite.
 pub mod Masks
+pub mod Runs

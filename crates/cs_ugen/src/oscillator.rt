@@ -1,10 +1,11 @@
 // `oscil` and `oscili`: a table read as a wave.
-ghost use Rattle.std.specs.Prelude.{◌≡◌, ◌<◌, ◌∷◌, ◌^◌, ◌≤◌, length, ◌*ℤ◌, unsigned_abs};
+ghost use Rattle.std.specs.Prelude.{◌≡◌, ◌<◌, ◌∷◌, ◌++◌, ◌^◌, ◌≤◌, length, ◌*ℤ◌, unsigned_abs};
+ghost use Rattle.std.specs.List.{All};
 ghost use Rattle.cs_base.specs.Numbers.{product_of};
 ghost use Rattle.cs_ugen.specs.Oscil.{oscil_start, wave_step};
 ghost use Rattle.cs_ugen.specs.Phases.{turn};
 ghost use Rattle.cs_ugen.specs.Points.{IsShort};
-ghost use Rattle.cs_signal.specs.Operands.{argument, operand_at, Lasts};
+ghost use Rattle.cs_signal.specs.Operands.{argument, inputs_at, operand_at, Lasts};
 ghost use Rattle.cs_signal.specs.Pace.{pace_of};
 ghost use Rattle.cs_signal.specs.Steps.{run};
 
@@ -53,9 +54,30 @@ impl Oscillator {
         wave::<R, C>(amp, curve, phase)
     }
 
-    /// A step for each frame of `out`.
+    /// A step for each frame of `out`, by the operands in the order of the text: amplitude and frequency.
     #[inline(always)]
-    pub(crate) fn block_on<R: Reading, C: Curve>(
+    pub(crate) fn render_on<R: Reading, C: Curve>(
+        &mut self,
+        inputs: &[Operand],
+        curve: &mut C,
+        out: &mut [Num],
+    )
+        requires count { length inputs.now ≡ 2 }
+        requires last { All (Lasts (length out.old)) inputs.now }
+        ensures value { (self.new, out.new) ≡ run (wave_step R.on_turn)
+            (λ j. inputs_at inputs.now j ++ C.points curve.old) self.old 0 (length out.old) }
+        ensures same { C.points curve.new ≡ C.points curve.old }
+        ensures kept { C.kept curve.old curve.new }
+    {
+        match inputs {
+            [amp, cps] => self.block_on::<R, C>(amp, cps, curve, out),
+            _ => unreachable!(),
+        }
+    }
+
+    // The same, by each operand.
+    #[inline(always)]
+    fn block_on<R: Reading, C: Curve>(
         &mut self,
         amp: &Operand,
         cps: &Operand,

@@ -36,7 +36,7 @@ impl Model for Phase {
 }
 
 impl Phase {
-    /// A phase that starts at so many turns.
+    /// A phase that starts at `turns`.
     pub(crate) fn start(rate: Rate, head: &Head, turns: Num) -> Phase
         ensures { result ≡ begun rate (pace_of head.now) turns }
     {
@@ -148,7 +148,7 @@ fn floored(n: i128, d: u32, divisor: Divisor) -> i128
     }
 }
 
-// Where so many parts stand within one turn.
+// The place of `parts` within one turn.
 #[tactic(auto, unfolding(crate::specs::Phases::within_turn))]
 fn within_turn(parts: i128) -> Angle
     ensures value { result ≡ within_turn parts }

@@ -9,7 +9,7 @@ ghost use Rattle.cs_signal.specs.Steps.{run};
 use crate::angle::{Angle, moved};
 use crate::phase::Phase;
 use cs_base::{Head, Num, Rate};
-use cs_signal::{Operand, argument};
+use cs_signal::{Generator, Operand, argument};
 use std::marker::Model;
 
 /// A `phasor` of a note.
@@ -36,15 +36,15 @@ impl Phasor {
         }
     }
 
-    /// One step at this frequency.
-    pub fn step(&mut self, cps: Num) -> Num
+    // One step at this frequency.
+    fn step(&mut self, cps: Num) -> Num
         ensures { (self.new, result) ≡ phasor_step self.old (cps ∷ []) }
     {
         ramp(self.phase.turn(cps))
     }
 
-    /// A step for each frame of `out`.
-    pub fn block(&mut self, cps: &Operand, out: &mut [Num])
+    // A step for each frame of `out`.
+    fn block(&mut self, cps: &Operand, out: &mut [Num])
         requires { Lasts (length out.old) cps.now }
         ensures { (self.new, out.new)
             ≡ run phasor_step (λ j. operand_at cps.now j ∷ []) self.old 0 (length out.old) }
@@ -52,6 +52,23 @@ impl Phasor {
         match cps {
             Operand::Held(cps) => held(self, *cps, out),
             Operand::Row(row) => along(self, row, out),
+        }
+    }
+}
+
+impl Generator for Phasor {
+    ghost step = { phasor_step };
+
+    ghost moving = { 1 };
+
+    fn tick(&mut self, inputs: &[Num]) -> Num {
+        self.step(argument(inputs, 0))
+    }
+
+    fn render(&mut self, inputs: &[Operand], out: &mut [Num]) {
+        match inputs {
+            [cps] => self.block(cps, out),
+            _ => unreachable!(),
         }
     }
 }

@@ -1,7 +1,8 @@
 // `table` and `tablei`: a table read at an index.
-ghost use Rattle.std.specs.Prelude.{◌≡◌, ◌∷◌, length};
+ghost use Rattle.std.specs.Prelude.{◌≡◌, ◌∷◌, ◌++◌, length};
+ghost use Rattle.std.specs.List.{All};
 ghost use Rattle.cs_ugen.specs.Table.{index_step, table_start};
-ghost use Rattle.cs_signal.specs.Operands.{operand_at, Lasts};
+ghost use Rattle.cs_signal.specs.Operands.{inputs_at, operand_at, Lasts};
 ghost use Rattle.cs_signal.specs.Steps.{run};
 
 use crate::curve::Curve;
@@ -38,14 +39,30 @@ impl Table {
         R::indexed(curve, ndx)
     }
 
-    /// A step for each frame of `out`.
+    /// A step for each frame of `out`, by the operands in the order of the text: the index.
     #[inline(always)]
-    pub(crate) fn block_on<R: Reading, C: Curve>(
+    pub(crate) fn render_on<R: Reading, C: Curve>(
         &mut self,
-        ndx: &Operand,
+        inputs: &[Operand],
         curve: &mut C,
         out: &mut [Num],
     )
+        requires count { length inputs.now ≡ 1 }
+        requires last { All (Lasts (length out.old)) inputs.now }
+        ensures value { (self.new, out.new) ≡ run (index_step R.on_index)
+            (λ j. inputs_at inputs.now j ++ C.points curve.old) self.old 0 (length out.old) }
+        ensures same { C.points curve.new ≡ C.points curve.old }
+        ensures kept { C.kept curve.old curve.new }
+    {
+        match inputs {
+            [ndx] => self.block_on::<R, C>(ndx, curve, out),
+            _ => unreachable!(),
+        }
+    }
+
+    // The same, by the operand.
+    #[inline(always)]
+    fn block_on<R: Reading, C: Curve>(&mut self, ndx: &Operand, curve: &mut C, out: &mut [Num])
         requires { Lasts (length out.old) ndx.now }
         ensures value { (self.new, out.new)
             ≡ run (index_step R.on_index) (λ j. operand_at ndx.now j ∷ C.points curve.old) self.old 0 (length out.old) }

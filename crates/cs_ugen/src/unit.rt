@@ -1,15 +1,18 @@
-// A unit of any opcode.
-ghost use Rattle.std.specs.Prelude.{◌≡◌, IfOk, OnErr, true};
+// A unit of any opcode: its start, a step of it, and a whole vector of steps in one call.
+ghost use Rattle.std.specs.Prelude.{◌≡◌, ◌++◌, IfOk, OnErr, false, length, true};
+ghost use Rattle.std.specs.List.{All};
+ghost use Rattle.cs_signal.specs.Operands.{Lasts, inputs_at};
 ghost use Rattle.cs_signal.specs.Pace.{pace_of};
-ghost use Rattle.cs_ugen.specs.Units.{IsUnitOpcode, takes_memory, unit_start};
+ghost use Rattle.cs_signal.specs.Steps.{run};
+ghost use Rattle.cs_ugen.specs.Units.{IsUnitOpcode, moving_count, opcode_of, reads_table, takes_memory, unit_start, unit_step};
+ghost use Rattle.cs_ugen.specs.inner.Runs.{state_run};
 
-use crate::Phasor;
 use crate::oscillator::Oscillator;
+use crate::reading::{Interpolating, Truncating};
 use crate::table::Table;
+use crate::{Curve, Phasor};
 use cs_base::{Head, Num, OutOfMemory, Rate};
-use cs_signal::{
-    Biquad, Delay, Diff, Downsamp, Integ, Interp, Limit, Line, Linen, Linseg, Samphold,
-};
+use cs_signal::{Generator, Operand};
 use cs_words::Opcode;
 use std::alloc::Global;
 use std::marker::Model;
@@ -17,27 +20,48 @@ use std::marker::Model;
 /// The state of one opcode of one note.
 #[derive(Drop)]
 pub struct Unit {
-    pub(crate) kind: Kind,
+    kind: Kind,
 }
 
 #[derive(Drop)]
-pub(crate) enum Kind {
+enum Kind {
     Oscil(Oscillator),
     Oscili(Oscillator),
     Phasor(Phasor),
-    Line(Line),
-    Linseg(Linseg),
-    Linen(Linen),
-    Delay(Delay),
-    Biquad(Biquad),
+    Line(cs_signal::Line),
+    Linseg(cs_signal::Linseg),
+    Linen(cs_signal::Linen),
+    Delay(cs_signal::Delay),
+    Biquad(cs_signal::Biquad),
     Table(Table),
     Tablei(Table),
-    Integ(Integ),
-    Diff(Diff),
-    Samphold(Samphold),
-    Limit(Limit),
-    Interp(Interp),
-    Downsamp(Downsamp),
+    Integ(cs_signal::Integ),
+    Diff(cs_signal::Diff),
+    Samphold(cs_signal::Samphold),
+    Limit(cs_signal::Limit),
+    Interp(cs_signal::Interp),
+    Downsamp(cs_signal::Downsamp),
+}
+
+// What is called of a unit that reads no table, whatever its kind.
+macro_rules! generator {
+    ($kind:expr, $unit:ident => $call:expr) => {
+        match $kind {
+            Kind::Phasor($unit) => $call,
+            Kind::Line($unit) => $call,
+            Kind::Linseg($unit) => $call,
+            Kind::Linen($unit) => $call,
+            Kind::Delay($unit) => $call,
+            Kind::Biquad($unit) => $call,
+            Kind::Integ($unit) => $call,
+            Kind::Diff($unit) => $call,
+            Kind::Samphold($unit) => $call,
+            Kind::Limit($unit) => $call,
+            Kind::Interp($unit) => $call,
+            Kind::Downsamp($unit) => $call,
+            Kind::Oscil(_) | Kind::Oscili(_) | Kind::Table(_) | Kind::Tablei(_) => unreachable!(),
+        }
+    };
 }
 
 impl Model for Unit {
@@ -65,6 +89,88 @@ impl Unit {
             kind: kind_of(alloc, opcode, rate, head, settled)?,
         })
     }
+
+    /// One step of a unit that reads no table, on its moving arguments in the order of the text; one that is missing
+    /// is 0. It takes no memory.
+    pub fn step(&mut self, inputs: &[Num]) -> Num
+        requires { reads_table (opcode_of self.old) ≡ false }
+        ensures { (self.new, result) ≡ unit_step self.old inputs.now }
+    {
+        generator!(&mut self.kind, unit => unit.tick(inputs))
+    }
+
+    /// One step of a unit that reads a table, on its moving arguments in the order of the text. It takes no memory.
+    pub fn step_on<C: Curve>(&mut self, inputs: &[Num], curve: &mut C) -> Num
+        requires reads { reads_table (opcode_of self.old) ≡ true }
+        requires count { length inputs.now ≡ moving_count (opcode_of self.old) }
+        ensures value { (self.new, result) ≡ unit_step self.old (inputs.now ++ C.points curve.old) }
+        ensures same { C.points curve.new ≡ C.points curve.old }
+        ensures kept { C.kept curve.old curve.new }
+    {
+        match &mut self.kind {
+            Kind::Oscil(unit) => unit.step_on::<Truncating, C>(inputs[0], inputs[1], curve),
+            Kind::Oscili(unit) => unit.step_on::<Interpolating, C>(inputs[0], inputs[1], curve),
+            Kind::Table(unit) => unit.step_on::<Truncating, C>(inputs[0], curve),
+            Kind::Tablei(unit) => unit.step_on::<Interpolating, C>(inputs[0], curve),
+            _ => unreachable!(),
+        }
+    }
+
+    /// A step for each frame of `out`, of a unit that reads no table, on its moving arguments in the order of the text.
+    /// It takes no memory.
+    pub fn block(&mut self, inputs: &[Operand], out: &mut [Num])
+        requires reads_none { reads_table (opcode_of self.old) ≡ false }
+        requires count { length inputs.now ≡ moving_count (opcode_of self.old) }
+        requires last { All (Lasts (length out.old)) inputs.now }
+        ensures { (self.new, out.new) ≡ run unit_step (inputs_at inputs.now) self.old 0 (length out.old) }
+    {
+        self.rendered(inputs, out);
+    }
+
+    // The same, by the steps of its state.
+    #[inline(always)]
+    fn rendered(&mut self, inputs: &[Operand], out: &mut [Num])
+        requires reads_none { reads_table (opcode_of self.old) ≡ false }
+        requires count { length inputs.now ≡ moving_count (opcode_of self.old) }
+        requires last { All (Lasts (length out.old)) inputs.now }
+        ensures { (self.new, out.new) ≡ state_run self.old (inputs_at inputs.now) (length out.old) }
+    {
+        generator!(&mut self.kind, unit => unit.render(inputs, out))
+    }
+
+    /// A step for each frame of `out`, of a unit that reads a table, on its moving arguments in the order of the text.
+    /// It takes no memory.
+    pub fn block_on<C: Curve>(&mut self, inputs: &[Operand], curve: &mut C, out: &mut [Num])
+        requires reads { reads_table (opcode_of self.old) ≡ true }
+        requires count { length inputs.now ≡ moving_count (opcode_of self.old) }
+        requires last { All (Lasts (length out.old)) inputs.now }
+        ensures value { (self.new, out.new) ≡ run unit_step
+            (λ j. inputs_at inputs.now j ++ C.points curve.old) self.old 0 (length out.old) }
+        ensures same { C.points curve.new ≡ C.points curve.old }
+        ensures kept { C.kept curve.old curve.new }
+    {
+        self.rendered_on(inputs, curve, out);
+    }
+
+    // The same, by the steps of its state.
+    #[inline(always)]
+    fn rendered_on<C: Curve>(&mut self, inputs: &[Operand], curve: &mut C, out: &mut [Num])
+        requires reads { reads_table (opcode_of self.old) ≡ true }
+        requires count { length inputs.now ≡ moving_count (opcode_of self.old) }
+        requires last { All (Lasts (length out.old)) inputs.now }
+        ensures value { (self.new, out.new) ≡ state_run self.old
+            (λ j. inputs_at inputs.now j ++ C.points curve.old) (length out.old) }
+        ensures same { C.points curve.new ≡ C.points curve.old }
+        ensures kept { C.kept curve.old curve.new }
+    {
+        match &mut self.kind {
+            Kind::Oscil(unit) => unit.render_on::<Truncating, C>(inputs, curve, out),
+            Kind::Oscili(unit) => unit.render_on::<Interpolating, C>(inputs, curve, out),
+            Kind::Table(unit) => unit.render_on::<Truncating, C>(inputs, curve, out),
+            Kind::Tablei(unit) => unit.render_on::<Interpolating, C>(inputs, curve, out),
+            _ => unreachable!(),
+        }
+    }
 }
 
 fn kind_of(
@@ -82,19 +188,19 @@ fn kind_of(
         Opcode::Oscil => Ok(Kind::Oscil(Oscillator::start(rate, head, settled))),
         Opcode::Oscili => Ok(Kind::Oscili(Oscillator::start(rate, head, settled))),
         Opcode::Phasor => Ok(Kind::Phasor(Phasor::start(rate, head, settled))),
-        Opcode::Line => Ok(Kind::Line(Line::start(rate, head, settled))),
-        Opcode::Linseg => Ok(Kind::Linseg(Linseg::start(alloc, rate, head, settled)?)),
-        Opcode::Linen => Ok(Kind::Linen(Linen::start(rate, head, settled))),
-        Opcode::Delay => Ok(Kind::Delay(Delay::start(alloc, head, settled)?)),
-        Opcode::Biquad => Ok(Kind::Biquad(Biquad::start())),
+        Opcode::Line => Ok(Kind::Line(cs_signal::Line::start(rate, head, settled))),
+        Opcode::Linseg => Ok(Kind::Linseg(cs_signal::Linseg::start(alloc, rate, head, settled)?)),
+        Opcode::Linen => Ok(Kind::Linen(cs_signal::Linen::start(rate, head, settled))),
+        Opcode::Delay => Ok(Kind::Delay(cs_signal::Delay::start(alloc, head, settled)?)),
+        Opcode::Biquad => Ok(Kind::Biquad(cs_signal::Biquad::start())),
         Opcode::Table => Ok(Kind::Table(Table::start())),
         Opcode::Tablei => Ok(Kind::Tablei(Table::start())),
-        Opcode::Integ => Ok(Kind::Integ(Integ::start())),
-        Opcode::Diff => Ok(Kind::Diff(Diff::start())),
-        Opcode::Samphold => Ok(Kind::Samphold(Samphold::start())),
-        Opcode::Limit => Ok(Kind::Limit(Limit::start())),
-        Opcode::Interp => Ok(Kind::Interp(Interp::start(head))),
-        Opcode::Downsamp => Ok(Kind::Downsamp(Downsamp::start())),
+        Opcode::Integ => Ok(Kind::Integ(cs_signal::Integ::start())),
+        Opcode::Diff => Ok(Kind::Diff(cs_signal::Diff::start())),
+        Opcode::Samphold => Ok(Kind::Samphold(cs_signal::Samphold::start())),
+        Opcode::Limit => Ok(Kind::Limit(cs_signal::Limit::start())),
+        Opcode::Interp => Ok(Kind::Interp(cs_signal::Interp::start(head))),
+        Opcode::Downsamp => Ok(Kind::Downsamp(cs_signal::Downsamp::start())),
         _ => unreachable!(),
     }
 }

@@ -1,12 +1,14 @@
 -- Each row of each table is found as itself, by computation.
-use Rattle.std.proofs.Common.{◌≡◌, ℕ, List, [], ◌∷◌, Bool, true, false, Option, Some, None, refl, sym, ap, subst, if◌then◌else◌}
+use Rattle.std.proofs.Common.{◌≡◌, ℕ, List, [], ◌∷◌, Bool, true, false, Option, Some, None, refl, sym, ap, subst}
+use Rattle.std.proofs.Common.{if◌then◌else◌}
 use Rattle.std.specs.Str.{bytes_eq}
 use Rattle.std.specs.List.{All, list_all}
 use Rattle.std.proofs.lemmas.Slice.Eq.{bytes_eq-Decides}
 use Rattle.std.proofs.lemmas.List.Elements.{All-from_recursion}
 use Rattle.cs_words.specs.Catalogue.{row_of, opcodes, named, catalogued}
 use Rattle.cs_words.specs.Signs.{operators, plain_signs, operator_of, plain_sign, sign_of}
-use Rattle.cs_words.specs.Words.{keywords, headers, functions, foreign_words, keyword_of, header_of, func_of, is_foreign, word_of}
+use Rattle.cs_words.specs.Words.{keywords, headers, functions, foreign_words, keyword_of, header_of, func_of}
+use Rattle.cs_words.specs.Words.{is_foreign, word_of}
 use Rattle.cs_words.specs.declared.catalogue.Opcode.{Opcode}
 use Rattle.cs_words.specs.declared.sign.Sign.TheVariants as sign
 use Rattle.cs_words.specs.declared.word.Word.{Word}
@@ -47,9 +49,11 @@ IfFound name (Some o) = (row_of o).name ≡ name
 named_so : (name : List ℕ) (ids : List Opcode) → IfFound name (named name ids)
 named_so name [] = tt
 named_so name (id ∷ ids) =
-    either_way (bytes_eq name (row_of id).name) (λ e. sym ((bytes_eq-Decides name (row_of id).name).0 e)) (named_so name ids)
+    either_way (bytes_eq name (row_of id).name) (λ e. sym ((bytes_eq-Decides name (row_of id).name).0 e))
+    (named_so name ids)
   where
-    either_way : (b : Bool) → (b ≡ true → (row_of id).name ≡ name) → IfFound name (named name ids) → IfFound name (if b then Some id else named name ids)
+    either_way : (b : Bool) → (b ≡ true → (row_of id).name ≡ name) → IfFound name (named name ids)
+        → IfFound name (if b then Some id else named name ids)
     either_way true here later = here refl
     either_way false here later = later
 

@@ -1,4 +1,4 @@
--- What a computation over the catalogue shows of each opcode. An opcode more adds a line to `opcode_found` alone.
+-- What a computation over the catalogue shows of each opcode. An opcode more adds nothing here.
 use Rattle.std.proofs.Common.{◌≡◌, ℕ, List, [], ◌∷◌, Bool, true, false, not, ◌||◌, Some, refl, if◌then◌else◌}
 use Rattle.std.specs.Str.{bytes_eq}
 use Rattle.std.specs.List.{list_all}
@@ -10,50 +10,18 @@ use Rattle.cs_words.specs.declared.catalogue.Opcode.TheVariants as op
 pub opcode_found : (o : Opcode) → catalogued (row_of o).name ≡ Some o
 unfolding catalogued
 opcode_found op.Init = refl
-opcode_found op.Oscil = refl
-opcode_found op.Oscili = refl
-opcode_found op.Phasor = refl
-opcode_found op.Line = refl
-opcode_found op.Linseg = refl
-opcode_found op.Linen = refl
-opcode_found op.Delay = refl
-opcode_found op.Biquad = refl
-opcode_found op.Table = refl
-opcode_found op.Tablei = refl
-opcode_found op.Tablew = refl
-opcode_found op.Integ = refl
-opcode_found op.Diff = refl
-opcode_found op.Samphold = refl
-opcode_found op.Limit = refl
-opcode_found op.Interp = refl
-opcode_found op.Downsamp = refl
-opcode_found op.Out = refl
-opcode_found op.Outs = refl
-opcode_found op.Outch = refl
-opcode_found op.Turnoff = refl
-opcode_found op.Zakinit = refl
-opcode_found op.Zkr = refl
-opcode_found op.Zar = refl
-opcode_found op.Zkw = refl
-opcode_found op.Zaw = refl
-opcode_found op.Zawm = refl
-opcode_found op.Zkcl = refl
-opcode_found op.Zacl = refl
-opcode_found op.Chnget = refl
-opcode_found op.Chnset = refl
-opcode_found op.Chnmix = refl
-opcode_found op.Chnclear = refl
-opcode_found op.Schedule = refl
-opcode_found op.EventI = refl
+opcode_found o = refl
 
 -- what is found among opcodes has what all of them have
-found_has : (P : Opcode → Bool) (name : List ℕ) (ids : List Opcode) (o : Opcode) → named name ids ≡ Some o → list_all P ids ≡ true → P o ≡ true
+found_has : (P : Opcode → Bool) (name : List ℕ) (ids : List Opcode) (o : Opcode) → named name ids ≡ Some o
+    → list_all P ids ≡ true → P o ≡ true
 found_has P name [] o found all = absurd (cc)
 found_has P name (id ∷ ids) o found all =
     let both = and_parts (P id) (list_all P ids) all in
     here (bytes_eq name (row_of id).name) found both.0 (λ is. found_has P name ids o is both.1)
   where
-    here : (b : Bool) → (if b then Some id else named name ids) ≡ Some o → P id ≡ true → (named name ids ≡ Some o → P o ≡ true) → P o ≡ true
+    here : (b : Bool) → (if b then Some id else named name ids) ≡ Some o → P id ≡ true
+        → (named name ids ≡ Some o → P o ≡ true) → P o ≡ true
     here true is first later = cc
     here false is first later = later is
 
@@ -63,7 +31,8 @@ unfolding catalogued
 of_all P all o = found_has P (row_of o).name opcodes o (opcode_found o) all
 
 -- each opcode that passes one test passes another, where those of the list do
-pub when_all : (P Q : Opcode → Bool) → list_all (λ o. not (P o) || Q o) opcodes ≡ true → (o : Opcode) → P o ≡ true → Q o ≡ true
+pub when_all : (P Q : Opcode → Bool) → list_all (λ o. not (P o) || Q o) opcodes ≡ true → (o : Opcode) → P o ≡ true
+    → Q o ≡ true
 when_all P Q all o = by (P o) (of_all (λ o. not (P o) || Q o) all o)
   where
     by : (b : Bool) → (not b || Q o) ≡ true → b ≡ true → Q o ≡ true

@@ -1,5 +1,6 @@
 -- The catalogue: what each opcode is called, what it takes and gives, and how it is performed.
-use Rattle.std.specs.Prelude.{ℕ, Bool, true, false, not, List, [], ◌∷◌, ◌-◌, ◌%◌, ◌&&◌, ◌||◌, ◌==◌, codes, length, filter, nat_le, slice_get, Option, Some, None, if◌then◌else◌}
+use Rattle.std.specs.Prelude.{ℕ, Bool, true, false, not, List, [], ◌∷◌, ◌-◌, ◌%◌, ◌&&◌, ◌||◌, ◌==◌, codes, length}
+use Rattle.std.specs.Prelude.{filter, nat_le, slice_get, Option, Some, None, if◌then◌else◌}
 use Rattle.std.specs.List.{list_any}
 use Rattle.std.specs.Str.{bytes_eq}
 use Rattle.std.specs.Option.{unwrap_or}

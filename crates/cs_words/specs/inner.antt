@@ -1,3 +1,3 @@
 -- What only clauses of private functions cite.
-pub mod Families
+pub mod Rows
 pub mod Tables

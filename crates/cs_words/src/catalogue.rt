@@ -1,9 +1,8 @@
 // The catalogue: one row an opcode, which says all that the layers above ask of it.
 ghost use Rattle.std.specs.Prelude.{◌≡◌, length, filter};
 ghost use Rattle.std.specs.List.{list_any};
-ghost use Rattle.cs_words.specs.declared.catalogue.Family.TheVariants as family;
-ghost use Rattle.cs_words.specs.inner.Families.{family_of};
-ghost use Rattle.cs_words.specs.Catalogue.{row, row_of, named, catalogued, letter_at, takes_count, further, may_follow, result_count, takes, is_table, is_text, is_settled, is_moving, settled_letters, follows_settled, may_follow_settled, unit_takes};
+ghost use Rattle.cs_words.specs.inner.Rows.{first_named, row_in};
+ghost use Rattle.cs_words.specs.Catalogue.{row_of, catalogued, letter_at, takes_count, further, may_follow, result_count, takes, is_table, is_text, is_settled, is_moving, settled_letters, follows_settled, may_follow_settled, unit_takes};
 
 use cs_base::Rate;
 use std::marker::Model;
@@ -194,46 +193,6 @@ impl Model for Signature {
     } };
 }
 
-/// Every opcode, once.
-const OPCODES: [Opcode; 36] = [
-    Opcode::Init,
-    Opcode::Oscil,
-    Opcode::Oscili,
-    Opcode::Phasor,
-    Opcode::Line,
-    Opcode::Linseg,
-    Opcode::Linen,
-    Opcode::Delay,
-    Opcode::Biquad,
-    Opcode::Table,
-    Opcode::Tablei,
-    Opcode::Tablew,
-    Opcode::Integ,
-    Opcode::Diff,
-    Opcode::Samphold,
-    Opcode::Limit,
-    Opcode::Interp,
-    Opcode::Downsamp,
-    Opcode::Out,
-    Opcode::Outs,
-    Opcode::Outch,
-    Opcode::Turnoff,
-    Opcode::Zakinit,
-    Opcode::Zkr,
-    Opcode::Zar,
-    Opcode::Zkw,
-    Opcode::Zaw,
-    Opcode::Zawm,
-    Opcode::Zkcl,
-    Opcode::Zacl,
-    Opcode::Chnget,
-    Opcode::Chnset,
-    Opcode::Chnmix,
-    Opcode::Chnclear,
-    Opcode::Schedule,
-    Opcode::EventI,
-];
-
 // The rates of the table below.
 const NONE: [Rate; 0] = [];
 
@@ -262,212 +221,89 @@ const V: Letter = Letter::Any;
 
 const S: Letter = Letter::Text;
 
-/// The row of an opcode.
-pub fn signature_of(opcode: Opcode) -> Signature
-    ensures { result ≡ row_of opcode }
-{
-    match family_of(opcode) {
-        Family::Wave => wave_row(opcode),
-        Family::Filter => filter_row(opcode),
-        Family::Effect => effect_row(opcode),
-        Family::Zak => zak_row(opcode),
-        Family::Channel => channel_row(opcode),
-    }
-}
-
-// The catalogue in parts, since each row more makes the proof of the others longer.
+// A row of the catalogue, with its opcode.
 #[derive(Clone, Copy)]
-pub(crate) enum Family {
-    /// What gives a wave, a ramp or a point of a table.
-    Wave,
-    /// What gives one value for another.
-    Filter,
-    /// What sets, stores, goes out, ends a note or asks for one.
-    Effect,
-    /// The zak space.
-    Zak,
-    /// Channels.
-    Channel,
-}
-
-fn family_of(opcode: Opcode) -> Family
-    ensures { result ≡ family_of opcode }
-{
-    match opcode {
-        Opcode::Oscil
-        | Opcode::Oscili
-        | Opcode::Phasor
-        | Opcode::Line
-        | Opcode::Linseg
-        | Opcode::Linen
-        | Opcode::Table
-        | Opcode::Tablei => Family::Wave,
-        Opcode::Delay
-        | Opcode::Biquad
-        | Opcode::Integ
-        | Opcode::Diff
-        | Opcode::Samphold
-        | Opcode::Limit
-        | Opcode::Interp
-        | Opcode::Downsamp => Family::Filter,
-        Opcode::Init
-        | Opcode::Tablew
-        | Opcode::Out
-        | Opcode::Outs
-        | Opcode::Outch
-        | Opcode::Turnoff
-        | Opcode::Schedule
-        | Opcode::EventI => Family::Effect,
-        Opcode::Zakinit
-        | Opcode::Zkr
-        | Opcode::Zar
-        | Opcode::Zkw
-        | Opcode::Zaw
-        | Opcode::Zawm
-        | Opcode::Zkcl
-        | Opcode::Zacl => Family::Zak,
-        Opcode::Chnget | Opcode::Chnset | Opcode::Chnmix | Opcode::Chnclear => Family::Channel,
-    }
-}
-
-fn wave_row(opcode: Opcode) -> Signature
-    requires { family_of opcode ≡ family.Wave }
-    ensures { result ≡ row_of opcode }
-{
-    match opcode {
-        Opcode::Oscil => row("oscil", &KA, &[X, X, F], More::Perhaps(I), Shape::Unit),
-        Opcode::Oscili => row("oscili", &KA, &[X, X, F], More::Perhaps(I), Shape::Unit),
-        Opcode::Phasor => row("phasor", &KA, &[X], More::Perhaps(I), Shape::Unit),
-        Opcode::Line => row("line", &KA, &[I, I, I], More::Nothing, Shape::Unit),
-        Opcode::Linseg => row("linseg", &KA, &[I, I, I], More::Pairs(I, I), Shape::Unit),
-        Opcode::Linen => row("linen", &KA, &[X, I, I, I], More::Nothing, Shape::Unit),
-        Opcode::Table => row("table", &IKA, &[X, F], More::Nothing, Shape::Unit),
-        Opcode::Tablei => row("tablei", &IKA, &[X, F], More::Nothing, Shape::Unit),
-        _ => unreachable!(),
-    }
-}
-
-fn filter_row(opcode: Opcode) -> Signature
-    requires { family_of opcode ≡ family.Filter }
-    ensures { result ≡ row_of opcode }
-{
-    match opcode {
-        Opcode::Delay => row("delay", &AUDIO, &[A, I], More::Nothing, Shape::Unit),
-        Opcode::Biquad => row(
-            "biquad",
-            &AUDIO,
-            &[A, K, K, K, K, K, K],
-            More::Nothing,
-            Shape::Unit,
-        ),
-        Opcode::Integ => row("integ", &KA, &[X], More::Nothing, Shape::Unit),
-        Opcode::Diff => row("diff", &KA, &[X], More::Nothing, Shape::Unit),
-        Opcode::Samphold => row("samphold", &KA, &[X, X], More::Nothing, Shape::Unit),
-        Opcode::Limit => row("limit", &IKA, &[X, K, K], More::Nothing, Shape::Unit),
-        Opcode::Interp => row("interp", &AUDIO, &[K], More::Nothing, Shape::Unit),
-        Opcode::Downsamp => row("downsamp", &CONTROL, &[A], More::Nothing, Shape::Unit),
-        _ => unreachable!(),
-    }
-}
-
-fn effect_row(opcode: Opcode) -> Signature
-    requires { family_of opcode ≡ family.Effect }
-    ensures { result ≡ row_of opcode }
-{
-    match opcode {
-        Opcode::Init => row("init", &IKA, &[I], More::Nothing, Shape::Init),
-        Opcode::Tablew => row("tablew", &NONE, &[V, V, F], More::Nothing, Shape::Store),
-        Opcode::Out => row("out", &NONE, &[A], More::Each(A), Shape::Out),
-        Opcode::Outs => row("outs", &NONE, &[A, A], More::Nothing, Shape::Out),
-        Opcode::Outch => row("outch", &NONE, &[K, A], More::Pairs(K, A), Shape::OutAt),
-        Opcode::Turnoff => row("turnoff", &NONE, &[], More::Nothing, Shape::Turnoff),
-        Opcode::Schedule => row("schedule", &NONE, &[I, I, I], More::Each(I), Shape::Ask),
-        Opcode::EventI => row("event_i", &NONE, &[S, I, I, I], More::Each(I), Shape::Ask),
-        _ => unreachable!(),
-    }
-}
-
-fn zak_row(opcode: Opcode) -> Signature
-    requires { family_of opcode ≡ family.Zak }
-    ensures { result ≡ row_of opcode }
-{
-    match opcode {
-        Opcode::Zakinit => row("zakinit", &NONE, &[I, I], More::Nothing, Shape::ZakInit),
-        Opcode::Zkr => row(
-            "zkr",
-            &CONTROL,
-            &[P],
-            More::Nothing,
-            Shape::ZakGet(Space::Control),
-        ),
-        Opcode::Zar => row(
-            "zar",
-            &AUDIO,
-            &[P],
-            More::Nothing,
-            Shape::ZakGet(Space::Audio),
-        ),
-        Opcode::Zkw => row(
-            "zkw",
-            &NONE,
-            &[K, P],
-            More::Nothing,
-            Shape::ZakPut(Space::Control),
-        ),
-        Opcode::Zaw => row(
-            "zaw",
-            &NONE,
-            &[A, P],
-            More::Nothing,
-            Shape::ZakPut(Space::Audio),
-        ),
-        Opcode::Zawm => row("zawm", &NONE, &[A, P], More::Nothing, Shape::ZakMix),
-        Opcode::Zkcl => row(
-            "zkcl",
-            &NONE,
-            &[P, P],
-            More::Nothing,
-            Shape::ZakClear(Space::Control),
-        ),
-        Opcode::Zacl => row(
-            "zacl",
-            &NONE,
-            &[P, P],
-            More::Nothing,
-            Shape::ZakClear(Space::Audio),
-        ),
-        _ => unreachable!(),
-    }
-}
-
-fn channel_row(opcode: Opcode) -> Signature
-    requires { family_of opcode ≡ family.Channel }
-    ensures { result ≡ row_of opcode }
-{
-    match opcode {
-        Opcode::Chnget => row("chnget", &IKA, &[S], More::Nothing, Shape::ChannelGet),
-        Opcode::Chnset => row("chnset", &NONE, &[V, S], More::Nothing, Shape::ChannelPut),
-        Opcode::Chnmix => row("chnmix", &NONE, &[A, S], More::Nothing, Shape::ChannelMix),
-        Opcode::Chnclear => row("chnclear", &NONE, &[S], More::Nothing, Shape::ChannelClear),
-        _ => unreachable!(),
-    }
-}
-
-fn row(
+struct Entry {
+    opcode: Opcode,
     name: &'static str,
     results: &'static [Rate],
     fixed: &'static [Letter],
     more: More,
     shape: Shape,
-) -> Signature
-    ensures { result ≡ row name.now results.now fixed.now more shape }
+}
+
+macro_rules! row {
+    ($opcode:ident: $name:expr, $results:expr, $fixed:expr, $more:expr, $shape:expr) => {
+        Entry {
+            opcode: Opcode::$opcode,
+            name: $name,
+            results: &$results,
+            fixed: &$fixed,
+            more: $more,
+            shape: $shape,
+        }
+    };
+}
+
+/// The catalogue: every opcode once, in the order of its variants, with its row.
+const CATALOGUE: &[Entry] = &[
+    row!(Init: "init", IKA, [I], More::Nothing, Shape::Init),
+    row!(Oscil: "oscil", KA, [X, X, F], More::Perhaps(I), Shape::Unit),
+    row!(Oscili: "oscili", KA, [X, X, F], More::Perhaps(I), Shape::Unit),
+    row!(Phasor: "phasor", KA, [X], More::Perhaps(I), Shape::Unit),
+    row!(Line: "line", KA, [I, I, I], More::Nothing, Shape::Unit),
+    row!(Linseg: "linseg", KA, [I, I, I], More::Pairs(I, I), Shape::Unit),
+    row!(Linen: "linen", KA, [X, I, I, I], More::Nothing, Shape::Unit),
+    row!(Delay: "delay", AUDIO, [A, I], More::Nothing, Shape::Unit),
+    row!(Biquad: "biquad", AUDIO, [A, K, K, K, K, K, K], More::Nothing, Shape::Unit),
+    row!(Table: "table", IKA, [X, F], More::Nothing, Shape::Unit),
+    row!(Tablei: "tablei", IKA, [X, F], More::Nothing, Shape::Unit),
+    row!(Tablew: "tablew", NONE, [V, V, F], More::Nothing, Shape::Store),
+    row!(Integ: "integ", KA, [X], More::Nothing, Shape::Unit),
+    row!(Diff: "diff", KA, [X], More::Nothing, Shape::Unit),
+    row!(Samphold: "samphold", KA, [X, X], More::Nothing, Shape::Unit),
+    row!(Limit: "limit", IKA, [X, K, K], More::Nothing, Shape::Unit),
+    row!(Interp: "interp", AUDIO, [K], More::Nothing, Shape::Unit),
+    row!(Downsamp: "downsamp", CONTROL, [A], More::Nothing, Shape::Unit),
+    row!(Out: "out", NONE, [A], More::Each(A), Shape::Out),
+    row!(Outs: "outs", NONE, [A, A], More::Nothing, Shape::Out),
+    row!(Outch: "outch", NONE, [K, A], More::Pairs(K, A), Shape::OutAt),
+    row!(Turnoff: "turnoff", NONE, [], More::Nothing, Shape::Turnoff),
+    row!(Zakinit: "zakinit", NONE, [I, I], More::Nothing, Shape::ZakInit),
+    row!(Zkr: "zkr", CONTROL, [P], More::Nothing, Shape::ZakGet(Space::Control)),
+    row!(Zar: "zar", AUDIO, [P], More::Nothing, Shape::ZakGet(Space::Audio)),
+    row!(Zkw: "zkw", NONE, [K, P], More::Nothing, Shape::ZakPut(Space::Control)),
+    row!(Zaw: "zaw", NONE, [A, P], More::Nothing, Shape::ZakPut(Space::Audio)),
+    row!(Zawm: "zawm", NONE, [A, P], More::Nothing, Shape::ZakMix),
+    row!(Zkcl: "zkcl", NONE, [P, P], More::Nothing, Shape::ZakClear(Space::Control)),
+    row!(Zacl: "zacl", NONE, [P, P], More::Nothing, Shape::ZakClear(Space::Audio)),
+    row!(Chnget: "chnget", IKA, [S], More::Nothing, Shape::ChannelGet),
+    row!(Chnset: "chnset", NONE, [V, S], More::Nothing, Shape::ChannelPut),
+    row!(Chnmix: "chnmix", NONE, [A, S], More::Nothing, Shape::ChannelMix),
+    row!(Chnclear: "chnclear", NONE, [S], More::Nothing, Shape::ChannelClear),
+    row!(Schedule: "schedule", NONE, [I, I, I], More::Each(I), Shape::Ask),
+    row!(EventI: "event_i", NONE, [S, I, I, I], More::Each(I), Shape::Ask),
+];
+
+/// The row of an opcode.
+pub fn signature_of(opcode: Opcode) -> Signature
+    ensures { result ≡ row_of opcode }
 {
-    Signature {
-        name,
-        results,
-        fixed,
-        more,
-        shape,
+    CATALOGUE[opcode as usize].signature()
+}
+
+impl Entry {
+    // The row alone.
+    fn signature(&self) -> Signature
+        ensures { result ≡ row_in self.now }
+    {
+        Signature {
+            name: self.name,
+            results: self.results,
+            fixed: self.fixed,
+            more: self.more,
+            shape: self.shape,
+        }
     }
 }
 
@@ -621,15 +457,15 @@ impl Opcode {
 pub fn find_opcode(name: &[u8]) -> Option<Opcode>
     ensures { result ≡ catalogued name.now }
 {
-    first_named(name, &OPCODES)
+    first_named(name, CATALOGUE)
 }
 
-fn first_named(name: &[u8], among: &[Opcode]) -> Option<Opcode>
-    ensures { result ≡ named name.now among.now }
+fn first_named(name: &[u8], among: &[Entry]) -> Option<Opcode>
+    ensures { result ≡ first_named among.now name.now }
 {
-    for id in among {
-        if name == id.name().as_bytes() {
-            return Some(*id);
+    for entry in among {
+        if name == entry.name.as_bytes() {
+            return Some(entry.opcode);
         }
     }
     None

@@ -1,5 +1,6 @@
 -- A straight line, step by step without a division.
-use Rattle.std.specs.Prelude.{List, length, map, take, unsigned_abs, ◌^◌, ◌*◌, ℕ, ◌≡◌, ◌⊎◌, ◌+◌, ◌-◌, ◌<◌, ◌≤◌, ℤ, pos, ◌+ℤ◌, ◌-ℤ◌, ◌*ℤ◌}
+use Rattle.std.specs.Prelude.{List, length, map, take, unsigned_abs, ◌^◌, ◌*◌, ℕ, ◌≡◌, ◌⊎◌, ◌+◌, ◌-◌, ◌<◌, ◌≤◌, ℤ, pos}
+use Rattle.std.specs.Prelude.{◌+ℤ◌, ◌-ℤ◌, ◌*ℤ◌}
 use Rattle.std.specs.List.{range_with_len}
 use Rattle.cs_base.specs.Numbers.{clamp}
 use Rattle.cs_signal.specs.Line.{part_way}
@@ -13,7 +14,8 @@ pub record IsParted (number : ℤ) (divisor : ℕ) (whole : ℤ) (rest : ℕ) : 
 abbrev pub IsAdvanced : ℕ → ℤ → ℕ → ℤ → ℕ → ℤ → ℕ → Type 0
 IsAdvanced divisor whole rest by_whole by_rest new_whole new_rest =
     ((rest + by_rest < divisor) × (new_whole ≡ whole +ℤ by_whole) × (new_rest ≡ rest + by_rest))
-    ⊎ ((divisor ≤ rest + by_rest) × (new_whole ≡ (whole +ℤ by_whole) +ℤ pos 1) × (new_rest ≡ (rest + by_rest) - divisor))
+    ⊎ ((divisor ≤ rest + by_rest) × (new_whole ≡ (whole +ℤ by_whole) +ℤ pos 1)
+    × (new_rest ≡ (rest + by_rest) - divisor))
 
 -- the values at parts n, n + 1 and so on of d of a way, so many of them
 abbrev pub ramp_of : ℤ → ℤ → ℕ → ℕ → ℕ → List ℤ

@@ -10,9 +10,13 @@ loop-strength-init c = IsSummed-none c.args.len c.args.strengths.now c.args.j c.
 
 pub loop-strength-preserved : goal.loop-strength-preserved
 loop-strength-preserved c =
-    IsSummed-more c.args.len c.args.strengths.now c.args.j _ c.loop-strength.phase c.loop-strength.strength-index _ c.loop-strength.invariant
-    c.turned-phase.result c.strength-item.result c.harmonic.result _ (search (rules, get_or_default)) c.harmonic.ensures.value c.harmonic.ensures.bounded c.turned-phase.ensures.value c.turned-phase.ensures.within
-    (let kept = c.loop-strength.invariant.bounded in let part = c.harmonic.ensures.bounded in omega (arith, ints, c.from-sum.ensures))
+    IsSummed-more c.args.len c.args.strengths.now c.args.j _ c.loop-strength.phase c.loop-strength.strength-index _
+    c.loop-strength.invariant
+    c.turned-phase.result c.strength-item.result c.harmonic.result _ (search (rules, get_or_default))
+    c.harmonic.ensures.value c.harmonic.ensures.bounded c.turned-phase.ensures.value c.turned-phase.ensures.within
+    (let kept = c.loop-strength.invariant.bounded in let part = c.harmonic.ensures.bounded in
+    omega (arith, ints, c.from-sum.ensures))
 
 pub returns : goal.returns
-returns c = c.of_wide.ensures ∙ ap clamp (IsSummed-all c.args.len c.args.strengths.now c.args.j _ _ _ _ c.loop-strength.invariant (omega arith))
+returns c = c.of_wide.ensures
+    ∙ ap clamp (IsSummed-all c.args.len c.args.strengths.now c.args.j _ _ _ _ c.loop-strength.invariant (omega arith))

@@ -7,4 +7,5 @@ pub returns-clause-size : goal.returns-clause-size
 returns-clause-size c = λ size gen args h. accepted-bounds size gen args h
 
 pub returns-clause-made : goal.returns-clause-made
-returns-clause-made c = λ size gen args h. is_made size gen args (points_of size gen args) (accepted size gen args h) refl
+returns-clause-made c = λ size gen args h. is_made size gen args (points_of size gen args) (accepted size gen args h)
+    refl

@@ -1,5 +1,6 @@
 use Rattle.std.proofs.Common.{refl}
-use Rattle.cs_gen.specs.Points.{points_of, point, plain_point, harmonics, sine, wave, wave_at, quarter, segments, segment_at, begin_of}
+use Rattle.cs_gen.specs.Points.{points_of, point, plain_point, harmonics, sine, wave, wave_at, quarter, segments}
+use Rattle.cs_gen.specs.Points.{segment_at, begin_of}
 use Rattle.cs_gen.proofs.laws.tables_worked_by_hand.Goals as goal
 
 pub returns-clause-sine : goal.returns-clause-sine

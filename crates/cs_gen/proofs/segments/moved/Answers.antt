@@ -9,5 +9,7 @@ pub returns : goal.returns
 returns c =
     let low = c.requires.0 in
     let high = c.requires.1 in
-    let cast : to_z w64 (of_z w64 (to_z w128 (of_z w128 (to_z w128 (of_z w128 c.from.result) +ℤ to_z w128 (of_z w128 c.args.rise))))) ≡ c.args.value +ℤ c.args.rise = omega (arith, ints, c.from.ensures) in
+    let cast : to_z w64 (of_z w64
+    (to_z w128 (of_z w128 (to_z w128 (of_z w128 c.from.result) +ℤ to_z w128 (of_z w128 c.args.rise))))) ≡ c.args.value
+    +ℤ c.args.rise = omega (arith, ints, c.from.ensures) in
     c.of_raw.ensures ∙ ap clamp cast ∙ clamp_same (c.args.value +ℤ c.args.rise) c.requires

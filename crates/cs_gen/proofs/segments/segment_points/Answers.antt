@@ -12,5 +12,8 @@ loop-j-preserved c =
     let more = map-range_with_len_more (segments c.args.args.now) 0 c.loop-j.j c.loop-j.j (omega arith) in
     let kept = c.loop-j.invariant.0 in
     let pushed = c.in_ok-push.ensures.items in
-    let point = c.point.ensures in
-    (rw more cc, HasPassed-later c.args.args.now c.loop-j.j c.reached-walk.result.segment c.reached-walk.result.begin c.reached-walk.ensures)
+    let point = c.point.ensures in (
+      rw more cc,
+      HasPassed-later c.args.args.now c.loop-j.j c.reached-walk.result.segment c.reached-walk.result.begin
+          c.reached-walk.ensures,
+    )

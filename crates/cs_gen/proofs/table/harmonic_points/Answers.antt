@@ -5,4 +5,5 @@ use Rattle.cs_gen.proofs.table.harmonic_points.Goals as goal
 
 pub loop-j-preserved : goal.loop-j-preserved
 loop-j-preserved c =
-    map-range-push (λ j. clamp (harmonics (len_of c.args.size) c.args.strengths.now j)) c.loop-j.points.items _ c.loop-j.j c.harmonics.result c.loop-j.invariant c.in_ok-push.ensures.items c.harmonics.ensures
+    map-range-push (λ j. clamp (harmonics (len_of c.args.size) c.args.strengths.now j)) c.loop-j.points.items _
+    c.loop-j.j c.harmonics.result c.loop-j.invariant c.in_ok-push.ensures.items c.harmonics.ensures

@@ -7,7 +7,8 @@ pub returns-clause-value : goal.returns-clause-value
 returns-clause-value c =
     let k = c.args.c in
     let x = c.args.x in
-    let small : unsigned_abs (k *ℤ x) ≤ 134217728 * 2147483648 = product_within k x 134217728 2147483648 c.requires.coefficient c.requires.signal in
+    let small : unsigned_abs (k *ℤ x) ≤ 134217728 * 2147483648 =
+    product_within k x 134217728 2147483648 c.requires.coefficient c.requires.signal in
     let whole : to_z w64 (of_z w64 (k *ℤ x)) ≡ k *ℤ x = omega (arith, ints, small) in
     ap (λ z. to_z w64 (of_z w64 (z *ℤ to_z w64 (of_z w64 x)))) (to_z-of_z w64 k c.ranges.c)
     ∙ ap (λ z. to_z w64 (of_z w64 (k *ℤ z))) (to_z-of_z w64 x c.ranges.x) ∙ whole

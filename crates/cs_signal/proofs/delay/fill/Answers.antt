@@ -9,7 +9,8 @@ use Rattle.cs_signal.proofs.delay.fill.Goals as goal
 
 pub loop-j-init : goal.loop-j-init
 loop-j-init c = (
-  HasRun_none delay_step (λ j. operand_at c.args.x.now j ∷ []) (line_in c.args.count c.args.ring.now.items 0) (length c.args.out.now) c.args.out.now refl,
+  HasRun_none delay_step (λ j. operand_at c.args.x.now j ∷ []) (line_in c.args.count c.args.ring.now.items 0)
+      (length c.args.out.now) c.args.out.now refl,
   omega arith,
   c.requires.memory,
 )
@@ -32,8 +33,10 @@ loop-j-preserved c =
     let pushed = c.push_reserved.ensures.items in
     let long = length-append ring (c.at.result ∷ []) in
     let size = ap (λ l. length l) pushed in (
-      HasRun_step delay_step (λ j. operand_at c.args.x.now j ∷ []) (line_in c.args.count c.args.ring.now.items 0) (length c.args.out.now) c.loop-j.j
-          (line_in c.args.count ring 0) (line_in c.args.count c.push_reserved.new.self.items 0) c.loop-j.out c.of_raw.result
+      HasRun_step delay_step (λ j. operand_at c.args.x.now j ∷ []) (line_in c.args.count c.args.ring.now.items 0)
+          (length c.args.out.now) c.loop-j.j
+          (line_in c.args.count ring 0) (line_in c.args.count c.push_reserved.new.self.items 0) c.loop-j.out
+          c.of_raw.result
           so_far.0 (omega (arith, inside))
           (ap (λ l. (line_in c.args.count l 0, c.of_raw.result)) pushed
           ∙ ap (λ y. (line_in c.args.count (ring ++ c.at.result ∷ []) 0, y)) c.of_raw.ensures

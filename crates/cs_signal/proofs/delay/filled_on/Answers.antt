@@ -8,7 +8,8 @@ returns-then-filled-out-clause-value c =
     let filled = c.fill-filled.ensures in
     let long = filled.run.long in
     let test = c.if-filled-out.true in
-    goes_round (λ j. operand_at c.args.x.now j ∷ []) c.args.count 0 c.fill-filled.result (length c.args.out.now) c.turned.result
+    goes_round (λ j. operand_at c.args.x.now j ∷ []) c.args.count 0 c.fill-filled.result (length c.args.out.now)
+    c.turned.result
     c.args.ring.now.items c.fill-filled.new.ring.items c.turned.new.ring.items c.fill-filled.new.out c.turned.new.out
     refl (filled.full (omega (arith, long, test))) c.turned.ensures.long filled.run c.turned.ensures.run
 

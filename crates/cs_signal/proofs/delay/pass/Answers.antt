@@ -7,7 +7,8 @@ pub filled_on-requires-clause-memory : goal.filled_on-requires-clause-memory
 filled_on-requires-clause-memory c =
     let test = c.if-len-count.true in
     let below : length c.args.ring.now.items < c.args.count = omega (arith, test) in
-    (being_filled c.args.count (length c.args.ring.now.items) (vec_capacity c.args.ring.now) c.args.oldest c.requires.2 below).1
+    (being_filled c.args.count (length c.args.ring.now.items) (vec_capacity c.args.ring.now) c.args.oldest c.requires.2
+    below).1
 
 pub turned-requires : goal.turned-requires
 turned-requires c =
@@ -19,4 +20,5 @@ pub returns-else-len-count-clause-value : goal.returns-else-len-count-clause-val
 returns-else-len-count-clause-value c =
     let test = c.if-len-count.false in
     round (λ j. operand_at c.args.x.now j ∷ []) c.args.count c.args.oldest (length c.args.out.now) c.turned.result
-    c.args.ring.now.items c.turned.new.ring.items c.args.out.now c.turned.new.out refl (omega (arith, test)) c.turned.ensures.long c.turned.ensures.run
+    c.args.ring.now.items c.turned.new.ring.items c.args.out.now c.turned.new.out refl (omega (arith, test))
+    c.turned.ensures.long c.turned.ensures.run

@@ -31,5 +31,6 @@ loop-j-preserved c =
 
 pub returns-clause-run : goal.returns-clause-run
 returns-clause-run c = λ first h.
-    HasRun_end delay_step (λ j. operand_at c.args.x.now j ∷ []) first (length c.args.out.now) c.loop-j.j (in_order c.loop-j.ring.items c.loop-j.place) c.loop-j.out
+    HasRun_end delay_step (λ j. operand_at c.args.x.now j ∷ []) first (length c.args.out.now) c.loop-j.j
+    (in_order c.loop-j.ring.items c.loop-j.place) c.loop-j.out
     (c.loop-j.invariant.2 first h) c.loop-j-test.false

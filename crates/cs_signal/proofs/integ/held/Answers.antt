@@ -8,8 +8,10 @@ loop-j-init c = HasRun_none integ_step _ c.args.sum (length c.args.out.now) c.ar
 
 pub loop-j-preserved : goal.loop-j-preserved
 loop-j-preserved c =
-    HasRun_step integ_step _ c.args.sum (length c.args.out.now) c.loop-j.j c.loop-j.sum c.add-sum.result c.loop-j.out c.add-sum.result
+    HasRun_step integ_step _ c.args.sum (length c.args.out.now) c.loop-j.j c.loop-j.sum c.add-sum.result c.loop-j.out
+    c.add-sum.result
     c.loop-j.invariant c.loop-j-test.true (ap (λ z. (z, z)) c.add-sum.ensures)
 
 pub returns : goal.returns
-returns c = HasRun_end integ_step _ c.args.sum (length c.args.out.now) c.loop-j.j c.loop-j.sum c.loop-j.out c.loop-j.invariant c.loop-j-test.false
+returns c = HasRun_end integ_step _ c.args.sum (length c.args.out.now) c.loop-j.j c.loop-j.sum c.loop-j.out
+    c.loop-j.invariant c.loop-j-test.false

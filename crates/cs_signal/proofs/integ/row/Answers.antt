@@ -11,8 +11,10 @@ pub loop-j-preserved : goal.loop-j-preserved
 loop-j-preserved c =
     let long = c.requires in
     let x = read c.args.values.now c.loop-j.j c.index-values-j.result c.index-values-j.is (omega arith) in
-    HasRun_step integ_step _ c.args.sum (length c.args.out.now) c.loop-j.j c.loop-j.sum c.add-sum.result c.loop-j.out c.add-sum.result
+    HasRun_step integ_step _ c.args.sum (length c.args.out.now) c.loop-j.j c.loop-j.sum c.add-sum.result c.loop-j.out
+    c.add-sum.result
     c.loop-j.invariant c.loop-j-test.true (ap (λ z. (z, z)) (c.add-sum.ensures ∙ ap (sum_of c.loop-j.sum) x))
 
 pub returns : goal.returns
-returns c = HasRun_end integ_step _ c.args.sum (length c.args.out.now) c.loop-j.j c.loop-j.sum c.loop-j.out c.loop-j.invariant c.loop-j-test.false
+returns c = HasRun_end integ_step _ c.args.sum (length c.args.out.now) c.loop-j.j c.loop-j.sum c.loop-j.out
+    c.loop-j.invariant c.loop-j-test.false

@@ -9,7 +9,8 @@ use Rattle.cs_signal.proofs.linen.falling_on.Goals as goal
 pub returns : goal.returns
 returns c =
     let n : ℕ = length c.args.out.now in
-    shaped_ramp (λ (j : ℕ). operand_at c.args.x.now j) (λ (m : ℕ). clamp (part_way (one) (pos 0) m c.args.decay)) c.args.number n c.ramp.new.out c.shape.new.out
+    shaped_ramp (λ (j : ℕ). operand_at c.args.x.now j) (λ (m : ℕ). clamp (part_way (one) (pos 0) m c.args.decay))
+    c.args.number n c.ramp.new.out c.shape.new.out
     (c.ramp.ensures ∙ ap (λ z. ramp_of z c.exact-2.result c.args.number c.args.decay n) c.exact.ensures
     ∙ ap (λ z. ramp_of one z c.args.number c.args.decay n) c.exact-2.ensures)
     c.shape.ensures

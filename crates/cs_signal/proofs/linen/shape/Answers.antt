@@ -8,7 +8,8 @@ use Rattle.cs_signal.proofs.linen.shape.Goals as goal
 
 pub loop-j-init : goal.loop-j-init
 loop-j-init c = (
-  HasFilled_none (λ (j : ℕ). product_of (operand_at c.args.x.now j) (argument c.args.out.now j)) (length c.args.out.now) c.args.out.now refl,
+  HasFilled_none (λ (j : ℕ). product_of (operand_at c.args.x.now j) (argument c.args.out.now j)) (length c.args.out.now)
+      c.args.out.now refl,
   λ i h. refl,
 )
 
@@ -19,13 +20,16 @@ loop-j-preserved c =
     let inside = c.loop-j-test.true in
     let long = so_far.0.long in
     let was = read c.loop-j.out j c.index-out-j.result c.index-out-j.is (omega arith) ∙ so_far.1 j (omega arith) in (
-      HasFilled_more (λ (j : ℕ). product_of (operand_at c.args.x.now j) (argument c.args.out.now j)) (length c.args.out.now) j c.loop-j.out c.product.result
+      HasFilled_more (λ (j : ℕ). product_of (operand_at c.args.x.now j) (argument c.args.out.now j))
+          (length c.args.out.now) j c.loop-j.out c.product.result
           so_far.0 inside
-          (c.product.ensures ∙ ap (λ z. product_of z c.index-out-j.result) c.at.ensures ∙ ap (product_of (operand_at c.args.x.now j)) was),
+          (c.product.ensures ∙ ap (λ z. product_of z c.index-out-j.result) c.at.ensures
+          ∙ ap (product_of (operand_at c.args.x.now j)) was),
       λ i h. get_or-set_other c.loop-j.out j i c.product.result (pos 0) (λ e. omega arith) ∙ so_far.1 i (omega arith),
     )
 
 pub returns : goal.returns
 returns c =
-    HasFilled_all (λ (j : ℕ). product_of (operand_at c.args.x.now j) (argument c.args.out.now j)) (length c.args.out.now) c.loop-j.j c.loop-j.out
+    HasFilled_all (λ (j : ℕ). product_of (operand_at c.args.x.now j) (argument c.args.out.now j))
+    (length c.args.out.now) c.loop-j.j c.loop-j.out
     c.loop-j.invariant.0 c.loop-j-test.false c.loop-j.auto.j-end

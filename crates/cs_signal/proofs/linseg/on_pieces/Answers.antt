@@ -19,8 +19,10 @@ returns-then-left-lengths c =
     let ends = c.requires.ends in
     let inside = c.loop-k-test.true in
     let here = read c.args.values.now k c.index-values-k.result c.index-values-k.is (omega arith) in
-    let next = read c.args.values.now (k + 1) c.index-values-k-then-left-lengths.result c.index-values-k-then-left-lengths.is (omega arith) in
-    c.part_way.ensures ∙ on_piece c.args.values.now c.args.lengths.now c.args.n k c.loop-k.left (slice_index c.args.lengths.now k) c.index-values-k.result c.index-values-k-then-left-lengths.result
+    let next = read c.args.values.now (k + 1) c.index-values-k-then-left-lengths.result
+    c.index-values-k-then-left-lengths.is (omega arith) in
+    c.part_way.ensures ∙ on_piece c.args.values.now c.args.lengths.now c.args.n k c.loop-k.left
+    (slice_index c.args.lengths.now k) c.index-values-k.result c.index-values-k-then-left-lengths.result
     c.loop-k.invariant inside refl c.if-left-lengths.true here next
 
 pub returns : goal.returns
@@ -32,4 +34,5 @@ returns c =
     let value = read c.args.values.now (length c.args.lengths.now) z c.index-values-lengths.is (omega arith) in
     let same : c.of_raw.result ≡ clamp c.raw.result = search rules in
     same ∙ ap clamp c.raw.ensures.value
-    ∙ last_value c.args.values.now c.args.lengths.now c.args.n c.loop-k.k c.loop-k.left z c.loop-k.invariant (omega arith) value
+    ∙ last_value c.args.values.now c.args.lengths.now c.args.n c.loop-k.k c.loop-k.left z c.loop-k.invariant
+    (omega arith) value

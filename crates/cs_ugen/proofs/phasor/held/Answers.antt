@@ -15,14 +15,18 @@ pub loop-j-preserved : goal.loop-j-preserved
 loop-j-preserved c =
     let t = c.args.unit.now in
     let so_far = c.loop-j.invariant in
-    let parts = c.hold-parts.ensures.value ∙ ap (λ p. within_turn (increment p.rate p.pace c.args.cps)) c.unit.view_is in (
-      held_more phasor_step _ t c.args.cps (length c.args.out.now) c.loop-j.j c.hold-parts.result c.loop-j.phase c.moved-phase.result c.loop-j.out
-          c.ramp.result (ramp c.loop-j.phase) so_far.0 c.loop-j-test.true parts c.moved-phase.ensures.value c.ramp.ensures refl,
+    let parts = c.hold-parts.ensures.value ∙ ap (λ p. within_turn (increment p.rate p.pace c.args.cps))
+    c.unit.view_is in (
+      held_more phasor_step _ t c.args.cps (length c.args.out.now) c.loop-j.j c.hold-parts.result c.loop-j.phase
+          c.moved-phase.result c.loop-j.out
+          c.ramp.result (ramp c.loop-j.phase) so_far.0 c.loop-j-test.true parts c.moved-phase.ensures.value
+          c.ramp.ensures refl,
       c.moved-phase.ensures.small,
     )
 
 pub returns : goal.returns
 returns c =
     let so_far = c.loop-j.invariant in
-    held_end phasor_step _ c.args.unit.now c.set.new.self (length c.args.out.now) c.loop-j.j c.loop-j.phase c.loop-j.out so_far.0 c.loop-j-test.false
+    held_end phasor_step _ c.args.unit.now c.set.new.self (length c.args.out.now) c.loop-j.j c.loop-j.phase c.loop-j.out
+    so_far.0 c.loop-j-test.false
     (c.set.ensures ∙ ap (λ p. at_phase p c.loop-j.phase) (c.hold-parts.ensures.same ∙ c.unit.view_is))

@@ -1,5 +1,6 @@
 use Rattle.cs_words.proofs.EachOpcode.{opcode_found}
-use Rattle.cs_words.proofs.Apart.{opcode_read, one_name, found_so, keywords_read, headers_read, functions_read, foreign_read, operators_read, signs_read}
+use Rattle.cs_words.proofs.Apart.{opcode_read, one_name, found_so, keywords_read, headers_read, functions_read}
+use Rattle.cs_words.proofs.Apart.{foreign_read, operators_read, signs_read}
 use Rattle.cs_words.proofs.laws.words_are_apart.Goals as goal
 
 pub returns-clause-opcodes : goal.returns-clause-opcodes

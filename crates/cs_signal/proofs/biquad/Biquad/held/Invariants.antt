@@ -5,4 +5,5 @@ use Rattle.cs_signal.specs.Walk.{HasRun}
 use Rattle.cs_signal.proofs.biquad.Biquad.held.Given as goal
 
 abbrev pub invariant-loop-j : goal.invariant-loop-j
-invariant-loop-j l = HasRun biquad_step (λ j. inputs_by (operand_at l.x j) l.by) l.initial.self (length l.initial.out) l.j l.unit l.out
+invariant-loop-j l = HasRun biquad_step (λ j. inputs_by (operand_at l.x j) l.by) l.initial.self (length l.initial.out)
+    l.j l.unit l.out

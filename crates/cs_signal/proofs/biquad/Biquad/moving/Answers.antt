@@ -6,12 +6,14 @@ use Rattle.cs_signal.proofs.biquad.Biquad.moving.Goals as goal
 
 pub loop-j-init : goal.loop-j-init
 loop-j-init c =
-    HasRun_none biquad_step (λ j. inputs_by (operand_at c.args.x.now j) (values_at c.args.by.now j)) c.args.self.now (length c.args.out.now) c.args.out.now refl
+    HasRun_none biquad_step (λ j. inputs_by (operand_at c.args.x.now j) (values_at c.args.by.now j)) c.args.self.now
+    (length c.args.out.now) c.args.out.now refl
 
 pub loop-j-preserved : goal.loop-j-preserved
 loop-j-preserved c =
     let at : ℕ → List ℤ = λ j. inputs_by (operand_at c.args.x.now j) (values_at c.args.by.now j) in
-    HasRun_step biquad_step at c.args.self.now (length c.args.out.now) c.loop-j.j c.loop-j.self c.step.new.self c.loop-j.out c.step.result
+    HasRun_step biquad_step at c.args.self.now (length c.args.out.now) c.loop-j.j c.loop-j.self c.step.new.self
+    c.loop-j.out c.step.result
     c.loop-j.invariant c.loop-j-test.true
     (c.step.ensures
     ∙ ap (λ z. biquad_step c.loop-j.self (inputs_by z c.values_at-here.result)) c.at.ensures
@@ -19,5 +21,6 @@ loop-j-preserved c =
 
 pub returns : goal.returns
 returns c =
-    HasRun_end biquad_step (λ j. inputs_by (operand_at c.args.x.now j) (values_at c.args.by.now j)) c.args.self.now (length c.args.out.now) c.loop-j.j c.loop-j.self c.loop-j.out
+    HasRun_end biquad_step (λ j. inputs_by (operand_at c.args.x.now j) (values_at c.args.by.now j)) c.args.self.now
+    (length c.args.out.now) c.loop-j.j c.loop-j.self c.loop-j.out
     c.loop-j.invariant c.loop-j-test.false

@@ -9,8 +9,10 @@ short_sum-requires-clause-poles c = c.if-are_small.ensures.poles refl
 
 pub short_sum-requires-clause-inputs : goal.short_sum-requires-clause-inputs
 short_sum-requires-clause-inputs c =
-    subst (λ s. (unsigned_abs c.args.x ≤ 2 ^ 31) × (unsigned_abs s.x1 ≤ 2 ^ 31) × (unsigned_abs s.x2 ≤ 2 ^ 31)) c.self.view_is (c.if-are_short.ensures.inputs refl)
+    subst (λ s. (unsigned_abs c.args.x ≤ 2 ^ 31) × (unsigned_abs s.x1 ≤ 2 ^ 31) × (unsigned_abs s.x2 ≤ 2 ^ 31))
+    c.self.view_is (c.if-are_short.ensures.inputs refl)
 
 pub short_sum-requires-clause-results : goal.short_sum-requires-clause-results
 short_sum-requires-clause-results c =
-    subst (λ s. (unsigned_abs s.y1 ≤ 2 ^ 31) × (unsigned_abs s.y2 ≤ 2 ^ 31)) c.self.view_is (c.if-are_short.ensures.results refl)
+    subst (λ s. (unsigned_abs s.y1 ≤ 2 ^ 31) × (unsigned_abs s.y2 ≤ 2 ^ 31)) c.self.view_is
+    (c.if-are_short.ensures.results refl)

@@ -15,4 +15,4 @@ is_quotient-requires-clause-guess c =
     c.args.self.near
     (c.upper-guess.ensures
     ∙ (λ i. floor_div (to_z-of_z w64 c.args.n c.ranges.n i *ℤ to_z-of_z w64 c.args.self.inverse inverse i)
-    (pos 9223372036854775808))))
+    (pos 18446744073709551616))))

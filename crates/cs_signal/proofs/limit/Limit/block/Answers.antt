@@ -5,18 +5,24 @@ use Rattle.cs_signal.proofs.Walks.{HasRun_none, HasRun_step, HasRun_end}
 use Rattle.cs_signal.proofs.limit.Limit.block.Goals as goal
 
 pub loop-j-init : goal.loop-j-init
-loop-j-init c = HasRun_none limit_step (λ j. operand_at c.args.x.now j ∷ operand_at c.args.low.now j ∷ operand_at c.args.high.now j ∷ []) c.args.self.now (length c.args.out.now) c.args.out.now refl
+loop-j-init c = HasRun_none limit_step
+    (λ j. operand_at c.args.x.now j ∷ operand_at c.args.low.now j ∷ operand_at c.args.high.now j ∷ []) c.args.self.now
+    (length c.args.out.now) c.args.out.now refl
 
 pub loop-j-preserved : goal.loop-j-preserved
 loop-j-preserved c =
-    HasRun_step limit_step (λ j. operand_at c.args.x.now j ∷ operand_at c.args.low.now j ∷ operand_at c.args.high.now j ∷ []) c.args.self.now (length c.args.out.now) c.loop-j.j c.loop-j.self c.step.new.self c.loop-j.out c.step.result
+    HasRun_step limit_step (λ j. operand_at c.args.x.now j ∷ operand_at c.args.low.now j ∷ operand_at c.args.high.now j
+    ∷ []) c.args.self.now (length c.args.out.now) c.loop-j.j c.loop-j.self c.step.new.self c.loop-j.out c.step.result
     c.loop-j.invariant c.loop-j-test.true
     (c.step.ensures
     ∙ ap (λ z. limit_step c.loop-j.self (z ∷ c.at-in-loop-j.result ∷ c.at-in-loop-j-2.result ∷ [])) c.at.ensures
-    ∙ ap (λ z. limit_step c.loop-j.self (operand_at c.args.x.now c.loop-j.j ∷ z ∷ c.at-in-loop-j-2.result ∷ [])) c.at-in-loop-j.ensures
-    ∙ ap (λ z. limit_step c.loop-j.self (operand_at c.args.x.now c.loop-j.j ∷ operand_at c.args.low.now c.loop-j.j ∷ z ∷ [])) c.at-in-loop-j-2.ensures)
+    ∙ ap (λ z. limit_step c.loop-j.self (operand_at c.args.x.now c.loop-j.j ∷ z ∷ c.at-in-loop-j-2.result ∷ []))
+    c.at-in-loop-j.ensures
+    ∙ ap (λ z. limit_step c.loop-j.self
+    (operand_at c.args.x.now c.loop-j.j ∷ operand_at c.args.low.now c.loop-j.j ∷ z ∷ [])) c.at-in-loop-j-2.ensures)
 
 pub returns : goal.returns
 returns c =
-    HasRun_end limit_step (λ j. operand_at c.args.x.now j ∷ operand_at c.args.low.now j ∷ operand_at c.args.high.now j ∷ []) c.args.self.now (length c.args.out.now) c.loop-j.j c.loop-j.self c.loop-j.out
+    HasRun_end limit_step (λ j. operand_at c.args.x.now j ∷ operand_at c.args.low.now j ∷ operand_at c.args.high.now j
+    ∷ []) c.args.self.now (length c.args.out.now) c.loop-j.j c.loop-j.self c.loop-j.out
     c.loop-j.invariant c.loop-j-test.false

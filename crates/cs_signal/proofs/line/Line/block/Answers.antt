@@ -9,6 +9,8 @@ returns-then-count-self c =
     let room = c.if-count-self.true in
     let low = c.self.invariant in
     let s = c.self.inside in
-    ap (λ o. (record { from = s.from; to = s.to; way = s.way; number = s.number + length c.args.out.now }, o)) c.ramp.ensures
-    ∙ sym (line_ramp (record { from = s.from; to = s.to; way = s.way; number = s.number }) 0 (length c.args.out.now) (omega arith))
+    ap (λ o. (record { from = s.from; to = s.to; way = s.way; number = s.number + length c.args.out.now }, o))
+    c.ramp.ensures
+    ∙ sym (line_ramp (record { from = s.from; to = s.to; way = s.way; number = s.number }) 0 (length c.args.out.now)
+    (omega arith))
     ∙ ap (λ t. run line_step (λ j. []) t 0 (length c.args.out.now)) c.self.view_is

@@ -8,7 +8,8 @@ loop-j-init c = HasRun_none line_step (λ j. []) c.args.self.now (length c.args.
 
 pub loop-j-preserved : goal.loop-j-preserved
 loop-j-preserved c =
-    HasRun_step line_step (λ j. []) c.args.self.now (length c.args.out.now) c.loop-j.j c.loop-j.self c.step.new.self c.loop-j.out c.step.result
+    HasRun_step line_step (λ j. []) c.args.self.now (length c.args.out.now) c.loop-j.j c.loop-j.self c.step.new.self
+    c.loop-j.out c.step.result
     c.loop-j.invariant c.loop-j-test.true
     c.step.ensures
 

@@ -12,8 +12,11 @@ returns-then-is_level c =
     let s = c.self.inside in
     let n : ℕ = length c.args.out.now in
     let h : IsLevel c.args.self.now n = c.is_level.ensures c.if-is_level.true in
-    ap (λ o. (record { rise = s.rise; duration = s.duration; decay = s.decay; number = s.number + n }, o)) c.level.ensures
-    ∙ sym (linen_level (λ (j : ℕ). operand_at c.args.x.now j) (record { rise = s.rise; duration = s.duration; decay = s.decay; number = s.number }) 0 n (subst (λ t. IsLevel t n) (sym c.self.view_is) h))
+    ap (λ o. (record { rise = s.rise; duration = s.duration; decay = s.decay; number = s.number + n }, o))
+    c.level.ensures
+    ∙ sym (linen_level (λ (j : ℕ). operand_at c.args.x.now j)
+    (record { rise = s.rise; duration = s.duration; decay = s.decay; number = s.number }) 0 n
+    (subst (λ t. IsLevel t n) (sym c.self.view_is) h))
     ∙ ap (λ t. run linen_step (λ j. operand_at c.args.x.now j ∷ []) t 0 n) c.self.view_is
 
 pub returns-then-rises : goal.returns-then-rises
@@ -21,8 +24,11 @@ returns-then-rises c =
     let s = c.self.inside in
     let n : ℕ = length c.args.out.now in
     let h : IsRising c.args.self.now n = c.rises.ensures c.if-rises.true in
-    ap (λ o. (record { rise = s.rise; duration = s.duration; decay = s.decay; number = s.number + n }, o)) c.rising.ensures
-    ∙ sym (linen_rises (λ (j : ℕ). operand_at c.args.x.now j) (record { rise = s.rise; duration = s.duration; decay = s.decay; number = s.number }) n (subst (λ t. IsRising t n) (sym c.self.view_is) h))
+    ap (λ o. (record { rise = s.rise; duration = s.duration; decay = s.decay; number = s.number + n }, o))
+    c.rising.ensures
+    ∙ sym (linen_rises (λ (j : ℕ). operand_at c.args.x.now j)
+    (record { rise = s.rise; duration = s.duration; decay = s.decay; number = s.number }) n
+    (subst (λ t. IsRising t n) (sym c.self.view_is) h))
     ∙ ap (λ t. run linen_step (λ j. operand_at c.args.x.now j ∷ []) t 0 n) c.self.view_is
 
 pub returns-then-falls : goal.returns-then-falls
@@ -30,15 +36,20 @@ returns-then-falls c =
     let s = c.self.inside in
     let n : ℕ = length c.args.out.now in
     let h : IsFalling c.args.self.now n = c.falls.ensures c.if-falls.true in
-    let k : IsFalling (record { rise = s.rise; duration = s.duration; decay = s.decay; number = s.number }) n = subst (λ t. IsFalling t n) (sym c.self.view_is) h in
+    let k : IsFalling (record { rise = s.rise; duration = s.duration; decay = s.decay; number = s.number }) n =
+    subst (λ t. IsFalling t n) (sym c.self.view_is) h in
     let low = k.falling in
-    ap (λ o. (record { rise = s.rise; duration = s.duration; decay = s.decay; number = s.number + n }, o)) c.falling_on.ensures
-    ∙ sym (linen_falls (λ (j : ℕ). operand_at c.args.x.now j) (record { rise = s.rise; duration = s.duration; decay = s.decay; number = s.number }) n (s.number + s.decay - s.duration) k (omega (arith, low)))
+    ap (λ o. (record { rise = s.rise; duration = s.duration; decay = s.decay; number = s.number + n }, o))
+    c.falling_on.ensures
+    ∙ sym (linen_falls (λ (j : ℕ). operand_at c.args.x.now j)
+    (record { rise = s.rise; duration = s.duration; decay = s.decay; number = s.number }) n
+    (s.number + s.decay - s.duration) k (omega (arith, low)))
     ∙ ap (λ t. run linen_step (λ j. operand_at c.args.x.now j ∷ []) t 0 n) c.self.view_is
 
 pub rising-requires-clause-some : goal.rising-requires-clause-some
 rising-requires-clause-some c =
     let s = c.self.inside in
     let h : IsRising c.args.self.now (length c.args.out.now) = c.rises.ensures c.if-rises.true in
-    let k : IsRising (record { rise = s.rise; duration = s.duration; decay = s.decay; number = s.number }) (length c.args.out.now) = subst (λ t. IsRising t (length c.args.out.now)) (sym c.self.view_is) h in
+    let k : IsRising (record { rise = s.rise; duration = s.duration; decay = s.decay; number = s.number })
+    (length c.args.out.now) = subst (λ t. IsRising t (length c.args.out.now)) (sym c.self.view_is) h in
     k.begun

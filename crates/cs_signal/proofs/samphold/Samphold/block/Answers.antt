@@ -5,11 +5,13 @@ use Rattle.cs_signal.proofs.Walks.{HasRun_none, HasRun_step, HasRun_end}
 use Rattle.cs_signal.proofs.samphold.Samphold.block.Goals as goal
 
 pub loop-j-init : goal.loop-j-init
-loop-j-init c = HasRun_none samphold_step (λ j. operand_at c.args.x.now j ∷ operand_at c.args.gate.now j ∷ []) c.args.self.now (length c.args.out.now) c.args.out.now refl
+loop-j-init c = HasRun_none samphold_step (λ j. operand_at c.args.x.now j ∷ operand_at c.args.gate.now j ∷ [])
+    c.args.self.now (length c.args.out.now) c.args.out.now refl
 
 pub loop-j-preserved : goal.loop-j-preserved
 loop-j-preserved c =
-    HasRun_step samphold_step (λ j. operand_at c.args.x.now j ∷ operand_at c.args.gate.now j ∷ []) c.args.self.now (length c.args.out.now) c.loop-j.j c.loop-j.self c.step.new.self c.loop-j.out c.step.result
+    HasRun_step samphold_step (λ j. operand_at c.args.x.now j ∷ operand_at c.args.gate.now j ∷ []) c.args.self.now
+    (length c.args.out.now) c.loop-j.j c.loop-j.self c.step.new.self c.loop-j.out c.step.result
     c.loop-j.invariant c.loop-j-test.true
     (c.step.ensures
     ∙ ap (λ z. samphold_step c.loop-j.self (z ∷ c.at-in-loop-j.result ∷ [])) c.at.ensures
@@ -17,5 +19,6 @@ loop-j-preserved c =
 
 pub returns : goal.returns
 returns c =
-    HasRun_end samphold_step (λ j. operand_at c.args.x.now j ∷ operand_at c.args.gate.now j ∷ []) c.args.self.now (length c.args.out.now) c.loop-j.j c.loop-j.self c.loop-j.out
+    HasRun_end samphold_step (λ j. operand_at c.args.x.now j ∷ operand_at c.args.gate.now j ∷ []) c.args.self.now
+    (length c.args.out.now) c.loop-j.j c.loop-j.self c.loop-j.out
     c.loop-j.invariant c.loop-j-test.false
