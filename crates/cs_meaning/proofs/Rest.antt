@@ -1,5 +1,6 @@
 -- What a unit, a store and an act on zak places leave as it is, in the world of any model.
-use Rattle.std.proofs.Common.{◌≡◌, ℕ, ℤ, pos, ◌-◌, ◌&&◌, Bool, true, false, List, nat_le, Option, Some, None, if◌then◌else◌, refl}
+use Rattle.std.proofs.Common.{◌≡◌, ℕ, ℤ, pos, ◌-◌, ◌&&◌, Bool, true, false, List, nat_le, Option, Some, None}
+use Rattle.std.proofs.Common.{if◌then◌else◌, refl}
 use Rattle.cs_base.specs.declared.resource.Rate.{Rate}
 use Rattle.cs_base.specs.declared.resource.Res.{Res}
 use Rattle.cs_words.specs.declared.catalogue.Opcode.{Opcode}
@@ -10,7 +11,8 @@ use Rattle.cs_words.specs.declared.catalogue.Space.TheVariants as space
 use Rattle.cs_ir.specs.Resources.{reaches}
 use Rattle.cs_ir.specs.Waves.{Wave, operand, silence}
 use Rattle.cs_ir.specs.declared.op.Reach.{Reach}
-use Rattle.cs_meaning.specs.Model.{Cause, State, Model, with_value, unit_points, has_run, unit_does, store_into, store_at, zak_does, out_to, out_to_numbered}
+use Rattle.cs_meaning.specs.Model.{Cause, State, Model, with_value, unit_points, has_run, unit_does, store_into}
+use Rattle.cs_meaning.specs.Model.{store_at, zak_does, out_to, out_to_numbered}
 use Rattle.cs_meaning.specs.Pieces.{Table, find_table, is_live, index, may_touch, at_place, has_place}
 
 -- of a note's state all but what notes share, its units and its output
@@ -37,7 +39,8 @@ module _ {S U : Type 0} (model : Model S U) where
       → rest (unit_does model opcode r u reach ws o x).0 ≡ rest x
   unit_rest opcode r u reach ws None x = refl
   unit_rest opcode r u reach ws (Some p) x =
-      either_of (may_touch opcode reach (model.table p)) (has_run u (model.plays r ws (unit_points model opcode p x) p) x) (x, silence) x refl refl
+      either_of (may_touch opcode reach (model.table p))
+      (has_run u (model.plays r ws (unit_points model opcode p x) p) x) (x, silence) x refl refl
 
   table_rest : (r : Rate) (ws : List Wave) (o : Option Table) (x : State S U)
       → rest (store_into model r ws o x) ≡ rest x
@@ -48,7 +51,8 @@ module _ {S U : Type 0} (model : Model S U) where
       → rest (store_at model r reach ws i x) ≡ rest x
   store_rest r reach ws None x = refl
   store_rest r reach ws (Some n) x =
-      either (reaches reach n) (store_into model r ws (find_table model.piece.tables (pos n)) x) x x (table_rest r ws (find_table model.piece.tables (pos n)) x) refl
+      either (reaches reach n) (store_into model r ws (find_table model.piece.tables (pos n)) x) x x
+      (table_rest r ws (find_table model.piece.tables (pos n)) x) refl
 
   place_rest : (sp : Space) (reach : Reach) (i : Option ℕ) (x : State S U) (w : Res → Wave)
       → rest (at_place model.piece sp reach i x (λ g. with_value model g (w g) x)) ≡ rest x
@@ -77,4 +81,5 @@ module _ {S U : Type 0} (model : Model S U) where
   pub numbered_rest : (i : Option ℕ) (w : Wave) (x : State S U)
       → rest (out_to_numbered model.piece.head.nchnls i w x) ≡ rest x
   numbered_rest None w x = refl
-  numbered_rest (Some n) w x = either (nat_le 1 n && nat_le n model.piece.head.nchnls) (out_to (n - 1) w x) x x refl refl
+  numbered_rest (Some n) w x =
+      either (nat_le 1 n && nat_le n model.piece.head.nchnls) (out_to (n - 1) w x) x x refl refl

@@ -1,5 +1,6 @@
 -- What each statement of the typed tree is short for.
-use Rattle.std.specs.Prelude.{ℕ, ℤ, pos, ◌&&◌, ◌+◌, ◌-◌, List, [], ◌∷◌, nat_lt, nat_le, min, unsigned_abs, if◌then◌else◌}
+use Rattle.std.specs.Prelude.{ℕ, ℤ, pos, ◌&&◌, ◌+◌, ◌-◌, List, [], ◌∷◌, nat_lt, nat_le, min, unsigned_abs}
+use Rattle.std.specs.Prelude.{if◌then◌else◌}
 use Rattle.cs_base.specs.Numbers.{whole_below}
 use Rattle.cs_base.specs.declared.resource.Rate.{Rate}
 use Rattle.cs_base.specs.declared.resource.Rate.TheVariants as rate
@@ -22,11 +23,13 @@ mutual
   pub data Stmt : Type 0 where
     -- a variable or a channel takes a value
     set : Rate → Variable → Expression → Stmt
-    -- a unit: its result if it has one, what it may touch, the arguments that move, and those that are settled as the note begins
+    -- a unit: its result if it has one, what it may touch, the arguments that move, and those that are settled as the
+    -- note begins
     unit : Rate → List Variable → Opcode → Reach → List Expression → List Expression → Stmt
     -- zak places are read or written: the result if there is one, the places that may be touched, and the arguments
     zak : Rate → List Variable → Opcode → Reach → List Expression → Stmt
-    -- a store: the tables that it may touch, its arguments, and of them the one that is settled, the number of its table
+    -- a store: the tables that it may touch, its arguments, and of them the one that is settled, the number of its
+    -- table
     store : Rate → Opcode → Reach → List Expression → List Expression → Stmt
     -- values for the output channels from the first on; and pairs of a channel's number and a value for it
     out : Rate → List Expression → Stmt
@@ -104,7 +107,8 @@ plus r v e = pair r op.Add (var r v) e
 -- calls of what has a state, of a store, and of what reads or writes zak places
 abbrev pub unit_call : Rate → List Variable → Opcode → List typed.Argument → Stmt
 unit_call r vs opcode args =
-    let is = settled (row_of opcode) 0 args in unit r vs opcode (unit_reach opcode is) (moving (row_of opcode) 0 args) is
+    let is = settled (row_of opcode) 0 args in unit r vs opcode (unit_reach opcode is) (moving (row_of opcode) 0 args)
+    is
 
 abbrev pub store_call : Rate → Opcode → List typed.Argument → Stmt
 store_call r opcode args =

@@ -8,14 +8,15 @@ use Rattle.cs_base.specs.declared.resource.Res.{Res}
 use Rattle.cs_base.specs.declared.resource.Res.TheVariants as res
 use Rattle.cs_words.specs.declared.catalogue.Opcode.TheVariants as op
 use Rattle.cs_words.specs.declared.sign.BinOp.TheVariants as sign
-use Rattle.cs_typed.specs.TypedTree.{Expression, number, var, field, pair, value, Statement, set, call, choose, Block, no_stmt, andthen, otherwise, arm}
+use Rattle.cs_typed.specs.TypedTree.{Expression, number, var, field, pair, value, Statement, set, call, choose, Block}
+use Rattle.cs_typed.specs.TypedTree.{no_stmt, andthen, otherwise, arm}
 use Rattle.cs_typed.specs.declared.tree.Var.{Var as Variable}
 use Rattle.cs_typed.specs.declared.tree.Var.TheVariants.{Local, Global}
 use Rattle.cs_ir.specs.Resources.{Stock}
 use Rattle.cs_ir.specs.Waves.{Wave, silence}
 use Rattle.cs_meaning.specs.Core.{core}
 use Rattle.cs_meaning.specs.Initialising.{init_block}
-use Rattle.cs_meaning.specs.Notes.{Note, new_note, moved_to, start}
+use Rattle.cs_meaning.specs.Notes.{Note, Path, new_note, moved_to, start}
 use Rattle.cs_meaning.specs.Performing.{perf_block}
 use Rattle.cs_meaning.specs.Uses.{block_uses, block_writes}
 use Rattle.cs_meaning.specs.Plain.{Cause, Plain, Piece, plain, fresh, next_cycle}
@@ -24,8 +25,8 @@ use Rattle.cs_meaning.specs.Plain.{Cause, Plain, Piece, plain, fresh, next_cycle
 abbrev eighths : ℤ → ℕ
 eighths t = unsigned_abs (floor_div (t *ℤ pos 8) scale)
 
--- a piece of eight frames a second and four a cycle, with one channel, these zak spaces, no tables and no generators; its notes have 7
--- in each field
+-- a piece of eight frames a second and four a cycle, with one channel, these zak spaces, no tables and no generators;
+-- its notes have 7 in each field
 abbrev pub small_piece : ℕ → ℕ → Piece
 small_piece zak_k zak_a = record {
   head = record { sr = 8; ksmps = 4; nchnls = 1; dbfs = pos (32768 * 65536) };
@@ -56,7 +57,8 @@ begin_all piece (b ∷ rest) shared =
 abbrev pub cycle : Piece → List Player → (Res → Wave) → List Player × (Res → Wave)
 cycle piece [] shared = ([], shared)
 cycle piece ((b, t) ∷ rest) shared =
-    let now = performed piece b t shared in let others = cycle piece rest now.world.shared in ((b, now) ∷ others.0, others.1)
+    let now = performed piece b t shared in let others =
+    cycle piece rest now.world.shared in ((b, now) ∷ others.0, others.1)
 
 -- what is heard of a cycle at each of its four frames: the sum of the notes, in whole numbers
 abbrev pub sum_at : List Player → ℕ → ℤ
@@ -142,7 +144,8 @@ ending =
     (andthen (set 6 rate.Audio (a 0) (read (k 0)))
     (andthen (out (a 0))
     (one (choose 8 rate.Control
-    (arm (pair rate.Control sign.Equal (read (k 0)) (lit 2)) (one (call 9 rate.Control [] op.Turnoff [])) (otherwise no_stmt)))))))
+    (arm (pair rate.Control sign.Equal (read (k 0)) (lit 2)) (one (call 9 rate.Control [] op.Turnoff []))
+    (otherwise no_stmt)))))))
 
 -- zkw 7, 1
 abbrev pub writing_place : Block
@@ -153,7 +156,8 @@ abbrev pub reading_places : Block
 reading_places =
     andthen (call 8 rate.Control (k 0 ∷ []) op.Zkr (value (lit 1) ∷ []))
     (andthen (call 9 rate.Control (k 1 ∷ []) op.Zkr (value (lit 5) ∷ []))
-    (andthen (set 10 rate.Audio (a 0) (pair rate.Control sign.Add (pair rate.Control sign.Mul (read (k 0)) (lit 10)) (read (k 1))))
+    (andthen (set 10 rate.Audio (a 0)
+    (pair rate.Control sign.Add (pair rate.Control sign.Mul (read (k 0)) (lit 10)) (read (k 1))))
     (one (out (a 0)))))
 
 -- gk1 = 1, and k1 = gk1 and k1 = gk2
@@ -185,7 +189,8 @@ set_k n = one (call 6 rate.Init (k 0 ∷ []) op.Init (value (lit n) ∷ []))
 
 abbrev pub deciding : Block
 deciding =
-    andthen (choose 5 rate.Init (arm (pair rate.Init sign.Equal (field rate.Init 4) (lit 1)) (set_k 3) (otherwise (set_k 4))))
+    andthen (choose 5 rate.Init
+    (arm (pair rate.Init sign.Equal (field rate.Init 4) (lit 1)) (set_k 3) (otherwise (set_k 4))))
     (andthen (set 9 rate.Audio (a 0) (read (k 0))) (one (out (a 0))))
 
 -- gk1 init 2 outside; i1 = p4 * 10; k1 init 0; k1 = k1 + gk1; a1 = k1 + i1; out a1; if k1 == 4 then turnoff endif
@@ -203,12 +208,17 @@ followed =
     (andthen (set 8 rate.Audio (a 0) (pair rate.Control sign.Add (read (k 0)) (var rate.Init i1)))
     (andthen (out (a 0))
     (one (choose 10 rate.Control
-    (arm (pair rate.Control sign.Equal (read (k 0)) (lit 4)) (one (call 11 rate.Control [] op.Turnoff [])) (otherwise no_stmt))))))))
+    (arm (pair rate.Control sign.Equal (read (k 0)) (lit 4)) (one (call 11 rate.Control [] op.Turnoff []))
+    (otherwise no_stmt))))))))
 
--- the first values that a note keeps
-abbrev pub kept_by : Piece → Block → Block → List ℤ
-kept_by piece outside body =
-    map (begun piece body (begun piece outside (λ g. silence)).world.shared).kept (range_with_len 0 2)
+-- the values that a note keeps where parts of its text stand
+abbrev pub kept_by : Piece → Block → Block → List Path → List ℤ
+kept_by piece outside body = map (begun piece body (begun piece outside (λ g. silence)).world.shared).kept
+
+-- where the note that is followed keeps `i1`, the second part of the sum in the fourth statement, and 4, that of the
+-- first condition in the sixth
+abbrev pub followed_places : List Path
+followed_places = (1 ∷ 0 ∷ 3 ∷ []) ∷ (1 ∷ 0 ∷ 0 ∷ 5 ∷ []) ∷ []
 
 -- a1 oscili 1, 1, 9; and a1 = 1, a2 delay a1, 40000
 abbrev pub missing_table : Block
@@ -221,7 +231,8 @@ long_delay =
 
 -- schedule 2, 0, 1, p4
 abbrev pub asking : Block
-asking = one (call 5 rate.Init [] op.Schedule (value (lit 2) ∷ value (lit 0) ∷ value (lit 1) ∷ value (field rate.Init 4) ∷ []))
+asking = one (call 5 rate.Init [] op.Schedule
+    (value (lit 2) ∷ value (lit 0) ∷ value (lit 1) ∷ value (field rate.Init 4) ∷ []))
 
 -- zkw 1, 0; k1 zkr 0; k1 zkr p4
 abbrev pub writing_first : Block

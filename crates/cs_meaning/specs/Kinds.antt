@@ -10,7 +10,8 @@ use Rattle.cs_words.specs.declared.sign.BinOp.{BinOp}
 use Rattle.cs_words.specs.declared.sign.BinOp.TheVariants as sign
 use Rattle.cs_words.specs.declared.word.Func.{Func}
 use Rattle.cs_words.specs.declared.word.Func.TheVariants as func
-use Rattle.cs_typed.specs.TypedTree.{Expression, number, var, field, neg, pair, pick, apply, Argument, value, text, Statement, set, call, choose, Block, no_stmt, andthen, otherwise, arm}
+use Rattle.cs_typed.specs.TypedTree.{Expression, number, var, field, neg, pair, pick, apply, Argument, value, text}
+use Rattle.cs_typed.specs.TypedTree.{Statement, set, call, choose, Block, no_stmt, andthen, otherwise, arm}
 use Rattle.cs_typed.specs.declared.tree.Var.TheVariants.{Global}
 use Rattle.cs_ir.specs.Waves.{silence}
 use Rattle.cs_meaning.specs.Examples.{small_piece, begun, lit, one, k, a, read, out}
@@ -47,7 +48,8 @@ three = set 4 rate.Audio (a 0) (lit 3)
 abbrev pub initialising_both : Block
 initialising_both = all (
     init_k 0 5
-    ∷ choose 3 rate.Control (arm (equal rate.Control (read (k 0)) (lit 5)) (one (init_k 1 3)) (otherwise (one (init_k 1 4))))
+    ∷ choose 3 rate.Control (arm (equal rate.Control (read (k 0)) (lit 5)) (one (init_k 1 3))
+    (otherwise (one (init_k 1 4))))
     ∷ sound_of 1 ∷ out (a 0) ∷ [])
 
 -- k1 init 0; if k1 == 5 then, if p4 == 7 then k2 init 3 else k2 init 9 endif, endif; a1 = k2; out a1
@@ -55,7 +57,8 @@ abbrev pub deciding_inside : Block
 deciding_inside = all (
     init_k 0 0
     ∷ choose 3 rate.Control (arm (equal rate.Control (read (k 0)) (lit 5))
-    (one (choose 4 rate.Init (arm (equal rate.Init (field rate.Init 4) (lit 7)) (one (init_k 1 3)) (otherwise (one (init_k 1 9))))))
+    (one (choose 4 rate.Init
+    (arm (equal rate.Init (field rate.Init 4) (lit 7)) (one (init_k 1 3)) (otherwise (one (init_k 1 9))))))
     (otherwise no_stmt))
     ∷ sound_of 1 ∷ out (a 0) ∷ [])
 
@@ -81,7 +84,8 @@ mixing_places = all (
     ∷ call 6 rate.Audio (a 1 ∷ []) op.Zar (value (lit 1) ∷ [])
     ∷ call 7 rate.Control [] op.Zacl (value (lit 0) ∷ value (lit 1) ∷ [])
     ∷ call 8 rate.Audio (a 2 ∷ []) op.Zar (value (lit 1) ∷ [])
-    ∷ takes_sound op.Out (value (pair rate.Audio sign.Add (pair rate.Audio sign.Mul (heard_of 1) (lit 10)) (heard_of 2)) ∷ [])
+    ∷ takes_sound op.Out (value (pair rate.Audio sign.Add (pair rate.Audio sign.Mul (heard_of 1) (lit 10)) (heard_of 2))
+    ∷ [])
     ∷ [])
 
 -- a1 = 3; zaw a1, 1; zaw a1, 1; a2 zar 1; out a2
@@ -127,7 +131,8 @@ setting_channel = all (
 abbrev pub sending_to_numbers : Block
 sending_to_numbers = all (
     three
-    ∷ takes_sound op.Outch (value (lit 2) ∷ value (heard_of 0) ∷ value (number rate.Init (pos 124518)) ∷ value (heard_of 0)
+    ∷ takes_sound op.Outch (value (lit 2) ∷ value (heard_of 0) ∷ value (number rate.Init (pos 124518))
+    ∷ value (heard_of 0)
     ∷ value (lit 0) ∷ value (heard_of 0) ∷ value (neg rate.Init (lit 1)) ∷ value (heard_of 0) ∷ []) ∷ [])
 
 -- a1 = p4 > 5 ? 2 : 3; out a1

@@ -1,6 +1,7 @@
--- A world of notes by its model: how it keeps what notes share, and how a unit of it starts and runs. All else is the same in
--- every such world, and is said here once.
-use Rattle.std.specs.Prelude.{ℕ, ℤ, pos, Bool, true, false, not, ◌&&◌, ◌+◌, ◌-◌, ◌==◌, ◌++◌, List, [], ◌∷◌, nat_le, slice_index_or, Option, Some, None, if◌then◌else◌}
+-- A world of notes by its model: how it keeps what notes share, and how a unit of it starts and runs. All else is the
+-- same in every such world, and is said here once.
+use Rattle.std.specs.Prelude.{ℕ, ℤ, pos, Bool, true, false, not, ◌&&◌, ◌+◌, ◌-◌, ◌==◌, ◌++◌, List, [], ◌∷◌, nat_le}
+use Rattle.std.specs.Prelude.{slice_index_or, Option, Some, None, if◌then◌else◌}
 use Rattle.std.specs.Option.{is_some}
 use Rattle.cs_base.specs.Limits.{most_delay_samples}
 use Rattle.cs_base.specs.Rates.{res_rate}
@@ -16,15 +17,17 @@ use Rattle.cs_ir.specs.Resources.{reaches}
 use Rattle.cs_ir.specs.Waves.{Wave, held, silence, operand}
 use Rattle.cs_ir.specs.Worlds.{World}
 use Rattle.cs_ir.specs.declared.op.Reach.{Reach}
-use Rattle.cs_meaning.specs.Pieces.{Piece, Table, head_value, index, added, steps_of, table_number, find_table, is_there, read_points, is_live, stored, places_of_indices, may_touch, is_delay, at_place, is_cleared}
+use Rattle.cs_meaning.specs.Pieces.{Piece, Table, head_value, index, added, steps_of, table_number, find_table}
+use Rattle.cs_meaning.specs.Pieces.{is_there, read_points, is_live, stored, places_of_indices, may_touch, is_delay}
+use Rattle.cs_meaning.specs.Pieces.{at_place, is_cleared}
 
 -- why a note doesn't start
 pub data Cause : Type 0 where
   no_table : ℤ → Cause
   delay_too_long : ℕ → Cause
 
--- The state of a world: what notes share; the note's units, the samples of its delays, its output channels, whether it was
--- turned off, the values of what it asked for, in order; and why it doesn't start.
+-- The state of a world: what notes share; the note's units, the samples of its delays, its output channels, whether it
+-- was turned off, the values of what it asked for, in order; and why it doesn't start.
 pub record State (S U : Type 0) : Type 0 where
   pub shared : S
   pub units : ℕ → Option U
@@ -39,10 +42,10 @@ abbrev pub fresh_state : {S U : Type 0} → S → State S U
 fresh_state s =
     record { shared = s; units = λ u. None; delays = 0; outs = λ c. silence; ended = false; asks = []; cause = None }
 
--- What tells one world of a piece from another. Of what notes share: how a resource is read and written, and how those of some
--- resources are set to 0. Of a unit: as it starts with its settled values; how many samples a delay of a time in raw seconds
--- keeps; the number of its table; and, by its rate, its moving arguments and the points that it reads, the unit after a cycle
--- and its result.
+-- What tells one world of a piece from another. Of what notes share: how a resource is read and written, and how those
+-- of some resources are set to 0. Of a unit: as it starts with its settled values; how many samples a delay of a time
+-- in raw seconds keeps; the number of its table; and, by its rate, its moving arguments and the points that it reads,
+-- the unit after a cycle and its result.
 pub record Model (S U : Type 0) : Type 0 where
   pub piece : Piece
   pub load : Res → S → Wave
@@ -92,7 +95,8 @@ abbrev pub store_into : {S U : Type 0} → Model S U → Rate → List Wave → 
 store_into m r ws None x = x
 store_into m r ws (Some t) x =
     let g = res.Table t.number in
-    let points = stored (places_of_indices t (operand 1 ws)) (operand 0 ws) (steps_of m.piece.head.ksmps r) (loaded m g x) in
+    let points = stored (places_of_indices t (operand 1 ws)) (operand 0 ws) (steps_of m.piece.head.ksmps r)
+    (loaded m g x) in
     if is_live t then with_value m g points x else x
 
 -- a store of a value at an index: into the table with a number, where it may be touched
@@ -116,7 +120,8 @@ zak_does m (shape.ZakGet s) reach ws x =
 zak_does m (shape.ZakPut s) reach ws x =
     (at_place m.piece s reach (index (operand 1 ws 0)) x (λ g. saved m g (operand 0 ws) x), silence)
 zak_does m shape.ZakMix reach ws x = (
-  at_place m.piece space.Audio reach (index (operand 1 ws 0)) x (λ g. saved m g (added (loaded m g x) (operand 0 ws)) x),
+  at_place m.piece space.Audio reach (index (operand 1 ws 0)) x
+      (λ g. saved m g (added (loaded m g x) (operand 0 ws)) x),
   silence,
 )
 zak_does m (shape.ZakClear s) reach ws x =
@@ -156,7 +161,8 @@ starts m opcode r u is x =
 
 -- ---- output
 
--- a value is added to a channel, counted from 0; and to the channel below a value, counted from 1, where the piece has it
+-- a value is added to a channel, counted from 0; and to the channel below a value, counted from 1, where the piece has
+-- it
 abbrev pub out_to : {S U : Type 0} → ℕ → Wave → State S U → State S U
 out_to c w x = record x { outs = λ n. if n == c then added (x.outs n) w else x.outs n }
 

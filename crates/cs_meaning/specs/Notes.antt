@@ -1,5 +1,5 @@
 -- A note in its world, and what its expressions are worth.
-use Rattle.std.specs.Prelude.{ℕ, ℤ, Bool, true, false, ◌+◌, List, [], ◌∷◌}
+use Rattle.std.specs.Prelude.{ℕ, ℤ, pos, Bool, true, false, suc, ◌+◌, List, [], ◌∷◌}
 use Rattle.cs_base.specs.Rates.{res_rate}
 use Rattle.cs_base.specs.declared.resource.Rate.{Rate}
 use Rattle.cs_typed.specs.TypedTree.{Expression, number, var, field, head, neg, pair, pick, apply}
@@ -10,13 +10,24 @@ use Rattle.cs_ir.specs.Values.{negated, applied}
 use Rattle.cs_ir.specs.Waves.{Wave, held, constant, both, chosen, if_init, silence}
 use Rattle.cs_ir.specs.Worlds.{World}
 use Rattle.cs_ir.specs.declared.register.Reg.{Reg}
-use Rattle.cs_meaning.specs.Core.{Stmt, Block, Arms, set, unit, zak, store, out, out_at, ask, turnoff, nothing, choose, no_stmt, andthen, otherwise, arm}
+use Rattle.cs_meaning.specs.Core.{Stmt, Block, Arms, set, unit, zak, store, out, out_at, ask, turnoff, nothing, choose}
+use Rattle.cs_meaning.specs.Core.{no_stmt, andthen, otherwise, arm}
 
--- A note: its local variables by rate and number, the values that it keeps from its initialisation by their number in the text,
--- and the state of the world that it sounds in.
+-- Where a part of a text stands: which part of its whole it is, counted from 0, then which part that whole is of its
+-- own, and so on up to the body, whose parts are its statements.
+abbrev pub Path : Type 0
+Path = List ℕ
+
+-- where the part behind stands, in the same whole
+abbrev pub next : Path → Path
+next [] = []
+next (n ∷ p) = suc n ∷ p
+
+-- A note: its local variables by rate and number, the values that it keeps from its initialisation by where they stand
+-- in the text, and the state of the world that it sounds in.
 pub record Note (W : Type 0) : Type 0 where
   pub locals : Reg → Wave
-  pub kept : ℕ → ℤ
+  pub kept : Path → ℤ
   pub world : W
 
 abbrev pub reg : Rate → ℕ → Reg
@@ -24,57 +35,57 @@ reg r n = record { rate = r; index = n }
 
 -- a note that begins: all its variables are 0
 abbrev pub new_note : {W : Type 0} → W → Note W
-new_note x = record { locals = λ q. silence; kept = silence; world = x }
+new_note x = record { locals = λ q. silence; kept = λ p. pos 0; world = x }
 
 abbrev pub moved_to : {W : Type 0} → W → Note W → Note W
 moved_to x t = record t { world = x }
 
--- How many values were kept and units met in the text before a place.
+-- Units are numbered in the order of the text: the number of the next unit behind a statement, a block, the arms of an
+-- `if`.
+abbrev mutual
+  pub unit_past : ℕ → Stmt → ℕ
+  unit_past u (unit r vs opcode reach xs is) = u + 1
+  unit_past u (choose r arms) = unit_past_arms u arms
+  unit_past u (set r v e) = u
+  unit_past u (zak r vs opcode reach xs) = u
+  unit_past u (store r opcode reach es is) = u
+  unit_past u (out r es) = u
+  unit_past u (out_at r es) = u
+  unit_past u (ask es) = u
+  unit_past u (turnoff r) = u
+  unit_past u nothing = u
+
+  pub unit_past_block : ℕ → Block → ℕ
+  unit_past_block u no_stmt = u
+  unit_past_block u (andthen s b) = unit_past_block (unit_past u s) b
+
+  pub unit_past_arms : ℕ → Arms → ℕ
+  unit_past_arms u (otherwise b) = unit_past_block u b
+  unit_past_arms u (arm c b rest) = unit_past_arms (unit_past_block u b) rest
+
+-- The place of a statement or of an arm: where it stands, and the number of the first unit from there on.
 pub record Place : Type 0 where
-  pub part : ℕ
+  pub path : Path
   pub unit : ℕ
 
+-- the place of a body's first statement
 abbrev pub start : Place
-start = record { part = 0; unit = 0 }
+start = record { path = 0 ∷ []; unit = 0 }
 
--- Of an expression that changes the outermost parts that don't are kept, in the order of the text: the number after theirs.
-abbrev pub past : ℕ → Expression → ℕ
-past at (number r n) = if_init r (at + 1) at
-past at (var r v) = if_init r (at + 1) at
-past at (field r k) = if_init r (at + 1) at
-past at (head r h) = if_init r (at + 1) at
-past at (neg r a) = if_init r (at + 1) (past at a)
-past at (pair r o a b) = if_init r (at + 1) (past (past at a) b)
-past at (pick r c a b) = if_init r (at + 1) (past (past (past at c) a) b)
-past at (apply r f a) = if_init r (at + 1) (past at a)
+-- The place behind a statement, and behind an arm with these statements.
+abbrev pub past_stmt : Place → Stmt → Place
+past_stmt p s = record { path = next p.path; unit = unit_past p.unit s }
 
-abbrev pub past_all : ℕ → List Expression → ℕ
-past_all at [] = at
-past_all at (e ∷ es) = past_all (past at e) es
+abbrev pub past_arm : Place → Block → Place
+past_arm p b = record { path = next p.path; unit = unit_past_block p.unit b }
 
-abbrev pub past_parts : ℕ → Place → Place
-past_parts n p = record { part = n; unit = p.unit }
+-- The place of the first part of what has a place: of an `if` its first arm, of the last arm its first statement. Any
+-- other arm has two parts, its condition and its statements.
+abbrev pub inside : Place → Place
+inside p = record { path = 0 ∷ p.path; unit = p.unit }
 
-abbrev mutual
-  pub past_stmt : Place → Stmt → Place
-  past_stmt p (set r v e) = past_parts (if_init r p.part (past p.part e)) p
-  past_stmt p (unit r vs opcode reach xs is) = record { part = if_init r p.part (past_all p.part xs); unit = p.unit + 1 }
-  past_stmt p (zak r vs opcode reach xs) = past_parts (if_init r p.part (past_all p.part xs)) p
-  past_stmt p (store r opcode reach es is) = past_parts (if_init r p.part (past_all p.part es)) p
-  past_stmt p (out r es) = past_parts (past_all p.part es) p
-  past_stmt p (out_at r es) = past_parts (past_all p.part es) p
-  past_stmt p (ask es) = p
-  past_stmt p (turnoff r) = p
-  past_stmt p nothing = p
-  past_stmt p (choose r arms) = past_arms p arms
-
-  pub past_block : Place → Block → Place
-  past_block p no_stmt = p
-  past_block p (andthen s b) = past_block (past_stmt p s) b
-
-  pub past_arms : Place → Arms → Place
-  past_arms p (otherwise b) = past_block p b
-  past_arms p (arm c b rest) = past_arms (past_block (past_parts (past p.part c) p) b) rest
+abbrev pub inside_arm : Place → Place
+inside_arm p = record { path = 0 ∷ 1 ∷ p.path; unit = p.unit }
 
 -- what a variable has, read at a rate
 abbrev pub look : {W : Type 0} → World W → Note W → Rate → Variable → Wave
@@ -91,29 +102,31 @@ abbrev pub part : Bool → Rate → ℤ → Wave → Wave
 part true r kept own = own
 part false r kept own = if_init r (constant kept) own
 
--- The value of an expression whose kept parts have their numbers from a place on: worked out as a whole as the note begins, and
--- with its kept parts in a control cycle.
-abbrev pub value : {W : Type 0} → World W → Note W → Bool → ℕ → Expression → Wave
-value o t whole at (number r n) = part whole r (t.kept at) (held o.ksmps r (constant n))
-value o t whole at (var r v) = part whole r (t.kept at) (look o t r v)
-value o t whole at (field r k) = part whole r (t.kept at) (held o.ksmps r (constant (o.field k)))
-value o t whole at (head r h) = part whole r (t.kept at) (held o.ksmps r (constant (o.head h)))
-value o t whole at (neg r a) =
-    part whole r (t.kept at) (held o.ksmps r (λ j. negated (value o t whole at a j)))
-value o t whole at (pair r b x y) =
-    part whole r (t.kept at) (held o.ksmps r (both b (value o t whole at x) (value o t whole (past at x) y)))
-value o t whole at (pick r c x y) =
-    part whole r (t.kept at) (held o.ksmps r (chosen (value o t whole at c) (value o t whole (past at c) x) (value o t whole (past (past at c) x) y)))
-value o t whole at (apply r f x) =
-    part whole r (t.kept at) (held o.ksmps r (λ j. applied f (value o t whole at x j)))
+-- The value of an expression that stands somewhere: worked out as a whole as the note begins, and with its kept parts
+-- in a control cycle.
+abbrev pub value : {W : Type 0} → World W → Note W → Bool → Path → Expression → Wave
+value o t whole p (number r n) = part whole r (t.kept p) (held o.ksmps r (constant n))
+value o t whole p (var r v) = part whole r (t.kept p) (look o t r v)
+value o t whole p (field r k) = part whole r (t.kept p) (held o.ksmps r (constant (o.field k)))
+value o t whole p (head r h) = part whole r (t.kept p) (held o.ksmps r (constant (o.head h)))
+value o t whole p (neg r a) =
+    part whole r (t.kept p) (held o.ksmps r (λ j. negated (value o t whole (0 ∷ p) a j)))
+value o t whole p (pair r b x y) =
+    part whole r (t.kept p) (held o.ksmps r (both b (value o t whole (0 ∷ p) x) (value o t whole (1 ∷ p) y)))
+value o t whole p (pick r c x y) =
+    part whole r (t.kept p)
+    (held o.ksmps r (chosen (value o t whole (0 ∷ p) c) (value o t whole (1 ∷ p) x) (value o t whole (2 ∷ p) y)))
+value o t whole p (apply r f x) =
+    part whole r (t.kept p) (held o.ksmps r (λ j. applied f (value o t whole (0 ∷ p) x j)))
 
-abbrev pub values : {W : Type 0} → World W → Note W → Bool → ℕ → List Expression → List Wave
-values o t whole at [] = []
-values o t whole at (e ∷ es) = value o t whole at e ∷ values o t whole (past at e) es
+-- the values of expressions of which the first stands here and the others behind
+abbrev pub values : {W : Type 0} → World W → Note W → Bool → Path → List Expression → List Wave
+values o t whole p [] = []
+values o t whole p (e ∷ es) = value o t whole p e ∷ values o t whole (next p) es
 
 -- the value of an expression as the note begins
 abbrev pub first_value : {W : Type 0} → World W → Note W → Expression → ℤ
-first_value o t e = value o t true 0 e 0
+first_value o t e = value o t true [] e 0
 
 -- an opcode has run: its result goes into the variable, if it has one
 abbrev pub given : {W : Type 0} → World W → List Variable → Wave → Note W → Note W

@@ -1,35 +1,37 @@
 -- What a note does in a control cycle.
-use Rattle.std.specs.Prelude.{false, if◌then◌else◌}
+use Rattle.std.specs.Prelude.{false, ◌∷◌, if◌then◌else◌}
 use Rattle.cs_ir.specs.Values.{holds}
 use Rattle.cs_ir.specs.Waves.{if_init}
 use Rattle.cs_ir.specs.Worlds.{World}
-use Rattle.cs_meaning.specs.Core.{Stmt, Block, Arms, set, unit, zak, store, out, out_at, ask, turnoff, nothing, choose, no_stmt, andthen, otherwise, arm}
-use Rattle.cs_meaning.specs.Notes.{Note, Place, moved_to, past, past_parts, past_stmt, past_block, assign, value, values, done, sent, sent_at}
+use Rattle.cs_meaning.specs.Core.{Stmt, Block, Arms, set, unit, zak, store, out, out_at, ask, turnoff, nothing, choose}
+use Rattle.cs_meaning.specs.Core.{no_stmt, andthen, otherwise, arm}
+use Rattle.cs_meaning.specs.Notes.{Note, Place, moved_to, inside, inside_arm, past_stmt, past_arm, assign, value}
+use Rattle.cs_meaning.specs.Notes.{values, done, sent, sent_at}
 
--- Performance: every statement of another rate than Init, in the order of the text. An `if` takes the first arm whose condition
--- holds.
+-- Performance: every statement of another rate than Init, in the order of the text. An `if` takes the first arm whose
+-- condition holds.
 abbrev mutual
   pub perf_stmt : {W : Type 0} → World W → Place → Stmt → Note W → Note W
-  perf_stmt o p (set r v e) t = if_init r t (assign o v (value o t false p.part e) t)
+  perf_stmt o p (set r v e) t = if_init r t (assign o v (value o t false (0 ∷ p.path) e) t)
   perf_stmt o p (unit r vs opcode reach xs is) t =
-      if_init r t (done o r vs (o.does opcode r p.unit reach (values o t false p.part xs) t.world) t)
+      if_init r t (done o r vs (o.does opcode r p.unit reach (values o t false (0 ∷ p.path) xs) t.world) t)
   perf_stmt o p (zak r vs opcode reach xs) t =
-      if_init r t (done o r vs (o.zak opcode reach (values o t false p.part xs) t.world) t)
+      if_init r t (done o r vs (o.zak opcode reach (values o t false (0 ∷ p.path) xs) t.world) t)
   perf_stmt o p (store r opcode reach es is) t =
-      if_init r t (moved_to (o.store opcode r reach (values o t false p.part es) t.world) t)
-  perf_stmt o p (out r es) t = moved_to (sent o 0 (values o t false p.part es) t.world) t
-  perf_stmt o p (out_at r es) t = moved_to (sent_at o (values o t false p.part es) t.world) t
+      if_init r t (moved_to (o.store opcode r reach (values o t false (0 ∷ p.path) es) t.world) t)
+  perf_stmt o p (out r es) t = moved_to (sent o 0 (values o t false (0 ∷ p.path) es) t.world) t
+  perf_stmt o p (out_at r es) t = moved_to (sent_at o (values o t false (0 ∷ p.path) es) t.world) t
   perf_stmt o p (ask es) t = t
   perf_stmt o p (turnoff r) t = moved_to (o.turnoff t.world) t
   perf_stmt o p nothing t = t
-  perf_stmt o p (choose r arms) t = perf_arms o p arms t
+  perf_stmt o p (choose r arms) t = perf_arms o (inside p) arms t
 
   pub perf_block : {W : Type 0} → World W → Place → Block → Note W → Note W
   perf_block o p no_stmt t = t
   perf_block o p (andthen s b) t = perf_block o (past_stmt p s) b (perf_stmt o p s t)
 
   pub perf_arms : {W : Type 0} → World W → Place → Arms → Note W → Note W
-  perf_arms o p (otherwise b) t = perf_block o p b t
+  perf_arms o p (otherwise b) t = perf_block o (inside p) b t
   perf_arms o p (arm c b rest) t =
-      let q = past_parts (past p.part c) p in
-      if holds (value o t false p.part c 0) then perf_block o q b t else perf_arms o (past_block q b) rest t
+      if holds (value o t false (0 ∷ p.path) c 0) then perf_block o (inside_arm p) b t
+      else perf_arms o (past_arm p b) rest t

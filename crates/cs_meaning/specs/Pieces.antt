@@ -1,5 +1,7 @@
--- What a note finds: the header, the tables and the zak spaces of its piece, its p-fields, and what opcodes with a state do.
-use Rattle.std.specs.Prelude.{ℕ, ℤ, pos, Bool, true, false, not, ◌&&◌, ◌||◌, ◌*◌, ◌==◌, zero, suc, List, [], ◌∷◌, map, nat_lt, unsigned_abs, slice_index_or, int_lt, Option, Some, None, if◌then◌else◌}
+-- What a note finds: the header, the tables and the zak spaces of its piece, its p-fields, and what opcodes with a
+-- state do.
+use Rattle.std.specs.Prelude.{ℕ, ℤ, pos, Bool, true, false, not, ◌&&◌, ◌||◌, ◌*◌, ◌==◌, zero, suc, List, [], ◌∷◌, map}
+use Rattle.std.specs.Prelude.{nat_lt, unsigned_abs, slice_index_or, int_lt, Option, Some, None, if◌then◌else◌}
 use Rattle.std.specs.Int.{is_negative}
 use Rattle.std.specs.List.{range_with_len}
 use Rattle.std.specs.Option.{is_some}
@@ -90,7 +92,8 @@ abbrev pub read_points : (Res → Wave) → Option Table → List ℤ
 read_points shared None = []
 read_points shared (Some t) = curve_of (points_of shared t t.frozen)
 
--- A live table is one that notes may change. A note that stores into one that hasn't been made yet is refused as it begins.
+-- A live table is one that notes may change. A note that stores into one that hasn't been made yet is refused as it
+-- begins.
 abbrev pub is_live : Table → Bool
 is_live t = not (is_some t.frozen)
 
@@ -126,6 +129,8 @@ abbrev pub is_between : ℤ → ℤ → ℕ → Bool
 is_between first last n = not (int_lt (pos n) (whole_below first)) && not (int_lt (whole_below last) (pos n))
 
 abbrev pub is_cleared : Piece → Space → Reach → ℤ → ℤ → Res → Bool
-is_cleared piece space.Control reach first last (res.ZakK n) = has_place piece space.Control reach n && is_between first last n
-is_cleared piece space.Audio reach first last (res.ZakA n) = has_place piece space.Audio reach n && is_between first last n
+is_cleared piece space.Control reach first last (res.ZakK n) =
+    has_place piece space.Control reach n && is_between first last n
+is_cleared piece space.Audio reach first last (res.ZakA n) =
+    has_place piece space.Audio reach n && is_between first last n
 is_cleared piece s reach first last _ = false

@@ -9,7 +9,9 @@ use Rattle.cs_ir.specs.Waves.{Wave, silence}
 use Rattle.cs_ir.specs.Worlds.{World}
 use Rattle.cs_meaning.specs.Model.{State, Model, fresh_state, world_of}
 pub use Rattle.cs_meaning.specs.Model.{Cause, no_table, delay_too_long, out_to, out_to_numbered}
-pub use Rattle.cs_meaning.specs.Pieces.{Piece, Table, head_value, index, added, steps_of, step_at, table_number, find_table, is_there, points_of, read_points, is_live, stored, places_of_indices, is_delay, has_place, at_place, is_between, is_cleared}
+pub use Rattle.cs_meaning.specs.Pieces.{Piece, Table, head_value, index, added, steps_of, step_at, table_number}
+pub use Rattle.cs_meaning.specs.Pieces.{find_table, is_there, points_of, read_points, is_live, stored}
+pub use Rattle.cs_meaning.specs.Pieces.{places_of_indices, is_delay, has_place, at_place, is_between, is_cleared}
 
 -- a unit: its opcode, its rate, its settled values, and its inputs at each step so far
 pub record History : Type 0 where

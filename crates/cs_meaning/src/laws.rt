@@ -1,7 +1,7 @@
 // What follows from the definitions alone: a call that does nothing, whose contract is the law.
 ghost use Rattle.std.specs.Prelude.{◌≡◌, ◌∷◌, [], ℕ, ℤ, pos, true, false, Some};
 ghost use Rattle.cs_base.specs.declared.resource.Res.TheVariants as res;
-ghost use Rattle.cs_meaning.specs.Examples.{small_piece, heard, endings, cause_of, asked_by, each, whole, no_code, zeros, counting, telling, ending, writing_place, reading_places, five, sounding_gi, setting_nine, deciding, two_outside, followed, kept_by, missing_table, long_delay, asking, setting_one, reading, writing_first, reading_first, reading_any, uses_of, writes_of};
+ghost use Rattle.cs_meaning.specs.Examples.{small_piece, heard, endings, cause_of, asked_by, each, whole, no_code, zeros, counting, telling, ending, writing_place, reading_places, five, sounding_gi, setting_nine, deciding, two_outside, followed, followed_places, kept_by, missing_table, long_delay, asking, setting_one, reading, writing_first, reading_first, reading_any, uses_of, writes_of};
 ghost use Rattle.cs_meaning.specs.Model.{no_table, delay_too_long};
 
 /// Small pieces worked out from the definitions: eight frames a second, four a control cycle, two cycles.
@@ -23,7 +23,7 @@ pub fn notes_worked_by_hand()
     // An `if` of the initialisation decides once.
     ensures decided { heard (small_piece 0 0) no_code (deciding ∷ []) ≡ each (whole 4) ∷ each (whole 4) ∷ [] }
     // The note that docs/MEANING.md follows: what it keeps, what is heard of it, and that it ends with its second cycle.
-    ensures followed_keeps { kept_by (small_piece 0 0) two_outside followed ≡ whole 70 ∷ whole 4 ∷ [] }
+    ensures followed_keeps { kept_by (small_piece 0 0) two_outside followed followed_places ≡ whole 70 ∷ whole 4 ∷ [] }
     ensures followed_sounds { heard (small_piece 0 0) two_outside (followed ∷ [])
         ≡ each (whole 72) ∷ each (whole 74) ∷ [] }
     ensures followed_ends { endings (small_piece 0 0) two_outside (followed ∷ [])

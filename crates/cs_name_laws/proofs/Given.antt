@@ -7,10 +7,12 @@ use Rattle.cs_base.specs.declared.resource.Rate.TheVariants as rate
 use Rattle.cs_words.specs.NameSets.{has}
 use Rattle.cs_words.specs.Names.{name_rate, is_global}
 use Rattle.cs_words.proofs.Places.{seen_is_there, stays_there}
-use Rattle.cs_grammar.specs.Tree.{Statement, set, call, choose, Block, no_stmt, andthen, Arms, otherwise, arm, Instrument, Orchestra}
+use Rattle.cs_grammar.specs.Tree.{Statement, set, call, choose, Block, no_stmt, andthen, Arms, otherwise, arm}
+use Rattle.cs_grammar.specs.Tree.{Instrument, Orchestra}
 use Rattle.cs_typing.proofs.Naming.{Give, BlockGives, ArmsGive}
 use Rattle.cs_typing.specs.Known.{Table, no_names, of_rate, with_name, in_table, added}
-use Rattle.cs_typing.specs.Typing.{given_global, given_globals, globals, globals_of_block, globals_of_arms, globals_of_instruments, all_globals, line_of, before, from, Item, alone, body, items}
+use Rattle.cs_typing.specs.Typing.{given_global, given_globals, globals, globals_of_block, globals_of_arms}
+use Rattle.cs_typing.specs.Typing.{globals_of_instruments, all_globals, line_of, before, from, Item, alone, body, items}
 
 -- a name, if it is global, is among these
 abbrev pub IsGiven : Table → List ℕ → Type 0
@@ -107,8 +109,11 @@ mutual
 
   arms_give : (t : Table) (list : Arms) (g : Table) → IsWithin (globals_of_arms t list) g → ArmsGive (IsGiven g) list
   arms_give t (otherwise b) g w = block_gives t b g w
-  arms_give t (arm c b rest) g w =
-      (block_gives t b g (λ m h. w m (arms_keep (globals_of_block t b) rest m h)), arms_give (globals_of_block t b) rest g w)
+  arms_give t (arm c b rest) g w = (
+    block_gives t b g (λ m h. w m (arms_keep (globals_of_block t b) rest m h)),
+    arms_give (globals_of_block t b) rest
+        g w,
+  )
 
 instruments_give : (t : Table) (list : List Instrument) (g : Table) → IsWithin (globals_of_instruments t list) g
     → InstrumentsGive g list
@@ -141,11 +146,14 @@ from_gives g line (andthen x rest) h = by (nat_lt (line_of x) line) (from_gives 
 items_give : (g : Table) (outside : Block) (list : List Instrument) → BlockGives (IsGiven g) outside
     → InstrumentsGive g list → ItemsGive g (items outside list)
 items_give g outside [] h k = (h, tt)
-items_give g outside (i ∷ rest) h k =
-    (before_gives g i.line outside h, (k.0, items_give g (from i.line outside) rest (from_gives g i.line outside h) k.1))
+items_give g outside (i ∷ rest) h k = (
+  before_gives g i.line outside h,
+  (k.0, items_give g (from i.line outside) rest (from_gives g i.line outside h) k.1),
+)
 
 pub parts_give : (o : Orchestra) → ItemsGive (all_globals o) (items o.zero o.instrs)
 parts_give o =
     items_give (all_globals o) o.zero o.instrs
-    (block_gives no_names o.zero (all_globals o) (λ m h. instruments_keep (globals_of_block no_names o.zero) o.instrs m h))
+    (block_gives no_names o.zero (all_globals o)
+    (λ m h. instruments_keep (globals_of_block no_names o.zero) o.instrs m h))
     (instruments_give (globals_of_block no_names o.zero) o.instrs (all_globals o) (λ m h. h))

@@ -8,7 +8,9 @@ use Rattle.cs_words.specs.declared.catalogue.Opcode.{Opcode}
 use Rattle.cs_words.specs.declared.catalogue.Shape.{Shape}
 use Rattle.cs_words.specs.declared.catalogue.Shape.TheVariants as shape
 use Rattle.cs_base.specs.declared.spaces.Spaces.{Spaces}
-use Rattle.cs_meaning.specs.Core.{Stmt, Block, Arms, set, unit, zak, store, out, out_at, ask, turnoff, nothing, choose, no_stmt, andthen, otherwise, arm, values_of, settled, moving, core_call, core_stmt, core, core_arms}
+use Rattle.cs_meaning.specs.Core.{Stmt, Block, Arms, set, unit, zak, store, out, out_at, ask, turnoff, nothing, choose}
+use Rattle.cs_meaning.specs.Core.{no_stmt, andthen, otherwise, arm, values_of, settled, moving, core_call, core_stmt}
+use Rattle.cs_meaning.specs.Core.{core, core_arms}
 use Rattle.cs_typed.specs.TypedTree as typed
 use Rattle.cs_typed.specs.TypedTree.{SharedNames}
 use Rattle.cs_typed.specs.declared.tree.Var.{Var as Variable}
@@ -22,7 +24,8 @@ abbrev mutual
   IsNamedCore names (unit r vs opcode reach xs is) =
       All (IsNamed names) vs × All (EachInExpression (IsNamed names)) xs × All (EachInExpression (IsNamed names)) is
   IsNamedCore names (zak r vs opcode reach xs) = All (IsNamed names) vs × All (EachInExpression (IsNamed names)) xs
-  IsNamedCore names (store r opcode reach es is) = All (EachInExpression (IsNamed names)) es × All (EachInExpression (IsNamed names)) is
+  IsNamedCore names (store r opcode reach es is) =
+      All (EachInExpression (IsNamed names)) es × All (EachInExpression (IsNamed names)) is
   IsNamedCore names (out r es) = All (EachInExpression (IsNamed names)) es
   IsNamedCore names (out_at r es) = All (EachInExpression (IsNamed names)) es
   IsNamedCore names (ask es) = All (EachInExpression (IsNamed names)) es
@@ -36,7 +39,8 @@ abbrev mutual
 
   pub AreNamedCoreArms : SharedNames → Arms → Type 0
   AreNamedCoreArms names (otherwise b) = IsNamedCoreBlock names b
-  AreNamedCoreArms names (arm c b rest) = EachInExpression (IsNamed names) c × IsNamedCoreBlock names b × AreNamedCoreArms names rest
+  AreNamedCoreArms names (arm c b rest) =
+      EachInExpression (IsNamed names) c × IsNamedCoreBlock names b × AreNamedCoreArms names rest
 
 abbrev AreNamedValues : SharedNames → List typed.Expression → Type 0
 AreNamedValues names es = All (EachInExpression (IsNamed names)) es
@@ -60,7 +64,8 @@ values_named : (names : SharedNames) (args : List typed.Argument) → AreNamedAr
     → AreNamedValues names (values_of args)
 values_named names [] h = All-nil (EachInExpression (IsNamed names))
 values_named names (typed.value e ∷ rest) h =
-    one_more names e (values_of rest) (first names (typed.value e) rest h) (values_named names rest (others names (typed.value e) rest h))
+    one_more names e (values_of rest) (first names (typed.value e) rest h)
+    (values_named names rest (others names (typed.value e) rest h))
 values_named names (typed.text v ∷ rest) h = values_named names rest (others names (typed.text v) rest h)
 
 either_way : (names : SharedNames) (b : Bool) (es fs : List typed.Expression) → AreNamedValues names es
@@ -74,8 +79,10 @@ settled_named names row n [] h = All-nil (EachInExpression (IsNamed names))
 settled_named names row n (typed.value e ∷ rest) h =
     let more = settled row (n + 1) rest in
     let after = settled_named names row (n + 1) rest (others names (typed.value e) rest h) in
-    either_way names (is_settled (letter_at row n)) (e ∷ more) more (one_more names e more (first names (typed.value e) rest h) after) after
-settled_named names row n (typed.text v ∷ rest) h = settled_named names row (n + 1) rest (others names (typed.text v) rest h)
+    either_way names (is_settled (letter_at row n)) (e ∷ more) more
+    (one_more names e more (first names (typed.value e) rest h) after) after
+settled_named names row n (typed.text v ∷ rest) h =
+    settled_named names row (n + 1) rest (others names (typed.text v) rest h)
 
 moving_named : (names : SharedNames) (row : Row) (n : ℕ) (args : List typed.Argument) → AreNamedArguments names args
     → AreNamedValues names (moving row n args)
@@ -83,8 +90,10 @@ moving_named names row n [] h = All-nil (EachInExpression (IsNamed names))
 moving_named names row n (typed.value e ∷ rest) h =
     let more = moving row (n + 1) rest in
     let after = moving_named names row (n + 1) rest (others names (typed.value e) rest h) in
-    either_way names (is_settled (letter_at row n)) more (e ∷ more) after (one_more names e more (first names (typed.value e) rest h) after)
-moving_named names row n (typed.text v ∷ rest) h = moving_named names row (n + 1) rest (others names (typed.text v) rest h)
+    either_way names (is_settled (letter_at row n)) more (e ∷ more) after
+    (one_more names e more (first names (typed.value e) rest h) after)
+moving_named names row n (typed.text v ∷ rest) h =
+    moving_named names row (n + 1) rest (others names (typed.text v) rest h)
 
 -- a call that stays a unit
 unit_named : (names : SharedNames) (row : Row) (vs : List Variable) (args : List typed.Argument)
@@ -100,11 +109,14 @@ second : (names : SharedNames) (a b : typed.Argument) (rest : List typed.Argumen
     → AreNamedArguments names (a ∷ b ∷ rest) → EachInArgument (IsNamed names) b
 second names a b rest h = first names b rest (others names a (b ∷ rest) h)
 
-call_named : (names : SharedNames) (spaces : Spaces) (r : Rate) (vs : List Variable) (opcode : Opcode) (sh : Shape) (args : List typed.Argument)
+call_named : (names : SharedNames) (spaces : Spaces) (r : Rate) (vs : List Variable) (opcode : Opcode) (sh : Shape)
+    (args : List typed.Argument)
     → All (IsNamed names) vs → AreNamedArguments names args → IsNamedCore names (core_call spaces r vs opcode sh args)
-call_named names spaces r (v ∷ vs) opcode shape.Init (typed.value e ∷ args) h k = (result names v vs h, first names (typed.value e) args k)
+call_named names spaces r (v ∷ vs) opcode shape.Init (typed.value e ∷ args) h k =
+    (result names v vs h, first names (typed.value e) args k)
 call_named names spaces r vs opcode shape.Unit args h k = unit_named names (row_of opcode) vs args h k
-call_named names spaces r vs opcode shape.Store args h k = (values_named names args k, settled_named names (row_of opcode) 0 args k)
+call_named names spaces r vs opcode shape.Store args h k =
+    (values_named names args k, settled_named names (row_of opcode) 0 args k)
 call_named names spaces r vs opcode (shape.ZakGet s) args h k = (h, moving_named names (row_of opcode) 0 args k)
 call_named names spaces r vs opcode (shape.ZakPut s) args h k = (h, moving_named names (row_of opcode) 0 args k)
 call_named names spaces r vs opcode shape.ZakMix args h k = (h, moving_named names (row_of opcode) 0 args k)
@@ -113,13 +125,15 @@ call_named names spaces r vs opcode shape.Out args h k = values_named names args
 call_named names spaces r vs opcode shape.OutAt args h k = values_named names args k
 call_named names spaces r vs opcode shape.Turnoff args h k = tt
 call_named names spaces r vs opcode shape.ZakInit args h k = tt
-call_named names spaces r (v ∷ vs) opcode shape.ChannelGet (typed.text c ∷ args) h k = (result names v vs h, first names (typed.text c) args k)
+call_named names spaces r (v ∷ vs) opcode shape.ChannelGet (typed.text c ∷ args) h k =
+    (result names v vs h, first names (typed.text c) args k)
 call_named names spaces r vs opcode shape.ChannelPut (typed.value e ∷ typed.text c ∷ args) h k =
     (second names (typed.value e) (typed.text c) args k, first names (typed.value e) (typed.text c ∷ args) k)
 call_named names spaces r vs opcode shape.ChannelMix (typed.value e ∷ typed.text c ∷ args) h k =
     let channel = second names (typed.value e) (typed.text c) args k in
     (channel, (channel, first names (typed.value e) (typed.text c ∷ args) k))
-call_named names spaces r vs opcode shape.ChannelClear (typed.text c ∷ args) h k = (first names (typed.text c) args k, tt)
+call_named names spaces r vs opcode shape.ChannelClear (typed.text c ∷ args) h k =
+    (first names (typed.text c) args k, tt)
 call_named names spaces r vs opcode shape.Ask args h k = values_named names args k
 call_named names spaces r vs opcode sh args h k = tt
 
@@ -127,7 +141,8 @@ mutual
   stmt_core : (names : SharedNames) (spaces : Spaces) (x : typed.Statement) → EachInStatement (IsNamed names) x
       → IsNamedCore names (core_stmt spaces x)
   stmt_core names spaces (typed.set line r v e) h = h
-  stmt_core names spaces (typed.call line r vs opcode args) h = call_named names spaces r vs opcode (row_of opcode).shape args h.0 h.1
+  stmt_core names spaces (typed.call line r vs opcode args) h =
+      call_named names spaces r vs opcode (row_of opcode).shape args h.0 h.1
   stmt_core names spaces (typed.choose line r list) h = arms_core names spaces list h
 
   pub block_core : (names : SharedNames) (spaces : Spaces) (b : typed.Block) → IsNamedBlock names b

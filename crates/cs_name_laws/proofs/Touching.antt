@@ -1,9 +1,11 @@
 -- What a note may read or write is there.
-use Rattle.std.proofs.Common.{◌≡◌, ◌<◌, ◌+◌, ◌==◌, ℕ, Bool, true, false, nat_lt, List, [], ◌∷◌, ◌++◌, filter, get_or, arith, subst, if◌then◌else◌}
+use Rattle.std.proofs.Common.{◌≡◌, ◌<◌, ◌+◌, ◌==◌, ℕ, Bool, true, false, nat_lt, List, [], ◌∷◌, ◌++◌, filter, get_or}
+use Rattle.std.proofs.Common.{arith, subst, if◌then◌else◌}
 use Rattle.std.specs.List.{All, Contains, flat_map, list_any, range_with_len}
 use Rattle.std.proofs.lemmas.Bool.Decides.{nat_tests}
 use Rattle.std.proofs.lemmas.List.Concat.{flat_map-cons}
-use Rattle.std.proofs.lemmas.List.Elements.{All-cons, All-nil, All-head, All-tail, All-append, All-contains, All-filter, All-map, All-same}
+use Rattle.std.proofs.lemmas.List.Elements.{All-cons, All-nil, All-head, All-tail, All-append, All-contains, All-filter}
+use Rattle.std.proofs.lemmas.List.Elements.{All-map, All-same}
 use Rattle.std.proofs.lemmas.List.Folds.{list_any_at}
 use Rattle.std.proofs.lemmas.List.FromFn.{get_or-range_with_len, length-range_with_len}
 use Rattle.cs_base.specs.declared.resource.Rate.{Rate}
@@ -17,10 +19,14 @@ use Rattle.cs_words.specs.declared.catalogue.Shape.TheVariants as shape
 use Rattle.cs_words.specs.declared.catalogue.Space.{Space}
 use Rattle.cs_words.specs.declared.catalogue.Space.TheVariants as space
 use Rattle.cs_base.specs.declared.spaces.Spaces.{Spaces}
-use Rattle.cs_ir.specs.Resources.{Stock, may_use, places_of, zak_place, reaches, tables_within, places_within, shape_uses, unit_uses, zak_uses}
+use Rattle.cs_ir.specs.Resources.{Stock, may_use, places_of, zak_place, reaches, tables_within, places_within}
+use Rattle.cs_ir.specs.Resources.{shape_uses, unit_uses, zak_uses}
 use Rattle.cs_ir.specs.declared.op.Reach.{Reach}
-use Rattle.cs_meaning.specs.Core.{Stmt, Block, Arms, set, unit, zak, store, out, out_at, ask, turnoff, nothing, choose, no_stmt, andthen, otherwise, arm, core}
-use Rattle.cs_meaning.specs.Uses.{When, beginning, cycle, done_at, var_uses, vars_use, expr_reads, exprs_read, expr_used, exprs_used, stmt_touched, block_touched, arms_touched, block_uses, block_begins}
+use Rattle.cs_meaning.specs.Core.{Stmt, Block, Arms, set, unit, zak, store, out, out_at, ask, turnoff, nothing, choose}
+use Rattle.cs_meaning.specs.Core.{no_stmt, andthen, otherwise, arm, core}
+use Rattle.cs_meaning.specs.Uses.{When, beginning, cycle, done_at, var_uses, vars_use, expr_reads, exprs_read}
+use Rattle.cs_meaning.specs.Uses.{expr_used, exprs_used, stmt_touched, block_touched, arms_touched, block_uses}
+use Rattle.cs_meaning.specs.Uses.{block_begins}
 use Rattle.cs_typed.specs.TypedTree as typed
 use Rattle.cs_typed.specs.Variables.{EachInExpression}
 use Rattle.cs_typed.specs.TypedTree.{SharedNames, Expression, number, var, field, head, neg, pair, pick, apply}
@@ -91,7 +97,8 @@ uses_there : (names : SharedNames) (stock : Stock) (w : When) (e : Expression) �
     → AreThere names stock (expr_used w e)
 uses_there names stock w (number r n) h = none names stock
 uses_there names stock w (var r v) h =
-    let there = var_there names stock v h in by_rate names stock w r (var_uses v) [] (var_uses v) there (none names stock) there
+    let there = var_there names stock v h in by_rate names stock w r (var_uses v) [] (var_uses v) there
+    (none names stock) there
 uses_there names stock w (field r k) h = none names stock
 uses_there names stock w (head r k) h = none names stock
 uses_there names stock w (neg r a) h =
@@ -99,13 +106,17 @@ uses_there names stock w (neg r a) h =
     by_rate names stock w r (expr_reads a) (expr_used w a) (expr_used w a) (reads_there names stock a h) part part
 uses_there names stock w (pair r o a b) h =
     let parts = expr_used w a ++ expr_used w b in
-    let there = both names stock (expr_used w a) (expr_used w b) (uses_there names stock w a h.0) (uses_there names stock w b h.1) in
-    by_rate names stock w r (expr_reads a ++ expr_reads b) parts parts (reads_there names stock (pair r o a b) h) there there
+    let there = both names stock (expr_used w a) (expr_used w b) (uses_there names stock w a h.0)
+    (uses_there names stock w b h.1) in
+    by_rate names stock w r (expr_reads a ++ expr_reads b) parts parts (reads_there names stock (pair r o a b) h) there
+    there
 uses_there names stock w (pick r c a b) h =
     let parts = expr_used w c ++ (expr_used w a ++ expr_used w b) in
     let there = both names stock (expr_used w c) (expr_used w a ++ expr_used w b) (uses_there names stock w c h.0)
-    (both names stock (expr_used w a) (expr_used w b) (uses_there names stock w a h.1) (uses_there names stock w b h.2)) in
-    by_rate names stock w r (expr_reads c ++ (expr_reads a ++ expr_reads b)) parts parts (reads_there names stock (pick r c a b) h) there there
+    (both names stock (expr_used w a) (expr_used w b) (uses_there names stock w a h.1)
+    (uses_there names stock w b h.2)) in
+    by_rate names stock w r (expr_reads c ++ (expr_reads a ++ expr_reads b)) parts parts
+    (reads_there names stock (pick r c a b) h) there there
 uses_there names stock w (apply r f a) h =
     let part = uses_there names stock w a h in
     by_rate names stock w r (expr_reads a) (expr_used w a) (expr_used w a) (reads_there names stock a h) part part
@@ -158,7 +169,8 @@ places_there : (names : SharedNames) (stock : Stock) (s : Space) (r : Reach)
 places_there names stock s r =
     let all = range_with_len 0 (places_of stock.spaces s) in
     All-map (There names stock) (zak_place s) (filter (reaches r) all)
-    (All-filter (reaches r) (λ n. There names stock (zak_place s n)) all (λ k d low. place_there names stock s (get_or all k d) (in_range (places_of stock.spaces s) k d low)))
+    (All-filter (reaches r) (λ n. There names stock (zak_place s n)) all
+    (λ k d low. place_there names stock s (get_or all k d) (in_range (places_of stock.spaces s) k d low)))
 
 if_table : (names : SharedNames) (stock : Stock) (b : Bool) (r : Reach)
     → AreThere names stock (if b then tables_within stock r else [])
@@ -194,30 +206,40 @@ mutual
       (both names stock (expr_used w e) (var_uses v) value variable)
   stmt_there names stock w (unit r vs opcode reach xs is) h =
       let touched = unit_uses stock opcode reach ++ vars_use vs in
-      let own = both names stock (unit_uses stock opcode reach) (vars_use vs) (unit_there names stock opcode reach) (vars_there names stock vs h.0) in
+      let own = both names stock (unit_uses stock opcode reach) (vars_use vs) (unit_there names stock opcode reach)
+      (vars_there names stock vs h.0) in
       let moving = use_there names stock w xs h.1 in
       let settled = read_there names stock is h.2 in
-      by_rate names stock w r (exprs_read is ++ (exprs_read xs ++ touched)) (exprs_used w xs ++ exprs_read is) (exprs_used w xs ++ touched)
-      (both names stock (exprs_read is) (exprs_read xs ++ touched) settled (both names stock (exprs_read xs) touched (read_there names stock xs h.1) own))
-      (both names stock (exprs_used w xs) (exprs_read is) moving settled) (both names stock (exprs_used w xs) touched moving own)
+      by_rate names stock w r (exprs_read is ++ (exprs_read xs ++ touched)) (exprs_used w xs ++ exprs_read is)
+      (exprs_used w xs ++ touched)
+      (both names stock (exprs_read is) (exprs_read xs ++ touched) settled
+      (both names stock (exprs_read xs) touched (read_there names stock xs h.1) own))
+      (both names stock (exprs_used w xs) (exprs_read is) moving settled)
+      (both names stock (exprs_used w xs) touched moving own)
   stmt_there names stock w (zak r vs opcode reach xs) h =
       let touched = zak_uses stock opcode reach ++ vars_use vs in
-      let own = both names stock (zak_uses stock opcode reach) (vars_use vs) (zak_there names stock opcode reach) (vars_there names stock vs h.0) in
+      let own = both names stock (zak_uses stock opcode reach) (vars_use vs) (zak_there names stock opcode reach)
+      (vars_there names stock vs h.0) in
       let moving = use_there names stock w xs h.1 in
       by_rate names stock w r (exprs_read xs ++ touched) (exprs_used w xs) (exprs_used w xs ++ touched)
-      (both names stock (exprs_read xs) touched (read_there names stock xs h.1) own) moving (both names stock (exprs_used w xs) touched moving own)
+      (both names stock (exprs_read xs) touched (read_there names stock xs h.1) own) moving
+      (both names stock (exprs_used w xs) touched moving own)
   stmt_there names stock w (store r opcode reach es is) h =
       let touched = tables_within stock reach in
       let own = tables_there names stock reach in
       let moving = use_there names stock w es h.0 in
       let settled = read_there names stock is h.1 in
-      by_rate names stock w r (exprs_read is ++ (exprs_read es ++ touched)) (exprs_used w es ++ exprs_read is) (exprs_used w es ++ touched)
-      (both names stock (exprs_read is) (exprs_read es ++ touched) settled (both names stock (exprs_read es) touched (read_there names stock es h.0) own))
-      (both names stock (exprs_used w es) (exprs_read is) moving settled) (both names stock (exprs_used w es) touched moving own)
+      by_rate names stock w r (exprs_read is ++ (exprs_read es ++ touched)) (exprs_used w es ++ exprs_read is)
+      (exprs_used w es ++ touched)
+      (both names stock (exprs_read is) (exprs_read es ++ touched) settled
+      (both names stock (exprs_read es) touched (read_there names stock es h.0) own))
+      (both names stock (exprs_used w es) (exprs_read is) moving settled)
+      (both names stock (exprs_used w es) touched moving own)
   stmt_there names stock w (out r es) h = use_there names stock w es h
   stmt_there names stock w (out_at r es) h = use_there names stock w es h
   stmt_there names stock w (ask es) h =
-      by_rate names stock w rate.Init (exprs_read es) [] [] (read_there names stock es h) (none names stock) (none names stock)
+      by_rate names stock w rate.Init (exprs_read es) [] [] (read_there names stock es h) (none names stock)
+      (none names stock)
   stmt_there names stock w (turnoff r) h = none names stock
   stmt_there names stock w nothing h = none names stock
   stmt_there names stock w (choose r list) h = arms_there names stock w list h
@@ -226,14 +248,17 @@ mutual
       → AreThere names stock (block_touched may_use w stock b)
   block_there names stock w no_stmt h = none names stock
   block_there names stock w (andthen x rest) h =
-      both names stock (stmt_touched may_use w stock x) (block_touched may_use w stock rest) (stmt_there names stock w x h.0) (block_there names stock w rest h.1)
+      both names stock (stmt_touched may_use w stock x) (block_touched may_use w stock rest)
+      (stmt_there names stock w x h.0) (block_there names stock w rest h.1)
 
   arms_there : (names : SharedNames) (stock : Stock) (w : When) (list : Arms) → AreNamedCoreArms names list
       → AreThere names stock (arms_touched may_use w stock list)
   arms_there names stock w (otherwise b) h = block_there names stock w b h
   arms_there names stock w (arm c b rest) h =
-      both names stock (expr_used w c) (block_touched may_use w stock b ++ arms_touched may_use w stock rest) (uses_there names stock w c h.0)
-      (both names stock (block_touched may_use w stock b) (arms_touched may_use w stock rest) (block_there names stock w b h.1) (arms_there names stock w rest h.2))
+      both names stock (expr_used w c) (block_touched may_use w stock b ++ arms_touched may_use w stock rest)
+      (uses_there names stock w c h.0)
+      (both names stock (block_touched may_use w stock b) (arms_touched may_use w stock rest)
+      (block_there names stock w b h.1) (arms_there names stock w rest h.2))
 
 pub touched : (names : SharedNames) (b : typed.Block) → IsNamedBlock names b
     → (spaces : Spaces) (stock : Stock) (g : Res)
@@ -243,5 +268,6 @@ touched names b h spaces stock g there =
     let c = core spaces b in
     let named = block_core names spaces b h in
     All-contains (There names stock) (block_uses stock c ++ block_begins stock c) g
-    (both names stock (block_uses stock c) (block_begins stock c) (block_there names stock cycle c named) (block_there names stock beginning c named))
+    (both names stock (block_uses stock c) (block_begins stock c) (block_there names stock cycle c named)
+    (block_there names stock beginning c named))
     there

@@ -21,7 +21,8 @@ is_named names (res.ZakK n) = false
 is_named names (res.ZakA n) = false
 is_named names (res.Table n) = false
 
--- What a piece has: the global variables and channels that have names, the zak places of its two spaces, and its live tables.
+-- What a piece has: the global variables and channels that have names, the zak places of its two spaces, and its live
+-- tables.
 abbrev pub is_there : SharedNames → Stock → Res → Bool
 is_there names stock (res.ZakK n) = nat_lt n stock.spaces.control
 is_there names stock (res.ZakA n) = nat_lt n stock.spaces.audio

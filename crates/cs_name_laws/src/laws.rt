@@ -12,15 +12,17 @@ ghost use Rattle.cs_typed.specs.TypedTree as typed;
 ghost use Rattle.cs_typed.specs.TypedTree.{SharedNames};
 ghost use Rattle.cs_typing.specs.Typing.{type_fault, typed_of};
 
-/// The typed form of an orchestra without a fault names no global variable and no channel but those of its own lists, outside
-/// instruments and in each of them.
+/// The typed form of an orchestra without a fault names no global variable and no channel but those of its own lists,
+/// outside instruments and in each of them.
 pub fn typed_trees_name_what_there_is()
     ensures { (o : Orchestra) → type_fault o ≡ None → NamesWhatThereIs (typed_of o) }
 {}
 
-/// What a note may read or write, as it begins and in a control cycle, is there, where its statements name only what has names:
-/// it is a variable or a channel of the names, a zak place of its space, or a live table.
+/// What a note may read or write, as it begins and in a control cycle, is there, where its statements name only what
+/// has names: it is a variable or a channel of the names, a zak place of its space, or a live table.
 pub fn notes_touch_what_there_is()
-    ensures { (names : SharedNames) (b : typed.Block) → IsNamedBlock names b → (spaces : Spaces) (stock : Stock) (g : Res)
-        → Contains (block_uses stock (core spaces b) ++ block_begins stock (core spaces b)) g → is_there names stock g ≡ true }
+    ensures { (names : SharedNames) (b : typed.Block) → IsNamedBlock names b →
+        (spaces : Spaces) (stock : Stock) (g : Res)
+        → Contains (block_uses stock (core spaces b) ++ block_begins stock (core spaces b)) g →
+        is_there names stock g ≡ true }
 {}

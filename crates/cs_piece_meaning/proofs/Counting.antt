@@ -1,5 +1,7 @@
 -- Each start is counted once, as one that started a note or as one that started nothing.
-use Rattle.std.proofs.Common.{◌≡◌, ◌≢◌, ◌≤◌, ◌<◌, ◌∙◌, ℕ, ℤ, pos, zero, suc, ◌+◌, ◌==◌, Bool, cond, true, false, nat_le, List, [], ◌∷◌, ◌++◌, length, is_some, slice_index_or, Option, Some, None, refl, sym, ap, arith, length-append, if◌then◌else◌}
+use Rattle.std.proofs.Common.{◌≡◌, ◌≢◌, ◌≤◌, ◌<◌, ◌∙◌, ℕ, ℤ, pos, zero, suc, ◌+◌, ◌==◌, Bool, cond, true, false, nat_le}
+use Rattle.std.proofs.Common.{List, [], ◌∷◌, ◌++◌, length, is_some, slice_index_or, Option, Some, None, refl, sym, ap}
+use Rattle.std.proofs.Common.{arith, length-append, if◌then◌else◌}
 use Rattle.std.specs.Int.{is_negative}
 use Rattle.std.specs.List.{count_by}
 use Rattle.std.proofs.lemmas.Bool.Decides.{nat_tests}
@@ -21,15 +23,18 @@ use Rattle.cs_sched.specs.declared.pending.Added.TheVariants as added
 use Rattle.cs_tempo.specs.declared.plot.Event.{Event}
 use Rattle.cs_tempo.specs.declared.plot.EventAct.{EventAct}
 use Rattle.cs_tempo.specs.declared.plot.EventAct.TheVariants as act
-use Rattle.cs_piece_meaning.specs.Counting.{asks_of, asks_of_act, asks_of_events, asks_of_first, asks_of_waiting, is_start, none_without, starts_before, starts_from, starts_in, starts_note}
+use Rattle.cs_piece_meaning.specs.Counting.{asks_of, asks_of_act, asks_of_events, asks_of_first, asks_of_waiting}
+use Rattle.cs_piece_meaning.specs.Counting.{is_start, none_without, starts_before, starts_from, starts_in, starts_note}
 use Rattle.cs_piece_meaning.specs.Course.{begins, closing, events_in, moment_at, still}
 use Rattle.cs_piece_meaning.specs.Moments.{Composition, Moment, clock_of}
-use Rattle.cs_piece_meaning.specs.Starts.{Start, act_done, all_asked, all_done, asked, begun, counted, entered, first_started, has_room, in_vain, initialised, start_of, started, taken, time_of, unless_none, waited, with_points}
+use Rattle.cs_piece_meaning.specs.Starts.{Start, act_done, all_asked, all_done, asked, begun, counted, entered}
+use Rattle.cs_piece_meaning.specs.Starts.{first_started, has_room, in_vain, initialised, start_of, started, taken}
+use Rattle.cs_piece_meaning.specs.Starts.{time_of, unless_none, waited, with_points}
 use Rattle.cs_piece_meaning.proofs.Waits.{none_waits}
 
 -- THE SUM of a function below a number
 
-abbrev below : ℕ → (ℕ → ℕ) → ℕ
+abbrev pub below : ℕ → (ℕ → ℕ) → ℕ
 below zero f = 0
 below (suc n) f = below n f + f n
 
@@ -39,7 +44,8 @@ module _ (f g : ℕ → ℕ) (j : ℕ) (others : (k : ℕ) → k ≢ j → g k �
   below_it zero l = refl
   below_it (suc n) l =
       let before = below_it n (omega (arith, l)) in
-      let now : g n ≡ f n = others n (λ e. let never : suc n ≤ n = omega (arith, e, l) in omega (arith, never)) in omega (arith, before, now)
+      let now : g n ≡ f n = others n (λ e. let never : suc n ≤ n = omega (arith, e, l) in omega (arith, never)) in omega
+      (arith, before, now)
 
   above_it : (n : ℕ) → j < n → below n g ≡ below n f + 1
   above_it zero l = absurd (omega (arith, l))
@@ -56,20 +62,23 @@ module _ (f g : ℕ → ℕ) (j : ℕ) (others : (k : ℕ) → k ≢ j → g k �
           let before = earlier further in
           let now = others n apart in omega (arith, before, now)
 
-below_none : (n : ℕ) (f : ℕ → ℕ) → ((k : ℕ) → k < n → f k ≡ 0) → below n f ≡ 0
+pub below_none : (n : ℕ) (f : ℕ → ℕ) → ((k : ℕ) → k < n → f k ≡ 0) → below n f ≡ 0
 below_none zero f h = refl
 below_none (suc n) f h =
-    let before = below_none n f (λ k l. h k (omega (arith, l))) in let now = h n (omega arith) in omega (arith, before, now)
+    let before = below_none n f (λ k l. h k (omega (arith, l))) in let now =
+    h n (omega arith) in omega (arith, before, now)
 
 -- WHO WAITS in a piece of so many cycles
 
-abbrev waiting_in : ℕ → Waiting → ℕ
+abbrev pub waiting_in : ℕ → Waiting → ℕ
 waiting_in cycles w = below (suc cycles) (λ k. length (w.due k))
 
 -- one more is kept
-kept_more : (cycles : ℕ) (d : Due) (w : Waiting) → d.cycle < cycles → waiting_in cycles (with_answer added.Kept d w) ≡ waiting_in cycles w + 1
+pub kept_more : (cycles : ℕ) (d : Due) (w : Waiting) → d.cycle < cycles
+    → waiting_in cycles (with_answer added.Kept d w) ≡ waiting_in cycles w + 1
 kept_more cycles d w l =
-    above_it (λ k. length (w.due k)) (λ k. length (if k == d.cycle then w.due k ++ d ∷ [] else w.due k)) d.cycle other here (suc cycles) (omega (arith, l))
+    above_it (λ k. length (w.due k)) (λ k. length (if k == d.cycle then w.due k ++ d ∷ [] else w.due k)) d.cycle other
+    here (suc cycles) (omega (arith, l))
   where
     other : (k : ℕ) → k ≢ d.cycle → length (if k == d.cycle then w.due k ++ d ∷ [] else w.due k) ≡ length (w.due k)
     other k apart = by (k == d.cycle) refl
@@ -81,15 +90,17 @@ kept_more cycles d w l =
     here : length (if d.cycle == d.cycle then w.due d.cycle ++ d ∷ [] else w.due d.cycle) ≡ length (w.due d.cycle) + 1
     here = by (d.cycle == d.cycle) refl
       where
-        by : (b : Bool) → (d.cycle == d.cycle) ≡ b → length (if b then w.due d.cycle ++ d ∷ [] else w.due d.cycle) ≡ length (w.due d.cycle) + 1
+        by : (b : Bool) → (d.cycle == d.cycle) ≡ b
+            → length (if b then w.due d.cycle ++ d ∷ [] else w.due d.cycle) ≡ length (w.due d.cycle) + 1
         by true e = length-append (w.due d.cycle) (d ∷ [])
         by false e = absurd (let no : d.cycle ≢ d.cycle = grind (arith, nat_tests) in no refl)
 
 -- one is taken out
-taken_one : (cycles now : ℕ) (d : Due) (rest : List Due) (w : Waiting) → now ≤ cycles → w.due now ≡ d ∷ rest
+pub taken_one : (cycles now : ℕ) (d : Due) (rest : List Due) (w : Waiting) → now ≤ cycles → w.due now ≡ d ∷ rest
     → waiting_in cycles w ≡ waiting_in cycles (taken now rest w) + 1
 taken_one cycles now d rest w l is =
-    above_it (λ k. length (if k == now then rest else w.due k)) (λ k. length (w.due k)) now other here (suc cycles) (omega (arith, l))
+    above_it (λ k. length (if k == now then rest else w.due k)) (λ k. length (w.due k)) now other here (suc cycles)
+    (omega (arith, l))
   where
     other : (k : ℕ) → k ≢ now → length (w.due k) ≡ length (if k == now then rest else w.due k)
     other k apart = by (k == now) refl
@@ -111,11 +122,14 @@ module _ (c : Composition) where
   abbrev total : Moment → ℕ
   total m = m.started + m.not_started + waiting_in c.cycles m.waiting
 
-  in_time : (now : ℕ) (a : Ask) (kept : ℕ) → answer_to (clock_of c) now a kept ≡ added.Kept → begins_in (clock_of c) now a < c.cycles
-  in_time now a kept h = by (is_negative a.dur) (nat_le most_asks kept) (nat_le c.cycles (begins_in (clock_of c) now a)) refl h
+  pub in_time : (now : ℕ) (a : Ask) (kept : ℕ) → answer_to (clock_of c) now a kept ≡ added.Kept
+      → begins_in (clock_of c) now a < c.cycles
+  in_time now a kept h = by (is_negative a.dur) (nat_le most_asks kept) (nat_le c.cycles (begins_in (clock_of c) now a))
+      refl h
     where
       by : (b1 b2 b3 : Bool) → nat_le c.cycles (begins_in (clock_of c) now a) ≡ b3
-          → (if b1 then added.Negative else (if b2 then added.TooMany else (if b3 then added.PastEnd else added.Kept))) ≡ added.Kept
+          → (if b1 then added.Negative else (if b2 then added.TooMany else (if b3 then added.PastEnd else added.Kept)))
+          ≡ added.Kept
           → begins_in (clock_of c) now a < c.cycles
       by true b2 b3 e h = absurd (cc)
       by false true b3 e h = absurd (cc)
@@ -135,7 +149,8 @@ module _ (c : Composition) where
       by added.PastEnd early = omega arith
       by added.TooMany early = omega arith
 
-  all_more : (now : ℕ) (time : ℤ) (asks : List (List ℤ)) (m : Moment) → total (all_asked c now time asks m) ≡ total m + length asks
+  all_more : (now : ℕ) (time : ℤ) (asks : List (List ℤ)) (m : Moment)
+      → total (all_asked c now time asks m) ≡ total m + length asks
   all_more now time [] m = omega arith
   all_more now time (a ∷ asks) m =
       let one = asked_more now time (ask_of a) m in
@@ -151,9 +166,11 @@ module _ (c : Composition) where
   initialised_more now s body t m =
       let before : Moment = record m { shared = t.world.shared } in
       let asks = all_more now (time_of s) t.world.asks before in
-      let enters = entered_more now s body t t.world.cause (all_asked c now (time_of s) t.world.asks before) in omega (arith, asks, enters)
+      let enters = entered_more now s body t t.world.cause (all_asked c now (time_of s) t.world.asks before) in omega
+      (arith, asks, enters)
 
-  started_more : (now : ℕ) (s : Start) (o : Option Block) (m : Moment) → total (started c now s o m) ≡ total m + asks_of c s o m + 1
+  started_more : (now : ℕ) (s : Start) (o : Option Block) (m : Moment)
+      → total (started c now s o m) ≡ total m + asks_of c s o m + 1
   started_more now s None m = omega arith
   started_more now s (Some body) m = by (has_room s m)
     where
@@ -163,22 +180,27 @@ module _ (c : Composition) where
       by false = omega arith
 
   -- the events of a cycle
-  points_same : (t : Option Table) (number : ℕ) (points : List ℤ) (m : Moment) → total (with_points t number points m) ≡ total m
+  points_same : (t : Option Table) (number : ℕ) (points : List ℤ) (m : Moment)
+      → total (with_points t number points m) ≡ total m
   points_same None number points m = refl
   points_same (Some t) number points m = by (is_some t.frozen)
     where
-      by : (b : Bool) → total (if b then m else record m { shared = shared_with (res.Table number) (λ j. slice_index_or points j (pos 0)) m.shared }) ≡ total m
+      by : (b : Bool) → total (if b then m else record m
+          { shared = shared_with (res.Table number) (λ j. slice_index_or points j (pos 0)) m.shared }) ≡ total m
       by true = refl
       by false = refl
 
-  act_more : (now : ℕ) (a : EventAct) (m : Moment) → total (act_done c now a m) ≡ total m + cond (starts_note a) 1 0 + asks_of_act c a m
+  act_more : (now : ℕ) (a : EventAct) (m : Moment)
+      → total (act_done c now a m) ≡ total m + cond (starts_note a) 1 0 + asks_of_act c a m
   act_more now (act.Start instr cycles fields) m =
       let s : Start = record { number = pos instr; cycles = cycles; fields = fields } in
       let more = started_more now s (c.instrument (pos instr)) m in omega (arith, more)
   act_more now (act.Table number size gen args) m =
-      let same = points_same (find_table c.tables (pos number)) number (points_of size gen args) (record m { made = number ∷ m.made }) in omega (arith, same)
+      let same = points_same (find_table c.tables (pos number)) number (points_of size gen args)
+      (record m { made = number ∷ m.made }) in omega (arith, same)
 
-  events_more : (es : List Event) (m : Moment) → total (all_done c es m) ≡ total m + count_by is_start es + asks_of_events c es m
+  events_more : (es : List Event) (m : Moment)
+      → total (all_done c es m) ≡ total m + count_by is_start es + asks_of_events c es m
   events_more [] m = omega arith
   events_more (e ∷ es) m =
       let one = act_more e.cycle e.act m in
@@ -191,13 +213,16 @@ module _ (c : Composition) where
   first_more now [] m l is = omega arith
   first_more now (d ∷ rest) m l is =
       let one = taken_one c.cycles now d rest m.waiting l is in
-      let more = started_more now (start_of d) (c.instrument d.number) (record m { waiting = taken now rest m.waiting }) in omega (arith, one, more)
+      let more = started_more now (start_of d) (c.instrument d.number)
+      (record m { waiting = taken now rest m.waiting }) in omega (arith, one, more)
 
-  waited_more : (n now : ℕ) (m : Moment) → now ≤ c.cycles → total (waited n c now m) ≡ total m + asks_of_waiting n c now m
+  waited_more : (n now : ℕ) (m : Moment) → now ≤ c.cycles
+      → total (waited n c now m) ≡ total m + asks_of_waiting n c now m
   waited_more zero now m l = omega arith
   waited_more (suc n) now m l = by (m.waiting.due now) refl (λ x. waited_more n now x l)
     where
-      by : (ds : List Due) → m.waiting.due now ≡ ds → ((x : Moment) → total (waited n c now x) ≡ total x + asks_of_waiting n c now x)
+      by : (ds : List Due) → m.waiting.due now ≡ ds
+          → ((x : Moment) → total (waited n c now x) ≡ total x + asks_of_waiting n c now x)
           → total (unless_none ds m (waited n c now (first_started c now ds m)))
           ≡ total m + none_without ds (asks_of_first c now ds m + asks_of_waiting n c now (first_started c now ds m))
       by [] is later = omega arith
@@ -213,12 +238,14 @@ module _ (c : Composition) where
   begins_more n m l =
       let es : List Event = events_in c n in
       let done : Moment = all_done c es (still n m) in
-      added_up (total m) (total done) (total (begins c n m)) (count_by is_start es) (asks_of_events c es (still n m)) (asks_of_waiting most_asks c n done)
+      added_up (total m) (total done) (total (begins c n m)) (count_by is_start es) (asks_of_events c es (still n m))
+      (asks_of_waiting most_asks c n done)
       (events_more es (still n m)) (waited_more most_asks n done l)
 
   more_cycles : (n : ℕ) → starts_before c (suc n) ≡ starts_before c n + starts_in c n
   more_cycles n =
-      ap (starts_before c) (let e : suc n ≡ n + 1 = omega arith in e) ∙ sum_by-map-range_with_len_more (λ (x : ℕ). x) (starts_in c) 0 n n (omega arith)
+      ap (starts_before c) (let e : suc n ≡ n + 1 = omega arith in e)
+      ∙ sum_by-map-range_with_len_more (λ (x : ℕ). x) (starts_in c) 0 n n (omega arith)
 
   after_more : (t a s u : ℕ) → a ≡ s → t ≡ a + u → t ≡ s + u
   after_more t a s u e f = omega (arith, e, f)
@@ -236,10 +263,12 @@ module _ (c : Composition) where
   pub none_lost : (closing c).started + (closing c).not_started ≡ starts_before c (c.cycles + 1)
   none_lost =
       let idle : waiting_in c.cycles (closing c).waiting ≡ 0 =
-      below_none (suc c.cycles) (λ k. length ((closing c).waiting.due k)) (λ k h. ap length (none_waits c c.cycles k (omega (arith, h)))) in
+      below_none (suc c.cycles) (λ k. length ((closing c).waiting.due k))
+      (λ k h. ap length (none_waits c c.cycles k (omega (arith, h)))) in
       let all : total (closing c) ≡ starts_before c (suc c.cycles) =
       after_more (total (closing c)) (total (moment_at c c.cycles)) (starts_before c c.cycles) (starts_in c c.cycles)
       (moment_counts c.cycles (omega arith)) (begins_more c.cycles (moment_at c c.cycles) (omega arith))
       ∙ sym (more_cycles c.cycles) in
-      without_waiting (closing c).started (closing c).not_started (waiting_in c.cycles (closing c).waiting) (starts_before c (suc c.cycles)) idle all
+      without_waiting (closing c).started (closing c).not_started (waiting_in c.cycles (closing c).waiting)
+      (starts_before c (suc c.cycles)) idle all
       ∙ ap (starts_before c) (let e : suc c.cycles ≡ c.cycles + 1 = omega arith in e)

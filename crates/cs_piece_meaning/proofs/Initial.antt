@@ -1,5 +1,5 @@
--- A note that begins isn't turned off as it begins.
-use Rattle.std.proofs.Common.{◌≡◌, ◌∙◌, ℕ, ℤ, Bool, true, false, List, [], ◌∷◌, refl, if◌then◌else◌}
+-- How what a note does as it begins changes its world: step by step, as its statements do.
+use Rattle.std.proofs.Common.{◌≡◌, ◌≤◌, ◌+◌, ℕ, ℤ, Bool, true, false, List, [], ◌∷◌, refl, arith, if◌then◌else◌}
 use Rattle.cs_base.specs.Rates.{res_rate}
 use Rattle.cs_base.specs.declared.resource.Rate.{Rate}
 use Rattle.cs_base.specs.declared.resource.Rate.TheVariants as rate
@@ -12,140 +12,194 @@ use Rattle.cs_ir.specs.Values.{holds}
 use Rattle.cs_ir.specs.Waves.{Wave, held, if_init, first_values}
 use Rattle.cs_ir.specs.Worlds.{World}
 use Rattle.cs_ir.specs.declared.op.Reach.{Reach}
-use Rattle.cs_meaning.specs.Core.{Stmt, Block, Arms, set, unit, zak, store, out, out_at, ask, turnoff, nothing, choose, no_stmt, andthen, otherwise, arm}
+use Rattle.cs_meaning.specs.Core.{Stmt, Block, Arms, set, unit, zak, store, out, out_at, ask, turnoff, nothing, choose}
+use Rattle.cs_meaning.specs.Core.{no_stmt, andthen, otherwise, arm}
 use Rattle.cs_meaning.specs.Initialising as initial
-use Rattle.cs_meaning.specs.Initialising.{going, keep, keep_all, init_stmt, init_block, init_first, init_all, run_once, sought, started, stored_once, zak_once}
-use Rattle.cs_meaning.specs.Notes.{Note, Place, assign, first_value, given, moved_to, past, past_block, past_parts, past_stmt, value, values}
+use Rattle.cs_meaning.specs.Initialising.{going, keep, keep_all, init_stmt, init_block, init_first, init_all, run_once}
+use Rattle.cs_meaning.specs.Initialising.{sought, started, stored_once, zak_once}
+use Rattle.cs_meaning.specs.Notes.{Note, Path, Place, next, inside, inside_arm, past_arm, past_stmt, assign}
+use Rattle.cs_meaning.specs.Notes.{first_value, given, moved_to, value, values}
+use Rattle.cs_piece_meaning.specs.Bounded.{asks_in, asks_in_arms, asks_in_stmt}
 
 pub chosen_is : {A B : Type 0} (f : A → B) (b : Bool) (x y : A) (z : B) → f x ≡ z → f y ≡ z → f (if b then x else y) ≡ z
 chosen_is f true x y z e g = e
 chosen_is f false x y z e g = g
 
-pub rate_is : {A B : Type 0} (f : A → B) (r : Rate) (x y : A) (z : B) → f x ≡ z → f y ≡ z → f (if_init r x y) ≡ z
-rate_is f rate.Init x y z e g = e
-rate_is f rate.Control x y z e g = g
-rate_is f rate.Audio x y z e g = g
-
--- Something of a world that what a note does as it begins leaves as it is.
-pub record Leaves {W B : Type 0} (o : World W) (f : W → B) : Type 0 where
-  pub save : (g : Res) (w : Wave) (x : W) → f (o.save g w x) ≡ f x
-  pub start : (q : Opcode) (r : Rate) (u : ℕ) (is : List ℤ) (x : W) → f (o.start q r u is x) ≡ f x
+-- What holds of a world and of the one after it, by how many notes are asked for between them: it holds where nothing
+-- is done, one after the other, of more notes too, and for each step of an initialisation.
+pub record Goes {W : Type 0} (o : World W) (S : ℕ → W → W → Type 0) : Type 0 where
+  pub none : (x : W) → S 0 x x
+  pub both : (m n : ℕ) (x y z : W) → S m x y → S n y z → S (m + n) x z
+  pub more : (m n : ℕ) (x y : W) → m ≤ n → S m x y → S n x y
+  pub save : (g : Res) (w : Wave) (x : W) → S 0 x (o.save g w x)
+  pub start : (q : Opcode) (r : Rate) (u : ℕ) (is : List ℤ) (x : W) → S 0 x (o.start q r u is x)
   pub does : (q : Opcode) (r : Rate) (u : ℕ) (reach : Reach) (ws : List Wave) (x : W)
-      → f (o.does q r u reach ws x).0 ≡ f x
-  pub seek : (is : List ℤ) (x : W) → f (o.seek is x) ≡ f x
-  pub store : (q : Opcode) (r : Rate) (reach : Reach) (ws : List Wave) (x : W) → f (o.store q r reach ws x) ≡ f x
-  pub zak : (q : Opcode) (reach : Reach) (ws : List Wave) (x : W) → f (o.zak q reach ws x).0 ≡ f x
-  pub ask : (is : List ℤ) (x : W) → f (o.ask is x) ≡ f x
+      → S 0 x (o.does q r u reach ws x).0
+  pub seek : (is : List ℤ) (x : W) → S 0 x (o.seek is x)
+  pub store : (q : Opcode) (r : Rate) (reach : Reach) (ws : List Wave) (x : W) → S 0 x (o.store q r reach ws x)
+  pub zak : (q : Opcode) (reach : Reach) (ws : List Wave) (x : W) → S 0 x (o.zak q reach ws x).0
+  pub ask : (is : List ℤ) (x : W) → S 1 x (o.ask is x)
 
-module _ {W B : Type 0} (o : World W) (f : W → B) (leaves : Leaves o f) where
-  abbrev pub of : Note W → B
-  of t = f t.world
+module _ {W : Type 0} (o : World W) (S : ℕ → W → W → Type 0) (goes : Goes o S) where
+  -- of two notes
+  abbrev pub From : ℕ → Note W → Note W → Type 0
+  From n t u = S n t.world u.world
 
-  kept_number : (at : ℕ) (r : Rate) (z : ℤ) (t s : Note W) → of s ≡ of t
-      → of (if_init r (initial.put_kept at z t) s) ≡ of t
-  kept_number at r z t s e = rate_is of r (initial.put_kept at z t) s (of t) refl e
+  still : (n : ℕ) (t : Note W) → From n t t
+  still n t = goes.more 0 n t.world t.world (omega arith) (goes.none t.world)
 
-  keep_leaves : (at : ℕ) (e : Expression) (t : Note W) → of (keep o at e t) ≡ of t
-  keep_leaves at (number r n) t = kept_number at r (first_value o t (number r n)) t t refl
-  keep_leaves at (var r v) t = kept_number at r (first_value o t (var r v)) t t refl
-  keep_leaves at (field r k) t = kept_number at r (first_value o t (field r k)) t t refl
-  keep_leaves at (head r h) t = kept_number at r (first_value o t (head r h)) t t refl
-  keep_leaves at (neg r a) t = kept_number at r (first_value o t (neg r a)) t (keep o at a t) (keep_leaves at a t)
-  keep_leaves at (pair r b x y) t =
-      kept_number at r (first_value o t (pair r b x y)) t (keep o (past at x) y (keep o at x t))
-      (keep_leaves (past at x) y (keep o at x t) ∙ keep_leaves at x t)
-  keep_leaves at (pick r c x y) t =
-      kept_number at r (first_value o t (pick r c x y)) t (keep o (past (past at c) x) y (keep o (past at c) x (keep o at c t)))
-      (keep_leaves (past (past at c) x) y (keep o (past at c) x (keep o at c t))
-      ∙ (keep_leaves (past at c) x (keep o at c t) ∙ keep_leaves at c t))
-  keep_leaves at (apply r q x) t = kept_number at r (first_value o t (apply r q x)) t (keep o at x t) (keep_leaves at x t)
+  after : (k m n : ℕ) (t u v : Note W) → m + n ≤ k → From m t u → From n u v → From k t v
+  after k m n t u v l p q = goes.more (m + n) k t.world v.world l (goes.both m n t.world u.world v.world p q)
 
-  keep_all_leaves : (at : ℕ) (es : List Expression) (t : Note W) → of (keep_all o at es t) ≡ of t
-  keep_all_leaves at [] t = refl
-  keep_all_leaves at (e ∷ es) t = keep_all_leaves (past at e) es (keep o at e t) ∙ keep_leaves at e t
+  chosen_goes : (n : ℕ) (b : Bool) (t x y : Note W) → From n t x → From n t y → From n t (if b then x else y)
+  chosen_goes n true t x y p q = p
+  chosen_goes n false t x y p q = q
 
-  assign_leaves : (v : Variable) (w : Wave) (t : Note W) → of (assign o v w t) ≡ of t
-  assign_leaves (Local r n) w t = refl
-  assign_leaves (Global g) w t = leaves.save g (held o.ksmps (res_rate g) w) t.world
+  rate_goes : (n : ℕ) (r : Rate) (t x y : Note W) → From n t x → From n t y → From n t (if_init r x y)
+  rate_goes n rate.Init t x y p q = p
+  rate_goes n rate.Control t x y p q = q
+  rate_goes n rate.Audio t x y p q = q
 
-  given_leaves : (vs : List Variable) (w : Wave) (t : Note W) → of (given o vs w t) ≡ of t
-  given_leaves [] w t = refl
-  given_leaves (v ∷ vs) w t = assign_leaves v w t
+  going_goes : (n : ℕ) (t next : Note W) → From n t next → From n t (going o t next)
+  going_goes n t next p = chosen_goes n (o.refused t.world) t t next (still n t) p
 
-  going_leaves : (t next : Note W) → of next ≡ of t → of (going o t next) ≡ of t
-  going_leaves t next e = chosen_is of (o.refused t.world) t next (of t) refl e
+  kept_goes : (p : Path) (r : Rate) (z : ℤ) (t s : Note W) → From 0 t s
+      → From 0 t (if_init r (initial.put_kept p z t) s)
+  kept_goes p r z t s q = rate_goes 0 r t (initial.put_kept p z t) s (still 0 t) q
 
-  started_leaves : (r : Rate) (q : Opcode) (u : ℕ) (is : List Expression) (t : Note W)
-      → of (started o r q u is t) ≡ of t
-  started_leaves r q u is t = leaves.start q r u (first_values (values o t true 0 is)) t.world
+  keep_goes : (p : Path) (e : Expression) (t : Note W) → From 0 t (keep o p e t)
+  keep_goes p (number r n) t = kept_goes p r (first_value o t (number r n)) t t (still 0 t)
+  keep_goes p (var r v) t = kept_goes p r (first_value o t (var r v)) t t (still 0 t)
+  keep_goes p (field r k) t = kept_goes p r (first_value o t (field r k)) t t (still 0 t)
+  keep_goes p (head r h) t = kept_goes p r (first_value o t (head r h)) t t (still 0 t)
+  keep_goes p (neg r a) t =
+      kept_goes p r (first_value o t (neg r a)) t (keep o (0 ∷ p) a t) (keep_goes (0 ∷ p) a t)
+  keep_goes p (pair r b x y) t =
+      let s : Note W = keep o (0 ∷ p) x t in
+      let u : Note W = keep o (1 ∷ p) y s in
+      kept_goes p r (first_value o t (pair r b x y)) t u
+      (after 0 0 0 t s u (omega arith) (keep_goes (0 ∷ p) x t) (keep_goes (1 ∷ p) y s))
+  keep_goes p (pick r c x y) t =
+      let s : Note W = keep o (0 ∷ p) c t in
+      let u : Note W = keep o (1 ∷ p) x s in
+      let v : Note W = keep o (2 ∷ p) y u in
+      kept_goes p r (first_value o t (pick r c x y)) t v
+      (after 0 0 0 t s v (omega arith) (keep_goes (0 ∷ p) c t)
+      (after 0 0 0 s u v (omega arith) (keep_goes (1 ∷ p) x s) (keep_goes (2 ∷ p) y u)))
+  keep_goes p (apply r q x) t =
+      kept_goes p r (first_value o t (apply r q x)) t (keep o (0 ∷ p) x t) (keep_goes (0 ∷ p) x t)
 
-  sought_leaves : (is : List Expression) (t : Note W) → of (sought o is t) ≡ of t
-  sought_leaves is t = leaves.seek (first_values (values o t true 0 is)) t.world
+  keep_all_goes : (p : Path) (es : List Expression) (t : Note W) → From 0 t (keep_all o p es t)
+  keep_all_goes p [] t = still 0 t
+  keep_all_goes p (e ∷ es) t =
+      let s : Note W = keep o p e t in
+      after 0 0 0 t s (keep_all o (next p) es s) (omega arith) (keep_goes p e t) (keep_all_goes (next p) es s)
 
-  run_leaves : (r : Rate) (vs : List Variable) (q : Opcode) (u : ℕ) (reach : Reach) (xs : List Expression) (t : Note W)
-      → of (run_once o r vs q u reach xs t) ≡ of t
-  run_leaves r vs q u reach xs t =
-      let d : W × Wave = o.does q r u reach (values o t true 0 xs) t.world in
-      given_leaves vs (held o.ksmps r d.1) (moved_to d.0 t) ∙ leaves.does q r u reach (values o t true 0 xs) t.world
+  assign_goes : (v : Variable) (w : Wave) (t : Note W) → From 0 t (assign o v w t)
+  assign_goes (Local r n) w t = still 0 t
+  assign_goes (Global g) w t = goes.save g (held o.ksmps (res_rate g) w) t.world
 
-  zak_leaves : (r : Rate) (vs : List Variable) (q : Opcode) (reach : Reach) (xs : List Expression) (t : Note W)
-      → of (zak_once o r vs q reach xs t) ≡ of t
-  zak_leaves r vs q reach xs t =
-      let d : W × Wave = o.zak q reach (values o t true 0 xs) t.world in
-      given_leaves vs (held o.ksmps r d.1) (moved_to d.0 t) ∙ leaves.zak q reach (values o t true 0 xs) t.world
+  given_goes : (vs : List Variable) (w : Wave) (t : Note W) → From 0 t (given o vs w t)
+  given_goes [] w t = still 0 t
+  given_goes (v ∷ vs) w t = assign_goes v w t
+
+  started_goes : (r : Rate) (q : Opcode) (u : ℕ) (is : List Expression) (t : Note W) → From 0 t (started o r q u is t)
+  started_goes r q u is t = goes.start q r u (first_values (values o t true [] is)) t.world
+
+  sought_goes : (is : List Expression) (t : Note W) → From 0 t (sought o is t)
+  sought_goes is t = goes.seek (first_values (values o t true [] is)) t.world
+
+  run_goes : (r : Rate) (vs : List Variable) (q : Opcode) (u : ℕ) (reach : Reach) (xs : List Expression) (t : Note W)
+      → From 0 t (run_once o r vs q u reach xs t)
+  run_goes r vs q u reach xs t =
+      let d : W × Wave = o.does q r u reach (values o t true [] xs) t.world in
+      after 0 0 0 t (moved_to d.0 t) (given o vs (held o.ksmps r d.1) (moved_to d.0 t)) (omega arith)
+      (goes.does q r u reach (values o t true [] xs) t.world) (given_goes vs (held o.ksmps r d.1) (moved_to d.0 t))
+
+  zak_goes : (r : Rate) (vs : List Variable) (q : Opcode) (reach : Reach) (xs : List Expression) (t : Note W)
+      → From 0 t (zak_once o r vs q reach xs t)
+  zak_goes r vs q reach xs t =
+      let d : W × Wave = o.zak q reach (values o t true [] xs) t.world in
+      after 0 0 0 t (moved_to d.0 t) (given o vs (held o.ksmps r d.1) (moved_to d.0 t)) (omega arith)
+      (goes.zak q reach (values o t true [] xs) t.world) (given_goes vs (held o.ksmps r d.1) (moved_to d.0 t))
 
   mutual
-    pub stmt_leaves : (s : Stmt) (p : Place) (t : Note W) → of (init_stmt o p s t) ≡ of t
-    stmt_leaves (set r v e) p t =
-        going_leaves t (if_init r (assign o v (value o t true 0 e) t) (keep o p.part e t))
-        (rate_is of r (assign o v (value o t true 0 e) t) (keep o p.part e t) (of t) (assign_leaves v (value o t true 0 e) t) (keep_leaves p.part e t))
-    stmt_leaves (unit r vs q reach xs is) p t =
+    pub stmt_goes : (s : Stmt) (p : Place) (t : Note W) → From (asks_in_stmt s) t (init_stmt o p s t)
+    stmt_goes (set r v e) p t =
+        let a : Note W = assign o v (value o t true [] e) t in
+        let b : Note W = keep o (0 ∷ p.path) e t in
+        going_goes 0 t (if_init r a b)
+        (rate_goes 0 r t a b (assign_goes v (value o t true [] e) t) (keep_goes (0 ∷ p.path) e t))
+    stmt_goes (unit r vs q reach xs is) p t =
         let s : Note W = started o r q p.unit is t in
         let a : Note W = going o s (run_once o r vs q p.unit reach xs s) in
-        let b : Note W = started o r q p.unit is (keep_all o p.part xs t) in
-        going_leaves t (if_init r a b)
-        (rate_is of r a b (of t)
-        (going_leaves s (run_once o r vs q p.unit reach xs s) (run_leaves r vs q p.unit reach xs s) ∙ started_leaves r q p.unit is t)
-        (started_leaves r q p.unit is (keep_all o p.part xs t) ∙ keep_all_leaves p.part xs t))
-    stmt_leaves (zak r vs q reach xs) p t =
+        let k : Note W = keep_all o (0 ∷ p.path) xs t in
+        let b : Note W = started o r q p.unit is k in
+        going_goes 0 t (if_init r a b)
+        (rate_goes 0 r t a b
+        (after 0 0 0 t s a (omega arith) (started_goes r q p.unit is t)
+        (going_goes 0 s (run_once o r vs q p.unit reach xs s) (run_goes r vs q p.unit reach xs s)))
+        (after 0 0 0 t k b (omega arith) (keep_all_goes (0 ∷ p.path) xs t) (started_goes r q p.unit is k)))
+    stmt_goes (zak r vs q reach xs) p t =
         let a : Note W = zak_once o r vs q reach xs t in
-        let b : Note W = keep_all o p.part xs t in
-        going_leaves t (if_init r a b) (rate_is of r a b (of t) (zak_leaves r vs q reach xs t) (keep_all_leaves p.part xs t))
-    stmt_leaves (store r q reach es is) p t =
+        let b : Note W = keep_all o (0 ∷ p.path) xs t in
+        going_goes 0 t (if_init r a b)
+        (rate_goes 0 r t a b (zak_goes r vs q reach xs t) (keep_all_goes (0 ∷ p.path) xs t))
+    stmt_goes (store r q reach es is) p t =
         let s : Note W = sought o is t in
         let a : Note W = going o s (stored_once o r q reach es s) in
-        let b : Note W = sought o is (keep_all o p.part es t) in
-        going_leaves t (if_init r a b)
-        (rate_is of r a b (of t)
-        (going_leaves s (stored_once o r q reach es s) (leaves.store q r reach (values o s true 0 es) s.world) ∙ sought_leaves is t)
-        (sought_leaves is (keep_all o p.part es t) ∙ keep_all_leaves p.part es t))
-    stmt_leaves (out r es) p t = going_leaves t (keep_all o p.part es t) (keep_all_leaves p.part es t)
-    stmt_leaves (out_at r es) p t = going_leaves t (keep_all o p.part es t) (keep_all_leaves p.part es t)
-    stmt_leaves (ask es) p t =
-        going_leaves t (moved_to (o.ask (first_values (values o t true 0 es)) t.world) t) (leaves.ask (first_values (values o t true 0 es)) t.world)
-    stmt_leaves (turnoff r) p t = refl
-    stmt_leaves nothing p t = refl
-    stmt_leaves (choose r arms) p t =
-        going_leaves t (if_init r (init_first o p arms t) (init_all o p arms t))
-        (rate_is of r (init_first o p arms t) (init_all o p arms t) (of t) (first_leaves arms p t) (all_leaves arms p t))
+        let k : Note W = keep_all o (0 ∷ p.path) es t in
+        let b : Note W = sought o is k in
+        going_goes 0 t (if_init r a b)
+        (rate_goes 0 r t a b
+        (after 0 0 0 t s a (omega arith) (sought_goes is t)
+        (going_goes 0 s (stored_once o r q reach es s) (goes.store q r reach (values o s true [] es) s.world)))
+        (after 0 0 0 t k b (omega arith) (keep_all_goes (0 ∷ p.path) es t) (sought_goes is k)))
+    stmt_goes (out r es) p t = going_goes 0 t (keep_all o (0 ∷ p.path) es t) (keep_all_goes (0 ∷ p.path) es t)
+    stmt_goes (out_at r es) p t = going_goes 0 t (keep_all o (0 ∷ p.path) es t) (keep_all_goes (0 ∷ p.path) es t)
+    stmt_goes (ask es) p t =
+        let is : List ℤ = first_values (values o t true [] es) in
+        going_goes 1 t (moved_to (o.ask is t.world) t) (goes.ask is t.world)
+    stmt_goes (turnoff r) p t = still 0 t
+    stmt_goes nothing p t = still 0 t
+    stmt_goes (choose r arms) p t =
+        let q : Place = inside p in
+        let a : Note W = init_first o q arms t in
+        let b : Note W = init_all o q arms t in
+        going_goes (asks_in_arms arms) t (if_init r a b)
+        (rate_goes (asks_in_arms arms) r t a b (first_goes arms q t) (all_goes arms q t))
 
-    pub block_leaves : (b : Block) (p : Place) (t : Note W) → of (init_block o p b t) ≡ of t
-    block_leaves no_stmt p t = refl
-    block_leaves (andthen s b) p t = block_leaves b (past_stmt p s) (init_stmt o p s t) ∙ stmt_leaves s p t
+    pub block_goes : (b : Block) (p : Place) (t : Note W) → From (asks_in b) t (init_block o p b t)
+    block_goes no_stmt p t = still 0 t
+    block_goes (andthen s b) p t =
+        let u : Note W = init_stmt o p s t in
+        after (asks_in_stmt s + asks_in b) (asks_in_stmt s) (asks_in b) t u (init_block o (past_stmt p s) b u)
+        (omega arith)
+        (stmt_goes s p t) (block_goes b (past_stmt p s) u)
 
-    first_leaves : (arms : Arms) (p : Place) (t : Note W) → of (init_first o p arms t) ≡ of t
-    first_leaves (otherwise b) p t = block_leaves b p t
-    first_leaves (arm c b rest) p t =
-        let s : Note W = keep o p.part c t in
-        let q : Place = past_parts (past p.part c) p in
-        chosen_is of (holds (s.kept p.part)) (init_block o q b s) (init_first o (past_block q b) rest s) (of t)
-        (block_leaves b q s ∙ keep_leaves p.part c t) (first_leaves rest (past_block q b) s ∙ keep_leaves p.part c t)
+    first_goes : (arms : Arms) (p : Place) (t : Note W) → From (asks_in_arms arms) t (init_first o p arms t)
+    first_goes (otherwise b) p t = block_goes b (inside p) t
+    first_goes (arm c b rest) p t =
+        let n : ℕ = asks_in b + asks_in_arms rest in
+        let s : Note W = keep o (0 ∷ p.path) c t in
+        let q : Place = inside_arm p in
+        let next_arm : Place = past_arm p b in
+        let x : Note W = init_block o q b s in
+        let y : Note W = init_first o next_arm rest s in
+        chosen_goes n (holds (s.kept (0 ∷ p.path))) t x y
+        (after n 0 (asks_in b) t s x (omega arith) (keep_goes (0 ∷ p.path) c t) (block_goes b q s))
+        (after n 0 (asks_in_arms rest) t s y (omega arith) (keep_goes (0 ∷ p.path) c t) (first_goes rest next_arm s))
 
-    all_leaves : (arms : Arms) (p : Place) (t : Note W) → of (init_all o p arms t) ≡ of t
-    all_leaves (otherwise b) p t = block_leaves b p t
-    all_leaves (arm c b rest) p t =
-        let s : Note W = keep o p.part c t in
-        let q : Place = past_parts (past p.part c) p in
+    all_goes : (arms : Arms) (p : Place) (t : Note W) → From (asks_in_arms arms) t (init_all o p arms t)
+    all_goes (otherwise b) p t = block_goes b (inside p) t
+    all_goes (arm c b rest) p t =
+        let n : ℕ = asks_in b + asks_in_arms rest in
+        let s : Note W = keep o (0 ∷ p.path) c t in
+        let q : Place = inside_arm p in
+        let next_arm : Place = past_arm p b in
         let u : Note W = init_block o q b s in
-        going_leaves t (init_all o (past_block q b) rest u)
-        (all_leaves rest (past_block q b) u ∙ (block_leaves b q s ∙ keep_leaves p.part c t))
+        let v : Note W = init_all o next_arm rest u in
+        going_goes n t v
+        (after n (asks_in b) (asks_in_arms rest) t u v (omega arith)
+        (after (asks_in b) 0 (asks_in b) t s u (omega arith) (keep_goes (0 ∷ p.path) c t) (block_goes b q s))
+        (all_goes rest next_arm u))

@@ -1,6 +1,7 @@
 pub mod Asked
 pub mod Computed
 pub mod Counting
+pub mod Few
 pub mod Following
 pub mod Full
 pub mod Initial

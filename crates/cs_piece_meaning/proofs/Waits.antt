@@ -1,5 +1,6 @@
 -- What waits for a cycle is started in it.
-use Rattle.std.proofs.Common.{◌≡◌, ◌≢◌, ⊎_elim, ℕ, zero, suc, ◌+◌, ◌<◌, ◌≤◌, ◌==◌, Bool, true, false, nat_le, List, [], ◌∷◌, ◌++◌, length, refl, ap, subst, arith, length-append, if◌then◌else◌}
+use Rattle.std.proofs.Common.{◌≡◌, ◌≢◌, ⊎_elim, ℕ, zero, suc, ◌+◌, ◌<◌, ◌≤◌, ◌==◌, Bool, true, false, nat_le, List, []}
+use Rattle.std.proofs.Common.{◌∷◌, ◌++◌, length, refl, ap, subst, arith, length-append, if◌then◌else◌}
 use Rattle.std.specs.Int.{is_negative}
 use Rattle.std.proofs.lemmas.Bool.{cases_lt}
 use Rattle.std.proofs.lemmas.Bool.Decides.{nat_tests}
@@ -15,7 +16,8 @@ use Rattle.cs_piece_meaning.specs.Moments.{Composition, Moment, clock_of}
 use Rattle.cs_piece_meaning.specs.Starts.{taken}
 use Rattle.cs_piece_meaning.proofs.Steps.{Fact, Keeps, begins_keeps}
 
--- None waits for a cycle before this one; for no cycle more wait than were kept, for this one fewer by those that were taken out.
+-- None waits for a cycle before this one; for no cycle more wait than were kept, for this one fewer by those that were
+-- taken out.
 record Waits (now x : ℕ) (w : Waiting) : Type 0 where
   pub past : (k : ℕ) → k < now → w.due k ≡ []
   pub few : (k : ℕ) → length (w.due k) ≤ w.kept
@@ -23,10 +25,12 @@ record Waits (now x : ℕ) (w : Waiting) : Type 0 where
   pub most : w.kept ≤ most_asks
 
 room_of : (clock : Clock) (now : ℕ) (a : Ask) (kept : ℕ) → answer_to clock now a kept ≡ added.Kept → kept < most_asks
-room_of clock now a kept h = by (is_negative a.dur) (nat_le most_asks kept) (nat_le clock.cycles (begins_in clock now a)) refl h
+room_of clock now a kept h =
+    by (is_negative a.dur) (nat_le most_asks kept) (nat_le clock.cycles (begins_in clock now a)) refl h
   where
     by : (b1 b2 b3 : Bool) → nat_le most_asks kept ≡ b2
-        → (if b1 then added.Negative else (if b2 then added.TooMany else (if b3 then added.PastEnd else added.Kept))) ≡ added.Kept
+        → (if b1 then added.Negative else (if b2 then added.TooMany else (if b3 then added.PastEnd else added.Kept)))
+        ≡ added.Kept
         → kept < most_asks
     by true b2 b3 e h = absurd cc
     by false true b3 e h = absurd cc
@@ -77,11 +81,13 @@ module _ (now x : ℕ) (w : Waiting) (d : Due) (h : Waits now x w) where
       old k lt true e = absurd (let same : k ≡ now = grind (arith, nat_tests) in omega (arith, same, lt))
       old k lt false e = h.past k lt
 
-      shorter : (k : ℕ) (b : Bool) → (k == now) ≡ b → length (w.due now) ≡ length rest + 1 → length (if b then rest else w.due k) ≤ w.kept
+      shorter : (k : ℕ) (b : Bool) → (k == now) ≡ b → length (w.due now) ≡ length rest + 1
+          → length (if b then rest else w.due k) ≤ w.kept
       shorter k true e long = let l = h.few now in omega (arith, l, long)
       shorter k false e long = h.few k
 
-      here : (b : Bool) → (now == now) ≡ b → length (w.due now) ≡ length rest + 1 → length (if b then rest else w.due now) + (x + 1) ≤ w.kept
+      here : (b : Bool) → (now == now) ≡ b → length (w.due now) ≡ length rest + 1
+          → length (if b then rest else w.due now) + (x + 1) ≤ w.kept
       here true e long = let l = h.left in omega (arith, l, long)
       here false e long = absurd (let no : now ≢ now = grind (arith, nat_tests) in no refl)
 
@@ -108,7 +114,8 @@ module _ (c : Composition) where
       let k : Waits n r.0 w = r.1 in
       let empty : w.due n ≡ [] = ⊎_elim (λ l. none (w.due n) r.0 w.kept k.left k.most l) (λ e. e) r.2 in
       record {
-        past = λ j lt. ⊎_elim (λ l. k.past j l) (λ ge. let same : n ≡ j = omega (arith, lt, ge) in subst (λ i. w.due i ≡ []) same empty) (cases_lt j n);
+        past = λ j lt. ⊎_elim (λ l. k.past j l)
+            (λ ge. let same : n ≡ j = omega (arith, lt, ge) in subst (λ i. w.due i ≡ []) same empty) (cases_lt j n);
         few = k.few;
         left = (let l = k.few (suc n) in omega (arith, l));
         most = k.most;
@@ -120,3 +127,6 @@ module _ (c : Composition) where
 
   pub none_waits : (n k : ℕ) → k ≤ n → (begins c n (moment_at c n)).waiting.due k ≡ []
   none_waits n k le = (begins_waits n (moment_at c n) (moment_waits n)).past k (omega (arith, le))
+
+  pub few_kept : (n : ℕ) → (begins c n (moment_at c n)).waiting.kept ≤ most_asks
+  few_kept n = (begins_waits n (moment_at c n) (moment_waits n)).most

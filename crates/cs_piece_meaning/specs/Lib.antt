@@ -1,3 +1,4 @@
+pub mod Bounded
 pub mod Counting
 pub mod Course
 pub mod Examples

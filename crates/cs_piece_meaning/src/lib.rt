@@ -2,7 +2,8 @@
 //!
 //! specs/Moments says what is performed and how it stands between two steps; specs/Starts how notes start, ask for others
 //! and tables are made; specs/Started which of those that wait start; specs/Course the steps of a cycle and all cycles one
-//! after another; specs/Counting how many starts there are; specs/Heard the frames; specs/Orders in which order the notes of
+//! after another; specs/Counting how many starts there are, specs/Bounded which
+//! pieces have few; specs/Heard the frames; specs/Orders in which order the notes of
 //! a cycle stand; specs/Examples and specs/OrderExamples are small pieces.
 //!
 //! The one contract: `performances_worked_by_hand`, by which the examples sound as they were reckoned by hand, and
@@ -18,5 +19,5 @@ pub use laws::performances_worked_by_hand;
 pub use order_laws::{
     full_cycles_start_none, no_start_is_lost, none_waits_beyond_its_cycle,
     notes_of_a_cycle_are_in_order, notes_play_in_one_stretch, notes_play_until_their_end,
-    orders_worked_by_hand, waiting_notes_start_in_order,
+    orders_worked_by_hand, starts_are_few, waiting_notes_start_in_order,
 };

@@ -4,7 +4,8 @@ ghost use Rattle.std.specs.List.{AllZip};
 ghost use Rattle.cs_piece_meaning.specs.Counting.{starts_before};
 ghost use Rattle.cs_piece_meaning.specs.Course.{begins, closing, events_in, moment_at, played_in, still};
 ghost use Rattle.cs_piece_meaning.specs.Heard.{frames_of};
-ghost use Rattle.cs_base.specs.Limits.{most_notes};
+ghost use Rattle.cs_base.specs.Limits.{most_asks, most_events, most_notes, most_statements};
+ghost use Rattle.cs_piece_meaning.specs.Bounded.{IsBounded};
 ghost use Rattle.cs_piece_meaning.specs.Moments.{Active, Composition, Moment};
 ghost use Rattle.cs_piece_meaning.specs.Started.{AreStarted};
 ghost use Rattle.cs_piece_meaning.specs.Starts.{Start, all_done, in_vain, start_in};
@@ -60,6 +61,13 @@ pub fn none_waits_beyond_its_cycle()
 /// events that start a note and the notes that were asked for, each counted once.
 pub fn no_start_is_lost()
     ensures { (c : Composition) → (closing c).started + (closing c).not_started ≡ starts_before c (c.cycles + 1) }
+{}
+
+/// A piece whose instruments ask for few notes has few starts: no more than the events and the notes that can be kept, and for
+/// each of these the notes that it asks for.
+pub fn starts_are_few()
+    ensures { (c : Composition) → IsBounded c
+        → (closing c).started + (closing c).not_started ≤ (most_events + most_asks) * (most_statements + 1) }
 {}
 
 /// Small performances worked out from the definitions: eight frames a second, four a control cycle.

@@ -27,7 +27,7 @@ use Rattle.cs_meaning.specs.Core.{Stmt, set, unit, zak, store, out, out_at, ask,
 use Rattle.cs_meaning.specs.Core.{otherwise, values_of, settled, moving, table_reach, place_reach, span_reach}
 use Rattle.cs_meaning.specs.Core.{unit_reach, zak_reach, plus, unit_call, store_call, zak_call, core_call}
 use Rattle.cs_meaning.specs.Initialising.{going, put_kept, keep, keep_all, started, sought, init_stmt}
-use Rattle.cs_meaning.specs.Notes.{Note, Place, moved_to, past, past_all, past_parts, past_stmt, look, assign, part}
+use Rattle.cs_meaning.specs.Notes.{Note, Path, Place, next, unit_past, moved_to, past_stmt, look, assign, part}
 use Rattle.cs_meaning.specs.Notes.{value, values, first_value, given, done, sent, sent_at}
 use Rattle.cs_meaning.specs.Performing.{perf_stmt}
 use Rattle.cs_udo_meaning.specs.Renumbered.{renumbered}
@@ -319,43 +319,22 @@ core_alike spaces r o (shape.ZakClear s) (more_variables x y vs ws g rest) args 
 
 -- ---- places
 
-pub past_alike : {V : Variable → Variable → Type 0} {a b : Expression} → Alike V a b → (n m : ℕ) → n ≡ m
-    → past n a ≡ past m b
-past_alike (alike_number r z) n m e = λ i. if_init r (e i + 1) (e i)
-past_alike (alike_var r v w h) n m e = λ i. if_init r (e i + 1) (e i)
-past_alike (alike_field r k) n m e = λ i. if_init r (e i + 1) (e i)
-past_alike (alike_head r h) n m e = λ i. if_init r (e i + 1) (e i)
-past_alike (alike_neg r a b h) n m e = λ i. if_init r (e i + 1) (past_alike h n m e i)
-past_alike (alike_pair r o a b c d h j) n m e =
-    λ i. if_init r (e i + 1) (past_alike j (past n a) (past m b) (past_alike h n m e) i)
-past_alike (alike_pick r a b c d x y h j k) n m e =
-    λ i. if_init r (e i + 1)
-    (past_alike k (past (past n a) c) (past (past m b) d) (past_alike j (past n a) (past m b) (past_alike h n m e)) i)
-past_alike (alike_apply r f a b h) n m e = λ i. if_init r (e i + 1) (past_alike h n m e i)
-
-past_all_alike : {V : Variable → Variable → Type 0} {xs ys : List Expression} → AlikeAll V xs ys → (n m : ℕ) → n ≡ m
-    → past_all n xs ≡ past_all m ys
-past_all_alike alike_none n m e = e
-past_all_alike (alike_more a b xs ys h more) n m e = past_all_alike more (past n a) (past m b) (past_alike h n m e)
+pub units_alike : {V : Variable → Variable → Type 0} {x y : Stmt} → AlikeStmt V x y → (n : ℕ)
+    → unit_past n x ≡ unit_past n y
+units_alike (alike_set r v w a b g h) n = refl
+units_alike (alike_unit r vs ws o k xs ys is js g h j) n = refl
+units_alike (alike_zak r vs ws o k xs ys g h) n = refl
+units_alike (alike_store r o k xs ys is js h j) n = refl
+units_alike (alike_out r xs ys h) n = refl
+units_alike (alike_out_at r xs ys h) n = refl
+units_alike (alike_ask xs ys h) n = refl
+units_alike (alike_turnoff r) n = refl
+units_alike alike_nothing n = refl
+units_alike (alike_empty r) n = refl
 
 pub past_stmt_alike : {V : Variable → Variable → Type 0} {x y : Stmt} → AlikeStmt V x y → (p : Place)
     → past_stmt p x ≡ past_stmt p y
-past_stmt_alike (alike_set r v w a b g h) p = λ i. past_parts (if_init r p.part (past_alike h p.part p.part refl i)) p
-past_stmt_alike (alike_unit r vs ws o k xs ys is js g h j) p = λ i. record {
-  part = if_init r p.part
-      (past_all_alike h p.part p.part refl i);
-  unit = p.unit + 1;
-}
-past_stmt_alike (alike_zak r vs ws o k xs ys g h) p =
-    λ i. past_parts (if_init r p.part (past_all_alike h p.part p.part refl i)) p
-past_stmt_alike (alike_store r o k xs ys is js h j) p =
-    λ i. past_parts (if_init r p.part (past_all_alike h p.part p.part refl i)) p
-past_stmt_alike (alike_out r xs ys h) p = λ i. past_parts (past_all_alike h p.part p.part refl i) p
-past_stmt_alike (alike_out_at r xs ys h) p = λ i. past_parts (past_all_alike h p.part p.part refl i) p
-past_stmt_alike (alike_ask xs ys h) p = refl
-past_stmt_alike (alike_turnoff r) p = refl
-past_stmt_alike alike_nothing p = refl
-past_stmt_alike (alike_empty r) p = refl
+past_stmt_alike h p = λ i. record { path = next p.path; unit = units_alike h p.unit i }
 
 -- ---- two notes alike
 
@@ -367,7 +346,7 @@ pub record Agree {W : Type 0} (o p : World W) (V : Variable → Variable → Typ
   pub world : (t u : Note W) → R t u → t.world ≡ u.world
   pub looks : (t u : Note W) → R t u → (r : Rate) (v w : Variable) → V v w → look o t r v ≡ look p u r w
   pub assigns : (t u : Note W) → R t u → (v w : Variable) → V v w → (x : Wave) → R (assign o v x t) (assign p w x u)
-  pub keeps : (t u : Note W) → R t u → (n : ℕ) (z : ℤ) → R (put_kept n z t) (put_kept n z u)
+  pub keeps : (t u : Note W) → R t u → (p : Path) (z : ℤ) → R (put_kept p z t) (put_kept p z u)
   pub moves : (t u : Note W) → R t u → (x : W) → R (moved_to x t) (moved_to x u)
 
 -- what goes out is the same where what notes share has other numbers
@@ -388,42 +367,32 @@ module _ {W : Type 0} (o : World W) (to : Res → Res) (V : Variable → Variabl
   abbrev there : World W
   there = renumbered to o
 
-  pub value_same : (t u : Note W) → R t u → {a b : Expression} → Alike V a b → (whole : Bool) (n m : ℕ) → n ≡ m
-      → value o t whole n a ≡ value there u whole m b
-  value_same t u h (alike_number r z) whole n m e =
-      λ i. part whole r (s.kept t u h i (e i)) (held o.ksmps r (constant z))
-  value_same t u h (alike_var r v w g) whole n m e = λ i. part whole r (s.kept t u h i (e i)) (s.looks t u h r v w g i)
-  value_same t u h (alike_field r k) whole n m e =
-      λ i. part whole r (s.kept t u h i (e i)) (held o.ksmps r (constant (o.field k)))
-  value_same t u h (alike_head r k) whole n m e =
-      λ i. part whole r (s.kept t u h i (e i)) (held o.ksmps r (constant (o.head k)))
-  value_same t u h (alike_neg r a b g) whole n m e =
-      λ i. part whole r (s.kept t u h i (e i)) (held o.ksmps r (λ j. negated (value_same t u h g whole n m e i j)))
-  value_same t u h (alike_pair r q a b c d g k) whole n m e =
-      λ i. part whole r (s.kept t u h i (e i))
-      (held o.ksmps r (both q (value_same t u h g whole n m e i)
-      (value_same t u h k whole (past n a) (past m b) (past_alike g n m e) i)))
-  value_same t u h (alike_pick r a b c d x y g k l) whole n m e =
-      let first = past_alike g n m e in
-      λ i. part whole r (s.kept t u h i (e i))
-      (held o.ksmps r (chosen (value_same t u h g whole n m e i)
-      (value_same t u h k whole (past n a) (past m b) first i)
-      (value_same t u h l whole (past (past n a) c) (past (past m b) d) (past_alike k (past n a) (past m b) first) i)))
-  value_same t u h (alike_apply r f a b g) whole n m e =
-      λ i. part whole r (s.kept t u h i (e i)) (held o.ksmps r (λ j. applied f (value_same t u h g whole n m e i j)))
+  pub value_same : (t u : Note W) → R t u → {a b : Expression} → Alike V a b → (whole : Bool) (p : Path)
+      → value o t whole p a ≡ value there u whole p b
+  value_same t u h (alike_number r z) whole p =
+      λ i. part whole r (s.kept t u h i p) (held o.ksmps r (constant z))
+  value_same t u h (alike_var r v w g) whole p = λ i. part whole r (s.kept t u h i p) (s.looks t u h r v w g i)
+  value_same t u h (alike_field r k) whole p =
+      λ i. part whole r (s.kept t u h i p) (held o.ksmps r (constant (o.field k)))
+  value_same t u h (alike_head r k) whole p =
+      λ i. part whole r (s.kept t u h i p) (held o.ksmps r (constant (o.head k)))
+  value_same t u h (alike_neg r a b g) whole p =
+      λ i. part whole r (s.kept t u h i p) (held o.ksmps r (λ j. negated (value_same t u h g whole (0 ∷ p) i j)))
+  value_same t u h (alike_pair r q a b c d g k) whole p =
+      λ i. part whole r (s.kept t u h i p)
+      (held o.ksmps r (both q (value_same t u h g whole (0 ∷ p) i) (value_same t u h k whole (1 ∷ p) i)))
+  value_same t u h (alike_pick r a b c d x y g k l) whole p =
+      λ i. part whole r (s.kept t u h i p)
+      (held o.ksmps r (chosen (value_same t u h g whole (0 ∷ p) i) (value_same t u h k whole (1 ∷ p) i)
+      (value_same t u h l whole (2 ∷ p) i)))
+  value_same t u h (alike_apply r f a b g) whole p =
+      λ i. part whole r (s.kept t u h i p) (held o.ksmps r (λ j. applied f (value_same t u h g whole (0 ∷ p) i j)))
 
-  values_same : (t u : Note W) → R t u → {xs ys : List Expression} → AlikeAll V xs ys → (whole : Bool) (n m : ℕ)
-      → n ≡ m
-      → values o t whole n xs ≡ values there u whole m ys
-  values_same t u h alike_none whole n m e = refl
-  values_same t u h (alike_more a b xs ys g more) whole n m e =
-      λ i. value_same t u h g whole n m e i
-      ∷ values_same t u h more whole (past n a) (past m b) (past_alike g n m e) i
-
-  keeps_at : (t u : Note W) → R t u → (n m : ℕ) (y z : ℤ) → n ≡ m → y ≡ z → R (put_kept n y t) (put_kept m z u)
-  keeps_at t u h n m y z e f =
-      subst (λ k. R (put_kept n y t) (put_kept k z u)) e
-      (subst (λ x. R (put_kept n y t) (put_kept n x u)) f (s.keeps t u h n y))
+  values_same : (t u : Note W) → R t u → {xs ys : List Expression} → AlikeAll V xs ys → (whole : Bool) (p : Path)
+      → values o t whole p xs ≡ values there u whole p ys
+  values_same t u h alike_none whole p = refl
+  values_same t u h (alike_more a b xs ys g more) whole p =
+      λ i. value_same t u h g whole p i ∷ values_same t u h more whole (next p) i
 
   moves_to : (t u : Note W) → R t u → (x y : W) → x ≡ y → R (moved_to x t) (moved_to y u)
   moves_to t u h x y e = subst (λ z. R (moved_to x t) (moved_to z u)) e (s.moves t u h x)
@@ -437,39 +406,36 @@ module _ {W : Type 0} (o : World W) (to : Res → Res) (V : Variable → Variabl
   either rate.Control t u q p h k = k
   either rate.Audio t u q p h k = k
 
-  kept_whole : (t u : Note W) → R t u → {a b : Expression} → Alike V a b → (n m : ℕ) → n ≡ m
-      → R (put_kept n (first_value o t a) t) (put_kept m (first_value there u b) u)
-  kept_whole t u h {a} {b} g n m e =
-      keeps_at t u h n m (first_value o t a) (first_value there u b) e (λ i. value_same t u h g true 0 0 refl i 0)
+  kept_whole : (t u : Note W) → R t u → {a b : Expression} → Alike V a b → (p : Path)
+      → R (put_kept p (first_value o t a) t) (put_kept p (first_value there u b) u)
+  kept_whole t u h {a} {b} g p =
+      subst (λ x. R (put_kept p (first_value o t a) t) (put_kept p x u)) (λ i. value_same t u h g true [] i 0)
+      (s.keeps t u h p (first_value o t a))
 
-  pub keep_same : (t u : Note W) → R t u → {a b : Expression} → Alike V a b → (n m : ℕ) → n ≡ m
-      → R (keep o n a t) (keep there m b u)
-  keep_same t u h (alike_number r z) n m e = either r _ _ t u (kept_whole t u h (alike_number r z) n m e) h
-  keep_same t u h (alike_var r v w g) n m e = either r _ _ t u (kept_whole t u h (alike_var r v w g) n m e) h
-  keep_same t u h (alike_field r k) n m e = either r _ _ t u (kept_whole t u h (alike_field r k) n m e) h
-  keep_same t u h (alike_head r k) n m e = either r _ _ t u (kept_whole t u h (alike_head r k) n m e) h
-  keep_same t u h (alike_neg r a b g) n m e =
-      either r _ _ _ _ (kept_whole t u h (alike_neg r a b g) n m e) (keep_same t u h g n m e)
-  keep_same t u h (alike_pair r q a b c d g k) n m e =
-      either r _ _ _ _ (kept_whole t u h (alike_pair r q a b c d g k) n m e)
-      (keep_same (keep o n a t) (keep there m b u) (keep_same t u h g n m e) k (past n a) (past m b)
-      (past_alike g n m e))
-  keep_same t u h (alike_pick r a b c d x y g k l) n m e =
-      let first = past_alike g n m e in
-      let one = keep_same t u h g n m e in
-      let two = keep_same (keep o n a t) (keep there m b u) one k (past n a) (past m b) first in
-      either r _ _ _ _ (kept_whole t u h (alike_pick r a b c d x y g k l) n m e)
-      (keep_same (keep o (past n a) c (keep o n a t)) (keep there (past m b) d (keep there m b u)) two l
-      (past (past n a) c) (past (past m b) d) (past_alike k (past n a) (past m b) first))
-  keep_same t u h (alike_apply r f a b g) n m e =
-      either r _ _ _ _ (kept_whole t u h (alike_apply r f a b g) n m e) (keep_same t u h g n m e)
+  pub keep_same : (t u : Note W) → R t u → {a b : Expression} → Alike V a b → (p : Path)
+      → R (keep o p a t) (keep there p b u)
+  keep_same t u h (alike_number r z) p = either r _ _ t u (kept_whole t u h (alike_number r z) p) h
+  keep_same t u h (alike_var r v w g) p = either r _ _ t u (kept_whole t u h (alike_var r v w g) p) h
+  keep_same t u h (alike_field r k) p = either r _ _ t u (kept_whole t u h (alike_field r k) p) h
+  keep_same t u h (alike_head r k) p = either r _ _ t u (kept_whole t u h (alike_head r k) p) h
+  keep_same t u h (alike_neg r a b g) p =
+      either r _ _ _ _ (kept_whole t u h (alike_neg r a b g) p) (keep_same t u h g (0 ∷ p))
+  keep_same t u h (alike_pair r q a b c d g k) p =
+      either r _ _ _ _ (kept_whole t u h (alike_pair r q a b c d g k) p)
+      (keep_same (keep o (0 ∷ p) a t) (keep there (0 ∷ p) b u) (keep_same t u h g (0 ∷ p)) k (1 ∷ p))
+  keep_same t u h (alike_pick r a b c d x y g k l) p =
+      let one = keep_same t u h g (0 ∷ p) in
+      let two = keep_same (keep o (0 ∷ p) a t) (keep there (0 ∷ p) b u) one k (1 ∷ p) in
+      either r _ _ _ _ (kept_whole t u h (alike_pick r a b c d x y g k l) p)
+      (keep_same (keep o (1 ∷ p) c (keep o (0 ∷ p) a t)) (keep there (1 ∷ p) d (keep there (0 ∷ p) b u)) two l (2 ∷ p))
+  keep_same t u h (alike_apply r f a b g) p =
+      either r _ _ _ _ (kept_whole t u h (alike_apply r f a b g) p) (keep_same t u h g (0 ∷ p))
 
-  keep_all_same : (t u : Note W) → R t u → {xs ys : List Expression} → AlikeAll V xs ys → (n m : ℕ) → n ≡ m
-      → R (keep_all o n xs t) (keep_all there m ys u)
-  keep_all_same t u h alike_none n m e = h
-  keep_all_same t u h (alike_more a b xs ys g more) n m e =
-      keep_all_same (keep o n a t) (keep there m b u) (keep_same t u h g n m e) more (past n a) (past m b)
-      (past_alike g n m e)
+  keep_all_same : (t u : Note W) → R t u → {xs ys : List Expression} → AlikeAll V xs ys → (p : Path)
+      → R (keep_all o p xs t) (keep_all there p ys u)
+  keep_all_same t u h alike_none p = h
+  keep_all_same t u h (alike_more a b xs ys g more) p =
+      keep_all_same (keep o p a t) (keep there p b u) (keep_same t u h g p) more (next p)
 
   going_same : (t u q p : Note W) → R t u → R q p → R (going o t q) (going there u p)
   going_same t u q p h k =
@@ -495,20 +461,20 @@ module _ {W : Type 0} (o : World W) (to : Res → Res) (V : Variable → Variabl
   started_same : (t u : Note W) → R t u → (r : Rate) (q : Opcode) (n : ℕ) {xs ys : List Expression} → AlikeAll V xs ys
       → R (started o r q n xs t) (started there r q n ys u)
   started_same t u h r q n g =
-      moves_to t u h _ _ (λ i. o.start q r n (first_values (values_same t u h g true 0 0 refl i)) (s.world t u h i))
+      moves_to t u h _ _ (λ i. o.start q r n (first_values (values_same t u h g true [] i)) (s.world t u h i))
 
   sought_same : (t u : Note W) → R t u → {xs ys : List Expression} → AlikeAll V xs ys
       → R (sought o xs t) (sought there ys u)
   sought_same t u h g =
-      moves_to t u h _ _ (λ i. o.seek (first_values (values_same t u h g true 0 0 refl i)) (s.world t u h i))
+      moves_to t u h _ _ (λ i. o.seek (first_values (values_same t u h g true [] i)) (s.world t u h i))
 
   pub init_same : (t u : Note W) → R t u → {x y : Stmt} → AlikeStmt V x y → (p : Place)
       → R (init_stmt o p x t) (init_stmt there p y u)
   init_same t u h (alike_set r v w a b g k) p =
       going_same t u _ _ h
       (either r _ _ _ _
-      (assigns_to t u h v w g (value o t true 0 a) (value there u true 0 b) (value_same t u h k true 0 0 refl))
-      (keep_same t u h k p.part p.part refl))
+      (assigns_to t u h v w g (value o t true [] a) (value there u true [] b) (value_same t u h k true []))
+      (keep_same t u h k (0 ∷ p.path)))
   init_same t u h (alike_unit r vs ws q k xs ys is js g l m) p =
       let ready = started_same t u h r q p.unit m in
       let a = started o r q p.unit is t in
@@ -516,14 +482,15 @@ module _ {W : Type 0} (o : World W) (to : Res → Res) (V : Variable → Variabl
       going_same t u _ _ h
       (either r _ _ _ _
       (going_same a b _ _ ready (done_same a b ready g r _ _
-      (λ i. o.does q r p.unit k (values_same a b ready l true 0 0 refl i) (s.world a b ready i))))
-      (started_same (keep_all o p.part xs t) (keep_all there p.part ys u) (keep_all_same t u h l p.part p.part refl)
+      (λ i. o.does q r p.unit k (values_same a b ready l true [] i) (s.world a b ready i))))
+      (started_same (keep_all o (0 ∷ p.path) xs t) (keep_all there (0 ∷ p.path) ys u)
+      (keep_all_same t u h l (0 ∷ p.path))
       r q p.unit m))
   init_same t u h (alike_zak r vs ws q k xs ys g l) p =
       going_same t u _ _ h
       (either r _ _ _ _
-      (done_same t u h g r _ _ (λ i. o.zak q k (values_same t u h l true 0 0 refl i) (s.world t u h i)))
-      (keep_all_same t u h l p.part p.part refl))
+      (done_same t u h g r _ _ (λ i. o.zak q k (values_same t u h l true [] i) (s.world t u h i)))
+      (keep_all_same t u h l (0 ∷ p.path)))
   init_same t u h (alike_store r q k xs ys is js l m) p =
       let ready = sought_same t u h m in
       let a = sought o is t in
@@ -531,13 +498,14 @@ module _ {W : Type 0} (o : World W) (to : Res → Res) (V : Variable → Variabl
       going_same t u _ _ h
       (either r _ _ _ _
       (going_same a b _ _ ready
-      (moves_to a b ready _ _ (λ i. o.store q r k (values_same a b ready l true 0 0 refl i) (s.world a b ready i))))
-      (sought_same (keep_all o p.part xs t) (keep_all there p.part ys u) (keep_all_same t u h l p.part p.part refl) m))
-  init_same t u h (alike_out r xs ys g) p = going_same t u _ _ h (keep_all_same t u h g p.part p.part refl)
-  init_same t u h (alike_out_at r xs ys g) p = going_same t u _ _ h (keep_all_same t u h g p.part p.part refl)
+      (moves_to a b ready _ _ (λ i. o.store q r k (values_same a b ready l true [] i) (s.world a b ready i))))
+      (sought_same (keep_all o (0 ∷ p.path) xs t) (keep_all there (0 ∷ p.path) ys u)
+      (keep_all_same t u h l (0 ∷ p.path)) m))
+  init_same t u h (alike_out r xs ys g) p = going_same t u _ _ h (keep_all_same t u h g (0 ∷ p.path))
+  init_same t u h (alike_out_at r xs ys g) p = going_same t u _ _ h (keep_all_same t u h g (0 ∷ p.path))
   init_same t u h (alike_ask xs ys g) p =
       going_same t u _ _ h
-      (moves_to t u h _ _ (λ i. o.ask (first_values (values_same t u h g true 0 0 refl i)) (s.world t u h i)))
+      (moves_to t u h _ _ (λ i. o.ask (first_values (values_same t u h g true [] i)) (s.world t u h i)))
   init_same t u h (alike_turnoff r) p = h
   init_same t u h alike_nothing p = h
   init_same t u h (alike_empty r) p = going_same t u _ _ h (either r t u t u h h)
@@ -546,28 +514,28 @@ module _ {W : Type 0} (o : World W) (to : Res → Res) (V : Variable → Variabl
       → R (perf_stmt o p x t) (perf_stmt there p y u)
   perf_same t u h (alike_set r v w a b g k) p =
       either r t u _ _ h
-      (assigns_to t u h v w g (value o t false p.part a) (value there u false p.part b)
-      (value_same t u h k false p.part p.part refl))
+      (assigns_to t u h v w g (value o t false (0 ∷ p.path) a) (value there u false (0 ∷ p.path) b)
+      (value_same t u h k false (0 ∷ p.path)))
   perf_same t u h (alike_unit r vs ws q k xs ys is js g l m) p =
       either r t u _ _ h
       (done_same t u h g r _ _
-      (λ i. o.does q r p.unit k (values_same t u h l false p.part p.part refl i) (s.world t u h i)))
+      (λ i. o.does q r p.unit k (values_same t u h l false (0 ∷ p.path) i) (s.world t u h i)))
   perf_same t u h (alike_zak r vs ws q k xs ys g l) p =
       either r t u _ _ h
-      (done_same t u h g r _ _ (λ i. o.zak q k (values_same t u h l false p.part p.part refl i) (s.world t u h i)))
+      (done_same t u h g r _ _ (λ i. o.zak q k (values_same t u h l false (0 ∷ p.path) i) (s.world t u h i)))
   perf_same t u h (alike_store r q k xs ys is js l m) p =
       either r t u _ _ h
-      (moves_to t u h _ _ (λ i. o.store q r k (values_same t u h l false p.part p.part refl i) (s.world t u h i)))
+      (moves_to t u h _ _ (λ i. o.store q r k (values_same t u h l false (0 ∷ p.path) i) (s.world t u h i)))
   perf_same t u h (alike_out r xs ys g) p =
-      moves_to t u h (sent o 0 (values o t false p.part xs) t.world)
-      (sent there 0 (values there u false p.part ys) u.world)
-      (sent_there to o 0 (values o t false p.part xs) t.world
-      ∙ λ i. sent there 0 (values_same t u h g false p.part p.part refl i) (s.world t u h i))
+      moves_to t u h (sent o 0 (values o t false (0 ∷ p.path) xs) t.world)
+      (sent there 0 (values there u false (0 ∷ p.path) ys) u.world)
+      (sent_there to o 0 (values o t false (0 ∷ p.path) xs) t.world
+      ∙ λ i. sent there 0 (values_same t u h g false (0 ∷ p.path) i) (s.world t u h i))
   perf_same t u h (alike_out_at r xs ys g) p =
-      moves_to t u h (sent_at o (values o t false p.part xs) t.world)
-      (sent_at there (values there u false p.part ys) u.world)
-      (sent_at_there to o (values o t false p.part xs) t.world
-      ∙ λ i. sent_at there (values_same t u h g false p.part p.part refl i) (s.world t u h i))
+      moves_to t u h (sent_at o (values o t false (0 ∷ p.path) xs) t.world)
+      (sent_at there (values there u false (0 ∷ p.path) ys) u.world)
+      (sent_at_there to o (values o t false (0 ∷ p.path) xs) t.world
+      ∙ λ i. sent_at there (values_same t u h g false (0 ∷ p.path) i) (s.world t u h i))
   perf_same t u h (alike_ask xs ys g) p = h
   perf_same t u h (alike_turnoff r) p = moves_to t u h _ _ (λ i. o.turnoff (s.world t u h i))
   perf_same t u h alike_nothing p = h

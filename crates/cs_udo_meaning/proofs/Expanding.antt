@@ -21,24 +21,25 @@ use Rattle.cs_ir.specs.Waves.{Wave, if_init}
 use Rattle.cs_meaning.specs.Core as core
 use Rattle.cs_meaning.specs.Initialising as initial
 use Rattle.cs_meaning.specs.Initialising.{going, keep}
-use Rattle.cs_meaning.specs.Notes as note
-use Rattle.cs_meaning.specs.Notes.{Note, Place, past, past_parts, past_stmt, assign}
+use Rattle.cs_meaning.specs.Notes.{Note, Path, Place, next, inside, inside_arm, past_arm, past_stmt, unit_past_block}
+use Rattle.cs_meaning.specs.Notes.{unit_past_arms, assign}
 use Rattle.cs_meaning.specs.Notes.{value as value_of}
 use Rattle.cs_meaning.specs.Performing as performing
+use Rattle.cs_meaning.specs.Uses.{When, beginning, cycle}
 use Rattle.cs_udo.specs.Expanded.{Template, Opcodes, no_opcodes, defined, assignments, value_in, called, after_called}
 use Rattle.cs_udo.specs.Expanded.{after, after_block, after_arms, expanded, expanded_block, expanded_arms, whole_body}
 use Rattle.cs_udo.specs.Expanded.{template, defining, defining_all}
 use Rattle.cs_udo.specs.Names.{in_frame, renamed, renamed_argument}
 use Rattle.cs_udo_meaning.specs.Frames.{Framed, seen_from, put_back, Spot, spot, Reading, variable_read}
-use Rattle.cs_udo_meaning.specs.Frames.{expression_read, read, past_copy, going_on, copied, init_copy, perf_copy}
-use Rattle.cs_udo_meaning.specs.Frames.{past_copies, init_copies, perf_copies, Action, Actions, no_actions, action_of}
-use Rattle.cs_udo_meaning.specs.Frames.{values_in, past_inputs, past_call, past_any, init_any, perf_any, past_framed}
-use Rattle.cs_udo_meaning.specs.Frames.{past_block, past_arms, init_framed, init_block, init_first, init_all}
-use Rattle.cs_udo_meaning.specs.Frames.{perf_framed, perf_block, perf_arms, action, acting, acting_all}
+use Rattle.cs_udo_meaning.specs.Frames.{expression_read, read, by_pass, stmt_done, past_copy, going_on, copied}
+use Rattle.cs_udo_meaning.specs.Frames.{copy_done, past_copies, copies_done, Action, Actions, no_actions, action_of}
+use Rattle.cs_udo_meaning.specs.Frames.{values_in, past_call, call_done, past_any, any_done, past_framed}
+use Rattle.cs_udo_meaning.specs.Frames.{behind, past_block, past_arms, framed_done, block_done, init_first, init_all}
+use Rattle.cs_udo_meaning.specs.Frames.{perf_arms, action, acting, acting_all}
 use Rattle.cs_udo_meaning.specs.Numbered.{Numbering, Tells, Variables, numbered, expression_by, statement_by, block_by}
 use Rattle.cs_udo_meaning.specs.Numbered.{arms_by}
 use Rattle.cs_udo_meaning.specs.Stands.{own_name, Fits, Stands}
-use Rattle.cs_udo_meaning.proofs.Alike.{Alike, AlikeStmt, past_alike, past_stmt_alike, value_same, keep_same, init_same}
+use Rattle.cs_udo_meaning.proofs.Alike.{Alike, AlikeStmt, past_stmt_alike, value_same, keep_same, init_same}
 use Rattle.cs_udo_meaning.proofs.Alike.{perf_same, Agree}
 use Rattle.cs_udo_meaning.proofs.Fresh.{own_rate}
 use Rattle.cs_udo_meaning.proofs.Named.{Named, NamedAll, NamedArguments, NamedStmt, NamedBlock, NamedArms, any_names}
@@ -139,26 +140,52 @@ module _ {W : Type 0} (m : Reading W) (flat : Numbering) (tf : Tells flat) (to :
 
   -- ---- blocks one after another
 
+  -- the place behind statements of the expanded text, and behind arms
+  abbrev pub past_text : Place → core.Block → Place
+  past_text p core.no_stmt = p
+  past_text p (core.andthen x rest) = past_text (past_stmt p x) rest
+
+  abbrev past_text_arms : Place → core.Arms → Place
+  past_text_arms p (core.otherwise b) = past_arm p b
+  past_text_arms p (core.arm c b rest) = past_text_arms (past_arm p b) rest
+
+  text_units : (p : Place) (b : core.Block) → (past_text p b).unit ≡ unit_past_block p.unit b
+  text_units p core.no_stmt = refl
+  text_units p (core.andthen x rest) = text_units (past_stmt p x) rest
+
+  arms_units : (p : Place) (list : core.Arms) → (past_text_arms p list).unit ≡ unit_past_arms p.unit list
+  arms_units p (core.otherwise b) = refl
+  arms_units p (core.arm c b rest) = arms_units (past_arm p b) rest
+
   past_joins : (p : Place) (a b : Block)
-      → note.past_block p (flat_block (joins a b)) ≡ note.past_block (note.past_block p (flat_block a)) (flat_block b)
+      → past_text p (flat_block (joins a b)) ≡ past_text (past_text p (flat_block a)) (flat_block b)
   past_joins p no_stmt b = refl
   past_joins p (andthen x rest) b = past_joins (past_stmt p (flat_stmt x)) rest b
 
-  init_joins : (p : Place) (a b : Block) (t : Note W)
-      → initial.init_block m.world p (flat_block (joins a b)) t
-      ≡ initial.init_block m.world (note.past_block p (flat_block a)) (flat_block b)
-      (initial.init_block m.world p (flat_block a) t)
-  init_joins p no_stmt b t = refl
-  init_joins p (andthen x rest) b t =
-      init_joins (past_stmt p (flat_stmt x)) rest b (initial.init_stmt m.world p (flat_stmt x) t)
+  -- what statements of the expanded text do
+  abbrev pub text_done : When → Place → core.Block → Note W → Note W
+  text_done w p b t = by_pass w (initial.init_block m.world p b t) (performing.perf_block m.world p b t)
 
-  perf_joins : (p : Place) (a b : Block) (t : Note W)
-      → performing.perf_block m.world p (flat_block (joins a b)) t
-      ≡ performing.perf_block m.world (note.past_block p (flat_block a)) (flat_block b)
-      (performing.perf_block m.world p (flat_block a) t)
-  perf_joins p no_stmt b t = refl
-  perf_joins p (andthen x rest) b t =
-      perf_joins (past_stmt p (flat_stmt x)) rest b (performing.perf_stmt m.world p (flat_stmt x) t)
+  text_none : (w : When) (p : Place) (t : Note W) → t ≡ text_done w p core.no_stmt t
+  text_none beginning p t = refl
+  text_none cycle p t = refl
+
+  text_more : (w : When) (p : Place) (x : core.Stmt) (rest : core.Block) (t : Note W)
+      → text_done w (past_stmt p x) rest (stmt_done w m.world p x t) ≡ text_done w p (core.andthen x rest) t
+  text_more beginning p x rest t = refl
+  text_more cycle p x rest t = refl
+
+  text_joins : (w : When) (p : Place) (a b : Block) (t : Note W)
+      → text_done w (past_text p (flat_block a)) (flat_block b) (text_done w p (flat_block a) t)
+      ≡ text_done w p (flat_block (joins a b)) t
+  text_joins w p no_stmt b t = ap (text_done w p (flat_block b)) (sym (text_none w p t))
+  text_joins w p (andthen x rest) b t =
+      let q = past_stmt p (flat_stmt x) in
+      let now = stmt_done w m.world p (flat_stmt x) t in
+      ap (text_done w (past_text q (flat_block rest)) (flat_block b))
+      (sym (text_more w p (flat_stmt x) (flat_block rest) t))
+      ∙ text_joins w q rest b now
+      ∙ text_more w p (flat_stmt x) (flat_block (joins rest b)) t
 
   -- ---- a statement without calls of defined opcodes
 
@@ -201,38 +228,44 @@ module _ {W : Type 0} (m : Reading W) (flat : Numbering) (tf : Tells flat) (to :
   agree : (f : ℕ) (u : Framed W) → Agree m.world m.world (Same f) (Seen flat m.number f u)
   agree f u = seen_agree m.world flat m.number tf to f u
 
-  plain_init : (f : ℕ) (p : Place) (x : core.Stmt) (y : core.Stmt) (t : Note W) (u : Framed W) → AlikeStmt (Same f) x y
-      → Stand t u
-      → Stand (initial.init_stmt m.world p x t) (put_back f (initial.init_stmt m.world p y (seen_from f u)) u)
-  plain_init f p x y t u a h =
+  plain_stands : (w : When) (f : ℕ) (p : Place) (x : core.Stmt) (y : core.Stmt) (t : Note W) (u : Framed W)
+      → AlikeStmt (Same f) x y → Stand t u
+      → Stand (stmt_done w m.world p x t) (put_back f (stmt_done w m.world p y (seen_from f u)) u)
+  plain_stands beginning f p x y t u a h =
       from_seen flat m.number f (initial.init_stmt m.world p x t) (initial.init_stmt m.world p y (seen_from f u)) u
       (init_same m.world (λ r. r) (Same f) (Seen flat m.number f u) (agree f u) t (seen_from f u)
       (to_seen flat m.number f t u h) a p)
-
-  plain_perf : (f : ℕ) (p : Place) (x : core.Stmt) (y : core.Stmt) (t : Note W) (u : Framed W) → AlikeStmt (Same f) x y
-      → Stand t u
-      → Stand (performing.perf_stmt m.world p x t) (put_back f (performing.perf_stmt m.world p y (seen_from f u)) u)
-  plain_perf f p x y t u a h =
+  plain_stands cycle f p x y t u a h =
       from_seen flat m.number f (performing.perf_stmt m.world p x t) (performing.perf_stmt m.world p y (seen_from f u))
       u
       (perf_same m.world (λ r. r) (Same f) (Seen flat m.number f u) (agree f u) t (seen_from f u)
       (to_seen flat m.number f t u h) a p)
 
+  -- a statement alone
+  alone_stands : (w : When) (f : ℕ) (p : Place) (x : core.Stmt) (y : core.Stmt) (t : Note W) (u : Framed W)
+      → AlikeStmt (Same f) x y → Stand t u
+      → Stand (text_done w p (core.andthen x core.no_stmt) t) (put_back f (stmt_done w m.world p y (seen_from f u)) u)
+  alone_stands w f p x y t u a h =
+      subst (λ z. Stand z (put_back f (stmt_done w m.world p y (seen_from f u)) u))
+      (text_none w (past_stmt p x) (stmt_done w m.world p x t) ∙ text_more w p x core.no_stmt t)
+      (plain_stands w f p x y t u a h)
+
   -- ---- a value, what is kept of it, and a variable that takes it
 
   value_stands : (f : ℕ) (a b : typed.Expression) (t : Note W) (u : Framed W) → Alike (Same f) a b → Stand t u
-      → (whole : Bool) (n : ℕ)
-      → value_of m.world t whole n a ≡ value_of m.world (seen_from f u) whole n b
-  value_stands f a b t u k h whole n =
+      → (whole : Bool) (p : Path)
+      → value_of m.world t whole p a ≡ value_of m.world (seen_from f u) whole p b
+  value_stands f a b t u k h whole p =
       value_same m.world (λ r. r) (Same f) (Seen flat m.number f u) (agree f u) t (seen_from f u)
-      (to_seen flat m.number f t u h) k whole n n refl
+      (to_seen flat m.number f t u h) k whole p
 
-  keep_stands : (f : ℕ) (a b : typed.Expression) (t : Note W) (u : Framed W) → Alike (Same f) a b → Stand t u → (n : ℕ)
-      → Stand (keep m.world n a t) (put_back f (keep m.world n b (seen_from f u)) u)
-  keep_stands f a b t u k h n =
-      from_seen flat m.number f (keep m.world n a t) (keep m.world n b (seen_from f u)) u
+  keep_stands : (f : ℕ) (a b : typed.Expression) (t : Note W) (u : Framed W) → Alike (Same f) a b → Stand t u
+      → (p : Path)
+      → Stand (keep m.world p a t) (put_back f (keep m.world p b (seen_from f u)) u)
+  keep_stands f a b t u k h p =
+      from_seen flat m.number f (keep m.world p a t) (keep m.world p b (seen_from f u)) u
       (keep_same m.world (λ r. r) (Same f) (Seen flat m.number f u) (agree f u) t (seen_from f u)
-      (to_seen flat m.number f t u h) k n n refl)
+      (to_seen flat m.number f t u h) k p)
 
   assign_stands : (g : ℕ) (x y : Variable) (t : Note W) (u : Framed W) → Same g x y → Stand t u → (a b : Wave) → a ≡ b
       → Stand (assign m.world x a t) (put_back g (assign m.world y b (seen_from g u)) u)
@@ -260,83 +293,58 @@ module _ {W : Type 0} (m : Reading W) (flat : Numbering) (tf : Tells flat) (to :
   abbrev copy_of : ℕ → ℕ → ℕ → List ℕ → Expression → Statement
   copy_of line f g x e = set line (own_name g x) (renamed (own_name f) e)
 
-  copy_past : (line f g : ℕ) (p : Place) (x : List ℕ) (e : Expression) → Named (Fits f) e
-      → past_stmt p (flat_stmt (copy_of line f g x e)) ≡ past_copy m p x e
-  copy_past line f g p x e n =
-      λ i. past_parts (if_init (own_rate g x i) p.part (past_alike (alike_expression f e n) p.part p.part refl i)) p
-
-  copy_init : (line f g : ℕ) (p : Place) (x : List ℕ) (e : Expression) (t : Note W) (u : Framed W) → Fits g x
-      → Named (Fits f) e → Stand t u
-      → Stand (initial.init_stmt m.world p (flat_stmt (copy_of line f g x e)) t) (init_copy m f g p x e u)
-  copy_init line f g p x e t u fits n h =
+  copy_stands : (w : When) (line f g : ℕ) (p : Place) (x : List ℕ) (e : Expression) (t : Note W) (u : Framed W)
+      → Fits g x → Named (Fits f) e → Stand t u
+      → Stand (stmt_done w m.world p (flat_stmt (copy_of line f g x e)) t) (copy_done m w f g p x e u)
+  copy_stands beginning line f g p x e t u fits n h =
       let a = expression_by v (renamed (own_name f) e) in
       let b = expression_read m e in
       let k = alike_expression f e n in
       subst (λ r. Stand (initial.init_stmt m.world p (flat_stmt (copy_of line f g x e)) t)
-      (going_on m.world u (if_init r (copied m g x (value_of m.world (seen_from f u) true 0 b) u)
-      (put_back f (keep m.world p.part b (seen_from f u)) u)))) (own_rate g x)
+      (going_on m.world u (if_init r (copied m g x (value_of m.world (seen_from f u) true [] b) u)
+      (put_back f (keep m.world (0 ∷ p.path) b (seen_from f u)) u)))) (own_rate g x)
       (going_stands t _ u _ h
       (either_stands (name_rate (own_name g x)) _ _ _ _
       (assign_stands g (v (own_name g x)) (variable_read m x) t u (alike_variable g x fits) h _ _
-      (value_stands f a b t u k h true 0))
-      (keep_stands f a b t u k h p.part)))
-
-  copy_perf : (line f g : ℕ) (p : Place) (x : List ℕ) (e : Expression) (t : Note W) (u : Framed W) → Fits g x
-      → Named (Fits f) e → Stand t u
-      → Stand (performing.perf_stmt m.world p (flat_stmt (copy_of line f g x e)) t) (perf_copy m f g p x e u)
-  copy_perf line f g p x e t u fits n h =
+      (value_stands f a b t u k h true []))
+      (keep_stands f a b t u k h (0 ∷ p.path))))
+  copy_stands cycle line f g p x e t u fits n h =
       let a = expression_by v (renamed (own_name f) e) in
       let b = expression_read m e in
       let k = alike_expression f e n in
       subst (λ r. Stand (performing.perf_stmt m.world p (flat_stmt (copy_of line f g x e)) t)
-      (if_init r u (copied m g x (value_of m.world (seen_from f u) false p.part b) u))) (own_rate g x)
+      (if_init r u (copied m g x (value_of m.world (seen_from f u) false (0 ∷ p.path) b) u))) (own_rate g x)
       (either_stands (name_rate (own_name g x)) t _ u _ h
       (assign_stands g (v (own_name g x)) (variable_read m x) t u (alike_variable g x fits) h _ _
-      (value_stands f a b t u k h false p.part)))
+      (value_stands f a b t u k h false (0 ∷ p.path))))
 
   -- ---- copies, one after another
 
   abbrev copies_of : ℕ → ℕ → ℕ → List (List ℕ) → List Argument → Block
   copies_of line f g xs args = assignments line (map (own_name g) xs) (map (renamed_argument (own_name f)) args)
 
-  copies_past : (line f g : ℕ) (p : Place) (xs : List (List ℕ)) (args : List Argument) → NamedArguments (Fits f) args
-      → note.past_block p (flat_block (copies_of line f g xs args)) ≡ past_copies m p xs args
-  copies_past line f g p [] [] n = refl
-  copies_past line f g p [] (a ∷ args) n = refl
-  copies_past line f g p (x ∷ xs) [] n = refl
-  copies_past line f g p (x ∷ xs) (text t ∷ args) n = refl
-  copies_past line f g p (x ∷ xs) (value e ∷ args) n =
-      ap (λ q. note.past_block q (flat_block (copies_of line f g xs args))) (copy_past line f g p x e n.0)
-      ∙ copies_past line f g (past_copy m p x e) xs args n.1
+  copies_past : (line f g : ℕ) (p : Place) (xs : List (List ℕ)) (args : List Argument)
+      → past_text p (flat_block (copies_of line f g xs args)) ≡ past_copies m p xs args
+  copies_past line f g p [] [] = refl
+  copies_past line f g p [] (a ∷ args) = refl
+  copies_past line f g p (x ∷ xs) [] = refl
+  copies_past line f g p (x ∷ xs) (text t ∷ args) = refl
+  copies_past line f g p (x ∷ xs) (value e ∷ args) = copies_past line f g (past_copy m p x e) xs args
 
-  copies_init : (line f g : ℕ) (p : Place) (xs : List (List ℕ)) (args : List Argument) (t : Note W) (u : Framed W)
-      → NamedAll (Fits g) xs → NamedArguments (Fits f) args → Stand t u
-      → Stand (initial.init_block m.world p (flat_block (copies_of line f g xs args)) t) (init_copies m f g p xs args u)
-  copies_init line f g p [] [] t u fits n h = h
-  copies_init line f g p [] (a ∷ args) t u fits n h = h
-  copies_init line f g p (x ∷ xs) [] t u fits n h = h
-  copies_init line f g p (x ∷ xs) (text e ∷ args) t u fits n h = h
-  copies_init line f g p (x ∷ xs) (value e ∷ args) t u fits n h =
-      let now = initial.init_stmt m.world p (flat_stmt (copy_of line f g x e)) t in
-      subst (λ q. Stand (initial.init_block m.world q (flat_block (copies_of line f g xs args)) now)
-      (init_copies m f g (past_copy m p x e) xs args (init_copy m f g p x e u))) (sym (copy_past line f g p x e n.0))
-      (copies_init line f g (past_copy m p x e) xs args now (init_copy m f g p x e u) fits.1 n.1
-      (copy_init line f g p x e t u fits.0 n.0 h))
-
-  copies_perf : (line f g : ℕ) (p : Place) (xs : List (List ℕ)) (args : List Argument) (t : Note W) (u : Framed W)
-      → NamedAll (Fits g) xs → NamedArguments (Fits f) args → Stand t u
-      → Stand (performing.perf_block m.world p (flat_block (copies_of line f g xs args)) t)
-      (perf_copies m f g p xs args u)
-  copies_perf line f g p [] [] t u fits n h = h
-  copies_perf line f g p [] (a ∷ args) t u fits n h = h
-  copies_perf line f g p (x ∷ xs) [] t u fits n h = h
-  copies_perf line f g p (x ∷ xs) (text e ∷ args) t u fits n h = h
-  copies_perf line f g p (x ∷ xs) (value e ∷ args) t u fits n h =
-      let now = performing.perf_stmt m.world p (flat_stmt (copy_of line f g x e)) t in
-      subst (λ q. Stand (performing.perf_block m.world q (flat_block (copies_of line f g xs args)) now)
-      (perf_copies m f g (past_copy m p x e) xs args (perf_copy m f g p x e u))) (sym (copy_past line f g p x e n.0))
-      (copies_perf line f g (past_copy m p x e) xs args now (perf_copy m f g p x e u) fits.1 n.1
-      (copy_perf line f g p x e t u fits.0 n.0 h))
+  copies_stand : (w : When) (line f g : ℕ) (p : Place) (xs : List (List ℕ)) (args : List Argument) (t : Note W)
+      → (u : Framed W) → NamedAll (Fits g) xs → NamedArguments (Fits f) args → Stand t u
+      → Stand (text_done w p (flat_block (copies_of line f g xs args)) t) (copies_done m w f g p xs args u)
+  copies_stand w line f g p [] [] t u fits n h = subst (λ z. Stand z u) (text_none w p t) h
+  copies_stand w line f g p [] (a ∷ args) t u fits n h = subst (λ z. Stand z u) (text_none w p t) h
+  copies_stand w line f g p (x ∷ xs) [] t u fits n h = subst (λ z. Stand z u) (text_none w p t) h
+  copies_stand w line f g p (x ∷ xs) (text e ∷ args) t u fits n h = subst (λ z. Stand z u) (text_none w p t) h
+  copies_stand w line f g p (x ∷ xs) (value e ∷ args) t u fits n h =
+      let copy = flat_stmt (copy_of line f g x e) in
+      let now = stmt_done w m.world p copy t in
+      subst (λ z. Stand z (copies_done m w f g p (x ∷ xs) (value e ∷ args) u))
+      (text_more w p copy (flat_block (copies_of line f g xs args)) t)
+      (copies_stand w line f g (past_copy m p x e) xs args now (copy_done m w f g p x e u) fits.1 n.1
+      (copy_stands w line f g p x e t u fits.0 n.0 h))
 
   -- ---- what a defined opcode does
 
@@ -344,11 +352,9 @@ module _ {W : Type 0} (m : Reading W) (flat : Numbering) (tf : Tells flat) (to :
     pub inputs : t.inputs ≡ a.inputs
     pub results : t.results ≡ a.results
     pub past : (p : Place) (n : ℕ) → 1 ≤ n
-        → a.past (spot p n) ≡ spot (note.past_block p (flat_block (t.block n))) (t.after n)
-    pub init : (p : Place) (n : ℕ) → 1 ≤ n → (q : Note W) (u : Framed W) → Stand q u
-        → Stand (initial.init_block m.world p (flat_block (t.block n)) q) (a.init (spot p n) u)
-    pub perf : (p : Place) (n : ℕ) → 1 ≤ n → (q : Note W) (u : Framed W) → Stand q u
-        → Stand (performing.perf_block m.world p (flat_block (t.block n)) q) (a.perf (spot p n) u)
+        → a.past (spot p n) ≡ spot (past_text p (flat_block (t.block n))) (t.after n)
+    pub does : (w : When) (p : Place) (n : ℕ) → 1 ≤ n → (q : Note W) (u : Framed W) → Stand q u
+        → Stand (text_done w p (flat_block (t.block n)) q) (a.does w (spot p n) u)
 
   abbrev pub ActsIf : Option Template → Option (Action W) → Type 0
   ActsIf None None = Unit {0}
@@ -383,91 +389,53 @@ module _ {W : Type 0} (m : Reading W) (flat : Numbering) (tf : Tells flat) (to :
   call_past : (f n line : ℕ) (p : Place) (xs : List (List ℕ)) (c : Callee) (args : List Argument) (t : Template)
       (a : Action W)
       → 1 ≤ n → Acts t a
-      → NamedArguments (Fits f) args
       → past_call m (spot p n) a xs args ≡ spot
-      (note.past_block p (flat_block (called (own_name f) n line xs c args (Some t)))) (t.after n)
-  call_past f n line p xs c args t a h k named =
+      (past_text p (flat_block (called (own_name f) n line xs c args (Some t)))) (t.after n)
+  call_past f n line p xs c args t a h k =
       let given_values = values_in a.results in
       let one = copies_of line f n a.inputs args in
       let two = copies_of line n f xs given_values in
       let ready = past_copies m p a.inputs args in
-      let body = note.past_block ready (flat_block (t.block n)) in
-      let moved : note.past_block p (flat_block (joins one (joins (t.block n) two))) ≡ past_copies m body xs
+      let body = past_text ready (flat_block (t.block n)) in
+      let moved : past_text p (flat_block (joins one (joins (t.block n) two))) ≡ past_copies m body xs
       given_values =
       past_joins p one (joins (t.block n) two)
-      ∙ ap (λ q. note.past_block q (flat_block (joins (t.block n) two))) (copies_past line f n p a.inputs args named)
+      ∙ ap (λ q. past_text q (flat_block (joins (t.block n) two))) (copies_past line f n p a.inputs args)
       ∙ past_joins ready (t.block n) two
-      ∙ copies_past line n f body xs given_values (any_arguments (Fits n) (fits_inner n h) given_values) in
+      ∙ copies_past line n f body xs given_values in
       ap (λ q. spot (past_copies m q.place xs given_values) q.frame) (k.past ready n h)
       ∙ ap (λ q. spot q (t.after n))
-      (sym moved ∙ ap (λ b. note.past_block p (flat_block b)) (sym (called_is f n line xs c args t a h k)))
+      (sym moved ∙ ap (λ b. past_text p (flat_block b)) (sym (called_is f n line xs c args t a h k)))
 
-  -- A pass over a note, as it begins or in a cycle: what blocks of the expanded text do, what copies and the body of a
-  -- defined opcode do to the note with frames, and that both stand alike afterwards.
-  record Pass : Type 0 where
-    block : Place → core.Block → Note W → Note W
-    copies : ℕ → ℕ → Place → List (List ℕ) → List Argument → Framed W → Framed W
-    act : Action W → Spot → Framed W → Framed W
-    parted : (p : Place) (a b : Block) (t : Note W)
-        → block p (flat_block (joins a b)) t ≡ block (note.past_block p (flat_block a)) (flat_block b)
-        (block p (flat_block a) t)
-    copied_alike : (line f g : ℕ) (p : Place) (xs : List (List ℕ)) (args : List Argument) (t : Note W) (u : Framed W)
-        → NamedAll (Fits g) xs → NamedArguments (Fits f) args → Stand t u
-        → Stand (block p (flat_block (copies_of line f g xs args)) t) (copies f g p xs args u)
-    acted_alike : (t : Template) (a : Action W) → Acts t a → (p : Place) (n : ℕ) → 1 ≤ n → (q : Note W) (u : Framed W)
-        → Stand q u
-        → Stand (block p (flat_block (t.block n)) q) (act a (spot p n) u)
-
-  abbrev as_it_begins : Pass
-  as_it_begins = record {
-    block = initial.init_block m.world;
-    copies = init_copies m;
-    act = λ a. a.init;
-    parted = init_joins;
-    copied_alike = copies_init;
-    acted_alike = λ t a k. k.init;
-  }
-
-  abbrev in_a_cycle : Pass
-  in_a_cycle = record {
-    block = performing.perf_block m.world;
-    copies = perf_copies m;
-    act = λ a. a.perf;
-    parted = perf_joins;
-    copied_alike = copies_perf;
-    acted_alike = λ t a k. k.perf;
-  }
-
-  call_stands : (pass : Pass) (f n line : ℕ) (p : Place) (xs : List (List ℕ)) (c : Callee) (args : List Argument)
+  call_stands : (w : When) (f n line : ℕ) (p : Place) (xs : List (List ℕ)) (c : Callee) (args : List Argument)
       → (t : Template) (a : Action W) → 1 ≤ n → Acts t a
       → NamedAll (Fits f) xs → NamedArguments (Fits f) args → (s : Note W) (u : Framed W) → Stand s u
-      → Stand (pass.block p (flat_block (called (own_name f) n line xs c args (Some t))) s)
-      (pass.copies n f (a.past (past_inputs m (spot p n) a args)).place xs (values_in a.results)
-      (pass.act a (past_inputs m (spot p n) a args) (pass.copies f n p a.inputs args u)))
-  call_stands pass f n line p xs c args t a h k fits named s u stand =
+      → Stand (text_done w p (flat_block (called (own_name f) n line xs c args (Some t))) s)
+      (call_done m w f (spot p n) a xs args u)
+  call_stands w f n line p xs c args t a h k fits named s u stand =
       let given_values = values_in a.results in
       let one = copies_of line f n a.inputs args in
       let two = copies_of line n f xs given_values in
       let ready = past_copies m p a.inputs args in
-      let body = note.past_block ready (flat_block (t.block n)) in
-      let s1 = pass.block p (flat_block one) s in
-      let u1 = pass.copies f n p a.inputs args u in
+      let body = past_text ready (flat_block (t.block n)) in
+      let s1 = text_done w p (flat_block one) s in
+      let u1 = copies_done m w f n p a.inputs args u in
       let stand1 : Stand s1 u1 =
-      pass.copied_alike line f n p a.inputs args s u (any_names (Fits n) (fits_inner n h) a.inputs) named stand in
-      let s2 = pass.block ready (flat_block (t.block n)) s1 in
-      let u2 = pass.act a (spot ready n) u1 in
-      let stand2 : Stand s2 u2 = pass.acted_alike t a k ready n h s1 u1 stand1 in
-      let framed = pass.copies n f (a.past (spot ready n)).place xs given_values u2 in
-      let last : Stand (pass.block body (flat_block two) s2) framed =
-      subst (λ q. Stand (pass.block body (flat_block two) s2) (pass.copies n f q.place xs given_values u2))
+      copies_stand w line f n p a.inputs args s u (any_names (Fits n) (fits_inner n h) a.inputs) named stand in
+      let s2 = text_done w ready (flat_block (t.block n)) s1 in
+      let u2 = a.does w (spot ready n) u1 in
+      let stand2 : Stand s2 u2 = k.does w ready n h s1 u1 stand1 in
+      let framed = copies_done m w n f (a.past (spot ready n)).place xs given_values u2 in
+      let last : Stand (text_done w body (flat_block two) s2) framed =
+      subst (λ q. Stand (text_done w body (flat_block two) s2) (copies_done m w n f q.place xs given_values u2))
       (sym (k.past ready n h))
-      (pass.copied_alike line n f body xs given_values s2 u2 fits (any_arguments (Fits n) (fits_inner n h) given_values)
+      (copies_stand w line n f body xs given_values s2 u2 fits (any_arguments (Fits n) (fits_inner n h) given_values)
       stand2) in
-      subst (λ b. Stand (pass.block p (flat_block b) s) framed) (sym (called_is f n line xs c args t a h k))
+      subst (λ b. Stand (text_done w p (flat_block b) s) framed) (sym (called_is f n line xs c args t a h k))
       (subst (λ z. Stand z framed)
-      (sym (pass.parted p one (joins (t.block n) two) s
-      ∙ ap (λ q. pass.block q (flat_block (joins (t.block n) two)) s1) (copies_past line f n p a.inputs args named)
-      ∙ pass.parted ready (t.block n) two s1)) last)
+      (text_joins w ready (t.block n) two s1
+      ∙ ap (λ q. text_done w q (flat_block (joins (t.block n) two)) s1) (sym (copies_past line f n p a.inputs args))
+      ∙ text_joins w p one (joins (t.block n) two) s) last)
 
   -- a call of a defined opcode or of another
   any_past : (f n line : ℕ) (p : Place) (xs : List (List ℕ)) (c : Callee) (args : List Argument) (t : Option Template)
@@ -476,47 +444,39 @@ module _ {W : Type 0} (m : Reading W) (flat : Numbering) (tf : Tells flat) (to :
       → ActsIf t a
       → NamedAll (Fits f) xs → NamedArguments (Fits f) args
       → past_any m (spot p n) (call line xs c args) xs args a
-      ≡ spot (note.past_block p (flat_block (called (own_name f) n line xs c args t))) (after_called n t)
+      ≡ spot (past_text p (flat_block (called (own_name f) n line xs c args t))) (after_called n t)
   any_past f n line p xs c args None None h k fits named =
       ap (λ q. spot q n) (sym (past_stmt_alike (alike_call f line xs c args fits named) p))
   any_past f n line p xs c args None (Some a) h k fits named = absurd k
   any_past f n line p xs c args (Some t) None h k fits named = absurd k
-  any_past f n line p xs c args (Some t) (Some a) h k fits named = call_past f n line p xs c args t a h k named
+  any_past f n line p xs c args (Some t) (Some a) h k fits named = call_past f n line p xs c args t a h k
 
-  any_init : (f n line : ℕ) (p : Place) (xs : List (List ℕ)) (c : Callee) (args : List Argument) (t : Option Template)
-      (a : Option (Action W))
-      → 1 ≤ n
-      → ActsIf t a
+  any_stands : (w : When) (f n line : ℕ) (p : Place) (xs : List (List ℕ)) (c : Callee) (args : List Argument)
+      → (t : Option Template) (a : Option (Action W)) → 1 ≤ n → ActsIf t a
       → NamedAll (Fits f) xs → NamedArguments (Fits f) args → (s : Note W) (u : Framed W) → Stand s u
-      → Stand (initial.init_block m.world p (flat_block (called (own_name f) n line xs c args t)) s)
-      (init_any m f (spot p n) (call line xs c args) xs args a u)
-  any_init f n line p xs c args None None h k fits named s u stand =
-      plain_init f p _ _ s u (alike_call f line xs c args fits named) stand
-  any_init f n line p xs c args None (Some a) h k fits named s u stand = absurd k
-  any_init f n line p xs c args (Some t) None h k fits named s u stand = absurd k
-  any_init f n line p xs c args (Some t) (Some a) h k fits named s u stand =
-      call_stands as_it_begins f n line p xs c args t a h k fits named s u stand
-
-  any_perf : (f n line : ℕ) (p : Place) (xs : List (List ℕ)) (c : Callee) (args : List Argument) (t : Option Template)
-      (a : Option (Action W))
-      → 1 ≤ n
-      → ActsIf t a
-      → NamedAll (Fits f) xs → NamedArguments (Fits f) args → (s : Note W) (u : Framed W) → Stand s u
-      → Stand (performing.perf_block m.world p (flat_block (called (own_name f) n line xs c args t)) s)
-      (perf_any m f (spot p n) (call line xs c args) xs args a u)
-  any_perf f n line p xs c args None None h k fits named s u stand =
-      plain_perf f p _ _ s u (alike_call f line xs c args fits named) stand
-  any_perf f n line p xs c args None (Some a) h k fits named s u stand = absurd k
-  any_perf f n line p xs c args (Some t) None h k fits named s u stand = absurd k
-  any_perf f n line p xs c args (Some t) (Some a) h k fits named s u stand =
-      call_stands in_a_cycle f n line p xs c args t a h k fits named s u stand
+      → Stand (text_done w p (flat_block (called (own_name f) n line xs c args t)) s)
+      (any_done m w f (spot p n) (call line xs c args) xs args a u)
+  any_stands w f n line p xs c args None None h k fits named s u stand =
+      alone_stands w f p _ _ s u (alike_call f line xs c args fits named) stand
+  any_stands w f n line p xs c args None (Some a) h k fits named s u stand = absurd k
+  any_stands w f n line p xs c args (Some t) None h k fits named s u stand = absurd k
+  any_stands w f n line p xs c args (Some t) (Some a) h k fits named s u stand =
+      call_stands w f n line p xs c args t a h k fits named s u stand
 
   -- ---- statements, in the order of the text
 
-  condition_past : (f : ℕ) (p : Place) (c : Expression) → Named (Fits f) c
-      → past_parts (past p.part (expression_by v (renamed (own_name f) c))) p ≡ past_parts
-      (past p.part (expression_read m c)) p
-  condition_past f p c named = ap (λ n. past_parts n p) (past_alike (alike_expression f c named) p.part p.part refl)
+  passes_stand : (w : When) (t q : Note W) (x y : Framed W) → Stand t x → Stand q y
+      → Stand (by_pass w t q) (by_pass w x y)
+  passes_stand beginning t q x y h k = h
+  passes_stand cycle t q x y h k = k
+
+  -- the spot behind an arm whose statements end at a spot
+  behind_stands : (n k : ℕ) (p q : Place) (b : core.Block) (s : Spot) → q.unit ≡ p.unit → s ≡ spot (past_text q b) k
+      → behind (spot p n) s ≡ spot (past_arm p b) k
+  behind_stands n k p q b s e h =
+      ap (behind (spot p n)) h
+      ∙ ap (λ u. spot (record { path = next p.path; unit = u }) k)
+      (text_units q b ∙ ap (λ u. unit_past_block u b) e)
 
   choose_stands : (b c : Bool) → b ≡ c → (t q : Note W) (u w : Framed W) → Stand t u → Stand q w
       → Stand (if b then t else q) (if c then u else w)
@@ -544,172 +504,147 @@ module _ {W : Type 0} (m : Reading W) (flat : Numbering) (tf : Tells flat) (to :
 
     mutual
       past_stands : (n : ℕ) → 1 ≤ n → (p : Place) (x : Statement) → NamedStmt (Fits f) x
-          → past_framed m env (spot p n) x ≡ spot (note.past_block p (text_of n x)) (after opcodes n x)
+          → past_framed m env (spot p n) x ≡ spot (past_text p (text_of n x)) (after opcodes n x)
       past_stands n h p (set line x e) named =
           ap (λ q. spot q n) (sym (past_stmt_alike (alike_set f line x e named.0 named.1) p))
       past_stands n h p (call line xs c args) named =
           any_past f n line p xs c args (defined opcodes c) (action_of env c) h (acts_called opcodes env k c) named.0
           named.1
-      past_stands n h p (choose line list) named = past_arms_stand n h p list named
+      past_stands n h p (choose line list) named =
+          ap (behind (spot p n)) (past_arms_stand n h (inside p) list named)
+          ∙ ap (λ k. spot (record { path = next p.path; unit = k }) (after_arms opcodes n list))
+          (arms_units (inside p) (arms_of n list))
 
       pub past_block_stands : (n : ℕ) → 1 ≤ n → (p : Place) (b : Block) → NamedBlock (Fits f) b
-          → past_block m env (spot p n) b ≡ spot (note.past_block p (texts_of n b)) (after_block opcodes n b)
+          → past_block m env (spot p n) b ≡ spot (past_text p (texts_of n b)) (after_block opcodes n b)
       past_block_stands n h p no_stmt named = refl
       past_block_stands n h p (andthen x rest) named =
           ap (λ q. past_block m env q rest) (past_stands n h p x named.0)
-          ∙ past_block_stands (after opcodes n x) (at_least n x h) (note.past_block p (text_of n x)) rest named.1
+          ∙ past_block_stands (after opcodes n x) (at_least n x h) (past_text p (text_of n x)) rest named.1
           ∙ ap (λ q. spot q (after_block opcodes (after opcodes n x) rest))
           (sym (past_joins p (expanded opcodes (own_name f) n x)
           (expanded_block opcodes (own_name f) (after opcodes n x) rest)))
 
       past_arms_stand : (n : ℕ) → 1 ≤ n → (p : Place) (list : Arms) → NamedArms (Fits f) list
-          → past_arms m env (spot p n) list ≡ spot (note.past_arms p (arms_of n list)) (after_arms opcodes n list)
-      past_arms_stand n h p (otherwise b) named = past_block_stands n h p b named
+          → past_arms m env (spot p n) list ≡ spot (past_text_arms p (arms_of n list)) (after_arms opcodes n list)
+      past_arms_stand n h p (otherwise b) named =
+          behind_stands n (after_block opcodes n b) p (inside p) (texts_of n b) _ refl
+          (past_block_stands n h (inside p) b named)
       past_arms_stand n h p (arm c b rest) named =
-          let q = past_parts (past p.part (expression_read m c)) p in
-          ap (λ z. past_arms m env z rest) (past_block_stands n h q b named.1)
-          ∙ past_arms_stand (after_block opcodes n b) (block_at_least n b h) (note.past_block q (texts_of n b)) rest
-          named.2
-          ∙ ap (λ z. spot (note.past_arms (note.past_block z (texts_of n b)) (arms_of (after_block opcodes n b) rest))
-          (after_arms opcodes (after_block opcodes n b) rest)) (sym (condition_past f p c named.0))
+          ap (λ z. past_arms m env z rest)
+          (behind_stands n (after_block opcodes n b) p (inside_arm p) (texts_of n b) _ refl
+          (past_block_stands n h (inside_arm p) b named.1))
+          ∙ past_arms_stand (after_block opcodes n b) (block_at_least n b h) (past_arm p (texts_of n b)) rest named.2
+
+    arm_stands : (n : ℕ) → 1 ≤ n → (p : Place) (b : Block) → NamedBlock (Fits f) b
+        → behind (spot p n) (past_block m env (spot (inside_arm p) n) b)
+        ≡ spot (past_arm p (texts_of n b)) (after_block opcodes n b)
+    arm_stands n h p b named =
+        behind_stands n (after_block opcodes n b) p (inside_arm p) (texts_of n b) _ refl
+        (past_block_stands n h (inside_arm p) b named)
 
     mutual
-      init_stands : (n : ℕ) → 1 ≤ n → (p : Place) (x : Statement) → NamedStmt (Fits f) x → (t : Note W) (u : Framed W)
-          → Stand t u
-          → Stand (initial.init_block m.world p (text_of n x) t) (init_framed m env f (spot p n) x u)
-      init_stands n h p (set line x e) named t u stand =
-          plain_init f p _ _ t u (alike_set f line x e named.0 named.1) stand
-      init_stands n h p (call line xs c args) named t u stand =
-          any_init f n line p xs c args (defined opcodes c) (action_of env c) h (acts_called opcodes env k c) named.0
+      stands : (w : When) (n : ℕ) → 1 ≤ n → (p : Place) (x : Statement) → NamedStmt (Fits f) x
+          → (t : Note W) (u : Framed W) → Stand t u
+          → Stand (text_done w p (text_of n x) t) (framed_done m env w f (spot p n) x u)
+      stands w n h p (set line x e) named t u stand =
+          alone_stands w f p _ _ t u (alike_set f line x e named.0 named.1) stand
+      stands w n h p (call line xs c args) named t u stand =
+          any_stands w f n line p xs c args (defined opcodes c) (action_of env c) h (acts_called opcodes env k c)
+          named.0
           named.1 t u stand
-      init_stands n h p (choose line list) named t u stand =
+      stands w n h p (choose line list) named t u stand =
           let made = expanded_arms opcodes (own_name f) n list in
-          subst (λ r. Stand (initial.init_block m.world p (text_of n (choose line list)) t)
-          (going_on m.world u (if_init r (init_first m env f (spot p n) list u) (init_all m env f (spot p n) list u))))
+          let q = inside p in
+          passes_stand w _ _ _ _
+          (subst (λ r. Stand (initial.init_block m.world p (text_of n (choose line list)) t)
+          (going_on m.world u (if_init r (init_first m env f (spot q n) list u) (init_all m env f (spot q n) list u))))
           (choice_kept opcodes f n list)
           (going_stands t _ u _ stand
-          (either_stands (choice_rate made) _ _ _ _ (first_stands n h p list named t u stand)
-          (all_stand n h p list named t u stand)))
+          (either_stands (choice_rate made) _ _ _ _ (first_stands n h q list named t u stand)
+          (all_stand n h q list named t u stand))))
+          (perf_arms_stand n h q list named t u stand)
 
-      pub init_block_stands : (n : ℕ) → 1 ≤ n → (p : Place) (b : Block) → NamedBlock (Fits f) b
+      pub block_stands : (w : When) (n : ℕ) → 1 ≤ n → (p : Place) (b : Block) → NamedBlock (Fits f) b
           → (t : Note W) (u : Framed W) → Stand t u
-          → Stand (initial.init_block m.world p (texts_of n b) t) (init_block m env f (spot p n) b u)
-      init_block_stands n h p no_stmt named t u stand = stand
-      init_block_stands n h p (andthen x rest) named t u stand =
+          → Stand (text_done w p (texts_of n b) t) (block_done m env w f (spot p n) b u)
+      block_stands w n h p no_stmt named t u stand = subst (λ z. Stand z u) (text_none w p t) stand
+      block_stands w n h p (andthen x rest) named t u stand =
           let first = expanded opcodes (own_name f) n x in
           let other = expanded_block opcodes (own_name f) (after opcodes n x) rest in
-          let now = initial.init_block m.world p (text_of n x) t in
-          let next = init_framed m env f (spot p n) x u in
-          subst (λ z. Stand z (init_block m env f (spot p n) (andthen x rest) u)) (sym (init_joins p first other t))
-          (subst (λ q. Stand (initial.init_block m.world (note.past_block p (text_of n x)) (flat_block other) now)
-          (init_block m env f q rest next))
+          let now = text_done w p (text_of n x) t in
+          let next = framed_done m env w f (spot p n) x u in
+          subst (λ z. Stand z (block_done m env w f (spot p n) (andthen x rest) u)) (text_joins w p first other t)
+          (subst (λ q. Stand (text_done w (past_text p (text_of n x)) (flat_block other) now)
+          (block_done m env w f q rest next))
           (sym (past_stands n h p x named.0))
-          (init_block_stands (after opcodes n x) (at_least n x h) (note.past_block p (text_of n x)) rest named.1 now
-          next
-          (init_stands n h p x named.0 t u stand)))
+          (block_stands w (after opcodes n x) (at_least n x h) (past_text p (text_of n x)) rest named.1 now next
+          (stands w n h p x named.0 t u stand)))
 
       first_stands : (n : ℕ) → 1 ≤ n → (p : Place) (list : Arms) → NamedArms (Fits f) list → (t : Note W) (u : Framed W)
           → Stand t u
           → Stand (initial.init_first m.world p (arms_of n list) t) (init_first m env f (spot p n) list u)
-      first_stands n h p (otherwise b) named t u stand = init_block_stands n h p b named t u stand
+      first_stands n h p (otherwise b) named t u stand = block_stands beginning n h (inside p) b named t u stand
       first_stands n h p (arm c b rest) named t u stand =
           let flat_c = expression_by v (renamed (own_name f) c) in
-          let now = keep m.world p.part flat_c t in
-          let next = put_back f (keep m.world p.part (expression_read m c) (seen_from f u)) u in
-          let q = past_parts (past p.part (expression_read m c)) p in
+          let q = inside_arm p in
+          let now = keep m.world (0 ∷ p.path) flat_c t in
+          let next = put_back f (keep m.world (0 ∷ p.path) (expression_read m c) (seen_from f u)) u in
           let further = after_block opcodes n b in
           let kept_now : Stand now next =
-          keep_stands f flat_c (expression_read m c) t u (alike_expression f c named.0) stand p.part in
-          let one = init_block_stands n h q b named.1 now next kept_now in
+          keep_stands f flat_c (expression_read m c) t u (alike_expression f c named.0) stand (0 ∷ p.path) in
+          let one = block_stands beginning n h q b named.1 now next kept_now in
           let two = subst (λ z. Stand
-          (initial.init_first m.world (note.past_block q (texts_of n b)) (arms_of further rest) now)
+          (initial.init_first m.world (past_arm p (texts_of n b)) (arms_of further rest) now)
           (init_first m env f z rest next))
-          (sym (past_block_stands n h q b named.1))
-          (first_stands further (block_at_least n b h) (note.past_block q (texts_of n b)) rest named.2 now next
+          (sym (arm_stands n h p b named.1))
+          (first_stands further (block_at_least n b h) (past_arm p (texts_of n b)) rest named.2 now next
           kept_now) in
-          subst (λ z. Stand (if holds (now.kept p.part) then initial.init_block m.world z (texts_of n b) now
-          else initial.init_first m.world (note.past_block z (texts_of n b)) (arms_of further rest) now)
-          (init_first m env f (spot p n) (arm c b rest) u)) (sym (condition_past f p c named.0))
-          (choose_stands (holds (now.kept p.part)) (holds (next.kept p.part)) (ap (λ z. holds (z p.part)) kept_now.kept)
-          _ _ _ _ one two)
+          choose_stands (holds (now.kept (0 ∷ p.path))) (holds (next.kept (0 ∷ p.path)))
+          (ap (λ z. holds (z (0 ∷ p.path))) kept_now.kept) _ _ _ _ one two
 
       all_stand : (n : ℕ) → 1 ≤ n → (p : Place) (list : Arms) → NamedArms (Fits f) list → (t : Note W) (u : Framed W)
           → Stand t u
           → Stand (initial.init_all m.world p (arms_of n list) t) (init_all m env f (spot p n) list u)
-      all_stand n h p (otherwise b) named t u stand = init_block_stands n h p b named t u stand
+      all_stand n h p (otherwise b) named t u stand = block_stands beginning n h (inside p) b named t u stand
       all_stand n h p (arm c b rest) named t u stand =
           let flat_c = expression_by v (renamed (own_name f) c) in
-          let now = keep m.world p.part flat_c t in
-          let next = put_back f (keep m.world p.part (expression_read m c) (seen_from f u)) u in
-          let q = past_parts (past p.part (expression_read m c)) p in
+          let q = inside_arm p in
+          let now = keep m.world (0 ∷ p.path) flat_c t in
+          let next = put_back f (keep m.world (0 ∷ p.path) (expression_read m c) (seen_from f u)) u in
           let further = after_block opcodes n b in
           let kept_now : Stand now next =
-          keep_stands f flat_c (expression_read m c) t u (alike_expression f c named.0) stand p.part in
+          keep_stands f flat_c (expression_read m c) t u (alike_expression f c named.0) stand (0 ∷ p.path) in
           let after_t = initial.init_block m.world q (texts_of n b) now in
-          let after_u = init_block m env f (spot q n) b next in
-          let one : Stand after_t after_u = init_block_stands n h q b named.1 now next kept_now in
+          let after_u = block_done m env beginning f (spot q n) b next in
+          let one : Stand after_t after_u = block_stands beginning n h q b named.1 now next kept_now in
           let two = subst (λ z. Stand
-          (initial.init_all m.world (note.past_block q (texts_of n b)) (arms_of further rest) after_t)
+          (initial.init_all m.world (past_arm p (texts_of n b)) (arms_of further rest) after_t)
           (init_all m env f z rest after_u))
-          (sym (past_block_stands n h q b named.1))
-          (all_stand further (block_at_least n b h) (note.past_block q (texts_of n b)) rest named.2 after_t after_u
+          (sym (arm_stands n h p b named.1))
+          (all_stand further (block_at_least n b h) (past_arm p (texts_of n b)) rest named.2 after_t after_u
           one) in
-          subst (λ z. Stand (going m.world t
-          (initial.init_all m.world (note.past_block z (texts_of n b)) (arms_of further rest)
-          (initial.init_block m.world z (texts_of n b) now))) (init_all m env f (spot p n) (arm c b rest) u))
-          (sym (condition_past f p c named.0))
-          (going_stands t _ u _ stand two)
-
-    mutual
-      perf_stands : (n : ℕ) → 1 ≤ n → (p : Place) (x : Statement) → NamedStmt (Fits f) x → (t : Note W) (u : Framed W)
-          → Stand t u
-          → Stand (performing.perf_block m.world p (text_of n x) t) (perf_framed m env f (spot p n) x u)
-      perf_stands n h p (set line x e) named t u stand =
-          plain_perf f p _ _ t u (alike_set f line x e named.0 named.1) stand
-      perf_stands n h p (call line xs c args) named t u stand =
-          any_perf f n line p xs c args (defined opcodes c) (action_of env c) h (acts_called opcodes env k c) named.0
-          named.1 t u stand
-      perf_stands n h p (choose line list) named t u stand = perf_arms_stand n h p list named t u stand
-
-      pub perf_block_stands : (n : ℕ) → 1 ≤ n → (p : Place) (b : Block) → NamedBlock (Fits f) b
-          → (t : Note W) (u : Framed W) → Stand t u
-          → Stand (performing.perf_block m.world p (texts_of n b) t) (perf_block m env f (spot p n) b u)
-      perf_block_stands n h p no_stmt named t u stand = stand
-      perf_block_stands n h p (andthen x rest) named t u stand =
-          let first = expanded opcodes (own_name f) n x in
-          let other = expanded_block opcodes (own_name f) (after opcodes n x) rest in
-          let now = performing.perf_block m.world p (text_of n x) t in
-          let next = perf_framed m env f (spot p n) x u in
-          subst (λ z. Stand z (perf_block m env f (spot p n) (andthen x rest) u)) (sym (perf_joins p first other t))
-          (subst (λ q. Stand (performing.perf_block m.world (note.past_block p (text_of n x)) (flat_block other) now)
-          (perf_block m env f q rest next))
-          (sym (past_stands n h p x named.0))
-          (perf_block_stands (after opcodes n x) (at_least n x h) (note.past_block p (text_of n x)) rest named.1 now
-          next
-          (perf_stands n h p x named.0 t u stand)))
+          going_stands t _ u _ stand two
 
       perf_arms_stand : (n : ℕ) → 1 ≤ n → (p : Place) (list : Arms) → NamedArms (Fits f) list
           → (t : Note W) (u : Framed W) → Stand t u
           → Stand (performing.perf_arms m.world p (arms_of n list) t) (perf_arms m env f (spot p n) list u)
-      perf_arms_stand n h p (otherwise b) named t u stand = perf_block_stands n h p b named t u stand
+      perf_arms_stand n h p (otherwise b) named t u stand = block_stands cycle n h (inside p) b named t u stand
       perf_arms_stand n h p (arm c b rest) named t u stand =
           let flat_c = expression_by v (renamed (own_name f) c) in
-          let q = past_parts (past p.part (expression_read m c)) p in
+          let q = inside_arm p in
           let further = after_block opcodes n b in
-          let a = value_of m.world t false p.part flat_c 0 in
+          let a = value_of m.world t false (0 ∷ p.path) flat_c 0 in
           let same = value_stands f flat_c (expression_read m c) t u (alike_expression f c named.0) stand false
-          p.part in
-          let one = perf_block_stands n h q b named.1 t u stand in
+          (0 ∷ p.path) in
+          let one = block_stands cycle n h q b named.1 t u stand in
           let two = subst (λ z. Stand
-          (performing.perf_arms m.world (note.past_block q (texts_of n b)) (arms_of further rest) t)
+          (performing.perf_arms m.world (past_arm p (texts_of n b)) (arms_of further rest) t)
           (perf_arms m env f z rest u))
-          (sym (past_block_stands n h q b named.1))
-          (perf_arms_stand further (block_at_least n b h) (note.past_block q (texts_of n b)) rest named.2 t u stand) in
-          subst (λ z. Stand (if holds a then performing.perf_block m.world z (texts_of n b) t
-          else performing.perf_arms m.world (note.past_block z (texts_of n b)) (arms_of further rest) t)
-          (perf_arms m env f (spot p n) (arm c b rest) u)) (sym (condition_past f p c named.0))
-          (choose_stands (holds a) (holds (value_of m.world (seen_from f u) false p.part (expression_read m c) 0))
-          (ap (λ w. holds (w 0)) same) _ _ _ _ one two)
+          (sym (arm_stands n h p b named.1))
+          (perf_arms_stand further (block_at_least n b h) (past_arm p (texts_of n b)) rest named.2 t u stand) in
+          choose_stands (holds a) (holds (value_of m.world (seen_from f u) false (0 ∷ p.path) (expression_read m c) 0))
+          (ap (λ w. holds (w 0)) same) _ _ _ _ one two
 
   -- ---- definitions
 
@@ -732,20 +667,14 @@ module _ {W : Type 0} (m : Reading W) (flat : Numbering) (tf : Tells flat) (to :
     inputs = refl;
     results = refl;
     past = λ p n h. named_as n h (λ own. past_block m env (spot p (n + 1)) (whole_body d)
-        ≡ spot (note.past_block p (flat_block (expanded_block opcodes own (n + 1) (whole_body d))))
+        ≡ spot (past_text p (flat_block (expanded_block opcodes own (n + 1) (whole_body d))))
         (after_block opcodes (n + 1) (whole_body d)))
         (past_block_stands opcodes env g k n (n + 1) (more n) p (whole_body d)
         (any_block (Fits n) (fits_inner n h) (whole_body d)));
-    init = λ p n h t u stand. named_as n h
-        (λ own. Stand (initial.init_block m.world p (flat_block (expanded_block opcodes own (n + 1) (whole_body d))) t)
-        (init_block m env n (spot p (n + 1)) (whole_body d) u))
-        (init_block_stands opcodes env g k n (n + 1) (more n) p (whole_body d)
-        (any_block (Fits n) (fits_inner n h) (whole_body d)) t u stand);
-    perf = λ p n h t u stand. named_as n h
-        (λ own. Stand (performing.perf_block m.world p (flat_block (expanded_block opcodes own (n + 1) (whole_body d)))
-        t)
-        (perf_block m env n (spot p (n + 1)) (whole_body d) u))
-        (perf_block_stands opcodes env g k n (n + 1) (more n) p (whole_body d)
+    does = λ w p n h t u stand. named_as n h
+        (λ own. Stand (text_done w p (flat_block (expanded_block opcodes own (n + 1) (whole_body d))) t)
+        (block_done m env w n (spot p (n + 1)) (whole_body d) u))
+        (block_stands opcodes env g k n w (n + 1) (more n) p (whole_body d)
         (any_block (Fits n) (fits_inner n h) (whole_body d)) t u stand);
   }
     where

@@ -15,6 +15,7 @@ use Rattle.cs_meaning.specs.Core as core
 use Rattle.cs_meaning.specs.Initialising as initial
 use Rattle.cs_meaning.specs.Notes.{Note, start, new_note, moved_to}
 use Rattle.cs_meaning.specs.Performing as performing
+use Rattle.cs_meaning.specs.Uses.{beginning, cycle}
 use Rattle.cs_udo.specs.Expanded.{no_opcodes, before, opcodes_before, expanded_instrument, expanded_orchestra}
 use Rattle.cs_udo.specs.Expanding.{within, unless, expanding}
 use Rattle.cs_udo.specs.Refused.{first_fault}
@@ -24,8 +25,7 @@ use Rattle.cs_udo_meaning.specs.Lives.{Cycle, goes_on, begins, performs, goes_on
 use Rattle.cs_udo_meaning.specs.Numbered.{Numbering, Tells, numbered, block_by}
 use Rattle.cs_udo_meaning.specs.Stands.{Fits, Stands}
 use Rattle.cs_udo_meaning.specs.Typed.{shared_of, IsNumberedInstrument}
-use Rattle.cs_udo_meaning.proofs.Expanding.{all_grow, all_act, nothing_grows, nothing_acts, init_block_stands}
-use Rattle.cs_udo_meaning.proofs.Expanding.{perf_block_stands}
+use Rattle.cs_udo_meaning.proofs.Expanding.{all_grow, all_act, nothing_grows, nothing_acts, block_stands}
 use Rattle.cs_udo_meaning.proofs.Named.{NamedBlock, block_named}
 use Rattle.cs_udo_meaning.proofs.TypedBy.{all_numbered}
 
@@ -44,9 +44,10 @@ module _ {W : Type 0} (ds : List Definition) (i : Instrument) (well : WellFormed
       (begins m ds i u)
   expanded_begins m to t u stand =
       let own = before i.line ds in
-      init_block_stands m flat tf to (opcodes_before i.line ds) (actions_before m i.line ds)
+      block_stands m flat tf to (opcodes_before i.line ds) (actions_before m i.line ds)
       (all_grow m flat tf to no_opcodes (nothing_grows m flat tf to) own)
-      (all_act m flat tf to no_opcodes no_actions (nothing_grows m flat tf to) (nothing_acts m flat tf to) own) 0 1
+      (all_act m flat tf to no_opcodes no_actions (nothing_grows m flat tf to) (nothing_acts m flat tf to) own) 0
+      beginning 1
       at_first start i.body
       (named_in i well) t u stand
 
@@ -57,9 +58,10 @@ module _ {W : Type 0} (ds : List Definition) (i : Instrument) (well : WellFormed
       (performs m ds i u)
   expanded_performs m to t u stand =
       let own = before i.line ds in
-      perf_block_stands m flat tf to (opcodes_before i.line ds) (actions_before m i.line ds)
+      block_stands m flat tf to (opcodes_before i.line ds) (actions_before m i.line ds)
       (all_grow m flat tf to no_opcodes (nothing_grows m flat tf to) own)
-      (all_act m flat tf to no_opcodes no_actions (nothing_grows m flat tf to) (nothing_acts m flat tf to) own) 0 1
+      (all_act m flat tf to no_opcodes no_actions (nothing_grows m flat tf to) (nothing_acts m flat tf to) own) 0 cycle
+      1
       at_first start i.body
       (named_in i well) t u stand
 

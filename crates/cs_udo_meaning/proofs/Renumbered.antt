@@ -29,8 +29,8 @@ use Rattle.cs_ir.specs.Worlds.{World}
 use Rattle.cs_meaning.specs.Core as core
 use Rattle.cs_meaning.specs.Initialising as initial
 use Rattle.cs_meaning.specs.Initialising.{going, put_kept, keep}
-use Rattle.cs_meaning.specs.Notes as note
-use Rattle.cs_meaning.specs.Notes.{Note, Place, start, new_note, moved_to, past, past_parts, past_stmt, look, assign}
+use Rattle.cs_meaning.specs.Notes.{Note, Path, Place, next, inside, inside_arm, past_arm, past_stmt, unit_past}
+use Rattle.cs_meaning.specs.Notes.{unit_past_block, unit_past_arms, start, new_note, moved_to, look, assign}
 use Rattle.cs_meaning.specs.Notes.{reg}
 use Rattle.cs_meaning.specs.Notes.{value as value_of}
 use Rattle.cs_meaning.specs.Performing as performing
@@ -40,7 +40,7 @@ use Rattle.cs_udo_meaning.specs.Numbered.{Numbering, Tells, spelled, numbered, e
 use Rattle.cs_udo_meaning.specs.Numbered.{arms_by}
 use Rattle.cs_udo_meaning.specs.Renumbered.{renumbered, renumbered_cycle, LeadsTo, HasNames}
 use Rattle.cs_udo_meaning.specs.Typed.{IsNumberedInstrument}
-use Rattle.cs_udo_meaning.proofs.Alike.{Alike, AlikeStmt, Agree, past_alike, past_stmt_alike, value_same, keep_same}
+use Rattle.cs_udo_meaning.proofs.Alike.{Alike, AlikeStmt, Agree, units_alike, value_same, keep_same}
 use Rattle.cs_udo_meaning.proofs.Alike.{init_same, perf_same}
 use Rattle.cs_udo_meaning.proofs.Lived.{instrument_means}
 use Rattle.cs_udo_meaning.proofs.Named.{any_named, any_names, any_arguments}
@@ -222,17 +222,12 @@ module _ {W : Type 0} (to : Res → Res) (g h : Shared) (lead : LeadsTo to h g) 
       → performing.perf_stmt o p x t ≡ performing.perf_stmt other p y t
   perf_alike x y a p t = perf_same o to Same (λ t u. t ≡ u) notes_agree t t refl a p
 
-  condition_past : (p : Place) (c : Expression)
-      → past_parts (past p.part (here c)) p ≡ past_parts (past p.part (there c)) p
-  condition_past p c = ap (λ n. past_parts n p) (past_alike (same_expression c) p.part p.part refl)
+  condition_kept : (p : Path) (c : Expression) (t : Note W) → keep o p (here c) t ≡ keep other p (there c) t
+  condition_kept p c t = keep_same o to Same (λ t u. t ≡ u) notes_agree t t refl (same_expression c) p
 
-  condition_kept : (p : Place) (c : Expression) (t : Note W) → keep o p.part (here c) t ≡ keep other p.part (there c) t
-  condition_kept p c t = keep_same o to Same (λ t u. t ≡ u) notes_agree t t refl (same_expression c) p.part p.part refl
-
-  condition_now : (p : Place) (c : Expression) (t : Note W)
-      → value_of o t false p.part (here c) ≡ value_of other t false p.part (there c)
-  condition_now p c t =
-      value_same o to Same (λ t u. t ≡ u) notes_agree t t refl (same_expression c) false p.part p.part refl
+  condition_now : (p : Path) (c : Expression) (t : Note W)
+      → value_of o t false p (here c) ≡ value_of other t false p (there c)
+  condition_now p c t = value_same o to Same (λ t u. t ≡ u) notes_agree t t refl (same_expression c) false p
 
   -- ---- statements with statements in them
 
@@ -249,24 +244,28 @@ module _ {W : Type 0} (to : Res → Res) (g h : Shared) (lead : LeadsTo to h g) 
   arms_there list = core.core_arms spaces (arms_by h (numbered h number) list)
 
   mutual
-    past_same : (x : Statement) (p : Place) → past_stmt p (stmt_here x) ≡ past_stmt p (stmt_there x)
-    past_same (set line x e) p = past_stmt_alike (same_set line x e) p
-    past_same (call line xs c args) p = past_stmt_alike (same_call line xs c args) p
-    past_same (choose line list) p = past_arms_same list p
+    units_same : (x : Statement) (n : ℕ) → unit_past n (stmt_here x) ≡ unit_past n (stmt_there x)
+    units_same (set line x e) n = units_alike (same_set line x e) n
+    units_same (call line xs c args) n = units_alike (same_call line xs c args) n
+    units_same (choose line list) n = arms_units_same list n
 
-    past_block_same : (b : Block) (p : Place) → note.past_block p (block_here b) ≡ note.past_block p (block_there b)
-    past_block_same no_stmt p = refl
-    past_block_same (andthen x rest) p =
-        ap (λ q. note.past_block q (block_here rest)) (past_same x p)
-        ∙ past_block_same rest (past_stmt p (stmt_there x))
+    block_units_same : (b : Block) (n : ℕ) → unit_past_block n (block_here b) ≡ unit_past_block n (block_there b)
+    block_units_same no_stmt n = refl
+    block_units_same (andthen x rest) n =
+        ap (λ k. unit_past_block k (block_here rest)) (units_same x n)
+        ∙ block_units_same rest (unit_past n (stmt_there x))
 
-    past_arms_same : (list : Arms) (p : Place) → note.past_arms p (arms_here list) ≡ note.past_arms p (arms_there list)
-    past_arms_same (otherwise b) p = past_block_same b p
-    past_arms_same (arm c b rest) p =
-        let q = past_parts (past p.part (there c)) p in
-        ap (λ z. note.past_arms (note.past_block z (block_here b)) (arms_here rest)) (condition_past p c)
-        ∙ ap (λ z. note.past_arms z (arms_here rest)) (past_block_same b q)
-        ∙ past_arms_same rest (note.past_block q (block_there b))
+    arms_units_same : (list : Arms) (n : ℕ) → unit_past_arms n (arms_here list) ≡ unit_past_arms n (arms_there list)
+    arms_units_same (otherwise b) n = block_units_same b n
+    arms_units_same (arm c b rest) n =
+        ap (λ k. unit_past_arms k (arms_here rest)) (block_units_same b n)
+        ∙ arms_units_same rest (unit_past_block n (block_there b))
+
+  past_same : (x : Statement) (p : Place) → past_stmt p (stmt_here x) ≡ past_stmt p (stmt_there x)
+  past_same x p = λ i. record { path = next p.path; unit = units_same x p.unit i }
+
+  past_arm_same : (b : Block) (p : Place) → past_arm p (block_here b) ≡ past_arm p (block_there b)
+  past_arm_same b p = λ i. record { path = next p.path; unit = block_units_same b p.unit i }
 
   mutual
     init_stmt_same : (x : Statement) (p : Place) (t : Note W)
@@ -274,7 +273,8 @@ module _ {W : Type 0} (to : Res → Res) (g h : Shared) (lead : LeadsTo to h g) 
     init_stmt_same (set line x e) p t = init_alike _ _ (same_set line x e) p t
     init_stmt_same (call line xs c args) p t = init_alike _ _ (same_call line xs c args) p t
     init_stmt_same (choose line list) p t =
-        λ i. going o t (if_init (choice_rate list) (init_first_same list p t i) (init_all_same list p t i))
+        λ i. going o t (if_init (choice_rate list) (init_first_same list (inside p) t i)
+        (init_all_same list (inside p) t i))
 
     init_block_same : (b : Block) (p : Place) (t : Note W)
         → initial.init_block o p (block_here b) t ≡ initial.init_block other p (block_there b) t
@@ -287,44 +287,40 @@ module _ {W : Type 0} (to : Res → Res) (g h : Shared) (lead : LeadsTo to h g) 
 
     init_first_same : (list : Arms) (p : Place) (t : Note W)
         → initial.init_first o p (arms_here list) t ≡ initial.init_first other p (arms_there list) t
-    init_first_same (otherwise b) p t = init_block_same b p t
+    init_first_same (otherwise b) p t = init_block_same b (inside p) t
     init_first_same (arm c b rest) p t =
-        let q = past_parts (past p.part (there c)) p in
-        let now = keep o p.part (here c) t in
-        let next = keep other p.part (there c) t in
-        ap (λ z. if holds (now.kept p.part) then initial.init_block o z (block_here b) now
-        else initial.init_first o (note.past_block z (block_here b)) (arms_here rest) now) (condition_past p c)
-        ∙ ap (λ (z : Note W). if holds (z.kept p.part) then initial.init_block o q (block_here b) z
-        else initial.init_first o (note.past_block q (block_here b)) (arms_here rest) z) (condition_kept p c t)
-        ∙ ap (λ z. if holds (next.kept p.part) then initial.init_block o q (block_here b) next
-        else initial.init_first o z (arms_here rest) next) (past_block_same b q)
-        ∙ λ i. if holds (next.kept p.part) then init_block_same b q next i
-        else init_first_same rest (note.past_block q (block_there b)) next i
+        let q = inside_arm p in
+        let at = 0 ∷ p.path in
+        let now = keep other at (there c) t in
+        ap (λ (z : Note W). if holds (z.kept at) then initial.init_block o q (block_here b) z
+        else initial.init_first o (past_arm p (block_here b)) (arms_here rest) z) (condition_kept at c t)
+        ∙ ap (λ z. if holds (now.kept at) then initial.init_block o q (block_here b) now
+        else initial.init_first o z (arms_here rest) now) (past_arm_same b p)
+        ∙ λ i. if holds (now.kept at) then init_block_same b q now i
+        else init_first_same rest (past_arm p (block_there b)) now i
 
     init_all_same : (list : Arms) (p : Place) (t : Note W)
         → initial.init_all o p (arms_here list) t ≡ initial.init_all other p (arms_there list) t
-    init_all_same (otherwise b) p t = init_block_same b p t
+    init_all_same (otherwise b) p t = init_block_same b (inside p) t
     init_all_same (arm c b rest) p t =
-        let q = past_parts (past p.part (there c)) p in
-        let now = keep o p.part (here c) t in
-        let next = keep other p.part (there c) t in
-        let done = initial.init_block other q (block_there b) next in
-        ap (λ z. going o t (initial.init_all o (note.past_block z (block_here b)) (arms_here rest)
-        (initial.init_block o z (block_here b) now))) (condition_past p c)
-        ∙ ap (λ z. going o t (initial.init_all o (note.past_block q (block_here b)) (arms_here rest)
-        (initial.init_block o q (block_here b) z))) (condition_kept p c t)
-        ∙ ap (λ z. going o t (initial.init_all o z (arms_here rest) (initial.init_block o q (block_here b) next)))
-        (past_block_same b q)
-        ∙ ap (λ z. going o t (initial.init_all o (note.past_block q (block_there b)) (arms_here rest) z))
-        (init_block_same b q next)
-        ∙ ap (λ z. going o t z) (init_all_same rest (note.past_block q (block_there b)) done)
+        let q = inside_arm p in
+        let at = 0 ∷ p.path in
+        let now = keep other at (there c) t in
+        let done = initial.init_block other q (block_there b) now in
+        ap (λ z. going o t (initial.init_all o (past_arm p (block_here b)) (arms_here rest)
+        (initial.init_block o q (block_here b) z))) (condition_kept at c t)
+        ∙ ap (λ z. going o t (initial.init_all o z (arms_here rest) (initial.init_block o q (block_here b) now)))
+        (past_arm_same b p)
+        ∙ ap (λ z. going o t (initial.init_all o (past_arm p (block_there b)) (arms_here rest) z))
+        (init_block_same b q now)
+        ∙ ap (λ z. going o t z) (init_all_same rest (past_arm p (block_there b)) done)
 
   mutual
     perf_stmt_same : (x : Statement) (p : Place) (t : Note W)
         → performing.perf_stmt o p (stmt_here x) t ≡ performing.perf_stmt other p (stmt_there x) t
     perf_stmt_same (set line x e) p t = perf_alike _ _ (same_set line x e) p t
     perf_stmt_same (call line xs c args) p t = perf_alike _ _ (same_call line xs c args) p t
-    perf_stmt_same (choose line list) p t = perf_arms_same list p t
+    perf_stmt_same (choose line list) p t = perf_arms_same list (inside p) t
 
     perf_block_same : (b : Block) (p : Place) (t : Note W)
         → performing.perf_block o p (block_here b) t ≡ performing.perf_block other p (block_there b) t
@@ -337,19 +333,17 @@ module _ {W : Type 0} (to : Res → Res) (g h : Shared) (lead : LeadsTo to h g) 
 
     perf_arms_same : (list : Arms) (p : Place) (t : Note W)
         → performing.perf_arms o p (arms_here list) t ≡ performing.perf_arms other p (arms_there list) t
-    perf_arms_same (otherwise b) p t = perf_block_same b p t
+    perf_arms_same (otherwise b) p t = perf_block_same b (inside p) t
     perf_arms_same (arm c b rest) p t =
-        let q = past_parts (past p.part (there c)) p in
-        let now = value_of o t false p.part (here c) in
-        let next = value_of other t false p.part (there c) in
-        ap (λ z. if holds (now 0) then performing.perf_block o z (block_here b) t
-        else performing.perf_arms o (note.past_block z (block_here b)) (arms_here rest) t) (condition_past p c)
-        ∙ ap (λ (z : Wave). if holds (z 0) then performing.perf_block o q (block_here b) t
-        else performing.perf_arms o (note.past_block q (block_here b)) (arms_here rest) t) (condition_now p c t)
-        ∙ ap (λ z. if holds (next 0) then performing.perf_block o q (block_here b) t
-        else performing.perf_arms o z (arms_here rest) t) (past_block_same b q)
-        ∙ λ i. if holds (next 0) then perf_block_same b q t i
-        else perf_arms_same rest (note.past_block q (block_there b)) t i
+        let q = inside_arm p in
+        let at = 0 ∷ p.path in
+        let now = value_of other t false at (there c) in
+        ap (λ (z : Wave). if holds (z 0) then performing.perf_block o q (block_here b) t
+        else performing.perf_arms o (past_arm p (block_here b)) (arms_here rest) t) (condition_now at c t)
+        ∙ ap (λ z. if holds (now 0) then performing.perf_block o q (block_here b) t
+        else performing.perf_arms o z (arms_here rest) t) (past_arm_same b p)
+        ∙ λ i. if holds (now 0) then perf_block_same b q t i
+        else perf_arms_same rest (past_arm p (block_there b)) t i
 
 -- ---- lives
 

@@ -1,6 +1,7 @@
 -- A note that stands as one with frames does: what a statement of a frame does to the one and to the other.
 use Rattle.std.proofs.Common.{◌≡◌, ◌∙◌, ℕ, ◌==◌, Bool, true, false, if◌then◌else◌, List, [], ◌∷◌, map, Option, Some}
 use Rattle.std.proofs.Common.{None, arith, refl, sym, ap, subst}
+use Rattle.std.specs.Str.{bytes_eq as same_path}
 use Rattle.std.proofs.lemmas.Bool.{and_parts}
 use Rattle.std.proofs.lemmas.Bool.Decides.{nat_tests}
 use Rattle.cs_base.proofs.Rates.{same_rate_is}
@@ -255,10 +256,10 @@ module _ {W : Type 0} (o : World W) (flat own : Numbering) (tf : Tells flat) (to
     world = λ t s h. h.world;
     looks = looked;
     assigns = assigned;
-    keeps = λ t s h n z. record {
+    keeps = λ t s h p z. record {
       mine = h.mine;
       others = h.others;
-      kept = λ i m. if m == n then z else h.kept i m;
+      kept = λ i q. if same_path q p then z else h.kept i q;
       world = h.world;
     };
     moves = λ t s h x. record { mine = h.mine; others = h.others; kept = h.kept; world = refl };

@@ -9,11 +9,10 @@ use Rattle.cs_grammar.specs.declared.tree.Callee.TheVariants as callee
 use Rattle.cs_grammar.specs.Tree.{Argument, value, text, Statement, set, call, choose, Block, no_stmt, andthen, Arms}
 use Rattle.cs_grammar.specs.Tree.{otherwise, arm, Definition}
 use Rattle.cs_meaning.specs.Core as core
-use Rattle.cs_meaning.specs.Notes as note
-use Rattle.cs_meaning.specs.Notes.{Place, past, past_parts, past_stmt}
+use Rattle.cs_meaning.specs.Notes.{Place, past_stmt, unit_past, unit_past_block, unit_past_arms}
 use Rattle.cs_udo.specs.Expanded.{whole_body}
 use Rattle.cs_udo_meaning.specs.Frames.{Spot, Reading, read, past_copy, past_copies, Action, Actions, no_actions}
-use Rattle.cs_udo_meaning.specs.Frames.{action_of, values_in, past_inputs, past_call, past_any, past_condition}
+use Rattle.cs_udo_meaning.specs.Frames.{action_of, values_in, past_inputs, past_call, past_any, into, into_arm, behind}
 use Rattle.cs_udo_meaning.specs.Frames.{past_framed, past_block, past_arms, unit_of, units_of_call, units_of}
 use Rattle.cs_udo_meaning.specs.Frames.{units_of_block, units_of_arms, inner, action, acting, acting_all}
 use Rattle.cs_udo_meaning.proofs.Untouched.{Ascend, joined, ascending}
@@ -22,29 +21,27 @@ chain : (a b c : ℕ) → a ≤ b → b ≤ c → a ≤ c
 chain a b c p q = omega (arith, p, q)
 
 mutual
-  stmt_grows : (p : Place) (s : core.Stmt) → p.unit ≤ (past_stmt p s).unit
-  stmt_grows p (core.set r v e) = omega arith
-  stmt_grows p (core.unit r vs o k xs is) = omega arith
-  stmt_grows p (core.zak r vs o k xs) = omega arith
-  stmt_grows p (core.store r o k es is) = omega arith
-  stmt_grows p (core.out r es) = omega arith
-  stmt_grows p (core.out_at r es) = omega arith
-  stmt_grows p (core.ask es) = omega arith
-  stmt_grows p (core.turnoff r) = omega arith
-  stmt_grows p core.nothing = omega arith
-  stmt_grows p (core.choose r list) = arms_grow p list
+  unit_grows : (n : ℕ) (s : core.Stmt) → n ≤ unit_past n s
+  unit_grows n (core.set r v e) = omega arith
+  unit_grows n (core.unit r vs o k xs is) = omega arith
+  unit_grows n (core.zak r vs o k xs) = omega arith
+  unit_grows n (core.store r o k es is) = omega arith
+  unit_grows n (core.out r es) = omega arith
+  unit_grows n (core.out_at r es) = omega arith
+  unit_grows n (core.ask es) = omega arith
+  unit_grows n (core.turnoff r) = omega arith
+  unit_grows n core.nothing = omega arith
+  unit_grows n (core.choose r list) = unit_arms_grow n list
 
-  block_grows : (p : Place) (b : core.Block) → p.unit ≤ (note.past_block p b).unit
-  block_grows p core.no_stmt = omega arith
-  block_grows p (core.andthen s b) =
-      chain p.unit (past_stmt p s).unit (note.past_block (past_stmt p s) b).unit (stmt_grows p s)
-      (block_grows (past_stmt p s) b)
+  unit_block_grows : (n : ℕ) (b : core.Block) → n ≤ unit_past_block n b
+  unit_block_grows n core.no_stmt = omega arith
+  unit_block_grows n (core.andthen s b) =
+      let k = unit_past n s in chain n k (unit_past_block k b) (unit_grows n s) (unit_block_grows k b)
 
-  arms_grow : (p : Place) (list : core.Arms) → p.unit ≤ (note.past_arms p list).unit
-  arms_grow p (core.otherwise b) = block_grows p b
-  arms_grow p (core.arm c b rest) =
-      let q = note.past_block (past_parts (past p.part c) p) b in
-      chain p.unit q.unit (note.past_arms q rest).unit (block_grows (past_parts (past p.part c) p) b) (arms_grow q rest)
+  unit_arms_grow : (n : ℕ) (list : core.Arms) → n ≤ unit_past_arms n list
+  unit_arms_grow n (core.otherwise b) = unit_block_grows n b
+  unit_arms_grow n (core.arm c b rest) =
+      let k = unit_past_block n b in chain n k (unit_past_arms k rest) (unit_block_grows n b) (unit_arms_grow k rest)
 
 stmt_ascends : (p : Place) (s : core.Stmt) → Ascend p.unit (past_stmt p s).unit (unit_of p s)
 stmt_ascends p (core.set r v e) = omega arith
@@ -56,7 +53,7 @@ stmt_ascends p (core.out_at r es) = omega arith
 stmt_ascends p (core.ask es) = omega arith
 stmt_ascends p (core.turnoff r) = omega arith
 stmt_ascends p core.nothing = omega arith
-stmt_ascends p (core.choose r list) = arms_grow p list
+stmt_ascends p (core.choose r list) = unit_arms_grow p.unit list
 
 module _ {W : Type 0} (m : Reading W) where
   copies_unit : (p : Place) (xs : List (List ℕ)) (args : List Argument) → (past_copies m p xs args).unit ≡ p.unit
@@ -93,7 +90,7 @@ module _ {W : Type 0} (m : Reading W) where
       rises p (set line x e) = omega arith
       rises p (call line xs c args) =
           called_rises p (call line xs c args) xs args (action_of env c) (called_rising env k c)
-      rises p (choose line list) = arms_rise p list
+      rises p (choose line list) = arms_rise (into p) list
 
       block_rises : (p : Spot) (b : Block)
           → Ascend p.place.unit (past_block m env p b).place.unit (units_of_block m env p b)
@@ -106,10 +103,10 @@ module _ {W : Type 0} (m : Reading W) where
 
       arms_rise : (p : Spot) (list : Arms)
           → Ascend p.place.unit (past_arms m env p list).place.unit (units_of_arms m env p list)
-      arms_rise p (otherwise b) = block_rises p b
+      arms_rise p (otherwise b) = block_rises (into p) b
       arms_rise p (arm c b rest) =
-          let q = past_condition m p c in
-          let r = past_block m env q b in
+          let q = into_arm p in
+          let r = behind p (past_block m env q b) in
           joined p.place.unit r.place.unit (past_arms m env r rest).place.unit (units_of_block m env q b)
           (units_of_arms m env r rest) (block_rises q b)
           (arms_rise r rest)

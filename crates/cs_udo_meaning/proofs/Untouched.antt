@@ -19,17 +19,18 @@ use Rattle.cs_grammar.specs.Tree.{andthen, Arms, otherwise, arm, Definition}
 use Rattle.cs_typing.specs.Statements.{choice_rate}
 use Rattle.cs_ir.specs.Values.{holds}
 use Rattle.cs_ir.specs.Waves.{if_init}
-use Rattle.cs_meaning.specs.Initialising.{keep, init_stmt}
-use Rattle.cs_meaning.specs.Performing.{perf_stmt}
+use Rattle.cs_meaning.specs.Initialising.{keep}
+use Rattle.cs_meaning.specs.Uses.{When, beginning, cycle}
 use Rattle.cs_meaning.specs.Notes.{Note, Place, assign}
 use Rattle.cs_meaning.specs.Notes.{value as value_of}
 use Rattle.cs_udo.specs.Expanded.{whole_body}
 use Rattle.cs_udo_meaning.specs.Frames.{Framed, seen_from, put_back, Spot, Reading, variable_read, expression_read}
-use Rattle.cs_udo_meaning.specs.Frames.{read, past_copy, going_on, init_copy, perf_copy, init_copies, perf_copies}
+use Rattle.cs_udo_meaning.specs.Frames.{read, by_pass, stmt_done, past_copy, going_on, copy_done, copies_done}
 use Rattle.cs_udo_meaning.specs.Frames.{Action, Actions, no_actions, action_of, values_in, past_inputs, past_call}
-use Rattle.cs_udo_meaning.specs.Frames.{init_call, perf_call, past_any, init_any, perf_any, past_condition, past_framed}
-use Rattle.cs_udo_meaning.specs.Frames.{past_block, past_arms, init_framed, init_block, init_first, init_all}
-use Rattle.cs_udo_meaning.specs.Frames.{perf_framed, perf_block, perf_arms, inner, action, acting, acting_all}
+use Rattle.cs_udo_meaning.specs.Frames.{call_done, past_any, any_done, into, into_arm, behind}
+use Rattle.cs_udo_meaning.specs.Frames.{past_framed, past_block, past_arms, framed_done, block_done, init_first}
+use Rattle.cs_udo_meaning.specs.Frames.{init_all}
+use Rattle.cs_udo_meaning.specs.Frames.{perf_arms, inner, action, acting, acting_all}
 use Rattle.cs_udo_meaning.specs.Frames.{frames_of_call, frames_of, frames_of_block, frames_of_arms}
 use Rattle.cs_udo_meaning.specs.Untouched.{IsOutside}
 
@@ -116,53 +117,44 @@ module _ {W : Type 0} (m : Reading W) where
   chosen true g x y u h k = h
   chosen false g x y u h k = k
 
-  init_copy_kept : (f h g : ℕ) → (g == f) ≡ false → (g == h) ≡ false
+  passes : (w : When) (g : ℕ) (x y u : Framed W) → x.frames g ≡ u.frames g → y.frames g ≡ u.frames g
+      → (by_pass w x y).frames g ≡ u.frames g
+  passes beginning g x y u h k = h
+  passes cycle g x y u h k = k
+
+  copy_kept : (w : When) (f h g : ℕ) → (g == f) ≡ false → (g == h) ≡ false
       → (p : Place) (x : List ℕ) (e : Expression) (u : Framed W)
-      → (init_copy m f h p x e u).frames g ≡ u.frames g
-  init_copy_kept f h g nf nh p x e u =
-      let a = assign m.world (variable_read m x) (value_of m.world (seen_from f u) true 0 (expression_read m e))
+      → (copy_done m w f h p x e u).frames g ≡ u.frames g
+  copy_kept beginning f h g nf nh p x e u =
+      let a = assign m.world (variable_read m x) (value_of m.world (seen_from f u) true [] (expression_read m e))
       (seen_from h u) in
-      let b = keep m.world p.part (expression_read m e) (seen_from f u) in
+      let b = keep m.world (0 ∷ p.path) (expression_read m e) (seen_from f u) in
       going_kept g u (if_init (name_rate x) (put_back h a u) (put_back f b u))
       (either_kept (name_rate x) g (put_back h a u) (put_back f b u) u (elsewhere h g nh a u) (elsewhere f g nf b u))
-
-  perf_copy_kept : (f h g : ℕ) → (g == h) ≡ false → (p : Place) (x : List ℕ) (e : Expression) (u : Framed W)
-      → (perf_copy m f h p x e u).frames g ≡ u.frames g
-  perf_copy_kept f h g nh p x e u =
-      let a = assign m.world (variable_read m x) (value_of m.world (seen_from f u) false p.part (expression_read m e))
+  copy_kept cycle f h g nf nh p x e u =
+      let a = assign m.world (variable_read m x)
+      (value_of m.world (seen_from f u) false (0 ∷ p.path) (expression_read m e))
       (seen_from h u) in
       either_kept (name_rate x) g u (put_back h a u) u refl (elsewhere h g nh a u)
 
-  init_copies_kept : (f h g : ℕ) → (g == f) ≡ false → (g == h) ≡ false
+  copies_kept : (w : When) (f h g : ℕ) → (g == f) ≡ false → (g == h) ≡ false
       → (p : Place) (xs : List (List ℕ)) (args : List Argument) (u : Framed W)
-      → (init_copies m f h p xs args u).frames g ≡ u.frames g
-  init_copies_kept f h g nf nh p [] [] u = refl
-  init_copies_kept f h g nf nh p [] (a ∷ args) u = refl
-  init_copies_kept f h g nf nh p (x ∷ xs) [] u = refl
-  init_copies_kept f h g nf nh p (x ∷ xs) (text t ∷ args) u = refl
-  init_copies_kept f h g nf nh p (x ∷ xs) (value e ∷ args) u =
-      init_copies_kept f h g nf nh (past_copy m p x e) xs args (init_copy m f h p x e u)
-      ∙ init_copy_kept f h g nf nh p x e u
-
-  perf_copies_kept : (f h g : ℕ) → (g == h) ≡ false
-      → (p : Place) (xs : List (List ℕ)) (args : List Argument) (u : Framed W)
-      → (perf_copies m f h p xs args u).frames g ≡ u.frames g
-  perf_copies_kept f h g nh p [] [] u = refl
-  perf_copies_kept f h g nh p [] (a ∷ args) u = refl
-  perf_copies_kept f h g nh p (x ∷ xs) [] u = refl
-  perf_copies_kept f h g nh p (x ∷ xs) (text t ∷ args) u = refl
-  perf_copies_kept f h g nh p (x ∷ xs) (value e ∷ args) u =
-      perf_copies_kept f h g nh (past_copy m p x e) xs args (perf_copy m f h p x e u) ∙ perf_copy_kept f h g nh p x e u
+      → (copies_done m w f h p xs args u).frames g ≡ u.frames g
+  copies_kept w f h g nf nh p [] [] u = refl
+  copies_kept w f h g nf nh p [] (a ∷ args) u = refl
+  copies_kept w f h g nf nh p (x ∷ xs) [] u = refl
+  copies_kept w f h g nf nh p (x ∷ xs) (text t ∷ args) u = refl
+  copies_kept w f h g nf nh p (x ∷ xs) (value e ∷ args) u =
+      copies_kept w f h g nf nh (past_copy m p x e) xs args (copy_done m w f h p x e u)
+      ∙ copy_kept w f h g nf nh p x e u
 
   -- ---- a defined opcode
 
   pub record Alone (a : Action W) : Type 0 where
     pub grows : (p : Spot) → p.frame + 1 ≤ (a.past p).frame
     pub calls : (p : Spot) → Ascend (p.frame + 1) (a.past p).frame (a.calls p)
-    pub init : (p : Spot) (u : Framed W) (g : ℕ) → IsOutside g p.frame (a.past p).frame
-        → (a.init p u).frames g ≡ u.frames g
-    pub perf : (p : Spot) (u : Framed W) (g : ℕ) → IsOutside g p.frame (a.past p).frame
-        → (a.perf p u).frames g ≡ u.frames g
+    pub does : (w : When) (p : Spot) (u : Framed W) (g : ℕ) → IsOutside g p.frame (a.past p).frame
+        → (a.does w p u).frames g ≡ u.frames g
 
   abbrev pub AloneIf : Option (Action W) → Type 0
   AloneIf None = Unit {0}
@@ -181,43 +173,24 @@ module _ {W : Type 0} (m : Reading W) where
   any_grows p x xs args (Some a) k =
       one_further p.frame (past_call m p a xs args).frame (k.grows (past_inputs m p a args))
 
-  init_call_kept : (f g : ℕ) → (g == f) ≡ false → (p : Spot) (a : Action W) (xs : List (List ℕ)) (args : List Argument)
-      → Alone a → (u : Framed W)
-      → IsOutside g p.frame (past_call m p a xs args).frame → (init_call m f p a xs args u).frames g ≡ u.frames g
-  init_call_kept f g nf p a xs args k u o =
+  call_kept : (w : When) (f g : ℕ) → (g == f) ≡ false → (p : Spot) (a : Action W) (xs : List (List ℕ))
+      → (args : List Argument) → Alone a → (u : Framed W)
+      → IsOutside g p.frame (past_call m p a xs args).frame → (call_done m w f p a xs args u).frames g ≡ u.frames g
+  call_kept w f g nf p a xs args k u o =
       let q = past_inputs m p a args in
       let nh : (g == p.frame) ≡ false = test_apart g p.frame (not_first g p.frame (a.past q).frame (k.grows q) o) in
-      let ready = init_copies m f p.frame p.place a.inputs args u in
-      init_copies_kept p.frame f g nh nf (a.past q).place xs (values_in a.results) (a.init q ready)
-      ∙ k.init q ready g o
-      ∙ init_copies_kept f p.frame g nf nh p.place a.inputs args u
+      let ready = copies_done m w f p.frame p.place a.inputs args u in
+      copies_kept w p.frame f g nh nf (a.past q).place xs (values_in a.results) (a.does w q ready)
+      ∙ k.does w q ready g o
+      ∙ copies_kept w f p.frame g nf nh p.place a.inputs args u
 
-  perf_call_kept : (f g : ℕ) → (g == f) ≡ false → (p : Spot) (a : Action W) (xs : List (List ℕ)) (args : List Argument)
-      → Alone a → (u : Framed W)
-      → IsOutside g p.frame (past_call m p a xs args).frame → (perf_call m f p a xs args u).frames g ≡ u.frames g
-  perf_call_kept f g nf p a xs args k u o =
-      let q = past_inputs m p a args in
-      let nh : (g == p.frame) ≡ false = test_apart g p.frame (not_first g p.frame (a.past q).frame (k.grows q) o) in
-      let ready = perf_copies m f p.frame p.place a.inputs args u in
-      perf_copies_kept p.frame f g nf (a.past q).place xs (values_in a.results) (a.perf q ready)
-      ∙ k.perf q ready g o
-      ∙ perf_copies_kept f p.frame g nh p.place a.inputs args u
-
-  init_any_kept : (f g : ℕ) → (g == f) ≡ false
+  any_kept : (w : When) (f g : ℕ) → (g == f) ≡ false
       → (p : Spot) (x : Statement) (xs : List (List ℕ)) (args : List Argument) (a : Option (Action W))
       → AloneIf a → (u : Framed W)
-      → IsOutside g p.frame (past_any m p x xs args a).frame → (init_any m f p x xs args a u).frames g ≡ u.frames g
-  init_any_kept f g nf p x xs args None k u o =
-      elsewhere f g nf (init_stmt m.world p.place (read m x) (seen_from f u)) u
-  init_any_kept f g nf p x xs args (Some a) k u o = init_call_kept f g nf p a xs args k u o
-
-  perf_any_kept : (f g : ℕ) → (g == f) ≡ false
-      → (p : Spot) (x : Statement) (xs : List (List ℕ)) (args : List Argument) (a : Option (Action W))
-      → AloneIf a → (u : Framed W)
-      → IsOutside g p.frame (past_any m p x xs args a).frame → (perf_any m f p x xs args a u).frames g ≡ u.frames g
-  perf_any_kept f g nf p x xs args None k u o =
-      elsewhere f g nf (perf_stmt m.world p.place (read m x) (seen_from f u)) u
-  perf_any_kept f g nf p x xs args (Some a) k u o = perf_call_kept f g nf p a xs args k u o
+      → IsOutside g p.frame (past_any m p x xs args a).frame → (any_done m w f p x xs args a u).frames g ≡ u.frames g
+  any_kept w f g nf p x xs args None k u o =
+      elsewhere f g nf (stmt_done w m.world p.place (read m x) (seen_from f u)) u
+  any_kept w f g nf p x xs args (Some a) k u o = call_kept w f g nf p a xs args k u o
 
   -- ---- statements
 
@@ -227,7 +200,7 @@ module _ {W : Type 0} (m : Reading W) where
       past_grows p (set line x e) = omega arith
       past_grows p (call line xs c args) =
           any_grows p (call line xs c args) xs args (action_of env c) (called_alone env k c)
-      past_grows p (choose line list) = past_arms_grow p list
+      past_grows p (choose line list) = past_arms_grow (into p) list
 
       pub past_block_grows : (p : Spot) (b : Block) → p.frame ≤ (past_block m env p b).frame
       past_block_grows p no_stmt = omega arith
@@ -236,101 +209,84 @@ module _ {W : Type 0} (m : Reading W) where
           chain p.frame q.frame (past_block m env q rest).frame (past_grows p x) (past_block_grows q rest)
 
       past_arms_grow : (p : Spot) (list : Arms) → p.frame ≤ (past_arms m env p list).frame
-      past_arms_grow p (otherwise b) = past_block_grows p b
+      past_arms_grow p (otherwise b) = past_block_grows (into p) b
       past_arms_grow p (arm c b rest) =
-          let q = past_block m env (past_condition m p c) b in
-          chain p.frame q.frame (past_arms m env q rest).frame (past_block_grows (past_condition m p c) b)
+          let q = behind p (past_block m env (into_arm p) b) in
+          chain p.frame q.frame (past_arms m env q rest).frame (past_block_grows (into_arm p) b)
           (past_arms_grow q rest)
 
     mutual
-      init_kept : (f g : ℕ) → (g == f) ≡ false → (p : Spot) (x : Statement) (u : Framed W)
+      kept : (w : When) (f g : ℕ) → (g == f) ≡ false → (p : Spot) (x : Statement) (u : Framed W)
           → IsOutside g p.frame (past_framed m env p x).frame
-          → (init_framed m env f p x u).frames g ≡ u.frames g
-      init_kept f g nf p (set line x e) u o =
-          elsewhere f g nf (init_stmt m.world p.place (read m (set line x e)) (seen_from f u)) u
-      init_kept f g nf p (call line xs c args) u o =
-          init_any_kept f g nf p (call line xs c args) xs args (action_of env c) (called_alone env k c) u o
-      init_kept f g nf p (choose line list) u o =
-          let a = init_first m env f p list u in
-          let b = init_all m env f p list u in
-          going_kept g u (if_init (choice_rate list) a b)
-          (either_kept (choice_rate list) g a b u (first_kept f g nf p list u o) (all_kept f g nf p list u o))
+          → (framed_done m env w f p x u).frames g ≡ u.frames g
+      kept w f g nf p (set line x e) u o =
+          elsewhere f g nf (stmt_done w m.world p.place (read m (set line x e)) (seen_from f u)) u
+      kept w f g nf p (call line xs c args) u o =
+          any_kept w f g nf p (call line xs c args) xs args (action_of env c) (called_alone env k c) u o
+      kept w f g nf p (choose line list) u o =
+          let q = into p in
+          let a = init_first m env f q list u in
+          let b = init_all m env f q list u in
+          let first = if_init (choice_rate list) a b in
+          passes w g (going_on m.world u first) (perf_arms m env f q list u) u
+          (going_kept g u first
+          (either_kept (choice_rate list) g a b u (first_kept f g nf q list u o) (all_kept f g nf q list u o)))
+          (arms_kept f g nf q list u o)
 
-      pub init_block_kept : (f g : ℕ) → (g == f) ≡ false → (p : Spot) (b : Block) (u : Framed W)
+      pub block_kept : (w : When) (f g : ℕ) → (g == f) ≡ false → (p : Spot) (b : Block) (u : Framed W)
           → IsOutside g p.frame (past_block m env p b).frame
-          → (init_block m env f p b u).frames g ≡ u.frames g
-      init_block_kept f g nf p no_stmt u o = refl
-      init_block_kept f g nf p (andthen x rest) u o =
+          → (block_done m env w f p b u).frames g ≡ u.frames g
+      block_kept w f g nf p no_stmt u o = refl
+      block_kept w f g nf p (andthen x rest) u o =
           let q = past_framed m env p x in
           let end = (past_block m env q rest).frame in
-          init_block_kept f g nf q rest (init_framed m env f p x u)
+          block_kept w f g nf q rest (framed_done m env w f p x u)
           (upper_part g p.frame q.frame end (past_grows p x) o)
-          ∙ init_kept f g nf p x u (lower_part g p.frame q.frame end (past_block_grows q rest) o)
+          ∙ kept w f g nf p x u (lower_part g p.frame q.frame end (past_block_grows q rest) o)
 
       first_kept : (f g : ℕ) → (g == f) ≡ false → (p : Spot) (list : Arms) (u : Framed W)
           → IsOutside g p.frame (past_arms m env p list).frame
           → (init_first m env f p list u).frames g ≡ u.frames g
-      first_kept f g nf p (otherwise b) u o = init_block_kept f g nf p b u o
+      first_kept f g nf p (otherwise b) u o = block_kept beginning f g nf (into p) b u o
       first_kept f g nf p (arm c b rest) u o =
-          let now = put_back f (keep m.world p.place.part (expression_read m c) (seen_from f u)) u in
-          let q = past_condition m p c in
-          let r = past_block m env q b in
+          let now = put_back f (keep m.world (0 ∷ p.place.path) (expression_read m c) (seen_from f u)) u in
+          let q = into_arm p in
+          let r = behind p (past_block m env q b) in
           let end = (past_arms m env r rest).frame in
-          let one = init_block_kept f g nf q b now (lower_part g p.frame r.frame end (past_arms_grow r rest) o) in
+          let one = block_kept beginning f g nf q b now (lower_part g p.frame r.frame end (past_arms_grow r rest) o) in
           let two = first_kept f g nf r rest now (upper_part g p.frame r.frame end (past_block_grows q b) o) in
-          chosen (holds (now.kept p.place.part)) g (init_block m env f q b now) (init_first m env f r rest now) now one
-          two
-          ∙ elsewhere f g nf (keep m.world p.place.part (expression_read m c) (seen_from f u)) u
+          chosen (holds (now.kept (0 ∷ p.place.path))) g (block_done m env beginning f q b now)
+          (init_first m env f r rest now) now one two
+          ∙ elsewhere f g nf (keep m.world (0 ∷ p.place.path) (expression_read m c) (seen_from f u)) u
 
       all_kept : (f g : ℕ) → (g == f) ≡ false → (p : Spot) (list : Arms) (u : Framed W)
           → IsOutside g p.frame (past_arms m env p list).frame
           → (init_all m env f p list u).frames g ≡ u.frames g
-      all_kept f g nf p (otherwise b) u o = init_block_kept f g nf p b u o
+      all_kept f g nf p (otherwise b) u o = block_kept beginning f g nf (into p) b u o
       all_kept f g nf p (arm c b rest) u o =
-          let now = put_back f (keep m.world p.place.part (expression_read m c) (seen_from f u)) u in
-          let q = past_condition m p c in
-          let r = past_block m env q b in
+          let now = put_back f (keep m.world (0 ∷ p.place.path) (expression_read m c) (seen_from f u)) u in
+          let q = into_arm p in
+          let r = behind p (past_block m env q b) in
           let end = (past_arms m env r rest).frame in
-          let next = init_block m env f q b now in
-          let one = init_block_kept f g nf q b now (lower_part g p.frame r.frame end (past_arms_grow r rest) o) in
+          let next = block_done m env beginning f q b now in
+          let one = block_kept beginning f g nf q b now (lower_part g p.frame r.frame end (past_arms_grow r rest) o) in
           let two = all_kept f g nf r rest next (upper_part g p.frame r.frame end (past_block_grows q b) o) in
           going_kept g u (init_all m env f r rest next)
-          (two ∙ one ∙ elsewhere f g nf (keep m.world p.place.part (expression_read m c) (seen_from f u)) u)
+          (two ∙ one ∙ elsewhere f g nf (keep m.world (0 ∷ p.place.path) (expression_read m c) (seen_from f u)) u)
 
-    mutual
-      perf_kept : (f g : ℕ) → (g == f) ≡ false → (p : Spot) (x : Statement) (u : Framed W)
-          → IsOutside g p.frame (past_framed m env p x).frame
-          → (perf_framed m env f p x u).frames g ≡ u.frames g
-      perf_kept f g nf p (set line x e) u o =
-          elsewhere f g nf (perf_stmt m.world p.place (read m (set line x e)) (seen_from f u)) u
-      perf_kept f g nf p (call line xs c args) u o =
-          perf_any_kept f g nf p (call line xs c args) xs args (action_of env c) (called_alone env k c) u o
-      perf_kept f g nf p (choose line list) u o = perf_arms_kept f g nf p list u o
-
-      pub perf_block_kept : (f g : ℕ) → (g == f) ≡ false → (p : Spot) (b : Block) (u : Framed W)
-          → IsOutside g p.frame (past_block m env p b).frame
-          → (perf_block m env f p b u).frames g ≡ u.frames g
-      perf_block_kept f g nf p no_stmt u o = refl
-      perf_block_kept f g nf p (andthen x rest) u o =
-          let q = past_framed m env p x in
-          let end = (past_block m env q rest).frame in
-          perf_block_kept f g nf q rest (perf_framed m env f p x u)
-          (upper_part g p.frame q.frame end (past_grows p x) o)
-          ∙ perf_kept f g nf p x u (lower_part g p.frame q.frame end (past_block_grows q rest) o)
-
-      perf_arms_kept : (f g : ℕ) → (g == f) ≡ false → (p : Spot) (list : Arms) (u : Framed W)
+      arms_kept : (f g : ℕ) → (g == f) ≡ false → (p : Spot) (list : Arms) (u : Framed W)
           → IsOutside g p.frame (past_arms m env p list).frame
           → (perf_arms m env f p list u).frames g ≡ u.frames g
-      perf_arms_kept f g nf p (otherwise b) u o = perf_block_kept f g nf p b u o
-      perf_arms_kept f g nf p (arm c b rest) u o =
-          let q = past_condition m p c in
-          let r = past_block m env q b in
+      arms_kept f g nf p (otherwise b) u o = block_kept cycle f g nf (into p) b u o
+      arms_kept f g nf p (arm c b rest) u o =
+          let q = into_arm p in
+          let r = behind p (past_block m env q b) in
           let end = (past_arms m env r rest).frame in
-          chosen (holds (value_of m.world (seen_from f u) false p.place.part (expression_read m c) 0)) g
-          (perf_block m env f q b u)
+          chosen (holds (value_of m.world (seen_from f u) false (0 ∷ p.place.path) (expression_read m c) 0)) g
+          (block_done m env cycle f q b u)
           (perf_arms m env f r rest u) u
-          (perf_block_kept f g nf q b u (lower_part g p.frame r.frame end (past_arms_grow r rest) o))
-          (perf_arms_kept f g nf r rest u (upper_part g p.frame r.frame end (past_block_grows q b) o))
+          (block_kept cycle f g nf q b u (lower_part g p.frame r.frame end (past_arms_grow r rest) o))
+          (arms_kept f g nf r rest u (upper_part g p.frame r.frame end (past_block_grows q b) o))
 
     -- ---- the frames of calls
 
@@ -345,7 +301,7 @@ module _ {W : Type 0} (m : Reading W) where
       frames_ascend p (set line x e) = omega arith
       frames_ascend p (call line xs c args) =
           called_ascends p (call line xs c args) xs args (action_of env c) (called_alone env k c)
-      frames_ascend p (choose line list) = arms_ascend p list
+      frames_ascend p (choose line list) = arms_ascend (into p) list
 
       block_ascends : (p : Spot) (b : Block) → Ascend p.frame (past_block m env p b).frame (frames_of_block m env p b)
       block_ascends p no_stmt = omega arith
@@ -357,10 +313,10 @@ module _ {W : Type 0} (m : Reading W) where
 
       arms_ascend : (p : Spot) (list : Arms)
           → Ascend p.frame (past_arms m env p list).frame (frames_of_arms m env p list)
-      arms_ascend p (otherwise b) = block_ascends p b
+      arms_ascend p (otherwise b) = block_ascends (into p) b
       arms_ascend p (arm c b rest) =
-          let q = past_condition m p c in
-          let r = past_block m env q b in
+          let q = into_arm p in
+          let r = behind p (past_block m env q b) in
           joined p.frame r.frame (past_arms m env r rest).frame (frames_of_block m env q b)
           (frames_of_arms m env r rest) (block_ascends q b)
           (arms_ascend r rest)
@@ -374,15 +330,10 @@ module _ {W : Type 0} (m : Reading W) where
   action_alone env k d = record {
     grows = λ p. past_block_grows env k (inner p) (whole_body d);
     calls = λ p. block_ascends env k (inner p) (whole_body d);
-    init = λ p u g o.
+    does = λ w p u g o.
         let end = (past_block m env (inner p) (whole_body d)).frame in
         let up = past_block_grows env k (inner p) (whole_body d) in
-        init_block_kept env k p.frame g (test_apart g p.frame (not_first g p.frame end up o)) (inner p) (whole_body d) u
-        (body_part g p.frame end up o);
-    perf = λ p u g o.
-        let end = (past_block m env (inner p) (whole_body d)).frame in
-        let up = past_block_grows env k (inner p) (whole_body d) in
-        perf_block_kept env k p.frame g (test_apart g p.frame (not_first g p.frame end up o)) (inner p) (whole_body d) u
+        block_kept env k w p.frame g (test_apart g p.frame (not_first g p.frame end up o)) (inner p) (whole_body d) u
         (body_part g p.frame end up o);
   }
 

@@ -9,8 +9,8 @@ use Rattle.cs_meaning.specs.Core as core
 use Rattle.cs_meaning.specs.Initialising as initial
 use Rattle.cs_meaning.specs.Notes.{Note, start, new_note, moved_to}
 use Rattle.cs_meaning.specs.Performing as performing
-use Rattle.cs_udo_meaning.specs.Frames.{Framed, new_framed, framed_in, Reading, spot, actions_before, init_block}
-use Rattle.cs_udo_meaning.specs.Frames.{perf_block}
+use Rattle.cs_meaning.specs.Uses.{beginning, cycle}
+use Rattle.cs_udo_meaning.specs.Frames.{Framed, new_framed, framed_in, Reading, spot, actions_before, block_done}
 use Rattle.cs_udo_meaning.specs.Numbered.{Numbering, Tells}
 use Rattle.cs_udo_meaning.specs.Stands.{Stands}
 
@@ -31,10 +31,10 @@ life o body cycles x = goes_on body cycles (initial.init_block o start body (new
 -- An instrument with frames: its own frame is 0, and its calls have the frames from 1 on. It may call what is defined
 -- in front of it.
 abbrev pub begins : {W : Type 0} → Reading W → List Definition → Instrument → Framed W → Framed W
-begins m ds i u = init_block m (actions_before m i.line ds) 0 (spot start 1) i.body u
+begins m ds i u = block_done m (actions_before m i.line ds) beginning 0 (spot start 1) i.body u
 
 abbrev pub performs : {W : Type 0} → Reading W → List Definition → Instrument → Framed W → Framed W
-performs m ds i u = perf_block m (actions_before m i.line ds) 0 (spot start 1) i.body u
+performs m ds i u = block_done m (actions_before m i.line ds) cycle 0 (spot start 1) i.body u
 
 -- the same instrument, read in another world
 abbrev pub in_world : {W : Type 0} → World W → Reading W → Reading W
