@@ -1,5 +1,7 @@
 -- Resources by number: a number stands for one resource, and its index among the areas is the resource's place.
-use Rattle.std.proofs.Common.{◌≡◌, ℕ, zero, suc, ◌+◌, ◌<◌, List, [], ◌∷◌, ◌++◌, length, take, get_or, slice_get, Some, Bool, true, false, ◌&&◌, nat_eq, refl, sym, ◌∙◌, ap, subst, arith, if◌then◌else◌, eq-eqb, ⊎_elim}
+use Rattle.std.proofs.Common.{◌≡◌, ℕ, zero, suc, ◌+◌, ◌<◌, List, [], ◌∷◌, ◌++◌, length, take, get_or, slice_get, Some}
+use Rattle.std.proofs.Common.{Bool, true, false, ◌&&◌, nat_eq, refl, sym, ◌∙◌, ap, subst, arith, if◌then◌else◌, eq-eqb}
+use Rattle.std.proofs.Common.{⊎_elim}
 use Rattle.std.specs.List.{list_any, position}
 use Rattle.std.proofs.lemmas.List.{map_more, length-map}
 use Rattle.std.proofs.lemmas.List.Quantifiers.{position-Some}
@@ -20,7 +22,8 @@ key_is r s h = sym (same_res_is r s h)
 same_self : (r s : Res) → s ≡ r → same (key r) (key s) ≡ true
 same_self r s e =
     and_from (nat_eq (key r).0 (key s).0) (nat_eq (key r).1 (key s).1)
-    (eq-eqb (key r).0 (key s).0 (ap (λ x. (key x).0) (sym e))) (eq-eqb (key r).1 (key s).1 (ap (λ x. (key x).1) (sym e)))
+    (eq-eqb (key r).0 (key s).0 (ap (λ x. (key x).0) (sym e)))
+    (eq-eqb (key r).1 (key s).1 (ap (λ x. (key x).1) (sym e)))
 
 at_place : (areas : List Area) (place : ℕ) (d : ℕ × ℕ) → place < length areas
     → (a : Area) × (slice_get areas place ≡ Some a) × (get_or (keys_of areas) place d ≡ key a.res)
@@ -28,21 +31,25 @@ at_place [] place d l = absurd (omega arith)
 at_place (a ∷ rest) zero d l = (a, refl, refl)
 at_place (a ∷ rest) (suc place) d l = at_place rest place d (omega arith)
 
-pub place_found : (areas : List Area) (r : Res) (place : ℕ) → position (same (key r)) (keys_of areas) ≡ Some place → HasPlace areas r place
+pub place_found : (areas : List Area) (r : Res) (place : ℕ) → position (same (key r)) (keys_of areas) ≡ Some place
+    → HasPlace areas r place
 place_found areas r place h =
     let found = position-Some (same (key r)) (keys_of areas) place (0, 0) h in
     let near : place < length areas = omega (arith, found.0, length-map areas (λ a. key a.res)) in
     let here = at_place areas place (0, 0) near in
     (here.0, here.1, key_is r here.0.res (subst (λ k. same (key r) k ≡ true) here.2 found.1))
 
-pub any_place : (areas : List Area) (r : Res) (place : ℕ) → HasPlace areas r place → list_any (same (key r)) (keys_of areas) ≡ true
+pub any_place : (areas : List Area) (r : Res) (place : ℕ) → HasPlace areas r place
+    → list_any (same (key r)) (keys_of areas) ≡ true
 any_place [] r place h = absurd (let at = h.1 in cc)
 any_place (a ∷ rest) r zero h =
     let at : a.res ≡ r = let e = h.1 in let f = h.2 in cc in
     or_left (same (key r) (key a.res)) (list_any (same (key r)) (keys_of rest)) (same_self r a.res at)
-any_place (a ∷ rest) r (suc place) h = or_right (same (key r) (key a.res)) (list_any (same (key r)) (keys_of rest)) (any_place rest r place h)
+any_place (a ∷ rest) r (suc place) h =
+    or_right (same (key r) (key a.res)) (list_any (same (key r)) (keys_of rest)) (any_place rest r place h)
 
-some_place : (areas : List Area) (r : Res) → list_any (same (key r)) (keys_of areas) ≡ true → (place : ℕ) × HasPlace areas r place
+some_place : (areas : List Area) (r : Res) → list_any (same (key r)) (keys_of areas) ≡ true
+    → (place : ℕ) × HasPlace areas r place
 some_place [] r h = absurd (cc)
 some_place (a ∷ rest) r h =
     ⊎_elim
@@ -50,11 +57,13 @@ some_place (a ∷ rest) r h =
     (λ later. let found : (place : ℕ) × HasPlace rest r place = some_place rest r later in (suc found.0, found.1))
     (or_cases (same (key r) (key a.res)) (list_any (same (key r)) (keys_of rest)) h)
 
-in_front : (i : ℕ) (areas : List Area) (r : Res) (place : ℕ) → HasPlace (take i areas) r place → (place < i) × HasPlace areas r place
+in_front : (i : ℕ) (areas : List Area) (r : Res) (place : ℕ) → HasPlace (take i areas) r place
+    → (place < i) × HasPlace areas r place
 in_front zero areas r place h = absurd (let at = h.1 in cc)
 in_front (suc i) [] r place h = absurd (let at = h.1 in cc)
 in_front (suc i) (a ∷ rest) r zero h = (omega arith, h)
-in_front (suc i) (a ∷ rest) r (suc place) h = let found : (place < i) × HasPlace rest r place = in_front i rest r place h in (omega arith, found.1)
+in_front (suc i) (a ∷ rest) r (suc place) h = let found : (place < i) × HasPlace rest r place =
+    in_front i rest r place h in (omega arith, found.1)
 
 -- the next area's resource is none of those before
 pub next_is_new : (areas : List Area) (i : ℕ) (d : Area) → IsLaid areas → i < length areas
@@ -65,15 +74,20 @@ next_is_new areas i d laid l =
     (λ h.
     let earlier = some_place (take i areas) r h in
     let before = in_front i areas r earlier.0 earlier.1 in
-    let equal : earlier.0 ≡ i = laid.apart earlier.0 i r before.1 (get_or areas i d, slice_get-get_or areas i d l, refl) in
+    let equal : earlier.0 ≡ i =
+    laid.apart earlier.0 i r before.1 (get_or areas i d, slice_get-get_or areas i d l, refl) in
     omega arith)
 
-pub keys_more : (areas : List Area) (i : ℕ) (d : Area) (k : ℕ × ℕ) (ks more : List (ℕ × ℕ)) → IsLaid areas → i < length areas
-    → k ≡ key (get_or areas i d).res → ks ≡ keys_of (take i areas) → more ≡ (if list_any (same k) ks then ks else ks ++ k ∷ [])
+pub keys_more : (areas : List Area) (i : ℕ) (d : Area) (k : ℕ × ℕ) (ks more : List (ℕ × ℕ)) → IsLaid areas
+    → i < length areas
+    → k ≡ key (get_or areas i d).res → ks ≡ keys_of (take i areas)
+    → more ≡ (if list_any (same k) ks then ks else ks ++ k ∷ [])
     → more ≡ keys_of (take (i + 1) areas)
 keys_more areas i d k ks more laid l is front grown =
     grown
-    ∙ cond-false (list_any (same k) ks) ks (ks ++ k ∷ []) (ap (λ x. list_any (same x) ks) is ∙ ap (λ xs. list_any (same (key (get_or areas i d).res)) xs) front ∙ next_is_new areas i d laid l)
+    ∙ cond-false (list_any (same k) ks) ks (ks ++ k ∷ [])
+    (ap (λ x. list_any (same x) ks) is ∙ ap (λ xs. list_any (same (key (get_or areas i d).res)) xs) front
+    ∙ next_is_new areas i d laid l)
     ∙ ap (λ xs. xs ++ k ∷ []) front
     ∙ ap (λ x. keys_of (take i areas) ++ x ∷ []) is
     ∙ sym (map_more (λ a. key a.res) areas i d l)

@@ -1,5 +1,7 @@
 -- Areas that follow one another: how such a list grows, and that no two of them share a cell.
-use Rattle.std.proofs.Common.{◌≡◌, ℕ, zero, suc, ◌+◌, ◌<◌, ◌≤◌, List, [], ◌∷◌, ◌++◌, length, take, slice_get, get_or, Some, None, Option, true, ◌⊎◌, inl, inr, ⊎_elim, refl, sym, ◌∙◌, ap, subst, arith, ltb-true, leb-true, nat_lt, nat_le}
+use Rattle.std.proofs.Common.{◌≡◌, ℕ, zero, suc, ◌+◌, ◌<◌, ◌≤◌, List, [], ◌∷◌, ◌++◌, length, take, slice_get, get_or}
+use Rattle.std.proofs.Common.{Some, None, Option, true, ◌⊎◌, inl, inr, ⊎_elim, refl, sym, ◌∙◌, ap, subst, arith}
+use Rattle.std.proofs.Common.{ltb-true, leb-true, nat_lt, nat_le}
 use Rattle.std.proofs.lemmas.List.{take_at, take-append-le}
 use Rattle.std.proofs.lemmas.Bool.{and_parts, or_cases, or_left, or_right, cases_order}
 use Rattle.std.proofs.lemmas.List.Sums.{sum_by-cons, sum_by_more_le}
@@ -13,7 +15,8 @@ pub at_push : {X : Type 0} (xs : List X) (x : X) (k : ℕ) (y : X) → slice_get
 at_push [] x zero y at = inr (refl, cc)
 at_push [] x (suc k) y at = absurd (cc)
 at_push (z ∷ xs) x zero y at = inl (at, omega arith)
-at_push (z ∷ xs) x (suc k) y at = ⊎_elim (λ front. inl (front.0, omega arith)) (λ last. inr (ap suc last.0, last.1)) (at_push xs x k y at)
+at_push (z ∷ xs) x (suc k) y at =
+    ⊎_elim (λ front. inl (front.0, omega arith)) (λ last. inr (ap suc last.0, last.1)) (at_push xs x k y at)
 
 pub laid_none : IsLaid []
 laid_none = record {
@@ -21,11 +24,14 @@ laid_none = record {
   apart = λ p q res h k. absurd (let at = h.1 in cc);
 }
 
-pub laid_more : (areas : List Area) (area : Area) → IsLaid areas → area.first ≡ word_count areas → ((place : ℕ) → ¬ (HasPlace areas area.res place))
+pub laid_more : (areas : List Area) (area : Area) → IsLaid areas → area.first ≡ word_count areas
+    → ((place : ℕ) → ¬ (HasPlace areas area.res place))
     → IsLaid (areas ++ area ∷ [])
 laid_more areas area laid first new = record {
   follows = λ place a at. ⊎_elim
-      (λ front. let low : place ≤ length areas = omega (arith, front.1) in laid.follows place a front.0 ∙ ap word_count (sym (take-append-le place areas (area ∷ []) low)))
+      (λ front. let low : place ≤ length areas =
+      omega (arith, front.1) in laid.follows place a front.0
+      ∙ ap word_count (sym (take-append-le place areas (area ∷ []) low)))
       (λ last. ap (λ x. x.first) last.1 ∙ first ∙ ap word_count (sym (take_at areas (area ∷ []) place (sym last.0))))
       (at_push areas area place a at);
   apart = λ p q res h k. ⊎_elim
@@ -41,32 +47,42 @@ laid_more areas area laid first new = record {
 }
 
 -- an area ends where a later one begins, or before
-area_before : (areas : List Area) (p q : ℕ) (a : Area) → p < q → slice_get areas p ≡ Some a → word_count (take p areas) + a.length ≤ word_count (take q areas)
+area_before : (areas : List Area) (p q : ℕ) (a : Area) → p < q → slice_get areas p ≡ Some a
+    → word_count (take p areas) + a.length ≤ word_count (take q areas)
 area_before [] p q a l at = absurd (cc)
 area_before (b ∷ rest) p zero a l at = absurd (omega arith)
 area_before (b ∷ rest) zero (suc q) a l at =
     let long : b.length ≡ a.length = cc in
-    let front : word_count (b ∷ take q rest) ≡ b.length + word_count (take q rest) = sum_by-cons (λ x. x.length) b (take q rest) in
+    let front : word_count (b ∷ take q rest) ≡ b.length + word_count (take q rest) =
+    sum_by-cons (λ x. x.length) b (take q rest) in
     omega arith
 area_before (b ∷ rest) (suc p) (suc q) a l at =
-    let later : word_count (take p rest) + a.length ≤ word_count (take q rest) = area_before rest p q a (omega arith) at in
-    let front_p : word_count (b ∷ take p rest) ≡ b.length + word_count (take p rest) = sum_by-cons (λ x. x.length) b (take p rest) in
-    let front_q : word_count (b ∷ take q rest) ≡ b.length + word_count (take q rest) = sum_by-cons (λ x. x.length) b (take q rest) in
+    let later : word_count (take p rest) + a.length ≤ word_count (take q rest) =
+    area_before rest p q a (omega arith) at in
+    let front_p : word_count (b ∷ take p rest) ≡ b.length + word_count (take p rest) =
+    sum_by-cons (λ x. x.length) b (take p rest) in
+    let front_q : word_count (b ∷ take q rest) ≡ b.length + word_count (take q rest) =
+    sum_by-cons (λ x. x.length) b (take q rest) in
     omega arith
 
-pub area_within : (areas : List Area) (p : ℕ) (a : Area) → IsLaid areas → slice_get areas p ≡ Some a → a.first + a.length ≤ word_count areas
+pub area_within : (areas : List Area) (p : ℕ) (a : Area) → IsLaid areas → slice_get areas p ≡ Some a
+    → a.first + a.length ≤ word_count areas
 area_within areas p a laid at =
     let first : a.first ≡ word_count (take p areas) = laid.follows p a at in
     let here : (get_or areas p a).length ≡ a.length = ap (λ x. x.length) (get_or_from_slice_get areas p a a at) in
     omega (arith, sum_by_more_le (λ x. x.length) areas p a (slice_get_within areas p a at))
 
 -- the area of an option in which an address lies
-in_some : (o : Option Area) (x : ℕ) → in_area o x ≡ true → (a : Area) × (o ≡ Some a) × (a.first ≤ x) × (x < a.first + a.length)
+in_some : (o : Option Area) (x : ℕ) → in_area o x ≡ true
+    → (a : Area) × (o ≡ Some a) × (a.first ≤ x) × (x < a.first + a.length)
 in_some None x h = absurd (cc)
-in_some (Some a) x h = let both = and_parts (nat_le a.first x) (nat_lt x (a.first + a.length)) h in (a, refl, leb-true a.first x both.0, ltb-true x (a.first + a.length) both.1)
+in_some (Some a) x h = let both =
+    and_parts (nat_le a.first x) (nat_lt x (a.first + a.length))
+    h in (a, refl, leb-true a.first x both.0, ltb-true x (a.first + a.length) both.1)
 
 -- no two areas share a cell
-pub one_place : (areas : List Area) (p q x : ℕ) → IsLaid areas → in_area (slice_get areas p) x ≡ true → in_area (slice_get areas q) x ≡ true → p ≡ q
+pub one_place : (areas : List Area) (p q x : ℕ) → IsLaid areas → in_area (slice_get areas p) x ≡ true
+    → in_area (slice_get areas q) x ≡ true → p ≡ q
 one_place areas p q x laid hp hq =
     let a = in_some (slice_get areas p) x hp in
     let b = in_some (slice_get areas q) x hq in
@@ -88,14 +104,19 @@ covered_place areas (place ∷ places) x h = ⊎_elim
     (λ later. let rest = covered_place areas places x later in (suc rest.0, rest.1, rest.2, rest.3))
     (or_cases (in_area (slice_get areas place) x) (covers areas places x) h)
 
-pub covers_place : (areas : List Area) (places : List ℕ) (i place x : ℕ) → slice_get places i ≡ Some place → in_area (slice_get areas place) x ≡ true
+pub covers_place : (areas : List Area) (places : List ℕ) (i place x : ℕ) → slice_get places i ≡ Some place
+    → in_area (slice_get areas place) x ≡ true
     → covers areas places x ≡ true
 covers_place areas [] i place x at h = absurd (cc)
-covers_place areas (y ∷ places) zero place x at h = or_left (in_area (slice_get areas y) x) (covers areas places x) (let e : y ≡ place = cc in subst (λ z. in_area (slice_get areas z) x ≡ true) (sym e) h)
-covers_place areas (y ∷ places) (suc i) place x at h = or_right (in_area (slice_get areas y) x) (covers areas places x) (covers_place areas places i place x at h)
+covers_place areas (y ∷ places) zero place x at h =
+    or_left (in_area (slice_get areas y) x) (covers areas places x)
+    (let e : y ≡ place = cc in subst (λ z. in_area (slice_get areas z) x ≡ true) (sym e) h)
+covers_place areas (y ∷ places) (suc i) place x at h =
+    or_right (in_area (slice_get areas y) x) (covers areas places x) (covers_place areas places i place x at h)
 
 -- a covered address is one of the layout's
-pub covered_below : (areas : List Area) (places : List ℕ) (x : ℕ) → IsLaid areas → covers areas places x ≡ true → x < word_count areas
+pub covered_below : (areas : List Area) (places : List ℕ) (x : ℕ) → IsLaid areas → covers areas places x ≡ true
+    → x < word_count areas
 covered_below areas places x laid h =
     let at = covered_place areas places x h in
     let a = in_some (slice_get areas at.1) x at.3 in

@@ -1,16 +1,19 @@
 -- What follows from the frame law alone, for any kind of job.
-use Rattle.std.proofs.Common.{◌≡◌, ℕ, zero, suc, ◌+◌, ◌-◌, ◌<◌, ◌≤◌, List, [], ◌∷◌, map, length, slice_get, Some, refl, sym, ◌∙◌, ap, subst, arith}
+use Rattle.std.proofs.Common.{◌≡◌, ℕ, zero, suc, ◌+◌, ◌-◌, ◌<◌, ◌≤◌, List, [], ◌∷◌, map, length, slice_get, Some, refl}
+use Rattle.std.proofs.Common.{sym, ◌∙◌, ap, subst, arith}
 use Rattle.cs_cells.specs.Cells.{Cells, cell, Agree}
 use Rattle.cs_cells.specs.Meaning.{Meaning, Frames, Uses, Writes}
 use Rattle.cs_cells.specs.Serial.{serial_cells, serial_jobs, before, AllValid, IsQuiet, LastWriter, AsSerial}
 
 module _ {J : Type 0} (M : Meaning J) where
-  pub before-suc : (js : List J) (c : Cells) (t : ℕ) (j : J) → slice_get js t ≡ Some j → before M js c (suc t) ≡ M.leaves j (before M js c t)
+  pub before-suc : (js : List J) (c : Cells) (t : ℕ) (j : J) → slice_get js t ≡ Some j
+      → before M js c (suc t) ≡ M.leaves j (before M js c t)
   before-suc [] c t j at = cc
   before-suc (x ∷ js) c zero j at = cc
   before-suc (x ∷ js) c (suc t) j at = before-suc js (M.leaves x c) t j at
 
-  pub job_at : (js : List J) (c : Cells) (t : ℕ) (j : J) → slice_get js t ≡ Some j → slice_get (serial_jobs M js c) t ≡ Some (M.after j (before M js c t))
+  pub job_at : (js : List J) (c : Cells) (t : ℕ) (j : J) → slice_get js t ≡ Some j
+      → slice_get (serial_jobs M js c) t ≡ Some (M.after j (before M js c t))
   job_at [] c t j at = cc
   job_at (x ∷ js) c zero j at = cc
   job_at (x ∷ js) c (suc t) j at = job_at js (M.leaves x c) t j at
@@ -32,18 +35,23 @@ module _ {J : Type 0} (M : Meaning J) (F : Frames M) where
   -- a serial run leaves the footprints and the areas of its jobs, and the number of cells
   pub foot-serial_jobs : (js : List J) (c : Cells) → map M.foot (serial_jobs M js c) ≡ map M.foot js
   foot-serial_jobs [] c = refl
-  foot-serial_jobs (x ∷ js) c = ap (λ f. f ∷ map M.foot (serial_jobs M js (M.leaves x c))) (F.foot_after x c) ∙ ap (λ fs. M.foot x ∷ fs) (foot-serial_jobs js (M.leaves x c))
+  foot-serial_jobs (x ∷ js) c =
+      ap (λ f. f ∷ map M.foot (serial_jobs M js (M.leaves x c))) (F.foot_after x c)
+      ∙ ap (λ fs. M.foot x ∷ fs) (foot-serial_jobs js (M.leaves x c))
 
   pub areas-serial_jobs : (js : List J) (c : Cells) → map M.areas (serial_jobs M js c) ≡ map M.areas js
   areas-serial_jobs [] c = refl
-  areas-serial_jobs (x ∷ js) c = ap (λ f. f ∷ map M.areas (serial_jobs M js (M.leaves x c))) (F.areas_after x c) ∙ ap (λ fs. M.areas x ∷ fs) (areas-serial_jobs js (M.leaves x c))
+  areas-serial_jobs (x ∷ js) c =
+      ap (λ f. f ∷ map M.areas (serial_jobs M js (M.leaves x c))) (F.areas_after x c)
+      ∙ ap (λ fs. M.areas x ∷ fs) (areas-serial_jobs js (M.leaves x c))
 
   pub length-serial_cells : (js : List J) (c : Cells) → length (serial_cells M js c) ≡ length c
   length-serial_cells [] c = refl
   length-serial_cells (x ∷ js) c = length-serial_cells js (M.leaves x c) ∙ F.long x c
 
   -- a job that does not write a cell leaves it
-  pub passed_by : (js : List J) (c : Cells) → AllValid M js → (t a : ℕ) → ((j : J) → slice_get js t ≡ Some j → ¬ (Writes M j a))
+  pub passed_by : (js : List J) (c : Cells) → AllValid M js → (t a : ℕ)
+      → ((j : J) → slice_get js t ≡ Some j → ¬ (Writes M j a))
       → cell (before M js c (suc t)) a ≡ cell (before M js c t) a
   passed_by [] c s zero a q = refl
   passed_by [] c s (suc t) a q = refl
@@ -68,9 +76,11 @@ module _ {J : Type 0} (M : Meaning J) (F : Frames M) where
     opening = λ t a q. passed_by_all js c s 0 a t t (omega arith) q;
   }
 
-  pub as_serial : (js : List J) (c : Cells) (t : ℕ) (j : J) (d : Cells) → AllValid M js → slice_get js t ≡ Some j → Agree (Uses M j) d (before M js c t)
+  pub as_serial : (js : List J) (c : Cells) (t : ℕ) (j : J) (d : Cells) → AllValid M js → slice_get js t ≡ Some j
+      → Agree (Uses M j) d (before M js c t)
       → AsSerial M js c t j d
   as_serial js c t j d s at same = record {
     job = job_at M js c t j at ∙ ap Some (sym (F.job j d (before M js c t) (s t j at) same));
-    cells = subst (λ e. Agree (Uses M j) (M.leaves j d) e) (sym (before-suc M js c t j at)) (F.cells j d (before M js c t) (s t j at) same);
+    cells = subst (λ e. Agree (Uses M j) (M.leaves j d) e) (sym (before-suc M js c t j at))
+        (F.cells j d (before M js c t) (s t j at) same);
   }

@@ -1,4 +1,5 @@
-use Rattle.std.specs.Prelude.{◌≡◌, ◌<◌, ℕ, List, length, take, sum_by, nat_lt, Option, Some, None, slice_get, if◌then◌else◌}
+use Rattle.std.specs.Prelude.{◌≡◌, ◌<◌, ℕ, List, length, take, sum_by, nat_lt, Option, Some, None, slice_get}
+use Rattle.std.specs.Prelude.{if◌then◌else◌}
 use Rattle.std.specs.List.{Contains}
 use Rattle.std.specs.List.Sorted.{IsStrictlyIncreasing}
 use Rattle.cs_base.specs.declared.resource.Res.{Res}
@@ -18,7 +19,8 @@ word_count areas = sum_by (λ a. a.length) areas
 
 -- Areas follow one another from address 0 without gaps, and no resource has two.
 pub record IsLaid (areas : List Area) : Type 0 where
-  pub follows : (place : ℕ) (area : Area) → slice_get areas place ≡ Some area → area.first ≡ word_count (take place areas)
+  pub follows : (place : ℕ) (area : Area) → slice_get areas place ≡ Some area
+      → area.first ≡ word_count (take place areas)
   pub apart : (p q : ℕ) (res : Res) → HasPlace areas res p → HasPlace areas res q → p ≡ q
 
 -- the limit on resources, and then the limit on words
@@ -27,8 +29,8 @@ limit_passed areas =
     if nat_lt most_resources (length areas) then Some (record { limit = limit.Resources; line = 0 })
     else (if nat_lt most_words (word_count areas) then Some (record { limit = limit.Words; line = 0 }) else None)
 
--- A footprint in a layout of n areas names each place once, ascending, each one of the layout's; what is written is also
--- used.
+-- A footprint in a layout of n areas names each place once, ascending, each one of the layout's; what is written is
+-- also used.
 pub record IsFootprint (n : ℕ) (f : Footprint) : Type 0 where
   pub uses : IsStrictlyIncreasing f.uses
   pub writes : IsStrictlyIncreasing f.writes

@@ -1,4 +1,5 @@
-use Rattle.std.specs.Prelude.{◌≡◌, ℕ, ℤ, pos, List, [], ◌∷◌, map, length, ◌+◌, Bool, false, ◌&&◌, ◌||◌, nat_le, nat_lt, Option, Some, None, slice_get, slice_index_or}
+use Rattle.std.specs.Prelude.{◌≡◌, ℕ, ℤ, pos, List, [], ◌∷◌, map, length, ◌+◌, Bool, false, ◌&&◌, ◌||◌, nat_le, nat_lt}
+use Rattle.std.specs.Prelude.{Option, Some, None, slice_get, slice_index_or}
 use Rattle.std.specs.Int.{cast_signed, w64}
 use Rattle.cs_base.specs.Numbers.{clamp}
 use Rattle.cs_cells.specs.declared.footprint.Area.{Area}

@@ -3,7 +3,8 @@ use Rattle.cs_cells.specs.declared.footprint.Area.{Area}
 use Rattle.cs_cells.specs.declared.footprint.Footprint.{Footprint}
 use Rattle.cs_cells.specs.Cells.{Cells, cell, covers, Agree}
 
--- What a kind of job means: the layout and the footprint of each, the job and the cells after its run, and what is true of each job that code holds.
+-- What a kind of job means: the layout and the footprint of each, the job and the cells after its run, and what is true
+-- of each job that code holds.
 pub record Meaning (J : Type 0) : Type 1 where
   pub areas : J → List Area
   pub foot : J → Footprint

@@ -31,12 +31,14 @@ module _ {J : Type 0} (M : Meaning J) where
   abbrev pub IsQuiet : List J → ℕ → ℕ → ℕ → Type 0
   IsQuiet js p t a = (q : ℕ) (j : J) → p ≤ q → q < t → slice_get js q ≡ Some j → ¬ (Writes M j a)
 
-  -- The first law: the value of a cell before a job is that after the last job before it that writes the cell, or the opening value.
+  -- The first law: the value of a cell before a job is that after the last job before it that writes the cell, or the
+  -- opening value.
   pub record LastWriter (js : List J) (c : Cells) : Type 0 where
     pub written : (p t a : ℕ) → p < t → IsQuiet js (suc p) t a → cell (before js c t) a ≡ cell (after js c p) a
     pub opening : (t a : ℕ) → IsQuiet js 0 t a → cell (before js c t) a ≡ cell c a
 
-  -- The second law: on cells that agree where the job uses them, it ends as in the serial run and leaves there what the serial run leaves.
+  -- The second law: on cells that agree where the job uses them, it ends as in the serial run and leaves there what the
+  -- serial run leaves.
   pub record AsSerial (js : List J) (c : Cells) (t : ℕ) (j : J) (d : Cells) : Type 0 where
     pub job : slice_get (serial_jobs js c) t ≡ Some (M.after j d)
     pub cells : Agree (Uses M j) (M.leaves j d) (after js c t)

@@ -7,7 +7,7 @@ use Rattle.cs_base.specs.declared.spaces.Spaces.{Spaces}
 use Rattle.cs_ir.specs.declared.op.Op.{Op}
 use Rattle.cs_ir.specs.declared.register.Reg.{Reg}
 use Rattle.cs_meaning.specs.Core.{Stmt, core_call, set, unit, zak, store, out, out_at, ask, turnoff, nothing, choose}
-use Rattle.cs_meaning.specs.Notes.{Place}
+use Rattle.cs_code.specs.inner.Kept.{Place}
 use Rattle.cs_typed.specs.TypedTree.{Expression, Argument, value, text}
 use Rattle.cs_typed.specs.declared.tree.Var.{Var as Variable}
 use Rattle.cs_words.specs.declared.catalogue.Opcode.{Opcode}

@@ -5,7 +5,7 @@ use Rattle.cs_base.specs.declared.resource.Rate.{Rate}
 use Rattle.cs_base.specs.declared.resource.Rate.TheVariants as rate
 use Rattle.cs_ir.specs.declared.op.Op.{Op}
 use Rattle.cs_meaning.specs.Core.{Stmt, Block, Arms, no_stmt, andthen, choose, arm, otherwise}
-use Rattle.cs_meaning.specs.Notes.{Place, past, past_parts, past_stmt, past_block}
+use Rattle.cs_code.specs.inner.Kept.{Place, past, past_parts, past_stmt, past_block}
 use Rattle.cs_typed.specs.TypedTree.{Expression}
 use Rattle.cs_code.specs.declared.frame.Pass.{Pass}
 use Rattle.cs_code.specs.declared.frame.Pass.TheVariants as pass

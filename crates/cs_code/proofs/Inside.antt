@@ -1,10 +1,15 @@
--- What the simulation asks of a frame and of statements: local variables below their limits, kept values below their end.
-use Rattle.std.proofs.Common.{◌≡◌, ℕ, ◌+◌, ◌<◌, ◌≤◌, Bool, true, false, List, [], ◌∷◌}
+-- What the simulation asks of a frame and of statements: local variables below their limits, kept values below their
+-- end.
+use Rattle.std.proofs.Common.{◌≡◌, ◌∙◌, ℕ, zero, suc, ◌+◌, ◌<◌, ◌≤◌, Bool, true, false, List, [], ◌∷◌, Option, Some}
+use Rattle.std.proofs.Common.{sym, ap, subst, arith, add-zero}
 use Rattle.cs_base.specs.declared.resource.Rate.{Rate}
 use Rattle.cs_base.specs.declared.resource.Rate.TheVariants as rate
 use Rattle.cs_words.specs.declared.catalogue.Opcode.{Opcode}
 use Rattle.cs_ir.specs.Machine.{gives}
-use Rattle.cs_meaning.specs.Core.{Stmt, Block, Arms, set, unit, zak, store, out, out_at, ask, turnoff, nothing, choose, no_stmt, andthen, otherwise, arm}
+use Rattle.cs_meaning.specs.Core.{Stmt, Block, Arms, set, unit, zak, store, out, out_at, ask, turnoff, nothing, choose}
+use Rattle.cs_meaning.specs.Core.{no_stmt, andthen, otherwise, arm}
+use Rattle.cs_meaning.specs.Notes as meaning
+use Rattle.cs_meaning.specs.Notes.{Path, next}
 use Rattle.cs_typed.specs.TypedTree.{Expression}
 use Rattle.cs_typed.specs.Variables.{EachInExpression}
 use Rattle.cs_typed.specs.WellRated.{node_rate}
@@ -12,21 +17,71 @@ use Rattle.cs_typed.specs.declared.tree.Var.{Var as Variable}
 use Rattle.cs_typed.specs.declared.tree.Var.TheVariants.{Local, Global}
 use Rattle.cs_code.specs.Means.{Plan}
 use Rattle.cs_code.specs.inner.Frames.{Frame}
+use Rattle.cs_code.specs.inner.Kept.{Place, parts, inward, register_from}
 
--- A frame has room: temporaries stand beyond all locals, and kept values between the locals and the temporaries.
-pub record Fits (f : Frame) (lim : Rate → ℕ) (parts : ℕ) : Type 0 where
+-- A frame has room: temporaries stand beyond all locals, and kept values between the locals and the temporaries, each
+-- in a register of its own.
+pub record Fits (f : Frame) (lim : Rate → ℕ) (placed : Path → Option ℕ) : Type 0 where
   pub locals : (r : Rate) → lim r ≤ f.base r
-  pub below : lim rate.Init ≤ f.kept
-  pub room : f.kept + parts ≤ f.base rate.Init
+  pub room : (p : Path) (n : ℕ) → placed p ≡ Some n → (lim rate.Init ≤ n) × (n < f.base rate.Init)
+  pub apart : (p q : Path) (n : ℕ) → placed p ≡ Some n → placed q ≡ Some n → p ≡ q
 
--- the plan of registers that a frame makes
-abbrev pub plan_of : Frame → (Rate → ℕ) → ℕ → Plan
-plan_of f lim parts = record { locals = lim; kept = f.kept; parts = parts }
+-- the plan of these registers
+abbrev pub plan_of : (Rate → ℕ) → (Path → Option ℕ) → Plan
+plan_of lim placed = record { locals = lim; kept = placed }
 
--- where parts are read as they were kept, they end below a limit
-abbrev pub Bound : Bool → ℕ → ℕ → Type 0
-Bound true parts n = Unit {0}
-Bound false parts n = n ≤ parts
+-- What is kept of a part at a path, and of parts from a path on, has its registers by numbers.
+abbrev pub Lays : ℕ → (Path → Option ℕ) → Path → (Path → Option ℕ) → Type 0
+Lays first placed p n = (q : Path) → placed (inward q p) ≡ register_from first (n q)
+
+abbrev pub behind : ℕ → Path → Path
+behind zero p = p
+behind (suc k) p = behind k (next p)
+
+abbrev pub LaysOn : ℕ → (Path → Option ℕ) → Path → (Path → Option ℕ) → Type 0
+LaysOn first placed p n = (k : ℕ) (q : Path) → placed (inward q (behind k p)) ≡ register_from first (n (k ∷ q))
+
+behind_is : (k n : ℕ) (p : Path) → behind k (n ∷ p) ≡ (k + n) ∷ p
+behind_is zero n p = ap (λ j. j ∷ p) (none n)
+  where
+    none : (n : ℕ) → n ≡ 0 + n
+    none n = omega arith
+behind_is (suc k) n p = behind_is k (suc n) p ∙ ap (λ j. j ∷ p) (further k n)
+  where
+    further : (k n : ℕ) → k + suc n ≡ suc k + n
+    further k n = omega arith
+
+-- the parts of what stands at a path
+pub lays_on : (first : ℕ) (placed : Path → Option ℕ) (p : Path) (n : Path → Option ℕ) → Lays first placed p n
+    → LaysOn first placed (0 ∷ p) n
+lays_on first placed p n h k q =
+    subst (λ r. placed (inward q r) ≡ register_from first (n (k ∷ q)))
+    (sym (behind_is k 0 p ∙ ap (λ j. j ∷ p) (add-zero k)))
+    (h (k ∷ q))
+
+-- the place of the tree that has a path and the number of a unit
+abbrev pub stands_at : Path → Place → meaning.Place
+stands_at path p = record { path = path; unit = p.unit }
+
+-- where parts are read as they were kept, they have their registers
+abbrev pub Reads : Bool → Type 0 → Type 0
+Reads true A = Unit {0}
+Reads false A = A
+
+pub reads_on : (whole : Bool) (first : ℕ) (placed : Path → Option ℕ) (p : Path) (n : Path → Option ℕ)
+    → Reads whole (Lays first placed p n) → Reads whole (LaysOn first placed (0 ∷ p) n)
+reads_on true first placed p n h = tt
+reads_on false first placed p n h = lays_on first placed p n h
+
+pub reads_first : (whole : Bool) (first : ℕ) (placed : Path → Option ℕ) (p : Path) (n m : Path → Option ℕ)
+    → Reads whole (LaysOn first placed p (parts n m)) → Reads whole (Lays first placed p n)
+reads_first true first placed p n m h = tt
+reads_first false first placed p n m h = λ q. h 0 q
+
+pub reads_rest : (whole : Bool) (first : ℕ) (placed : Path → Option ℕ) (p : Path) (n m : Path → Option ℕ)
+    → Reads whole (LaysOn first placed p (parts n m)) → Reads whole (LaysOn first placed (next p) m)
+reads_rest true first placed p n m h = tt
+reads_rest false first placed p n m h = λ k q. h (suc k) q
 
 abbrev pub InsideVar : (Rate → ℕ) → Variable → Type 0
 InsideVar lim (Local r n) = n < lim r

@@ -3,6 +3,7 @@ use Rattle.std.proofs.Common.{◌≡◌, ℕ, ◌+◌, ◌<◌, ◌≤◌, max, 
 use Rattle.std.specs.List.{All, AllZip, Contains}
 use Rattle.std.proofs.lemmas.Grind.{flat_map-append}
 use Rattle.std.proofs.lemmas.List.{map_more, map-append, get_or-map, length-map}
+use Rattle.cs_base.specs.Rates.{at_rate}
 use Rattle.cs_base.specs.declared.per_rate.PerRate.{PerRate}
 use Rattle.cs_base.specs.declared.resource.Rate.{Rate}
 use Rattle.cs_base.specs.declared.resource.Rate.TheVariants as rate
@@ -11,12 +12,12 @@ use Rattle.cs_ir.specs.Cycles.{are_of_cycle}
 use Rattle.cs_ir.specs.Instruments.{Numbered, numbers_of}
 use Rattle.cs_base.specs.declared.spaces.Spaces.{Spaces}
 use Rattle.cs_ir.specs.Resources.{NameTheSame, ops_touch}
-use Rattle.cs_ir.specs.Validity.{count_of, fine_from}
+use Rattle.cs_ir.specs.Validity.{fine_from}
 use Rattle.cs_ir.specs.declared.op.Code.{Code}
 use Rattle.cs_ir.specs.declared.op.Op.{Op}
 use Rattle.cs_ir.specs.declared.register.Counts.{Counts}
 use Rattle.cs_meaning.specs.Core.{core}
-use Rattle.cs_meaning.specs.Notes.{start, past_block}
+use Rattle.cs_code.specs.inner.Kept.{start, past_block}
 use Rattle.cs_meaning.specs.Uses.{beginning, block_touched, cycle}
 use Rattle.cs_typed.specs.TypedTree as typed
 use Rattle.cs_typed.specs.Variables.{IsCounted, EachInBlock}
@@ -35,12 +36,12 @@ use Rattle.cs_code.proofs.Resources.{block_begins, block_cycles}
 use Rattle.cs_code.proofs.Validity.{units_counted, init_valid, perf_valid, init_named_rated, perf_cycles_rated, perf_named_rated}
 
 -- counts that reach two codes reach each of them
-reaches_first : (units : ℕ) (g h : Rate → ℕ) (r : Rate) → g r ≤ count_of (reached (no_registers units) (λ q. max (g q) (h q))) r
+reaches_first : (units : ℕ) (g h : Rate → ℕ) (r : Rate) → g r ≤ at_rate (reached (no_registers units) (λ q. max (g q) (h q))).registers r
 reaches_first units g h rate.Init = omega arith
 reaches_first units g h rate.Control = omega arith
 reaches_first units g h rate.Audio = omega arith
 
-reaches_second : (units : ℕ) (g h : Rate → ℕ) (r : Rate) → h r ≤ count_of (reached (no_registers units) (λ q. max (g q) (h q))) r
+reaches_second : (units : ℕ) (g h : Rate → ℕ) (r : Rate) → h r ≤ at_rate (reached (no_registers units) (λ q. max (g q) (h q))).registers r
 reaches_second units g h rate.Init = omega arith
 reaches_second units g h rate.Control = omega arith
 reaches_second units g h rate.Audio = omega arith
@@ -63,27 +64,27 @@ module _ (spaces : Spaces) (locals : PerRate ℕ) (s : Setting) (t : typed.Block
   units_are : counts.units ≡ (past_block start (core spaces t)).unit
   units_are = ap (λ (c : Counts). c.units) made.counts_are
 
-  init_reached : (r : Rate) → ops_limit r init ≤ count_of counts r
+  init_reached : (r : Rate) → ops_limit r init ≤ at_rate counts.registers r
   init_reached r =
-      subst (λ c. ops_limit r init ≤ count_of c r) (sym made.counts_are)
+      subst (λ (c : Counts). ops_limit r init ≤ at_rate c.registers r) (sym made.counts_are)
       (reaches_first (past_block start (core spaces t)).unit (λ q. ops_limit q init) (λ q. ops_limit q perf) r)
 
-  perf_reached : (r : Rate) → ops_limit r perf ≤ count_of counts r
+  perf_reached : (r : Rate) → ops_limit r perf ≤ at_rate counts.registers r
   perf_reached r =
-      subst (λ c. ops_limit r perf ≤ count_of c r) (sym made.counts_are)
+      subst (λ (c : Counts). ops_limit r perf ≤ at_rate c.registers r) (sym made.counts_are)
       (reaches_second (past_block start (core spaces t)).unit (λ q. ops_limit q init) (λ q. ops_limit q perf) r)
 
   pub made_init_valid : fine_from counts (length init) 0 init ≡ true
   made_init_valid =
       let units : (past_block start (core spaces t)).unit ≤ counts.units = (let e = units_are in omega arith) in
       subst (λ ops. fine_from counts (length ops) 0 ops ≡ true) (sym made.init_is)
-      (init_valid spaces s t rated f counts units (λ r. subst (λ ops. ops_limit r ops ≤ count_of counts r) made.init_is (init_reached r)))
+      (init_valid spaces s t rated f counts units (λ r. subst (λ ops. ops_limit r ops ≤ at_rate counts.registers r) made.init_is (init_reached r)))
 
   pub made_perf_valid : fine_from counts (length perf) 0 perf ≡ true
   made_perf_valid =
       let units : (past_block start (core spaces t)).unit ≤ counts.units = (let e = units_are in omega arith) in
       subst (λ ops. fine_from counts (length ops) 0 ops ≡ true) (sym made.perf_is)
-      (perf_valid spaces s t rated f counts units (λ r. subst (λ ops. ops_limit r ops ≤ count_of counts r) made.perf_is (perf_reached r)))
+      (perf_valid spaces s t rated f counts units (λ r. subst (λ ops. ops_limit r ops ≤ at_rate counts.registers r) made.perf_is (perf_reached r)))
 
   made_means : EachInBlock (IsCounted locals) t → Means (core spaces t) init perf
   made_means counted =

@@ -13,6 +13,7 @@ pub mod Lists
 pub mod Means
 pub mod Named
 pub mod Nodes
+pub mod Numbers
 pub mod Parts
 pub mod Performs
 pub mod PlainWorld

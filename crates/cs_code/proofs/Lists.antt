@@ -3,7 +3,7 @@ use Rattle.std.proofs.Common.{◌≡◌, ◌∙◌, ◌+◌, ◌<◌, ◌++◌, 
 use Rattle.std.proofs.lemmas.List.{append_assoc, append-nil, drop_more}
 use Rattle.std.specs.Borrow.{Bor}
 use Rattle.cs_meaning.specs.Core.{settled, moving, values_of}
-use Rattle.cs_meaning.specs.Notes.{past}
+use Rattle.cs_code.specs.inner.Kept.{past}
 use Rattle.cs_typed.specs.TypedTree.{Expression, Argument, value, text, expression}
 use Rattle.cs_typed.specs.declared.tree.TypedExpr.{TypedExpr}
 use Rattle.cs_words.specs.Catalogue.{Row, letter_at, is_settled}

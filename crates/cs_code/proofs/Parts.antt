@@ -1,9 +1,12 @@
 -- The code of assignments, kept parts and units does what they mean.
-use Rattle.std.proofs.Common.{◌≡◌, ℕ, ◌+◌, ◌<◌, ◌≤◌, ℤ, Bool, true, false, List, [], ◌∷◌, ◌++◌, length, map, if◌then◌else◌, refl, sym, ◌∙◌, ap, subst, arith, le_trans}
+use Rattle.std.proofs.Common.{◌≡◌, ℕ, suc, ◌+◌, ◌<◌, ◌≤◌, ℤ, Bool, true, false, List, [], ◌∷◌, ◌++◌, length, map}
+use Rattle.std.proofs.Common.{Option, Some, if◌then◌else◌, refl, sym, ◌∙◌, ap, subst, arith, le_trans}
 use Rattle.std.proofs.Common.{eqb, eqb-true}
-use Rattle.std.proofs.lemmas.Bool.{and_parts, eqb-false}
+use Rattle.std.proofs.lemmas.Bool.{and_parts}
 use Rattle.cs_base.proofs.Rates.{same_rate_is}
-use Rattle.cs_base.proofs.Tests.{by_test}
+use Rattle.std.proofs.lemmas.Slice.Eq.{bytes_eq-Decides}
+use Rattle.std.specs.Str.{bytes_eq as same_path}
+use Rattle.cs_base.proofs.Tests.{by_test, some_is}
 use Rattle.cs_base.specs.Rates.{same_rate, res_rate}
 use Rattle.cs_base.specs.declared.resource.Rate.{Rate}
 use Rattle.cs_base.specs.declared.resource.Rate.TheVariants as rate
@@ -18,43 +21,51 @@ use Rattle.cs_ir.specs.declared.op.Op.{Op}
 use Rattle.cs_ir.specs.declared.op.Reach.{Reach}
 use Rattle.cs_ir.specs.declared.register.Reg.{Reg}
 use Rattle.cs_meaning.specs.Initialising.{put_kept, keep, keep_all, started, sought}
-use Rattle.cs_meaning.specs.Notes.{Note, reg, moved_to, past, past_all, assign, value, values, first_value, done}
+use Rattle.cs_meaning.specs.Notes.{Note, Path, next, reg, moved_to, assign, value, values, first_value, done}
+use Rattle.cs_code.specs.inner.Kept.{past, itself, nowhere, numbers, all_numbers}
 use Rattle.cs_typed.specs.TypedTree.{Expression, number, var, field, head, neg, pair, pick, apply}
 use Rattle.cs_typed.specs.WellRated.{node_rate}
 use Rattle.cs_typed.specs.declared.tree.Var.{Var as Variable}
 use Rattle.cs_typed.specs.declared.tree.Var.TheVariants.{Local, Global}
 use Rattle.cs_code.specs.Means.{Stands}
 use Rattle.cs_code.specs.inner.Frames.{Frame, op_of, kept_reg, temp, spot, spots}
-use Rattle.cs_code.specs.inner.Code.{code, operand_code, operands_code, kept_code, keep_code, keep_all_code, set_code, target, given_code, on_code, run_code, start_code, unit_code, zak_code, seek_code, store_code, ask_code}
-use Rattle.cs_code.proofs.Expressions.{Wrote, live_same, stands_same, operands_run, operand_runs, code_runs, past_grows, past_all_grows}
+use Rattle.cs_code.specs.inner.Code.{code, operand_code, operands_code, kept_code, keep_code, keep_all_code, set_code}
+use Rattle.cs_code.specs.inner.Code.{target, given_code, on_code, run_code, start_code, unit_code, zak_code, seek_code}
+use Rattle.cs_code.specs.inner.Code.{store_code, ask_code}
+use Rattle.cs_code.proofs.Expressions.{Wrote, live_same, stands_same, operands_run, operand_runs, code_runs}
 use Rattle.cs_code.proofs.Named.{target_rate}
-use Rattle.cs_code.proofs.Inside.{Fits, plan_of, Bound, InsideVar, Inside, InsideAll, Takes}
+use Rattle.cs_code.proofs.Inside.{Fits, plan_of, Lays, LaysOn, Reads, InsideVar, Inside, InsideAll, Takes}
 use Rattle.cs_code.proofs.Runs.{Live, run_append, live_step, run_snoc, apart, put_here, put_other, held_again}
 
--- What a note can do in a world without being refused: only the start of a unit, the search for a table, and a note that it asks
--- for, may be refused.
+-- What a note can do in a world without being refused: only the start of a unit, the search for a table, and a note
+-- that it asks for, may be refused.
 pub record Quiet {W : Type 0} (o : World W) : Type 0 where
   pub save : (g : Res) (w : Wave) (x : W) → o.refused (o.save g w x) ≡ o.refused x
-  pub does : (opcode : Opcode) (r : Rate) (u : ℕ) (reach : Reach) (ws : List Wave) (x : W) → o.refused (o.does opcode r u reach ws x).0 ≡ o.refused x
-  pub store : (opcode : Opcode) (r : Rate) (reach : Reach) (ws : List Wave) (x : W) → o.refused (o.store opcode r reach ws x) ≡ o.refused x
-  pub zak : (opcode : Opcode) (reach : Reach) (ws : List Wave) (x : W) → o.refused (o.zak opcode reach ws x).0 ≡ o.refused x
+  pub does : (opcode : Opcode) (r : Rate) (u : ℕ) (reach : Reach) (ws : List Wave) (x : W)
+      → o.refused (o.does opcode r u reach ws x).0 ≡ o.refused x
+  pub store : (opcode : Opcode) (r : Rate) (reach : Reach) (ws : List Wave) (x : W)
+      → o.refused (o.store opcode r reach ws x) ≡ o.refused x
+  pub zak : (opcode : Opcode) (reach : Reach) (ws : List Wave) (x : W)
+      → o.refused (o.zak opcode reach ws x).0 ≡ o.refused x
   pub out : (c : ℕ) (w : Wave) (x : W) → o.refused (o.out c w x) ≡ o.refused x
   pub out_at : (k w : Wave) (x : W) → o.refused (o.out_at k w x) ≡ o.refused x
   pub turnoff : (x : W) → o.refused (o.turnoff x) ≡ o.refused x
 
 -- A code has led to a note; and has done so without a touch on the world.
-pub record Reached {W : Type 0} (f : Frame) (lim : Rate → ℕ) (parts : ℕ) (s : Note W) (m n : Machine W) : Type 0 where
-  pub stands : Stands (plan_of f lim parts) s n
+pub record Reached {W : Type 0} (lim : Rate → ℕ) (placed : Path → Option ℕ) (s : Note W) (m n : Machine W) : Type
+    0 where
+  pub stands : Stands (plan_of lim placed) s n
   pub next : n.next ≡ m.next
 
-pub record Kept {W : Type 0} (f : Frame) (lim : Rate → ℕ) (parts : ℕ) (s : Note W) (m n : Machine W) : Type 0 where
-  pub stands : Stands (plan_of f lim parts) s n
+pub record Kept {W : Type 0} (lim : Rate → ℕ) (placed : Path → Option ℕ) (s : Note W) (m n : Machine W) : Type 0 where
+  pub stands : Stands (plan_of lim placed) s n
   pub next : n.next ≡ m.next
   pub world : n.world ≡ m.world
 
-pub live_kept : {W : Type 0} (o : World W) (f : Frame) (lim : Rate → ℕ) (parts place more : ℕ) (s : Note W) (m n : Machine W)
-    → Live o place m → Kept f lim parts s m n → Live o (place + more) n
-live_kept o f lim parts place more s m n l k = record {
+pub live_kept : {W : Type 0} (o : World W) (lim : Rate → ℕ) (placed : Path → Option ℕ) (place more : ℕ) (s : Note W)
+    (m n : Machine W)
+    → Live o place m → Kept lim placed s m n → Live o (place + more) n
+live_kept o lim placed place more s m n l k = record {
   next = (let e = k.next in let h = l.next in omega arith);
   going = ap o.refused k.world ∙ l.going;
 }
@@ -69,48 +80,62 @@ same_reg_is p q h =
 
 -- below all temporaries nothing is one
 low_apart : (f : Frame) (r : Rate) (d : ℕ) (p : Reg) → p.index < f.base p.rate → same_reg p (temp f r d) ≡ false
-low_apart f r d p low = apart p (temp f r d) (λ e same. absurd (let b : f.base p.rate ≡ f.base r = ap f.base e in omega arith))
+low_apart f r d p low = apart p (temp f r d)
+    (λ e same. absurd (let b : f.base p.rate ≡ f.base r = ap f.base e in omega arith))
 
-module _ {W : Type 0} (o : World W) (f : Frame) (lim : Rate → ℕ) (parts : ℕ) (fits : Fits f lim parts) where
+module _ {W : Type 0} (o : World W) (f : Frame) (lim : Rate → ℕ) (placed : Path → Option ℕ)
+    (fits : Fits f lim placed) where
   -- ---- what a register's writing, and the world's moving, mean for a note
 
-  pub local_wrote : (t : Note W) (r : Rate) (x : ℕ) (w : Wave) (m n : Machine W) → Stands (plan_of f lim parts) t m → x < lim r → Wrote f (reg r x) 0 w m n
-      → Stands (plan_of f lim parts) (record t { locals = put t.locals (reg r x) w }) n
+  pub local_wrote : (t : Note W) (r : Rate) (x : ℕ) (w : Wave) (m n : Machine W) → Stands (plan_of lim placed) t m
+      → x < lim r → Wrote f (reg r x) 0 w m n
+      → Stands (plan_of lim placed) (record t { locals = put t.locals (reg r x) w }) n
   local_wrote t r x w m n s low h = record {
     locals = λ q below. by_test (same_reg q (reg r x))
         (λ e. subst (λ p. n.regs p ≡ w) (sym (same_reg_is q (reg r x) e)) h.here ∙ rw e refl)
-        (λ e. h.others q e (let b = fits.locals q.rate in omega arith) ∙ s.locals q below ∙ sym (put_other t.locals (reg r x) w q e));
-    kept = λ k below. h.others (kept_reg f k)
-        (apart (kept_reg f k) (reg r x) (λ e same. absurd (let b : lim rate.Init ≡ lim r = ap lim e in let c = fits.below in omega arith)))
-        (let b = fits.room in omega arith)
-        ∙ s.kept k below;
+        (λ e. h.others q e (let b = fits.locals q.rate in omega arith) ∙ s.locals q below
+        ∙ sym (put_other t.locals (reg r x) w q e));
+    kept = λ p k is. h.others (reg rate.Init k)
+        (apart (reg rate.Init k) (reg r x)
+        (λ e same. absurd (let b : lim rate.Init ≡ lim r = ap lim e in let c = (fits.room p k is).0 in omega arith)))
+        (let b = (fits.room p k is).1 in omega arith)
+        ∙ s.kept p k is;
     world = h.world ∙ s.world;
   }
 
-  kept_wrote : (t : Note W) (at : ℕ) (z : ℤ) (m n : Machine W) → Stands (plan_of f lim parts) t m → at < parts → Wrote f (kept_reg f at) 0 (constant z) m n
-      → Kept f lim parts (put_kept at z t) m n
-  kept_wrote t at z m n s low h = record {
+  kept_wrote : (t : Note W) (path : Path) (at : ℕ) (z : ℤ) (m n : Machine W) → Stands (plan_of lim placed) t m
+      → placed path ≡ Some at
+      → Wrote f (reg rate.Init at) 0 (constant z) m n → Kept lim placed (put_kept path z t) m n
+  kept_wrote t path at z m n s is h = record {
     stands = record {
       locals = λ q below. h.others q
-          (apart q (kept_reg f at) (λ e same. absurd (let b : lim q.rate ≡ lim rate.Init = ap lim e in let c = fits.below in omega arith)))
+          (apart q (reg rate.Init at)
+          (λ e same. absurd (let b : lim q.rate ≡ lim rate.Init = ap lim e in let c =
+          (fits.room path at is).0 in omega arith)))
           (let b = fits.locals q.rate in omega arith)
           ∙ s.locals q below;
-      kept = λ k below. by_test (eqb k at)
-          (λ e. subst (λ j. n.regs (kept_reg f j) ≡ constant z) (sym (eqb-true k at e)) h.here ∙ rw e refl)
-          (λ e. h.others (kept_reg f k) (apart (kept_reg f k) (kept_reg f at) (λ r same. absurd (let no = eqb-false k at e in no (omega arith))))
-          (let b = fits.room in omega arith)
-          ∙ s.kept k below ∙ rw e refl);
+      kept = λ p k there. by_test (same_path p path)
+          (λ e.
+          let here : p ≡ path = (bytes_eq-Decides p path).0 e in
+          let same : at ≡ k = some_is at k (sym is ∙ ap placed (sym here) ∙ there) in
+          subst (λ j. n.regs (reg rate.Init j) ≡ constant z) same h.here ∙ rw e refl)
+          (λ e. h.others (reg rate.Init k)
+          (apart (reg rate.Init k) (reg rate.Init at) (λ r same. absurd (
+          let here : p ≡ path = fits.apart p path at (there ∙ ap (λ j. Some j) same) is in
+          let never : true ≡ false = sym ((bytes_eq-Decides p path).1 here) ∙ e in cc)))
+          (let b = (fits.room p k there).1 in omega arith)
+          ∙ s.kept p k there ∙ rw e refl);
       world = h.world ∙ s.world;
     };
     next = h.next;
     world = h.world;
   }
 
-  pub moved_stands : (t : Note W) (x : W) (m n : Machine W) → Stands (plan_of f lim parts) t m → n.world ≡ x
-      → ((p : Reg) → p.index < f.base p.rate → n.regs p ≡ m.regs p) → Stands (plan_of f lim parts) (moved_to x t) n
+  pub moved_stands : (t : Note W) (x : W) (m n : Machine W) → Stands (plan_of lim placed) t m → n.world ≡ x
+      → ((p : Reg) → p.index < f.base p.rate → n.regs p ≡ m.regs p) → Stands (plan_of lim placed) (moved_to x t) n
   moved_stands t x m n s e same = record {
     locals = λ q below. same q (let b = fits.locals q.rate in omega arith) ∙ s.locals q below;
-    kept = λ k below. same (kept_reg f k) (let b = fits.room in omega arith) ∙ s.kept k below;
+    kept = λ p k is. same (reg rate.Init k) ((fits.room p k is).1) ∙ s.kept p k is;
     world = e;
   }
 
@@ -125,169 +150,205 @@ module _ {W : Type 0} (o : World W) (f : Frame) (lim : Rate → ℕ) (parts : �
 
   -- ---- what doesn't change is kept
 
-  rate_runs : (r : Rate) (t s : Note W) (at b place : ℕ) (z : ℤ) (m : Machine W) (once each : List Op) → Stands (plan_of f lim parts) t m
-      → if_init r (at + 1) b ≤ parts → (r ≡ rate.Init → Wrote f (kept_reg f at) 0 (constant z) m (run o place once m))
-      → (b ≤ parts → Kept f lim parts s m (run o place each m))
-      → Kept f lim parts (if_init r (put_kept at z t) s) m (run o place (if_init r once each) m)
-  rate_runs rate.Init t s at b place z m once each stands bound first other =
-      let le : at + 1 ≤ parts = bound in
-      kept_wrote t at z m (run o place once m) stands (omega arith) (first refl)
-  rate_runs rate.Control t s at b place z m once each stands bound first other = other bound
-  rate_runs rate.Audio t s at b place z m once each stands bound first other = other bound
+  rate_runs : (r : Rate) (t s : Note W) (at : ℕ) (path : Path) (inner : Path → Option ℕ) (place : ℕ) (z : ℤ)
+      (m : Machine W) (once each : List Op)
+      → Stands (plan_of lim placed) t m → Lays f.kept placed path (if_init r (itself at) inner)
+      → (r ≡ rate.Init → Wrote f (kept_reg f at) 0 (constant z) m (run o place once m))
+      → (Lays f.kept placed path inner → Kept lim placed s m (run o place each m))
+      → Kept lim placed (if_init r (put_kept path z t) s) m (run o place (if_init r once each) m)
+  rate_runs rate.Init t s at path inner place z m once each stands lays first other =
+      kept_wrote t path (f.kept + at) z m (run o place once m) stands (lays []) (first refl)
+  rate_runs rate.Control t s at path inner place z m once each stands lays first other = other lays
+  rate_runs rate.Audio t s at path inner place z m once each stands lays first other = other lays
 
-  once_wrote : (t : Note W) (e : Expression) (at place : ℕ) (m : Machine W) → Stands (plan_of f lim parts) t m → Live o place m → Inside lim e
-      → node_rate e ≡ rate.Init → Wrote f (kept_reg f at) 0 (constant (first_value o t e)) m (run o place (kept_code f at e) m)
+  once_wrote : (t : Note W) (e : Expression) (at place : ℕ) (m : Machine W) → Stands (plan_of lim placed) t m
+      → Live o place m → Inside lim e
+      → node_rate e ≡ rate.Init
+      → Wrote f (kept_reg f at) 0 (constant (first_value o t e)) m (run o place (kept_code f at e) m)
   once_wrote t e at place m s l inside is =
-      subst (λ r. Wrote f (reg r (f.kept + at)) 0 (held o.ksmps r (value o t true 0 e)) m (run o place (code f true 0 e (reg r (f.kept + at)) 0) m)) is
-      (code_runs o f lim parts fits t e true 0 (f.kept + at) 0 place m s l inside tt)
+      subst (λ r. Wrote f (reg r (f.kept + at)) 0 (held o.ksmps r (value o t true [] e)) m
+      (run o place (code f true 0 e (reg r (f.kept + at)) 0) m)) is
+      (code_runs o f lim placed fits t e true 0 [] (f.kept + at) 0 place m s l inside tt)
 
-  kept_self : (t : Note W) (m : Machine W) → Stands (plan_of f lim parts) t m → Kept f lim parts t m m
+  kept_self : (t : Note W) (m : Machine W) → Stands (plan_of lim placed) t m → Kept lim placed t m m
   kept_self t m s = record { stands = s; next = refl; world = refl }
 
-  kept_then : (t s : Note W) (place : ℕ) (a b : List Op) (m : Machine W) → Kept f lim parts t m (run o place a m)
-      → Kept f lim parts s (run o place a m) (run o (place + length a) b (run o place a m)) → Kept f lim parts s m (run o place (a ++ b) m)
+  kept_then : (t s : Note W) (place : ℕ) (a b : List Op) (m : Machine W) → Kept lim placed t m (run o place a m)
+      → Kept lim placed s (run o place a m) (run o (place + length a) b (run o place a m))
+      → Kept lim placed s m (run o place (a ++ b) m)
   kept_then t s place a b m h k =
-      subst (Kept f lim parts s m) (sym (run_append o place a b m)) (record { stands = k.stands; next = k.next ∙ h.next; world = k.world ∙ h.world })
+      subst (Kept lim placed s m) (sym (run_append o place a b m))
+      (record { stands = k.stands; next = k.next ∙ h.next; world = k.world ∙ h.world })
 
-  pub keep_runs : (e : Expression) (t : Note W) (at place : ℕ) (m : Machine W) → Stands (plan_of f lim parts) t m → Live o place m → Inside lim e
-      → past at e ≤ parts → Kept f lim parts (keep o at e t) m (run o place (keep_code f at e) m)
-  keep_runs (number r z) t at place m s l inside bound =
-      rate_runs r t t at at place (first_value o t (number r z)) m (kept_code f at (number r z)) [] s bound
+  pub keep_runs : (e : Expression) (t : Note W) (at : ℕ) (path : Path) (place : ℕ) (m : Machine W)
+      → Stands (plan_of lim placed) t m → Live o place m
+      → Inside lim e → Lays f.kept placed path (numbers at e)
+      → Kept lim placed (keep o path e t) m (run o place (keep_code f at e) m)
+  keep_runs (number r z) t at path place m s l inside lays =
+      rate_runs r t t at path nowhere place (first_value o t (number r z)) m (kept_code f at (number r z)) [] s lays
       (once_wrote t (number r z) at place m s l inside) (λ b. kept_self t m s)
-  keep_runs (var r v) t at place m s l inside bound =
-      rate_runs r t t at at place (first_value o t (var r v)) m (kept_code f at (var r v)) [] s bound
+  keep_runs (var r v) t at path place m s l inside lays =
+      rate_runs r t t at path nowhere place (first_value o t (var r v)) m (kept_code f at (var r v)) [] s lays
       (once_wrote t (var r v) at place m s l inside) (λ b. kept_self t m s)
-  keep_runs (field r k) t at place m s l inside bound =
-      rate_runs r t t at at place (first_value o t (field r k)) m (kept_code f at (field r k)) [] s bound
+  keep_runs (field r k) t at path place m s l inside lays =
+      rate_runs r t t at path nowhere place (first_value o t (field r k)) m (kept_code f at (field r k)) [] s lays
       (once_wrote t (field r k) at place m s l inside) (λ b. kept_self t m s)
-  keep_runs (head r h) t at place m s l inside bound =
-      rate_runs r t t at at place (first_value o t (head r h)) m (kept_code f at (head r h)) [] s bound
+  keep_runs (head r h) t at path place m s l inside lays =
+      rate_runs r t t at path nowhere place (first_value o t (head r h)) m (kept_code f at (head r h)) [] s lays
       (once_wrote t (head r h) at place m s l inside) (λ b. kept_self t m s)
-  keep_runs (neg r a) t at place m s l inside bound =
-      rate_runs r t (keep o at a t) at (past at a) place (first_value o t (neg r a)) m (kept_code f at (neg r a)) (keep_code f at a) s bound
-      (once_wrote t (neg r a) at place m s l inside) (λ b. keep_runs a t at place m s l inside b)
-  keep_runs (pair r p a b) t at place m s l inside bound =
-      rate_runs r t (keep o (past at a) b (keep o at a t)) at (past (past at a) b) place (first_value o t (pair r p a b)) m
-      (kept_code f at (pair r p a b)) (keep_code f at a ++ keep_code f (past at a) b) s bound
-      (once_wrote t (pair r p a b) at place m s l inside) (λ below.
-      let first = keep_runs a t at place m s l inside.0 (le_trans (past_grows (past at a) b) below) in
+  keep_runs (neg r a) t at path place m s l inside lays =
+      rate_runs r t (keep o (0 ∷ path) a t) at path (all_numbers at (a ∷ [])) place (first_value o t (neg r a)) m
+      (kept_code f at (neg r a)) (keep_code f at a) s lays
+      (once_wrote t (neg r a) at place m s l inside)
+      (λ b. keep_runs a t at (0 ∷ path) place m s l inside (λ q. b (0 ∷ q)))
+  keep_runs (pair r p a b) t at path place m s l inside lays =
+      rate_runs r t (keep o (1 ∷ path) b (keep o (0 ∷ path) a t)) at path (all_numbers at (a ∷ b ∷ [])) place
+      (first_value o t (pair r p a b)) m
+      (kept_code f at (pair r p a b)) (keep_code f at a ++ keep_code f (past at a) b) s lays
+      (once_wrote t (pair r p a b) at place m s l inside) (λ known.
+      let t1 : Note W = keep o (0 ∷ path) a t in
+      let first = keep_runs a t at (0 ∷ path) place m s l inside.0 (λ q. known (0 ∷ q)) in
       let n : Machine W = run o place (keep_code f at a) m in
-      kept_then (keep o at a t) (keep o (past at a) b (keep o at a t)) place (keep_code f at a) (keep_code f (past at a) b) m first
-      (keep_runs b (keep o at a t) (past at a) (place + length (keep_code f at a)) n first.stands
-      (live_kept o f lim parts place (length (keep_code f at a)) (keep o at a t) m n l first) inside.1 below))
-  keep_runs (pick r c a b) t at place m s l inside bound =
-      rate_runs r t (keep o (past (past at c) a) b (keep o (past at c) a (keep o at c t))) at (past (past (past at c) a) b) place
+      kept_then t1 (keep o (1 ∷ path) b t1) place (keep_code f at a) (keep_code f (past at a) b) m first
+      (keep_runs b t1 (past at a) (1 ∷ path) (place + length (keep_code f at a)) n first.stands
+      (live_kept o lim placed place (length (keep_code f at a)) t1 m n l first) inside.1 (λ q. known (1 ∷ q))))
+  keep_runs (pick r c a b) t at path place m s l inside lays =
+      rate_runs r t (keep o (2 ∷ path) b (keep o (1 ∷ path) a (keep o (0 ∷ path) c t))) at path
+      (all_numbers at (c ∷ a ∷ b ∷ [])) place
       (first_value o t (pick r c a b)) m
-      (kept_code f at (pick r c a b)) (keep_code f at c ++ (keep_code f (past at c) a ++ keep_code f (past (past at c) a) b)) s bound
-      (once_wrote t (pick r c a b) at place m s l inside) (λ below.
-      let two : past (past at c) a ≤ parts = le_trans (past_grows (past (past at c) a) b) below in
-      let t1 : Note W = keep o at c t in
-      let t2 : Note W = keep o (past at c) a t1 in
+      (kept_code f at (pick r c a b))
+      (keep_code f at c ++ (keep_code f (past at c) a ++ keep_code f (past (past at c) a) b)) s lays
+      (once_wrote t (pick r c a b) at place m s l inside) (λ known.
+      let t1 : Note W = keep o (0 ∷ path) c t in
+      let t2 : Note W = keep o (1 ∷ path) a t1 in
       let ops : List Op = keep_code f at c in
       let more : List Op = keep_code f (past at c) a in
       let last : List Op = keep_code f (past (past at c) a) b in
-      let first = keep_runs c t at place m s l inside.0 (le_trans (past_grows (past at c) a) two) in
+      let first = keep_runs c t at (0 ∷ path) place m s l inside.0 (λ q. known (0 ∷ q)) in
       let n : Machine W = run o place ops m in
-      let live : Live o (place + length ops) n = live_kept o f lim parts place (length ops) t1 m n l first in
-      let second = keep_runs a t1 (past at c) (place + length ops) n first.stands live inside.1 two in
+      let live : Live o (place + length ops) n = live_kept o lim placed place (length ops) t1 m n l first in
+      let second = keep_runs a t1 (past at c) (1 ∷ path) (place + length ops) n first.stands live inside.1
+      (λ q. known (1 ∷ q)) in
       let k : Machine W = run o (place + length ops) more n in
-      kept_then t1 (keep o (past (past at c) a) b t2) place ops (more ++ last) m first
-      (kept_then t2 (keep o (past (past at c) a) b t2) (place + length ops) more last n second
-      (keep_runs b t2 (past (past at c) a) (place + length ops + length more) k second.stands
-      (live_kept o f lim parts (place + length ops) (length more) t2 n k live second) inside.2 below)))
-  keep_runs (apply r g a) t at place m s l inside bound =
-      rate_runs r t (keep o at a t) at (past at a) place (first_value o t (apply r g a)) m (kept_code f at (apply r g a)) (keep_code f at a) s bound
-      (once_wrote t (apply r g a) at place m s l inside) (λ b. keep_runs a t at place m s l inside b)
+      kept_then t1 (keep o (2 ∷ path) b t2) place ops (more ++ last) m first
+      (kept_then t2 (keep o (2 ∷ path) b t2) (place + length ops) more last n second
+      (keep_runs b t2 (past (past at c) a) (2 ∷ path) (place + length ops + length more) k second.stands
+      (live_kept o lim placed (place + length ops) (length more) t2 n k live second) inside.2 (λ q. known (2 ∷ q)))))
+  keep_runs (apply r g a) t at path place m s l inside lays =
+      rate_runs r t (keep o (0 ∷ path) a t) at path (all_numbers at (a ∷ [])) place (first_value o t (apply r g a)) m
+      (kept_code f at (apply r g a)) (keep_code f at a) s lays
+      (once_wrote t (apply r g a) at place m s l inside)
+      (λ b. keep_runs a t at (0 ∷ path) place m s l inside (λ q. b (0 ∷ q)))
 
-  pub keep_all_runs : (es : List Expression) (t : Note W) (at place : ℕ) (m : Machine W) → Stands (plan_of f lim parts) t m → Live o place m → InsideAll lim es
-      → past_all at es ≤ parts → Kept f lim parts (keep_all o at es t) m (run o place (keep_all_code f at es) m)
-  keep_all_runs [] t at place m s l inside bound = kept_self t m s
-  keep_all_runs (e ∷ es) t at place m s l inside bound =
+  pub keep_all_runs : (es : List Expression) (t : Note W) (at : ℕ) (path : Path) (place : ℕ) (m : Machine W)
+      → Stands (plan_of lim placed) t m
+      → Live o place m → InsideAll lim es → LaysOn f.kept placed path (all_numbers at es)
+      → Kept lim placed (keep_all o path es t) m (run o place (keep_all_code f at es) m)
+  keep_all_runs [] t at path place m s l inside lays = kept_self t m s
+  keep_all_runs (e ∷ es) t at path place m s l inside lays =
       let ops : List Op = keep_code f at e in
+      let t1 : Note W = keep o path e t in
       let n : Machine W = run o place ops m in
-      let first = keep_runs e t at place m s l inside.0 (le_trans (past_all_grows (past at e) es) bound) in
-      kept_then (keep o at e t) (keep_all o (past at e) es (keep o at e t)) place ops (keep_all_code f (past at e) es) m first
-      (keep_all_runs es (keep o at e t) (past at e) (place + length ops) n first.stands (live_kept o f lim parts place (length ops) (keep o at e t) m n l first)
-      inside.1 bound)
+      let first = keep_runs e t at path place m s l inside.0 (λ q. lays 0 q) in
+      kept_then t1 (keep_all o (next path) es t1) place ops (keep_all_code f (past at e) es) m first
+      (keep_all_runs es t1 (past at e) (next path) (place + length ops) n first.stands
+      (live_kept o lim placed place (length ops) t1 m n l first)
+      inside.1 (λ k q. lays (suc k) q))
 
   -- ---- an op on values moves the world alone
 
-  pub on_runs : (whole : Bool) (at : ℕ) (a : Act) (into : Reg) (es : List Expression) (move : List Wave → W → W) (t : Note W) (place : ℕ) (m : Machine W)
+  pub on_runs : (whole : Bool) (at : ℕ) (path : Path) (a : Act) (into : Reg) (es : List Expression)
+      (move : List Wave → W → W) (t : Note W) (place : ℕ) (m : Machine W)
       → ((ws : List Wave) (n : Machine W) → acts o a into ws n ≡ in_world (move ws n.world) n)
-      → Stands (plan_of f lim parts) t m → Live o place m → InsideAll lim es → Bound whole parts (past_all at es)
-      → Reached f lim parts (moved_to (move (values o t whole at es) t.world) t) m (run o place (on_code f whole at a into es) m)
-  on_runs whole at a into es move t place m moves s l inside bound =
+      → Stands (plan_of lim placed) t m → Live o place m → InsideAll lim es
+      → Reads whole (LaysOn f.kept placed path (all_numbers at es))
+      → Reached lim placed (moved_to (move (values o t whole path es) t.world) t) m
+      (run o place (on_code f whole at a into es) m)
+  on_runs whole at path a into es move t place m moves s l inside known =
       let ops : List Op = operands_code f whole at es 0 in
       let last : Op = op_of a into (spots f whole at es 0) in
       let n : Machine W = run o place ops m in
-      let ready = operands_run o f lim parts fits t es whole at 0 place m s l inside bound in
+      let ready = operands_run o f lim placed fits t es whole at path 0 place m s l inside known in
       let live : Live o (place + length ops) n = live_same o f 0 place (length ops) m n l ready.same in
-      let x : W = move (values o t whole at es) t.world in
+      let x : W = move (values o t whole path es) t.world in
       let here : run o place (ops ++ (last ∷ [])) m ≡ in_world x n =
       run_snoc o place ops last m live
       ∙ moves (map n.regs (spots f whole at es 0)) n
       ∙ ap (λ ws. in_world (move ws n.world) n) ready.here
-      ∙ ap (λ y. in_world (move (values o t whole at es) y) n) (ready.same.world ∙ s.world) in
-      subst (Reached f lim parts (moved_to x t) m) (sym here) (record {
+      ∙ ap (λ y. in_world (move (values o t whole path es) y) n) (ready.same.world ∙ s.world) in
+      subst (Reached lim placed (moved_to x t) m) (sym here) (record {
         stands = moved_stands t x m (in_world x n) s refl (λ p low. ready.same.regs p (omega arith));
         next = ready.same.next;
       })
 
   pub start_runs : (r : Rate) (opcode : Opcode) (u : ℕ) (is : List Expression) (t : Note W) (place : ℕ) (m : Machine W)
-      → Stands (plan_of f lim parts) t m → Live o place m → InsideAll lim is
-      → Reached f lim parts (started o r opcode u is t) m (run o place (start_code f r opcode u is) m)
+      → Stands (plan_of lim placed) t m → Live o place m → InsideAll lim is
+      → Reached lim placed (started o r opcode u is t) m (run o place (start_code f r opcode u is) m)
   start_runs r opcode u is t place m s l inside =
-      on_runs true 0 (act.Start opcode u) (reg r 0) is (λ ws x. o.start opcode r u (first_values ws) x) t place m (λ ws n. refl) s l inside tt
+      on_runs true 0 [] (act.Start opcode u) (reg r 0) is (λ ws x. o.start opcode r u (first_values ws) x) t place m
+      (λ ws n. refl) s l inside tt
 
   pub seek_runs : (is : List Expression) (t : Note W) (place : ℕ) (m : Machine W)
-      → Stands (plan_of f lim parts) t m → Live o place m → InsideAll lim is
-      → Reached f lim parts (sought o is t) m (run o place (seek_code f is) m)
+      → Stands (plan_of lim placed) t m → Live o place m → InsideAll lim is
+      → Reached lim placed (sought o is t) m (run o place (seek_code f is) m)
   seek_runs is t place m s l inside =
-      on_runs true 0 act.Seek (reg rate.Init 0) is (λ ws x. o.seek (first_values ws) x) t place m (λ ws n. refl) s l inside tt
+      on_runs true 0 [] act.Seek (reg rate.Init 0) is (λ ws x. o.seek (first_values ws) x) t place m (λ ws n. refl) s l
+      inside tt
 
-  pub store_runs : (whole : Bool) (at : ℕ) (r : Rate) (opcode : Opcode) (reach : Reach) (es : List Expression) (t : Note W) (place : ℕ) (m : Machine W)
-      → Stands (plan_of f lim parts) t m → Live o place m → InsideAll lim es → Bound whole parts (past_all at es)
-      → Reached f lim parts (moved_to (o.store opcode r reach (values o t whole at es) t.world) t) m
+  pub store_runs : (whole : Bool) (at : ℕ) (path : Path) (r : Rate) (opcode : Opcode) (reach : Reach)
+      (es : List Expression) (t : Note W) (place : ℕ) (m : Machine W)
+      → Stands (plan_of lim placed) t m → Live o place m → InsideAll lim es
+      → Reads whole (LaysOn f.kept placed path (all_numbers at es))
+      → Reached lim placed (moved_to (o.store opcode r reach (values o t whole path es) t.world) t) m
       (run o place (store_code f whole at r opcode reach es) m)
-  store_runs whole at r opcode reach es t place m s l inside bound =
-      on_runs whole at (act.Store opcode reach) (reg r 0) es (λ ws x. o.store opcode r reach ws x) t place m (λ ws n. refl) s l inside bound
+  store_runs whole at path r opcode reach es t place m s l inside known =
+      on_runs whole at path (act.Store opcode reach) (reg r 0) es (λ ws x. o.store opcode r reach ws x) t place m
+      (λ ws n. refl) s l inside known
 
   pub ask_runs : (es : List Expression) (t : Note W) (place : ℕ) (m : Machine W)
-      → Stands (plan_of f lim parts) t m → Live o place m → InsideAll lim es
-      → Reached f lim parts (moved_to (o.ask (first_values (values o t true 0 es)) t.world) t) m (run o place (ask_code f es) m)
+      → Stands (plan_of lim placed) t m → Live o place m → InsideAll lim es
+      → Reached lim placed (moved_to (o.ask (first_values (values o t true [] es)) t.world) t) m
+      (run o place (ask_code f es) m)
   ask_runs es t place m s l inside =
-      on_runs true 0 act.Ask (reg rate.Init 0) es (λ ws x. o.ask (first_values ws) x) t place m (λ ws n. refl) s l inside tt
+      on_runs true 0 [] act.Ask (reg rate.Init 0) es (λ ws x. o.ask (first_values ws) x) t place m (λ ws n. refl) s l
+      inside tt
 
   -- ---- what gives a result runs: a unit, or what reads or writes zak places
 
   -- no variable takes the result
-  none_given : (b : Bool) (r : Rate) (t : Note W) (x : W) (w : Wave) (m : Machine W) → Stands (plan_of f lim parts) t m
-      → Reached f lim parts (moved_to x t) m (if b then write o.ksmps (temp f r 0) w (in_world x m) else in_world x m)
+  none_given : (b : Bool) (r : Rate) (t : Note W) (x : W) (w : Wave) (m : Machine W) → Stands (plan_of lim placed) t m
+      → Reached lim placed (moved_to x t) m (if b then write o.ksmps (temp f r 0) w (in_world x m) else in_world x m)
   none_given true r t x w m s = record {
     stands = moved_stands t x m (write o.ksmps (temp f r 0) w (in_world x m)) s refl
         (λ p low. put_other m.regs (temp f r 0) (held o.ksmps r w) p (low_apart f r 0 p low));
     next = refl;
   }
-  none_given false r t x w m s = record { stands = moved_stands t x m (in_world x m) s refl (λ p low. refl); next = refl }
+  none_given false r t x w m s =
+      record { stands = moved_stands t x m (in_world x m) s refl (λ p low. refl); next = refl }
 
-  temp_moved : (r : Rate) (t : Note W) (x : W) (w : Wave) (m : Machine W) → Stands (plan_of f lim parts) t m
-      → Stands (plan_of f lim parts) (moved_to x t) (write o.ksmps (temp f r 0) w (in_world x m))
+  temp_moved : (r : Rate) (t : Note W) (x : W) (w : Wave) (m : Machine W) → Stands (plan_of lim placed) t m
+      → Stands (plan_of lim placed) (moved_to x t) (write o.ksmps (temp f r 0) w (in_world x m))
   temp_moved r t x w m s = (none_given true r t x w m s).stands
 
   -- a local variable takes the result: by the unit itself, or by a copy
-  local_given : (b : Bool) (r q : Rate) (y : ℕ) (t : Note W) (x : W) (w : Wave) (place : ℕ) (m : Machine W) → same_rate q r ≡ b
-      → Stands (plan_of f lim parts) t m → m.next ≤ place → o.refused x ≡ false → y < lim q
-      → Reached f lim parts (assign o (Local q y) (held o.ksmps r w) (moved_to x t)) m
-      (run o place (if b then [] else op_of act.Copy (reg q y) (temp f r 0 ∷ []) ∷ []) (write o.ksmps (if b then reg q y else temp f r 0) w (in_world x m)))
+  local_given : (b : Bool) (r q : Rate) (y : ℕ) (t : Note W) (x : W) (w : Wave) (place : ℕ) (m : Machine W)
+      → same_rate q r ≡ b
+      → Stands (plan_of lim placed) t m → m.next ≤ place → o.refused x ≡ false → y < lim q
+      → Reached lim placed (assign o (Local q y) (held o.ksmps r w) (moved_to x t)) m
+      (run o place (if b then [] else op_of act.Copy (reg q y) (temp f r 0 ∷ []) ∷ [])
+      (write o.ksmps (if b then reg q y else temp f r 0) w (in_world x m)))
   local_given true r q y t x w place m e s next going low =
       let is : r ≡ q = sym (same_rate_is q r e) in
-      let moved : Stands (plan_of f lim parts) (moved_to x t) (in_world x m) = moved_stands t x m (in_world x m) s refl (λ p below. refl) in
+      let moved : Stands (plan_of lim placed) (moved_to x t) (in_world x m) =
+      moved_stands t x m (in_world x m) s refl (λ p below. refl) in
       let twice : held o.ksmps q (held o.ksmps r w) ≡ held o.ksmps q w =
       subst (λ p. held o.ksmps q (held o.ksmps p w) ≡ held o.ksmps q w) (sym is) (held_again o.ksmps q w) in
       record {
-        stands = subst (λ v. Stands (plan_of f lim parts) (record (moved_to x t) { locals = put t.locals (reg q y) v }) (write o.ksmps (reg q y) w (in_world x m)))
+        stands = subst (λ v. Stands (plan_of lim placed) (record (moved_to x t) { locals = put t.locals (reg q y) v })
+            (write o.ksmps (reg q y) w (in_world x m)))
             (sym twice)
-            (local_wrote (moved_to x t) q y (held o.ksmps q w) (in_world x m) (write o.ksmps (reg q y) w (in_world x m)) moved low
+            (local_wrote (moved_to x t) q y (held o.ksmps q w) (in_world x m) (write o.ksmps (reg q y) w (in_world x m))
+            moved low
             (write_wrote (reg q y) w (in_world x m)));
         next = refl;
       }
@@ -297,17 +358,20 @@ module _ {W : Type 0} (o : World W) (f : Frame) (lim : Rate → ℕ) (parts : �
       let live : Live o place n = record { next = next; going = going } in
       let there : n.regs (temp f r 0) ≡ v = put_here m.regs (temp f r 0) v in
       let is : run o place (op_of act.Copy (reg q y) (temp f r 0 ∷ []) ∷ []) n ≡ write o.ksmps (reg q y) v n =
-      live_step o place (op_of act.Copy (reg q y) (temp f r 0 ∷ [])) n live ∙ ap (λ u. write o.ksmps (reg q y) u n) there in
-      subst (Reached f lim parts (assign o (Local q y) v (moved_to x t)) m) (sym is) (record {
-        stands = local_wrote (moved_to x t) q y (held o.ksmps q v) n (write o.ksmps (reg q y) v n) (temp_moved r t x w m s) low (write_wrote (reg q y) v n);
+      live_step o place (op_of act.Copy (reg q y) (temp f r 0 ∷ [])) n live
+      ∙ ap (λ u. write o.ksmps (reg q y) u n) there in
+      subst (Reached lim placed (assign o (Local q y) v (moved_to x t)) m) (sym is) (record {
+        stands = local_wrote (moved_to x t) q y (held o.ksmps q v) n (write o.ksmps (reg q y) v n)
+            (temp_moved r t x w m s) low (write_wrote (reg q y) v n);
         next = refl;
       })
 
   -- what notes share takes the result, by a store
   global_given : (r : Rate) (g : Res) (t : Note W) (x : W) (w : Wave) (place : ℕ) (m : Machine W)
-      → Stands (plan_of f lim parts) t m → m.next ≤ place → o.refused x ≡ false
-      → Reached f lim parts (assign o (Global g) (held o.ksmps r w) (moved_to x t)) m
-      (run o place (op_of (act.Save g) (temp f r 0) (temp f r 0 ∷ []) ∷ []) (write o.ksmps (temp f r 0) w (in_world x m)))
+      → Stands (plan_of lim placed) t m → m.next ≤ place → o.refused x ≡ false
+      → Reached lim placed (assign o (Global g) (held o.ksmps r w) (moved_to x t)) m
+      (run o place (op_of (act.Save g) (temp f r 0) (temp f r 0 ∷ []) ∷ [])
+      (write o.ksmps (temp f r 0) w (in_world x m)))
   global_given r g t x w place m s next going =
       let n : Machine W = write o.ksmps (temp f r 0) w (in_world x m) in
       let v : Wave = held o.ksmps r w in
@@ -317,111 +381,133 @@ module _ {W : Type 0} (o : World W) (f : Frame) (lim : Rate → ℕ) (parts : �
       let is : run o place (op_of (act.Save g) (temp f r 0) (temp f r 0 ∷ []) ∷ []) n ≡ in_world y n =
       live_step o place (op_of (act.Save g) (temp f r 0) (temp f r 0 ∷ [])) n live
       ∙ ap (λ u. in_world (o.save g (held o.ksmps (res_rate g) u) x) n) there in
-      subst (Reached f lim parts (assign o (Global g) v (moved_to x t)) m) (sym is) (record {
+      subst (Reached lim placed (assign o (Global g) v (moved_to x t)) m) (sym is) (record {
         stands = moved_stands (moved_to x t) y n (in_world y n) (temp_moved r t x w m s) refl (λ p low. refl);
         next = refl;
       })
 
   given_runs : (r : Rate) (vs : List Variable) (opcode : Opcode) (p : W × Wave) (t : Note W) (place : ℕ) (m : Machine W)
-      → Stands (plan_of f lim parts) t m → m.next ≤ place → o.refused p.0 ≡ false → Takes lim opcode vs
-      → Reached f lim parts (done o r vs p t) m (run o place (given_code f r vs) (written o.ksmps opcode (target f r vs) p m))
+      → Stands (plan_of lim placed) t m → m.next ≤ place → o.refused p.0 ≡ false → Takes lim opcode vs
+      → Reached lim placed (done o r vs p t) m
+      (run o place (given_code f r vs) (written o.ksmps opcode (target f r vs) p m))
   given_runs r [] opcode p t place m s next going takes = none_given (gives opcode) r t p.0 p.1 m s
   given_runs r (Local q y ∷ vs) opcode p t place m s next going takes =
       rw takes.1 (local_given (same_rate q r) r q y t p.0 p.1 place m refl s next going takes.0)
-  given_runs r (Global g ∷ vs) opcode p t place m s next going takes = rw takes.1 (global_given r g t p.0 p.1 place m s next going)
+  given_runs r (Global g ∷ vs) opcode p t place m s next going takes =
+      rw takes.1 (global_given r g t p.0 p.1 place m s next going)
 
-  run_runs : (whole : Bool) (at : ℕ) (a : Act) (r : Rate) (vs : List Variable) (opcode : Opcode) (xs : List Expression) (gives_it : List Wave → W → W × Wave)
+  run_runs : (whole : Bool) (at : ℕ) (path : Path) (a : Act) (r : Rate) (vs : List Variable) (opcode : Opcode)
+      (xs : List Expression) (gives_it : List Wave → W → W × Wave)
       (t : Note W) (place : ℕ) (m : Machine W)
-      → ((into : Reg) (ws : List Wave) (n : Machine W) → into.rate ≡ r → acts o a into ws n ≡ written o.ksmps opcode into (gives_it ws n.world) n)
+      → ((into : Reg) (ws : List Wave) (n : Machine W) → into.rate ≡ r
+      → acts o a into ws n ≡ written o.ksmps opcode into (gives_it ws n.world) n)
       → ((ws : List Wave) (x : W) → o.refused (gives_it ws x).0 ≡ o.refused x)
-      → Stands (plan_of f lim parts) t m → Live o place m → Takes lim opcode vs → InsideAll lim xs → Bound whole parts (past_all at xs)
-      → Reached f lim parts (done o r vs (gives_it (values o t whole at xs) t.world) t) m (run o place (run_code f whole at a r vs xs) m)
-  run_runs whole at a r vs opcode xs gives_it t place m acts_so calm s l takes inside bound =
+      → Stands (plan_of lim placed) t m → Live o place m → Takes lim opcode vs → InsideAll lim xs
+      → Reads whole (LaysOn f.kept placed path (all_numbers at xs))
+      → Reached lim placed (done o r vs (gives_it (values o t whole path xs) t.world) t) m
+      (run o place (run_code f whole at a r vs xs) m)
+  run_runs whole at path a r vs opcode xs gives_it t place m acts_so calm s l takes inside known =
       let ops : List Op = operands_code f whole at xs 0 in
       let rest : List Op = given_code f r vs in
       let into : Reg = target f r vs in
       let op : Op = op_of a into (spots f whole at xs 0) in
       let n : Machine W = run o place ops m in
-      let ready = operands_run o f lim parts fits t xs whole at 0 place m s l inside bound in
+      let ready = operands_run o f lim placed fits t xs whole at path 0 place m s l inside known in
       let live : Live o (place + length ops) n = live_same o f 0 place (length ops) m n l ready.same in
-      let p : W × Wave = gives_it (values o t whole at xs) t.world in
+      let p : W × Wave = gives_it (values o t whole path xs) t.world in
       let does : step o (place + length ops) op n ≡ written o.ksmps opcode into p n =
       live_step o (place + length ops) op n live
       ∙ acts_so into (map n.regs (spots f whole at xs 0)) n (target_rate f r vs)
       ∙ ap (λ ws. written o.ksmps opcode into (gives_it ws n.world) n) ready.here
-      ∙ ap (λ x. written o.ksmps opcode into (gives_it (values o t whole at xs) x) n) (ready.same.world ∙ s.world) in
-      let is : run o place (ops ++ (op ∷ rest)) m ≡ run o (place + length ops + 1) rest (written o.ksmps opcode into p n) =
+      ∙ ap (λ x. written o.ksmps opcode into (gives_it (values o t whole path xs) x) n) (ready.same.world ∙ s.world) in
+      let is : run o place (ops ++ (op ∷ rest)) m ≡ run o (place + length ops + 1) rest
+      (written o.ksmps opcode into p n) =
       run_append o place ops (op ∷ rest) m ∙ ap (run o (place + length ops + 1) rest) does in
-      let going : o.refused p.0 ≡ false = calm (values o t whole at xs) t.world ∙ ap o.refused (sym s.world) ∙ l.going in
+      let going : o.refused p.0 ≡ false =
+      calm (values o t whole path xs) t.world ∙ ap o.refused (sym s.world) ∙ l.going in
       let low : n.next ≤ place + length ops + 1 = le_trans live.next (omega arith) in
-      let after = given_runs r vs opcode p t (place + length ops + 1) n (stands_same o f lim parts fits t 0 m n s ready.same) low going takes in
-      subst (Reached f lim parts (done o r vs p t) m) (sym is) (record { stands = after.stands; next = after.next ∙ ready.same.next })
+      let after = given_runs r vs opcode p t (place + length ops + 1) n
+      (stands_same o f lim placed fits t 0 m n s ready.same) low going takes in
+      subst (Reached lim placed (done o r vs p t) m) (sym is)
+      (record { stands = after.stands; next = after.next ∙ ready.same.next })
 
-  pub unit_runs : Quiet o → (whole : Bool) (at : ℕ) (r : Rate) (vs : List Variable) (opcode : Opcode) (u : ℕ) (reach : Reach) (xs : List Expression)
-      (t : Note W) (place : ℕ) (m : Machine W) → Stands (plan_of f lim parts) t m → Live o place m → Takes lim opcode vs → InsideAll lim xs
-      → Bound whole parts (past_all at xs)
-      → Reached f lim parts (done o r vs (o.does opcode r u reach (values o t whole at xs) t.world) t) m
+  pub unit_runs : Quiet o → (whole : Bool) (at : ℕ) (path : Path) (r : Rate) (vs : List Variable) (opcode : Opcode)
+      (u : ℕ) (reach : Reach) (xs : List Expression)
+      (t : Note W) (place : ℕ) (m : Machine W) → Stands (plan_of lim placed) t m → Live o place m → Takes lim opcode vs
+      → InsideAll lim xs
+      → Reads whole (LaysOn f.kept placed path (all_numbers at xs))
+      → Reached lim placed (done o r vs (o.does opcode r u reach (values o t whole path xs) t.world) t) m
       (run o place (unit_code f whole at r vs opcode u reach xs) m)
-  unit_runs quiet whole at r vs opcode u reach xs t place m s l takes inside bound =
-      run_runs whole at (act.Unit opcode u reach) r vs opcode xs (o.does opcode r u reach) t place m
+  unit_runs quiet whole at path r vs opcode u reach xs t place m s l takes inside known =
+      run_runs whole at path (act.Unit opcode u reach) r vs opcode xs (o.does opcode r u reach) t place m
       (λ into ws n is. ap (λ y. written o.ksmps opcode into (o.does opcode y u reach ws n.world) n) is)
-      (λ ws x. quiet.does opcode r u reach ws x) s l takes inside bound
+      (λ ws x. quiet.does opcode r u reach ws x) s l takes inside known
 
-  pub zak_runs : Quiet o → (whole : Bool) (at : ℕ) (r : Rate) (vs : List Variable) (opcode : Opcode) (reach : Reach) (xs : List Expression)
-      (t : Note W) (place : ℕ) (m : Machine W) → Stands (plan_of f lim parts) t m → Live o place m → Takes lim opcode vs → InsideAll lim xs
-      → Bound whole parts (past_all at xs)
-      → Reached f lim parts (done o r vs (o.zak opcode reach (values o t whole at xs) t.world) t) m
+  pub zak_runs : Quiet o → (whole : Bool) (at : ℕ) (path : Path) (r : Rate) (vs : List Variable) (opcode : Opcode)
+      (reach : Reach) (xs : List Expression)
+      (t : Note W) (place : ℕ) (m : Machine W) → Stands (plan_of lim placed) t m → Live o place m → Takes lim opcode vs
+      → InsideAll lim xs
+      → Reads whole (LaysOn f.kept placed path (all_numbers at xs))
+      → Reached lim placed (done o r vs (o.zak opcode reach (values o t whole path xs) t.world) t) m
       (run o place (zak_code f whole at r vs opcode reach xs) m)
-  zak_runs quiet whole at r vs opcode reach xs t place m s l takes inside bound =
-      run_runs whole at (act.Zak opcode reach) r vs opcode xs (o.zak opcode reach) t place m (λ into ws n is. refl)
-      (λ ws x. quiet.zak opcode reach ws x) s l takes inside bound
+  zak_runs quiet whole at path r vs opcode reach xs t place m s l takes inside known =
+      run_runs whole at path (act.Zak opcode reach) r vs opcode xs (o.zak opcode reach) t place m (λ into ws n is. refl)
+      (λ ws x. quiet.zak opcode reach ws x) s l takes inside known
 
   -- ---- a variable takes a value
 
-  local_set : (b : Bool) (whole : Bool) (at : ℕ) (q : Rate) (y : ℕ) (e : Expression) (t : Note W) (place : ℕ) (m : Machine W) → same_rate (node_rate e) q ≡ b
-      → Stands (plan_of f lim parts) t m → Live o place m → y < lim q → Inside lim e → Bound whole parts (past at e)
-      → Reached f lim parts (assign o (Local q y) (value o t whole at e) t) m
+  local_set : (b : Bool) (whole : Bool) (at : ℕ) (path : Path) (q : Rate) (y : ℕ) (e : Expression) (t : Note W)
+      (place : ℕ) (m : Machine W) → same_rate (node_rate e) q ≡ b
+      → Stands (plan_of lim placed) t m → Live o place m → y < lim q → Inside lim e
+      → Reads whole (Lays f.kept placed path (numbers at e))
+      → Reached lim placed (assign o (Local q y) (value o t whole path e) t) m
       (run o place (if b then code f whole at e (reg q y) 0
       else operand_code f whole at e 0 ++ (op_of act.Copy (reg q y) (spot f whole at e 0 ∷ []) ∷ [])) m)
-  local_set true whole at q y e t place m is s l low inside bound =
-      let wrote = subst (λ r. Wrote f (reg r y) 0 (held o.ksmps r (value o t whole at e)) m (run o place (code f whole at e (reg r y) 0) m))
-      (same_rate_is (node_rate e) q is) (code_runs o f lim parts fits t e whole at y 0 place m s l inside bound) in
+  local_set true whole at path q y e t place m is s l low inside known =
+      let wrote = subst (λ r. Wrote f (reg r y) 0 (held o.ksmps r (value o t whole path e)) m
+      (run o place (code f whole at e (reg r y) 0) m))
+      (same_rate_is (node_rate e) q is)
+      (code_runs o f lim placed fits t e whole at path y 0 place m s l inside known) in
       record {
-        stands = local_wrote t q y (held o.ksmps q (value o t whole at e)) m (run o place (code f whole at e (reg q y) 0) m) s low wrote;
+        stands = local_wrote t q y (held o.ksmps q (value o t whole path e)) m
+            (run o place (code f whole at e (reg q y) 0) m) s low wrote;
         next = wrote.next;
       }
-  local_set false whole at q y e t place m is s l low inside bound =
+  local_set false whole at path q y e t place m is s l low inside known =
       let ops : List Op = operand_code f whole at e 0 in
       let n : Machine W = run o place ops m in
-      let v : Wave = value o t whole at e in
+      let v : Wave = value o t whole path e in
       let last : Op = op_of act.Copy (reg q y) (spot f whole at e 0 ∷ []) in
-      let ready = operand_runs o f lim parts fits t e whole at 0 place m s l inside bound in
+      let ready = operand_runs o f lim placed fits t e whole at path 0 place m s l inside known in
       let live : Live o (place + length ops) n = live_same o f 0 place (length ops) m n l ready.same in
       let here : run o place (ops ++ (last ∷ [])) m ≡ write o.ksmps (reg q y) v n =
       run_snoc o place ops last m live ∙ ap (λ u. write o.ksmps (reg q y) u n) ready.here in
-      subst (Reached f lim parts (assign o (Local q y) v t) m) (sym here) (record {
-        stands = local_wrote t q y (held o.ksmps q v) n (write o.ksmps (reg q y) v n) (stands_same o f lim parts fits t 0 m n s ready.same) low
+      subst (Reached lim placed (assign o (Local q y) v t) m) (sym here) (record {
+        stands = local_wrote t q y (held o.ksmps q v) n (write o.ksmps (reg q y) v n)
+            (stands_same o f lim placed fits t 0 m n s ready.same) low
             (write_wrote (reg q y) v n);
         next = ready.same.next;
       })
 
-  pub set_runs : (v : Variable) (whole : Bool) (at : ℕ) (e : Expression) (t : Note W) (place : ℕ) (m : Machine W) → Stands (plan_of f lim parts) t m
-      → Live o place m → InsideVar lim v → Inside lim e → Bound whole parts (past at e)
-      → Reached f lim parts (assign o v (value o t whole at e) t) m (run o place (set_code f whole at v e) m)
-  set_runs (Local q y) whole at e t place m s l low inside bound = local_set (same_rate (node_rate e) q) whole at q y e t place m refl s l low inside bound
-  set_runs (Global g) whole at e t place m s l low inside bound =
+  pub set_runs : (v : Variable) (whole : Bool) (at : ℕ) (path : Path) (e : Expression) (t : Note W) (place : ℕ)
+      (m : Machine W) → Stands (plan_of lim placed) t m
+      → Live o place m → InsideVar lim v → Inside lim e → Reads whole (Lays f.kept placed path (numbers at e))
+      → Reached lim placed (assign o v (value o t whole path e) t) m (run o place (set_code f whole at v e) m)
+  set_runs (Local q y) whole at path e t place m s l low inside known =
+      local_set (same_rate (node_rate e) q) whole at path q y e t place m refl s l low inside known
+  set_runs (Global g) whole at path e t place m s l low inside known =
       let ops : List Op = operand_code f whole at e 0 in
       let n : Machine W = run o place ops m in
-      let v : Wave = value o t whole at e in
+      let v : Wave = value o t whole path e in
       let last : Op = op_of (act.Save g) (spot f whole at e 0) (spot f whole at e 0 ∷ []) in
-      let ready = operand_runs o f lim parts fits t e whole at 0 place m s l inside bound in
+      let ready = operand_runs o f lim placed fits t e whole at path 0 place m s l inside known in
       let live : Live o (place + length ops) n = live_same o f 0 place (length ops) m n l ready.same in
       let x : W = o.save g (held o.ksmps (res_rate g) v) t.world in
       let here : run o place (ops ++ (last ∷ [])) m ≡ in_world x n =
       run_snoc o place ops last m live
       ∙ ap (λ u. in_world (o.save g (held o.ksmps (res_rate g) u) n.world) n) ready.here
       ∙ ap (λ y. in_world (o.save g (held o.ksmps (res_rate g) v) y) n) (ready.same.world ∙ s.world) in
-      subst (Reached f lim parts (moved_to x t) m) (sym here) (record {
+      subst (Reached lim placed (moved_to x t) m) (sym here) (record {
         stands = moved_stands t x m (in_world x n) s refl (λ p below. ready.same.regs p (omega arith));
         next = ready.same.next;
       })

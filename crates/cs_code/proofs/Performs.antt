@@ -1,5 +1,6 @@
 -- The code of a control cycle does what the statements do.
-use Rattle.std.proofs.Common.{◌≡◌, ℕ, ◌+◌, ◌≤◌, Bool, true, false, List, [], ◌∷◌, ◌++◌, length, map, if◌then◌else◌, refl, sym, ◌∙◌, ap, subst, arith, le_trans, length-append}
+use Rattle.std.proofs.Common.{◌≡◌, ℕ, suc, ◌+◌, Bool, true, false, List, [], ◌∷◌, ◌++◌, length, map, Option}
+use Rattle.std.proofs.Common.{if◌then◌else◌, refl, sym, ◌∙◌, ap, subst, arith, le_trans, length-append}
 use Rattle.cs_base.specs.declared.resource.Rate.{Rate}
 use Rattle.cs_base.specs.declared.resource.Rate.TheVariants as rate
 use Rattle.cs_ir.specs.Machine.{Machine, in_world, run}
@@ -9,49 +10,28 @@ use Rattle.cs_ir.specs.Worlds.{World}
 use Rattle.cs_ir.specs.declared.op.Act.TheVariants as act
 use Rattle.cs_ir.specs.declared.op.Op.{Op}
 use Rattle.cs_ir.specs.declared.register.Reg.{Reg}
-use Rattle.cs_meaning.specs.Core.{Stmt, Block, Arms, set, unit, zak, store, out, out_at, ask, turnoff, nothing, choose, no_stmt, andthen, otherwise, arm}
-use Rattle.cs_meaning.specs.Notes.{Note, Place, reg, moved_to, past, past_all, past_parts, past_stmt, past_block, past_arms, assign, given, done, value, values, sent, sent_at}
+use Rattle.cs_meaning.specs.Core.{Stmt, Block, Arms, set, unit, zak, store, out, out_at, ask, turnoff, nothing, choose}
+use Rattle.cs_meaning.specs.Core.{no_stmt, andthen, otherwise, arm}
+use Rattle.cs_meaning.specs.Notes as meaning
+use Rattle.cs_meaning.specs.Notes.{Note, Path, next, inside, inside_arm, past_arm, reg, moved_to, assign, given, done}
+use Rattle.cs_meaning.specs.Notes.{value, values, sent, sent_at}
+use Rattle.cs_code.specs.inner.Kept.{Place, past, past_parts, past_stmt, past_block, nowhere, parts, numbers}
+use Rattle.cs_code.specs.inner.Kept.{all_numbers, stmt_numbers, block_numbers, arms_numbers}
 use Rattle.cs_meaning.specs.Performing.{perf_stmt, perf_block, perf_arms}
 use Rattle.cs_typed.specs.TypedTree.{Expression}
 use Rattle.cs_typed.specs.declared.tree.Var.{Var as Variable}
 use Rattle.cs_typed.specs.declared.tree.Var.TheVariants.{Local, Global}
 use Rattle.cs_code.specs.Means.{Stands}
 use Rattle.cs_code.specs.inner.Frames.{Frame, op_of, spot, spots}
-use Rattle.cs_code.specs.inner.Code.{operand_code, operands_code, set_code, unit_code, zak_code, store_code, out_ops, out_at_ops, arm_code, perf_code, perf_block_code, perf_arms_code}
+use Rattle.cs_code.specs.inner.Code.{operand_code, operands_code, set_code, unit_code, zak_code, store_code, out_ops}
+use Rattle.cs_code.specs.inner.Code.{out_at_ops, arm_code, perf_code, perf_block_code, perf_arms_code}
 use Rattle.cs_code.proofs.Arms.{Agrees, agrees_live, arm_runs}
-use Rattle.cs_code.proofs.Expressions.{live_same, stands_same, operands_run, operand_runs, past_grows, past_all_grows}
-use Rattle.cs_code.proofs.Inside.{Fits, plan_of, InsideAll, InsideStmt, InsideBlock, InsideArms}
+use Rattle.cs_code.proofs.Expressions.{live_same, stands_same, operands_run, operand_runs}
+use Rattle.cs_code.proofs.Inside.{Fits, plan_of, Lays, LaysOn, lays_on, stands_at, InsideAll, InsideStmt, InsideBlock}
+use Rattle.cs_code.proofs.Inside.{InsideArms}
+use Rattle.cs_code.proofs.Numbers.{stmt_unit, block_unit}
 use Rattle.cs_code.proofs.Parts.{Quiet, Reached, moved_stands, set_runs, unit_runs, zak_runs, store_runs}
 use Rattle.cs_code.proofs.Runs.{Live, run_append, live_step}
-
--- ---- numbers of places grow
-
-if_below : (r : Rate) (at n : ℕ) → at ≤ n → at ≤ if_init r at n
-if_below rate.Init at n h = omega arith
-if_below rate.Control at n h = h
-if_below rate.Audio at n h = h
-
-mutual
-  pub stmt_grows : (p : Place) (s : Stmt) → p.part ≤ (past_stmt p s).part
-  stmt_grows p (set r v e) = if_below r p.part (past p.part e) (past_grows p.part e)
-  stmt_grows p (unit r vs opcode reach xs is) = if_below r p.part (past_all p.part xs) (past_all_grows p.part xs)
-  stmt_grows p (zak r vs opcode reach xs) = if_below r p.part (past_all p.part xs) (past_all_grows p.part xs)
-  stmt_grows p (store r opcode reach es is) = if_below r p.part (past_all p.part es) (past_all_grows p.part es)
-  stmt_grows p (out r es) = past_all_grows p.part es
-  stmt_grows p (out_at r es) = past_all_grows p.part es
-  stmt_grows p (ask es) = omega arith
-  stmt_grows p (turnoff r) = omega arith
-  stmt_grows p nothing = omega arith
-  stmt_grows p (choose r arms) = arms_grow p arms
-
-  pub block_grows : (p : Place) (b : Block) → p.part ≤ (past_block p b).part
-  block_grows p no_stmt = omega arith
-  block_grows p (andthen s b) = le_trans (stmt_grows p s) (block_grows (past_stmt p s) b)
-
-  pub arms_grow : (p : Place) (arms : Arms) → p.part ≤ (past_arms p arms).part
-  arms_grow p (otherwise b) = block_grows p b
-  arms_grow p (arm c b rest) =
-      le_trans (past_grows p.part c) (le_trans (block_grows (past_parts (past p.part c) p) b) (arms_grow (past_block (past_parts (past p.part c) p) b) rest))
 
 pub arm_length : (place : ℕ) (before : List Op) (q : Reg) (body rest : List Op)
     → place + length before + 1 + length body + 1 + length rest ≡ place + length (arm_code place before q body rest)
@@ -82,7 +62,8 @@ module _ {W : Type 0} (o : World W) (quiet : Quiet o) where
   sent_at_quiet (k ∷ []) x = refl
   sent_at_quiet (k ∷ (w ∷ ws)) x = sent_at_quiet ws (o.out_at k w x) ∙ quiet.out_at k w x
 
-  init_quiet : (r : Rate) (t s : Note W) → o.refused s.world ≡ o.refused t.world → o.refused (if_init r t s).world ≡ o.refused t.world
+  init_quiet : (r : Rate) (t s : Note W) → o.refused s.world ≡ o.refused t.world
+      → o.refused (if_init r t s).world ≡ o.refused t.world
   init_quiet rate.Init t s h = refl
   init_quiet rate.Control t s h = h
   init_quiet rate.Audio t s h = h
@@ -97,34 +78,38 @@ module _ {W : Type 0} (o : World W) (quiet : Quiet o) where
   done_quiet r vs p t h = given_quiet vs (held o.ksmps r p.1) (moved_to p.0 t) ∙ h
 
   mutual
-    pub stmt_quiet : (p : Place) (s : Stmt) (t : Note W) → o.refused (perf_stmt o p s t).world ≡ o.refused t.world
-    stmt_quiet p (set r v e) t = init_quiet r t _ (assign_quiet v (value o t false p.part e) t)
+    pub stmt_quiet : (p : meaning.Place) (s : Stmt) (t : Note W)
+        → o.refused (perf_stmt o p s t).world ≡ o.refused t.world
+    stmt_quiet p (set r v e) t = init_quiet r t _ (assign_quiet v (value o t false (0 ∷ p.path) e) t)
     stmt_quiet p (unit r vs opcode reach xs is) t =
-        init_quiet r t _ (done_quiet r vs (o.does opcode r p.unit reach (values o t false p.part xs) t.world) t
-        (quiet.does opcode r p.unit reach (values o t false p.part xs) t.world))
+        let ws : List Wave = values o t false (0 ∷ p.path) xs in
+        init_quiet r t _ (done_quiet r vs (o.does opcode r p.unit reach ws t.world) t
+        (quiet.does opcode r p.unit reach ws t.world))
     stmt_quiet p (zak r vs opcode reach xs) t =
-        init_quiet r t _ (done_quiet r vs (o.zak opcode reach (values o t false p.part xs) t.world) t
-        (quiet.zak opcode reach (values o t false p.part xs) t.world))
+        let ws : List Wave = values o t false (0 ∷ p.path) xs in
+        init_quiet r t _ (done_quiet r vs (o.zak opcode reach ws t.world) t (quiet.zak opcode reach ws t.world))
     stmt_quiet p (store r opcode reach es is) t =
-        init_quiet r t (moved_to (o.store opcode r reach (values o t false p.part es) t.world) t)
-        (quiet.store opcode r reach (values o t false p.part es) t.world)
-    stmt_quiet p (out r es) t = sent_quiet 0 (values o t false p.part es) t.world
-    stmt_quiet p (out_at r es) t = sent_at_quiet (values o t false p.part es) t.world
+        let ws : List Wave = values o t false (0 ∷ p.path) es in
+        init_quiet r t (moved_to (o.store opcode r reach ws t.world) t) (quiet.store opcode r reach ws t.world)
+    stmt_quiet p (out r es) t = sent_quiet 0 (values o t false (0 ∷ p.path) es) t.world
+    stmt_quiet p (out_at r es) t = sent_at_quiet (values o t false (0 ∷ p.path) es) t.world
     stmt_quiet p (ask es) t = refl
     stmt_quiet p (turnoff r) t = quiet.turnoff t.world
     stmt_quiet p nothing t = refl
-    stmt_quiet p (choose r arms) t = arms_quiet p arms t
+    stmt_quiet p (choose r arms) t = arms_quiet (inside p) arms t
 
-    pub block_quiet : (p : Place) (b : Block) (t : Note W) → o.refused (perf_block o p b t).world ≡ o.refused t.world
+    pub block_quiet : (p : meaning.Place) (b : Block) (t : Note W)
+        → o.refused (perf_block o p b t).world ≡ o.refused t.world
     block_quiet p no_stmt t = refl
-    block_quiet p (andthen s b) t = block_quiet (past_stmt p s) b (perf_stmt o p s t) ∙ stmt_quiet p s t
+    block_quiet p (andthen s b) t = block_quiet (meaning.past_stmt p s) b (perf_stmt o p s t) ∙ stmt_quiet p s t
 
-    pub arms_quiet : (p : Place) (arms : Arms) (t : Note W) → o.refused (perf_arms o p arms t).world ≡ o.refused t.world
-    arms_quiet p (otherwise b) t = block_quiet p b t
+    pub arms_quiet : (p : meaning.Place) (arms : Arms) (t : Note W)
+        → o.refused (perf_arms o p arms t).world ≡ o.refused t.world
+    arms_quiet p (otherwise b) t = block_quiet (inside p) b t
     arms_quiet p (arm c b rest) t =
-        let q : Place = past_parts (past p.part c) p in
-        if_quiet (holds (value o t false p.part c 0)) t (perf_block o q b t) (perf_arms o (past_block q b) rest t) (block_quiet q b t)
-        (arms_quiet (past_block q b) rest t)
+        if_quiet (holds (value o t false (0 ∷ p.path) c 0)) t (perf_block o (inside_arm p) b t)
+        (perf_arms o (past_arm p b) rest t)
+        (block_quiet (inside_arm p) b t) (arms_quiet (past_arm p b) rest t)
 
 -- ---- values go out
 
@@ -134,8 +119,10 @@ module _ {W : Type 0} (o : World W) (quiet : Quiet o) where
   out_ops_run c [] place m l = refl
   out_ops_run c (q ∷ qs) place m l =
       let n : Machine W = in_world (o.out c (m.regs q) m.world) m in
-      let live : Live o (place + 1) n = record { next = le_trans l.next (omega arith); going = quiet.out c (m.regs q) m.world ∙ l.going } in
-      ap (run o (place + 1) (out_ops (c + 1) qs)) (live_step o place (op_of (act.Out c) q (q ∷ [])) m l) ∙ out_ops_run (c + 1) qs (place + 1) n live
+      let live : Live o (place + 1) n =
+      record { next = le_trans l.next (omega arith); going = quiet.out c (m.regs q) m.world ∙ l.going } in
+      ap (run o (place + 1) (out_ops (c + 1) qs)) (live_step o place (op_of (act.Out c) q (q ∷ [])) m l)
+      ∙ out_ops_run (c + 1) qs (place + 1) n live
 
   out_at_ops_run : (qs : List Reg) (place : ℕ) (m : Machine W) → Live o place m
       → run o place (out_at_ops qs) m ≡ in_world (sent_at o (map m.regs qs) m.world) m
@@ -143,136 +130,186 @@ module _ {W : Type 0} (o : World W) (quiet : Quiet o) where
   out_at_ops_run (k ∷ []) place m l = refl
   out_at_ops_run (k ∷ (q ∷ qs)) place m l =
       let n : Machine W = in_world (o.out_at (m.regs k) (m.regs q) m.world) m in
-      let live : Live o (place + 1) n = record { next = le_trans l.next (omega arith); going = quiet.out_at (m.regs k) (m.regs q) m.world ∙ l.going } in
-      ap (run o (place + 1) (out_at_ops qs)) (live_step o place (op_of act.OutAt q (k ∷ q ∷ [])) m l) ∙ out_at_ops_run qs (place + 1) n live
+      let live : Live o (place + 1) n =
+      record { next = le_trans l.next (omega arith); going = quiet.out_at (m.regs k) (m.regs q) m.world ∙ l.going } in
+      ap (run o (place + 1) (out_at_ops qs)) (live_step o place (op_of act.OutAt q (k ∷ q ∷ [])) m l)
+      ∙ out_at_ops_run qs (place + 1) n live
 
-module _ {W : Type 0} (o : World W) (quiet : Quiet o) (f : Frame) (lim : Rate → ℕ) (parts : ℕ) (fits : Fits f lim parts) where
-  reached : (t s : Note W) (place : ℕ) (ops : List Op) (m n : Machine W) → Live o place m → Reached f lim parts s m n
-      → Agrees f lim parts (place + length ops) s n
+module _ {W : Type 0} (o : World W) (quiet : Quiet o) (f : Frame) (lim : Rate → ℕ) (placed : Path → Option ℕ)
+    (fits : Fits f lim placed) where
+  reached : (t s : Note W) (place : ℕ) (ops : List Op) (m n : Machine W) → Live o place m → Reached lim placed s m n
+      → Agrees lim placed (place + length ops) s n
   reached t s place ops m n l h = record { stands = h.stands; next = (let e = h.next in let k = l.next in omega arith) }
 
   -- operands, and then ops that move the world alone
-  sent_from : (es : List Expression) (last : List Op) (send : List Wave → W → W) (t : Note W) (at place : ℕ) (m : Machine W)
+  sent_from : (es : List Expression) (last : List Op) (send : List Wave → W → W) (t : Note W) (at : ℕ) (path : Path)
+      (place : ℕ) (m : Machine W)
       → ((n : Machine W) → Live o (place + length (operands_code f false at es 0)) n
-      → run o (place + length (operands_code f false at es 0)) last n ≡ in_world (send (map n.regs (spots f false at es 0)) n.world) n)
-      → Stands (plan_of f lim parts) t m → Live o place m → InsideAll lim es → past_all at es ≤ parts
-      → Reached f lim parts (moved_to (send (values o t false at es) t.world) t) m (run o place (operands_code f false at es 0 ++ last) m)
-  sent_from es last send t at place m does s l inside bound =
+      → run o (place + length (operands_code f false at es 0)) last n ≡ in_world
+      (send (map n.regs (spots f false at es 0)) n.world) n)
+      → Stands (plan_of lim placed) t m → Live o place m → InsideAll lim es
+      → LaysOn f.kept placed path (all_numbers at es)
+      → Reached lim placed (moved_to (send (values o t false path es) t.world) t) m
+      (run o place (operands_code f false at es 0 ++ last) m)
+  sent_from es last send t at path place m does s l inside lays =
       let ops : List Op = operands_code f false at es 0 in
       let n : Machine W = run o place ops m in
-      let ready = operands_run o f lim parts fits t es false at 0 place m s l inside bound in
+      let ready = operands_run o f lim placed fits t es false at path 0 place m s l inside lays in
       let live : Live o (place + length ops) n = live_same o f 0 place (length ops) m n l ready.same in
-      let x : W = send (values o t false at es) t.world in
+      let x : W = send (values o t false path es) t.world in
       let is : run o place (ops ++ last) m ≡ in_world x n =
       run_append o place ops last m ∙ does n live
       ∙ ap (λ ws. in_world (send ws n.world) n) ready.here
-      ∙ ap (λ y. in_world (send (values o t false at es) y) n) (ready.same.world ∙ s.world) in
-      subst (Reached f lim parts (moved_to x t) m) (sym is) (record {
-        stands = moved_stands o f lim parts fits t x m (in_world x n) s refl (λ p low. ready.same.regs p (omega arith));
+      ∙ ap (λ y. in_world (send (values o t false path es) y) n) (ready.same.world ∙ s.world) in
+      subst (Reached lim placed (moved_to x t) m) (sym is) (record {
+        stands = moved_stands o f lim placed fits t x m (in_world x n) s refl
+            (λ p low. ready.same.regs p (omega arith));
         next = ready.same.next;
       })
 
-  each_cycle : (r : Rate) (t s : Note W) (place a b : ℕ) (ops : List Op) (m : Machine W) → Agrees f lim parts place t m
-      → if_init r a b ≤ parts → (b ≤ parts → Agrees f lim parts (place + length ops) s (run o place ops m))
-      → Agrees f lim parts (place + length (if_init r [] ops)) (if_init r t s) (run o place (if_init r [] ops) m)
-  each_cycle rate.Init t s place a b ops m h bound does = record { stands = h.stands; next = le_trans h.next (omega arith) }
-  each_cycle rate.Control t s place a b ops m h bound does = does bound
-  each_cycle rate.Audio t s place a b ops m h bound does = does bound
+  each_cycle : (r : Rate) (t s : Note W) (place : ℕ) (path : Path) (n : Path → Option ℕ) (ops : List Op) (m : Machine W)
+      → Agrees lim placed place t m
+      → Lays f.kept placed path (if_init r nowhere n)
+      → (Lays f.kept placed path n → Agrees lim placed (place + length ops) s (run o place ops m))
+      → Agrees lim placed (place + length (if_init r [] ops)) (if_init r t s) (run o place (if_init r [] ops) m)
+  each_cycle rate.Init t s place path n ops m h lays does =
+      record { stands = h.stands; next = le_trans h.next (omega arith) }
+  each_cycle rate.Control t s place path n ops m h lays does = does lays
+  each_cycle rate.Audio t s place path n ops m h lays does = does lays
 
   mutual
-    pub perf_runs : (s : Stmt) (p : Place) (place : ℕ) (t : Note W) (m : Machine W) → Agrees f lim parts place t m → o.refused t.world ≡ false
-        → InsideStmt lim s → (past_stmt p s).part ≤ parts
-        → Agrees f lim parts (place + length (perf_code f place p s)) (perf_stmt o p s t) (run o place (perf_code f place p s) m)
-    perf_runs (set r v e) p place t m h going inside bound =
+    pub perf_runs : (s : Stmt) (path : Path) (p : Place) (place : ℕ) (t : Note W) (m : Machine W)
+        → Agrees lim placed place t m
+        → o.refused t.world ≡ false → InsideStmt lim s → Lays f.kept placed path (stmt_numbers p s)
+        → Agrees lim placed (place + length (perf_code f place p s)) (perf_stmt o (stands_at path p) s t)
+        (run o place (perf_code f place p s) m)
+    perf_runs (set r v e) path p place t m h going inside lays =
         let ops : List Op = set_code f false p.part v e in
-        let live = agrees_live o f lim parts place t m h going in
-        each_cycle r t (assign o v (value o t false p.part e) t) place p.part (past p.part e) ops m h bound (λ b.
-        reached t (assign o v (value o t false p.part e) t) place ops m (run o place ops m) live
-        (set_runs o f lim parts fits v false p.part e t place m h.stands live inside.0 inside.1 b))
-    perf_runs (unit r vs opcode reach xs is) p place t m h going inside bound =
+        let live = agrees_live o lim placed place t m h going in
+        let s : Note W = assign o v (value o t false (0 ∷ path) e) t in
+        each_cycle r t s place path (parts (numbers p.part e) nowhere) ops m h lays (λ b.
+        reached t s place ops m (run o place ops m) live
+        (set_runs o f lim placed fits v false p.part (0 ∷ path) e t place m h.stands live inside.0 inside.1
+        (λ q. b (0 ∷ q))))
+    perf_runs (unit r vs opcode reach xs is) path p place t m h going inside lays =
         let ops : List Op = unit_code f false p.part r vs opcode p.unit reach xs in
-        let live = agrees_live o f lim parts place t m h going in
-        let s : Note W = done o r vs (o.does opcode r p.unit reach (values o t false p.part xs) t.world) t in
-        each_cycle r t s place p.part (past_all p.part xs) ops m h bound (λ b.
+        let live = agrees_live o lim placed place t m h going in
+        let s : Note W = done o r vs (o.does opcode r p.unit reach (values o t false (0 ∷ path) xs) t.world) t in
+        each_cycle r t s place path (all_numbers p.part xs) ops m h lays (λ b.
         reached t s place ops m (run o place ops m) live
-        (unit_runs o f lim parts fits quiet false p.part r vs opcode p.unit reach xs t place m h.stands live inside.0 inside.1 b))
-    perf_runs (zak r vs opcode reach xs) p place t m h going inside bound =
+        (unit_runs o f lim placed fits quiet false p.part (0 ∷ path) r vs opcode p.unit reach xs t place m h.stands live
+        inside.0 inside.1
+        (lays_on f.kept placed path (all_numbers p.part xs) b)))
+    perf_runs (zak r vs opcode reach xs) path p place t m h going inside lays =
         let ops : List Op = zak_code f false p.part r vs opcode reach xs in
-        let live = agrees_live o f lim parts place t m h going in
-        let s : Note W = done o r vs (o.zak opcode reach (values o t false p.part xs) t.world) t in
-        each_cycle r t s place p.part (past_all p.part xs) ops m h bound (λ b.
+        let live = agrees_live o lim placed place t m h going in
+        let s : Note W = done o r vs (o.zak opcode reach (values o t false (0 ∷ path) xs) t.world) t in
+        each_cycle r t s place path (all_numbers p.part xs) ops m h lays (λ b.
         reached t s place ops m (run o place ops m) live
-        (zak_runs o f lim parts fits quiet false p.part r vs opcode reach xs t place m h.stands live inside.0 inside.1 b))
-    perf_runs (store r opcode reach es is) p place t m h going inside bound =
+        (zak_runs o f lim placed fits quiet false p.part (0 ∷ path) r vs opcode reach xs t place m h.stands live
+        inside.0 inside.1
+        (lays_on f.kept placed path (all_numbers p.part xs) b)))
+    perf_runs (store r opcode reach es is) path p place t m h going inside lays =
         let ops : List Op = store_code f false p.part r opcode reach es in
-        let live = agrees_live o f lim parts place t m h going in
-        let s : Note W = moved_to (o.store opcode r reach (values o t false p.part es) t.world) t in
-        each_cycle r t s place p.part (past_all p.part es) ops m h bound (λ b.
+        let live = agrees_live o lim placed place t m h going in
+        let s : Note W = moved_to (o.store opcode r reach (values o t false (0 ∷ path) es) t.world) t in
+        each_cycle r t s place path (all_numbers p.part es) ops m h lays (λ b.
         reached t s place ops m (run o place ops m) live
-        (store_runs o f lim parts fits false p.part r opcode reach es t place m h.stands live inside.0 b))
-    perf_runs (out r es) p place t m h going inside bound =
+        (store_runs o f lim placed fits false p.part (0 ∷ path) r opcode reach es t place m h.stands live inside.0
+        (lays_on f.kept placed path (all_numbers p.part es) b)))
+    perf_runs (out r es) path p place t m h going inside lays =
         let ops : List Op = operands_code f false p.part es 0 in
         let last : List Op = out_ops 0 (spots f false p.part es 0) in
-        let live = agrees_live o f lim parts place t m h going in
-        reached t (moved_to (sent o 0 (values o t false p.part es) t.world) t) place (ops ++ last) m (run o place (ops ++ last) m) live
-        (sent_from es last (sent o 0) t p.part place m (λ n l. out_ops_run o quiet 0 (spots f false p.part es 0) (place + length ops) n l)
-        h.stands live inside bound)
-    perf_runs (out_at r es) p place t m h going inside bound =
+        let live = agrees_live o lim placed place t m h going in
+        reached t (moved_to (sent o 0 (values o t false (0 ∷ path) es) t.world) t) place (ops ++ last) m
+        (run o place (ops ++ last) m) live
+        (sent_from es last (sent o 0) t p.part (0 ∷ path) place m
+        (λ n l. out_ops_run o quiet 0 (spots f false p.part es 0) (place + length ops) n l) h.stands live inside
+        (lays_on f.kept placed path (all_numbers p.part es) lays))
+    perf_runs (out_at r es) path p place t m h going inside lays =
         let ops : List Op = operands_code f false p.part es 0 in
         let last : List Op = out_at_ops (spots f false p.part es 0) in
-        let live = agrees_live o f lim parts place t m h going in
-        reached t (moved_to (sent_at o (values o t false p.part es) t.world) t) place (ops ++ last) m (run o place (ops ++ last) m) live
-        (sent_from es last (sent_at o) t p.part place m (λ n l. out_at_ops_run o quiet (spots f false p.part es 0) (place + length ops) n l)
-        h.stands live inside bound)
-    perf_runs (ask es) p place t m h going inside bound = record { stands = h.stands; next = le_trans h.next (omega arith) }
-    perf_runs (turnoff r) p place t m h going inside bound =
+        let live = agrees_live o lim placed place t m h going in
+        reached t (moved_to (sent_at o (values o t false (0 ∷ path) es) t.world) t) place (ops ++ last) m
+        (run o place (ops ++ last) m) live
+        (sent_from es last (sent_at o) t p.part (0 ∷ path) place m
+        (λ n l. out_at_ops_run o quiet (spots f false p.part es 0) (place + length ops) n l) h.stands live inside
+        (lays_on f.kept placed path (all_numbers p.part es) lays))
+    perf_runs (ask es) path p place t m h going inside lays =
+        record { stands = h.stands; next = le_trans h.next (omega arith) }
+    perf_runs (turnoff r) path p place t m h going inside lays =
         let op : Op = op_of act.Turnoff (reg rate.Init 0) [] in
-        let live = agrees_live o f lim parts place t m h going in
+        let live = agrees_live o lim placed place t m h going in
         let x : W = o.turnoff t.world in
-        let is : run o place (op ∷ []) m ≡ in_world x m = live_step o place op m live ∙ ap (λ y. in_world (o.turnoff y) m) h.stands.world in
-        subst (Agrees f lim parts (place + 1) (moved_to x t)) (sym is) (record {
-          stands = moved_stands o f lim parts fits t x m (in_world x m) h.stands refl (λ q low. refl);
+        let is : run o place (op ∷ []) m ≡ in_world x m =
+        live_step o place op m live ∙ ap (λ y. in_world (o.turnoff y) m) h.stands.world in
+        subst (Agrees lim placed (place + 1) (moved_to x t)) (sym is) (record {
+          stands = moved_stands o f lim placed fits t x m (in_world x m) h.stands refl (λ q low. refl);
           next = le_trans h.next (omega arith);
         })
-    perf_runs nothing p place t m h going inside bound = record { stands = h.stands; next = le_trans h.next (omega arith) }
-    perf_runs (choose r arms) p place t m h going inside bound = perf_arms_runs arms p place t m h going inside.1 bound
+    perf_runs nothing path p place t m h going inside lays =
+        record { stands = h.stands; next = le_trans h.next (omega arith) }
+    perf_runs (choose r arms) path p place t m h going inside lays =
+        perf_arms_runs arms (0 ∷ path) p place t m h going inside.1
+        (lays_on f.kept placed path (arms_numbers p arms) lays)
 
-    pub perf_block_runs : (b : Block) (p : Place) (place : ℕ) (t : Note W) (m : Machine W) → Agrees f lim parts place t m → o.refused t.world ≡ false
-        → InsideBlock lim b → (past_block p b).part ≤ parts
-        → Agrees f lim parts (place + length (perf_block_code f place p b)) (perf_block o p b t) (run o place (perf_block_code f place p b) m)
-    perf_block_runs no_stmt p place t m h going inside bound = record { stands = h.stands; next = le_trans h.next (omega arith) }
-    perf_block_runs (andthen s b) p place t m h going inside bound =
+    pub perf_block_runs : (b : Block) (path : Path) (p : Place) (place : ℕ) (t : Note W) (m : Machine W)
+        → Agrees lim placed place t m
+        → o.refused t.world ≡ false → InsideBlock lim b → LaysOn f.kept placed path (block_numbers p b)
+        → Agrees lim placed (place + length (perf_block_code f place p b)) (perf_block o (stands_at path p) b t)
+        (run o place (perf_block_code f place p b) m)
+    perf_block_runs no_stmt path p place t m h going inside lays =
+        record { stands = h.stands; next = le_trans h.next (omega arith) }
+    perf_block_runs (andthen s b) path p place t m h going inside lays =
         let ops : List Op = perf_code f place p s in
         let rest : List Op = perf_block_code f (place + length ops) (past_stmt p s) b in
-        let u : Note W = perf_stmt o p s t in
-        let first = perf_runs s p place t m h going inside.0 (le_trans (block_grows (past_stmt p s) b) bound) in
-        let more = perf_block_runs b (past_stmt p s) (place + length ops) u (run o place ops m) first (stmt_quiet o quiet p s t ∙ going) inside.1 bound in
-        let far : place + length ops + length rest ≡ place + length (ops ++ rest) = (let l = length-append ops rest in omega arith) in
-        subst (λ n. Agrees f lim parts n (perf_block o p (andthen s b) t) (run o place (ops ++ rest) m)) far
-        (subst (Agrees f lim parts (place + length ops + length rest) (perf_block o p (andthen s b) t)) (sym (run_append o place ops rest m)) more)
+        let u : Note W = perf_stmt o (stands_at path p) s t in
+        let first = perf_runs s path p place t m h going inside.0 (λ q. lays 0 q) in
+        let more = perf_block_runs b (next path) (past_stmt p s) (place + length ops) u (run o place ops m) first
+        (stmt_quiet o quiet (stands_at path p) s t ∙ going) inside.1 (λ k q. lays (suc k) q) in
+        let far : place + length ops + length rest ≡ place + length (ops ++ rest) =
+        (let l = length-append ops rest in omega arith) in
+        subst (λ n. Agrees lim placed n (perf_block o (stands_at path p) (andthen s b) t) (run o place (ops ++ rest) m))
+        far
+        (subst (Agrees lim placed (place + length ops + length rest) (perf_block o (stands_at path p) (andthen s b) t))
+        (sym (run_append o place ops rest m))
+        (subst (λ (n : ℕ). Agrees lim placed (place + length ops + length rest)
+        (perf_block o (record { path = next path; unit = n }) b u)
+        (run o (place + length ops) rest (run o place ops m))) (stmt_unit p s) more))
 
-    pub perf_arms_runs : (arms : Arms) (p : Place) (place : ℕ) (t : Note W) (m : Machine W) → Agrees f lim parts place t m → o.refused t.world ≡ false
-        → InsideArms lim arms → (past_arms p arms).part ≤ parts
-        → Agrees f lim parts (place + length (perf_arms_code f place p arms)) (perf_arms o p arms t) (run o place (perf_arms_code f place p arms) m)
-    perf_arms_runs (otherwise b) p place t m h going inside bound = perf_block_runs b p place t m h going inside bound
-    perf_arms_runs (arm c b rest) p place t m h going inside bound =
+    pub perf_arms_runs : (arms : Arms) (path : Path) (p : Place) (place : ℕ) (t : Note W) (m : Machine W)
+        → Agrees lim placed place t m
+        → o.refused t.world ≡ false → InsideArms lim arms → LaysOn f.kept placed path (arms_numbers p arms)
+        → Agrees lim placed (place + length (perf_arms_code f place p arms)) (perf_arms o (stands_at path p) arms t)
+        (run o place (perf_arms_code f place p arms) m)
+    perf_arms_runs (otherwise b) path p place t m h going inside lays =
+        perf_block_runs b (0 ∷ path) p place t m h going inside
+        (lays_on f.kept placed path (block_numbers p b) (λ q. lays 0 q))
+    perf_arms_runs (arm c b rest) path p place t m h going inside lays =
         let before : List Op = operand_code f false p.part c 0 in
         let q : Place = past_parts (past p.part c) p in
         let at : ℕ = place + length before + 1 in
         let body : List Op = perf_block_code f at q b in
         let others : List Op = perf_arms_code f (at + length body + 1) (past_block q b) rest in
         let holder : Reg = spot f false p.part c 0 in
-        let live = agrees_live o f lim parts place t m h going in
-        let low : (past_block q b).part ≤ parts = le_trans (arms_grow (past_block q b) rest) bound in
-        let ready = operand_runs o f lim parts fits t c false p.part 0 place m h.stands live inside.0 (le_trans (block_grows q b) low) in
+        let live = agrees_live o lim placed place t m h going in
+        let ready = operand_runs o f lim placed fits t c false p.part (0 ∷ path) 0 place m h.stands live inside.0
+        (λ k. lays 0 (0 ∷ k)) in
         let n : Machine W = run o place before m in
-        let there : Agrees f lim parts (place + length before) t n = record {
-          stands = stands_same o f lim parts fits t 0 m n h.stands ready.same;
+        let there : Agrees lim placed (place + length before) t n = record {
+          stands = stands_same o f lim placed fits t 0 m n h.stands ready.same;
           next = (let e = ready.same.next in let k = h.next in omega arith);
         } in
-        subst (λ far. Agrees f lim parts far (perf_arms o p (arm c b rest) t) (run o place (arm_code place before holder body others) m))
+        subst (λ far. Agrees lim placed far (perf_arms o (stands_at path p) (arm c b rest) t)
+        (run o place (arm_code place before holder body others) m))
         (arm_length place before holder body others)
-        (arm_runs o f lim parts place before holder body others t (perf_block o q b t) (perf_arms o (past_block q b) rest t) (value o t false p.part c) m
+        (arm_runs o lim placed place before holder body others t (perf_block o (stands_at (0 ∷ 1 ∷ path) q) b t)
+        (perf_arms o (past_arm (stands_at path p) b) rest t) (value o t false (0 ∷ path) c) m
         there going ready.here
-        (λ k a. perf_block_runs b q at t k a going inside.1 low)
-        (λ k a. perf_arms_runs rest (past_block q b) (at + length body + 1) t k a going inside.2 bound))
+        (λ k a. perf_block_runs b (0 ∷ 1 ∷ path) q at t k a going inside.1
+        (lays_on f.kept placed (1 ∷ path) (block_numbers q b) (λ j. lays 0 (1 ∷ j))))
+        (λ k a. subst (λ (u : ℕ). Agrees lim placed (at + length body + 1 + length others)
+        (perf_arms o (record { path = next path; unit = u }) rest t)
+        (run o (at + length body + 1) others k)) (block_unit q b)
+        (perf_arms_runs rest (next path) (past_block q b) (at + length body + 1) t k a going inside.2
+        (λ i j. lays (suc i) j))))

@@ -1,5 +1,5 @@
 -- A well rated tree whose local variables are counted meets what the simulation asks.
-use Rattle.std.proofs.Common.{◌≡◌, ℕ, ◌+◌, ◌≤◌, Bool, true, false, List, [], ◌∷◌, length, if◌then◌else◌, refl, arith, ne_eqb}
+use Rattle.std.proofs.Common.{◌≡◌, ℕ, ◌+◌, Bool, true, false, List, [], ◌∷◌, length, if◌then◌else◌, refl, arith, ne_eqb}
 use Rattle.std.proofs.lemmas.Bool.{and_parts}
 use Rattle.std.proofs.lemmas.List.Elements.{All-head, All-tail}
 use Rattle.std.specs.List.{All}
@@ -12,7 +12,7 @@ use Rattle.cs_words.specs.Catalogue.{Row, row_of, result_count, letter_at, is_se
 use Rattle.cs_words.specs.declared.catalogue.Opcode.{Opcode}
 use Rattle.cs_words.specs.declared.catalogue.Shape.{Shape}
 use Rattle.cs_words.specs.declared.catalogue.Shape.TheVariants as shape
-use Rattle.cs_meaning.specs.Core.{Block, core, core_stmt, core_arms, core_call, values_of, moving, settled}
+use Rattle.cs_meaning.specs.Core.{core, core_stmt, core_arms, core_call, values_of, moving, settled}
 use Rattle.cs_typed.specs.TypedTree as typed
 use Rattle.cs_typed.specs.TypedTree.{Expression, Argument}
 use Rattle.cs_typed.specs.Variables.{IsCounted, EachInExpression, EachInArgument, EachInStatement, EachInBlock, EachInArms}
@@ -21,8 +21,7 @@ use Rattle.cs_typed.specs.declared.setting.Setting.{Setting}
 use Rattle.cs_typed.specs.declared.tree.Var.{Var as Variable}
 use Rattle.cs_typed.specs.declared.tree.Var.TheVariants.{Local, Global}
 use Rattle.cs_typed.proofs.Variables.{expression_weaker}
-use Rattle.cs_code.specs.inner.Frames.{frame_for, parts_of}
-use Rattle.cs_code.proofs.Inside.{Fits, InsideVar, Inside, InsideAll, Takes, AllStill, InsideStmt, InsideBlock, InsideArms}
+use Rattle.cs_code.proofs.Inside.{InsideVar, Inside, InsideAll, Takes, AllStill, InsideStmt, InsideBlock, InsideArms}
 
 -- ---- conditions that are known when the note begins
 
@@ -135,12 +134,3 @@ module _ (counts : PerRate ℕ) where
     inside_arms spaces s (typed.otherwise b) rated h = rated_inside spaces s b rated h
     inside_arms spaces s (typed.arm c b rest) rated h =
         (inside_expr c h.0, rated_inside spaces s b rated.3 h.1, inside_arms spaces s rest rated.4 h.2)
-
--- the frame of a block has room for it
-pub frame_fits : (counts : PerRate ℕ) (b : Block) → Fits (frame_for counts b) (at_rate counts) (parts_of b)
-frame_fits counts b = record { locals = room; below = omega arith; room = omega arith }
-  where
-    room : (r : Rate) → at_rate counts r ≤ (frame_for counts b).base r
-    room rate.Init = omega arith
-    room rate.Control = omega arith
-    room rate.Audio = omega arith

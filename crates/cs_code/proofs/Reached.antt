@@ -17,9 +17,11 @@ max_assoc a b c = omega arith
 
 pub reached_two : (c : Counts) (g h : Rate → ℕ) → reached (reached c g) h ≡ reached c (λ r. max (g r) (h r))
 reached_two c g h = λ j. record {
-  i = max_assoc c.i (g rate.Init) (h rate.Init) j;
-  k = max_assoc c.k (g rate.Control) (h rate.Control) j;
-  a = max_assoc c.a (g rate.Audio) (h rate.Audio) j;
+  registers = record {
+    init = max_assoc c.registers.init (g rate.Init) (h rate.Init) j;
+    control = max_assoc c.registers.control (g rate.Control) (h rate.Control) j;
+    audio = max_assoc c.registers.audio (g rate.Audio) (h rate.Audio) j;
+  };
   units = c.units;
 }
 

@@ -17,7 +17,8 @@ use Rattle.cs_ir.specs.declared.op.Op.{Op}
 use Rattle.cs_ir.specs.declared.register.Reg.{Reg}
 use Rattle.cs_meaning.specs.Core.{Stmt, Block, Arms, set, unit, zak, store, out, out_at, ask, turnoff, nothing}
 use Rattle.cs_meaning.specs.Core.{choose, no_stmt, andthen, otherwise, arm}
-use Rattle.cs_meaning.specs.Notes.{Place, reg, past, past_parts, past_stmt, past_block}
+use Rattle.cs_meaning.specs.Notes.{reg}
+use Rattle.cs_code.specs.inner.Kept.{Place, past, past_parts, past_stmt, past_block}
 use Rattle.cs_meaning.specs.Uses.{arms_touched, block_touched, stmt_touched, beginning, cycle}
 use Rattle.cs_meaning.specs.Uses.{expr_reads, expr_used, exprs_read, exprs_used, var_uses, vars_use}
 use Rattle.cs_typed.specs.TypedTree.{Expression, number, var, field, head, neg, pair, pick, apply}

@@ -3,14 +3,14 @@ use Rattle.std.proofs.Common.{◌≡◌, ℕ, suc, ◌+◌, ◌<◌, ◌≤◌, 
 use Rattle.std.specs.List.{list_all}
 use Rattle.std.proofs.lemmas.Option.{slice_get_within}
 use Rattle.cs_base.proofs.Rates.{same_rate_is, same_rate_here}
-use Rattle.cs_base.specs.Rates.{same_rate, within, is_audio, is_init, res_rate}
+use Rattle.cs_base.specs.Rates.{at_rate, same_rate, within, is_audio, is_init, res_rate}
 use Rattle.cs_base.specs.declared.resource.Rate.{Rate}
 use Rattle.cs_base.specs.declared.resource.Rate.TheVariants as rate
 use Rattle.cs_words.specs.Catalogue.{row_of, takes, moving_letters, unit_takes}
 use Rattle.cs_words.specs.declared.catalogue.Letter.{Letter}
 use Rattle.cs_words.specs.declared.catalogue.Opcode.{Opcode}
 use Rattle.cs_ir.specs.Units.{is_store, is_unit, is_zak}
-use Rattle.cs_ir.specs.Validity.{takes_from, suits_operator, suits_function, take_all, as_sounds, stores_with, is_still, may_run_at, bound_at, has_value, runs_with, count_of, has_register, writes, finds, is_fine, fine_from}
+use Rattle.cs_ir.specs.Validity.{takes_from, suits_operator, suits_function, take_all, as_sounds, stores_with, is_still, may_run_at, bound_at, has_value, runs_with, has_register, writes, finds, is_fine, fine_from}
 use Rattle.cs_ir.specs.Waves.{if_init}
 use Rattle.cs_ir.specs.declared.op.Act.{Act}
 use Rattle.cs_ir.specs.declared.op.Act.TheVariants as act
@@ -19,7 +19,8 @@ use Rattle.cs_ir.specs.declared.op.Reach.{Reach}
 use Rattle.cs_ir.specs.declared.register.Counts.{Counts}
 use Rattle.cs_ir.specs.declared.register.Reg.{Reg}
 use Rattle.cs_meaning.specs.Core.{Stmt, Block, Arms, set, unit, zak, store, out, out_at, ask, turnoff, nothing, choose, no_stmt, andthen, otherwise, arm}
-use Rattle.cs_meaning.specs.Notes.{Place, reg, past, past_parts, past_stmt, past_block}
+use Rattle.cs_meaning.specs.Notes.{reg}
+use Rattle.cs_code.specs.inner.Kept.{Place, past, past_parts, past_stmt, past_block}
 use Rattle.cs_typed.specs.TypedTree.{Expression, number, var, field, head, neg, pair, pick, apply}
 use Rattle.cs_typed.specs.WellRated.{node_rate}
 use Rattle.cs_typed.specs.declared.tree.Var.{Var as Variable}
@@ -531,19 +532,19 @@ finds_right counts channels units end place (act.Jump to) r low h l = two (nat_l
 finds_right counts channels units end place (act.Unless to) r low h l = two (nat_lt place to) (nat_le to end) (lt-ltb place to l.0) (le-leb to end l.1)
 finds_right counts channels units end place _ r low h l = refl
 
-has_one : (counts : Counts) (q : Reg) → ((r : Rate) → reg_limit r q ≤ count_of counts r) → has_register counts q ≡ true
+has_one : (counts : Counts) (q : Reg) → ((r : Rate) → reg_limit r q ≤ at_rate counts.registers r) → has_register counts q ≡ true
 has_one counts q h =
-    let here : q.index + 1 ≤ count_of counts q.rate = subst (λ b. (if b then q.index + 1 else 0) ≤ count_of counts q.rate) (same_rate_here q.rate) (h q.rate) in
-    lt-ltb q.index (count_of counts q.rate) (omega arith)
+    let here : q.index + 1 ≤ at_rate counts.registers q.rate = subst (λ b. (if b then q.index + 1 else 0) ≤ at_rate counts.registers q.rate) (same_rate_here q.rate) (h q.rate) in
+    lt-ltb q.index (at_rate counts.registers q.rate) (omega arith)
 
-has_all : (counts : Counts) (qs : List Reg) → ((r : Rate) → regs_limit r qs ≤ count_of counts r) → list_all (has_register counts) qs ≡ true
+has_all : (counts : Counts) (qs : List Reg) → ((r : Rate) → regs_limit r qs ≤ at_rate counts.registers r) → list_all (has_register counts) qs ≡ true
 has_all counts [] h = refl
 has_all counts (q ∷ qs) h =
     two (has_register counts q) (list_all (has_register counts) qs) (has_one counts q (λ r. let m = h r in omega arith)) (has_all counts qs (λ r. let m = h r in omega arith))
 
 -- a code is valid where its ops are fine, and there are as many registers and units as it names
 pub fine_valid : (cycles : Bool) (counts : Counts) (channels : ℕ) (units : List UnitKind) (end place : ℕ) (ops : List Op) → length units ≤ counts.units
-    → ((r : Rate) → ops_limit r ops ≤ count_of counts r) → Each cycles channels units ops → Fine end place ops → fine_from counts end place ops ≡ true
+    → ((r : Rate) → ops_limit r ops ≤ at_rate counts.registers r) → Each cycles channels units ops → Fine end place ops → fine_from counts end place ops ≡ true
 fine_valid cycles counts channels units end place [] low limits named fine = refl
 fine_valid cycles counts channels units end place (op ∷ ops) low limits named fine =
     two (is_fine counts end place op) (fine_from counts end (place + 1) ops)

@@ -1,13 +1,14 @@
 -- The codes of a well rated block are valid, and name what there is.
 use Rattle.std.proofs.Common.{◌≡◌, ◌≤◌, true, false, refl, List, length, arith}
+use Rattle.cs_base.specs.Rates.{at_rate}
 use Rattle.cs_base.specs.declared.resource.Rate.{Rate}
 use Rattle.cs_base.specs.declared.spaces.Spaces.{Spaces}
 use Rattle.cs_ir.specs.Cycles.{are_of_cycle}
-use Rattle.cs_ir.specs.Validity.{count_of, fine_from}
+use Rattle.cs_ir.specs.Validity.{fine_from}
 use Rattle.cs_ir.specs.declared.op.Op.{Op}
 use Rattle.cs_ir.specs.declared.register.Counts.{Counts}
 use Rattle.cs_meaning.specs.Core.{Block, core}
-use Rattle.cs_meaning.specs.Notes.{start, past_block}
+use Rattle.cs_code.specs.inner.Kept.{start, past_block}
 use Rattle.cs_typed.specs.TypedTree as typed
 use Rattle.cs_typed.specs.WellRated.{IsRatedBlock}
 use Rattle.cs_typed.specs.declared.setting.Setting.{Setting}
@@ -25,7 +26,7 @@ units_counted b = let h = block_count start b in omega arith
 
 pub init_valid : (spaces : Spaces) (s : Setting) (t : typed.Block) → IsRatedBlock s t → (f : Frame) (counts : Counts)
     → (past_block start (core spaces t)).unit ≤ counts.units
-    → ((r : Rate) → ops_limit r (init_block_code f 0 start (core spaces t)) ≤ count_of counts r)
+    → ((r : Rate) → ops_limit r (init_block_code f 0 start (core spaces t)) ≤ at_rate counts.registers r)
     → fine_from counts (length (init_block_code f 0 start (core spaces t))) 0 (init_block_code f 0 start (core spaces t)) ≡ true
 init_valid spaces s t rated f counts units limits =
     let b : Block = core spaces t in
@@ -36,7 +37,7 @@ init_valid spaces s t rated f counts units limits =
 
 pub perf_valid : (spaces : Spaces) (s : Setting) (t : typed.Block) → IsRatedBlock s t → (f : Frame) (counts : Counts)
     → (past_block start (core spaces t)).unit ≤ counts.units
-    → ((r : Rate) → ops_limit r (perf_block_code f 0 start (core spaces t)) ≤ count_of counts r)
+    → ((r : Rate) → ops_limit r (perf_block_code f 0 start (core spaces t)) ≤ at_rate counts.registers r)
     → fine_from counts (length (perf_block_code f 0 start (core spaces t))) 0 (perf_block_code f 0 start (core spaces t)) ≡ true
 perf_valid spaces s t rated f counts units limits =
     let b : Block = core spaces t in

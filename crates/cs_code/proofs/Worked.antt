@@ -12,7 +12,8 @@ use Rattle.cs_typed.specs.TypedTree as typed
 use Rattle.cs_typed.specs.Variables.{IsCounted, EachInArgument, EachInBlock}
 use Rattle.cs_typed.specs.WellRated.{IsRatedBlock, IsRatedArgument}
 use Rattle.cs_typed.specs.declared.tree.Var.TheVariants.{Local}
-use Rattle.cs_code.specs.Examples.{counter, counter_init, counter_perf, terms, terms_perf, tone, tone_init, tone_perf, IsMadeOf}
+use Rattle.cs_code.specs.Examples.{counter, counter_counts, counter_init, counter_perf, terms, terms_counts, terms_perf}
+use Rattle.cs_code.specs.Examples.{tone, tone_counts, tone_init, tone_perf, IsMadeOf}
 use Rattle.cs_code.specs.Lowered.{IsCodeOf}
 use Rattle.cs_code.proofs.Instruments.{made_code}
 
@@ -27,10 +28,10 @@ counter_rated = ((refl, refl, refl, refl, (refl, refl, (refl, refl), refl)), tt)
 counter_counted : EachInBlock (IsCounted counter_locals) counter
 counter_counted = let low : 0 < 1 = omega arith in ((low, (low, tt)), tt)
 
-pub counter_code : (spaces : Spaces) (init perf : Code) → IsMadeOf counter_init (record { i = 1; k = 1; a = 0; units = 0 }) init
-    → IsMadeOf counter_perf (record { i = 1; k = 1; a = 0; units = 0 }) perf → IsCodeOf spaces 1 counter init perf
+pub counter_code : (spaces : Spaces) (init perf : Code) → IsMadeOf counter_init counter_counts init
+    → IsMadeOf counter_perf counter_counts perf → IsCodeOf spaces 1 counter init perf
 counter_code spaces init perf a b =
-    made_code spaces counter_locals (inside 1) counter counter_rated (record { i = 1; k = 1; a = 0; units = 0 }) counter_init counter_perf
+    made_code spaces counter_locals (inside 1) counter counter_rated counter_counts counter_init counter_perf
     (record { init_is = refl; perf_is = refl; counts_are = refl }) counter_counted init perf a.0 a.1 b.0 b.1
 
 -- ---- k1 = k1 + k2 + k1 + k2
@@ -56,10 +57,10 @@ terms_counted =
     let high : 1 < 2 = omega arith in
     ((low, (((low, high), low), high)), tt)
 
-pub terms_code : (spaces : Spaces) (init perf : Code) → IsMadeOf [] (record { i = 0; k = 3; a = 0; units = 0 }) init
-    → IsMadeOf terms_perf (record { i = 0; k = 3; a = 0; units = 0 }) perf → IsCodeOf spaces 1 terms init perf
+pub terms_code : (spaces : Spaces) (init perf : Code) → IsMadeOf [] terms_counts init
+    → IsMadeOf terms_perf terms_counts perf → IsCodeOf spaces 1 terms init perf
 terms_code spaces init perf a b =
-    made_code spaces terms_locals (inside 1) terms terms_rated (record { i = 0; k = 3; a = 0; units = 0 }) [] terms_perf
+    made_code spaces terms_locals (inside 1) terms terms_rated terms_counts [] terms_perf
     (record { init_is = refl; perf_is = refl; counts_are = refl }) terms_counted init perf a.0 a.1 b.0 b.1
 
 -- ---- a1 oscili k1, 440, 1 and out a1
@@ -131,8 +132,8 @@ tone_counted =
       ((All-nil (IsCounted tone_locals), All-cons Counted sound [] low (All-nil Counted)), tt),
     )
 
-pub tone_code : (spaces : Spaces) (init perf : Code) → IsMadeOf tone_init (record { i = 2; k = 1; a = 1; units = 1 }) init
-    → IsMadeOf tone_perf (record { i = 2; k = 1; a = 1; units = 1 }) perf → IsCodeOf spaces 1 tone init perf
+pub tone_code : (spaces : Spaces) (init perf : Code) → IsMadeOf tone_init tone_counts init
+    → IsMadeOf tone_perf tone_counts perf → IsCodeOf spaces 1 tone init perf
 tone_code spaces init perf a b =
-    made_code spaces tone_locals (inside 1) tone tone_rated (record { i = 2; k = 1; a = 1; units = 1 }) tone_init tone_perf
+    made_code spaces tone_locals (inside 1) tone tone_rated tone_counts tone_init tone_perf
     (record { init_is = refl; perf_is = refl; counts_are = refl }) tone_counted init perf a.0 a.1 b.0 b.1

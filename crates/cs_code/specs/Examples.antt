@@ -51,6 +51,9 @@ counter_init = op (act.Const one) (at rate.Init 0) [] ∷ []
 abbrev pub counter_perf : List Op
 counter_perf = op (act.Pair sign.Add) (at rate.Control 0) (at rate.Control 0 ∷ at rate.Init 0 ∷ []) ∷ []
 
+abbrev pub counter_counts : Counts
+counter_counts = record { registers = record { init = 1; control = 1; audio = 0 }; units = 0 }
+
 -- Nothing is kept, and one register beside the two variables takes each sum in turn.
 abbrev pub terms_perf : List Op
 terms_perf =
@@ -58,6 +61,9 @@ terms_perf =
     ∷ op (act.Pair sign.Add) (at rate.Control 2) (at rate.Control 2 ∷ at rate.Control 0 ∷ [])
     ∷ op (act.Pair sign.Add) (at rate.Control 0) (at rate.Control 2 ∷ at rate.Control 1 ∷ [])
     ∷ []
+
+abbrev pub terms_counts : Counts
+terms_counts = record { registers = record { init = 0; control = 3; audio = 0 }; units = 0 }
 
 -- As a note begins the frequency is kept and the unit started on its table, and in each cycle the unit runs and its sound goes out.
 abbrev pub tone_init : List Op
@@ -72,6 +78,9 @@ tone_perf =
     op (act.Unit opcode.Oscili 0 (reach.Span 1 1)) (at rate.Audio 0) (at rate.Control 0 ∷ at rate.Init 0 ∷ [])
     ∷ op (act.Out 0) (at rate.Audio 0) (at rate.Audio 0 ∷ [])
     ∷ []
+
+abbrev pub tone_counts : Counts
+tone_counts = record { registers = record { init = 2; control = 1; audio = 1 }; units = 1 }
 
 -- a code with these ops, over these registers and units
 abbrev pub IsMadeOf : List Op → Counts → Code → Type 0

@@ -1,5 +1,5 @@
 -- What it is for a note's code to mean the note's tree.
-use Rattle.std.specs.Prelude.{ℕ, false, ◌≡◌, ◌+◌, ◌<◌, List}
+use Rattle.std.specs.Prelude.{ℕ, false, ◌≡◌, ◌<◌, List, Option, Some}
 use Rattle.cs_base.specs.declared.resource.Rate.{Rate}
 use Rattle.cs_base.specs.declared.resource.Rate.TheVariants as rate
 use Rattle.cs_ir.specs.Machine.{Machine, new_machine, again, run}
@@ -9,25 +9,25 @@ use Rattle.cs_ir.specs.declared.op.Op.{Op}
 use Rattle.cs_ir.specs.declared.register.Reg.{Reg}
 use Rattle.cs_meaning.specs.Core.{Block}
 use Rattle.cs_meaning.specs.Initialising.{init_block}
-use Rattle.cs_meaning.specs.Notes.{Note, reg, start, new_note, moved_to}
+use Rattle.cs_meaning.specs.Notes.{Note, Path, reg, start, new_note, moved_to}
 use Rattle.cs_meaning.specs.Performing.{perf_block}
 use Rattle.cs_meaning.specs.Plain.{Piece, plain}
 
--- Where a note's values stand among the registers: of each rate the local variables from 0 on to their end, and at rate Init so
--- many kept values from a register on.
+-- Where a note's values stand among the registers: of each rate the local variables from 0 on to their end, and at rate
+-- Init the values that are kept, each in the register of its path, if it has one.
 pub record Plan : Type 0 where
   pub locals : Rate → ℕ
-  pub kept : ℕ
-  pub parts : ℕ
+  pub kept : Path → Option ℕ
 
 -- A machine stands as a note does: the same local variables, kept values and state of the world.
 pub record Stands {W : Type 0} (plan : Plan) (t : Note W) (m : Machine W) : Type 0 where
   pub locals : (q : Reg) → q.index < plan.locals q.rate → m.regs q ≡ t.locals q
-  pub kept : (n : ℕ) → n < plan.parts → m.regs (reg rate.Init (plan.kept + n)) ≡ constant (t.kept n)
+  pub kept : (p : Path) (n : ℕ) → plan.kept p ≡ Some n → m.regs (reg rate.Init n) ≡ constant (t.kept p)
   pub world : m.world ≡ t.world
 
--- The two codes of a note mean its statements in a world: run on a new machine the first leaves it as the statements leave a new
--- note, and the second does in each control cycle what they do, whatever other notes did to the world in between.
+-- The two codes of a note mean its statements in a world: run on a new machine the first leaves it as the statements
+-- leave a new note, and the second does in each control cycle what they do, whatever other notes did to the world in
+-- between.
 pub record MeansIn {W : Type 0} (o : World W) (plan : Plan) (body : Block) (init perf : List Op) : Type 0 where
   pub starts : (x : W) → Stands plan (init_block o start body (new_note x)) (run o 0 init (new_machine x))
   pub goes_on : (t : Note W) (m : Machine W) (x : W) → Stands plan t m → o.refused x ≡ false

@@ -4,5 +4,6 @@ pub mod Code
 pub mod Counted
 pub mod Emitted
 pub mod Frames
+pub mod Kept
 pub mod Limits
 pub mod Rated

@@ -1,7 +1,7 @@
 // The values among a call's arguments, and their code. The catalogue's letters say which are settled at note start.
 ghost use Rattle.std.specs.Prelude.{◌≡◌, ◌++◌, map, not, true, IfOk, OnOk};
 ghost use Rattle.cs_meaning.specs.Core.{settled, moving, values_of};
-ghost use Rattle.cs_meaning.specs.Notes.{past_all};
+ghost use Rattle.cs_code.specs.inner.Kept.{past_all};
 ghost use Rattle.cs_words.specs.Catalogue.{row_of};
 ghost use Rattle.cs_code.specs.inner.Code.{operands_code, on_code, keep_all_code};
 ghost use Rattle.cs_code.specs.inner.Emitted.{frame_of, is_whole, arguments_of, expressions_of, taken};
@@ -79,10 +79,10 @@ fn part_args<'t>(parted: &mut Parted<'t>, call: &Call<'t>) -> Result<(), OutOfMe
         ++ moving (row_of call.now.opcode) 0 (arguments_of call.now)) }
 {
     let row = signature_of(call.opcode);
-    let mut place = 0;
+    let mut place: usize = 0;
     for arg in call.args {
         parted.add(row.letter(place).is_settled(), arg)?;
-        place = add(place, 1)?;
+        place += 1;
     }
     Ok(())
 }
@@ -122,14 +122,14 @@ fn add_value<'t>(values: &mut Vec<&'t TypedExpr>, arg: &'t TypedArg) -> Result<(
 #[derive(Drop)]
 pub struct Gathered {
     pub regs: Vec<Reg>,
-    pub next: usize,
+    pub next: u32,
 }
 
 /// The code of values, into temporaries from 0 on where they stand nowhere yet.
 pub fn operands(
     ops: &mut Vec<Op>,
     context: Context,
-    at: usize,
+    at: u32,
     values: &[&TypedExpr],
 ) -> Result<Gathered, OutOfMemory>
     ensures ops { OnOk result (ops.new.items ≡ ops.old.items
@@ -148,9 +148,9 @@ fn gather(
     ops: &mut Vec<Op>,
     regs: &mut Vec<Reg>,
     context: Context,
-    at: usize,
+    at: u32,
     values: &[&TypedExpr],
-) -> Result<usize, OutOfMemory>
+) -> Result<u32, OutOfMemory>
     ensures ops { OnOk result (ops.new.items ≡ ops.old.items
         ++ operands_code (frame_of context.bases) (is_whole context.pass) at (expressions_of values.now) 0) }
     ensures regs { OnOk result (regs.new.items ≡ regs.old.items
@@ -172,11 +172,11 @@ fn gather(
 pub fn push_on(
     ops: &mut Vec<Op>,
     context: Context,
-    at: usize,
+    at: u32,
     act: Act,
     into: Reg,
     values: &[&TypedExpr],
-) -> Result<usize, OutOfMemory>
+) -> Result<u32, OutOfMemory>
     ensures ops { OnOk result (ops.new.items ≡ ops.old.items
         ++ on_code (frame_of context.bases) (is_whole context.pass) at act into (expressions_of values.now)) }
     ensures next { IfOk result (λ n. n ≡ past_all at (expressions_of values.now)) }
@@ -191,9 +191,9 @@ pub fn push_on(
 pub fn keep_all(
     ops: &mut Vec<Op>,
     context: Context,
-    at: usize,
+    at: u32,
     values: &[&TypedExpr],
-) -> Result<usize, OutOfMemory>
+) -> Result<u32, OutOfMemory>
     requires { context.pass ≡ pass.Initialisation }
     ensures ops { OnOk result (ops.new.items ≡ ops.old.items
         ++ keep_all_code (frame_of context.bases) at (expressions_of values.now)) }

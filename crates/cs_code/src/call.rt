@@ -2,7 +2,7 @@
 ghost use Rattle.std.specs.Prelude.{◌≡◌, ◌++◌, IfOk, IfSome, IsNone, OnOk, Some, None};
 ghost use Rattle.cs_base.specs.declared.resource.Rate.TheVariants as rate;
 ghost use Rattle.cs_meaning.specs.Core.{ask, unit_call, store_call, zak_call, values_of};
-ghost use Rattle.cs_meaning.specs.Notes.{start, past_stmt};
+ghost use Rattle.cs_code.specs.inner.Kept.{start, past_stmt};
 ghost use Rattle.cs_words.specs.Catalogue.{row_of};
 ghost use Rattle.cs_words.specs.declared.catalogue.Shape.TheVariants as shape;
 ghost use Rattle.cs_code.specs.inner.Emitted.{frame_of, place_of, pass_code};

@@ -1,7 +1,7 @@
 // The two codes of a block, in a frame that has room for it.
 ghost use Rattle.std.specs.Prelude.{◌≡◌, max, IfOk};
 ghost use Rattle.cs_meaning.specs.Core.{core};
-ghost use Rattle.cs_meaning.specs.Notes.{start, past_block};
+ghost use Rattle.cs_code.specs.inner.Kept.{start, past_block};
 ghost use Rattle.cs_typed.specs.TypedTree as typed;
 ghost use Rattle.cs_code.specs.inner.Code.{init_block_code, perf_block_code};
 ghost use Rattle.cs_code.specs.inner.Counted.{reached, no_registers};
@@ -9,7 +9,7 @@ ghost use Rattle.cs_code.specs.inner.Frames.{frame_for};
 ghost use Rattle.cs_code.specs.inner.Limits.{ops_limit};
 
 use crate::counts::with_ops;
-use crate::frame::{Bases, Context, Pass, Step, add};
+use crate::frame::{Bases, Context, Pass, Step, add, narrow};
 use crate::stmt::body_of;
 use cs_base::{OutOfMemory, PerRate, Spaces};
 use cs_ir::{Counts, Op};
@@ -29,18 +29,28 @@ const START: Step = Step { part: 0, unit: 0 };
 
 // The counts of two codes.
 #[tactic(auto, using(crate::proofs::Reached::reached_two))]
-fn counts_of(units: usize, init: &[Op], perf: &[Op]) -> Result<Counts, OutOfMemory>
-    ensures { IfOk result (λ m. m ≡ reached (no_registers units) (λ r. max (ops_limit r init.now)
-        (ops_limit r perf.now))) }
+fn counts_of(units: usize, init: &[Op], perf: &[Op]) -> Counts
+    ensures { result ≡ reached (no_registers units) (λ r. max (ops_limit r init.now) (ops_limit r perf.now)) }
 {
-    let none = Counts {
-        i: 0,
-        k: 0,
-        a: 0,
-        units,
+    let registers = PerRate {
+        init: 0,
+        control: 0,
+        audio: 0,
     };
-    let counts = with_ops(none, init)?;
+    let none = Counts { registers, units };
+    let counts = with_ops(none, init);
     with_ops(counts, perf)
+}
+
+// Numbers of registers as ops name them.
+fn narrowed(locals: PerRate<usize>) -> Result<PerRate<u32>, OutOfMemory>
+    ensures { IfOk result (λ l. l ≡ locals) }
+{
+    Ok(PerRate {
+        init: narrow(locals.init)?,
+        control: narrow(locals.control)?,
+        audio: narrow(locals.audio)?,
+    })
 }
 
 /// The two codes of a block with these local variables. The performance is made first: it keeps no temporary of rate
@@ -60,6 +70,7 @@ pub fn codes_of(
         (typed.block stmts.now))).unit)
         (λ r. max (ops_limit r c.init.items) (ops_limit r c.perf.items))) }
 {
+    let locals = narrowed(locals)?;
     let kept = locals.init;
     let bases = Bases {
         kept,
@@ -84,7 +95,7 @@ pub fn codes_of(
         spaces,
     };
     let init = body_of(context, START, stmts)?;
-    let counts = counts_of(init.next.unit, &init.ops, &perf.ops)?;
+    let counts = counts_of(init.next.unit as usize, &init.ops, &perf.ops);
     Ok(Codes {
         init: init.ops,
         perf: perf.ops,

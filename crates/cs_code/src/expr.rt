@@ -1,6 +1,6 @@
 // The code of expressions, and of what variables take. Each call appends to `ops`.
 ghost use Rattle.std.specs.Prelude.{◌≡◌, ◌+◌, ◌++◌, IfOk, OnOk};
-ghost use Rattle.cs_meaning.specs.Notes.{past};
+ghost use Rattle.cs_code.specs.inner.Kept.{past};
 ghost use Rattle.cs_typed.specs.TypedTree.{expression, var};
 ghost use Rattle.cs_typed.specs.declared.tree.Var.TheVariants.{Local};
 ghost use Rattle.cs_code.specs.inner.Code.{own, code, operand_code, look_code, keep_code};
@@ -9,7 +9,7 @@ ghost use Rattle.cs_code.specs.inner.Emitted.{frame_of, parts_code, parts_past, 
 ghost use Rattle.cs_code.specs.inner.Frames.{spot, kept_reg};
 ghost use Rattle.cs_code.specs.declared.frame.Pass.TheVariants as pass;
 
-use crate::frame::{Context, Spot, add, kept_reg, next_of, push, temp};
+use crate::frame::{Context, Spot, add, kept_reg, local, next_of, push, temp};
 use crate::value::{Value, direct, rate_of};
 use cs_base::{Num, OutOfMemory, Rate};
 use cs_ir::{Act, Op, Operands, Reg};
@@ -21,7 +21,9 @@ fn look(ops: &mut Vec<Op>, v: Var, into: Reg) -> Result<(), OutOfMemory>
     ensures { OnOk result (ops.new.items ≡ ops.old.items ++ look_code v into) }
 {
     match v {
-        Var::Local(rate, index) => push(ops, Act::Copy, into, Operands::one(Reg { rate, index })),
+        Var::Local(rate, index) => {
+            push(ops, Act::Copy, into, Operands::one(local(rate, index)?))
+        }
         Var::Global(res) => push(ops, Act::Load(res), into, Operands::none()),
     }
 }
@@ -32,11 +34,11 @@ fn look(ops: &mut Vec<Op>, v: Var, into: Reg) -> Result<(), OutOfMemory>
 fn own(
     ops: &mut Vec<Op>,
     context: Context,
-    at: usize,
+    at: u32,
     e: &TypedExpr,
     into: Reg,
-    d: usize,
-) -> Result<usize, OutOfMemory>
+    d: u32,
+) -> Result<u32, OutOfMemory>
     ensures ops { OnOk result (ops.new.items ≡ ops.old.items
         ++ own (frame_of context.bases) (is_whole context.pass) at (expression e.now) into d) }
     ensures next { IfOk result (λ n. n ≡ past at (expression e.now)) }
@@ -91,9 +93,9 @@ fn own(
 pub fn operand(
     ops: &mut Vec<Op>,
     context: Context,
-    at: usize,
+    at: u32,
     e: &TypedExpr,
-    d: usize,
+    d: u32,
 ) -> Result<Spot, OutOfMemory>
     ensures ops { OnOk result (ops.new.items ≡ ops.old.items
         ++ operand_code (frame_of context.bases) (is_whole context.pass) at (expression e.now) d) }
@@ -119,10 +121,10 @@ pub fn operand(
 fn variable(
     ops: &mut Vec<Op>,
     context: Context,
-    at: usize,
+    at: u32,
     rate: Rate,
     v: Var,
-    d: usize,
+    d: u32,
 ) -> Result<Spot, OutOfMemory>
     ensures ops { OnOk result (ops.new.items ≡ ops.old.items
         ++ operand_code (frame_of context.bases) (is_whole context.pass) at (var rate v) d) }
@@ -145,11 +147,11 @@ fn variable(
 fn made(
     ops: &mut Vec<Op>,
     context: Context,
-    at: usize,
+    at: u32,
     value: &Value<'_>,
     into: Reg,
-    d: usize,
-) -> Result<usize, OutOfMemory>
+    d: u32,
+) -> Result<u32, OutOfMemory>
     ensures ops { OnOk result (ops.new.items ≡ ops.old.items
         ++ own (frame_of context.bases) (is_whole context.pass) at (value_of value.now) into d) }
     ensures next { IfOk result (λ n. n ≡ past at (value_of value.now)) }
@@ -183,7 +185,7 @@ fn made(
 pub fn spot_of(
     ops: &mut Vec<Op>,
     context: Context,
-    at: usize,
+    at: u32,
     value: &Value<'_>,
 ) -> Result<Spot, OutOfMemory>
     ensures ops { OnOk result (ops.new.items ≡ ops.old.items
@@ -210,10 +212,10 @@ pub fn spot_of(
 pub fn code(
     ops: &mut Vec<Op>,
     context: Context,
-    at: usize,
+    at: u32,
     value: &Value<'_>,
     into: Reg,
-) -> Result<usize, OutOfMemory>
+) -> Result<u32, OutOfMemory>
     ensures ops { OnOk result (ops.new.items ≡ ops.old.items
         ++ code (frame_of context.bases) (is_whole context.pass) at (value_of value.now) into 0) }
     ensures next { IfOk result (λ n. n ≡ past at (value_of value.now)) }
@@ -228,12 +230,7 @@ pub fn code(
 }
 
 // A value that doesn't change is worked out as a whole and kept.
-fn kept(
-    ops: &mut Vec<Op>,
-    context: Context,
-    at: usize,
-    value: &Value<'_>,
-) -> Result<usize, OutOfMemory>
+fn kept(ops: &mut Vec<Op>, context: Context, at: u32, value: &Value<'_>) -> Result<u32, OutOfMemory>
     requires { context.pass ≡ pass.Initialisation }
     ensures ops { OnOk result (ops.new.items ≡ ops.old.items
         ++ kept_code (frame_of context.bases) at (value_of value.now)) }
@@ -246,12 +243,7 @@ fn kept(
 /// The outermost parts that don't change, each into its register. Returns the number of the next kept value.
 #[cycle(keep)]
 #[tactic(auto, using(crate::proofs::Nodes::splits))]
-pub fn keep(
-    ops: &mut Vec<Op>,
-    context: Context,
-    at: usize,
-    e: &TypedExpr,
-) -> Result<usize, OutOfMemory>
+pub fn keep(ops: &mut Vec<Op>, context: Context, at: u32, e: &TypedExpr) -> Result<u32, OutOfMemory>
     requires { context.pass ≡ pass.Initialisation }
     ensures ops { OnOk result (ops.new.items ≡ ops.old.items
         ++ keep_code (frame_of context.bases) at (expression e.now)) }
@@ -268,9 +260,9 @@ pub fn keep(
 fn keep_parts(
     ops: &mut Vec<Op>,
     context: Context,
-    at: usize,
+    at: u32,
     e: &TypedExpr,
-) -> Result<usize, OutOfMemory>
+) -> Result<u32, OutOfMemory>
     requires { context.pass ≡ pass.Initialisation }
     ensures ops { OnOk result (ops.new.items ≡ ops.old.items
         ++ parts_code (frame_of context.bases) at (expression e.now)) }
@@ -297,9 +289,9 @@ fn keep_parts(
 pub fn keep_value(
     ops: &mut Vec<Op>,
     context: Context,
-    at: usize,
+    at: u32,
     value: &Value<'_>,
-) -> Result<usize, OutOfMemory>
+) -> Result<u32, OutOfMemory>
     requires { context.pass ≡ pass.Initialisation }
     ensures ops { OnOk result (ops.new.items ≡ ops.old.items
         ++ keep_code (frame_of context.bases) at (value_of value.now)) }
@@ -317,16 +309,16 @@ pub fn keep_value(
 pub fn set(
     ops: &mut Vec<Op>,
     context: Context,
-    at: usize,
+    at: u32,
     to: Var,
     value: &Value<'_>,
-) -> Result<usize, OutOfMemory>
+) -> Result<u32, OutOfMemory>
     ensures ops { OnOk result (ops.new.items ≡ ops.old.items
         ++ set_code (frame_of context.bases) (is_whole context.pass) at to (value_of value.now)) }
     ensures next { IfOk result (λ n. n ≡ past at (value_of value.now)) }
 {
     match to {
-        Var::Local(own, index) => set_local(ops, context, at, Reg { rate: own, index }, value),
+        Var::Local(own, index) => set_local(ops, context, at, local(own, index)?, value),
         Var::Global(res) => {
             let spot = spot_of(ops, context, at, value)?;
             push(ops, Act::Save(res), spot.reg, Operands::one(spot.reg))?;
@@ -338,10 +330,10 @@ pub fn set(
 fn set_local(
     ops: &mut Vec<Op>,
     context: Context,
-    at: usize,
+    at: u32,
     to: Reg,
     value: &Value<'_>,
-) -> Result<usize, OutOfMemory>
+) -> Result<u32, OutOfMemory>
     ensures ops { OnOk result (ops.new.items ≡ ops.old.items
         ++ set_code (frame_of context.bases) (is_whole context.pass) at (Local to.rate to.index) (value_of value.now)) }
     ensures next { IfOk result (λ n. n ≡ past at (value_of value.now)) }

@@ -14,9 +14,9 @@ use std::alloc::Global;
 #[derive(Clone, Copy)]
 pub struct Bases {
     /// The register of the first kept value.
-    pub kept: usize,
+    pub kept: u32,
     /// The first temporary of each rate.
-    pub temporaries: PerRate<usize>,
+    pub temporaries: PerRate<u32>,
 }
 
 /// Which of a note's two codes is made.
@@ -38,25 +38,47 @@ pub struct Context {
 /// How many values were kept and units met in the text before a place.
 #[derive(Clone, Copy)]
 pub struct Step {
-    pub part: usize,
-    pub unit: usize,
+    pub part: u32,
+    pub unit: u32,
 }
 
 /// Where a value stands, and the number of the next kept value after its own.
 #[derive(Clone, Copy)]
 pub struct Spot {
     pub reg: Reg,
-    pub next: usize,
+    pub next: u32,
 }
 
-/// `a + b`. One that doesn't fit is reported as out of memory, since no code of that length fits in memory.
-pub fn add(a: usize, b: usize) -> Result<usize, OutOfMemory>
+/// `a + b`, of numbers of registers or units. One that doesn't fit is reported as out of memory, since what stands
+/// below it would take 32 GB.
+pub fn add(a: u32, b: u32) -> Result<u32, OutOfMemory>
     ensures { IfOk result (λ n. n ≡ a + b) }
 {
     match a.checked_add(b) {
         Some(sum) => Ok(sum),
         None => Err(OutOfMemory),
     }
+}
+
+/// A number of a register as ops name it. One that doesn't fit is reported as out of memory, as by `add`.
+pub fn narrow(number: usize) -> Result<u32, OutOfMemory>
+    ensures { IfOk result (λ n. n ≡ number) }
+{
+    if number <= u32::MAX as usize {
+        Ok(number as u32)
+    } else {
+        Err(OutOfMemory)
+    }
+}
+
+/// The register of a local variable.
+pub fn local(rate: Rate, index: usize) -> Result<Reg, OutOfMemory>
+    ensures { IfOk result (λ q. q ≡ reg rate index) }
+{
+    Ok(Reg {
+        rate,
+        index: narrow(index)?,
+    })
 }
 
 impl Pass {
@@ -71,7 +93,7 @@ impl Pass {
 }
 
 /// The register of a kept value.
-pub fn kept_reg(bases: Bases, at: usize) -> Result<Reg, OutOfMemory>
+pub fn kept_reg(bases: Bases, at: u32) -> Result<Reg, OutOfMemory>
     ensures { IfOk result (λ q. q ≡ kept_reg (frame_of bases) at) }
 {
     Ok(Reg {
@@ -81,7 +103,7 @@ pub fn kept_reg(bases: Bases, at: usize) -> Result<Reg, OutOfMemory>
 }
 
 /// Temporary number `d` of a rate.
-pub fn temp(bases: Bases, rate: Rate, d: usize) -> Result<Reg, OutOfMemory>
+pub fn temp(bases: Bases, rate: Rate, d: u32) -> Result<Reg, OutOfMemory>
     ensures { IfOk result (λ q. q ≡ temp (frame_of bases) rate d) }
 {
     Ok(Reg {
@@ -91,7 +113,7 @@ pub fn temp(bases: Bases, rate: Rate, d: usize) -> Result<Reg, OutOfMemory>
 }
 
 /// The number of the next kept value: one more at rate Init, else what its parts leave.
-pub fn next_of(rate: Rate, at: usize, parts: usize) -> Result<usize, OutOfMemory>
+pub fn next_of(rate: Rate, at: u32, parts: u32) -> Result<u32, OutOfMemory>
     ensures { IfOk result (λ n. n ≡ if_init rate (at + 1) parts) }
 {
     match rate {

@@ -1,11 +1,11 @@
 // Which tables, or which zak places, an op may touch, by the literals among its values.
 ghost use Rattle.std.specs.Prelude.{◌≡◌};
-ghost use Rattle.cs_meaning.specs.Core.{unit_reach, table_reach, zak_reach};
+ghost use Rattle.cs_meaning.specs.Core.{unit_reach, table_reach, whole_part, zak_reach};
 ghost use Rattle.cs_typed.specs.TypedTree.{expression};
 ghost use Rattle.cs_code.specs.inner.Emitted.{known_at, known_of, table_known};
 ghost use Rattle.cs_code.specs.inner.Emitted.{place_known, span_known, zak_known, expressions_of};
 
-use cs_base::Spaces;
+use cs_base::{Num, Spaces};
 use cs_ir::{Reach, places_of};
 use cs_typed::{TypedExpr, TypedPart};
 use cs_words::{Opcode, Shape, signature_of};
@@ -15,7 +15,7 @@ use cs_words::{Opcode, Shape, signature_of};
 #[derive(Clone, Copy)]
 pub enum Known {
     Missing,
-    Literal(usize),
+    Literal(u32),
     Other,
 }
 
@@ -72,7 +72,7 @@ fn place_of(places: u32, place: Known) -> Reach
     ensures { result ≡ place_known places place }
 {
     match place {
-        Known::Literal(n) => if n < places as usize {
+        Known::Literal(n) => if n < places {
             Reach::Span(n, n)
         } else {
             Reach::Nothing
@@ -87,8 +87,8 @@ fn span_of(places: u32, first: Known, last: Known) -> Reach
 {
     match (first, last) {
         (Known::Literal(n), Known::Literal(m)) => {
-            if n < places as usize && n <= m {
-                Reach::Span(n, m.min(places as usize - 1))
+            if n < places && n <= m {
+                Reach::Span(n, m.min(places - 1))
             } else {
                 Reach::Nothing
             }
@@ -121,7 +121,14 @@ fn known_of(e: &TypedExpr) -> Known
     ensures { result ≡ known_of (expression e.now) }
 {
     match &e.what {
-        TypedPart::Number(value) => Known::Literal(value.whole_below().unsigned_abs() as usize),
+        TypedPart::Number(value) => Known::Literal(whole_part(*value)),
         _ => Known::Other,
     }
+}
+
+// The whole number below a literal, without its sign.
+fn whole_part(value: Num) -> u32
+    ensures { result ≡ whole_part value }
+{
+    value.whole_below().unsigned_abs() as u32
 }

@@ -1,11 +1,11 @@
 // The code of what gives results: units, and what reads or writes zak places.
 ghost use Rattle.std.specs.Prelude.{◌≡◌, ◌+◌, ◌++◌, [], IfOk, OnOk};
-ghost use Rattle.cs_meaning.specs.Notes.{past_all};
+ghost use Rattle.cs_code.specs.inner.Kept.{past_all};
 ghost use Rattle.cs_code.specs.inner.Code.{run_code, target, given_code};
 ghost use Rattle.cs_code.specs.inner.Emitted.{frame_of, expressions_of, is_whole};
 
 use crate::args::{Call, push_on};
-use crate::frame::{Bases, Context, push, temp};
+use crate::frame::{Bases, Context, local, push, temp};
 use cs_base::{OutOfMemory, Rate};
 use cs_ir::{Act, Op, Operands, Reg};
 use cs_typed::{TypedExpr, Var};
@@ -17,10 +17,7 @@ fn target(bases: Bases, rate: Rate, results: &[Var]) -> Result<Reg, OutOfMemory>
     match results {
         [Var::Local(own, index), ..] => {
             if own.same(rate) {
-                Ok(Reg {
-                    rate: *own,
-                    index: *index,
-                })
+                local(*own, *index)
             } else {
                 temp(bases, rate, 0)
             }
@@ -40,10 +37,7 @@ fn give(ops: &mut Vec<Op>, bases: Bases, rate: Rate, results: &[Var]) -> Result<
             if own.same(rate) {
                 Ok(())
             } else {
-                let into = Reg {
-                    rate: *own,
-                    index: *index,
-                };
+                let into = local(*own, *index)?;
                 push(ops, Act::Copy, into, Operands::one(temp(bases, rate, 0)?))
             }
         }
@@ -59,11 +53,11 @@ fn give(ops: &mut Vec<Op>, bases: Bases, rate: Rate, results: &[Var]) -> Result<
 pub fn run(
     ops: &mut Vec<Op>,
     context: Context,
-    at: usize,
+    at: u32,
     act: Act,
     call: &Call<'_>,
     values: &[&TypedExpr],
-) -> Result<usize, OutOfMemory>
+) -> Result<u32, OutOfMemory>
     ensures ops { OnOk result (ops.new.items ≡ ops.old.items
         ++ run_code (frame_of context.bases) (is_whole context.pass) at act call.now.rate
         call.now.results.now (expressions_of values.now)) }

@@ -3,7 +3,8 @@
 ghost use Rattle.std.specs.Prelude.{◌≡◌, ◌++◌, IfOk, OnOk};
 ghost use Rattle.cs_base.specs.declared.resource.Rate.TheVariants as rate;
 ghost use Rattle.cs_meaning.specs.Core.{unit, zak, store, table_reach, ask, turnoff};
-ghost use Rattle.cs_meaning.specs.Notes.{reg, start, past_stmt};
+ghost use Rattle.cs_meaning.specs.Notes.{reg};
+ghost use Rattle.cs_code.specs.inner.Kept.{start, past_stmt};
 ghost use Rattle.cs_code.specs.inner.Code.{start_code, seek_code, out_ops, out_at_ops};
 ghost use Rattle.cs_code.specs.declared.frame.Pass.TheVariants as pass;
 ghost use Rattle.cs_code.specs.inner.Emitted.{frame_of, place_of, pass_code, expressions_of};
@@ -105,7 +106,7 @@ pub fn unit(
 fn start(
     ops: &mut Vec<Op>,
     context: Context,
-    unit: usize,
+    unit: u32,
     call: &Call<'_>,
     settled: &[&TypedExpr],
 ) -> Result<(), OutOfMemory>
@@ -208,10 +209,10 @@ fn seek(ops: &mut Vec<Op>, context: Context, settled: &[&TypedExpr]) -> Result<(
 fn out_ops(ops: &mut Vec<Op>, regs: &[Reg]) -> Result<(), OutOfMemory>
     ensures { OnOk result (ops.new.items ≡ ops.old.items ++ out_ops 0 regs.now) }
 {
-    let mut channel = 0;
+    let mut channel: usize = 0;
     for reg in regs {
         push(ops, Act::Out(channel), *reg, Operands::one(*reg))?;
-        channel = add(channel, 1)?;
+        channel += 1;
     }
     Ok(())
 }

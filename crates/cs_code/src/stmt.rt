@@ -2,7 +2,7 @@
 // op stands at its place from the first on.
 ghost use Rattle.std.specs.Prelude.{◌≡◌, ◌++◌, ◌∷◌, [], length, IfOk, OnOk};
 ghost use Rattle.cs_meaning.specs.Core.{core, core_stmt, core_arms};
-ghost use Rattle.cs_meaning.specs.Notes.{past, past_parts, past_stmt, past_block, past_arms};
+ghost use Rattle.cs_code.specs.inner.Kept.{past, past_parts, past_stmt, past_block, past_arms};
 ghost use Rattle.cs_typed.specs.TypedTree as typed;
 ghost use Rattle.cs_typed.specs.declared.tree.TypedArm.{out-TypedArm};
 ghost use Rattle.cs_code.specs.inner.Code.{all_code, init_block_code};
@@ -183,7 +183,7 @@ fn arm(
 fn condition(
     ops: &mut Vec<Op>,
     context: Context,
-    at: usize,
+    at: u32,
     e: &TypedExpr,
 ) -> Result<Spot, OutOfMemory>
     ensures ops { OnOk result (ops.new.items ≡ ops.old.items

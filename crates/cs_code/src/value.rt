@@ -5,7 +5,7 @@ ghost use Rattle.cs_typed.specs.WellRated.{node_rate};
 ghost use Rattle.cs_code.specs.inner.Emitted.{frame_of, value_of, is_whole};
 ghost use Rattle.cs_code.specs.inner.Frames.{local_of, direct};
 
-use crate::frame::{Context, kept_reg};
+use crate::frame::{Context, kept_reg, local};
 use cs_base::{OutOfMemory, Rate};
 use cs_ir::Reg;
 use cs_typed::{TypedExpr, TypedPart, Var};
@@ -37,38 +37,32 @@ pub fn rate_of(value: &Value<'_>) -> Rate
 }
 
 // The register of a local variable.
-fn local_of(value: &Value<'_>) -> Option<Reg>
-    ensures { result ≡ local_of (value_of value.now) }
+fn local_of(value: &Value<'_>) -> Result<Option<Reg>, OutOfMemory>
+    ensures { IfOk result (λ q. q ≡ local_of (value_of value.now)) }
 {
     match value {
         Value::Of(e) => local_in(e),
-        Value::Read(_, Var::Local(rate, index)) => Some(Reg {
-            rate: *rate,
-            index: *index,
-        }),
-        _ => None,
+        Value::Read(_, Var::Local(rate, index)) => Ok(Some(local(*rate, *index)?)),
+        _ => Ok(None),
     }
 }
 
-fn local_in(e: &TypedExpr) -> Option<Reg>
-    ensures { result ≡ local_of (expression e.now) }
+fn local_in(e: &TypedExpr) -> Result<Option<Reg>, OutOfMemory>
+    ensures { IfOk result (λ q. q ≡ local_of (expression e.now)) }
 {
     match &e.what {
-        TypedPart::Var(Var::Local(rate, index)) => Some(Reg {
-            rate: *rate,
-            index: *index,
-        }),
-        _ => None,
+        TypedPart::Var(Var::Local(rate, index)) => Ok(Some(local(*rate, *index)?)),
+        _ => Ok(None),
     }
 }
 
 /// Where a value stands already.
-pub fn direct(context: Context, at: usize, value: &Value<'_>) -> Result<Option<Reg>, OutOfMemory>
+pub fn direct(context: Context, at: u32, value: &Value<'_>) -> Result<Option<Reg>, OutOfMemory>
     ensures { IfOk result (λ q. q ≡ direct (frame_of context.bases) (is_whole context.pass) at (value_of value.now)) }
 {
     if context.pass.is_performance() && rate_of(value).is_init() {
         Ok(Some(kept_reg(context.bases, at)?))
     } else {
-        Ok(local_of(value))
+        local_of(value)
     }
 }

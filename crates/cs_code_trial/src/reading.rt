@@ -7,7 +7,7 @@ ghost use Rattle.cs_typed.specs.TypedTree as typed;
 ghost use Rattle.cs_typed.specs.WellRated.{IsWellRated};
 ghost use Rattle.cs_code.specs.Lowered.{all_numbers};
 
-use cs_base::MOST_ORCHESTRA_BYTES;
+use cs_base::{Excerpt, MOST_ORCHESTRA_BYTES};
 use cs_code::{Lowered, lower};
 use cs_grammar::{Orc, parse, trees_are_well_formed};
 use cs_ir::{Instrument, Instruments};
@@ -23,10 +23,11 @@ fn tree_of(alloc: Global, source: &[u8]) -> Option<Orc>
     if source.len() > MOST_ORCHESTRA_BYTES {
         return None;
     }
-    let Ok(tokens) = lex(alloc, source) else {
+    let text = Excerpt::whole_file(source);
+    let Ok(tokens) = lex(alloc, &text) else {
         return None;
     };
-    match parse(alloc, source, &tokens) {
+    match parse(alloc, &text, &tokens) {
         Ok(orc) => Some(orc),
         Err(_) => None,
     }

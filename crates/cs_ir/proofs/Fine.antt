@@ -1,5 +1,6 @@
 -- A code is valid exactly where each of its ops is fine at its place.
-use Rattle.std.proofs.Common.{◌≡◌, refl, ap, subst, ℕ, zero, suc, ◌+◌, true, List, [], ◌∷◌, slice_get, Option, Some, None, arith}
+use Rattle.std.proofs.Common.{◌≡◌, refl, ap, subst, ℕ, zero, suc, ◌+◌, true, List, [], ◌∷◌, slice_get, Option, Some}
+use Rattle.std.proofs.Common.{None, arith}
 use Rattle.std.proofs.lemmas.Bool.{and_parts, and_from}
 use Rattle.cs_ir.specs.Validity.{is_fine, fine_from}
 use Rattle.cs_ir.specs.declared.op.Op.{Op}
@@ -34,4 +35,6 @@ all_fine c end place [] h = refl
 all_fine c end place (x ∷ ops) h =
     let p : place + zero ≡ place = omega arith in
     and_from _ _ (subst (λ k. is_fine c end k x ≡ true) p (h zero x refl))
-    (all_fine c end (place + 1) ops (λ n o e. let q : place + suc n ≡ (place + 1) + n = omega arith in subst (λ k. is_fine c end k o ≡ true) q (h (suc n) o e)))
+    (all_fine c end (place + 1) ops
+    (λ n o e. let q : place + suc n ≡ (place + 1) + n =
+    omega arith in subst (λ k. is_fine c end k o ≡ true) q (h (suc n) o e)))

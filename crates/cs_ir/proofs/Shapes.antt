@@ -33,8 +33,10 @@ shape_is shape.Ask h = absurd (cc)
 pub started_shape : (o : Opcode) (r : Rate) (xs : List Reg) → starts_with (row_of o) r xs ≡ true
     → (row_of o).shape ≡ shape.Unit
 started_shape o r xs h =
-    let outer = and_parts (is_unit (row_of o).shape && unit_takes (row_of o) (length xs) && list_all is_still xs) (may_run_at (row_of o) r) h in
-    let middle = and_parts (is_unit (row_of o).shape && unit_takes (row_of o) (length xs)) (list_all is_still xs) outer.0 in
+    let outer = and_parts (is_unit (row_of o).shape && unit_takes (row_of o) (length xs) && list_all is_still xs)
+    (may_run_at (row_of o) r) h in
+    let middle = and_parts (is_unit (row_of o).shape && unit_takes (row_of o) (length xs)) (list_all is_still xs)
+    outer.0 in
     shape_is (row_of o).shape (and_parts (is_unit (row_of o).shape) (unit_takes (row_of o) (length xs)) middle.0).0
 
 pub run_shape : (o : Opcode) (r : Rate) (xs : List Reg) → (is_unit (row_of o).shape && runs_with (row_of o) r xs) ≡ true

@@ -1,5 +1,6 @@
 -- What letters take.
-use Rattle.std.proofs.Common.{◌≡◌, ℕ, zero, suc, ◌≤◌, List, [], ◌∷◌, length, drop, nat_eq, arith, refl, ◌∙◌, subst, Bool}
+use Rattle.std.proofs.Common.{◌≡◌, ℕ, zero, suc, ◌≤◌, List, [], ◌∷◌, length, drop, nat_eq, arith, refl, ◌∙◌, subst}
+use Rattle.std.proofs.Common.{Bool}
 use Rattle.std.specs.Prelude.{filter}
 use Rattle.cs_words.specs.Catalogue.{is_moving}
 use Rattle.cs_words.specs.declared.catalogue.Letter.{Letter}

@@ -1,4 +1,5 @@
--- What an opcode is performed as, of those that are more than a value or an output: a unit, a store, or an act on zak places.
+-- What an opcode is performed as, of those that are more than a value or an output: a unit, a store, or an act on zak
+-- places.
 use Rattle.std.specs.Prelude.{Bool, true, false}
 use Rattle.cs_words.specs.declared.catalogue.Shape.{Shape}
 use Rattle.cs_words.specs.declared.catalogue.Shape.TheVariants as shape

@@ -1,7 +1,8 @@
 -- Which codes can be run: what an op names is there, and what it reads is what its act takes.
-use Rattle.std.specs.Prelude.{ℕ, Bool, true, false, not, ◌&&◌, ◌||◌, ◌==◌, ◌+◌, ◌∷◌, [], List, length, nat_lt, nat_le, if◌then◌else◌}
+use Rattle.std.specs.Prelude.{ℕ, Bool, true, false, not, ◌&&◌, ◌||◌, ◌==◌, ◌+◌, ◌∷◌, [], List, length, nat_lt, nat_le}
+use Rattle.std.specs.Prelude.{if◌then◌else◌}
 use Rattle.std.specs.List.{list_all, list_any}
-use Rattle.cs_base.specs.Rates.{is_init, is_control, is_audio, same_rate, within, res_rate}
+use Rattle.cs_base.specs.Rates.{at_rate, is_init, is_control, is_audio, same_rate, within, res_rate}
 use Rattle.cs_base.specs.declared.resource.Rate.{Rate}
 use Rattle.cs_base.specs.declared.resource.Rate.TheVariants as rate
 use Rattle.cs_base.specs.declared.resource.Res.{Res}
@@ -21,16 +22,12 @@ use Rattle.cs_ir.specs.declared.op.Op.{Op}
 use Rattle.cs_ir.specs.declared.register.Counts.{Counts}
 use Rattle.cs_ir.specs.declared.register.Reg.{Reg}
 
--- how many registers of a rate there are, and whether a register is one of them
-abbrev pub count_of : Counts → Rate → ℕ
-count_of counts rate.Init = counts.i
-count_of counts rate.Control = counts.k
-count_of counts rate.Audio = counts.a
-
+-- whether a register is one of those that there are of its rate
 abbrev pub has_register : Counts → Reg → Bool
-has_register counts q = nat_lt q.index (count_of counts q.rate)
+has_register counts q = nat_lt q.index (at_rate counts.registers q.rate)
 
--- whether an act writes its op's register; of `Start`, of a store and of an opcode without a result it tells the rate alone
+-- whether an act writes its op's register; of `Start`, of a store and of an opcode without a result it tells the rate
+-- alone
 abbrev pub writes : Act → Bool
 writes (act.Save g) = false
 writes (act.Start opcode u) = false
@@ -91,7 +88,8 @@ starts_with row r xs =
 abbrev pub runs_with : Row → Rate → List Reg → Bool
 runs_with row r xs = take_all (moving_letters row) (bound_at row r) xs && may_run_at row r
 
--- a table is stored to sample by sample where the store and all that it takes are sounds, or else at values that are held
+-- a table is stored to sample by sample where the store and all that it takes are sounds, or else at values that are
+-- held
 abbrev pub as_sounds : Rate → Reg → Bool
 as_sounds r x = if is_audio r then is_audio x.rate else not (is_audio x.rate)
 
@@ -100,8 +98,8 @@ abbrev pub stores_with : Rate → List Reg → Bool
 stores_with r (x ∷ y ∷ n ∷ []) = as_sounds r x && as_sounds r y && is_still n
 stores_with r _ = false
 
--- What an op may read and write whole: a variable, a zak place or a channel has one value or one sound a cycle. A table has
--- points of its own number, which units read and stores write.
+-- What an op may read and write whole: a variable, a zak place or a channel has one value or one sound a cycle. A table
+-- has points of its own number, which units read and stores write.
 abbrev pub has_value : Res → Bool
 has_value (res.Table n) = false
 has_value _ = true
@@ -132,8 +130,8 @@ takes_from act.Turnoff r [] = true
 takes_from act.Ask r xs = nat_le 3 (length xs) && list_all is_still xs
 takes_from _ r xs = false
 
--- An op at a place of a code that ends at a place: it writes and reads registers that are there, finds what it names, and
--- takes what it reads.
+-- An op at a place of a code that ends at a place: it writes and reads registers that are there, finds what it names,
+-- and takes what it reads.
 abbrev pub is_fine : Counts → ℕ → ℕ → Op → Bool
 is_fine counts end place op =
     (not (writes op.act) || has_register counts op.into)

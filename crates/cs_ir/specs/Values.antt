@@ -1,9 +1,11 @@
 -- What operators and functions make of numbers, in whole 65,536ths.
-use Rattle.std.specs.Prelude.{ℕ, ℤ, pos, Bool, not, ◌&&◌, ◌||◌, ◌+◌, ◌*◌, ◌^◌, ◌%◌, ◌/◌, ◌*ℤ◌, ◌+ℤ◌, List, [], ◌∷◌, slice_index_or, unsigned_abs, if◌then◌else◌}
+use Rattle.std.specs.Prelude.{ℕ, ℤ, pos, Bool, not, ◌&&◌, ◌||◌, ◌+◌, ◌*◌, ◌^◌, ◌%◌, ◌/◌, ◌*ℤ◌, ◌+ℤ◌, List, [], ◌∷◌}
+use Rattle.std.specs.Prelude.{slice_index_or, unsigned_abs, if◌then◌else◌}
 use Rattle.std.specs.Int.{int_max, int_min, int_rem_euclid}
 use Rattle.std.specs.Ordering.{int_eq}
 use Rattle.std.specs.Prelude.{int_lt}
-use Rattle.cs_base.specs.Numbers.{one, floor_div, sum_of, difference_of, product_of, quotient_of, remainder_of, floor_of, int_of, frac_of, abs_of}
+use Rattle.cs_base.specs.Numbers.{one, floor_div, sum_of, difference_of, product_of, quotient_of, remainder_of}
+use Rattle.cs_base.specs.Numbers.{floor_of, int_of, frac_of, abs_of}
 use Rattle.cs_words.specs.declared.sign.BinOp.{BinOp}
 use Rattle.cs_words.specs.declared.sign.BinOp.TheVariants as op
 use Rattle.cs_words.specs.declared.word.Func.{Func}
@@ -50,7 +52,8 @@ octave x class = unsigned_abs (int_max (pos 0) (int_min (floor_div x one +ℤ po
 
 -- Hertz of an octave and pitch class, rounded down once: octave 8 begins at middle C, each further one doubles.
 abbrev pub cpspch_of : ℤ → ℤ
-cpspch_of x = floor_div (pos (slice_index_or semitones (pitch_class x % 12) 0 * 2 ^ (octave x (pitch_class x) + 8))) (pos 1000)
+cpspch_of x = floor_div (pos (slice_index_or semitones (pitch_class x % 12) 0 * 2 ^ (octave x (pitch_class x) + 8)))
+    (pos 1000)
 
 -- what a function makes of a value; `i` reads its variable as it is
 abbrev pub applied : Func → ℤ → ℤ

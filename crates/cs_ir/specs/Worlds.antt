@@ -7,9 +7,9 @@ use Rattle.cs_words.specs.declared.word.HeadName.{HeadName}
 use Rattle.cs_ir.specs.Waves.{Wave}
 use Rattle.cs_ir.specs.declared.op.Reach.{Reach}
 
--- A world, by what a note can do in it. Its states W hold what notes share, the note's units, its output, whether it was turned
--- off, what it asked for, and whether its initialisation was refused. A unit has a number, the place in the text of its opcode;
--- what looks for a table, stores into one, or reads or writes zak places has none.
+-- A world, by what a note can do in it. Its states W hold what notes share, the note's units, its output, whether it
+-- was turned off, what it asked for, and whether its initialisation was refused. A unit has a number, the place in the
+-- text of its opcode; what looks for a table, stores into one, or reads or writes zak places has none.
 pub record World (W : Type 0) : Type 0 where
   pub ksmps : ℕ
   pub field : ℕ → ℤ

@@ -1,9 +1,10 @@
 // What a note may ask for: another note.
-ghost use Rattle.std.specs.Prelude.{◌≡◌, drop, IfOk};
+ghost use Rattle.std.specs.Prelude.{◌≡◌, drop, take, IfOk};
+ghost use Rattle.cs_base.specs.Limits.{greatest_field};
 ghost use Rattle.cs_base.specs.Numbers.{floor_div, one};
 ghost use Rattle.cs_ir.specs.Asks.{ask_of, value_at};
 
-use cs_base::{Num, Nums, OutOfMemory};
+use cs_base::{GREATEST_FIELD, Num, Nums, OutOfMemory};
 use std::alloc::Global;
 
 /// A note that a note asks for as it begins.
@@ -15,7 +16,7 @@ pub struct Ask {
     pub when: Num,
     /// Seconds that it lasts.
     pub dur: Num,
-    /// Its p-fields from p4 on.
+    /// Its p-fields from p4 on, up to p100: no text reads a later one.
     pub more: Nums,
 }
 
@@ -40,12 +41,22 @@ fn number_of(value: Num) -> i64
 }
 
 fn more_of(values: &[Num]) -> &[Num]
-    ensures { result.now ≡ drop 3 values.now }
+    ensures { result.now ≡ drop 3 (take greatest_field values.now) }
 {
-    match values.get(3..) {
+    match readable(values).get(3..) {
         Some(more) => more,
         None => &[],
     }
+}
+
+// The fields that a text can read.
+fn readable(values: &[Num]) -> &[Num]
+    ensures { result.now ≡ take greatest_field values.now }
+{
+    if values.len() <= GREATEST_FIELD {
+        return values;
+    }
+    &values[..GREATEST_FIELD]
 }
 
 fn value_at(values: &[Num], place: usize) -> Num

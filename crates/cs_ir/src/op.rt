@@ -8,7 +8,7 @@ use cs_words::{BinOp, Func, HeadName, Opcode};
 pub enum Reach {
     Nothing,
     /// From the first to the last, both of them too.
-    Span(usize, usize),
+    Span(u32, u32),
     Any,
 }
 
@@ -36,9 +36,9 @@ pub enum Act {
     /// Writes its operand to what notes share.
     Save(Res),
     /// Starts the unit of this number, with the operands as its values that are known when the note begins.
-    Start(Opcode, usize),
+    Start(Opcode, u32),
     /// Runs the unit of this number over a cycle.
-    Unit(Opcode, usize, Reach),
+    Unit(Opcode, u32, Reach),
     /// Refuses the note where there is no table of the number that its operand has when the note begins.
     Seek,
     /// Stores its first operand at the index that its second one gives into the table whose number its third one has.
@@ -59,7 +59,11 @@ pub enum Act {
     Ask,
 }
 
-/// An op. `into` is the register that it writes, where its act writes one; of a unit and of a store it tells the rate too.
+// Codes may be long, so the size of an op is looked at: a whole cache line.
+const _: () = prove!(size_of::<Op>() == 64);
+
+/// An op. `into` is the register that it writes, where its act writes one; of a unit and of a store it tells the rate
+/// too.
 #[derive(Drop)]
 pub struct Op {
     pub act: Act,

@@ -13,7 +13,7 @@ impl Reach {
     {
         match self {
             Reach::Nothing => false,
-            Reach::Span(first, last) => first <= number && number <= last,
+            Reach::Span(first, last) => first as usize <= number && number <= last as usize,
             Reach::Any => true,
         }
     }

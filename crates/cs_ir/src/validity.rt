@@ -4,8 +4,9 @@ ghost use Rattle.std.specs.List.{list_all, list_any};
 ghost use Rattle.cs_words.specs.Catalogue.{is_moving, row_of};
 ghost use Rattle.cs_base.specs.Rates.{same_rate};
 ghost use Rattle.cs_ir.specs.Units.{is_store, is_unit, is_zak};
-ghost use Rattle.cs_ir.specs.Validity.{count_of, has_register, writes, finds, suits_operator, suits_function};
-ghost use Rattle.cs_ir.specs.Validity.{may_run_at, bound_at, take_all, as_sounds, stores_with, starts_with, runs_with, is_still};
+ghost use Rattle.cs_ir.specs.Validity.{has_register, writes, finds, suits_operator, suits_function};
+ghost use Rattle.cs_ir.specs.Validity.{may_run_at, bound_at, take_all, as_sounds, stores_with, starts_with};
+ghost use Rattle.cs_ir.specs.Validity.{runs_with, is_still};
 ghost use Rattle.cs_ir.specs.Validity.{has_value, takes_from, is_fine, valid};
 ghost use Rattle.cs_ir.specs.declared.register.Reg.{Reg};
 
@@ -93,21 +94,10 @@ impl Op {
 }
 
 impl Counts {
-    /// How many registers of a rate there are.
-    pub fn of_rate(self, rate: Rate) -> usize
-        ensures { result ≡ count_of self rate }
-    {
-        match rate {
-            Rate::Init => self.i,
-            Rate::Control => self.k,
-            Rate::Audio => self.a,
-        }
-    }
-
     fn has(self, register: Reg) -> bool
         ensures { result ≡ has_register self register }
     {
-        register.index < self.of_rate(register.rate)
+        (register.index as usize) < self.registers.of(register.rate)
     }
 
     fn has_all(self, registers: &[Reg]) -> bool
@@ -137,7 +127,7 @@ impl Act {
         ensures { result ≡ finds counts end place self }
     {
         match self {
-            Act::Start(_, unit) | Act::Unit(_, unit, _) => unit < counts.units,
+            Act::Start(_, unit) | Act::Unit(_, unit, _) => (unit as usize) < counts.units,
             Act::Jump(to) | Act::Unless(to) => place < to && to <= end,
             _ => true,
         }

@@ -1,7 +1,8 @@
 // What operators and functions make of numbers.
 ghost use Rattle.std.specs.Prelude.{◌≡◌, ◌≤◌, ◌*◌, ◌+◌, ◌^◌, ◌/◌, ◌%◌, slice_index_or, pos, unsigned_abs};
 ghost use Rattle.std.specs.Int.{int_max, int_min};
-ghost use Rattle.cs_ir.specs.Values.{holds, truth, negated, combined, applied, semitones, pitch_class, octave, cpspch_of};
+ghost use Rattle.cs_ir.specs.Values.{holds, truth, negated, combined, applied, semitones, pitch_class, octave};
+ghost use Rattle.cs_ir.specs.Values.{cpspch_of};
 
 use cs_base::Num;
 use cs_words::{BinOp, Func};

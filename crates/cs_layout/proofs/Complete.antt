@@ -1,5 +1,7 @@
 -- The layout of a piece has what the piece has.
-use Rattle.std.proofs.Common.{◌≡◌, ℕ, zero, suc, ◌+◌, ◌<◌, ◌==◌, ◌||◌, ◌&&◌, Bool, true, false, List, [], ◌∷◌, ◌++◌, length, map, take, nat_lt, nat_le, arith, ap, sym, ◌∙◌, refl, subst, slice_get, Option, Some, None}
+use Rattle.std.proofs.Common.{◌≡◌, ℕ, zero, suc, ◌+◌, ◌<◌, ◌==◌, ◌||◌, ◌&&◌, Bool, true, false, List, [], ◌∷◌, ◌++◌}
+use Rattle.std.proofs.Common.{length, map, take, nat_lt, nat_le, arith, ap, sym, ◌∙◌, refl, subst, slice_get, Option}
+use Rattle.std.proofs.Common.{Some, None}
 use Rattle.std.specs.List.{All, filter_map, list_any, range_with_len}
 use Rattle.std.specs.Option.{is_some}
 use Rattle.std.proofs.lemmas.Bool.Decides.{nat_tests}
@@ -13,7 +15,8 @@ use Rattle.cs_cells.specs.Areas.{IsLaid, word_count}
 use Rattle.cs_cells.specs.declared.footprint.Area.{Area}
 use Rattle.cs_base.specs.declared.spaces.Spaces.{Spaces}
 use Rattle.cs_ir.specs.Validity.{has_value}
-use Rattle.cs_layout.specs.Layouts.{Shared, numbered, of_tables, shared_by, areas_of, is_shared, AreApart, AreLive, AreOfPiece, IsLive}
+use Rattle.cs_layout.specs.Layouts.{Shared, numbered, of_tables, shared_by, areas_of, is_shared, AreApart, AreLive}
+use Rattle.cs_layout.specs.Layouts.{AreOfPiece, IsLive}
 use Rattle.cs_layout.specs.declared.areas.LiveTable.{LiveTable}
 use Rattle.cs_layout.proofs.Laid.{laid_at, is_there, found_at}
 use Rattle.cs_layout.proofs.Sharing.{position, is_at}
@@ -26,23 +29,27 @@ use Rattle.cs_voice_meaning.specs.Placing.{IsPlaced, IsTablePlaced, area_of, cel
 use Rattle.cs_typed.specs.TypedTree.{SharedNames}
 
 -- each resource has its area at its own position
-record IsAreaAt (ksmps : ℕ) (names : SharedNames) (spaces : Spaces) (live : List LiveTable) (p : ℕ) (area : Area) : Type 0 where
+record IsAreaAt (ksmps : ℕ) (names : SharedNames) (spaces : Spaces) (live : List LiveTable) (p : ℕ) (area : Area) : Type
+    0 where
   place : p ≡ position ksmps names spaces live area.res
   cells : has_value area.res ≡ true → area.length ≡ cell_count ksmps (res_rate area.res)
   begins : area.first ≡ word_count (take p (areas_of ksmps names spaces live))
 
-area_at : (ksmps : ℕ) (names : SharedNames) (spaces : Spaces) (live : List LiveTable) → AreApart live → (p : ℕ) (area : Area)
+area_at : (ksmps : ℕ) (names : SharedNames) (spaces : Spaces) (live : List LiveTable) → AreApart live
+    → (p : ℕ) (area : Area)
     → slice_get (areas_of ksmps names spaces live) p ≡ Some area → IsAreaAt ksmps names spaces live p area
 area_at ksmps names spaces live apart p area e =
     let here = laid_at 0 (shared_by ksmps names spaces live) p area e in
     let at = is_at ksmps names spaces live apart p here.what here.there in
     record {
       place = at.place ∙ ap (position ksmps names spaces live) (sym here.res);
-      cells = λ h. here.long ∙ at.cells (subst (λ r. has_value r ≡ true) here.res h) ∙ ap (λ r. cell_count ksmps (res_rate r)) (sym here.res);
+      cells = λ h. here.long ∙ at.cells (subst (λ r. has_value r ≡ true) here.res h)
+          ∙ ap (λ r. cell_count ksmps (res_rate r)) (sym here.res);
       begins = omega (arith, here.begins);
     }
 
-pub is_laid : (ksmps : ℕ) (names : SharedNames) (spaces : Spaces) (live : List LiveTable) → AreApart live → IsLaid (areas_of ksmps names spaces live)
+pub is_laid : (ksmps : ℕ) (names : SharedNames) (spaces : Spaces) (live : List LiveTable) → AreApart live
+    → IsLaid (areas_of ksmps names spaces live)
 is_laid ksmps names spaces live apart = record {
   follows = λ p area e. (area_at ksmps names spaces live apart p area e).begins;
   apart = λ p q r (a, e, f) (b, g, h).
@@ -50,11 +57,14 @@ is_laid ksmps names spaces live apart = record {
       ∙ sym (area_at ksmps names spaces live apart q b g).place;
 }
 
-pub cells_of : (ksmps : ℕ) (names : SharedNames) (spaces : Spaces) (live : List LiveTable) → AreApart live → (g : Res) (area : Area)
-    → area_of (areas_of ksmps names spaces live) g ≡ Some area → has_value g ≡ true → area.length ≡ cell_count ksmps (res_rate g)
+pub cells_of : (ksmps : ℕ) (names : SharedNames) (spaces : Spaces) (live : List LiveTable) → AreApart live
+    → (g : Res) (area : Area)
+    → area_of (areas_of ksmps names spaces live) g ≡ Some area → has_value g ≡ true
+    → area.length ≡ cell_count ksmps (res_rate g)
 cells_of ksmps names spaces live apart g area e h =
     let found = found_at (areas_of ksmps names spaces live) g area e in
-    (area_at ksmps names spaces live apart found.place area found.there).cells (subst (λ r. has_value r ≡ true) (sym found.res) h)
+    (area_at ksmps names spaces live apart found.place area found.there).cells
+    (subst (λ r. has_value r ≡ true) (sym found.res) h)
     ∙ ap (λ r. cell_count ksmps (res_rate r)) found.res
 
 -- whether one of some resources of a kind is a resource
@@ -67,23 +77,29 @@ none_from kind g a zero cells h = refl
 none_from kind g a (suc count) cells h = rw (h a) (none_from kind g (a + 1) count cells h)
 
 one_from : (kind : ℕ → Res) (g : Res) (k a count cells : ℕ) → ((n : ℕ) → same_res (kind n) g ≡ (n == k))
-    → any_of g (map (λ n. record { res = kind n; cells = cells }) (range_with_len a count)) ≡ (nat_le a k && nat_lt k (a + count))
+    → any_of g (map (λ n. record { res = kind n; cells = cells }) (range_with_len a count))
+    ≡ (nat_le a k && nat_lt k (a + count))
 one_from kind g k a zero cells h = grind (arith, nat_tests)
 one_from kind g k a (suc count) cells h = rw (h a, one_from kind g k (a + 1) count cells h) (grind (arith, nat_tests))
 
 -- resources of a kind, and what comes behind them
-none_then : (kind : ℕ → Res) (g : Res) (count cells : ℕ) (ys : List Shared) (b : Bool) → ((n : ℕ) → same_res (kind n) g ≡ false)
+none_then : (kind : ℕ → Res) (g : Res) (count cells : ℕ) (ys : List Shared) (b : Bool)
+    → ((n : ℕ) → same_res (kind n) g ≡ false)
     → any_of g ys ≡ b → any_of g (numbered kind count cells ++ ys) ≡ b
 none_then kind g count cells ys b h e =
-    list_any-append (λ s. same_res s.res g) (numbered kind count cells) ys ∙ ap (λ x. x || any_of g ys) (none_from kind g 0 count cells h) ∙ e
+    list_any-append (λ s. same_res s.res g) (numbered kind count cells) ys
+    ∙ ap (λ x. x || any_of g ys) (none_from kind g 0 count cells h) ∙ e
 
-one_then : (kind : ℕ → Res) (g : Res) (k count cells : ℕ) (ys : List Shared) → ((n : ℕ) → same_res (kind n) g ≡ (n == k))
+one_then : (kind : ℕ → Res) (g : Res) (k count cells : ℕ) (ys : List Shared)
+    → ((n : ℕ) → same_res (kind n) g ≡ (n == k))
     → any_of g ys ≡ false → any_of g (numbered kind count cells ++ ys) ≡ nat_lt k count
 one_then kind g k count cells ys h e =
-    list_any-append (λ s. same_res s.res g) (numbered kind count cells) ys ∙ ap (λ x. x || any_of g ys) (one_from kind g k 0 count cells h)
+    list_any-append (λ s. same_res s.res g) (numbered kind count cells) ys
+    ∙ ap (λ x. x || any_of g ys) (one_from kind g k 0 count cells h)
     ∙ ap (λ y. (nat_le 0 k && nat_lt k (0 + count)) || y) e ∙ grind (arith, nat_tests)
 
-no_table : (g : Res) (live : List LiveTable) → ((n : ℕ) → same_res (res.Table n) g ≡ false) → any_of g (of_tables live) ≡ false
+no_table : (g : Res) (live : List LiveTable) → ((n : ℕ) → same_res (res.Table n) g ≡ false)
+    → any_of g (of_tables live) ≡ false
 no_table g [] h = refl
 no_table g (t ∷ live) h = rw (h t.number) (no_table g live h)
 
@@ -122,19 +138,26 @@ module _ (ksmps : ℕ) (names : SharedNames) (spaces : Spaces) (live : List Live
       (none_then res.ZakA g spaces.audio ksmps (of_tables live) false (λ n. refl)
       (no_table g live (λ n. refl)))))))))
   shared_is (res.Control k) = let g = res.Control k in
-      (none_then res.Gi g (length names.gi) 1 (from_gk ksmps names spaces live) (nat_lt k (length names.control)) (λ n. refl)
-      (none_then res.Gk g (length names.gk) 1 (from_ga ksmps names spaces live) (nat_lt k (length names.control)) (λ n. refl)
-      (none_then res.Ga g (length names.ga) ksmps (from_control ksmps names spaces live) (nat_lt k (length names.control)) (λ n. refl)
+      (none_then res.Gi g (length names.gi) 1 (from_gk ksmps names spaces live) (nat_lt k (length names.control))
+      (λ n. refl)
+      (none_then res.Gk g (length names.gk) 1 (from_ga ksmps names spaces live) (nat_lt k (length names.control))
+      (λ n. refl)
+      (none_then res.Ga g (length names.ga) ksmps (from_control ksmps names spaces live)
+      (nat_lt k (length names.control)) (λ n. refl)
       (one_then res.Control g k (length names.control) 1 (from_sound ksmps names spaces live) (λ n. refl)
       (none_then res.Sound g (length names.sound) ksmps (from_zk ksmps names spaces live) false (λ n. refl)
       (none_then res.ZakK g spaces.control 1 (from_za ksmps names spaces live) false (λ n. refl)
       (none_then res.ZakA g spaces.audio ksmps (of_tables live) false (λ n. refl)
       (no_table g live (λ n. refl)))))))))
   shared_is (res.Sound k) = let g = res.Sound k in
-      (none_then res.Gi g (length names.gi) 1 (from_gk ksmps names spaces live) (nat_lt k (length names.sound)) (λ n. refl)
-      (none_then res.Gk g (length names.gk) 1 (from_ga ksmps names spaces live) (nat_lt k (length names.sound)) (λ n. refl)
-      (none_then res.Ga g (length names.ga) ksmps (from_control ksmps names spaces live) (nat_lt k (length names.sound)) (λ n. refl)
-      (none_then res.Control g (length names.control) 1 (from_sound ksmps names spaces live) (nat_lt k (length names.sound)) (λ n. refl)
+      (none_then res.Gi g (length names.gi) 1 (from_gk ksmps names spaces live) (nat_lt k (length names.sound))
+      (λ n. refl)
+      (none_then res.Gk g (length names.gk) 1 (from_ga ksmps names spaces live) (nat_lt k (length names.sound))
+      (λ n. refl)
+      (none_then res.Ga g (length names.ga) ksmps (from_control ksmps names spaces live) (nat_lt k (length names.sound))
+      (λ n. refl)
+      (none_then res.Control g (length names.control) 1 (from_sound ksmps names spaces live)
+      (nat_lt k (length names.sound)) (λ n. refl)
       (one_then res.Sound g k (length names.sound) ksmps (from_zk ksmps names spaces live) (λ n. refl)
       (none_then res.ZakK g spaces.control 1 (from_za ksmps names spaces live) false (λ n. refl)
       (none_then res.ZakA g spaces.audio ksmps (of_tables live) false (λ n. refl)
@@ -142,28 +165,40 @@ module _ (ksmps : ℕ) (names : SharedNames) (spaces : Spaces) (live : List Live
   shared_is (res.ZakK k) = let g = res.ZakK k in
       (none_then res.Gi g (length names.gi) 1 (from_gk ksmps names spaces live) (nat_lt k spaces.control) (λ n. refl)
       (none_then res.Gk g (length names.gk) 1 (from_ga ksmps names spaces live) (nat_lt k spaces.control) (λ n. refl)
-      (none_then res.Ga g (length names.ga) ksmps (from_control ksmps names spaces live) (nat_lt k spaces.control) (λ n. refl)
-      (none_then res.Control g (length names.control) 1 (from_sound ksmps names spaces live) (nat_lt k spaces.control) (λ n. refl)
-      (none_then res.Sound g (length names.sound) ksmps (from_zk ksmps names spaces live) (nat_lt k spaces.control) (λ n. refl)
+      (none_then res.Ga g (length names.ga) ksmps (from_control ksmps names spaces live) (nat_lt k spaces.control)
+      (λ n. refl)
+      (none_then res.Control g (length names.control) 1 (from_sound ksmps names spaces live) (nat_lt k spaces.control)
+      (λ n. refl)
+      (none_then res.Sound g (length names.sound) ksmps (from_zk ksmps names spaces live) (nat_lt k spaces.control)
+      (λ n. refl)
       (one_then res.ZakK g k spaces.control 1 (from_za ksmps names spaces live) (λ n. refl)
       (none_then res.ZakA g spaces.audio ksmps (of_tables live) false (λ n. refl)
       (no_table g live (λ n. refl)))))))))
   shared_is (res.ZakA k) = let g = res.ZakA k in
       (none_then res.Gi g (length names.gi) 1 (from_gk ksmps names spaces live) (nat_lt k spaces.audio) (λ n. refl)
       (none_then res.Gk g (length names.gk) 1 (from_ga ksmps names spaces live) (nat_lt k spaces.audio) (λ n. refl)
-      (none_then res.Ga g (length names.ga) ksmps (from_control ksmps names spaces live) (nat_lt k spaces.audio) (λ n. refl)
-      (none_then res.Control g (length names.control) 1 (from_sound ksmps names spaces live) (nat_lt k spaces.audio) (λ n. refl)
-      (none_then res.Sound g (length names.sound) ksmps (from_zk ksmps names spaces live) (nat_lt k spaces.audio) (λ n. refl)
+      (none_then res.Ga g (length names.ga) ksmps (from_control ksmps names spaces live) (nat_lt k spaces.audio)
+      (λ n. refl)
+      (none_then res.Control g (length names.control) 1 (from_sound ksmps names spaces live) (nat_lt k spaces.audio)
+      (λ n. refl)
+      (none_then res.Sound g (length names.sound) ksmps (from_zk ksmps names spaces live) (nat_lt k spaces.audio)
+      (λ n. refl)
       (none_then res.ZakK g spaces.control 1 (from_za ksmps names spaces live) (nat_lt k spaces.audio) (λ n. refl)
       (one_then res.ZakA g k spaces.audio ksmps (of_tables live) (λ n. refl)
       (no_table g live (λ n. refl)))))))))
   shared_is (res.Table k) = let g = res.Table k in
-      (none_then res.Gi g (length names.gi) 1 (from_gk ksmps names spaces live) (list_any (λ t. t.number == k) live) (λ n. refl)
-      (none_then res.Gk g (length names.gk) 1 (from_ga ksmps names spaces live) (list_any (λ t. t.number == k) live) (λ n. refl)
-      (none_then res.Ga g (length names.ga) ksmps (from_control ksmps names spaces live) (list_any (λ t. t.number == k) live) (λ n. refl)
-      (none_then res.Control g (length names.control) 1 (from_sound ksmps names spaces live) (list_any (λ t. t.number == k) live) (λ n. refl)
-      (none_then res.Sound g (length names.sound) ksmps (from_zk ksmps names spaces live) (list_any (λ t. t.number == k) live) (λ n. refl)
-      (none_then res.ZakK g spaces.control 1 (from_za ksmps names spaces live) (list_any (λ t. t.number == k) live) (λ n. refl)
+      (none_then res.Gi g (length names.gi) 1 (from_gk ksmps names spaces live) (list_any (λ t. t.number == k) live)
+      (λ n. refl)
+      (none_then res.Gk g (length names.gk) 1 (from_ga ksmps names spaces live) (list_any (λ t. t.number == k) live)
+      (λ n. refl)
+      (none_then res.Ga g (length names.ga) ksmps (from_control ksmps names spaces live)
+      (list_any (λ t. t.number == k) live) (λ n. refl)
+      (none_then res.Control g (length names.control) 1 (from_sound ksmps names spaces live)
+      (list_any (λ t. t.number == k) live) (λ n. refl)
+      (none_then res.Sound g (length names.sound) ksmps (from_zk ksmps names spaces live)
+      (list_any (λ t. t.number == k) live) (λ n. refl)
+      (none_then res.ZakK g spaces.control 1 (from_za ksmps names spaces live) (list_any (λ t. t.number == k) live)
+      (λ n. refl)
       (none_then res.ZakA g spaces.audio ksmps (of_tables live) (list_any (λ t. t.number == k) live) (λ n. refl)
       (one_table k live))))))))
 
@@ -190,7 +225,8 @@ among_areas (a ∷ areas) (suc p) n area e h = later a.res refl (among_areas are
     later (res.ZakK k) is more = rw (ap table_number is) more
     later (res.ZakA k) is more = rw (ap table_number is) more
 
-live_is_shared : (live : List LiveTable) (q n size : ℕ) → slice_get live q ≡ Some (record { number = n; size = size }) → list_any (λ t. t.number == n) live ≡ true
+live_is_shared : (live : List LiveTable) (q n size : ℕ) → slice_get live q ≡ Some (record { number = n; size = size })
+    → list_any (λ t. t.number == n) live ≡ true
 live_is_shared [] q n size e = absurd (cc (e))
 live_is_shared (t ∷ live) zero n size e =
     let is : t.number ≡ n = ap (λ x. x.number) (some_is t (record { number = n; size = size }) e) in
@@ -217,26 +253,33 @@ module _ (ksmps : ℕ) (names : SharedNames) (spaces : Spaces) (live : List Live
   table_size n q size area e f =
       let found = found_at (areas_of ksmps names spaces live) (res.Table n) area f in
       let here = laid_at 0 (shared_by ksmps names spaces live) found.place area found.there in
-      here.long ∙ (is_at ksmps names spaces live apart found.place here.what here.there).size n q size (sym here.res ∙ found.res) e
+      here.long ∙ (is_at ksmps names spaces live apart found.place here.what here.there).size n q size
+      (sym here.res ∙ found.res) e
 
-  pub table_placed : (t : Table) → All IsSized live → IsLive live t → IsTablePlaced (areas_of ksmps names spaces live) (stock_of (areas_of ksmps names spaces live)) t
+  pub table_placed : (t : Table) → All IsSized live → IsLive live t
+      → IsTablePlaced (areas_of ksmps names spaces live) (stock_of (areas_of ksmps names spaces live)) t
   table_placed t sized (q, e) =
-      let area = some_of (area_of (areas_of ksmps names spaces live) (res.Table t.number)) (there ksmps names spaces live (res.Table t.number) ∙ live_is_shared live q t.number t.size e) in
+      let area = some_of (area_of (areas_of ksmps names spaces live) (res.Table t.number))
+      (there ksmps names spaces live (res.Table t.number) ∙ live_is_shared live q t.number t.size e) in
       let found = found_at (areas_of ksmps names spaces live) (res.Table t.number) area.0 area.1 in
       record {
         among = among_areas (areas_of ksmps names spaces live) found.place t.number area.0 found.there found.res;
-        some = (let most = some_points t.size (all_at live q (record { number = t.number; size = t.size }) sized e) in omega (arith, most));
+        some = (let most = some_points t.size
+            (all_at live q (record { number = t.number; size = t.size }) sized e) in omega (arith, most));
         power = all_at live q (record { number = t.number; size = t.size }) sized e;
         size = λ a f. table_size t.number q t.size a e f;
       }
 
-pub is_placed : (names : SharedNames) (live : List LiveTable) (piece : Piece) → AreApart live → 0 < piece.head.ksmps → AreLive live piece.tables → AreOfPiece live piece.tables
-    → All IsSized live → IsPlaced (areas_of piece.head.ksmps names piece.spaces live) (stock_of (areas_of piece.head.ksmps names piece.spaces live)) piece
+pub is_placed : (names : SharedNames) (live : List LiveTable) (piece : Piece) → AreApart live → 0 < piece.head.ksmps
+    → AreLive live piece.tables → AreOfPiece live piece.tables
+    → All IsSized live → IsPlaced (areas_of piece.head.ksmps names piece.spaces live)
+    (stock_of (areas_of piece.head.ksmps names piece.spaces live)) piece
 is_placed names live piece apart frames are of_piece sized = record {
   laid = is_laid piece.head.ksmps names piece.spaces live apart;
   frames = frames;
   cells = cells_of piece.head.ksmps names piece.spaces live apart;
   spaces = spaces_are piece.head.ksmps names piece.spaces live;
-  tables = λ number t found frozen. table_placed piece.head.ksmps names piece.spaces live apart t sized (are number t found frozen);
+  tables = λ number t found frozen. table_placed piece.head.ksmps names piece.spaces live apart t sized
+      (are number t found frozen);
   live = λ n area at. of_piece n (sym (there piece.head.ksmps names piece.spaces live (res.Table n)) ∙ ap is_some at);
 }

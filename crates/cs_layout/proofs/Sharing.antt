@@ -1,5 +1,6 @@
 -- What is shared, by its place.
-use Rattle.std.proofs.Common.{◌≡◌, ℕ, zero, suc, ◌+◌, true, false, List, [], ◌∷◌, ◌++◌, ◌==◌, length, map, arith, ap, sym, ◌∙◌, refl, subst, slice_get, Some, if◌then◌else◌}
+use Rattle.std.proofs.Common.{◌≡◌, ℕ, zero, suc, ◌+◌, true, false, List, [], ◌∷◌, ◌++◌, ◌==◌, length, map, arith, ap}
+use Rattle.std.proofs.Common.{sym, ◌∙◌, refl, subst, slice_get, Some, if◌then◌else◌}
 use Rattle.std.specs.List.{range_with_len}
 use Rattle.std.proofs.lemmas.Bool.Decides.{nat_tests}
 use Rattle.std.proofs.lemmas.List.FromFn.{length-map-range_with_len}
@@ -17,11 +18,14 @@ use Rattle.cs_typed.specs.TypedTree.{SharedNames}
 
 -- what holds at each place of two lists, one behind the other
 at_append : (P : ℕ → Shared → Type 0) (xs ys : List Shared) → ((p : ℕ) (s : Shared) → slice_get xs p ≡ Some s → P p s)
-    → ((p : ℕ) (s : Shared) → slice_get ys p ≡ Some s → P (length xs + p) s) → (p : ℕ) (s : Shared) → slice_get (xs ++ ys) p ≡ Some s → P p s
+    → ((p : ℕ) (s : Shared) → slice_get ys p ≡ Some s → P (length xs + p) s) → (p : ℕ) (s : Shared)
+    → slice_get (xs ++ ys) p ≡ Some s → P p s
 at_append P [] ys front back p s e = subst (λ n. P n s) (let same : 0 + p ≡ p = omega arith in same) (back p s e)
 at_append P (x ∷ xs) ys front back zero s e = front 0 s e
 at_append P (x ∷ xs) ys front back (suc p) s e =
-    at_append (λ q t. P (suc q) t) xs ys (λ q t f. front (suc q) t f) (λ q t f. subst (λ n. P n t) (let same : length (x ∷ xs) + q ≡ suc (length xs + q) = omega arith in same) (back q t f)) p s e
+    at_append (λ q t. P (suc q) t) xs ys (λ q t f. front (suc q) t f)
+    (λ q t f. subst (λ n. P n t) (let same : length (x ∷ xs) + q ≡ suc (length xs + q) = omega arith in same)
+    (back q t f)) p s e
 
 -- a resource of a kind, by its number
 abbrev of_kind : (ℕ → Res) → ℕ → ℕ → Shared
@@ -31,13 +35,18 @@ shared_from : (kind : ℕ → Res) (a count cells p : ℕ) (s : Shared)
     → slice_get (map (of_kind kind cells) (range_with_len a count)) p ≡ Some s → of_kind kind cells (a + p) ≡ s
 shared_from kind a zero cells p s e = absurd (cc (e))
 shared_from kind a (suc count) cells zero s e = ap (of_kind kind cells) (omega arith) ∙ some_is _ s e
-shared_from kind a (suc count) cells (suc p) s e = ap (of_kind kind cells) (omega arith) ∙ shared_from kind (a + 1) count cells p s e
+shared_from kind a (suc count) cells (suc p) s e =
+    ap (of_kind kind cells) (omega arith) ∙ shared_from kind (a + 1) count cells p s e
 
 -- what holds of each resource of a kind and of what comes behind them
-group_then : (P : ℕ → Shared → Type 0) (kind : ℕ → Res) (count cells : ℕ) (ys : List Shared) → ((n : ℕ) → P n (of_kind kind cells n))
-    → ((p : ℕ) (s : Shared) → slice_get ys p ≡ Some s → P (count + p) s) → (p : ℕ) (s : Shared) → slice_get (numbered kind count cells ++ ys) p ≡ Some s → P p s
+group_then : (P : ℕ → Shared → Type 0) (kind : ℕ → Res) (count cells : ℕ) (ys : List Shared)
+    → ((n : ℕ) → P n (of_kind kind cells n))
+    → ((p : ℕ) (s : Shared) → slice_get ys p ≡ Some s → P (count + p) s) → (p : ℕ) (s : Shared)
+    → slice_get (numbered kind count cells ++ ys) p ≡ Some s → P p s
 group_then P kind count cells ys front back =
-    at_append P (numbered kind count cells) ys (λ p s e. subst (P p) (ap (of_kind kind cells) (let same : p ≡ 0 + p = omega arith in same) ∙ shared_from kind 0 count cells p s e) (front p))
+    at_append P (numbered kind count cells) ys
+    (λ p s e. subst (P p) (ap (of_kind kind cells) (let same : p ≡ 0 + p = omega arith in same)
+    ∙ shared_from kind 0 count cells p s e) (front p))
     (λ p s e. subst (λ n. P (n + p) s) (sym (length-map-range_with_len (of_kind kind cells) 0 count)) (back p s e))
 
 -- the place of a live table among them
@@ -53,15 +62,18 @@ record IsAmong (live : List LiveTable) (n : ℕ) : Type 0 where
 among_here : (u : LiveTable) (live : List LiveTable) (n : ℕ) → (u.number == n) ≡ true → IsAmong (u ∷ live) n
 among_here u live n k = record { table = u; there = rw k refl; number = grind (arith, nat_tests, k) }
 
-among_later : (u : LiveTable) (live : List LiveTable) (n : ℕ) → (u.number == n) ≡ false → IsAmong live n → IsAmong (u ∷ live) n
+among_later : (u : LiveTable) (live : List LiveTable) (n : ℕ) → (u.number == n) ≡ false → IsAmong live n
+    → IsAmong (u ∷ live) n
 among_later u live n k more = record { table = more.table; there = rw k more.there; number = more.number }
 
 among_is : (live : List LiveTable) (n p : ℕ) (t : LiveTable) → slice_get live p ≡ Some t → t.number ≡ n → IsAmong live n
 among_is [] n p t e h = absurd (cc (e))
 among_is (u ∷ live) n zero t e h =
-    among_here u live n (let same : u.number ≡ n = ap (λ x. x.number) (some_is u t e) ∙ h in grind (arith, nat_tests, same))
+    among_here u live n (let same : u.number ≡ n =
+    ap (λ x. x.number) (some_is u t e) ∙ h in grind (arith, nat_tests, same))
 among_is (u ∷ live) n (suc p) t e h =
-    let more = among_is live n p t e h in by_test (u.number == n) (λ k. among_here u live n k) (λ k. among_later u live n k more)
+    let more = among_is live n p t e h in by_test (u.number == n) (λ k. among_here u live n k)
+    (λ k. among_later u live n k more)
 
 -- a table's place
 table_at : (live : List LiveTable) (p : ℕ) (s : Shared) → slice_get (of_tables live) p ≡ Some s
@@ -70,12 +82,14 @@ table_at [] p s e = absurd (cc (e))
 table_at (t ∷ live) zero s e = (t, refl, sym (some_is _ s e))
 table_at (t ∷ live) (suc p) s e = table_at live p s e
 
-place_of_table : (live : List LiveTable) → AreApart live → (p : ℕ) (t : LiveTable) → slice_get live p ≡ Some t → p ≡ place_among live t.number
+place_of_table : (live : List LiveTable) → AreApart live → (p : ℕ) (t : LiveTable) → slice_get live p ≡ Some t
+    → p ≡ place_among live t.number
 place_of_table live apart p t e =
     let among = among_is live t.number p t e refl in
     apart p (place_among live t.number) t among.table e among.there (sym among.number)
 
-size_of_table : (live : List LiveTable) → AreApart live → (p : ℕ) (t : LiveTable) (n q size : ℕ) → slice_get live p ≡ Some t
+size_of_table : (live : List LiveTable) → AreApart live → (p : ℕ) (t : LiveTable) (n q size : ℕ)
+    → slice_get live p ≡ Some t
     → res.Table t.number ≡ res.Table n → slice_get live q ≡ Some (record { number = n; size = size }) → t.size ≡ size
 size_of_table live apart p t n q size e r l =
     let number : t.number ≡ n = cc (r) in
@@ -91,16 +105,20 @@ module _ (ksmps : ℕ) (names : SharedNames) (spaces : Spaces) (live : List Live
   position (res.Ga n) = length names.gi + (length names.gk + n)
   position (res.Control n) = length names.gi + (length names.gk + (length names.ga + n))
   position (res.Sound n) = length names.gi + (length names.gk + (length names.ga + (length names.control + n)))
-  position (res.ZakK n) = length names.gi + (length names.gk + (length names.ga + (length names.control + (length names.sound + n))))
+  position (res.ZakK n) = length names.gi +
+      (length names.gk + (length names.ga + (length names.control + (length names.sound + n))))
   position (res.ZakA n) =
-      length names.gi + (length names.gk + (length names.ga + (length names.control + (length names.sound + (spaces.control + n)))))
-  position (res.Table n) = length names.gi + (length names.gk + (length names.ga + (length names.control + (length names.sound
+      length names.gi + (length names.gk +
+      (length names.ga + (length names.control + (length names.sound + (spaces.control + n)))))
+  position (res.Table n) =
+      length names.gi + (length names.gk + (length names.ga + (length names.control + (length names.sound
       + (spaces.control + (spaces.audio + place_among live n))))))
 
   pub record IsAt (p : ℕ) (s : Shared) : Type 0 where
     pub place : p ≡ position s.res
     pub cells : has_value s.res ≡ true → s.cells ≡ cell_count ksmps (res_rate s.res)
-    pub size : (n q size : ℕ) → s.res ≡ res.Table n → slice_get live q ≡ Some (record { number = n; size = size }) → s.cells ≡ size
+    pub size : (n q size : ℕ) → s.res ≡ res.Table n → slice_get live q ≡ Some (record { number = n; size = size })
+        → s.cells ≡ size
 
   pub is_at : AreApart live → (p : ℕ) (s : Shared) → slice_get (shared_by ksmps names spaces live) p ≡ Some s → IsAt p s
   is_at apart =
@@ -109,13 +127,27 @@ module _ (ksmps : ℕ) (names : SharedNames) (spaces : Spaces) (live : List Live
       let c = length names.ga in
       let d = length names.control in
       let e = length names.sound in
-      group_then (λ p s. IsAt p s) res.Gi a 1 (from_gk ksmps names spaces live) (λ n. record { place = refl; cells = λ _. refl; size = λ m q z r l. absurd (cc (r)) })
-      (group_then (λ p s. IsAt (a + p) s) res.Gk b 1 (from_ga ksmps names spaces live) (λ n. record { place = refl; cells = λ _. refl; size = λ m q z r l. absurd (cc (r)) })
-      (group_then (λ p s. IsAt (a + (b + p)) s) res.Ga c ksmps (from_control ksmps names spaces live) (λ n. record { place = refl; cells = λ _. refl; size = λ m q z r l. absurd (cc (r)) })
-      (group_then (λ p s. IsAt (a + (b + (c + p))) s) res.Control d 1 (from_sound ksmps names spaces live) (λ n. record { place = refl; cells = λ _. refl; size = λ m q z r l. absurd (cc (r)) })
-      (group_then (λ p s. IsAt (a + (b + (c + (d + p)))) s) res.Sound e ksmps (from_zk ksmps names spaces live) (λ n. record { place = refl; cells = λ _. refl; size = λ m q z r l. absurd (cc (r)) })
-      (group_then (λ p s. IsAt (a + (b + (c + (d + (e + p))))) s) res.ZakK spaces.control 1 (from_za ksmps names spaces live) (λ n. record { place = refl; cells = λ _. refl; size = λ m q z r l. absurd (cc (r)) })
-      (group_then (λ p s. IsAt (a + (b + (c + (d + (e + (spaces.control + p)))))) s) res.ZakA spaces.audio ksmps (of_tables live) (λ n. record { place = refl; cells = λ _. refl; size = λ m q z r l. absurd (cc (r)) })
+      group_then (λ p s. IsAt p s) res.Gi a 1 (from_gk ksmps names spaces live)
+      (λ n. record { place = refl; cells = λ _. refl; size = λ m q z r l. absurd (cc (r)) })
+      (group_then (λ p s. IsAt (a + p) s) res.Gk b 1 (from_ga ksmps names spaces live)
+      (λ n. record { place = refl; cells = λ _. refl; size = λ m q z r l. absurd (cc (r)) })
+      (group_then (λ p s. IsAt (a + (b + p)) s) res.Ga c ksmps (from_control ksmps names spaces live)
+      (λ n. record { place = refl; cells = λ _. refl; size = λ m q z r l. absurd (cc (r)) })
+      (group_then (λ p s. IsAt (a + (b + (c + p))) s) res.Control d 1 (from_sound ksmps names spaces live)
+      (λ n. record { place = refl; cells = λ _. refl; size = λ m q z r l. absurd (cc (r)) })
+      (group_then (λ p s. IsAt (a + (b + (c + (d + p)))) s) res.Sound e ksmps (from_zk ksmps names spaces live)
+      (λ n. record { place = refl; cells = λ _. refl; size = λ m q z r l. absurd (cc (r)) })
+      (group_then (λ p s. IsAt (a + (b + (c + (d + (e + p))))) s) res.ZakK spaces.control 1
+      (from_za ksmps names spaces live)
+      (λ n. record { place = refl; cells = λ _. refl; size = λ m q z r l. absurd (cc (r)) })
+      (group_then (λ p s. IsAt (a + (b + (c + (d + (e + (spaces.control + p)))))) s) res.ZakA spaces.audio ksmps
+      (of_tables live) (λ n. record { place = refl; cells = λ _. refl; size = λ m q z r l. absurd (cc (r)) })
       (λ p s h. let t = table_at live p s h in
       subst (IsAt (a + (b + (c + (d + (e + (spaces.control + (spaces.audio + p)))))))) (sym t.2)
-      (record { place = ap (λ n. a + (b + (c + (d + (e + (spaces.control + (spaces.audio + n))))))) (place_of_table live apart p t.0 t.1); cells = λ k. absurd (cc (k)); size = λ m q z r l. size_of_table live apart p t.0 m q z t.1 r l }))))))))
+      (record {
+        place = ap (λ n. a + (b + (c + (d + (e + (spaces.control + (spaces.audio + n)))))))
+            (place_of_table live apart p t.0 t.1);
+        cells = λ k. absurd (cc (k));
+        size =
+            λ m q z r l. size_of_table live apart p t.0 m q z t.1 r l;
+      }))))))))

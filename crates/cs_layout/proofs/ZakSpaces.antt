@@ -19,6 +19,8 @@ pub are_spaces : (ksmps : ℕ) (names : SharedNames) (spaces : Spaces) (live : L
     → is_some (area_of (areas_of ksmps names spaces live) (zak_place s n))
     ≡ nat_lt n (places_of (spaces_of (areas_of ksmps names spaces live)) s)
 are_spaces ksmps names spaces live space.Control n =
-    there ksmps names spaces live (res.ZakK n) ∙ ap (λ p. nat_lt n (places_of p space.Control)) (sym (spaces_are ksmps names spaces live))
+    there ksmps names spaces live (res.ZakK n)
+    ∙ ap (λ p. nat_lt n (places_of p space.Control)) (sym (spaces_are ksmps names spaces live))
 are_spaces ksmps names spaces live space.Audio n =
-    there ksmps names spaces live (res.ZakA n) ∙ ap (λ p. nat_lt n (places_of p space.Audio)) (sym (spaces_are ksmps names spaces live))
+    there ksmps names spaces live (res.ZakA n)
+    ∙ ap (λ p. nat_lt n (places_of p space.Audio)) (sym (spaces_are ksmps names spaces live))

@@ -1,5 +1,6 @@
 -- Which cells a piece has: those of its variables, channels, zak places and live tables, one behind the other.
-use Rattle.std.specs.Prelude.{ℕ, ℤ, ◌≡◌, ◌+◌, ◌==◌, Bool, true, nat_lt, List, [], ◌∷◌, ◌++◌, length, map, slice_get, Some, None}
+use Rattle.std.specs.Prelude.{ℕ, ℤ, ◌≡◌, ◌+◌, ◌==◌, Bool, true, nat_lt, List, [], ◌∷◌, ◌++◌, length, map, slice_get}
+use Rattle.std.specs.Prelude.{Some, None}
 use Rattle.std.specs.List.{list_any, range_with_len}
 use Rattle.cs_base.specs.declared.resource.Res.{Res}
 use Rattle.cs_base.specs.declared.resource.Res.TheVariants as res
@@ -47,7 +48,8 @@ areas_of ksmps names spaces live = laid_from 0 (shared_by ksmps names spaces liv
 
 -- no two live tables have one number
 abbrev pub AreApart : List LiveTable → Type 0
-AreApart live = (p q : ℕ) (t u : LiveTable) → slice_get live p ≡ Some t → slice_get live q ≡ Some u → t.number ≡ u.number → p ≡ q
+AreApart live = (p q : ℕ) (t u : LiveTable) → slice_get live p ≡ Some t → slice_get live q ≡ Some u
+    → t.number ≡ u.number → p ≡ q
 
 -- whether notes share a resource
 abbrev pub is_shared : SharedNames → Spaces → List LiveTable → Res → Bool

@@ -1,6 +1,7 @@
 // The layout of a piece.
 ghost use Rattle.std.specs.List.{flat_map};
-ghost use Rattle.std.specs.Prelude.{◌≡◌, ◌<◌, ◌≤◌, ◌+◌, ◌*◌, ◌^◌, ◌++◌, length, sum_by, IfErr, IfNone, IfOk, IfSome, Err, OnOk};
+ghost use Rattle.std.specs.Prelude.{◌≡◌, ◌<◌, ◌≤◌, ◌+◌, ◌*◌, ◌^◌, ◌++◌, length, sum_by, IfErr, IfNone, IfOk, IfSome};
+ghost use Rattle.std.specs.Prelude.{Err, OnOk};
 ghost use Rattle.cs_base.specs.Limits.{most_resources, most_words};
 ghost use Rattle.cs_base.specs.declared.fault.Or.TheVariants as or;
 ghost use Rattle.cs_cells.specs.Areas.{limit_passed};

@@ -25,7 +25,8 @@ pub record SameRoom (old new : State) : Type 0 where
   pub row : length new.row.items ≡ old.regs.ksmps
 
 -- such a state still is one of its code and piece
-pub still_in : (areas : List Area) (piece : Piece) (kinds : Kinds) (counts : Counts) (old new : State) → SameRoom old new
+pub still_in : (areas : List Area) (piece : Piece) (kinds : Kinds) (counts : Counts) (old new : State)
+    → SameRoom old new
     → IsStateIn areas piece kinds counts old → IsStateIn areas piece kinds counts new
 still_in areas piece kinds counts old new same state = record {
   registers = same.counts ∙ state.registers;
@@ -54,7 +55,8 @@ pub record KeepsRest (old new : State) : Type 0 where
 
 -- the machine of a state of which one register was written
 pub written_machine : (ksmps : ℕ) (old new : State) (into : Reg) (w : Wave) → KeepsRest old new → old.regs.ksmps ≡ ksmps
-    → IsWritten old.regs into w new.regs → (before after : ℕ → ℤ) → after ≡ before → (next : ℕ) (asks : List (List ℤ)) (cause : Option Cause)
+    → IsWritten old.regs into w new.regs → (before after : ℕ → ℤ) → after ≡ before
+    → (next : ℕ) (asks : List (List ℤ)) (cause : Option Cause)
     → machine_of new after next asks cause ≡ write ksmps into w (machine_of old before next asks cause)
 written_machine ksmps old new into w rest frames written before after same next asks cause = λ i. record {
   regs = (written.values ∙ ap (λ n. put (values old.regs) into (held n into.rate w)) frames) i;
@@ -83,8 +85,10 @@ written_room old new into w rest written row = record {
 }
 
 -- An act that writes one register is done by a state of which it was written.
-pub writes : (areas : List Area) (piece : Piece) (kinds : Kinds) (counts : Counts) (act : Act) (into : Reg) (from : List Reg) (w : Wave)
-    (old new : State) (before after : ℕ → ℤ) → KeepsRest old new → after ≡ before → IsStateIn areas piece kinds counts old
+pub writes : (areas : List Area) (piece : Piece) (kinds : Kinds) (counts : Counts) (act : Act) (into : Reg)
+    (from : List Reg) (w : Wave)
+    (old new : State) (before after : ℕ → ℤ) → KeepsRest old new → after ≡ before
+    → IsStateIn areas piece kinds counts old
     → IsWritten old.regs into w new.regs → length new.row.items ≡ old.regs.ksmps
     → ((next : ℕ) (asks : List (List ℤ)) (cause : Option Cause)
     → acts (voice_world areas piece) act into (map (values old.regs) from) (machine_of old before next asks cause)
@@ -102,7 +106,8 @@ pub record KeepsMachine (old new : State) : Type 0 where
   pub regs : new.regs ≡ old.regs
   pub rest : KeepsRest old new
 
-pub changes : (areas : List Area) (piece : Piece) (kinds : Kinds) (counts : Counts) (act : Act) (into : Reg) (from : List Reg)
+pub changes : (areas : List Area) (piece : Piece) (kinds : Kinds) (counts : Counts) (act : Act) (into : Reg)
+    (from : List Reg)
     (old new : State) (before after : ℕ → ℤ) → KeepsMachine old new → IsStateIn areas piece kinds counts old
     → length new.row.items ≡ old.regs.ksmps
     → ((next : ℕ) (asks : List (List ℤ)) (cause : Option Cause)
@@ -121,7 +126,8 @@ changes areas piece kinds counts act into from old new before after keeps state 
   }) state;
 }
   where
-    same_machine : (next : ℕ) (asks : List (List ℤ)) (cause : Option Cause) → machine_of new after next asks cause ≡ machine_of old after next asks cause
+    same_machine : (next : ℕ) (asks : List (List ℤ)) (cause : Option Cause)
+        → machine_of new after next asks cause ≡ machine_of old after next asks cause
     same_machine next asks cause = λ i. record {
       regs = values (keeps.regs i);
       next = next;

@@ -1,5 +1,6 @@
 -- The area of a resource in a layout.
-use Rattle.std.proofs.Common.{◌≡◌, ℕ, zero, suc, ◌+◌, ◌≤◌, Bool, true, false, List, [], ◌∷◌, length, slice_get, Option, Some, None, nat_lt, if◌then◌else◌, refl, sym, ◌∙◌, ap, subst, arith}
+use Rattle.std.proofs.Common.{◌≡◌, ℕ, zero, suc, ◌+◌, ◌≤◌, Bool, true, false, List, [], ◌∷◌, length, slice_get, Option}
+use Rattle.std.proofs.Common.{Some, None, nat_lt, if◌then◌else◌, refl, sym, ◌∙◌, ap, subst, arith}
 use Rattle.std.proofs.lemmas.Bool.Decides.{nat_tests}
 use Rattle.cs_base.specs.Limits.{most_resources, most_words}
 use Rattle.cs_base.specs.Rates.{same_res}
@@ -23,21 +24,28 @@ not_first true x o e = absurd cc
 not_first false x o e = refl
 
 -- a resource that has a place has an area
-some_first : (areas : List Area) (g : Res) (place : ℕ) → HasPlace areas g place → (b : Area) × (area_of areas g ≡ Some b)
+some_first : (areas : List Area) (g : Res) (place : ℕ) → HasPlace areas g place
+    → (b : Area) × (area_of areas g ≡ Some b)
 some_first [] g place h = absurd (let e = h.1 in cc)
 some_first (x ∷ areas) g zero h =
-    let same : x.res ≡ g = let e = h.1 in let f = h.2 in cc in
-    (x, sym (at_first (same_res x.res g) x (area_of areas g) (subst (λ r. same_res r g ≡ true) (sym same) (same_res_here g))))
+    let same : x.res ≡ g = let e = h.1 in let f = h.2 in cc in (
+      x,
+      sym (at_first (same_res x.res g) x (area_of areas g)
+          (subst (λ r. same_res r g ≡ true) (sym same) (same_res_here g))),
+    )
 some_first (x ∷ areas) g (suc place) h =
     by_test (same_res x.res g)
     (λ here. (x, sym (at_first (same_res x.res g) x (area_of areas g) here)))
-    (λ later. let rest = some_first areas g place h in (rest.0, not_first (same_res x.res g) x (area_of areas g) later ∙ rest.1))
+    (λ later. let rest = some_first areas g place
+    h in (rest.0, not_first (same_res x.res g) x (area_of areas g) later ∙ rest.1))
 
-at_one : (areas : List Area) (p q : ℕ) (a b : Area) → p ≡ q → slice_get areas p ≡ Some a → slice_get areas q ≡ Some b → a ≡ b
+at_one : (areas : List Area) (p q : ℕ) (a b : Area) → p ≡ q → slice_get areas p ≡ Some a → slice_get areas q ≡ Some b
+    → a ≡ b
 at_one areas p q a b e f g = let h : slice_get areas p ≡ slice_get areas q = ap (slice_get areas) e in cc
 
 -- the area at a resource's place is the resource's
-pub found : (areas : List Area) (g : Res) (place : ℕ) (a : Area) → IsLaid areas → HasPlace areas g place → slice_get areas place ≡ Some a → Some a ≡ area_of areas g
+pub found : (areas : List Area) (g : Res) (place : ℕ) (a : Area) → IsLaid areas → HasPlace areas g place
+    → slice_get areas place ≡ Some a → Some a ≡ area_of areas g
 found areas g place a laid h at =
     let first = some_first areas g place h in
     let there = area_at areas g first.0 first.1 in
@@ -52,7 +60,8 @@ not_found areas g none = by (area_of areas g) refl
     by (Some b) e = absurd (let there = area_at areas g b e in none there.0 (b, there.1, there.2))
 
 -- an area of a layout is that of its resource
-pub own : (areas : List Area) (place : ℕ) (a : Area) → IsLaid areas → slice_get areas place ≡ Some a → area_of areas a.res ≡ Some a
+pub own : (areas : List Area) (place : ℕ) (a : Area) → IsLaid areas → slice_get areas place ≡ Some a
+    → area_of areas a.res ≡ Some a
 own areas place a laid at = sym (found areas a.res place a laid (a, at, refl) at)
 
 -- what is within the limits has at most so many cells
@@ -64,9 +73,11 @@ no_limit false false x y e = refl
 not_less : (m n : ℕ) → nat_lt m n ≡ false → n ≤ m
 not_less m n h = grind (arith, nat_tests)
 
-pub small : (areas : List Area) (place : ℕ) (a : Area) → IsLaid areas → limit_passed areas ≡ None → slice_get areas place ≡ Some a → a.first + a.length ≤ 65536
+pub small : (areas : List Area) (place : ℕ) (a : Area) → IsLaid areas → limit_passed areas ≡ None
+    → slice_get areas place ≡ Some a → a.first + a.length ≤ 65536
 small areas place a laid none at =
     let within = area_within areas place a laid at in
     let words = not_less most_words (word_count areas)
-    (no_limit (nat_lt most_resources (length areas)) (nat_lt most_words (word_count areas)) (record { limit = limit.Resources; line = 0 }) (record { limit = limit.Words; line = 0 }) none) in
+    (no_limit (nat_lt most_resources (length areas)) (nat_lt most_words (word_count areas))
+    (record { limit = limit.Resources; line = 0 }) (record { limit = limit.Words; line = 0 }) none) in
     omega (arith, within, words)

@@ -1,8 +1,11 @@
 -- Rows that are filled place by place, and the values that they have.
-use Rattle.std.proofs.Common.{◌≡◌, ℕ, ℤ, pos, ◌+◌, ◌<◌, ◌≤◌, ◌≢◌, ◌==◌, false, List, length, take, drop, ◌++◌, replicate, nat_lt, slice_index_or, slice_set, if◌then◌else◌, refl, sym, ◌∙◌, ap, arith, ltb-true}
+use Rattle.std.proofs.Common.{◌≡◌, ℕ, ℤ, pos, ◌+◌, ◌<◌, ◌≤◌, ◌≢◌, ◌==◌, false, List, length, take, drop, ◌++◌}
+use Rattle.std.proofs.Common.{replicate, nat_lt, slice_index_or, slice_set, if◌then◌else◌, refl, sym, ◌∙◌, ap, arith}
+use Rattle.std.proofs.Common.{ltb-true}
 use Rattle.std.proofs.lemmas.Bool.{eqb-true}
 use Rattle.std.proofs.lemmas.Bool.Decides.{nat_tests}
-use Rattle.std.proofs.lemmas.List.{get_or-set_same, get_or-set_other, get_or_past, get_or_read, length-replicate, get_or-replicate, ext_get_or}
+use Rattle.std.proofs.lemmas.List.{get_or-set_same, get_or-set_other, get_or_past, get_or_read, length-replicate}
+use Rattle.std.proofs.lemmas.List.{get_or-replicate, ext_get_or}
 use Rattle.std.proofs.Math.Seq.{take-append_seam}
 use Rattle.std.proofs.lemmas.List.FromFn.{get_or-map-range_with_len, length-map-range_with_len}
 use Rattle.cs_base.specs.declared.resource.Rate.TheVariants as rate
@@ -16,7 +19,8 @@ pub apart : (m n : ℕ) → (m == n) ≡ false → m ≢ n
 apart m n h = grind (arith, nat_tests)
 
 -- one more place of a row has its frame
-pub one_more : (w : Wave) (row : List ℤ) (j : ℕ) (z : ℤ) → j < length row → Begins j w row → z ≡ w j → Begins (j + 1) w (slice_set row j z)
+pub one_more : (w : Wave) (row : List ℤ) (j : ℕ) (z : ℤ) → j < length row → Begins j w row → z ≡ w j
+    → Begins (j + 1) w (slice_set row j z)
 one_more w row j z low done here i h = by_test (i == j)
     (λ yes. let e : i ≡ j = eqb-true i j yes in
     ap (λ m. argument (slice_set row j z) m) e ∙ get_or-set_same row j z (pos 0) low ∙ here ∙ ap w (sym e))
@@ -53,12 +57,16 @@ zeros_silent n = λ i j. at j i
     at j = by_test (nat_lt j n)
         (λ yes. let low : j < n = ltb-true j n yes in get_or-replicate n j (pos 0) (pos 0) low)
         (λ no. let far : n ≤ j = at_or_past j n no in
-        get_or_past (replicate n (pos 0)) j (pos 0) (let e : length (replicate n (pos 0)) ≡ n = length-replicate n (pos 0) in omega (arith, far, e)))
+        get_or_past (replicate n (pos 0)) j (pos 0)
+        (let e : length (replicate n (pos 0)) ≡ n = length-replicate n (pos 0) in omega (arith, far, e)))
 
 -- a row is the row of its frames
 pub row_again : (n : ℕ) (row : List ℤ) → length row ≡ n → row_of n (row_wave row) ≡ row
-row_again n row long = ext_get_or (pos 0) (row_of n (row_wave row)) row (length-map-range_with_len (row_wave row) 0 n ∙ sym long)
-    (λ i h. get_or-map-range_with_len (row_wave row) 0 n i i (pos 0) (let e : length (row_of n (row_wave row)) ≡ n = length-map-range_with_len (row_wave row) 0 n in omega (arith, h, e)) (omega arith))
+row_again n row long = ext_get_or (pos 0) (row_of n (row_wave row)) row
+    (length-map-range_with_len (row_wave row) 0 n ∙ sym long)
+    (λ i h. get_or-map-range_with_len (row_wave row) 0 n i i (pos 0)
+    (let e : length (row_of n (row_wave row)) ≡ n = length-map-range_with_len (row_wave row) 0 n in omega (arith, h, e))
+    (omega arith))
 
 -- a place of a row that was set isn't one behind it
 pub others_kept : (j : ℕ) (before row : List ℤ) (z : ℤ) → Ends j before row → Ends (j + 1) before (slice_set row j z)
@@ -69,7 +77,8 @@ others_kept j before row z same i h = get_or-set_other row j i z (pos 0) (behind
 
 -- a row filled with one number
 pub filled_row : (n : ℕ) (z : ℤ) → HasFrames (constant z) (replicate n z)
-filled_row n z j h = get_or-replicate n j z (pos 0) (let e : length (replicate n z) ≡ n = length-replicate n z in omega (arith, h, e))
+filled_row n z j h = get_or-replicate n j z (pos 0)
+    (let e : length (replicate n z) ≡ n = length-replicate n z in omega (arith, h, e))
 
 -- a row has the frames of another value that is the same there
 pub frames_as : (w v : Wave) (row : List ℤ) → HasFrames w row → ((j : ℕ) → w j ≡ v j) → HasFrames v row
@@ -81,4 +90,5 @@ item_is xs j x low is = get_or_read xs j x low is (pos 0)
 
 -- a vector whose items were all written over has these
 pub all_written : {A : Type 0} (n : ℕ) (new old : List A) → length new ≡ n → take n (new ++ drop (length new) old) ≡ new
-all_written n new old long = ap (λ k. take k (new ++ drop (length new) old)) (sym long) ∙ take-append_seam new (drop (length new) old)
+all_written n new old long =
+    ap (λ k. take k (new ++ drop (length new) old)) (sym long) ∙ take-append_seam new (drop (length new) old)

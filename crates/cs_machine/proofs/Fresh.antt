@@ -1,5 +1,6 @@
 -- A state that was just made.
-use Rattle.std.proofs.Common.{◌≡◌, ℕ, ◌<◌, ◌≤◌, ◌∙◌, length, replicate, nat_lt, Option, None, Some, arith, ltb-true, sym, slice_index_or}
+use Rattle.std.proofs.Common.{◌≡◌, ℕ, ◌<◌, ◌≤◌, ◌∙◌, length, replicate, nat_lt, Option, None, Some, arith, ltb-true}
+use Rattle.std.proofs.Common.{sym, slice_index_or}
 use Rattle.std.specs.Option.{option_map}
 use Rattle.std.proofs.lemmas.List.{get_or-replicate, get_or_past, length-replicate}
 use Rattle.std.proofs.lemmas.Bool.Decides.{nat_tests}
@@ -15,7 +16,8 @@ pub no_unit : (n u : ℕ) → slice_index_or (replicate n nothing) u nothing ≡
 no_unit n u = by_test (nat_lt u n)
     (λ yes. let low : u < n = ltb-true u n yes in get_or-replicate n u nothing nothing low)
     (λ no. let far : n ≤ u = grind (arith, nat_tests) in
-    get_or_past (replicate n nothing) u nothing (let e : length (replicate n nothing) ≡ n = length-replicate n nothing in omega (arith, far, e)))
+    get_or_past (replicate n nothing) u nothing
+    (let e : length (replicate n nothing) ≡ n = length-replicate n nothing in omega (arith, far, e)))
 
 pub no_units : (n : ℕ) → unit_at (replicate n nothing) ≡ (λ u. None)
 no_units n = λ i u. option_map playing (no_unit n u i)

@@ -1,5 +1,6 @@
 -- Arguments that stand for registers give a unit what the registers are.
-use Rattle.std.proofs.Common.{◌≡◌, ◌≢◌, ℕ, zero, suc, ◌+◌, ◌<◌, ◌≤◌, ◌==◌, true, List, [], ◌∷◌, ◌++◌, length, map, nat_le, take, get_or, set, ℤ, refl, sym, ◌∙◌, ap, subst, arith}
+use Rattle.std.proofs.Common.{◌≡◌, ◌≢◌, ℕ, zero, suc, ◌+◌, ◌<◌, ◌≤◌, ◌==◌, true, List, [], ◌∷◌, ◌++◌, length, map}
+use Rattle.std.proofs.Common.{nat_le, take, get_or, set, ℤ, refl, sym, ◌∙◌, ap, subst, arith}
 use Rattle.std.specs.List.{All}
 use Rattle.std.proofs.lemmas.Bool.{eqb-true}
 use Rattle.std.proofs.lemmas.Bool.Decides.{nat_tests}
@@ -35,7 +36,8 @@ pub register_is : (rs : List Reg) (j : ℕ) (r : Reg) → j < length rs → r �
 register_is rs j r low is = is ∙ default rs j r no_register low
 
 -- one more place of a list has what it should have
-pub more_set : {A : Type 0} (P : ℕ → A → Type 0) (xs : List A) (d x : A) (j : ℕ) → j < length xs → P j x → ((i : ℕ) → i < j → P i (get_or xs i d))
+pub more_set : {A : Type 0} (P : ℕ → A → Type 0) (xs : List A) (d x : A) (j : ℕ) → j < length xs → P j x
+    → ((i : ℕ) → i < j → P i (get_or xs i d))
     → (i : ℕ) → i < j + 1 → P i (get_or (set xs j x) i d)
 more_set P xs d x j low here before i h = by_test (i == j)
     (λ yes. let e : i ≡ j = eqb-true i j yes in
@@ -45,9 +47,12 @@ more_set P xs d x j low here before i h = by_test (i == j)
 
 -- each of seven operands stands for its register
 pub seven_stand : (f : Reg → Wave) (rs : List Reg) (a b c d e g h : Operand)
-    → (0 < length rs → StandsFor f a (get_or rs 0 no_register)) → (1 < length rs → StandsFor f b (get_or rs 1 no_register))
-    → (2 < length rs → StandsFor f c (get_or rs 2 no_register)) → (3 < length rs → StandsFor f d (get_or rs 3 no_register))
-    → (4 < length rs → StandsFor f e (get_or rs 4 no_register)) → (5 < length rs → StandsFor f g (get_or rs 5 no_register))
+    → (0 < length rs → StandsFor f a (get_or rs 0 no_register))
+    → (1 < length rs → StandsFor f b (get_or rs 1 no_register))
+    → (2 < length rs → StandsFor f c (get_or rs 2 no_register))
+    → (3 < length rs → StandsFor f d (get_or rs 3 no_register))
+    → (4 < length rs → StandsFor f e (get_or rs 4 no_register))
+    → (5 < length rs → StandsFor f g (get_or rs 5 no_register))
     → (6 < length rs → StandsFor f h (get_or rs 6 no_register)) → length rs ≤ 7
     → (j : ℕ) → j < length rs → StandsAt f (a ∷ b ∷ c ∷ d ∷ e ∷ g ∷ h ∷ []) rs j
 seven_stand f rs a b c d e g h x0 x1 x2 x3 x4 x5 x6 most zero low = x0 low
@@ -57,10 +62,12 @@ seven_stand f rs a b c d e g h x0 x1 x2 x3 x4 x5 x6 most (suc (suc (suc zero))) 
 seven_stand f rs a b c d e g h x0 x1 x2 x3 x4 x5 x6 most (suc (suc (suc (suc zero)))) low = x4 low
 seven_stand f rs a b c d e g h x0 x1 x2 x3 x4 x5 x6 most (suc (suc (suc (suc (suc zero))))) low = x5 low
 seven_stand f rs a b c d e g h x0 x1 x2 x3 x4 x5 x6 most (suc (suc (suc (suc (suc (suc zero)))))) low = x6 low
-seven_stand f rs a b c d e g h x0 x1 x2 x3 x4 x5 x6 most (suc (suc (suc (suc (suc (suc (suc j))))))) low = absurd (omega (arith, low, most))
+seven_stand f rs a b c d e g h x0 x1 x2 x3 x4 x5 x6 most (suc (suc (suc (suc (suc (suc (suc j))))))) low =
+    absurd (omega (arith, low, most))
 
 pub three_stand : (f : Reg → Wave) (rs : List Reg) (a b c : Operand)
-    → (0 < length rs → StandsFor f a (get_or rs 0 no_register)) → (1 < length rs → StandsFor f b (get_or rs 1 no_register))
+    → (0 < length rs → StandsFor f a (get_or rs 0 no_register))
+    → (1 < length rs → StandsFor f b (get_or rs 1 no_register))
     → (2 < length rs → StandsFor f c (get_or rs 2 no_register)) → length rs ≤ 3
     → (j : ℕ) → j < length rs → StandsAt f (a ∷ b ∷ c ∷ []) rs j
 three_stand f rs a b c x0 x1 x2 most zero low = x0 low
@@ -80,16 +87,20 @@ three_first f rs a b c x0 x1 x2 most (suc (suc (suc j))) low = absurd (omega (ar
 pub three_last : (P : Operand → Type 0) (a b c : Operand) → P a → P b → P c → All P (a ∷ b ∷ c ∷ [])
 three_last P a b c x0 x1 x2 = All-cons P a (b ∷ c ∷ []) x0 (All-cons P b (c ∷ []) x1 (All-cons P c [] x2 (All-nil P)))
 
-pub seven_last : (P : Operand → Type 0) (a b c d e g h : Operand) → P a → P b → P c → P d → P e → P g → P h → All P (a ∷ b ∷ c ∷ d ∷ e ∷ g ∷ h ∷ [])
+pub seven_last : (P : Operand → Type 0) (a b c d e g h : Operand) → P a → P b → P c → P d → P e → P g → P h
+    → All P (a ∷ b ∷ c ∷ d ∷ e ∷ g ∷ h ∷ [])
 seven_last P a b c d e g h x0 x1 x2 x3 x4 x5 x6 =
-    All-cons P a (b ∷ c ∷ d ∷ e ∷ g ∷ h ∷ []) x0 (All-cons P b (c ∷ d ∷ e ∷ g ∷ h ∷ []) x1 (All-cons P c (d ∷ e ∷ g ∷ h ∷ []) x2
-    (All-cons P d (e ∷ g ∷ h ∷ []) x3 (All-cons P e (g ∷ h ∷ []) x4 (All-cons P g (h ∷ []) x5 (All-cons P h [] x6 (All-nil P)))))))
+    All-cons P a (b ∷ c ∷ d ∷ e ∷ g ∷ h ∷ []) x0
+    (All-cons P b (c ∷ d ∷ e ∷ g ∷ h ∷ []) x1 (All-cons P c (d ∷ e ∷ g ∷ h ∷ []) x2
+    (All-cons P d (e ∷ g ∷ h ∷ []) x3
+    (All-cons P e (g ∷ h ∷ []) x4 (All-cons P g (h ∷ []) x5 (All-cons P h [] x6 (All-nil P)))))))
 
 -- the first so many of elements of which all have something
 pub all_taken : {A : Type 0} (P : A → Type 0) (n : ℕ) (xs : List A) → All P xs → All P (take n xs)
 all_taken P zero xs all = All-nil P
 all_taken P (suc n) [] all = All-nil P
-all_taken P (suc n) (x ∷ xs) all = All-cons P x (take n xs) (All-head P x xs all) (all_taken P n xs (All-tail P x xs all))
+all_taken P (suc n) (x ∷ xs) all =
+    All-cons P x (take n xs) (All-head P x xs all) (all_taken P n xs (All-tail P x xs all))
 
 pub taken_long : {A : Type 0} (n : ℕ) (xs : List A) → n ≤ length xs → length (take n xs) ≡ n
 taken_long zero xs h = refl
@@ -109,7 +120,8 @@ same_inputs f os rs points long h = λ i j. at os rs long h j i ++ points
     at (o ∷ os) (r ∷ rs) long h j =
         λ i. h 0 (omega arith) j i ∷ at os rs (omega (arith, long)) (λ k low. h (suc k) (omega (arith, low))) j i
 
-pub same_firsts : (f : Reg → Wave) (xs : List ℤ) (rs : List Reg) → length rs ≤ length xs → ((j : ℕ) → j < length rs → IsFirstAt f xs rs j)
+pub same_firsts : (f : Reg → Wave) (xs : List ℤ) (rs : List Reg) → length rs ≤ length xs
+    → ((j : ℕ) → j < length rs → IsFirstAt f xs rs j)
     → take (length rs) xs ≡ map (λ (w : Wave). w 0) (map f rs)
 same_firsts f xs [] long h = refl
 same_firsts f [] (r ∷ rs) long h = absurd (omega (arith, long))

@@ -1,5 +1,6 @@
 -- States of which a channel was given a row.
-use Rattle.std.proofs.Common.{◌≡◌, ℕ, ℤ, ◌-◌, ◌&&◌, Bool, true, false, List, length, map, nat_le, Option, Some, None, if◌then◌else◌, refl, sym, ◌∙◌, ap}
+use Rattle.std.proofs.Common.{◌≡◌, ℕ, ℤ, ◌-◌, ◌&&◌, Bool, true, false, List, length, map, nat_le, Option, Some, None}
+use Rattle.std.proofs.Common.{if◌then◌else◌, refl, sym, ◌∙◌, ap}
 use Rattle.std.proofs.lemmas.Bool.{false≢true}
 use Rattle.cs_base.specs.Rates.{is_audio}
 use Rattle.cs_base.specs.declared.resource.Rate.{Rate}
@@ -32,7 +33,8 @@ pub record KeepsAllButOuts (old new : State) : Type 0 where
 
 pub given_machine : (old new : State) (c : ℕ) (w : Wave) → KeepsAllButOuts old new → IsGiven old.outs c w new.outs
     → (cells : ℕ → ℤ) (next : ℕ) (asks : List (List ℤ)) (cause : Option Cause)
-    → machine_of new cells next asks cause ≡ (let m : Machine VoiceState = machine_of old cells next asks cause in in_world (out_to c w m.world) m)
+    → machine_of new cells next asks
+    cause ≡ (let m : Machine VoiceState = machine_of old cells next asks cause in in_world (out_to c w m.world) m)
 given_machine old new c w rest given cells next asks cause = λ i. record {
   regs = values (rest.regs i);
   next = next;
@@ -48,13 +50,16 @@ given_machine old new c w rest given cells next asks cause = λ i. record {
 }
 
 -- An act that gives to one channel is done by a state whose channel was given to.
-pub gives_to : (areas : List Area) (piece : Piece) (kinds : Kinds) (counts : Counts) (act : Act) (into : Reg) (from : List Reg) (c : ℕ) (w : Wave)
-    (old new : State) (cells : ℕ → ℤ) → KeepsAllButOuts old new → IsStateIn areas piece kinds counts old → IsGiven old.outs c w new.outs
+pub gives_to : (areas : List Area) (piece : Piece) (kinds : Kinds) (counts : Counts) (act : Act) (into : Reg)
+    (from : List Reg) (c : ℕ) (w : Wave)
+    (old new : State) (cells : ℕ → ℤ) → KeepsAllButOuts old new → IsStateIn areas piece kinds counts old
+    → IsGiven old.outs c w new.outs
     → ((m : Machine VoiceState) → acts (voice_world areas piece) act into (map (values old.regs) from) m
     ≡ in_world (out_to c w m.world) m)
     → Does areas piece kinds counts act into from old cells new cells
 gives_to areas piece kinds counts act into from c w old new cells rest state given does = record {
-  machine = λ next asks cause. given_machine old new c w rest given cells next asks cause ∙ sym (does (machine_of old cells next asks cause));
+  machine = λ next asks cause. given_machine old new c w rest given cells next asks cause
+      ∙ sym (does (machine_of old cells next asks cause));
   state = still_in areas piece kinds counts old new (record {
     counts = ap (λ r. r.counts) rest.regs;
     frames = ap (λ r. r.ksmps) rest.regs;
@@ -75,7 +80,8 @@ sound_register x h = at x.rate x.index h
     at rate.Control n h = absurd (false≢true h)
 
 -- what is given to the channel of a number, and nothing where there is no such channel
-pub numbered_channel : (channels : ℕ) (number : Option ℕ) (c : ℕ) (w : Wave) (x : VoiceState) → channel_below channels number ≡ Some c
+pub numbered_channel : (channels : ℕ) (number : Option ℕ) (c : ℕ) (w : Wave) (x : VoiceState)
+    → channel_below channels number ≡ Some c
     → out_to_numbered channels number w x ≡ out_to c w x
 numbered_channel channels None c w x h = cc
 numbered_channel channels (Some n) c w x h = at (nat_le 1 n && nat_le n channels) h

@@ -11,3 +11,4 @@ pub mod Unchanging
 pub mod Done
 pub mod Fresh
 pub mod Given
+pub mod Quotients

@@ -5,12 +5,12 @@ use Rattle.std.proofs.lemmas.Bool.{eqb-true}
 use Rattle.std.proofs.lemmas.Bool.Decides.{nat_tests}
 use Rattle.std.proofs.lemmas.List.{get_or-set_same, get_or-set_other, get_or_past, get_or-map, length-map, map-set, length-set, length-replicate, get_or-replicate, ext_get_or}
 use Rattle.std.proofs.lemmas.List.FromFn.{get_or-map-range_with_len, length-map-range_with_len}
-use Rattle.cs_base.specs.Rates.{is_audio}
+use Rattle.cs_base.specs.Rates.{at_rate, is_audio}
 use Rattle.cs_base.specs.declared.resource.Rate.{Rate}
 use Rattle.cs_base.specs.declared.resource.Rate.TheVariants as rate
 use Rattle.cs_base.proofs.Tests.{by_test}
 use Rattle.cs_ir.specs.Machine.{put}
-use Rattle.cs_ir.specs.Validity.{count_of, has_register}
+use Rattle.cs_ir.specs.Validity.{has_register}
 use Rattle.cs_ir.specs.Values.{holds}
 use Rattle.cs_ir.specs.Waves.{Wave, chosen, held, silence, constant}
 use Rattle.cs_ir.specs.declared.register.Counts.{Counts}
@@ -93,7 +93,7 @@ new_rows a ksmps n h = ap length (get_or-replicate a n (replicate ksmps (pos 0))
 
 -- what holds values is known by them
 pub filled_again : (f : RegisterFile) → AreKept f.i f.k f.a f.counts f.ksmps → filled f (values f) ≡ f
-filled_again f h = λ t. record f { i = helds f.i f.counts.i h.i t; k = helds f.k f.counts.k h.k t; a = all t }
+filled_again f h = λ t. record f { i = helds f.i f.counts.registers.init h.i t; k = helds f.k f.counts.registers.control h.k t; a = all t }
   where
     helds : (xs : List ℤ) (n : ℕ) → length xs ≡ n → map (λ m. argument xs m) (range_with_len 0 n) ≡ xs
     helds xs n long = row_again n xs long
@@ -102,14 +102,14 @@ filled_again f h = λ t. record f { i = helds f.i f.counts.i h.i t; k = helds f.
     row_at n low = row_again f.ksmps (slice_index_or f.a n []) (h.long n low)
 
     rows : List (List ℤ)
-    rows = map (λ n. row_of f.ksmps (row_wave (slice_index_or f.a n []))) (range_with_len 0 f.counts.a)
+    rows = map (λ n. row_of f.ksmps (row_wave (slice_index_or f.a n []))) (range_with_len 0 f.counts.registers.audio)
 
-    long : length rows ≡ f.counts.a
-    long = length-map-range_with_len (λ n. row_of f.ksmps (row_wave (slice_index_or f.a n []))) 0 f.counts.a
+    long : length rows ≡ f.counts.registers.audio
+    long = length-map-range_with_len (λ n. row_of f.ksmps (row_wave (slice_index_or f.a n []))) 0 f.counts.registers.audio
 
     all : rows ≡ f.a
     all = ext_get_or [] rows f.a (long ∙ sym h.a)
-        (λ n low. get_or-map-range_with_len (λ m. row_of f.ksmps (row_wave (slice_index_or f.a m []))) 0 f.counts.a n n [] (omega (arith, low, long)) (omega arith)
+        (λ n low. get_or-map-range_with_len (λ m. row_of f.ksmps (row_wave (slice_index_or f.a m []))) 0 f.counts.registers.audio n n [] (omega (arith, low, long)) (omega arith)
         ∙ row_at n (omega (arith, low, long, h.a)))
 
 -- ---- one register written, in the words of the contract
@@ -229,11 +229,11 @@ module _ {A : Type 0} (f : A → List ℤ) where
   place_low rows count n e low = let l : length (map f rows) ≡ length rows = length-map rows f in omega (arith, e, l, low)
 
 -- a register that is there is one of its rate's
-pub audio_low : (counts : Counts) (q : Reg) → has_register counts q ≡ true → q.rate ≡ rate.Audio → q.index < counts.a
-audio_low counts q h e = ltb-true q.index counts.a (sym (ap (λ r. nat_lt q.index (count_of counts r)) e) ∙ h)
+pub audio_low : (counts : Counts) (q : Reg) → has_register counts q ≡ true → q.rate ≡ rate.Audio → q.index < counts.registers.audio
+audio_low counts q h e = ltb-true q.index counts.registers.audio (sym (ap (λ r. nat_lt q.index (at_rate counts.registers r)) e) ∙ h)
 
-pub init_low : (counts : Counts) (q : Reg) → has_register counts q ≡ true → q.rate ≡ rate.Init → q.index < counts.i
-init_low counts q h e = ltb-true q.index counts.i (sym (ap (λ r. nat_lt q.index (count_of counts r)) e) ∙ h)
+pub init_low : (counts : Counts) (q : Reg) → has_register counts q ≡ true → q.rate ≡ rate.Init → q.index < counts.registers.init
+init_low counts q h e = ltb-true q.index counts.registers.init (sym (ap (λ r. nat_lt q.index (at_rate counts.registers r)) e) ∙ h)
 
-pub control_low : (counts : Counts) (q : Reg) → has_register counts q ≡ true → q.rate ≡ rate.Control → q.index < counts.k
-control_low counts q h e = ltb-true q.index counts.k (sym (ap (λ r. nat_lt q.index (count_of counts r)) e) ∙ h)
+pub control_low : (counts : Counts) (q : Reg) → has_register counts q ≡ true → q.rate ≡ rate.Control → q.index < counts.registers.control
+control_low counts q h e = ltb-true q.index counts.registers.control (sym (ap (λ r. nat_lt q.index (at_rate counts.registers r)) e) ∙ h)

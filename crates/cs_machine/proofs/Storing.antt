@@ -1,5 +1,6 @@
 -- Stores into a live table, one after another.
-use Rattle.std.proofs.Common.{◌≡◌, ℕ, ℤ, suc, ◌+◌, ◌-◌, ◌<◌, ◌==◌, true, false, List, length, Some, nat_lt, nat_le, slice_set, if◌then◌else◌, sym, ◌∙◌, ap, subst, arith, leb-true, ltb-true}
+use Rattle.std.proofs.Common.{◌≡◌, ℕ, ℤ, suc, ◌+◌, ◌-◌, ◌<◌, ◌==◌, true, false, List, length, Some, nat_lt, nat_le}
+use Rattle.std.proofs.Common.{slice_set, if◌then◌else◌, sym, ◌∙◌, ap, subst, arith, leb-true, ltb-true}
 use Rattle.std.proofs.lemmas.Bool.{eqb-true, and_parts}
 use Rattle.std.proofs.lemmas.Bool.Decides.{nat_tests}
 use Rattle.cs_base.specs.declared.resource.Rate.TheVariants as rate
@@ -14,7 +15,8 @@ use Rattle.cs_voice_meaning.specs.Placing.{wave_in, with_wave}
 use Rattle.cs_machine.proofs.Writing.{frame_in, in_here, set_cell}
 
 -- an address of an area is its first and a frame
-off : (area : Area) (a : ℕ) → in_area (Some area) a ≡ true → (a - area.first < area.length) × (area.first + (a - area.first) ≡ a)
+off : (area : Area) (a : ℕ) → in_area (Some area) a ≡ true
+    → (a - area.first < area.length) × (area.first + (a - area.first) ≡ a)
 off area a h =
     let b = and_parts (nat_le area.first a) (nat_lt a (area.first + area.length)) h in
     let low = leb-true area.first a b.0 in
@@ -45,16 +47,19 @@ other_place p f a away there = by_test (p == a - f)
 next : (n : ℕ) → suc n ≡ n + 1
 next n = omega arith
 
-pub one_stored : (c : List ℤ) (cells : ℕ → ℤ) (area : Area) (place : ℕ → ℕ) (sig w : Wave) (j p : ℕ) (z : ℤ) → cell c ≡ with_wave (Some area) (stored place sig j w) cells
+pub one_stored : (c : List ℤ) (cells : ℕ → ℤ) (area : Area) (place : ℕ → ℕ) (sig w : Wave) (j p : ℕ) (z : ℤ)
+    → cell c ≡ with_wave (Some area) (stored place sig j w) cells
     → p ≡ place j → p < area.length → area.first + p < length c → z ≡ sig j
     → cell (slice_set c (area.first + p) z) ≡ with_wave (Some area) (stored place sig (j + 1) w) cells
-one_stored c cells area place sig w j p z before at_p low long is = (λ i a. at a i) ∙ ap (λ n. with_wave (Some area) (stored place sig n w) cells) (next j)
+one_stored c cells area place sig w j p z before at_p low long is =
+    (λ i a. at a i) ∙ ap (λ n. with_wave (Some area) (stored place sig n w) cells) (next j)
   where
     inside : (a : ℕ) → (a == area.first + p) ≡ false → in_area (Some area) a ≡ true
         → stored place sig j w (a - area.first) ≡ stored place sig (suc j) w (a - area.first)
     inside a away here =
         sym (ap (λ q. if q == a - area.first then sig j else stored place sig j w (a - area.first)) (sym at_p)
-        ∙ ap (λ b. if b then sig j else stored place sig j w (a - area.first)) (other_place p area.first a away (off area a here).1))
+        ∙ ap (λ b. if b then sig j else stored place sig j w (a - area.first))
+        (other_place p area.first a away (off area a here).1))
 
     at : (a : ℕ) → cell (slice_set c (area.first + p) z) a ≡ with_wave (Some area) (stored place sig (suc j) w) cells a
     at a = set_cell c (area.first + p) z a long ∙ by_test (a == area.first + p)
@@ -62,7 +67,8 @@ one_stored c cells area place sig w j p z before at_p low long is = (λ i a. at 
         ap (λ b. if b then z else cell c a) yes ∙ is
         ∙ sym (ap (λ b. if b then sig j else stored place sig j w (a - area.first)) (same_place p area.first a e))
         ∙ ap (λ q. if q == a - area.first then sig j else stored place sig j w (a - area.first)) at_p
-        ∙ sym (ap (λ b. if b then stored place sig (suc j) w (a - area.first) else cells a) (subst (λ x. in_area (Some area) x ≡ true) (sym e) (in_here area p low))))
+        ∙ sym (ap (λ b. if b then stored place sig (suc j) w (a - area.first) else cells a)
+        (subst (λ x. in_area (Some area) x ≡ true) (sym e) (in_here area p low))))
         (λ no. ap (λ b. if b then z else cell c a) no ∙ ap (λ f. f a) before
         ∙ by_test (in_area (Some area) a)
         (λ here. ap (λ b. if b then stored place sig j w (a - area.first) else cells a) here ∙ inside a no here
@@ -74,4 +80,5 @@ one_stored c cells area place sig w j p z before at_p low long is = (λ i a. at 
 pub in_table : (t : Table) (area : Area) (indices sig w : Wave) (n : ℕ) (cells now : ℕ → ℤ) → t.size ≡ area.length
     → now ≡ with_wave (Some area) (stored (λ j. place_of_index (len_of area.length) (indices j)) sig n w) cells
     → now ≡ with_wave (Some area) (stored (places_of_indices t indices) sig n w) cells
-in_table t area indices sig w n cells now size h = h ∙ ap (λ k. with_wave (Some area) (stored (λ j. place_of_index (len_of k) (indices j)) sig n w) cells) (sym size)
+in_table t area indices sig w n cells now size h =
+    h ∙ ap (λ k. with_wave (Some area) (stored (λ j. place_of_index (len_of k) (indices j)) sig n w) cells) (sym size)

@@ -10,5 +10,6 @@ same_run at k j zero = refl
 same_run at k j (suc n) = same_run at (unit_step k (at j)).0 (j + 1) n ∙ opcode_stays k (at j)
 
 -- a unit that has run is of the opcode that it was of
-pub same_unit : (at : ℕ → List ℤ) (k t : Kind) (j n : ℕ) (row : List ℤ) → (t, row) ≡ run unit_step at k j n → opcode_of t ≡ opcode_of k
+pub same_unit : (at : ℕ → List ℤ) (k t : Kind) (j n : ℕ) (row : List ℤ) → (t, row) ≡ run unit_step at k j n
+    → opcode_of t ≡ opcode_of k
 same_unit at k t j n row e = ap (λ r. opcode_of r.0) e ∙ same_run at k j n

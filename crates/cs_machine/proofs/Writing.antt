@@ -1,5 +1,6 @@
 -- Cells that are set one after another, and rows that are filled from cells.
-use Rattle.std.proofs.Common.{◌≡◌, ◌≢◌, ℕ, ℤ, pos, ◌+◌, ◌-◌, ◌<◌, ◌≤◌, ◌==◌, Bool, true, false, ◌&&◌, List, length, Some, nat_lt, nat_le, slice_set, if◌then◌else◌, refl, sym, ◌∙◌, ap, subst, arith}
+use Rattle.std.proofs.Common.{◌≡◌, ◌≢◌, ℕ, ℤ, pos, ◌+◌, ◌-◌, ◌<◌, ◌≤◌, ◌==◌, Bool, true, false, ◌&&◌, List, length}
+use Rattle.std.proofs.Common.{Some, nat_lt, nat_le, slice_set, if◌then◌else◌, refl, sym, ◌∙◌, ap, subst, arith}
 use Rattle.std.proofs.lemmas.Bool.{eqb-true, and_from}
 use Rattle.std.proofs.lemmas.Bool.Decides.{nat_tests}
 use Rattle.std.proofs.lemmas.List.{get_or-set_same, get_or-set_other}
@@ -17,7 +18,8 @@ use Rattle.cs_machine.specs.Rows.{Begins, HasFrames, row_wave}
 use Rattle.cs_machine.specs.inner.Numbers.{front}
 
 -- what may be touched stays so as long as a bank stands on the same, with as many cells
-pub touch_again : {S : Type 0} (can : S → ℕ → Type 0) (r s : S) (m n : ℕ) (area : Area) → s ≡ r → n ≡ m → CanTouch (can r) m area → CanTouch (can s) n area
+pub touch_again : {S : Type 0} (can : S → ℕ → Type 0) (r s : S) (m n : ℕ) (area : Area) → s ≡ r → n ≡ m
+    → CanTouch (can r) m area → CanTouch (can s) n area
 touch_again can r s m n area rest long h =
     subst (λ q. CanTouch (can q) n area) (sym rest) (subst (λ k. CanTouch (can r) k area) (sym long) h)
 
@@ -25,17 +27,20 @@ touch_again can r s m n area rest long h =
 pub in_here : (area : Area) (j : ℕ) → j < area.length → in_area (Some area) (area.first + j) ≡ true
 in_here area j h = grind (arith, nat_tests)
 
-pub can_here : (can : ℕ → Type 0) (n : ℕ) (area : Area) (j a : ℕ) → CanTouch can n area → j < area.length → a ≡ area.first + j → can a
+pub can_here : (can : ℕ → Type 0) (n : ℕ) (area : Area) (j a : ℕ) → CanTouch can n area → j < area.length
+    → a ≡ area.first + j → can a
 can_here can n area j a h low is = subst can (sym is) (h.can (area.first + j) (in_here area j low))
 
-pub within_here : (can : ℕ → Type 0) (n : ℕ) (area : Area) (j : ℕ) → CanTouch can n area → j < area.length → area.first + j < n
+pub within_here : (can : ℕ → Type 0) (n : ℕ) (area : Area) (j : ℕ) → CanTouch can n area → j < area.length
+    → area.first + j < n
 within_here can n area j h low = h.within (area.first + j) (in_here area j low)
 
 -- a test of an address, and what it tells of the cell there
 apart : (m n : ℕ) → (m == n) ≡ false → m ≢ n
 apart m n h = grind (arith, nat_tests)
 
-pub set_cell : (c : List ℤ) (k : ℕ) (z : ℤ) (a : ℕ) → k < length c → cell (slice_set c k z) a ≡ (if a == k then z else cell c a)
+pub set_cell : (c : List ℤ) (k : ℕ) (z : ℤ) (a : ℕ) → k < length c
+    → cell (slice_set c k z) a ≡ (if a == k then z else cell c a)
 set_cell c k z a low = by_test (a == k)
     (λ yes. let e : a ≡ k = eqb-true a k yes in
     ap (cell (slice_set c k z)) e ∙ get_or-set_same c k z (pos 0) low ∙ sym (ap (λ b. if b then z else cell c a) yes))
@@ -44,7 +49,8 @@ set_cell c k z a low = by_test (a == k)
 -- no cell of an area is in its front of no cells, and each is in its whole front
 not_before : (f a : ℕ) → (nat_le f a && nat_lt a (f + 0)) ≡ false
 not_before f a = by_test (nat_le f a)
-    (λ low. let far : nat_lt a (f + 0) ≡ false = grind (arith, nat_tests) in ap (λ b. nat_le f a && b) far ∙ and_false (nat_le f a))
+    (λ low. let far : nat_lt a (f + 0) ≡ false =
+    grind (arith, nat_tests) in ap (λ b. nat_le f a && b) far ∙ and_false (nat_le f a))
     (λ no. ap (λ b. b && nat_lt a (f + 0)) no)
   where
     and_false : (b : Bool) → (b && false) ≡ false
@@ -68,17 +74,22 @@ further f j a n far =
 
 more_in : (f j a : ℕ) → a ≢ f + j → (nat_le f a && nat_lt a (f + j)) ≡ (nat_le f a && nat_lt a (f + (j + 1)))
 more_in f j a n = by_test (nat_lt a (f + j))
-    (λ low. let more : nat_lt a (f + (j + 1)) ≡ true = grind (arith, nat_tests) in ap (λ b. nat_le f a && b) (low ∙ sym more))
-    (λ far. let more : nat_lt a (f + (j + 1)) ≡ false = further f j a n far in ap (λ b. nat_le f a && b) (far ∙ sym more))
+    (λ low. let more : nat_lt a (f + (j + 1)) ≡ true =
+    grind (arith, nat_tests) in ap (λ b. nat_le f a && b) (low ∙ sym more))
+    (λ far. let more : nat_lt a (f + (j + 1)) ≡ false =
+    further f j a n far in ap (λ b. nat_le f a && b) (far ∙ sym more))
 
 front_here : (f j a : ℕ) → a ≡ f + j → (nat_le f a && nat_lt a (f + (j + 1))) ≡ true
-front_here f j a e = and_from (nat_le f a) (nat_lt a (f + (j + 1))) (grind (arith, nat_tests)) (grind (arith, nat_tests))
+front_here f j a e = and_from (nat_le f a) (nat_lt a (f + (j + 1))) (grind (arith, nat_tests))
+    (grind (arith, nat_tests))
 
 taken_off : (f j a : ℕ) → a ≡ f + j → a - f ≡ j
 taken_off f j a e = omega (arith, e)
 
-pub one_written : (c : List ℤ) (cells : ℕ → ℤ) (area : Area) (w : Wave) (j : ℕ) (z : ℤ) → cell c ≡ with_wave (Some (front area j)) w cells
-    → area.first + j < length c → z ≡ w j → cell (slice_set c (area.first + j) z) ≡ with_wave (Some (front area (j + 1))) w cells
+pub one_written : (c : List ℤ) (cells : ℕ → ℤ) (area : Area) (w : Wave) (j : ℕ) (z : ℤ)
+    → cell c ≡ with_wave (Some (front area j)) w cells
+    → area.first + j < length c → z ≡ w j
+    → cell (slice_set c (area.first + j) z) ≡ with_wave (Some (front area (j + 1))) w cells
 one_written c cells area w j z before low is = λ i a. at a i
   where
     at : (a : ℕ) → cell (slice_set c (area.first + j) z) a ≡ with_wave (Some (front area (j + 1))) w cells a
@@ -90,7 +101,8 @@ one_written c cells area w j z before low is = λ i a. at a i
         ∙ ap (λ b. if b then w (a - area.first) else cells a) (more_in area.first j a (apart a (area.first + j) no)))
 
 -- the whole front is the area
-pub all_written : (area : Area) (j : ℕ) (w : Wave) (cells cells_now : ℕ → ℤ) → j ≡ area.length → cells_now ≡ with_wave (Some (front area j)) w cells
+pub all_written : (area : Area) (j : ℕ) (w : Wave) (cells cells_now : ℕ → ℤ) → j ≡ area.length
+    → cells_now ≡ with_wave (Some (front area j)) w cells
     → cells_now ≡ with_wave (Some area) w cells
 all_written area j w cells cells_now e h = h ∙ ap (λ n. with_wave (Some (front area n)) w cells) e
 
@@ -104,14 +116,18 @@ past_front f j = let far : nat_lt (f + j) (f + j) ≡ false = grind (arith, nat_
     and_false false = refl
 
 -- what a frame of an area holds
-pub frame_in : (area : Area) (cells : ℕ → ℤ) (j : ℕ) → j < area.length → wave_in rate.Audio area cells j ≡ cells (area.first + j)
-frame_in area cells j low = let test : nat_lt j area.length ≡ true = grind (arith, nat_tests) in ap (λ b. if b then cells (area.first + j) else pos 0) test
+pub frame_in : (area : Area) (cells : ℕ → ℤ) (j : ℕ) → j < area.length
+    → wave_in rate.Audio area cells j ≡ cells (area.first + j)
+frame_in area cells j low = let test : nat_lt j area.length ≡ true =
+    grind (arith, nat_tests) in ap (λ b. if b then cells (area.first + j) else pos 0) test
 
 pub frame_past : (area : Area) (cells : ℕ → ℤ) (j : ℕ) → area.length ≤ j → wave_in rate.Audio area cells j ≡ pos 0
-frame_past area cells j far = let test : nat_lt j area.length ≡ false = grind (arith, nat_tests) in ap (λ b. if b then cells (area.first + j) else pos 0) test
+frame_past area cells j far = let test : nat_lt j area.length ≡ false =
+    grind (arith, nat_tests) in ap (λ b. if b then cells (area.first + j) else pos 0) test
 
 -- a frame that isn't written yet, as it is read while the front is written
-pub unwritten : (area : Area) (now cells : ℕ → ℤ) (w : Wave) (j : ℕ) → j < area.length → now ≡ with_wave (Some (front area j)) w cells
+pub unwritten : (area : Area) (now cells : ℕ → ℤ) (w : Wave) (j : ℕ) → j < area.length
+    → now ≡ with_wave (Some (front area j)) w cells
     → wave_in rate.Audio area now j ≡ wave_in rate.Audio area cells j
 unwritten area now cells w j low h =
     frame_in area now j low ∙ ap (λ f. f (area.first + j)) h
@@ -121,13 +137,16 @@ unwritten area now cells w j low h =
 -- a sum at a frame
 pub mixed : (area : Area) (now cells : ℕ → ℤ) (row : List ℤ) (j : ℕ) (x y z : ℤ) → j < area.length
     → now ≡ with_wave (Some (front area j)) (added (wave_in rate.Audio area cells) (row_wave row)) cells
-    → x ≡ wave_in rate.Audio area now j → y ≡ argument row j → z ≡ sum_of x y → z ≡ added (wave_in rate.Audio area cells) (row_wave row) j
+    → x ≡ wave_in rate.Audio area now j → y ≡ argument row j → z ≡ sum_of x y
+    → z ≡ added (wave_in rate.Audio area cells) (row_wave row) j
 mixed area now cells row j x y z low h xs ys zs =
-    zs ∙ ap (λ p. sum_of p y) (xs ∙ unwritten area now cells (added (wave_in rate.Audio area cells) (row_wave row)) j low h)
+    zs ∙ ap (λ p. sum_of p y)
+    (xs ∙ unwritten area now cells (added (wave_in rate.Audio area cells) (row_wave row)) j low h)
     ∙ ap (λ p. sum_of (wave_in rate.Audio area cells j) p) ys
 
 -- a row that is filled place by place
-pub one_more : (w : Wave) (row : List ℤ) (j : ℕ) (z : ℤ) → j < length row → Begins j w row → z ≡ w j → Begins (j + 1) w (slice_set row j z)
+pub one_more : (w : Wave) (row : List ℤ) (j : ℕ) (z : ℤ) → j < length row → Begins j w row → z ≡ w j
+    → Begins (j + 1) w (slice_set row j z)
 one_more w row j z low done here i h = by_test (i == j)
     (λ yes. let e : i ≡ j = eqb-true i j yes in
     ap (λ m. argument (slice_set row j z) m) e ∙ get_or-set_same row j z (pos 0) low ∙ here ∙ ap w (sym e))
@@ -138,7 +157,8 @@ pub all_done : (w : Wave) (row : List ℤ) (j n : ℕ) → length row ≡ n → 
 all_done w row j n long far done i h = done i (omega (arith, long, far, h))
 
 -- one value in an area of one cell
-pub one_value : (c : List ℤ) (area : Area) (z : ℤ) → area.length ≡ 1 → area.first + 0 < length c → cell (slice_set c (area.first + 0) z) ≡ with_wave (Some area) (constant z) (cell c)
+pub one_value : (c : List ℤ) (area : Area) (z : ℤ) → area.length ≡ 1 → area.first + 0 < length c
+    → cell (slice_set c (area.first + 0) z) ≡ with_wave (Some area) (constant z) (cell c)
 one_value c area z one low =
     one_written c (cell c) area (constant z) 0 z (none_written area (constant z) (cell c)) low refl
     ∙ ap (λ n. with_wave (Some (front area n)) (constant z) (cell c)) (sym one)

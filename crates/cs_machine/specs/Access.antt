@@ -23,7 +23,8 @@ spaces_of areas = (stock_of areas).spaces
 
 -- the places of each zak space have their areas, from 0 on, and no other place has one
 abbrev pub AreSpaces : List Area → Type 0
-AreSpaces areas = (s : Space) (n : ℕ) → is_some (area_of areas (zak_place s n)) ≡ nat_lt n (places_of (spaces_of areas) s)
+AreSpaces areas = (s : Space) (n : ℕ)
+    → is_some (area_of areas (zak_place s n)) ≡ nat_lt n (places_of (spaces_of areas) s)
 
 -- the points of a live table, over cells
 abbrev pub live_points : Area → (ℕ → ℤ) → List ℤ

@@ -43,7 +43,7 @@ pub record IsWritten (old : RegisterFile) (into : Reg) (w : Wave) (new : Registe
 -- as many registers as a file has, that hold these values
 abbrev pub filled : RegisterFile → (Reg → Wave) → RegisterFile
 filled f w = record f {
-  i = map (λ n. w (reg rate.Init n) 0) (range_with_len 0 f.counts.i);
-  k = map (λ n. w (reg rate.Control n) 0) (range_with_len 0 f.counts.k);
-  a = map (λ n. row_of f.ksmps (w (reg rate.Audio n))) (range_with_len 0 f.counts.a);
+  i = map (λ n. w (reg rate.Init n) 0) (range_with_len 0 f.counts.registers.init);
+  k = map (λ n. w (reg rate.Control n) 0) (range_with_len 0 f.counts.registers.control);
+  a = map (λ n. row_of f.ksmps (w (reg rate.Audio n))) (range_with_len 0 f.counts.registers.audio);
 }

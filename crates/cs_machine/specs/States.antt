@@ -1,5 +1,6 @@
 -- What a note keeps from cycle to cycle, as the machine that it stands for; and what an act makes of both.
-use Rattle.std.specs.Prelude.{ℕ, ℤ, ◌≡◌, ◌+◌, ◌-◌, ◌≤◌, true, false, List, map, length, slice_index_or, Option, Some, None, if◌then◌else◌}
+use Rattle.std.specs.Prelude.{ℕ, ℤ, ◌≡◌, ◌+◌, ◌-◌, ◌≤◌, true, false, List, map, length, slice_index_or, Option, Some}
+use Rattle.std.specs.Prelude.{None, if◌then◌else◌}
 use Rattle.std.specs.Option.{is_some, option_map}
 use Rattle.cs_base.specs.declared.resource.Res.{Res}
 use Rattle.cs_base.specs.declared.resource.Res.TheVariants as res
@@ -86,7 +87,8 @@ pub record IsStateIn (areas : List Area) (piece : Piece) (kinds : Kinds) (counts
   pub channel_frames : s.outs.ksmps ≡ piece.head.ksmps
   pub units : length s.players.items ≡ counts.units
   pub row : length s.row.items ≡ piece.head.ksmps
-  pub players : (u : ℕ) (p : PlayerData) → slice_index_or s.players.items u None ≡ Some p → IsPlayerOf areas piece (kinds u) p
+  pub players : (u : ℕ) (p : PlayerData) → slice_index_or s.players.items u None ≡ Some p
+      → IsPlayerOf areas piece (kinds u) p
 
 -- Of a state, what no call needs to know a piece for: the room for a row and the channels have the frames of the
 -- registers.
@@ -96,7 +98,8 @@ pub record HasRoom (s : State) : Type 0 where
 
 -- A state and cells become what an act makes of them in the world of voices, and the state still is one of its code and
 -- piece.
-pub record Does (areas : List Area) (piece : Piece) (kinds : Kinds) (counts : Counts) (act : Act) (into : Reg) (from : List Reg)
+pub record Does (areas : List Area) (piece : Piece) (kinds : Kinds) (counts : Counts) (act : Act) (into : Reg)
+    (from : List Reg)
     (old : State) (before : ℕ → ℤ) (new : State) (after : ℕ → ℤ) : Type 0 where
   pub machine : (next : ℕ) (asks : List (List ℤ)) (cause : Option Cause) → machine_of new after next asks cause
       ≡ acts (voice_world areas piece) act into (map (values old.regs) from) (machine_of old before next asks cause)
@@ -104,7 +107,8 @@ pub record Does (areas : List Area) (piece : Piece) (kinds : Kinds) (counts : Co
 
 -- An act that touches no cell does so in whatever piece its state is one of; or in that of a setting.
 abbrev pub DoesAnywhere : Act → Reg → List Reg → State → State → Type 0
-DoesAnywhere act into from old new = (areas : List Area) (piece : Piece) (kinds : Kinds) (counts : Counts) (cells : ℕ → ℤ)
+DoesAnywhere act into from old new =
+    (areas : List Area) (piece : Piece) (kinds : Kinds) (counts : Counts) (cells : ℕ → ℤ)
     → IsStateIn areas piece kinds counts old → Does areas piece kinds counts act into from old cells new cells
 
 abbrev pub DoesAt : Setting → Act → Reg → List Reg → State → State → Type 0
@@ -118,6 +122,7 @@ MayTouch allowed count areas g = (area : Area) × (area_of areas g ≡ Some area
 
 -- An act may be done over a bank: each resource that it may read has cells that may be read, and so with those that it
 -- may write.
-pub record CanDo (can_get can_set : ℕ → Type 0) (count : ℕ) (areas : List Area) (stock : Stock) (act : Act) : Type 0 where
+pub record CanDo (can_get can_set : ℕ → Type 0) (count : ℕ) (areas : List Area) (stock : Stock) (act : Act) : Type
+    0 where
   pub uses : AreNamed (MayTouch can_get count areas) (act_uses stock act)
   pub writes : AreNamed (MayTouch can_set count areas) (act_writes stock act)

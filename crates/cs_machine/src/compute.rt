@@ -25,7 +25,7 @@ impl Registers {
         match into.rate {
             Rate::Audio => {
                 copy(&self.operand(x), row);
-                self.swap(into.index, row);
+                self.swap(into.index as usize, row);
             }
             _ => self.set(into, self.first(x)),
         }
@@ -42,7 +42,7 @@ impl Registers {
         match into.rate {
             Rate::Audio => {
                 negate_row(&self.operand(x), row);
-                self.swap(into.index, row);
+                self.swap(into.index as usize, row);
             }
             _ => self.set(into, negate(self.first(x))),
         }
@@ -59,7 +59,7 @@ impl Registers {
         match into.rate {
             Rate::Audio => {
                 apply_row(function, &self.operand(x), row);
-                self.swap(into.index, row);
+                self.swap(into.index as usize, row);
             }
             _ => self.set(into, apply(function, self.first(x))),
         }
@@ -77,7 +77,7 @@ impl Registers {
         match into.rate {
             Rate::Audio => {
                 combine_row(operator, &self.operand(x), &self.operand(y), row);
-                self.swap(into.index, row);
+                self.swap(into.index as usize, row);
             }
             _ => self.set(into, combine(operator, self.first(x), self.first(y))),
         }

@@ -22,7 +22,7 @@ impl State<'_> {
         requires room { HasRoom self.old }
         ensures { (into : Reg) → DoesAnywhere (act.Out channel) into (x ∷ []) self.old self.new }
     {
-        self.outs.give(channel, self.regs.row(x.index));
+        self.outs.give(channel, self.regs.row(x.index as usize));
     }
 
     /// Adds a register of sound to the channel that another one names, counted from 1; where there is no such channel
@@ -35,7 +35,7 @@ impl State<'_> {
         ensures { (into : Reg) → DoesAnywhere act.OutAt into (number ∷ x ∷ []) self.old self.new }
     {
         if let Some(below) = channel_below(self.regs.first(number), self.outs.len()) {
-            self.outs.give(below, self.regs.row(x.index));
+            self.outs.give(below, self.regs.row(x.index as usize));
         }
     }
 

@@ -12,11 +12,11 @@ ghost use Rattle.cs_machine.specs.inner.Narrow.{AreNarrow, IsNarrow, IsShort};
 ghost use Rattle.cs_signal.specs.Operands.{Lasts, operand_at};
 ghost use Rattle.cs_words.specs.declared.sign.BinOp.TheVariants as op;
 
-use crate::quotient::{divisor_of, quotient};
+use crate::quotient::{HeldDivisor, divisor_of, quotient};
 use crate::rows::fill;
 use cs_base::Num;
 use cs_ir::combine;
-use cs_signal::{Divisor, Operand};
+use cs_signal::Operand;
 use cs_words::BinOp;
 
 /// Exclusive upper bound of the sizes of factors that have 32 bits.
@@ -37,8 +37,8 @@ trait Side {
         ensures { result ≡ true → (j : ℕ) → unsigned_abs (wave self.now j) < 65536 };
 
     /// It as a divisor, where it is held and above 0.
-    fn divisor(&self) -> Option<Divisor>
-        ensures { IfSome result (λ d. (j : ℕ) → d.value ≡ wave self.now j) };
+    fn divisor(&self) -> Option<HeldDivisor>
+        ensures { IfSome result (λ d. (j : ℕ) → d.divisor.value ≡ wave self.now j) };
 
     fn at(&self, frame: usize) -> Num
         requires { (n : ℕ) × (lasts self.now n × (frame < n)) }
@@ -68,7 +68,7 @@ impl Side for Held {
     }
 
     #[inline(always)]
-    fn divisor(&self) -> Option<Divisor> {
+    fn divisor(&self) -> Option<HeldDivisor> {
         divisor_of(self.value)
     }
 
@@ -92,7 +92,7 @@ impl Side for Row<'_> {
     }
 
     #[inline(always)]
-    fn divisor(&self) -> Option<Divisor> {
+    fn divisor(&self) -> Option<HeldDivisor> {
         None
     }
 
@@ -177,10 +177,10 @@ fn divide<X: Side, Y: Side>(x: &X, y: &Y, out: &mut [Num])
 
 /// Quotients by a divisor that stays.
 #[inline(always)]
-fn each_quotient<X: Side, Y: Side>(x: &X, y: &Y, divisor: Divisor, out: &mut [Num])
+fn each_quotient<X: Side, Y: Side>(x: &X, y: &Y, divisor: HeldDivisor, out: &mut [Num])
     requires x { X.lasts x.now (length out.old) }
     requires y { Y.lasts y.now (length out.old) }
-    requires known { (j : ℕ) → divisor.value ≡ Y.wave y.now j }
+    requires known { (j : ℕ) → divisor.divisor.value ≡ Y.wave y.now j }
     ensures frames { HasFrames (both op.Div (X.wave x.now) (Y.wave y.now)) out.new }
     ensures long { length out.new ≡ length out.old }
 {

@@ -1,48 +1,98 @@
 // Quotients by a value that is held over a cycle.
-ghost use Rattle.std.specs.Prelude.{◌≡◌, ◌≤◌, ◌^◌, ◌*ℤ◌, true, unsigned_abs, IfSome};
-ghost use Rattle.cs_base.specs.Numbers.{IsRaw, one, quotient_of};
+ghost use Rattle.std.specs.Prelude.{◌≡◌, ◌≤◌, ◌*◌, ◌^◌, ◌≤ℤ◌, ◌<◌, ◌*ℤ◌, pos, true, unsigned_abs, IfSome};
+ghost use Rattle.cs_base.specs.Numbers.{IsRaw, clamp, one, quotient_of};
 
 use cs_base::{Num, ONE};
 use cs_signal::Divisor;
 
+/// A divisor that is held, and how large a number may be, in size, whose quotient by it is in range and is found by a
+/// product with its inverse.
+#[derive(Clone, Copy)]
+pub(crate) struct HeldDivisor {
+    divisor: Divisor,
+    reach: i64,
+    ghost low: { pos 0 ≤ℤ reach },
+    ghost high: { unsigned_abs reach ≤ 2 ^ 45 },
+    ghost within: { unsigned_abs reach * 65536 ≤ 140737488355327 * unsigned_abs divisor.value },
+}
+
 /// A value as a divisor, where it is above 0.
-pub(crate) fn divisor_of(value: Num) -> Option<Divisor>
-    ensures { IfSome result (λ d. d.value ≡ value) }
+pub(crate) fn divisor_of(value: Num) -> Option<HeldDivisor>
+    ensures { IfSome result (λ d. d.divisor.value ≡ value) }
 {
     if value.raw() > 0 {
-        Some(Divisor::of(value.raw()))
+        Some(HeldDivisor {
+            divisor: Divisor::of(value.raw()),
+            reach: reach_of(value.raw()),
+        })
     } else {
         None
     }
 }
 
-/// The quotient of two numbers, the second of which is known as a divisor. Where the first is at most 2^45 in size, it
-/// is a product with the divisor's inverse.
+/// By a divisor of one or more a quotient is no larger than the number.
+fn reach_of(value: i64) -> i64
+    requires low { pos 1 ≤ℤ value }
+    requires high { unsigned_abs value < 2 ^ 48 }
+    ensures low { pos 0 ≤ℤ result }
+    ensures high { unsigned_abs result ≤ 2 ^ 45 }
+    ensures within { unsigned_abs result * 65536 ≤ 140737488355327 * unsigned_abs value }
+{
+    if value < ONE {
+        (value * 2_147_483_648 - 1).min(35_184_372_088_832)
+    } else {
+        35_184_372_088_832
+    }
+}
+
+/// The quotient of two numbers, the second of which is known as a divisor.
 #[inline(always)]
-pub(crate) fn quotient(x: Num, y: Num, divisor: Divisor) -> Num
-    requires known { divisor.value ≡ y }
+pub(crate) fn quotient(x: Num, y: Num, by: HeldDivisor) -> Num
+    requires known { by.divisor.value ≡ y }
     ensures { result ≡ quotient_of x y }
 {
-    if is_near(x) {
-        near_quotient(x, divisor)
+    if is_within(x.raw(), by.reach) {
+        near_quotient(x, by)
     } else {
         x.div(y)
     }
 }
 
+/// Whether a number is at most so large in size, by one comparison.
 #[inline(always)]
-fn is_near(x: Num) -> bool
-    ensures { result ≡ true → unsigned_abs x ≤ 2 ^ 45 }
+fn is_within(x: i64, reach: i64) -> bool
+    requires x { IsRaw x }
+    requires low { pos 0 ≤ℤ reach }
+    requires high { unsigned_abs reach ≤ 2 ^ 45 }
+    ensures { result ≡ true → unsigned_abs x ≤ unsigned_abs reach }
 {
-    -(1 << 45) <= x.raw() && x.raw() <= 1 << 45
+    is_below(x + reach, 2 * reach)
+}
+
+/// Without its sign a number below 0 is greater than any that isn't.
+#[inline(always)]
+fn is_below(x: i64, most: i64) -> bool
+    requires { pos 0 ≤ℤ most }
+    ensures { result ≡ true → (pos 0 ≤ℤ x) × (x ≤ℤ most) }
+{
+    x.cast_unsigned() <= most.cast_unsigned()
 }
 
 #[inline(always)]
-fn near_quotient(x: Num, divisor: Divisor) -> Num
-    requires { unsigned_abs x ≤ 2 ^ 45 }
-    ensures { result ≡ quotient_of x divisor.value }
+fn near_quotient(x: Num, by: HeldDivisor) -> Num
+    requires { unsigned_abs x ≤ unsigned_abs by.reach }
+    ensures { result ≡ quotient_of x by.divisor.value }
 {
-    Num::of_raw(divisor.divide(dividend(x.raw())))
+    unchanged(by.divisor.divide(dividend(x.raw())))
+}
+
+/// A number that bringing it into range would leave as it is.
+#[inline(always)]
+fn unchanged(raw: i64) -> Num
+    requires { IsRaw raw }
+    ensures { result ≡ clamp raw }
+{
+    Num::exact(raw)
 }
 
 /// A number in 65,536ths of 65,536ths.

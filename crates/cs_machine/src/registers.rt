@@ -53,9 +53,9 @@ impl Registers {
         ensures ksmps { IfOk result (λ r. r.ksmps ≡ ksmps) }
     {
         Ok(Registers {
-            i: zeros(alloc, counts.i)?,
-            k: zeros(alloc, counts.k)?,
-            a: rows(alloc, counts.a, ksmps)?,
+            i: zeros(alloc, counts.registers.init)?,
+            k: zeros(alloc, counts.registers.control)?,
+            a: rows(alloc, counts.registers.audio, ksmps)?,
             counts,
             ksmps,
         })
@@ -76,9 +76,9 @@ impl Registers {
         ensures { result ≡ values self.now register 0 }
     {
         match register.rate {
-            Rate::Init => self.i[register.index],
-            Rate::Control => self.k[register.index],
-            Rate::Audio => first_of(&self.a[register.index]),
+            Rate::Init => self.i[register.index as usize],
+            Rate::Control => self.k[register.index as usize],
+            Rate::Audio => first_of(&self.a[register.index as usize]),
         }
     }
 
@@ -90,16 +90,16 @@ impl Registers {
         ensures lasts { Lasts self.now.ksmps result }
     {
         match register.rate {
-            Rate::Init => Operand::Held(self.i[register.index]),
-            Rate::Control => Operand::Held(self.k[register.index]),
-            Rate::Audio => Operand::Row(&self.a[register.index]),
+            Rate::Init => Operand::Held(self.i[register.index as usize]),
+            Rate::Control => Operand::Held(self.k[register.index as usize]),
+            Rate::Audio => Operand::Row(&self.a[register.index as usize]),
         }
     }
 
     /// The row of a register of rate Audio.
     #[inline(always)]
     pub fn row(&self, index: usize) -> &[Num]
-        requires { index < self.now.counts.a }
+        requires { index < self.now.counts.registers.audio }
         ensures value { row_wave result.now ≡ values self.now (reg rate.Audio index) }
         ensures long { length result.now ≡ self.now.ksmps }
     {
@@ -124,8 +124,8 @@ impl Registers {
         ensures { IsWritten self.old register (constant value) self.new }
     {
         match register.rate {
-            Rate::Init => self.i[register.index] = value,
-            Rate::Control => self.k[register.index] = value,
+            Rate::Init => self.i[register.index as usize] = value,
+            Rate::Control => self.k[register.index as usize] = value,
             Rate::Audio => {}
         }
     }
@@ -133,7 +133,7 @@ impl Registers {
     /// A register of rate Audio takes a row, and its own row comes in its place.
     #[inline(always)]
     pub fn swap(&mut self, index: usize, row: &mut Vec<Num>)
-        requires there { index < self.old.counts.a }
+        requires there { index < self.old.counts.registers.audio }
         requires row { length row.old.items ≡ self.old.ksmps }
         ensures values { IsWritten self.old (reg rate.Audio index) (row_wave row.old.items) self.new }
         ensures row { length row.new.items ≡ self.old.ksmps }
@@ -151,7 +151,7 @@ impl Registers {
         match register.rate {
             Rate::Audio => {
                 fill(value, row);
-                self.swap(register.index, row);
+                self.swap(register.index as usize, row);
             }
             _ => self.set(register, value),
         }

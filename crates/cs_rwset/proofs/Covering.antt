@@ -1,5 +1,6 @@
 -- What numbers of tables and places reach, in a layout.
-use Rattle.std.proofs.Common.{◌≡◌, ◌<◌, ◌≤◌, ℕ, zero, suc, List, [], ◌∷◌, Option, Some, None, Bool, true, false, ◌||◌, nat_le, nat_lt, refl, sym, ◌∙◌, ap, subst, arith, ⊎_elim, if◌then◌else◌}
+use Rattle.std.proofs.Common.{◌≡◌, ◌<◌, ◌≤◌, ℕ, zero, suc, List, [], ◌∷◌, Option, Some, None, Bool, true, false, ◌||◌}
+use Rattle.std.proofs.Common.{nat_le, nat_lt, refl, sym, ◌∙◌, ap, subst, arith, ⊎_elim, if◌then◌else◌}
 use Rattle.std.specs.List.{Contains, cons_option, filter, range_with_len}
 use Rattle.std.proofs.lemmas.Bool.{and_from, and_parts, or_left}
 use Rattle.std.proofs.lemmas.Bool.Decides.{nat_tests}
@@ -12,7 +13,8 @@ use Rattle.cs_words.specs.declared.catalogue.Space.{Space}
 use Rattle.cs_words.specs.declared.catalogue.Space.TheVariants as space
 use Rattle.cs_cells.specs.Areas.{HasPlace}
 use Rattle.cs_cells.specs.declared.footprint.Area.{Area}
-use Rattle.cs_ir.specs.Resources.{Stock, act_uses, act_writes, ops_use, ops_write, places_of, places_within, reaches, tables_within, writes_places, zak_place, zak_uses}
+use Rattle.cs_ir.specs.Resources.{Stock, act_uses, act_writes, ops_use, ops_write, places_of, places_within, reaches}
+use Rattle.cs_ir.specs.Resources.{tables_within, writes_places, zak_place, zak_uses}
 use Rattle.cs_ir.specs.declared.op.Act.{Act}
 use Rattle.cs_ir.specs.declared.op.Act.TheVariants as act
 use Rattle.cs_ir.specs.declared.op.Op.{Op}
@@ -22,7 +24,9 @@ use Rattle.cs_rwset.specs.Footprints.{is_among, place_count, places_holding, sto
 use Rattle.cs_rwset.specs.inner.Named.{covers, resources}
 use Rattle.cs_rwset.specs.declared.named.Named.{Named}
 use Rattle.cs_rwset.specs.declared.named.Named.TheVariants as named
-use Rattle.cs_rwset.proofs.Placed.{exact_places, places_exact, among_contains, contains_among, contains_none, contains_first, contains_rest, contains_filter, filter_contains, map_contains, contains_map, contains_range, range_contains, same_tests}
+use Rattle.cs_rwset.proofs.Placed.{exact_places, places_exact, among_contains, contains_among, contains_none}
+use Rattle.cs_rwset.proofs.Placed.{contains_first, contains_rest, contains_filter, filter_contains, map_contains}
+use Rattle.cs_rwset.proofs.Placed.{contains_map, contains_range, range_contains, same_tests}
 
 -- a table that has an area is live
 number_first : (n : ℕ) (o : Option ℕ) (xs : List ℕ) → o ≡ Some n → Contains (cons_option o xs) n
@@ -33,32 +37,40 @@ number_rest : (n : ℕ) (o : Option ℕ) (xs : List ℕ) → Contains xs n → C
 number_rest n None xs h = h
 number_rest n (Some m) xs h = contains_rest m n xs h
 
-pub table_is_live : (areas : List Area) (n place : ℕ) → HasPlace areas (res.Table n) place → Contains (stock_of areas).live n
+pub table_is_live : (areas : List Area) (n place : ℕ) → HasPlace areas (res.Table n) place
+    → Contains (stock_of areas).live n
 table_is_live [] n place h = absurd (let e = h.1 in cc)
 table_is_live (a ∷ areas) n zero h =
     let is : a.res ≡ res.Table n = let e = h.1 in let f = h.2 in cc in
     number_first n (table_number a.res) (stock_of areas).live (ap table_number is)
-table_is_live (a ∷ areas) n (suc place) h = number_rest n (table_number a.res) (stock_of areas).live (table_is_live areas n place h)
+table_is_live (a ∷ areas) n (suc place) h =
+    number_rest n (table_number a.res) (stock_of areas).live (table_is_live areas n place h)
 
 -- what is named of tables, and of places
-pub table_named : (stock : Stock) (r : Reach) (g : Res) → Contains (tables_within stock r) g → (n : ℕ) × Contains stock.live n × (reaches r n ≡ true) × (res.Table n ≡ g)
+pub table_named : (stock : Stock) (r : Reach) (g : Res) → Contains (tables_within stock r) g
+    → (n : ℕ) × Contains stock.live n × (reaches r n ≡ true) × (res.Table n ≡ g)
 table_named stock r g h =
     let m = map_contains res.Table (filter (reaches r) stock.live) g h in
     let f = filter_contains (reaches r) stock.live m.0 m.1 in (m.0, f.0, f.1, m.2)
 
-pub named_table : (stock : Stock) (r : Reach) (n : ℕ) → Contains stock.live n → reaches r n ≡ true → Contains (tables_within stock r) (res.Table n)
-named_table stock r n h e = contains_map res.Table (filter (reaches r) stock.live) n (contains_filter (reaches r) stock.live n h e)
+pub named_table : (stock : Stock) (r : Reach) (n : ℕ) → Contains stock.live n → reaches r n ≡ true
+    → Contains (tables_within stock r) (res.Table n)
+named_table stock r n h e =
+    contains_map res.Table (filter (reaches r) stock.live) n (contains_filter (reaches r) stock.live n h e)
 
 pub place_named : (stock : Stock) (s : Space) (r : Reach) (g : Res) → Contains (places_within stock s r) g
     → (n : ℕ) × (n < places_of stock.spaces s) × (reaches r n ≡ true) × (zak_place s n ≡ g)
 place_named stock s r g h =
     let m = map_contains (zak_place s) (filter (reaches r) (range_with_len 0 (places_of stock.spaces s))) g h in
-    let f = filter_contains (reaches r) (range_with_len 0 (places_of stock.spaces s)) m.0 m.1 in (m.0, range_contains (places_of stock.spaces s) m.0 f.0, f.1, m.2)
+    let f = filter_contains (reaches r) (range_with_len 0 (places_of stock.spaces s)) m.0
+    m.1 in (m.0, range_contains (places_of stock.spaces s) m.0 f.0, f.1, m.2)
 
-pub named_place : (stock : Stock) (s : Space) (r : Reach) (n : ℕ) → n < places_of stock.spaces s → reaches r n ≡ true → Contains (places_within stock s r) (zak_place s n)
+pub named_place : (stock : Stock) (s : Space) (r : Reach) (n : ℕ) → n < places_of stock.spaces s → reaches r n ≡ true
+    → Contains (places_within stock s r) (zak_place s n)
 named_place stock s r n l e =
     contains_map (zak_place s) (filter (reaches r) (range_with_len 0 (places_of stock.spaces s))) n
-    (contains_filter (reaches r) (range_with_len 0 (places_of stock.spaces s)) n (contains_range (places_of stock.spaces s) n l) e)
+    (contains_filter (reaches r) (range_with_len 0 (places_of stock.spaces s)) n
+    (contains_range (places_of stock.spaces s) n l) e)
 
 -- a literal number reaches itself alone
 pub literal_reaches : (n : ℕ) → reaches (reach.Span n n) n ≡ true
@@ -71,21 +83,25 @@ literal_alone n m h =
 -- a span reaches what lies in it, and nothing reaches none
 span_within : (first last n : ℕ) → reaches (reach.Span first last) n ≡ true → (first ≤ n) × (n ≤ last)
 span_within first last n h =
-    let b = and_parts (nat_le first n) (nat_le n last) h in let c = b.0 in let d = b.1 in (grind (arith, nat_tests), grind (arith, nat_tests))
+    let b = and_parts (nat_le first n) (nat_le n last) h in let c = b.0 in let d =
+    b.1 in (grind (arith, nat_tests), grind (arith, nat_tests))
 
 within_span : (first last n : ℕ) → first ≤ n → n ≤ last → reaches (reach.Span first last) n ≡ true
-within_span first last n l m = and_from (nat_le first n) (nat_le n last) (grind (arith, nat_tests)) (grind (arith, nat_tests))
+within_span first last n l m =
+    and_from (nat_le first n) (nat_le n last) (grind (arith, nat_tests)) (grind (arith, nat_tests))
 
 reaches_none : (n : ℕ) → reaches reach.Nothing n ≡ true → ⊥
 reaches_none n h = cc
 
 -- what is written is used
-pub act_written_is_used : (stock : Stock) (a : Act) (r : Res) → Contains (act_writes stock a) r → Contains (act_uses stock a) r
+pub act_written_is_used : (stock : Stock) (a : Act) (r : Res) → Contains (act_writes stock a) r
+    → Contains (act_uses stock a) r
 act_written_is_used stock (act.Save g) r h = h
 act_written_is_used stock (act.Store opcode reach) r h = h
 act_written_is_used stock (act.Zak opcode reach) r h = by (writes_places (row_of opcode).shape) h
   where
-    by : (b : Bool) → Contains (if b then zak_uses stock opcode reach else []) r → Contains (zak_uses stock opcode reach) r
+    by : (b : Bool) → Contains (if b then zak_uses stock opcode reach else []) r
+        → Contains (zak_uses stock opcode reach) r
     by true k = k
     by false k = absurd (contains_none r k)
 act_written_is_used stock (act.Unit opcode u reach) r h = absurd (contains_none r h)
@@ -107,11 +123,14 @@ act_written_is_used stock act.OutAt r h = absurd (contains_none r h)
 act_written_is_used stock act.Turnoff r h = absurd (contains_none r h)
 act_written_is_used stock act.Ask r h = absurd (contains_none r h)
 
-pub ops_written_is_used : (stock : Stock) (ops : List Op) (r : Res) → Contains (ops_write stock ops) r → Contains (ops_use stock ops) r
+pub ops_written_is_used : (stock : Stock) (ops : List Op) (r : Res) → Contains (ops_write stock ops) r
+    → Contains (ops_use stock ops) r
 ops_written_is_used stock [] r h = h
 ops_written_is_used stock (o ∷ ops) r h =
-    ⊎_elim (λ here. Contains-append_left (act_uses stock o.act) (ops_use stock ops) r (act_written_is_used stock o.act r here))
-    (λ later. Contains-append_right (act_uses stock o.act) (ops_use stock ops) r (ops_written_is_used stock ops r later))
+    ⊎_elim (λ here. Contains-append_left (act_uses stock o.act) (ops_use stock ops) r
+    (act_written_is_used stock o.act r here))
+    (λ later. Contains-append_right (act_uses stock o.act) (ops_use stock ops) r
+    (ops_written_is_used stock ops r later))
     (Contains-append_cases (act_writes stock o.act) (ops_write stock ops) r h)
 
 or_none : (b : Bool) → (b || false) ≡ true → b ≡ true
@@ -132,7 +151,8 @@ module _ (areas : List Area) (place : ℕ) (g : Res) (h : HasPlace areas g place
   covered_is_named : (n : Named) (r : Res) → r ≡ g → covers stock.spaces n r ≡ true → Contains (resources stock n) r
   covered_is_named named.Nothing r e c = absurd cc
   covered_is_named (named.One o) r e c = among_contains (o ∷ []) r (only_one r o c)
-  covered_is_named (named.Tables reach) (res.Table n) e c = named_table stock reach n (table_is_live areas n place (h.0, h.1, h.2 ∙ sym e)) c
+  covered_is_named (named.Tables reach) (res.Table n) e c =
+      named_table stock reach n (table_is_live areas n place (h.0, h.1, h.2 ∙ sym e)) c
   covered_is_named (named.Places space.Control reach) (res.ZakK n) e c =
       let b = and_parts (nat_lt n stock.spaces.control) (reaches reach n) c in
       let b0 = b.0 in named_place stock space.Control reach n (grind (arith, nat_tests)) b.1
@@ -185,23 +205,29 @@ module _ (areas : List Area) (place : ℕ) (g : Res) (h : HasPlace areas g place
 
 -- The places of what a number names, literal or computed.
 module _ (areas : List Area) where
-  pub literal_table_places : (n place : ℕ) → Contains (places_holding areas (tables_within (stock_of areas) (reach.Span n n))) place → HasPlace areas (res.Table n) place
+  pub literal_table_places : (n place : ℕ)
+      → Contains (places_holding areas (tables_within (stock_of areas) (reach.Span n n))) place
+      → HasPlace areas (res.Table n) place
   literal_table_places n place h =
       let e = places_exact areas (tables_within (stock_of areas) (reach.Span n n)) place h in
       let t = table_named (stock_of areas) (reach.Span n n) e.0 e.1 in
       subst (λ r. HasPlace areas r place) (sym t.3 ∙ ap res.Table (literal_alone n t.0 t.2)) e.2
 
-  pub literal_table_placed : (n place : ℕ) → HasPlace areas (res.Table n) place → Contains (places_holding areas (tables_within (stock_of areas) (reach.Span n n))) place
+  pub literal_table_placed : (n place : ℕ) → HasPlace areas (res.Table n) place
+      → Contains (places_holding areas (tables_within (stock_of areas) (reach.Span n n))) place
   literal_table_placed n place h =
       exact_places areas (tables_within (stock_of areas) (reach.Span n n)) place (res.Table n)
       (named_table (stock_of areas) (reach.Span n n) n (table_is_live areas n place h) (literal_reaches n)) h
 
-  pub computed_table_places : (place : ℕ) → Contains (places_holding areas (tables_within (stock_of areas) reach.Any)) place → (n : ℕ) × HasPlace areas (res.Table n) place
+  pub computed_table_places : (place : ℕ)
+      → Contains (places_holding areas (tables_within (stock_of areas) reach.Any)) place
+      → (n : ℕ) × HasPlace areas (res.Table n) place
   computed_table_places place h =
       let e = places_exact areas (tables_within (stock_of areas) reach.Any) place h in
       let t = table_named (stock_of areas) reach.Any e.0 e.1 in (t.0, subst (λ r. HasPlace areas r place) (sym t.3) e.2)
 
-  pub computed_table_placed : (place : ℕ) → (n : ℕ) × HasPlace areas (res.Table n) place → Contains (places_holding areas (tables_within (stock_of areas) reach.Any)) place
+  pub computed_table_placed : (place : ℕ) → (n : ℕ) × HasPlace areas (res.Table n) place
+      → Contains (places_holding areas (tables_within (stock_of areas) reach.Any)) place
   computed_table_placed place h =
       exact_places areas (tables_within (stock_of areas) reach.Any) place (res.Table h.0)
       (named_table (stock_of areas) reach.Any h.0 (table_is_live areas h.0 place h.1) refl) h.1
@@ -213,7 +239,8 @@ module _ (areas : List Area) where
   same_place : (s : Space) (m n : ℕ) (r : Res) → m ≡ n → zak_place s m ≡ r → r ≡ zak_place s n
   same_place s m n r e f = sym f ∙ ap (zak_place s) e
 
-  pub literal_place_places : (s : Space) (n place : ℕ) → Contains (places_holding areas (places_within (stock_of areas) s (reach.Span n n))) place
+  pub literal_place_places : (s : Space) (n place : ℕ)
+      → Contains (places_holding areas (places_within (stock_of areas) s (reach.Span n n))) place
       → (n < place_count areas s) × HasPlace areas (zak_place s n) place
   literal_place_places s n place h =
       let e = places_exact areas (places_within (stock_of areas) s (reach.Span n n)) place h in
@@ -223,44 +250,58 @@ module _ (areas : List Area) where
         subst (λ r. HasPlace areas r place) (same_place s t.0 n e.0 same t.3) e.2,
       )
 
-  pub literal_place_placed : (s : Space) (n place : ℕ) → (n < place_count areas s) × HasPlace areas (zak_place s n) place
+  pub literal_place_placed : (s : Space) (n place : ℕ)
+      → (n < place_count areas s) × HasPlace areas (zak_place s n) place
       → Contains (places_holding areas (places_within (stock_of areas) s (reach.Span n n))) place
   literal_place_placed s n place h =
       exact_places areas (places_within (stock_of areas) s (reach.Span n n)) place (zak_place s n)
       (named_place (stock_of areas) s (reach.Span n n) n (subst (λ k. n < k) (count_is s) h.0) (literal_reaches n)) h.1
 
-  pub span_places : (s : Space) (first last place : ℕ) → Contains (places_holding areas (places_within (stock_of areas) s (reach.Span first last))) place
+  pub span_places : (s : Space) (first last place : ℕ)
+      → Contains (places_holding areas (places_within (stock_of areas) s (reach.Span first last))) place
       → (n : ℕ) × (first ≤ n) × (n ≤ last) × (n < place_count areas s) × HasPlace areas (zak_place s n) place
   span_places s first last place h =
       let e = places_exact areas (places_within (stock_of areas) s (reach.Span first last)) place h in
       let t = place_named (stock_of areas) s (reach.Span first last) e.0 e.1 in
-      let within = span_within first last t.0 t.2 in
-      (t.0, within.0, within.1, subst (λ k. t.0 < k) (sym (count_is s)) t.1, subst (λ r. HasPlace areas r place) (sym t.3) e.2)
+      let within = span_within first last t.0 t.2 in (
+        t.0,
+        within.0,
+        within.1,
+        subst (λ k. t.0 < k) (sym (count_is s)) t.1,
+        subst (λ r. HasPlace areas r place)
+            (sym t.3) e.2,
+      )
 
-  pub span_placed : (s : Space) (first last place : ℕ) → (n : ℕ) × (first ≤ n) × (n ≤ last) × (n < place_count areas s) × HasPlace areas (zak_place s n) place
+  pub span_placed : (s : Space) (first last place : ℕ)
+      → (n : ℕ) × (first ≤ n) × (n ≤ last) × (n < place_count areas s) × HasPlace areas (zak_place s n) place
       → Contains (places_holding areas (places_within (stock_of areas) s (reach.Span first last))) place
   span_placed s first last place h =
       exact_places areas (places_within (stock_of areas) s (reach.Span first last)) place (zak_place s h.0)
-      (named_place (stock_of areas) s (reach.Span first last) h.0 (subst (λ k. h.0 < k) (count_is s) h.3) (within_span first last h.0 h.1 h.2)) h.4
+      (named_place (stock_of areas) s (reach.Span first last) h.0 (subst (λ k. h.0 < k) (count_is s) h.3)
+      (within_span first last h.0 h.1 h.2)) h.4
 
-  pub no_table_placed : (place : ℕ) → ¬ (Contains (places_holding areas (tables_within (stock_of areas) reach.Nothing)) place)
+  pub no_table_placed : (place : ℕ)
+      → ¬ (Contains (places_holding areas (tables_within (stock_of areas) reach.Nothing)) place)
   no_table_placed place h =
       let e = places_exact areas (tables_within (stock_of areas) reach.Nothing) place h in
       let t = table_named (stock_of areas) reach.Nothing e.0 e.1 in reaches_none t.0 t.2
 
-  pub no_place_placed : (s : Space) (place : ℕ) → ¬ (Contains (places_holding areas (places_within (stock_of areas) s reach.Nothing)) place)
+  pub no_place_placed : (s : Space) (place : ℕ)
+      → ¬ (Contains (places_holding areas (places_within (stock_of areas) s reach.Nothing)) place)
   no_place_placed s place h =
       let e = places_exact areas (places_within (stock_of areas) s reach.Nothing) place h in
       let t = place_named (stock_of areas) s reach.Nothing e.0 e.1 in reaches_none t.0 t.2
 
-  pub computed_place_places : (s : Space) (place : ℕ) → Contains (places_holding areas (places_within (stock_of areas) s reach.Any)) place
+  pub computed_place_places : (s : Space) (place : ℕ)
+      → Contains (places_holding areas (places_within (stock_of areas) s reach.Any)) place
       → (n : ℕ) × (n < place_count areas s) × HasPlace areas (zak_place s n) place
   computed_place_places s place h =
       let e = places_exact areas (places_within (stock_of areas) s reach.Any) place h in
       let t = place_named (stock_of areas) s reach.Any e.0 e.1 in
       (t.0, subst (λ k. t.0 < k) (sym (count_is s)) t.1, subst (λ r. HasPlace areas r place) (sym t.3) e.2)
 
-  pub computed_place_placed : (s : Space) (place : ℕ) → (n : ℕ) × (n < place_count areas s) × HasPlace areas (zak_place s n) place
+  pub computed_place_placed : (s : Space) (place : ℕ)
+      → (n : ℕ) × (n < place_count areas s) × HasPlace areas (zak_place s n) place
       → Contains (places_holding areas (places_within (stock_of areas) s reach.Any)) place
   computed_place_placed s place h =
       exact_places areas (places_within (stock_of areas) s reach.Any) place (zak_place s h.0)

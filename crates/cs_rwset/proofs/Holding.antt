@@ -1,5 +1,6 @@
 -- Which ops a footprint's places are of, and which cells they cover.
-use Rattle.std.proofs.Common.{◌≡◌, ℕ, zero, suc, List, [], ◌∷◌, slice_get, Option, Some, None, true, refl, sym, ◌∙◌, ap, subst, ⊎_elim}
+use Rattle.std.proofs.Common.{◌≡◌, ℕ, zero, suc, List, [], ◌∷◌, slice_get, Option, Some, None, true, refl, sym, ◌∙◌, ap}
+use Rattle.std.proofs.Common.{subst, ⊎_elim}
 use Rattle.std.specs.List.{Contains, flat_map}
 use Rattle.std.proofs.lemmas.Bool.{or_cases, or_left, or_right}
 use Rattle.std.proofs.lemmas.List.Elements.{Contains-append_left, Contains-append_right, Contains-append_cases}
@@ -11,7 +12,8 @@ use Rattle.cs_cells.specs.declared.footprint.Area.{Area}
 use Rattle.cs_ir.specs.Resources.{Stock, act_uses, act_writes, ops_use, ops_write}
 use Rattle.cs_ir.specs.declared.op.Op.{Op}
 use Rattle.cs_rwset.specs.Footprints.{places_holding}
-use Rattle.cs_rwset.proofs.Placed.{exact_places, places_exact, contains_none, contains_first, contains_rest, contains_cases}
+use Rattle.cs_rwset.proofs.Placed.{exact_places, places_exact, contains_none, contains_first, contains_rest}
+use Rattle.cs_rwset.proofs.Placed.{contains_cases}
 
 -- elements of what a function makes of each element
 module _ {X Y : Type 0} (f : X → List Y) where
@@ -30,28 +32,33 @@ module _ {X Y : Type 0} (f : X → List Y) where
       (Contains-append_cases (f z) (flat_map f xs) y h)
 
 -- what an op of a code may use, the code may use; likewise what it may write
-pub of_op : (stock : Stock) (ops : List Op) (op : Op) (r : Res) → Contains ops op → Contains (act_uses stock op.act) r → Contains (ops_use stock ops) r
+pub of_op : (stock : Stock) (ops : List Op) (op : Op) (r : Res) → Contains ops op → Contains (act_uses stock op.act) r
+    → Contains (ops_use stock ops) r
 of_op stock ops op r h k = of_each (λ o. act_uses stock o.act) ops op r h k
 
-pub written_of_op : (stock : Stock) (ops : List Op) (op : Op) (r : Res) → Contains ops op → Contains (act_writes stock op.act) r → Contains (ops_write stock ops) r
+pub written_of_op : (stock : Stock) (ops : List Op) (op : Op) (r : Res) → Contains ops op
+    → Contains (act_writes stock op.act) r → Contains (ops_write stock ops) r
 written_of_op stock ops op r h k = of_each (λ o. act_writes stock o.act) ops op r h k
 
 -- The places of what a function of ops lists: those of what it lists for one of the ops.
 module _ (areas : List Area) (f : Op → List Res) (ops : List Op) (place : ℕ) where
-  pub places_of_each : Contains (places_holding areas (flat_map f ops)) place → (op : Op) × (r : Res) × Contains ops op × Contains (f op) r × HasPlace areas r place
+  pub places_of_each : Contains (places_holding areas (flat_map f ops)) place
+      → (op : Op) × (r : Res) × Contains ops op × Contains (f op) r × HasPlace areas r place
   places_of_each h =
       let e = places_exact areas (flat_map f ops) place h in
       let o = each_of f ops e.0 e.1 in
       (o.0, e.0, o.1, o.2, e.2)
 
-  pub each_placed : (op : Op) × (r : Res) × Contains ops op × Contains (f op) r × HasPlace areas r place → Contains (places_holding areas (flat_map f ops)) place
+  pub each_placed : (op : Op) × (r : Res) × Contains ops op × Contains (f op) r × HasPlace areas r place
+      → Contains (places_holding areas (flat_map f ops)) place
   each_placed h = exact_places areas (flat_map f ops) place h.1 (of_each f ops h.0 h.1 h.2 h.3) h.4
 
 -- An address is covered by listed places exactly where it lies in the area of one of them.
 none_in : (a : ℕ) → in_area None a ≡ true → ⊥
 none_in a h = cc
 
-some_in : (o : Option Area) (a : ℕ) → in_area o a ≡ true → (area : Area) × (o ≡ Some area) × (in_area (Some area) a ≡ true)
+some_in : (o : Option Area) (a : ℕ) → in_area o a ≡ true
+    → (area : Area) × (o ≡ Some area) × (in_area (Some area) a ≡ true)
 some_in None a h = absurd (none_in a h)
 some_in (Some area) a h = (area, refl, h)
 
@@ -63,11 +70,13 @@ covered_at areas (p ∷ places) a h =
     (λ t. let later = covered_at areas places a t in (later.0, contains_rest p later.0 places later.1, later.2))
     (or_cases (in_area (slice_get areas p) a) (covers areas places a) h)
 
-at_covers : (areas : List Area) (places : List ℕ) (place a : ℕ) → Contains places place → in_area (slice_get areas place) a ≡ true
+at_covers : (areas : List Area) (places : List ℕ) (place a : ℕ) → Contains places place
+    → in_area (slice_get areas place) a ≡ true
     → covers areas places a ≡ true
 at_covers areas [] place a h k = absurd (contains_none place h)
 at_covers areas (p ∷ places) place a h k =
-    ⊎_elim (λ same. or_left (in_area (slice_get areas p) a) (covers areas places a) (subst (λ q. in_area (slice_get areas q) a ≡ true) (sym same) k))
+    ⊎_elim (λ same. or_left (in_area (slice_get areas p) a) (covers areas places a)
+    (subst (λ q. in_area (slice_get areas q) a ≡ true) (sym same) k))
     (λ later. or_right (in_area (slice_get areas p) a) (covers areas places a) (at_covers areas places place a later k))
     (contains_cases p place places h)
 
@@ -77,14 +86,16 @@ placed areas area h = (h.0, slice_get-get_or areas h.0 area h.1 ∙ ap Some h.2)
 
 there : (areas : List Area) (place : ℕ) (area : Area) → slice_get areas place ≡ Some area → Contains areas area
 there [] place area e = absurd cc
-there (x ∷ areas) zero area e = subst (λ y. Contains (x ∷ areas) y) (let same : x ≡ area = cc in same) (contains_first x areas)
+there (x ∷ areas) zero area e =
+    subst (λ y. Contains (x ∷ areas) y) (let same : x ≡ area = cc in same) (contains_first x areas)
 there (x ∷ areas) (suc place) area e = contains_rest x area areas (there areas place area e)
 
 res_there : (o : Option Area) (x y : Area) (r : Res) → o ≡ Some x → o ≡ Some y → x.res ≡ r → r ≡ y.res
 res_there o x y r e f g = cc
 
 -- The places of some resources cover exactly the cells of the areas whose resource is one of them.
-pub holding_covers : (areas : List Area) (rs : List Res) (area : Area) (a : ℕ) → Contains areas area → Contains rs area.res → in_area (Some area) a ≡ true
+pub holding_covers : (areas : List Area) (rs : List Res) (area : Area) (a : ℕ) → Contains areas area
+    → Contains rs area.res → in_area (Some area) a ≡ true
     → covers areas (places_holding areas rs) a ≡ true
 holding_covers areas rs area a here of lies =
     let p = placed areas area here in
@@ -96,5 +107,10 @@ pub covers_holding : (areas : List Area) (rs : List Res) (a : ℕ) → covers ar
 covers_holding areas rs a h =
     let c = covered_at areas (places_holding areas rs) a h in
     let e = places_exact areas rs c.0 c.1 in
-    let s = some_in (slice_get areas c.0) a c.2 in
-    (s.0, there areas c.0 s.0 s.1, subst (λ r. Contains rs r) (res_there (slice_get areas c.0) e.2.0 s.0 e.0 e.2.1 s.1 e.2.2) e.1, s.2)
+    let s = some_in (slice_get areas c.0) a c.2 in (
+      s.0,
+      there areas c.0 s.0 s.1,
+      subst (λ r. Contains rs r)
+          (res_there (slice_get areas c.0) e.2.0 s.0 e.0 e.2.1 s.1 e.2.2) e.1,
+      s.2,
+    )

@@ -1,5 +1,6 @@
 -- Marks that are set one by one.
-use Rattle.std.proofs.Common.{◌≡◌, ◌<◌, ◌≤◌, ◌+◌, ◌++◌, ℕ, zero, suc, List, [], ◌∷◌, length, get_or, set, take, drop, slice_get, replicate, Some, Bool, true, false, ◌||◌, refl, sym, ◌∙◌, ap, subst, arith}
+use Rattle.std.proofs.Common.{◌≡◌, ◌<◌, ◌≤◌, ◌+◌, ◌++◌, ℕ, zero, suc, List, [], ◌∷◌, length, get_or, set, take, drop}
+use Rattle.std.proofs.Common.{slice_get, replicate, Some, Bool, true, false, ◌||◌, refl, sym, ◌∙◌, ap, subst, arith}
 use Rattle.std.specs.List.{filter, flat_map, range_with_len}
 use Rattle.std.proofs.lemmas.List.{append-nil, length-map, take_more}
 use Rattle.std.proofs.lemmas.List.Concat.{flat_map-append}
@@ -31,7 +32,8 @@ or_not true q e = refl
 or_not false q e = sym e
 
 -- tests that agree on each area mark the same
-pub same_marks : (P Q : Res → Bool) (areas : List Area) → ((place : ℕ) (a : Area) → slice_get areas place ≡ Some a → P a.res ≡ Q a.res)
+pub same_marks : (P Q : Res → Bool) (areas : List Area)
+    → ((place : ℕ) (a : Area) → slice_get areas place ≡ Some a → P a.res ≡ Q a.res)
     → marked_by P areas ≡ marked_by Q areas
 same_marks P Q [] h = refl
 same_marks P Q (a ∷ areas) h = λ i. h 0 a refl i ∷ same_marks P Q areas (λ k b e. h (suc k) b e) i
@@ -41,13 +43,15 @@ passes_of Q b x a e q = cc
 
 module _ (P Q : Res → Bool) where
   -- a mark that is set is that of the one area that passes another test
-  pub one_mark : (areas : List Area) (place : ℕ) → place < length areas → ((a : Area) → slice_get areas place ≡ Some a → Q a.res ≡ true)
+  pub one_mark : (areas : List Area) (place : ℕ) → place < length areas
+      → ((a : Area) → slice_get areas place ≡ Some a → Q a.res ≡ true)
       → ((k : ℕ) (a : Area) → (k ≡ place → ⊥) → slice_get areas k ≡ Some a → Q a.res ≡ false)
       → set (marked_by P areas) place true ≡ marked_by (λ r. P r || Q r) areas
   one_mark [] place l here others = absurd (omega arith)
   one_mark (a ∷ areas) zero l here others =
       λ i. or_here (P a.res) (Q a.res) (here a refl) i
-      ∷ same_marks P (λ r. P r || Q r) areas (λ k b e. or_not (P b.res) (Q b.res) (others (suc k) b (λ s. omega (arith, s)) e)) i
+      ∷ same_marks P (λ r. P r || Q r) areas
+      (λ k b e. or_not (P b.res) (Q b.res) (others (suc k) b (λ s. omega (arith, s)) e)) i
   one_mark (a ∷ areas) (suc place) l here others =
       λ i. or_not (P a.res) (Q a.res) (others 0 a (λ s. omega (arith, s)) refl) i
       ∷ one_mark areas place (omega arith) here (λ k b n e. others (suc k) b (λ s. n (omega (arith, s))) e) i
@@ -58,21 +62,25 @@ module _ (P Q : Res → Bool) where
   half (suc n) [] = []
   half (suc n) (a ∷ areas) = (P a.res || Q a.res) ∷ half n areas
 
-  half_set : (n : ℕ) (areas : List Area) (a : Area) → slice_get areas n ≡ Some a → Q a.res ≡ true → set (half n areas) n true ≡ half (suc n) areas
+  half_set : (n : ℕ) (areas : List Area) (a : Area) → slice_get areas n ≡ Some a → Q a.res ≡ true
+      → set (half n areas) n true ≡ half (suc n) areas
   half_set n [] a e q = absurd cc
   half_set zero (x ∷ areas) a e q = λ i. or_here (P x.res) (Q x.res) (passes_of Q true x a e q) i ∷ marked_by P areas
   half_set (suc n) (x ∷ areas) a e q = λ i. (P x.res || Q x.res) ∷ half_set n areas a e q i
 
-  half_kept : (n : ℕ) (areas : List Area) (a : Area) → slice_get areas n ≡ Some a → Q a.res ≡ false → half n areas ≡ half (suc n) areas
+  half_kept : (n : ℕ) (areas : List Area) (a : Area) → slice_get areas n ≡ Some a → Q a.res ≡ false
+      → half n areas ≡ half (suc n) areas
   half_kept n [] a e q = absurd cc
   half_kept zero (x ∷ areas) a e q = λ i. or_not (P x.res) (Q x.res) (passes_of Q false x a e q) i ∷ marked_by P areas
   half_kept (suc n) (x ∷ areas) a e q = λ i. (P x.res || Q x.res) ∷ half_kept n areas a e q i
 
   -- one more area is looked at
-  pub half_more : (n : ℕ) (areas : List Area) (a : Area) → slice_get areas n ≡ Some a → Q a.res ≡ true → set (half n areas) n true ≡ half (n + 1) areas
+  pub half_more : (n : ℕ) (areas : List Area) (a : Area) → slice_get areas n ≡ Some a → Q a.res ≡ true
+      → set (half n areas) n true ≡ half (n + 1) areas
   half_more n areas a e q = let on : suc n ≡ n + 1 = omega arith in half_set n areas a e q ∙ ap (λ k. half k areas) on
 
-  pub half_same : (n : ℕ) (areas : List Area) (a : Area) → slice_get areas n ≡ Some a → Q a.res ≡ false → half n areas ≡ half (n + 1) areas
+  pub half_same : (n : ℕ) (areas : List Area) (a : Area) → slice_get areas n ≡ Some a → Q a.res ≡ false
+      → half n areas ≡ half (n + 1) areas
   half_same n areas a e q = let on : suc n ≡ n + 1 = omega arith in half_kept n areas a e q ∙ ap (λ k. half k areas) on
 
   pub half_all : (n : ℕ) (areas : List Area) → length areas ≤ n → half n areas ≡ marked_by (λ r. P r || Q r) areas
@@ -86,17 +94,20 @@ pub mark_placed : (areas : List Area) (g : Res) (place : ℕ) (P : Res → Bool)
     → set (marked_by P areas) place true ≡ marked_by (λ r. P r || same_res r g) areas
 mark_placed areas g place P laid h =
     one_mark P (λ r. same_res r g) areas place (slice_get_within areas place h.0 h.1)
-    (λ a e. passes_of (λ r. same_res r g) true a h.0 (sym e ∙ h.1) (subst (λ r. same_res r g ≡ true) (sym h.2) (same_res_here g)))
+    (λ a e. passes_of (λ r. same_res r g) true a h.0 (sym e ∙ h.1)
+    (subst (λ r. same_res r g ≡ true) (sym h.2) (same_res_here g)))
     (λ k a n e. false_from_ne_true (same_res a.res g) (λ t. n (laid.apart k place g (a, e, same_res_is a.res g t) h)))
 
 pub mark_unplaced : (areas : List Area) (g : Res) (P : Res → Bool) → ((place : ℕ) → HasPlace areas g place → ⊥)
     → marked_by P areas ≡ marked_by (λ r. P r || same_res r g) areas
 mark_unplaced areas g P none =
     same_marks P (λ r. P r || same_res r g) areas
-    (λ k a e. or_not (P a.res) (same_res a.res g) (false_from_ne_true (same_res a.res g) (λ t. none k (a, e, same_res_is a.res g t))))
+    (λ k a e. or_not (P a.res) (same_res a.res g)
+    (false_from_ne_true (same_res a.res g) (λ t. none k (a, e, same_res_is a.res g t))))
 
 -- marks of more resources
-pub more_marks : (areas : List Area) (rs xs : List Res) (Q : Res → Bool) → ((place : ℕ) (a : Area) → slice_get areas place ≡ Some a → Q a.res ≡ is_among xs a.res)
+pub more_marks : (areas : List Area) (rs xs : List Res) (Q : Res → Bool)
+    → ((place : ℕ) (a : Area) → slice_get areas place ≡ Some a → Q a.res ≡ is_among xs a.res)
     → marked_by (λ r. is_among rs r || Q r) areas ≡ marks_of areas (rs ++ xs)
 more_marks areas rs xs Q h =
     same_marks (λ r. is_among rs r || Q r) (is_among (rs ++ xs)) areas
@@ -110,12 +121,14 @@ act_marks areas rs xs wide names is same =
     more_marks areas rs xs (covers (stock_of areas).spaces names)
     (λ place a e. same a.res ∙ covers_named areas place a.res (a, e, refl) wide ∙ ap (λ l. is_among l a.res) is)
 
-pub op_marks : (areas : List Area) (rs xs : List Res) (spaces : Spaces) (wide names : Named) → spaces ≡ (stock_of areas).spaces → resources (stock_of areas) wide ≡ xs
+pub op_marks : (areas : List Area) (rs xs : List Res) (spaces : Spaces) (wide names : Named)
+    → spaces ≡ (stock_of areas).spaces → resources (stock_of areas) wide ≡ xs
     → ((r : Res) → covers spaces names r ≡ covers spaces wide r)
     → marked_by (λ r. is_among rs r || covers spaces names r) areas ≡ marks_of areas (rs ++ xs)
 op_marks areas rs xs spaces wide names sized is =
     subst
-    (λ s. ((r : Res) → covers s names r ≡ covers s wide r) → marked_by (λ r. is_among rs r || covers s names r) areas ≡ marks_of areas (rs ++ xs))
+    (λ s. ((r : Res) → covers s names r ≡ covers s wide r)
+    → marked_by (λ r. is_among rs r || covers s names r) areas ≡ marks_of areas (rs ++ xs))
     (sym sized) (act_marks areas rs xs wide names is)
 
 -- before the first op nothing is marked
@@ -129,7 +142,8 @@ take_front [] [] = refl
 take_front [] (y ∷ ys) = refl
 take_front (x ∷ xs) ys = λ i. x ∷ take_front xs ys i
 
-pub rewritten : (areas : List Area) (rs more : List Res) (n : ℕ) (old new : List Bool) → old ≡ marks_of areas rs → n ≡ length old → new ≡ marks_of areas more
+pub rewritten : (areas : List Area) (rs more : List Res) (n : ℕ) (old new : List Bool) → old ≡ marks_of areas rs
+    → n ≡ length old → new ≡ marks_of areas more
     → take n (new ++ drop (length new) old) ≡ marks_of areas more
 rewritten areas rs more n old new was long is =
     let a = ap length was ∙ length-map areas (λ a. is_among rs a.res) in
@@ -157,12 +171,15 @@ get_at (x ∷ areas) (suc i) a e = get_at areas i a e
 pub counted : (areas : List Area) (s : Space) (i : ℕ) (a : Area) → slice_get areas i ≡ Some a → is_place s a.res ≡ true
     → place_count (take (i + 1) areas) s ≡ place_count (take i areas) s + 1
 counted areas s i a e p =
-    count_by_more_yes (λ b. is_place s b.res) areas i a (slice_get_within areas i a e) (ap (λ b. is_place s b.res) (get_at areas i a e) ∙ p)
+    count_by_more_yes (λ b. is_place s b.res) areas i a (slice_get_within areas i a e)
+    (ap (λ b. is_place s b.res) (get_at areas i a e) ∙ p)
 
-pub not_counted : (areas : List Area) (s : Space) (i : ℕ) (a : Area) → slice_get areas i ≡ Some a → is_place s a.res ≡ false
+pub not_counted : (areas : List Area) (s : Space) (i : ℕ) (a : Area) → slice_get areas i ≡ Some a
+    → is_place s a.res ≡ false
     → place_count (take (i + 1) areas) s ≡ place_count (take i areas) s
 not_counted areas s i a e p =
-    count_by_more_no (λ b. is_place s b.res) areas i a (slice_get_within areas i a e) (ap (λ b. is_place s b.res) (get_at areas i a e) ∙ p)
+    count_by_more_no (λ b. is_place s b.res) areas i a (slice_get_within areas i a e)
+    (ap (λ b. is_place s b.res) (get_at areas i a e) ∙ p)
 
 -- the places below one more
 pub range_more : (a n j : ℕ) → a + n ≡ j → range_with_len a (suc n) ≡ range_with_len a n ++ j ∷ []
@@ -173,21 +190,27 @@ range_more a (suc n) j e = ap (λ l. a ∷ l) (range_more (a + 1) n j (omega ari
 abbrev pub marked_below : List Bool → ℕ → List ℕ
 marked_below marks n = filter (λ place. get_or marks place false) (range_with_len 0 n)
 
-marked_next : (marks : List Bool) (n : ℕ) → marked_below marks (n + 1) ≡ marked_below marks n ++ filter (λ place. get_or marks place false) (n ∷ [])
+marked_next : (marks : List Bool) (n : ℕ)
+    → marked_below marks (n + 1) ≡ marked_below marks n ++ filter (λ place. get_or marks place false) (n ∷ [])
 marked_next marks n =
     let on : n + 1 ≡ suc n = omega arith in
     ap (marked_below marks) on ∙ ap (filter (λ place. get_or marks place false)) (range_more 0 n n (omega arith))
     ∙ filter-append (λ place. get_or marks place false) (range_with_len 0 n) (n ∷ [])
 
-pub marked_more : (marks : List Bool) (n : ℕ) → get_or marks n false ≡ true → marked_below marks n ++ n ∷ [] ≡ marked_below marks (n + 1)
-marked_more marks n e = sym (marked_next marks n ∙ ap (λ l. marked_below marks n ++ l) (cond-true (get_or marks n false) (n ∷ []) [] e))
+pub marked_more : (marks : List Bool) (n : ℕ) → get_or marks n false ≡ true
+    → marked_below marks n ++ n ∷ [] ≡ marked_below marks (n + 1)
+marked_more marks n e = sym
+    (marked_next marks n ∙ ap (λ l. marked_below marks n ++ l) (cond-true (get_or marks n false) (n ∷ []) [] e))
 
-pub marked_same : (marks : List Bool) (n : ℕ) → get_or marks n false ≡ false → marked_below marks n ≡ marked_below marks (n + 1)
+pub marked_same : (marks : List Bool) (n : ℕ) → get_or marks n false ≡ false
+    → marked_below marks n ≡ marked_below marks (n + 1)
 marked_same marks n e =
-    sym (marked_next marks n ∙ ap (λ l. marked_below marks n ++ l) (cond-false (get_or marks n false) (n ∷ []) [] e) ∙ append-nil (marked_below marks n))
+    sym (marked_next marks n ∙ ap (λ l. marked_below marks n ++ l) (cond-false (get_or marks n false) (n ∷ []) [] e)
+    ∙ append-nil (marked_below marks n))
 
 -- the marked places are those of the resources
-mark_at : (areas : List Area) (rs : List Res) (place : ℕ) → get_or (marks_of areas rs) place false ≡ is_of_one rs (slice_get areas place)
+mark_at : (areas : List Area) (rs : List Res) (place : ℕ)
+    → get_or (marks_of areas rs) place false ≡ is_of_one rs (slice_get areas place)
 mark_at [] rs place = refl
 mark_at (a ∷ areas) rs zero = refl
 mark_at (a ∷ areas) rs (suc place) = mark_at areas rs place

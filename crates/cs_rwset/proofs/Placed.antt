@@ -1,5 +1,6 @@
 -- Which places are listed, of the areas of some resources.
-use Rattle.std.proofs.Common.{◌≡◌, ◌<◌, ◌+◌, ◌⊎◌, ℕ, zero, suc, List, [], ◌∷◌, map, length, get_or, slice_get, Option, Some, None, Bool, true, false, refl, sym, ap, subst, arith, ⊎_elim, inl, inr}
+use Rattle.std.proofs.Common.{◌≡◌, ◌<◌, ◌+◌, ◌⊎◌, ℕ, zero, suc, List, [], ◌∷◌, map, length, get_or, slice_get, Option}
+use Rattle.std.proofs.Common.{Some, None, Bool, true, false, refl, sym, ap, subst, arith, ⊎_elim, inl, inr}
 use Rattle.std.specs.List.{Contains, filter, range_with_len}
 use Rattle.std.specs.List.Sorted.{IsStrictlyIncreasing}
 use Rattle.std.proofs.lemmas.Bool.{cond_both, or_cases, or_left, or_right}
@@ -63,9 +64,15 @@ module _ {X : Type 0} (test : X → Bool) where
   pub filter_contains : (xs : List X) (x : X) → Contains (filter test xs) x → Contains xs x × (test x ≡ true)
   filter_contains [] x h = absurd (contains_none x h)
   filter_contains (y ∷ xs) x h =
-      cond_both (test y) (y ∷ filter test xs) (filter test xs) (λ l. Contains l x → Contains (y ∷ xs) x × (test x ≡ true))
-      (λ e k. ⊎_elim (λ same. (subst (λ z. Contains (z ∷ xs) x) (sym same) (contains_first x xs), subst (λ z. test z ≡ true) same e))
-      (λ t. let later = filter_contains xs x t in (contains_rest y x xs later.0, later.1)) (contains_cases y x (filter test xs) k))
+      cond_both (test y) (y ∷ filter test xs) (filter test xs)
+      (λ l. Contains l x → Contains (y ∷ xs) x × (test x ≡ true))
+      (λ e k. ⊎_elim (λ same. (
+        subst (λ z. Contains (z ∷ xs) x) (sym same) (contains_first x xs),
+        subst
+            (λ z. test z ≡ true) same e,
+      ))
+      (λ t. let later = filter_contains xs x t in (contains_rest y x xs later.0, later.1))
+      (contains_cases y x (filter test xs) k))
       (λ e k. let later = filter_contains xs x k in (contains_rest y x xs later.0, later.1)) h
 
   pub contains_filter : (xs : List X) (x : X) → Contains xs x → test x ≡ true → Contains (filter test xs) x
@@ -74,10 +81,12 @@ module _ {X : Type 0} (test : X → Bool) where
       cond_both (test y) (y ∷ filter test xs) (filter test xs) (λ l. Contains l x)
       (λ t. ⊎_elim (λ same. subst (λ z. Contains (z ∷ filter test xs) x) (sym same) (contains_first x (filter test xs)))
       (λ later. contains_rest y x (filter test xs) (contains_filter xs x later e)) (contains_cases y x xs h))
-      (λ f. ⊎_elim (λ same. absurd (let g : test x ≡ false = subst (λ z. test z ≡ false) same f in cc)) (λ later. contains_filter xs x later e) (contains_cases y x xs h))
+      (λ f. ⊎_elim (λ same. absurd (let g : test x ≡ false = subst (λ z. test z ≡ false) same f in cc))
+      (λ later. contains_filter xs x later e) (contains_cases y x xs h))
 
 -- elements of a list that a function makes
-pub map_contains : {X Y : Type 0} (f : X → Y) (xs : List X) (y : Y) → Contains (map f xs) y → (x : X) × Contains xs x × (f x ≡ y)
+pub map_contains : {X Y : Type 0} (f : X → Y) (xs : List X) (y : Y) → Contains (map f xs) y
+    → (x : X) × Contains xs x × (f x ≡ y)
 map_contains f [] y h = absurd (contains_none y h)
 map_contains f (x ∷ xs) y h =
     ⊎_elim (λ same. (x, contains_first x xs, same))
@@ -98,7 +107,8 @@ range_contains n x h =
     let e = get_or-range_with_len 0 n h.0 x l in let f = h.2 in omega (arith, e, f)
 
 pub contains_range : (n x : ℕ) → x < n → Contains (range_with_len 0 n) x
-contains_range n x l = let long = length-range_with_len 0 n in let e = get_or-range_with_len 0 n x x l in (x, omega (arith, long), omega (arith, e))
+contains_range n x l = let long = length-range_with_len 0 n in let e =
+    get_or-range_with_len 0 n x x l in (x, omega (arith, long), omega (arith, e))
 
 pub range_ascends : (n : ℕ) → IsStrictlyIncreasing (range_with_len 0 n)
 range_ascends n k l =
@@ -107,31 +117,38 @@ range_ascends n k l =
     let b = get_or-range_with_len 0 n (k + 1) 0 (omega (arith, long)) in
     omega (arith, a, b)
 
-one_of_is : (rs : List Res) (o : Option Area) → is_of_one rs o ≡ true → (a : Area) × (o ≡ Some a) × (is_among rs a.res ≡ true)
+one_of_is : (rs : List Res) (o : Option Area) → is_of_one rs o ≡ true
+    → (a : Area) × (o ≡ Some a) × (is_among rs a.res ≡ true)
 one_of_is rs None h = absurd cc
 one_of_is rs (Some a) h = (a, refl, h)
 
 -- a place is listed exactly where its area is of one of the resources
-pub places_exact : (areas : List Area) (rs : List Res) (place : ℕ) → Contains (places_holding areas rs) place → (r : Res) × Contains rs r × HasPlace areas r place
+pub places_exact : (areas : List Area) (rs : List Res) (place : ℕ) → Contains (places_holding areas rs) place
+    → (r : Res) × Contains rs r × HasPlace areas r place
 places_exact areas rs place h =
     let passed = filter_contains (λ p. is_of_one rs (slice_get areas p)) (range_with_len 0 (length areas)) place h in
     let area = one_of_is rs (slice_get areas place) passed.1 in
     (area.0.res, among_contains rs area.0.res area.2, (area.0, area.1, refl))
 
-pub exact_places : (areas : List Area) (rs : List Res) (place : ℕ) (r : Res) → Contains rs r → HasPlace areas r place → Contains (places_holding areas rs) place
+pub exact_places : (areas : List Area) (rs : List Res) (place : ℕ) (r : Res) → Contains rs r → HasPlace areas r place
+    → Contains (places_holding areas rs) place
 exact_places areas rs place r c h =
     contains_filter (λ p. is_of_one rs (slice_get areas p)) (range_with_len 0 (length areas)) place
     (contains_range (length areas) place (slice_get_within areas place h.0 h.1))
     (subst (λ o. is_of_one rs o ≡ true) (sym h.1) (contains_among rs h.0.res (subst (λ x. Contains rs x) (sym h.2) c)))
 
 pub places_ascend : (areas : List Area) (rs : List Res) → IsStrictlyIncreasing (places_holding areas rs)
-places_ascend areas rs = IsStrictlyIncreasing-filter (λ p. is_of_one rs (slice_get areas p)) (range_with_len 0 (length areas)) (range_ascends (length areas))
+places_ascend areas rs =
+    IsStrictlyIncreasing-filter (λ p. is_of_one rs (slice_get areas p)) (range_with_len 0 (length areas))
+    (range_ascends (length areas))
 
-pub places_within_areas : (areas : List Area) (rs : List Res) (place : ℕ) → Contains (places_holding areas rs) place → place < length areas
+pub places_within_areas : (areas : List Area) (rs : List Res) (place : ℕ) → Contains (places_holding areas rs) place
+    → place < length areas
 places_within_areas areas rs place h = let e = places_exact areas rs place h in slice_get_within areas place e.2.0 e.2.1
 
 -- what is placed of some resources is placed of more
-pub places_of_more : (areas : List Area) (rs more : List Res) (place : ℕ) → ((r : Res) → Contains rs r → Contains more r) → Contains (places_holding areas rs) place
+pub places_of_more : (areas : List Area) (rs more : List Res) (place : ℕ)
+    → ((r : Res) → Contains rs r → Contains more r) → Contains (places_holding areas rs) place
     → Contains (places_holding areas more) place
 places_of_more areas rs more place up h =
     let e = places_exact areas rs place h in exact_places areas more place e.0 (up e.0 e.1) e.2

@@ -8,7 +8,8 @@ use Rattle.cs_ir.specs.declared.op.Act.{Act}
 use Rattle.cs_ir.specs.declared.op.Op.{Op}
 use Rattle.cs_rwset.specs.Footprints.{stock_of, places_holding}
 
--- the variable gk1, the first channel, three places of the zak space of control values, and tables 1 and 2 of four points
+-- the variable gk1, the first channel, three places of the zak space of control values, and tables 1 and 2 of four
+-- points
 abbrev pub seven_areas : List Area
 seven_areas =
     record { res = Gk 0; first = 0; length = 1 }

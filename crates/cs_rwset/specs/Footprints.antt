@@ -24,7 +24,8 @@ abbrev pub table_number : Res → Option ℕ
 table_number (res.Table n) = Some n
 table_number _ = None
 
--- what a layout has beside variables and channels: as many places of each zak space as have an area, and the tables that have one
+-- what a layout has beside variables and channels: as many places of each zak space as have an area, and the tables
+-- that have one
 abbrev pub stock_of : List Area → Stock
 stock_of areas = record {
   spaces = record { control = place_count areas space.Control; audio = place_count areas space.Audio };
@@ -42,4 +43,5 @@ is_of_one resources (Some area) = is_among resources area.res
 
 -- the places, ascending, of the areas whose resource is one of these
 abbrev pub places_holding : List Area → List Res → List ℕ
-places_holding areas resources = filter (λ place. is_of_one resources (slice_get areas place)) (range_with_len 0 (length areas))
+places_holding areas resources =
+    filter (λ place. is_of_one resources (slice_get areas place)) (range_with_len 0 (length areas))

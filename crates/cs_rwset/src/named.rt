@@ -97,10 +97,10 @@ impl Named {
     {
         match self {
             Named::Tables(Reach::Span(first, last)) if first == last => {
-                Named::One(Res::Table(first))
+                Named::One(Res::Table(first as usize))
             }
             Named::Places(space, Reach::Span(first, last)) if first == last => {
-                narrowed_place(space, first, spaces)
+                narrowed_place(space, first as usize, spaces)
             }
             _ => self,
         }

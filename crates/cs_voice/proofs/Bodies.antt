@@ -16,10 +16,12 @@ use Rattle.cs_machine.specs.States.{CanDo, MayTouch}
 
 -- ---- what a voice may touch lets each of its ops be done
 
-module _ (s : Sheet) (can_get can_set : ℕ → Type 0) (count : ℕ) (get : (a : ℕ) → may_use s a ≡ true → can_get a) (set : (a : ℕ) → may_write s a ≡ true → can_set a)
+module _ (s : Sheet) (can_get can_set : ℕ → Type 0) (count : ℕ) (get : (a : ℕ) → may_use s a ≡ true → can_get a)
+    (set : (a : ℕ) → may_write s a ≡ true → can_set a)
     (within : (a : ℕ) → may_use s a ≡ true → a < count) where
   may_get : (g : Res) → IsUsed s g → MayTouch can_get count s.areas g
-  may_get g (area, is, used) = (area, is, record { can = λ a here. get a (used a here); within = λ a here. within a (used a here) })
+  may_get g (area, is, used) =
+      (area, is, record { can = λ a here. get a (used a here); within = λ a here. within a (used a here) })
 
   may_set : (g : Res) → IsUsed s g → IsWritten s g → MayTouch can_set count s.areas g
   may_set g (area, is, used) w = (
@@ -35,27 +37,33 @@ module _ (s : Sheet) (can_get can_set : ℕ → Type 0) (count : ℕ) (get : (a 
   each_get [] h = tt
   each_get (g ∷ gs) h = (may_get g h.0, each_get gs h.1)
 
-  each_set : (gs : List Res) → AreNamed (IsUsed s) gs → AreNamed (IsWritten s) gs → AreNamed (MayTouch can_set count s.areas) gs
+  each_set : (gs : List Res) → AreNamed (IsUsed s) gs → AreNamed (IsWritten s) gs
+      → AreNamed (MayTouch can_set count s.areas) gs
   each_set [] h w = tt
   each_set (g ∷ gs) h w = (may_set g h.0 w.0, each_set gs h.1 w.1)
 
-  if_set : (b : Bool) (gs : List Res) → AreNamed (IsUsed s) gs → AreNamed (IsWritten s) (if b then gs else []) → AreNamed (MayTouch can_set count s.areas) (if b then gs else [])
+  if_set : (b : Bool) (gs : List Res) → AreNamed (IsUsed s) gs → AreNamed (IsWritten s) (if b then gs else [])
+      → AreNamed (MayTouch can_set count s.areas) (if b then gs else [])
   if_set true gs h w = each_set gs h w
   if_set false gs h w = tt
 
-  can_do : (stock : Stock) (kinds : Kinds) (t : Act) (r : Rate) → ActNamed stock kinds (IsUsed s) t r → AreNamed (IsWritten s) (act_writes stock t)
+  can_do : (stock : Stock) (kinds : Kinds) (t : Act) (r : Rate) → ActNamed stock kinds (IsUsed s) t r
+      → AreNamed (IsWritten s) (act_writes stock t)
       → CanDo can_get can_set count s.areas stock t
   can_do stock kinds (act.Load g) r h w = record { uses = (may_get g h, tt); writes = tt }
   can_do stock kinds (act.Save g) r h w = record { uses = (may_get g h.0, tt); writes = (may_set g h.0 w.0, tt) }
-  can_do stock kinds (act.Unit opcode u reach) r h w = record { uses = each_get (unit_uses stock opcode reach) h.1; writes = tt }
-  can_do stock kinds (act.Store opcode reach) r h w = record { uses = each_get (tables_within stock reach) h; writes = each_set (tables_within stock reach) h w }
+  can_do stock kinds (act.Unit opcode u reach) r h w =
+      record { uses = each_get (unit_uses stock opcode reach) h.1; writes = tt }
+  can_do stock kinds (act.Store opcode reach) r h w =
+      record { uses = each_get (tables_within stock reach) h; writes = each_set (tables_within stock reach) h w }
   can_do stock kinds (act.Zak opcode reach) r h w = record {
     uses = each_get (zak_uses stock opcode reach) h;
     writes = if_set (writes_places (row_of opcode).shape) (zak_uses stock opcode reach) h w;
   }
   can_do stock kinds _ r h w = record { uses = tt; writes = tt }
 
-  pub can_all : (stock : Stock) (kinds : Kinds) (ops : List Op) → OpsNamed stock kinds (IsUsed s) ops → OpsWritten stock (IsWritten s) ops
+  pub can_all : (stock : Stock) (kinds : Kinds) (ops : List Op) → OpsNamed stock kinds (IsUsed s) ops
+      → OpsWritten stock (IsWritten s) ops
       → AllByRecursion (λ (op : Op). CanDo can_get can_set count s.areas stock op.act) ops
   can_all stock kinds [] h w = tt
   can_all stock kinds (op ∷ ops) h w = (can_do stock kinds op.act op.into.rate h.0 w.0, can_all stock kinds ops h.1 w.1)
@@ -69,7 +77,8 @@ module _ (s : Sheet) where
   each_area [] h = tt
   each_area (g ∷ gs) h = (has_area g h.0, each_area gs h.1)
 
-  act_area : (stock : Stock) (kinds : Kinds) (t : Act) (r : Rate) → ActNamed stock kinds (IsUsed s) t r → ActNamed stock kinds (HasArea s.areas) t r
+  act_area : (stock : Stock) (kinds : Kinds) (t : Act) (r : Rate) → ActNamed stock kinds (IsUsed s) t r
+      → ActNamed stock kinds (HasArea s.areas) t r
   act_area stock kinds (act.Load g) r h = has_area g h
   act_area stock kinds (act.Save g) r h = (has_area g h.0, h.1)
   act_area stock kinds (act.Start opcode u) r h = h
@@ -78,6 +87,7 @@ module _ (s : Sheet) where
   act_area stock kinds (act.Zak opcode reach) r h = each_area (zak_uses stock opcode reach) h
   act_area stock kinds _ r h = tt
 
-  pub all_areas : (stock : Stock) (kinds : Kinds) (ops : List Op) → OpsNamed stock kinds (IsUsed s) ops → OpsNamed stock kinds (HasArea s.areas) ops
+  pub all_areas : (stock : Stock) (kinds : Kinds) (ops : List Op) → OpsNamed stock kinds (IsUsed s) ops
+      → OpsNamed stock kinds (HasArea s.areas) ops
   all_areas stock kinds [] h = tt
   all_areas stock kinds (op ∷ ops) h = (act_area stock kinds op.act op.into.rate h.0, all_areas stock kinds ops h.1)

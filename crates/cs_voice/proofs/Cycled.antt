@@ -1,5 +1,6 @@
 -- What a cycle makes of the parts of a voice.
-use Rattle.std.proofs.Common.{◌≡◌, ℕ, zero, suc, ℤ, pos, ◌-◌, ◌<◌, List, [], ◌∷◌, length, map, slice_index_or, Option, None, refl, sym, ◌∙◌, ap, subst, arith}
+use Rattle.std.proofs.Common.{◌≡◌, ℕ, zero, suc, ℤ, pos, ◌-◌, ◌<◌, List, [], ◌∷◌, length, map, slice_index_or, Option}
+use Rattle.std.proofs.Common.{None, refl, sym, ◌∙◌, ap, subst, arith}
 use Rattle.std.specs.List.{AllByRecursion, range_with_len}
 use Rattle.std.specs.Option.{option_map}
 use Rattle.std.proofs.lemmas.List.{length-map, ext_get_or}
@@ -40,26 +41,32 @@ use Rattle.cs_voice.specs.inner.Rooms.{listed_at}
 pub units_are : (ps : List (Option PlayerData)) → units_in (map (option_map playing) ps) ≡ unit_at ps
 units_are ps = λ t u. at ps u t
   where
-    at : (ps : List (Option PlayerData)) (u : ℕ) → slice_index_or (map (option_map playing) ps) u None ≡ option_map playing (slice_index_or ps u None)
+    at : (ps : List (Option PlayerData)) (u : ℕ)
+        → slice_index_or (map (option_map playing) ps) u None ≡ option_map playing (slice_index_or ps u None)
     at [] u = refl
     at (p ∷ ps) zero = refl
     at (p ∷ ps) (suc u) = at ps u
 
-listed_units : (ps : List (Option PlayerData)) (n : ℕ) → length ps ≡ n → map (unit_at ps) (range_with_len 0 n) ≡ map (option_map playing) ps
+listed_units : (ps : List (Option PlayerData)) (n : ℕ) → length ps ≡ n
+    → map (unit_at ps) (range_with_len 0 n) ≡ map (option_map playing) ps
 listed_units ps n long =
     ext_get_or None (map (unit_at ps) (range_with_len 0 n)) (map (option_map playing) ps)
     (length-map-range_with_len (unit_at ps) 0 n ∙ sym long ∙ sym (length-map ps (option_map playing)))
-    (λ u low. listed_at (unit_at ps) n None u (let e : length (map (unit_at ps) (range_with_len 0 n)) ≡ n = length-map-range_with_len (unit_at ps) 0 n in omega (arith, low, e))
+    (λ u low. listed_at (unit_at ps) n None u
+    (let e : length (map (unit_at ps) (range_with_len 0 n)) ≡ n =
+    length-map-range_with_len (unit_at ps) 0 n in omega (arith, low, e))
     ∙ sym (ap (λ f. f u) (units_are ps)))
 
 -- what registers hold fills as many others alike
-filled_alike : (f g : RegisterFile) → f.counts ≡ g.counts → f.ksmps ≡ g.ksmps → filled g (values g) ≡ g → filled f (values g) ≡ g
+filled_alike : (f g : RegisterFile) → f.counts ≡ g.counts → f.ksmps ≡ g.ksmps → filled g (values g) ≡ g
+    → filled f (values g) ≡ g
 filled_alike f g counts frames whole =
     ap (λ n. filled (record f { counts = n }) (values g)) counts
     ∙ ap (λ n. filled (record f { counts = g.counts; ksmps = n }) (values g)) frames
     ∙ whole
 
-refilled_alike : (f g : ChannelFile) → length f.rows ≡ length g.rows → f.ksmps ≡ g.ksmps → refilled g (outs g) ≡ g → refilled f (outs g) ≡ g
+refilled_alike : (f g : ChannelFile) → length f.rows ≡ length g.rows → f.ksmps ≡ g.ksmps → refilled g (outs g) ≡ g
+    → refilled f (outs g) ≡ g
 refilled_alike f g long frames whole =
     ap (λ n. record g { rows = map (λ c. row_of f.ksmps (outs g c)) (range_with_len 0 n); ksmps = f.ksmps }) long
     ∙ ap (λ n. record g { rows = map (λ c. row_of n (outs g c)) (range_with_len 0 (length g.rows)); ksmps = n }) frames
@@ -74,7 +81,13 @@ module _ (number age : ℕ) (stage : Stage) (foot : Footprint) (code : Code) (fi
 
   -- what the code of a voice is run in
   abbrev pub context : (s : State) → Kept s → Context
-  context s h = record { piece = piece_of (voice s); stock = h.voice.playable.stock; kinds = h.voice.playable.kinds; counts = code.counts }
+  context s h = record {
+    piece = piece_of (voice s);
+    stock = h.voice.playable.stock;
+    kinds =
+        h.voice.playable.kinds;
+    counts = code.counts;
+  }
 
   -- a state whose channels are silent, for the same code
   pub cleared : (s : State) (h : Kept s) (o : ChannelFile) → length o.rows ≡ length s.outs.rows → o.ksmps ≡ s.outs.ksmps
@@ -91,8 +104,10 @@ module _ (number age : ℕ) (stage : Stage) (foot : Footprint) (code : Code) (fi
 
   -- the code of a voice can be run over a bank that has what the voice may touch
   pub can_run : (can_get can_set : ℕ → Type 0) (count : ℕ) (s : State) (h : Kept s) (at : Setting) (t : State)
-      → ((a : ℕ) → Uses voice_job (voice s) a → can_get a) → ((a : ℕ) → Writes voice_job (voice s) a → can_set a) → ((a : ℕ) → Uses voice_job (voice s) a → a < count)
-      → at.layout.now ≡ stage.layout.now → at.head.now ≡ stage.head.now → at.spaces ≡ stage.spaces → at.fields.now ≡ fields
+      → ((a : ℕ) → Uses voice_job (voice s) a → can_get a) → ((a : ℕ) → Writes voice_job (voice s) a → can_set a)
+      → ((a : ℕ) → Uses voice_job (voice s) a → a < count)
+      → at.layout.now ≡ stage.layout.now → at.head.now ≡ stage.head.now → at.spaces ≡ stage.spaces
+      → at.fields.now ≡ fields
       → IsStateIn stage.layout.now (piece_of (voice s)) h.voice.playable.kinds code.counts t
       → CanRun can_get can_set count at (context s h) code.ops.items t
   can_run can_get can_set count s h at t get set within layout head zak given st =
@@ -110,16 +125,20 @@ module _ (number age : ℕ) (stage : Stage) (foot : Footprint) (code : Code) (fi
         placed = subst (λ l. IsPlaced l p.stock (piece_of (voice s))) (sym layout) p.placed;
         state = subst (λ l. IsStateIn l (piece_of (voice s)) p.kinds code.counts t) (sym layout) st;
         fine = h.voice.code;
-        named = subst (λ l. OpsNamed p.stock p.kinds (HasArea l) code.ops.items) (sym layout) (all_areas sh p.stock p.kinds code.ops.items p.perf_uses);
+        named = subst (λ l. OpsNamed p.stock p.kinds (HasArea l) code.ops.items) (sym layout)
+            (all_areas sh p.stock p.kinds code.ops.items p.perf_uses);
         channels = p.perf_channels;
         acts = p.perf_acts;
-        can = subst (λ l. AllByRecursion (λ (op : Op). CanDo can_get can_set count l p.stock op.act) code.ops.items) (sym layout)
+        can = subst (λ l. AllByRecursion (λ (op : Op). CanDo can_get can_set count l p.stock op.act) code.ops.items)
+            (sym layout)
             (can_all sh can_get can_set count get set within p.stock p.kinds code.ops.items p.perf_uses p.perf_writes);
       }
 
   -- a cycle was run
-  module _ (s : State) (h : Kept s) (o : ChannelFile) (silent : outs o ≡ (λ n. silence)) (t : State) (areas : List Area) (same : areas ≡ stage.layout.now) (c d : Cells)
-      (ran : HasRun areas (context s h) code.ops.items (record s { outs = o }) (cell c) t (cell d)) (all_registers : filled t.regs (values t.regs) ≡ t.regs)
+  module _ (s : State) (h : Kept s) (o : ChannelFile) (silent : outs o ≡ (λ n. silence)) (t : State) (areas : List Area)
+      (same : areas ≡ stage.layout.now) (c d : Cells)
+      (ran : HasRun areas (context s h) code.ops.items (record s { outs = o }) (cell c) t (cell d))
+      (all_registers : filled t.regs (values t.regs) ≡ t.regs)
       (all_channels : refilled t.outs (outs t.outs) ≡ t.outs) where
     begin : begins (sounding (voice s)) (cell c) ≡ machine_of (record s { outs = o }) (cell c) 0 [] None
     begin = λ i. record {
@@ -140,7 +159,8 @@ module _ (number age : ℕ) (stage : Stage) (foot : Footprint) (code : Code) (fi
     end : machine_of t (cell d) ran.next [] None ≡ cycle (sounding (voice s)) (cell c)
     end =
         ran.machine
-        ∙ ap (λ l. run (voice_world l (piece_of (voice s))) 0 code.ops.items (machine_of (record s { outs = o }) (cell c) 0 [] None)) same
+        ∙ ap (λ l. run (voice_world l (piece_of (voice s))) 0 code.ops.items
+        (machine_of (record s { outs = o }) (cell c) 0 [] None)) same
         ∙ ap (run (voice_world stage.layout.now (piece_of (voice s))) 0 code.ops.items) (sym begin)
 
     done : voice_of (sheet_of (voice s)) (machine_of t (cell d) ran.next [] None) ≡ performed (sounding (voice s)) c
@@ -151,13 +171,16 @@ module _ (number age : ℕ) (stage : Stage) (foot : Footprint) (code : Code) (fi
     job = sym (
         ap (taking (voice s)) (sym done)
         ∙ (λ i. record (voice t) {
-          regs = filled_alike s.regs t.regs (h.state.registers ∙ sym ran.state.registers) (h.state.frames ∙ sym ran.state.frames) all_registers i;
+          regs = filled_alike s.regs t.regs (h.state.registers ∙ sym ran.state.registers)
+              (h.state.frames ∙ sym ran.state.frames) all_registers i;
           units = units i;
-          outs = refilled_alike s.outs t.outs (h.state.channels ∙ sym ran.state.channels) (h.state.channel_frames ∙ sym ran.state.channel_frames) all_channels i;
+          outs = refilled_alike s.outs t.outs (h.state.channels ∙ sym ran.state.channels)
+              (h.state.channel_frames ∙ sym ran.state.channel_frames) all_channels i;
         })
         )
       where
-        units : map (unit_at t.players.items) (range_with_len 0 (length (voice s).units)) ≡ map (option_map playing) t.players.items
+        units : map (unit_at t.players.items) (range_with_len 0 (length (voice s).units)) ≡ map (option_map playing)
+            t.players.items
         units = listed_units t.players.items (length (voice s).units) (ran.state.units ∙ sym h.voice.units)
 
     -- and the cells are those that it leaves
@@ -186,18 +209,27 @@ module _ (number age : ℕ) (stage : Stage) (foot : Footprint) (code : Code) (fi
     }
 
   -- a body runs: its channels are cleared, its code is run in a setting, and its registers and channels are asked
-  module _ (s : State) (h : Kept s) (u : State) (silent : outs u.outs ≡ (λ n. silence)) (long : length u.outs.rows ≡ length s.outs.rows)
+  module _ (s : State) (h : Kept s) (u : State) (silent : outs u.outs ≡ (λ n. silence))
+      (long : length u.outs.rows ≡ length s.outs.rows)
       (frames : u.outs.ksmps ≡ s.outs.ksmps) (same : u ≡ record s { outs = u.outs })
-      (at : Setting) (layout : at.layout.now ≡ stage.layout.now) (head : at.head.now ≡ stage.head.now) (zak : at.spaces ≡ stage.spaces)
-      (given : at.fields.now ≡ fields) (ops : List Op) (is : ops ≡ code.ops.items) (can_get can_set : ℕ → Type 0) (count : ℕ)
-      (get : (a : ℕ) → Uses voice_job (voice s) a → can_get a) (set : (a : ℕ) → Writes voice_job (voice s) a → can_set a) (within : (a : ℕ) → Uses voice_job (voice s) a → a < count) where
+      (at : Setting) (layout : at.layout.now ≡ stage.layout.now) (head : at.head.now ≡ stage.head.now)
+      (zak : at.spaces ≡ stage.spaces)
+      (given : at.fields.now ≡ fields) (ops : List Op) (is : ops ≡ code.ops.items) (can_get can_set : ℕ → Type 0)
+      (count : ℕ)
+      (get : (a : ℕ) → Uses voice_job (voice s) a → can_get a)
+      (set : (a : ℕ) → Writes voice_job (voice s) a → can_set a)
+      (within : (a : ℕ) → Uses voice_job (voice s) a → a < count) where
     pub able : CanRun can_get can_set count at (context s h) ops u
     able = subst (λ l. CanRun can_get can_set count at (context s h) l u) (sym is)
         (subst (λ z. CanRun can_get can_set count at (context s h) code.ops.items z) (sym same)
-        (can_run can_get can_set count s h at (record s { outs = u.outs }) get set within layout head zak given (cleared s h u.outs long frames)))
+        (can_run can_get can_set count s h at (record s { outs = u.outs }) get set within layout head zak given
+        (cleared s h u.outs long frames)))
 
-    module _ (t : State) (c d : Cells) (run : (x : Context) → CanRun can_get can_set count at x ops u → HasRun at.layout.now x ops u (cell c) t (cell d))
-        (all_registers : filled t.regs (values t.regs) ≡ t.regs) (all_channels : refilled t.outs (outs t.outs) ≡ t.outs) where
+    module _ (t : State) (c d : Cells)
+        (run : (x : Context) → CanRun can_get can_set count at x ops u
+        → HasRun at.layout.now x ops u (cell c) t (cell d))
+        (all_registers : filled t.regs (values t.regs) ≡ t.regs)
+        (all_channels : refilled t.outs (outs t.outs) ≡ t.outs) where
       ran : HasRun at.layout.now (context s h) code.ops.items (record s { outs = u.outs }) (cell c) t (cell d)
       ran = subst (λ z. HasRun at.layout.now (context s h) code.ops.items z (cell c) t (cell d)) same
           (subst (λ l. HasRun at.layout.now (context s h) l u (cell c) t (cell d)) is (run (context s h) able))

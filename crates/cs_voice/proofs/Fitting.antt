@@ -1,5 +1,6 @@
 -- What an op of a valid code has: its registers, as many operands as its act takes, and their rates.
-use Rattle.std.proofs.Common.{◌≡◌, ℕ, ◌<◌, Bool, true, false, not, ◌&&◌, ◌||◌, List, [], ◌∷◌, length, refl, sym, ◌∙◌, ap, subst, ltb-true}
+use Rattle.std.proofs.Common.{◌≡◌, ℕ, ◌<◌, Bool, true, false, not, ◌&&◌, ◌||◌, List, [], ◌∷◌, length, refl, sym, ◌∙◌}
+use Rattle.std.proofs.Common.{ap, subst, ltb-true}
 use Rattle.std.specs.List.{list_all}
 use Rattle.std.proofs.lemmas.Bool.{and_parts}
 use Rattle.cs_base.specs.Rates.{is_audio, within}
@@ -29,32 +30,47 @@ written_there false b h e = absurd (cc)
 
 pub parts : (counts : Counts) (end place : ℕ) (op : Op) → is_fine counts end place op ≡ true → Parts counts op
 parts counts end place op h =
-    let abc = and_parts ((not (writes op.act) || has_register counts op.into) && list_all (has_register counts) op.from && finds counts end place op.act) (takes_from op.act op.into.rate op.from) h in
-    let ab = and_parts ((not (writes op.act) || has_register counts op.into) && list_all (has_register counts) op.from) (finds counts end place op.act) abc.0 in
-    let a = and_parts (not (writes op.act) || has_register counts op.into) (list_all (has_register counts) op.from) ab.0 in
+    let abc = and_parts ((not (writes op.act) || has_register counts op.into) && list_all (has_register counts) op.from
+    && finds counts end place op.act) (takes_from op.act op.into.rate op.from) h in
+    let ab = and_parts ((not (writes op.act) || has_register counts op.into) && list_all (has_register counts) op.from)
+    (finds counts end place op.act) abc.0 in
+    let a = and_parts (not (writes op.act) || has_register counts op.into) (list_all (has_register counts) op.from)
+    ab.0 in
     record {
       into = λ w. written_there (writes op.act) (has_register counts op.into) a.0 w;
       from = a.1;
       takes = abc.1;
     }
 
-pub found : (counts : Counts) (end place : ℕ) (op : Op) → is_fine counts end place op ≡ true → finds counts end place op.act ≡ true
+pub found : (counts : Counts) (end place : ℕ) (op : Op) → is_fine counts end place op ≡ true
+    → finds counts end place op.act ≡ true
 found counts end place op h =
-    let abc = and_parts ((not (writes op.act) || has_register counts op.into) && list_all (has_register counts) op.from && finds counts end place op.act) (takes_from op.act op.into.rate op.from) h in
-    (and_parts ((not (writes op.act) || has_register counts op.into) && list_all (has_register counts) op.from) (finds counts end place op.act) abc.0).1
+    let abc = and_parts ((not (writes op.act) || has_register counts op.into) && list_all (has_register counts) op.from
+    && finds counts end place op.act) (takes_from op.act op.into.rate op.from) h in
+    (and_parts ((not (writes op.act) || has_register counts op.into) && list_all (has_register counts) op.from)
+    (finds counts end place op.act) abc.0).1
 
 -- ---- operands by number
 
-pub first_there : (counts : Counts) (from : List Reg) (x : Reg) (rest : List Reg) → list_all (has_register counts) from ≡ true → from ≡ x ∷ rest → has_register counts x ≡ true
-first_there counts from x rest h e = (and_parts (has_register counts x) (list_all (has_register counts) rest) (ap (list_all (has_register counts)) (sym e) ∙ h)).0
+pub first_there : (counts : Counts) (from : List Reg) (x : Reg) (rest : List Reg)
+    → list_all (has_register counts) from ≡ true → from ≡ x ∷ rest → has_register counts x ≡ true
+first_there counts from x rest h e =
+    (and_parts (has_register counts x) (list_all (has_register counts) rest)
+    (ap (list_all (has_register counts)) (sym e) ∙ h)).0
 
-pub second_there : (counts : Counts) (from : List Reg) (x y : Reg) (rest : List Reg) → list_all (has_register counts) from ≡ true → from ≡ x ∷ y ∷ rest → has_register counts y ≡ true
+pub second_there : (counts : Counts) (from : List Reg) (x y : Reg) (rest : List Reg)
+    → list_all (has_register counts) from ≡ true → from ≡ x ∷ y ∷ rest → has_register counts y ≡ true
 second_there counts from x y rest h e =
-    first_there counts (y ∷ rest) y rest (and_parts (has_register counts x) (list_all (has_register counts) (y ∷ rest)) (ap (list_all (has_register counts)) (sym e) ∙ h)).1 refl
+    first_there counts (y ∷ rest) y rest
+    (and_parts (has_register counts x) (list_all (has_register counts) (y ∷ rest))
+    (ap (list_all (has_register counts)) (sym e) ∙ h)).1 refl
 
-pub third_there : (counts : Counts) (from : List Reg) (x y z : Reg) (rest : List Reg) → list_all (has_register counts) from ≡ true → from ≡ x ∷ y ∷ z ∷ rest → has_register counts z ≡ true
+pub third_there : (counts : Counts) (from : List Reg) (x y z : Reg) (rest : List Reg)
+    → list_all (has_register counts) from ≡ true → from ≡ x ∷ y ∷ z ∷ rest → has_register counts z ≡ true
 third_there counts from x y z rest h e =
-    second_there counts (y ∷ z ∷ rest) y z rest (and_parts (has_register counts x) (list_all (has_register counts) (y ∷ z ∷ rest)) (ap (list_all (has_register counts)) (sym e) ∙ h)).1 refl
+    second_there counts (y ∷ z ∷ rest) y z rest
+    (and_parts (has_register counts x) (list_all (has_register counts) (y ∷ z ∷ rest))
+    (ap (list_all (has_register counts)) (sym e) ∙ h)).1 refl
 
 -- ---- how many operands
 
@@ -135,15 +151,20 @@ not_true : (b : Bool) → not b ≡ true → b ≡ false
 not_true false h = refl
 not_true true h = absurd (cc)
 
-pub out_sounds : (c : ℕ) (r : Rate) (xs : List Reg) (x : Reg) → takes_from (act.Out c) r xs ≡ true → xs ≡ x ∷ [] → is_audio x.rate ≡ true
+pub out_sounds : (c : ℕ) (r : Rate) (xs : List Reg) (x : Reg) → takes_from (act.Out c) r xs ≡ true → xs ≡ x ∷ []
+    → is_audio x.rate ≡ true
 out_sounds c r xs x h e = ap (takes_from (act.Out c) r) (sym e) ∙ h
 
-pub numbered_sounds : (r : Rate) (xs : List Reg) (n x : Reg) → takes_from act.OutAt r xs ≡ true → xs ≡ n ∷ x ∷ [] → is_audio x.rate ≡ true
-numbered_sounds r xs n x h e = (and_parts (not (is_audio n.rate)) (is_audio x.rate) (ap (takes_from act.OutAt r) (sym e) ∙ h)).1
+pub numbered_sounds : (r : Rate) (xs : List Reg) (n x : Reg) → takes_from act.OutAt r xs ≡ true → xs ≡ n ∷ x ∷ []
+    → is_audio x.rate ≡ true
+numbered_sounds r xs n x h e =
+    (and_parts (not (is_audio n.rate)) (is_audio x.rate) (ap (takes_from act.OutAt r) (sym e) ∙ h)).1
 
-pub picks_by_held : (r : Rate) (xs : List Reg) (c x y : Reg) → takes_from act.Pick r xs ≡ true → xs ≡ c ∷ x ∷ y ∷ [] → is_audio c.rate ≡ false
+pub picks_by_held : (r : Rate) (xs : List Reg) (c x y : Reg) → takes_from act.Pick r xs ≡ true → xs ≡ c ∷ x ∷ y ∷ []
+    → is_audio c.rate ≡ false
 picks_by_held r xs c x y h e =
-    let abc = and_parts (not (is_audio c.rate) && within c.rate r && within x.rate r) (within y.rate r) (ap (takes_from act.Pick r) (sym e) ∙ h) in
+    let abc = and_parts (not (is_audio c.rate) && within c.rate r && within x.rate r) (within y.rate r)
+    (ap (takes_from act.Pick r) (sym e) ∙ h) in
     let ab = and_parts (not (is_audio c.rate) && within c.rate r) (within x.rate r) abc.0 in
     not_true (is_audio c.rate) (and_parts (not (is_audio c.rate)) (within c.rate r) ab.0).0
 
@@ -152,18 +173,23 @@ channel_there channels c a e h = ltb-true c channels (ap (has_channel channels) 
 
 -- ---- an op that does an act
 
-pub does_at : (at : Setting) (a b : Act) (into : Reg) (xs ys : List Reg) (old new : State) → a ≡ b → xs ≡ ys → DoesAt at b into ys old new → DoesAt at a into xs old new
+pub does_at : (at : Setting) (a b : Act) (into : Reg) (xs ys : List Reg) (old new : State) → a ≡ b → xs ≡ ys
+    → DoesAt at b into ys old new → DoesAt at a into xs old new
 does_at at a b into xs ys old new e f h =
     subst (λ d. DoesAt at d into xs old new) (sym e) (subst (λ l. DoesAt at b into l old new) (sym f) h)
 
-pub does_anywhere : (at : Setting) (a b : Act) (into : Reg) (xs ys : List Reg) (old new : State) → a ≡ b → xs ≡ ys → DoesAnywhere b into ys old new → DoesAt at a into xs old new
+pub does_anywhere : (at : Setting) (a b : Act) (into : Reg) (xs ys : List Reg) (old new : State) → a ≡ b → xs ≡ ys
+    → DoesAnywhere b into ys old new → DoesAt at a into xs old new
 does_anywhere at a b into xs ys old new e f h =
-    does_at at a b into xs ys old new e f (λ areas piece kinds counts cells setting state. h areas piece kinds counts cells state)
+    does_at at a b into xs ys old new e f
+    (λ areas piece kinds counts cells setting state. h areas piece kinds counts cells state)
 
 -- an op whose act is known takes what the act takes
-pub takes_as : (op : Op) (a : Act) → op.act ≡ a → takes_from op.act op.into.rate op.from ≡ true → takes_from a op.into.rate op.from ≡ true
+pub takes_as : (op : Op) (a : Act) → op.act ≡ a → takes_from op.act op.into.rate op.from ≡ true
+    → takes_from a op.into.rate op.from ≡ true
 takes_as op a e h = ap (λ b. takes_from b op.into.rate op.from) (sym e) ∙ h
 
 -- an op whose act takes no operand has none
 pub bare_from : (op : Op) (s : State) (a : Act) → IsFit op s → op.act ≡ a → is_bare a ≡ true → op.from ≡ []
-bare_from op s a fit e b = no_operands a op.into.rate op.from b (takes_as op a e (parts s.regs.counts fit.end fit.place op fit.fine).takes)
+bare_from op s a fit e b =
+    no_operands a op.into.rate op.from b (takes_as op a e (parts s.regs.counts fit.end fit.place op fit.fine).takes)

@@ -26,7 +26,8 @@ use Rattle.cs_voice.proofs.Sheets.{all_made, find_made}
 use Rattle.cs_voice.proofs.Voices.{own_sheet, its_own}
 
 -- a table that is found once all have been made was there before
-made_before : (P : Table → Type 0) (o : Option Table) (t : Table) → option_map made o ≡ Some t → ((u : Table) → o ≡ Some u → P (made u)) → P t
+made_before : (P : Table → Type 0) (o : Option Table) (t : Table) → option_map made o ≡ Some t
+    → ((u : Table) → o ≡ Some u → P (made u)) → P t
 made_before P None t e h = absurd (cc)
 made_before P (Some u) t e h = let same : made u ≡ t = cc in subst P same (h u refl)
 
@@ -37,8 +38,11 @@ module _ (areas : List Area) (g : Generators) (piece : Piece) where
     frames = p.frames;
     cells = p.cells;
     spaces = p.spaces;
-    tables = λ n t found live. made_before (λ u. u.frozen ≡ None → IsTablePlaced areas stock u) (find_table piece.tables n) t (sym (find_made piece.tables n) ∙ found)
-        (λ u there live. let was = p.tables n u there live in record { among = was.among; some = was.some; power = was.power; size = was.size }) live;
+    tables = λ n t found live. made_before (λ u. u.frozen ≡ None → IsTablePlaced areas stock u)
+        (find_table piece.tables n) t (sym (find_made piece.tables n) ∙ found)
+        (λ u there live. let was =
+        p.tables n u there live in record { among = was.among; some = was.some; power = was.power; size = was.size })
+        live;
     live = λ n area at. let is = p.live n area at in record {
       table = made is.table;
       found = find_made piece.tables (pos n) ∙ ap (option_map made) is.found;
@@ -46,7 +50,8 @@ module _ (areas : List Area) (g : Generators) (piece : Piece) where
     };
   }
 
-  player_made : (kind : Opcode × Rate) (p : PlayerData) → IsPlayerOf areas piece kind p → IsPlayerOf areas (all_made g piece) kind p
+  player_made : (kind : Opcode × Rate) (p : PlayerData) → IsPlayerOf areas piece kind p
+      → IsPlayerOf areas (all_made g piece) kind p
   player_made kind p h = record {
     state = h.state;
     table = λ takes. let t = h.table takes in record {
@@ -62,7 +67,8 @@ module _ (areas : List Area) (g : Generators) (piece : Piece) where
     none = h.none;
   }
 
-  state_made : (kinds : Kinds) (counts : Counts) (s : State) → IsStateIn areas piece kinds counts s → IsStateIn areas (all_made g piece) kinds counts s
+  state_made : (kinds : Kinds) (counts : Counts) (s : State) → IsStateIn areas piece kinds counts s
+      → IsStateIn areas (all_made g piece) kinds counts s
   state_made kinds counts s h = record {
     registers = h.registers;
     frames = h.frames;
@@ -80,14 +86,16 @@ record Played (counts : Counts) (s : State) (sheet : Sheet) : Type 0 where
   playable : IsPlayable sheet
   state : IsStateIn sheet.areas sheet.piece playable.kinds counts s
 
-module _ (number age : ℕ) (stage : Stage) (foot : Footprint) (code : Code) (fields : List ℤ) (s : State) (m : MakeVoice number age stage foot code fields s) where
+module _ (number age : ℕ) (stage : Stage) (foot : Footprint) (code : Code) (fields : List ℤ) (s : State)
+    (m : MakeVoice number age stage foot code fields s) where
   abbrev d : VoiceData
   d = voice_in number age stage foot code fields s
 
   own : Played code.counts s (own_sheet m.sheet d)
   own = subst (Played code.counts s) (its_own m.sheet d m.parts) (record { playable = m.playable; state = m.state })
 
-  all : Played code.counts s (record (own_sheet m.sheet d) { piece = all_made (piece_of d).generators (own_sheet m.sheet d).piece; init = [] })
+  all : Played code.counts s
+      (record (own_sheet m.sheet d) { piece = all_made (piece_of d).generators (own_sheet m.sheet d).piece; init = [] })
   unfolding own_sheet
   all = let o = own in let p = o.playable in record {
     playable = record {
@@ -101,14 +109,17 @@ module _ (number age : ℕ) (stage : Stage) (foot : Footprint) (code : Code) (fi
       perf_channels = p.perf_channels;
       perf_acts = p.perf_acts;
     };
-    state = state_made stage.layout.now (piece_of d).generators (own_sheet m.sheet d).piece p.kinds code.counts s o.state;
+    state = state_made stage.layout.now (piece_of d).generators (own_sheet m.sheet d).piece p.kinds code.counts s
+        o.state;
   }
 
   by_itself : Played code.counts s (sheet_of d)
   unfolding own_sheet
-  by_itself = subst (λ ts. Played code.counts s (record (sheet_of d) { piece = record (piece_of d) { tables = ts } })) m.parts.tables all
+  by_itself = subst (λ ts. Played code.counts s (record (sheet_of d) { piece = record (piece_of d) { tables = ts } }))
+      m.parts.tables all
 
-  pub kept : filled s.regs (values s.regs) ≡ s.regs → refilled s.outs (outs s.outs) ≡ s.outs → IsKept number age stage foot code fields s
+  pub kept : filled s.regs (values s.regs) ≡ s.regs → refilled s.outs (outs s.outs) ≡ s.outs
+      → IsKept number age stage foot code fields s
   kept all_registers all_channels = let p = by_itself in record {
     voice = record {
       playable = p.playable;

@@ -1,5 +1,6 @@
 -- What is so of each op of the code that begins a note.
-use Rattle.std.proofs.Common.{◌≡◌, ℕ, zero, suc, ◌+◌, ◌<◌, ◌≤◌, Bool, true, false, not, ◌&&◌, ◌||◌, List, [], ◌∷◌, length, nat_lt, nat_le, slice_get, Some, if◌then◌else◌, sym, ◌∙◌, ap, subst, arith}
+use Rattle.std.proofs.Common.{◌≡◌, ℕ, zero, suc, ◌+◌, ◌<◌, ◌≤◌, Bool, true, false, not, ◌&&◌, ◌||◌, List, [], ◌∷◌}
+use Rattle.std.proofs.Common.{length, nat_lt, nat_le, slice_get, Some, if◌then◌else◌, sym, ◌∙◌, ap, subst, arith}
 use Rattle.std.specs.List.{list_all, AllByRecursion}
 use Rattle.std.proofs.lemmas.Bool.{and_parts}
 use Rattle.std.proofs.lemmas.Bool.Decides.{nat_tests}
@@ -35,48 +36,62 @@ all_at P [] n op h e = absurd (no_op n op e)
 all_at P (x ∷ ops) zero op h e = subst P (same_op x op e) h.0
 all_at P (x ∷ ops) (suc n) op h e = all_at P ops n op h.1 e
 
-each_at : (f : Op → Bool) (ops : List Op) (n : ℕ) (op : Op) → list_all f ops ≡ true → slice_get ops n ≡ Some op → f op ≡ true
+each_at : (f : Op → Bool) (ops : List Op) (n : ℕ) (op : Op) → list_all f ops ≡ true → slice_get ops n ≡ Some op
+    → f op ≡ true
 each_at f [] n op h e = absurd (no_op n op e)
-each_at f (x ∷ ops) zero op h e = let p = and_parts (f x) (list_all f ops) h in subst (λ y. f y ≡ true) (same_op x op e) p.0
+each_at f (x ∷ ops) zero op h e = let p =
+    and_parts (f x) (list_all f ops) h in subst (λ y. f y ≡ true) (same_op x op e) p.0
 each_at f (x ∷ ops) (suc n) op h e = let p = and_parts (f x) (list_all f ops) h in each_at f ops n op p.1 e
 
 -- an op of the code at its place
-pub fine_here : (code : Code) (n : ℕ) (op : Op) → valid code ≡ true → slice_get code.ops.items n ≡ Some op → is_fine code.counts (length code.ops.items) n op ≡ true
+pub fine_here : (code : Code) (n : ℕ) (op : Op) → valid code ≡ true → slice_get code.ops.items n ≡ Some op
+    → is_fine code.counts (length code.ops.items) n op ≡ true
 fine_here code n op fine at =
     let here : 0 + n ≡ n = omega arith in
-    subst (λ k. is_fine code.counts (length code.ops.items) k op ≡ true) here (fine_at code.counts (length code.ops.items) 0 code.ops.items n op fine at)
+    subst (λ k. is_fine code.counts (length code.ops.items) k op ≡ true) here
+    (fine_at code.counts (length code.ops.items) 0 code.ops.items n op fine at)
 
-pub op_of : (s : Sheet) (code : Code) (counts : Counts) (n : ℕ) (op : Op) → IsPlayable s → s.init ≡ code.ops.items → valid code ≡ true → counts ≡ code.counts
+pub op_of : (s : Sheet) (code : Code) (counts : Counts) (n : ℕ) (op : Op) → IsPlayable s → s.init ≡ code.ops.items
+    → valid code ≡ true → counts ≡ code.counts
     → slice_get code.ops.items n ≡ Some op → IsOpOf s counts op
 op_of s code counts n op playable same fine counted at = record {
   end = length code.ops.items;
   place = n;
   fine = subst (λ c. is_fine c (length code.ops.items) n op ≡ true) (sym counted) (fine_here code n op fine at);
-  named = λ p. all_at (λ x. ActNamed p.stock p.kinds (HasArea s.areas) x.act x.into.rate) s.init n op p.init_uses (ap (λ ops. slice_get ops n) same ∙ at);
-  channel = each_at (λ x. has_channel s.piece.head.nchnls x.act) s.init n op playable.init_channels (ap (λ ops. slice_get ops n) same ∙ at);
+  named = λ p. all_at (λ x. ActNamed p.stock p.kinds (HasArea s.areas) x.act x.into.rate) s.init n op p.init_uses
+      (ap (λ ops. slice_get ops n) same ∙ at);
+  channel = each_at (λ x. has_channel s.piece.head.nchnls x.act) s.init n op playable.init_channels
+      (ap (λ ops. slice_get ops n) same ∙ at);
 }
 
 -- the parts of what makes an op fine
-pub reads_of : (counts : Counts) (end place : ℕ) (op : Op) → is_fine counts end place op ≡ true → list_all (has_register counts) op.from ≡ true
+pub reads_of : (counts : Counts) (end place : ℕ) (op : Op) → is_fine counts end place op ≡ true
+    → list_all (has_register counts) op.from ≡ true
 reads_of counts end place op fine =
     let own : Bool = not (writes op.act) || has_register counts op.into in
-    let outer = and_parts (own && list_all (has_register counts) op.from && finds counts end place op.act) (takes_from op.act op.into.rate op.from) fine in
+    let outer = and_parts (own && list_all (has_register counts) op.from && finds counts end place op.act)
+    (takes_from op.act op.into.rate op.from) fine in
     let middle = and_parts (own && list_all (has_register counts) op.from) (finds counts end place op.act) outer.0 in
     (and_parts own (list_all (has_register counts) op.from) middle.0).1
 
-pub names_of : (counts : Counts) (end place : ℕ) (op : Op) → is_fine counts end place op ≡ true → finds counts end place op.act ≡ true
+pub names_of : (counts : Counts) (end place : ℕ) (op : Op) → is_fine counts end place op ≡ true
+    → finds counts end place op.act ≡ true
 names_of counts end place op fine =
     let own : Bool = not (writes op.act) || has_register counts op.into in
-    let outer = and_parts (own && list_all (has_register counts) op.from && finds counts end place op.act) (takes_from op.act op.into.rate op.from) fine in
+    let outer = and_parts (own && list_all (has_register counts) op.from && finds counts end place op.act)
+    (takes_from op.act op.into.rate op.from) fine in
     (and_parts (own && list_all (has_register counts) op.from) (finds counts end place op.act) outer.0).1
 
-pub takes_of : (counts : Counts) (end place : ℕ) (op : Op) → is_fine counts end place op ≡ true → takes_from op.act op.into.rate op.from ≡ true
+pub takes_of : (counts : Counts) (end place : ℕ) (op : Op) → is_fine counts end place op ≡ true
+    → takes_from op.act op.into.rate op.from ≡ true
 takes_of counts end place op fine =
     let own : Bool = not (writes op.act) || has_register counts op.into in
-    (and_parts (own && list_all (has_register counts) op.from && finds counts end place op.act) (takes_from op.act op.into.rate op.from) fine).1
+    (and_parts (own && list_all (has_register counts) op.from && finds counts end place op.act)
+    (takes_from op.act op.into.rate op.from) fine).1
 
 -- Over a bank of all cells each op may be done.
-module _ (allowed : ℕ → Type 0) (count : ℕ) (areas : List Area) (laid : IsLaid areas) (all : (a : ℕ) → a < word_count areas → allowed a)
+module _ (allowed : ℕ → Type 0) (count : ℕ) (areas : List Area) (laid : IsLaid areas)
+    (all : (a : ℕ) → a < word_count areas → allowed a)
     (long : word_count areas ≤ count) where
   inside : (area : Area) (a : ℕ) → in_area (Some area) a ≡ true → a < area.first + area.length
   inside area a e = let p = and_parts (nat_le area.first a) (nat_lt a (area.first + area.length)) e in below p.1
@@ -100,7 +115,8 @@ module _ (allowed : ℕ → Type 0) (count : ℕ) (areas : List Area) (laid : Is
   all_touched [] h = tt
   all_touched (g ∷ gs) h = (touched g h.0, all_touched gs h.1)
 
-named_uses : (areas : List Area) (stock : Stock) (kinds : Kinds) (t : Act) (r : Rate) → ActNamed stock kinds (HasArea areas) t r → AreNamed (HasArea areas) (act_uses stock t)
+named_uses : (areas : List Area) (stock : Stock) (kinds : Kinds) (t : Act) (r : Rate)
+    → ActNamed stock kinds (HasArea areas) t r → AreNamed (HasArea areas) (act_uses stock t)
 named_uses areas stock kinds (act.Load g) r h = (h, tt)
 named_uses areas stock kinds (act.Save g) r h = (h.0, tt)
 named_uses areas stock kinds (act.Unit o u reach) r h = h.1
@@ -112,13 +128,16 @@ if_named : (N : Res → Type 0) (b : Bool) (gs : List Res) → AreNamed N gs →
 if_named N true gs h = h
 if_named N false gs h = tt
 
-named_writes : (areas : List Area) (stock : Stock) (kinds : Kinds) (t : Act) (r : Rate) → ActNamed stock kinds (HasArea areas) t r → AreNamed (HasArea areas) (act_writes stock t)
+named_writes : (areas : List Area) (stock : Stock) (kinds : Kinds) (t : Act) (r : Rate)
+    → ActNamed stock kinds (HasArea areas) t r → AreNamed (HasArea areas) (act_writes stock t)
 named_writes areas stock kinds (act.Save g) r h = (h.0, tt)
 named_writes areas stock kinds (act.Store o reach) r h = h
-named_writes areas stock kinds (act.Zak o reach) r h = if_named (HasArea areas) (writes_places (row_of o).shape) (zak_uses stock o reach) h
+named_writes areas stock kinds (act.Zak o reach) r h =
+    if_named (HasArea areas) (writes_places (row_of o).shape) (zak_uses stock o reach) h
 named_writes areas stock kinds _ r h = tt
 
-pub can_do : (get set : ℕ → Type 0) (count : ℕ) (areas : List Area) (stock : Stock) (kinds : Kinds) (t : Act) (r : Rate) → IsLaid areas
+pub can_do : (get set : ℕ → Type 0) (count : ℕ) (areas : List Area) (stock : Stock) (kinds : Kinds) (t : Act) (r : Rate)
+    → IsLaid areas
     → ((a : ℕ) → a < word_count areas → get a) → ((a : ℕ) → a < word_count areas → set a) → word_count areas ≤ count
     → ActNamed stock kinds (HasArea areas) t r → CanDo get set count areas stock t
 can_do get set count areas stock kinds t r laid gets sets long named = record {

@@ -1,5 +1,7 @@
 -- The code that begins a note, op by op.
-use Rattle.std.proofs.Common.{◌≡◌, ℕ, ℤ, ◌+◌, ◌<◌, ◌≤◌, ◌⊎◌, inl, inr, Bool, true, false, not, ◌&&◌, List, [], ◌∷◌, ◌++◌, length, map, slice_get, Option, Some, None, if◌then◌else◌, refl, sym, ◌∙◌, ap, subst, append_assoc, arith}
+use Rattle.std.proofs.Common.{◌≡◌, ℕ, ℤ, ◌+◌, ◌<◌, ◌≤◌, ◌⊎◌, inl, inr, Bool, true, false, not, ◌&&◌, List, [], ◌∷◌}
+use Rattle.std.proofs.Common.{◌++◌, length, map, slice_get, Option, Some, None, if◌then◌else◌, refl, sym, ◌∙◌, ap}
+use Rattle.std.proofs.Common.{subst, append_assoc, arith}
 use Rattle.std.specs.Option.{option_map}
 use Rattle.std.proofs.lemmas.Bool.Decides.{nat_tests}
 use Rattle.cs_words.specs.declared.catalogue.Opcode.{Opcode}
@@ -63,9 +65,11 @@ steady_here _ h = refl
 steady_one : (op : Op) → is_of_cycle op.act ≡ true → are_of_cycle (op ∷ []) ≡ true
 steady_one op e = ap (λ b. b && true) e
 
--- Over a bank of all cells an op that isn't a jump, a start or an ask may be done, and what it does is what its sheet says.
+-- Over a bank of all cells an op that isn't a jump, a start or an ask may be done, and what it does is what its sheet
+-- says.
 module _ (get set : ℕ → Type 0) (count : ℕ) (finds : Finds) (ms : List Bool) (s : Sheet) (found : IsFound finds ms s)
-    (gets : (a : ℕ) → a < word_count s.areas → get a) (sets : (a : ℕ) → a < word_count s.areas → set a) (long : word_count s.areas ≤ count)
+    (gets : (a : ℕ) → a < word_count s.areas → get a) (sets : (a : ℕ) → a < word_count s.areas → set a)
+    (long : word_count s.areas ≤ count)
     (op : Op) (old : State) (fine : IsOpOf s old.regs.counts op) (state : IsStateOf s old.regs.counts old) where
   here : s.areas ≡ finds.at.layout.now
   here = sym found.setting.layout
@@ -73,7 +77,13 @@ module _ (get set : ℕ → Type 0) (count : ℕ) (finds : Finds) (ms : List Boo
   ready : (p : IsPlayable s) → IsReady get set count finds.at s.piece p.kinds p.stock op old
   unfolding here
   ready p = record {
-    setting = record { layout = refl; head = found.setting.head; spaces = found.setting.spaces; fields = found.setting.fields };
+    setting = record {
+      layout = refl;
+      head = found.setting.head;
+      spaces = found.setting.spaces;
+      fields =
+          found.setting.fields;
+    };
     placed = subst (λ areas. IsPlaced areas p.stock s.piece) here p.placed;
     spaces = subst AreSpaces here found.places;
     zak = subst (λ areas. spaces_of areas ≡ finds.at.spaces) here (found.spaces ∙ found.setting.spaces);
@@ -83,7 +93,8 @@ module _ (get set : ℕ → Type 0) (count : ℕ) (finds : Finds) (ms : List Boo
     fine = fine.fine;
     named = subst (λ areas. ActNamed p.stock p.kinds (HasArea areas) op.act op.into.rate) here (fine.named p);
     channel = fine.channel;
-    can = subst (λ areas. CanDo get set count areas p.stock op.act) here (can_do get set count s.areas p.stock p.kinds op.act op.into.rate p.placed.laid gets sets long (fine.named p));
+    can = subst (λ areas. CanDo get set count areas p.stock op.act) here
+        (can_do get set count s.areas p.stock p.kinds op.act op.into.rate p.placed.laid gets sets long (fine.named p));
   }
 
   pub can_be_done : IsPlayable s → CanBeDone get set count finds.at op old
@@ -94,53 +105,69 @@ module _ (get set : ℕ → Type 0) (count : ℕ) (finds : Finds) (ms : List Boo
   done_here p at new before after asked does = record {
     more = [];
     asks = sym (none_more asked);
-    machine = λ next earlier. ap (λ e. machine_of new after next e None) (none_more earlier) ∙ (own p).machine next earlier None;
+    machine = λ next earlier. ap (λ e. machine_of new after next e None) (none_more earlier)
+        ∙ (own p).machine next earlier None;
     state = record {
       in_piece = λ q. (own q).state;
       delays =
-          let kept = run_steady (voice_model s.areas s.piece) 0 (op ∷ []) (machine_of old before 0 [] None) (steady_one op (steady_here op.act at)) in
-          let same : new.delays ≡ old.delays = ap (λ m. m.world.delays) ((own p).machine 0 [] None) ∙ ap (λ z. z.delays) kept in
+          let kept = run_steady (voice_model s.areas s.piece) 0 (op ∷ []) (machine_of old before 0 [] None)
+          (steady_one op (steady_here op.act at)) in
+          let same : new.delays ≡ old.delays =
+          ap (λ m. m.world.delays) ((own p).machine 0 [] None) ∙ ap (λ z. z.delays) kept in
           let low = state.delays in
           omega arith;
     };
   }
     where
-      own : (q : IsPlayable s) → Does s.areas s.piece q.kinds old.regs.counts op.act op.into op.from old before new after
-      own q = subst (λ areas. Does areas s.piece q.kinds old.regs.counts op.act op.into op.from old before new after) found.setting.layout (does s.piece q.kinds q.stock (ready q))
+      own : (q : IsPlayable s)
+          → Does s.areas s.piece q.kinds old.regs.counts op.act op.into op.from old before new after
+      own q = subst (λ areas. Does areas s.piece q.kinds old.regs.counts op.act op.into op.from old before new after)
+          found.setting.layout (does s.piece q.kinds q.stock (ready q))
 
 -- a note is asked for
-pub done_ask : (s : Sheet) (op : Op) (old : State) (cells : ℕ → ℤ) (asked : List Ask) → op.act ≡ act.Ask → IsStateOf s old.regs.counts old
+pub done_ask : (s : Sheet) (op : Op) (old : State) (cells : ℕ → ℤ) (asked : List Ask) → op.act ≡ act.Ask
+    → IsStateOf s old.regs.counts old
     → IsDone s op old cells asked old cells (asked ++ ask_of (first_values (map (values old.regs) op.from)) ∷ []) None
 done_ask s op old cells asked is state = record {
   more = first_values (map (values old.regs) op.from) ∷ [];
   asks = refl;
-  machine = λ next earlier. ap (λ t. acts (voice_world s.areas s.piece) t op.into (map (values old.regs) op.from) (machine_of old cells next earlier None)) (sym is);
+  machine = λ next earlier. ap
+      (λ t. acts (voice_world s.areas s.piece) t op.into (map (values old.regs) op.from)
+      (machine_of old cells next earlier None)) (sym is);
   state = state;
 }
 
 -- a unit is started, or isn't
-pub done_start : (s : Sheet) (op : Op) (o : Opcode) (u : ℕ) (areas : List Area) (old new : State) (cells : ℕ → ℤ) (asked : List Ask) (refused : Option Refusal)
+pub done_start : (s : Sheet) (op : Op) (o : Opcode) (u : ℕ) (areas : List Area) (old new : State) (cells : ℕ → ℤ)
+    (asked : List Ask) (refused : Option Refusal)
     → op.act ≡ act.Start o u → areas ≡ s.areas → IsPlayable s
-    → ((p : IsPlayable s) → Starts areas s.piece p.kinds old.regs.counts o op.into.rate u (first_values (map (values old.regs) op.from)) old new refused)
+    → ((p : IsPlayable s) → Starts areas s.piece p.kinds old.regs.counts o op.into.rate u
+    (first_values (map (values old.regs) op.from)) old new refused)
     → IsDone s op old cells asked new cells asked refused
 done_start s op o u areas old new cells asked refused is same p starts = record {
   more = [];
   asks = sym (none_more asked);
   machine = λ next earlier. ap (λ e. machine_of new cells next e (option_map cause_of refused)) (none_more earlier)
       ∙ (own p).machine cells next earlier
-      ∙ ap (λ t. acts (voice_world s.areas s.piece) t op.into (map (values old.regs) op.from) (machine_of old cells next earlier None)) (sym is);
+      ∙ ap (λ t. acts (voice_world s.areas s.piece) t op.into (map (values old.regs) op.from)
+      (machine_of old cells next earlier None)) (sym is);
   state = record { in_piece = λ q. (own q).state; delays = (own p).delays };
 }
   where
-    own : (q : IsPlayable s) → Starts s.areas s.piece q.kinds old.regs.counts o op.into.rate u (first_values (map (values old.regs) op.from)) old new refused
-    own q = subst (λ x. Starts x s.piece q.kinds old.regs.counts o op.into.rate u (first_values (map (values old.regs) op.from)) old new refused) same (starts q)
+    own : (q : IsPlayable s)
+        → Starts s.areas s.piece q.kinds old.regs.counts o op.into.rate u (first_values (map (values old.regs) op.from))
+        old new refused
+    own q = subst (λ x. Starts x s.piece q.kinds old.regs.counts o op.into.rate u
+        (first_values (map (values old.regs) op.from)) old new refused) same (starts q)
 
 -- The code is done up to a place.
-pub record IsPassed (s : Sheet) (first : State) (before : ℕ → ℤ) (asked : List Ask) (place : ℕ) (now : State) (cells : ℕ → ℤ) (given : List Ask) : Type 0 where
+pub record IsPassed (s : Sheet) (first : State) (before : ℕ → ℤ) (asked : List Ask) (place : ℕ) (now : State)
+    (cells : ℕ → ℤ) (given : List Ask) : Type 0 where
   pub next : ℕ
   pub more : List (List ℤ)
   pub asks : given ≡ asked ++ map ask_of more
-  pub up : IsUpTo (voice_world s.areas s.piece) s.init (machine_of first before 0 [] None) place (machine_of now cells next more None)
+  pub up : IsUpTo (voice_world s.areas s.piece) s.init (machine_of first before 0 [] None) place
+      (machine_of now cells next more None)
   pub counted : now.regs.counts ≡ first.regs.counts
   pub state : IsStateOf s first.regs.counts now
 
@@ -156,18 +183,22 @@ passed_none s first before asked state = record {
 }
 
 -- a jump
-jumped : (s : Sheet) (now : State) (cells : ℕ → ℤ) (next : ℕ) (more : List (List ℤ)) (t : Act) (into : Reg) (ws : List Wave) (place to : ℕ) → GoesOn t ws place to
-    → (n : ℕ) × (machine_of now cells n more None ≡ acts (voice_world s.areas s.piece) t into ws (machine_of now cells next more None)) × (((n ≡ next) × (to ≡ place + 1)) ⊎ (n ≡ to))
+jumped : (s : Sheet) (now : State) (cells : ℕ → ℤ) (next : ℕ) (more : List (List ℤ)) (t : Act) (into : Reg)
+    (ws : List Wave) (place to : ℕ) → GoesOn t ws place to
+    → (n : ℕ) × (machine_of now cells n more None ≡ acts (voice_world s.areas s.piece) t into ws
+    (machine_of now cells next more None)) × (((n ≡ next) × (to ≡ place + 1)) ⊎ (n ≡ to))
 jumped s now cells next more (act.Jump later) into ws place to g = (later, refl, inr (sym g))
 jumped s now cells next more (act.Unless later) into ws place to g = by (holds (operand 0 ws 0)) g
   where
     by : (b : Bool) → to ≡ (if b then place + 1 else later)
-        → (n : ℕ) × (machine_of now cells n more None ≡ record (machine_of now cells next more None) { next = if b then next else later }) × (((n ≡ next) × (to ≡ place + 1)) ⊎ (n ≡ to))
+        → (n : ℕ) × (machine_of now cells n more None ≡ record (machine_of now cells next more None)
+        { next = if b then next else later }) × (((n ≡ next) × (to ≡ place + 1)) ⊎ (n ≡ to))
     by true h = (next, refl, inl (refl, h))
     by false h = (later, refl, inr (sym h))
 jumped s now cells next more _ into ws place to g = absurd g
 
-pub passed_jump : (s : Sheet) (first : State) (before : ℕ → ℤ) (asked : List Ask) (place to : ℕ) (now : State) (cells : ℕ → ℤ) (asks : List Ask) (op : Op)
+pub passed_jump : (s : Sheet) (first : State) (before : ℕ → ℤ) (asked : List Ask) (place to : ℕ) (now : State)
+    (cells : ℕ → ℤ) (asks : List Ask) (op : Op)
     → IsPassed s first before asked place now cells asks → slice_get s.init place ≡ Some op → place < to
     → GoesOn op.act (map (values now.regs) op.from) place to → IsPassed s first before asked to now cells asks
 passed_jump s first before asked place to now cells asks op u at later g =
@@ -181,87 +212,114 @@ passed_jump s first before asked place to now cells asks op u at later g =
       state = u.state;
     }
   where
-    up_by : (n : ℕ) → machine_of now cells n u.more None ≡ acts (voice_world s.areas s.piece) op.act op.into (map (values now.regs) op.from) (machine_of now cells u.next u.more None)
+    up_by : (n : ℕ) → machine_of now cells n u.more None ≡ acts (voice_world s.areas s.piece) op.act op.into
+        (map (values now.regs) op.from) (machine_of now cells u.next u.more None)
         → (((n ≡ u.next) × (to ≡ place + 1)) ⊎ (n ≡ to))
-        → IsUpTo (voice_world s.areas s.piece) s.init (machine_of first before 0 [] None) to (machine_of now cells n u.more None)
+        → IsUpTo (voice_world s.areas s.piece) s.init (machine_of first before 0 [] None) to
+        (machine_of now cells n u.more None)
     up_by n e (inl h) =
         let below : n ≤ place + 1 = let q = h.0 in let r = u.up.next in omega arith in
-        subst (λ k. IsUpTo (voice_world s.areas s.piece) s.init (machine_of first before 0 [] None) k (machine_of now cells n u.more None)) (sym h.1)
-        (one_more (voice_world s.areas s.piece) s.init (machine_of first before 0 [] None) place op (machine_of now cells u.next u.more None) (machine_of now cells n u.more None) u.up at refl e below)
-    up_by n e (inr h) = jumps (voice_world s.areas s.piece) s.init (machine_of first before 0 [] None) place to op (machine_of now cells u.next u.more None) (machine_of now cells n u.more None) u.up at refl e h later
+        subst (λ k. IsUpTo (voice_world s.areas s.piece) s.init (machine_of first before 0 [] None) k
+        (machine_of now cells n u.more None)) (sym h.1)
+        (one_more (voice_world s.areas s.piece) s.init (machine_of first before 0 [] None) place op
+        (machine_of now cells u.next u.more None) (machine_of now cells n u.more None) u.up at refl e below)
+    up_by n e (inr h) = jumps (voice_world s.areas s.piece) s.init (machine_of first before 0 [] None) place to op
+        (machine_of now cells u.next u.more None) (machine_of now cells n u.more None) u.up at refl e h later
 
-more_asked : (asked now new : List Ask) (some more : List (List ℤ)) → now ≡ asked ++ map ask_of some → new ≡ now ++ map ask_of more → new ≡ asked ++ map ask_of (some ++ more)
+more_asked : (asked now new : List Ask) (some more : List (List ℤ)) → now ≡ asked ++ map ask_of some
+    → new ≡ now ++ map ask_of more → new ≡ asked ++ map ask_of (some ++ more)
 more_asked asked now new some more e f =
-    f ∙ ap (λ xs. xs ++ map ask_of more) e ∙ append_assoc asked (map ask_of some) (map ask_of more) ∙ ap (λ xs. asked ++ xs) (sym (map_more ask_of some more))
+    f ∙ ap (λ xs. xs ++ map ask_of more) e ∙ append_assoc asked (map ask_of some) (map ask_of more)
+    ∙ ap (λ xs. asked ++ xs) (sym (map_more ask_of some more))
 
 -- an op was done
-pub passed_one : (s : Sheet) (first : State) (before : ℕ → ℤ) (asked : List Ask) (place : ℕ) (now new : State) (cells after : ℕ → ℤ) (asks asks_new : List Ask) (op : Op)
+pub passed_one : (s : Sheet) (first : State) (before : ℕ → ℤ) (asked : List Ask) (place : ℕ) (now new : State)
+    (cells after : ℕ → ℤ) (asks asks_new : List Ask) (op : Op)
     → IsPlayable s → IsPassed s first before asked place now cells asks → slice_get s.init place ≡ Some op
     → IsDone s op now cells asks new after asks_new None → IsPassed s first before asked (place + 1) new after asks_new
 passed_one s first before asked place now new cells after asks asks_new op p u at d = record {
   next = u.next;
   more = u.more ++ d.more;
   asks = more_asked asked asks asks_new u.more d.more u.asks d.asks;
-  up = one_more (voice_world s.areas s.piece) s.init (machine_of first before 0 [] None) place op (machine_of now cells u.next u.more None) (machine_of new after u.next (u.more ++ d.more) None)
+  up = one_more (voice_world s.areas s.piece) s.init (machine_of first before 0 [] None) place op
+      (machine_of now cells u.next u.more None) (machine_of new after u.next (u.more ++ d.more) None)
       u.up at refl (d.machine u.next u.more) (let r = u.up.next in omega arith);
   counted = (d.state.in_piece p).registers ∙ u.counted;
   state = subst (λ c. IsStateOf s c new) u.counted d.state;
 }
 
 -- the end, and a refusal
-pub passed_all : (s : Sheet) (first : State) (before : ℕ → ℤ) (asked : List Ask) (place : ℕ) (now : State) (cells : ℕ → ℤ) (asks : List Ask)
-    → IsPassed s first before asked place now cells asks → length s.init ≤ place → Passes s first before asked now cells asks None
+pub passed_all : (s : Sheet) (first : State) (before : ℕ → ℤ) (asked : List Ask) (place : ℕ) (now : State)
+    (cells : ℕ → ℤ) (asks : List Ask)
+    → IsPassed s first before asked place now cells asks → length s.init ≤ place
+    → Passes s first before asked now cells asks None
 passed_all s first before asked place now cells asks u h = record {
   next = u.next;
   more = u.more;
   asks = u.asks;
-  machine = ends (voice_world s.areas s.piece) s.init (machine_of first before 0 [] None) place (machine_of now cells u.next u.more None) u.up h;
+  machine = ends (voice_world s.areas s.piece) s.init (machine_of first before 0 [] None) place
+      (machine_of now cells u.next u.more None) u.up h;
   state = u.state;
 }
 
-pub passed_refused : (s : Sheet) (first : State) (before : ℕ → ℤ) (asked : List Ask) (place : ℕ) (now new : State) (cells after : ℕ → ℤ) (asks asks_new : List Ask) (op : Op) (refused : Refusal)
+pub passed_refused : (s : Sheet) (first : State) (before : ℕ → ℤ) (asked : List Ask) (place : ℕ) (now new : State)
+    (cells after : ℕ → ℤ) (asks asks_new : List Ask) (op : Op) (refused : Refusal)
     → IsPassed s first before asked place now cells asks → slice_get s.init place ≡ Some op
-    → IsDone s op now cells asks new after asks_new (Some refused) → Passes s first before asked new after asks_new (Some refused)
+    → IsDone s op now cells asks new after asks_new (Some refused)
+    → Passes s first before asked new after asks_new (Some refused)
 passed_refused s first before asked place now new cells after asks asks_new op refused u at d = record {
   next = u.next;
   more = u.more ++ d.more;
   asks = more_asked asked asks asks_new u.more d.more u.asks d.asks;
-  machine = refuses (voice_world s.areas s.piece) s.init (machine_of first before 0 [] None) place op (machine_of now cells u.next u.more None)
-      (machine_of new after u.next (u.more ++ d.more) (Some (cause_of refused))) u.up at refl (d.machine u.next u.more) refl;
+  machine = refuses (voice_world s.areas s.piece) s.init (machine_of first before 0 [] None) place op
+      (machine_of now cells u.next u.more None)
+      (machine_of new after u.next (u.more ++ d.more) (Some (cause_of refused))) u.up at refl (d.machine u.next u.more)
+      refl;
   state = subst (λ c. IsStateOf s c new) u.counted d.state;
 }
 
 -- what a start names and takes
-starts_at : (counts : Counts) (end place u : ℕ) (o : Opcode) → finds counts end place (act.Start o u) ≡ true → u < counts.units
+starts_at : (counts : Counts) (end place u : ℕ) (o : Opcode) → finds counts end place (act.Start o u) ≡ true
+    → u < counts.units
 starts_at counts end place u o f = grind (arith, nat_tests)
 
-pub start_there : (counts : Counts) (end place u : ℕ) (o : Opcode) (op : Op) → is_fine counts end place op ≡ true → op.act ≡ act.Start o u → u < counts.units
+pub start_there : (counts : Counts) (end place u : ℕ) (o : Opcode) (op : Op) → is_fine counts end place op ≡ true
+    → op.act ≡ act.Start o u → u < counts.units
 start_there counts end place u o op fine is =
     starts_at counts end place u o (subst (λ t. finds counts end place t ≡ true) is (names_of counts end place op fine))
 
-pub start_takes : (counts : Counts) (end place u : ℕ) (o : Opcode) (op : Op) → is_fine counts end place op ≡ true → op.act ≡ act.Start o u → IsUnitOpcode o
+pub start_takes : (counts : Counts) (end place u : ℕ) (o : Opcode) (op : Op) → is_fine counts end place op ≡ true
+    → op.act ≡ act.Start o u → IsUnitOpcode o
 start_takes counts end place u o op fine is =
-    started_shape o op.into.rate op.from (subst (λ t. takes_from t op.into.rate op.from ≡ true) is (takes_of counts end place op fine))
+    started_shape o op.into.rate op.from
+    (subst (λ t. takes_from t op.into.rate op.from ≡ true) is (takes_of counts end place op fine))
 
 -- a start, and an ask, as they are done
-pub started_op : (finds : Finds) (ms : List Bool) (s : Sheet) (op : Op) (o : Opcode) (u : ℕ) (settled : List ℤ) (old new : State) (cells : ℕ → ℤ) (asked : List Ask) (refused : Option Refusal)
-    → op.act ≡ act.Start o u → IsFound finds ms s → IsPlayable s → IsOpOf s old.regs.counts op → IsStateOf s old.regs.counts old
+pub started_op : (finds : Finds) (ms : List Bool) (s : Sheet) (op : Op) (o : Opcode) (u : ℕ) (settled : List ℤ)
+    (old new : State) (cells : ℕ → ℤ) (asked : List Ask) (refused : Option Refusal)
+    → op.act ≡ act.Start o u → IsFound finds ms s → IsPlayable s → IsOpOf s old.regs.counts op
+    → IsStateOf s old.regs.counts old
     → settled ≡ first_values (map (values old.regs) op.from)
-    → ((piece : Piece) (kinds : Kinds) (counts : Counts) → piece.head ≡ header_of_head finds.at.head.now → piece.tables ≡ tables_of finds.tables.now ms
+    → ((piece : Piece) (kinds : Kinds) (counts : Counts) → piece.head ≡ header_of_head finds.at.head.now
+    → piece.tables ≡ tables_of finds.tables.now ms
     → kinds u ≡ (o, op.into.rate) → IsStateIn finds.at.layout.now piece kinds counts old
     → Starts finds.at.layout.now piece kinds counts o op.into.rate u settled old new refused)
     → IsDone s op old cells asked new cells asked refused
 started_op finds ms s op o u settled old new cells asked refused is found playable fine state same starts =
     done_start s op o u finds.at.layout.now old new cells asked refused is found.setting.layout playable
-    (λ p. subst (λ xs. Starts finds.at.layout.now s.piece p.kinds old.regs.counts o op.into.rate u xs old new refused) same
+    (λ p. subst (λ xs. Starts finds.at.layout.now s.piece p.kinds old.regs.counts o op.into.rate u xs old new refused)
+    same
     (starts s.piece p.kinds old.regs.counts found.setting.head found.tables
     (subst (λ t. ActNamed p.stock p.kinds (HasArea s.areas) t op.into.rate) is (fine.named p)).0
-    (subst (λ areas. IsStateIn areas s.piece p.kinds old.regs.counts old) (sym found.setting.layout) (state.in_piece p))))
+    (subst (λ areas. IsStateIn areas s.piece p.kinds old.regs.counts old) (sym found.setting.layout)
+    (state.in_piece p))))
 
 -- a look for a table
-sought : (s : Sheet) (old : State) (cells : ℕ → ℤ) (next : ℕ) (earlier : List (List ℤ)) (is : List ℤ) (refused : Option Refusal) → Seeks s.piece.tables (table_number is) refused
+sought : (s : Sheet) (old : State) (cells : ℕ → ℤ) (next : ℕ) (earlier : List (List ℤ)) (is : List ℤ)
+    (refused : Option Refusal) → Seeks s.piece.tables (table_number is) refused
     → machine_of old cells next earlier (option_map cause_of refused)
-    ≡ in_world (seek (voice_model s.areas s.piece) is (machine_of old cells next earlier None).world) (machine_of old cells next earlier None)
+    ≡ in_world (seek (voice_model s.areas s.piece) is (machine_of old cells next earlier None).world)
+    (machine_of old cells next earlier None)
 sought s old cells next earlier is refused h = by refused h
   where
     m : Machine VoiceState
@@ -271,40 +329,52 @@ sought s old cells next earlier is refused h = by refused h
     looks there = in_world (if not there then refused_for (no_table (table_number is)) m.world else m.world) m
 
     by : (refused : Option Refusal) → Seeks s.piece.tables (table_number is) refused
-        → machine_of old cells next earlier (option_map cause_of refused) ≡ looks (is_there (find_table s.piece.tables (table_number is)))
+        → machine_of old cells next earlier (option_map cause_of refused) ≡ looks
+        (is_there (find_table s.piece.tables (table_number is)))
     by None there = sym (ap looks there)
-    by (Some r) (missing, cause) = ap (λ q. machine_of old cells next earlier (Some (cause_of q))) cause ∙ sym (ap looks missing)
+    by (Some r) (missing, cause) =
+        ap (λ q. machine_of old cells next earlier (Some (cause_of q))) cause ∙ sym (ap looks missing)
 
-pub sought_op : (finds : Finds) (ms : List Bool) (s : Sheet) (op : Op) (settled : List ℤ) (old : State) (cells : ℕ → ℤ) (asked : List Ask) (refused : Option Refusal)
+pub sought_op : (finds : Finds) (ms : List Bool) (s : Sheet) (op : Op) (settled : List ℤ) (old : State) (cells : ℕ → ℤ)
+    (asked : List Ask) (refused : Option Refusal)
     → op.act ≡ act.Seek → IsFound finds ms s → IsStateOf s old.regs.counts old
-    → settled ≡ first_values (map (values old.regs) op.from) → Seeks (tables_of finds.tables.now ms) (table_number settled) refused
+    → settled ≡ first_values (map (values old.regs) op.from)
+    → Seeks (tables_of finds.tables.now ms) (table_number settled) refused
     → IsDone s op old cells asked old cells asked refused
 sought_op finds ms s op settled old cells asked refused is found state same seeks = record {
   more = [];
   asks = sym (none_more asked);
   machine = λ next earlier. ap (λ e. machine_of old cells next e (option_map cause_of refused)) (none_more earlier)
       ∙ sought s old cells next earlier (first_values (map (values old.regs) op.from)) refused
-      (subst (λ xs. Seeks s.piece.tables (table_number xs) refused) same (subst (λ ts. Seeks ts (table_number settled) refused) (sym found.tables) seeks))
-      ∙ ap (λ t. acts (voice_world s.areas s.piece) t op.into (map (values old.regs) op.from) (machine_of old cells next earlier None)) (sym is);
+      (subst (λ xs. Seeks s.piece.tables (table_number xs) refused) same
+      (subst (λ ts. Seeks ts (table_number settled) refused) (sym found.tables) seeks))
+      ∙ ap (λ t. acts (voice_world s.areas s.piece) t op.into (map (values old.regs) op.from)
+      (machine_of old cells next earlier None)) (sym is);
   state = state;
 }
 
-pub asked_op : (s : Sheet) (op : Op) (settled : List ℤ) (old : State) (cells : ℕ → ℤ) (asked given : List Ask) → op.act ≡ act.Ask → IsStateOf s old.regs.counts old
+pub asked_op : (s : Sheet) (op : Op) (settled : List ℤ) (old : State) (cells : ℕ → ℤ) (asked given : List Ask)
+    → op.act ≡ act.Ask → IsStateOf s old.regs.counts old
     → settled ≡ first_values (map (values old.regs) op.from) → given ≡ asked ++ ask_of settled ∷ []
     → IsDone s op old cells asked old cells given None
 asked_op s op settled old cells asked given is state same new =
-    subst (λ xs. IsDone s op old cells asked old cells xs None) (sym (new ∙ ap (λ vs. asked ++ ask_of vs ∷ []) same)) (done_ask s op old cells asked is state)
+    subst (λ xs. IsDone s op old cells asked old cells xs None) (sym (new ∙ ap (λ vs. asked ++ ask_of vs ∷ []) same))
+    (done_ask s op old cells asked is state)
 
 -- each table that can be played
-pub all_played : (finds : Finds) (ms : List Bool) (s : Sheet) → IsFound finds ms s → CanAllBePlayed finds.at.layout.now (tables_of finds.tables.now ms)
+pub all_played : (finds : Finds) (ms : List Bool) (s : Sheet) → IsFound finds ms s
+    → CanAllBePlayed finds.at.layout.now (tables_of finds.tables.now ms)
 all_played finds ms s found =
     subst (λ areas. CanAllBePlayed areas (tables_of finds.tables.now ms)) (sym found.setting.layout)
     (subst (λ ts. CanAllBePlayed s.areas ts) found.tables found.can_be_played)
 
 -- the next op can be done
-pub able_again : {R : Type 0} (get set : R → ℕ → Type 0) (r q : R) (n m : ℕ) (finds : Finds) (ms : List Bool) (code : Code) (s : Sheet) (first : State) (before : ℕ → ℤ) (asked : List Ask)
-    (place : ℕ) (now : State) (cells : ℕ → ℤ) (given : List Ask) (op : Op) → q ≡ r → m ≡ n → CanPass (get r) (set r) n finds ms code s first
-    → IsPassed s first before asked place now cells given → slice_get code.ops.items place ≡ Some op → CanDoOp (get q) (set q) m finds ms op s now
+pub able_again : {R : Type 0} (get set : R → ℕ → Type 0) (r q : R) (n m : ℕ) (finds : Finds) (ms : List Bool)
+    (code : Code) (s : Sheet) (first : State) (before : ℕ → ℤ) (asked : List Ask)
+    (place : ℕ) (now : State) (cells : ℕ → ℤ) (given : List Ask) (op : Op) → q ≡ r → m ≡ n
+    → CanPass (get r) (set r) n finds ms code s first
+    → IsPassed s first before asked place now cells given → slice_get code.ops.items place ≡ Some op
+    → CanDoOp (get q) (set q) m finds ms op s now
 able_again get set r q n m finds ms code s first before asked place now cells given op rest long can u at = record {
   begin = record {
     found = can.begin.found;

@@ -1,5 +1,6 @@
 -- Zak places: what their opcodes do at the place that a value names.
-use Rattle.std.proofs.Common.{◌≡◌, ℕ, ℤ, pos, ◌≤◌, ◌&&◌, Bool, true, false, not, List, [], ◌∷◌, length, nat_lt, Option, Some, None, if◌then◌else◌, refl, sym, ◌∙◌, ap, subst, arith, ltb-true}
+use Rattle.std.proofs.Common.{◌≡◌, ℕ, ℤ, pos, ◌≤◌, ◌&&◌, Bool, true, false, not, List, [], ◌∷◌, length, nat_lt, Option}
+use Rattle.std.proofs.Common.{Some, None, if◌then◌else◌, refl, sym, ◌∙◌, ap, subst, arith, ltb-true}
 use Rattle.std.proofs.lemmas.Bool.{and_parts}
 use Rattle.std.proofs.lemmas.Bool.Decides.{nat_tests}
 use Rattle.std.proofs.lemmas.List.{get_or_past}
@@ -49,7 +50,8 @@ no_result false h = refl
 
 write_gives : (o : Opcode) (sh : Shape) → (row_of o).shape ≡ sh → writes_places sh ≡ true → gives o ≡ false
 write_gives o sh is h =
-    no_result (gives o) (when_all (λ o. writes_places (row_of o).shape) (λ o. not (gives o)) refl o (ap writes_places is ∙ h))
+    no_result (gives o) (when_all (λ o. writes_places (row_of o).shape) (λ o. not (gives o)) refl o
+    (ap writes_places is ∙ h))
 
 given : (b : Bool) → b ≡ true → (ksmps : ℕ) (into : Reg) (w : Wave) (m : Machine VoiceState)
     → (if b then write ksmps into w (in_world m.world m) else in_world m.world m) ≡ write ksmps into w m
@@ -63,14 +65,18 @@ none_given false h ksmps into x m = refl
 
 module _ (areas : List Area) (piece : Piece) (o : Opcode) (reach : Reach) (into : Reg) (m : Machine VoiceState) where
   shaped : (sh : Shape) (ws : List Wave) → (row_of o).shape ≡ sh
-      → acts (voice_world areas piece) (act.Zak o reach) into ws m ≡ written piece.head.ksmps o into (zak_does (voice_model areas piece) sh reach ws m.world) m
-  shaped sh ws is = ap (λ q. written piece.head.ksmps o into (zak_does (voice_model areas piece) q reach ws m.world) m) is
+      → acts (voice_world areas piece) (act.Zak o reach) into ws m ≡ written piece.head.ksmps o into
+      (zak_does (voice_model areas piece) sh reach ws m.world) m
+  shaped sh ws is = ap (λ q. written piece.head.ksmps o into (zak_does (voice_model areas piece) q reach ws m.world) m)
+      is
 
   pub getting : (s : Space) (v : Wave) → (row_of o).shape ≡ shape.ZakGet s
       → acts (voice_world areas piece) (act.Zak o reach) into (v ∷ []) m
-      ≡ write piece.head.ksmps into (at_place piece s reach (index (v 0)) silence (λ g. read_cells areas g m.world.shared)) m
+      ≡ write piece.head.ksmps into
+      (at_place piece s reach (index (v 0)) silence (λ g. read_cells areas g m.world.shared)) m
   getting s v is = shaped (shape.ZakGet s) (v ∷ []) is
-      ∙ given (gives o) (get_gives o s is) piece.head.ksmps into (at_place piece s reach (index (v 0)) silence (λ g. read_cells areas g m.world.shared)) m
+      ∙ given (gives o) (get_gives o s is) piece.head.ksmps into
+      (at_place piece s reach (index (v 0)) silence (λ g. read_cells areas g m.world.shared)) m
 
   pub putting : (s : Space) (w v : Wave) → (row_of o).shape ≡ shape.ZakPut s
       → acts (voice_world areas piece) (act.Zak o reach) into (w ∷ v ∷ []) m
@@ -85,7 +91,8 @@ module _ (areas : List Area) (piece : Piece) (o : Opcode) (reach : Reach) (into 
       (λ g. saved (voice_model areas piece) g (added (read_cells areas g m.world.shared) w) m.world)) m
   mixing w v is = shaped shape.ZakMix (w ∷ v ∷ []) is
       ∙ none_given (gives o) (write_gives o shape.ZakMix is refl) piece.head.ksmps into
-      (at_place piece space.Audio reach (index (v 0)) m.world (λ g. saved (voice_model areas piece) g (added (read_cells areas g m.world.shared) w) m.world)) m
+      (at_place piece space.Audio reach (index (v 0)) m.world
+      (λ g. saved (voice_model areas piece) g (added (read_cells areas g m.world.shared) w) m.world)) m
 
   pub clearing : (s : Space) (v w : Wave) → (row_of o).shape ≡ shape.ZakClear s
       → acts (voice_world areas piece) (act.Zak o reach) into (v ∷ w ∷ []) m
@@ -96,25 +103,31 @@ module _ (areas : List Area) (piece : Piece) (o : Opcode) (reach : Reach) (into 
 
 -- ---- the place that a number names
 
-pub at_reached : {A : Type 0} (at : Setting) (piece : Piece) (s : Space) (reach : Reach) (k : Option ℕ) (g : Res) (other : A) (found : Res → A)
+pub at_reached : {A : Type 0} (at : Setting) (piece : Piece) (s : Space) (reach : Reach) (k : Option ℕ) (g : Res)
+    (other : A) (found : Res → A)
     → piece.spaces ≡ at.spaces → reached at s reach k ≡ Some g → at_place piece s reach k other found ≡ found g
 at_reached at piece s reach None g other found same h = absurd cc
 at_reached {A} at piece s reach (Some n) g other found same h =
-    ap (λ (spaces : Spaces). if nat_lt n (places_of spaces s) && reaches reach n then found (zak_place s n) else other) same
+    ap (λ (spaces : Spaces). if nat_lt n (places_of spaces s) && reaches reach n then found (zak_place s n) else other)
+    same
     ∙ by (nat_lt n (places_of at.spaces s) && reaches reach n) h
   where
-    by : (b : Bool) → (if b then Some (zak_place s n) else None) ≡ Some g → (if b then found (zak_place s n) else other) ≡ found g
+    by : (b : Bool) → (if b then Some (zak_place s n) else None) ≡ Some g
+        → (if b then found (zak_place s n) else other) ≡ found g
     by true e = ap found (some_is (zak_place s n) g e)
     by false e = absurd cc
 
-pub not_reached : {A : Type 0} (at : Setting) (piece : Piece) (s : Space) (reach : Reach) (k : Option ℕ) (other : A) (found : Res → A)
+pub not_reached : {A : Type 0} (at : Setting) (piece : Piece) (s : Space) (reach : Reach) (k : Option ℕ) (other : A)
+    (found : Res → A)
     → piece.spaces ≡ at.spaces → reached at s reach k ≡ None → at_place piece s reach k other found ≡ other
 not_reached at piece s reach None other found same h = refl
 not_reached {A} at piece s reach (Some n) other found same h =
-    ap (λ (spaces : Spaces). if nat_lt n (places_of spaces s) && reaches reach n then found (zak_place s n) else other) same
+    ap (λ (spaces : Spaces). if nat_lt n (places_of spaces s) && reaches reach n then found (zak_place s n) else other)
+    same
     ∙ by (nat_lt n (places_of at.spaces s) && reaches reach n) h
   where
-    by : (b : Bool) → (if b then Some (zak_place s n) else None) ≡ None → (if b then found (zak_place s n) else other) ≡ other
+    by : (b : Bool) → (if b then Some (zak_place s n) else None) ≡ None
+        → (if b then found (zak_place s n) else other) ≡ other
     by true e = absurd cc
     by false e = refl
 
@@ -137,20 +150,24 @@ place_of_number at s reach (Some n) g h = (n, by (nat_lt n (places_of at.spaces 
     by true e = some_is (zak_place s n) g e
     by false e = absurd cc
 
-pub reached_value : (at : Setting) (s : Space) (reach : Reach) (k : Option ℕ) (g : Res) → reached at s reach k ≡ Some g → has_value g ≡ true
-reached_value at s reach k g h = let p = place_of_number at s reach k g h in subst (λ r. has_value r ≡ true) p.1 (place_value s p.0)
+pub reached_value : (at : Setting) (s : Space) (reach : Reach) (k : Option ℕ) (g : Res) → reached at s reach k ≡ Some g
+    → has_value g ≡ true
+reached_value at s reach k g h = let p =
+    place_of_number at s reach k g h in subst (λ r. has_value r ≡ true) p.1 (place_value s p.0)
   where
     place_value : (s : Space) (n : ℕ) → has_value (zak_place s n) ≡ true
     place_value space.Control n = refl
     place_value space.Audio n = refl
 
-pub reached_sound : (at : Setting) (reach : Reach) (k : Option ℕ) (g : Res) → reached at space.Audio reach k ≡ Some g → res_rate g ≡ rate.Audio
+pub reached_sound : (at : Setting) (reach : Reach) (k : Option ℕ) (g : Res) → reached at space.Audio reach k ≡ Some g
+    → res_rate g ≡ rate.Audio
 reached_sound at reach k g h = let p = place_of_number at space.Audio reach k g h in sym (ap res_rate p.1)
 
 -- ---- what is mixed is nothing beyond the cycle
 
 pub mixed_held : (n : ℕ) (area : Area) (cells : ℕ → ℤ) (row : List ℤ) → area.length ≡ n → length row ≡ n
-    → added (wave_in rate.Audio area cells) (row_wave row) ≡ held n rate.Audio (added (wave_in rate.Audio area cells) (row_wave row))
+    → added (wave_in rate.Audio area cells) (row_wave row) ≡ held n rate.Audio
+    (added (wave_in rate.Audio area cells) (row_wave row))
 mixed_held n area cells row size long = λ i j. at j i
   where
     at : (j : ℕ) → added (wave_in rate.Audio area cells) (row_wave row) j
@@ -163,13 +180,18 @@ mixed_held n area cells row size long = λ i j. at j i
         ∙ sym (ap (λ b. if b then added (wave_in rate.Audio area cells) (row_wave row) j else pos 0) no))
 
 -- what the act of mixing makes of cells
-pub mixed_here : (areas : List Area) (g : Res) (area : Area) (x : Wave) (row : List ℤ) (n ksmps : ℕ) (before after : ℕ → ℤ)
-    → area_of areas g ≡ Some area → res_rate g ≡ rate.Audio → area.length ≡ n → length row ≡ n → n ≡ ksmps → row_wave row ≡ x
+pub mixed_here : (areas : List Area) (g : Res) (area : Area) (x : Wave) (row : List ℤ) (n ksmps : ℕ)
+    (before after : ℕ → ℤ)
+    → area_of areas g ≡ Some area → res_rate g ≡ rate.Audio → area.length ≡ n → length row ≡ n → n ≡ ksmps
+    → row_wave row ≡ x
     → after ≡ with_wave (Some area) (added (wave_in rate.Audio area before) (row_wave row)) before
-    → with_wave (area_of areas g) (held ksmps (res_rate g) (added (wave_of (area_of areas g) (res_rate g) before) x)) before ≡ after
+    → with_wave (area_of areas g) (held ksmps (res_rate g) (added (wave_of (area_of areas g) (res_rate g) before) x))
+    before ≡ after
 mixed_here areas g area x row n ksmps before after found sound size long same own is =
     ap (λ o. with_wave o (held ksmps (res_rate g) (added (wave_of o (res_rate g) before) x)) before) found
     ∙ ap (λ r. with_wave (Some area) (held ksmps r (added (wave_in r area before) x)) before) sound
-    ∙ ap (λ y. with_wave (Some area) (held ksmps rate.Audio (added (wave_in rate.Audio area before) y)) before) (sym own)
-    ∙ ap (λ k. with_wave (Some area) (held k rate.Audio (added (wave_in rate.Audio area before) (row_wave row))) before) (sym same)
+    ∙ ap (λ y. with_wave (Some area) (held ksmps rate.Audio (added (wave_in rate.Audio area before) y)) before)
+    (sym own)
+    ∙ ap (λ k. with_wave (Some area) (held k rate.Audio (added (wave_in rate.Audio area before) (row_wave row))) before)
+    (sym same)
     ∙ ap (λ w. with_wave (Some area) w before) (sym (mixed_held n area before row size long)) ∙ sym is

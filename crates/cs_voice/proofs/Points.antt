@@ -1,5 +1,6 @@
 -- What a unit reads of its table is what the definition reads.
-use Rattle.std.proofs.Common.{◌≡◌, ℤ, Bool, true, false, not, ◌||◌, List, [], map, unsigned_abs, Option, Some, None, if◌then◌else◌, refl, sym, ◌∙◌, ap}
+use Rattle.std.proofs.Common.{◌≡◌, ℤ, Bool, true, false, not, ◌||◌, List, [], map, unsigned_abs, Option, Some, None}
+use Rattle.std.proofs.Common.{if◌then◌else◌, refl, sym, ◌∙◌, ap}
 use Rattle.std.specs.List.{range_with_len}
 use Rattle.std.specs.Option.{is_some}
 use Rattle.cs_base.proofs.Tests.{by_test}
@@ -40,32 +41,38 @@ unit_result o h =
     record {
       some = when_all (λ o. is_unit (row_of o).shape) gives refl o unit;
       table = same_bool (reads_table o) (takes_table o)
-          (when_all (λ o. is_unit (row_of o).shape) (λ o. if reads_table o then takes_table o else not (takes_table o)) refl o unit);
+          (when_all (λ o. is_unit (row_of o).shape) (λ o. if reads_table o then takes_table o else not (takes_table o))
+          refl o unit);
     }
 
 -- a unit has a table exactly where its opcode takes one
-no_table : (points : Option (List ℤ)) (area : Option Area) → (points ≡ None) × (area ≡ None) → (is_some points || is_some area) ≡ false
+no_table : (points : Option (List ℤ)) (area : Option Area) → (points ≡ None) × (area ≡ None)
+    → (is_some points || is_some area) ≡ false
 no_table points area h = ap (λ o. is_some o || is_some area) h.0 ∙ ap is_some h.1
 
-pub table_taken : (areas : List Area) (piece : Piece) (kind : Opcode × Rate) (p : PlayerData) → IsPlayerOf areas piece kind p
+pub table_taken : (areas : List Area) (piece : Piece) (kind : Opcode × Rate) (p : PlayerData)
+    → IsPlayerOf areas piece kind p
     → has_table p ≡ takes_table kind.0
 table_taken areas piece kind p is = by_test (takes_table kind.0)
     (λ takes. (is.table takes).has ∙ sym takes)
     (λ none. no_table p.points p.area (is.none none) ∙ sym none)
 
 -- so what it may touch is what the definition lets it touch
-pub same_reach : (areas : List Area) (piece : Piece) (opcode : Opcode) (r : Rate) (reach : Reach) (p : PlayerData) → IsPlayerOf areas piece (opcode, r) p
+pub same_reach : (areas : List Area) (piece : Piece) (opcode : Opcode) (r : Rate) (reach : Reach) (p : PlayerData)
+    → IsPlayerOf areas piece (opcode, r) p
     → may_touch opcode reach p.table ≡ may_play reach p
 same_reach areas piece opcode r reach p is =
     ap (λ b. not b || reaches reach (unsigned_abs p.table)) (sym (table_taken areas piece (opcode, r) p is))
 
 -- the area of a live table has a cell a point
-live_area : (areas : List Area) (t : Table) (p : PlayerData) → p.area ≡ (if is_some t.frozen then None else area_of areas (res.Table t.number))
+live_area : (areas : List Area) (t : Table) (p : PlayerData)
+    → p.area ≡ (if is_some t.frozen then None else area_of areas (res.Table t.number))
     → t.frozen ≡ None → p.area ≡ area_of areas (res.Table t.number)
 live_area areas t p is live = is ∙ ap (λ o. if is_some o then None else area_of areas (res.Table t.number)) live
 
 -- the points that are read of a table, by whether it is frozen and where it lies
-points_of_table : (areas : List Area) (t : Table) (frozen : Option (List ℤ)) (area : Option Area) (x : VoiceState) → (is_some frozen || is_some area) ≡ true
+points_of_table : (areas : List Area) (t : Table) (frozen : Option (List ℤ)) (area : Option Area) (x : VoiceState)
+    → (is_some frozen || is_some area) ≡ true
     → (frozen ≡ None → (area ≡ area_of areas (res.Table t.number)) × ((a : Area) → area ≡ Some a → a.length ≡ t.size))
     → curve_of (points_of (λ g. read_cells areas g x.shared) t frozen) ≡ curve_at frozen area x.shared
 points_of_table areas t (Some points) area x has live = refl
@@ -80,14 +87,18 @@ pub record IsLiveOn (areas : List Area) (t : Table) (a : Area) : Type 0 where
   pub area : area_of areas (res.Table t.number) ≡ Some a
   pub size : a.length ≡ t.size
 
-pub live_table : (areas : List Area) (stock : Stock) (piece : Piece) (p : PlayerData) (on : IsOnTable areas piece.tables p) → IsPlaced areas stock piece
+pub live_table : (areas : List Area) (stock : Stock) (piece : Piece) (p : PlayerData)
+    (on : IsOnTable areas piece.tables p) → IsPlaced areas stock piece
     → on.table.frozen ≡ None → (a : Area) → p.area ≡ Some a → IsLiveOn areas on.table a
 live_table areas stock piece p on placed live a at =
-    let there : area_of areas (res.Table on.table.number) ≡ Some a = sym (live_area areas on.table p on.area live) ∙ at in
+    let there : area_of areas (res.Table on.table.number) ≡ Some a =
+    sym (live_area areas on.table p on.area live) ∙ at in
     record { area = there; size = (placed.tables p.table on.table on.found live).size a there }
 
-pub same_points : (areas : List Area) (stock : Stock) (piece : Piece) (opcode : Opcode) (r : Rate) (p : PlayerData) (x : VoiceState) → IsPlaced areas stock piece
-    → IsPlayerOf areas piece (opcode, r) p → unit_points (voice_model areas piece) opcode (playing p) x ≡ curve_at p.points p.area x.shared
+pub same_points : (areas : List Area) (stock : Stock) (piece : Piece) (opcode : Opcode) (r : Rate) (p : PlayerData)
+    (x : VoiceState) → IsPlaced areas stock piece
+    → IsPlayerOf areas piece (opcode, r) p
+    → unit_points (voice_model areas piece) opcode (playing p) x ≡ curve_at p.points p.area x.shared
 same_points areas stock piece opcode r p x placed is = by_test (takes_table opcode)
     (λ takes. let on = is.table takes in
     ap (λ b. if b then read_points (λ g. read_cells areas g x.shared) (find_table piece.tables p.table) else []) takes
@@ -96,5 +107,6 @@ same_points areas stock piece opcode r p x placed is = by_test (takes_table opco
     ∙ points_of_table areas on.table p.points p.area x on.has
     (λ none. let live : on.table.frozen ≡ None = sym on.points ∙ none in
     (live_area areas on.table p on.area live, λ a at. (live_table areas stock piece p on placed live a at).size)))
-    (λ none. ap (λ b. if b then read_points (λ g. read_cells areas g x.shared) (find_table piece.tables p.table) else []) none
+    (λ none. ap (λ b. if b then read_points (λ g. read_cells areas g x.shared) (find_table piece.tables p.table) else
+    []) none
     ∙ sym (ap (λ o. curve_at o p.area x.shared) (is.none none).0 ∙ ap (λ o. curve_at None o x.shared) (is.none none).1))

@@ -1,5 +1,6 @@
 -- What an op that is ready has, by its act: all that the calls that do the act ask for.
-use Rattle.std.proofs.Common.{◌≡◌, ℕ, ℤ, ◌<◌, ◌==◌, suc, Bool, true, List, [], ◌∷◌, length, slice_index_or, Some, None, if◌then◌else◌, refl, sym, ◌∙◌, ap, subst, eqb-true, ltb-true}
+use Rattle.std.proofs.Common.{◌≡◌, ℕ, ℤ, ◌<◌, ◌==◌, suc, Bool, true, List, [], ◌∷◌, length, slice_index_or, Some, None}
+use Rattle.std.proofs.Common.{if◌then◌else◌, refl, sym, ◌∙◌, ap, subst, eqb-true, ltb-true}
 use Rattle.std.proofs.lemmas.Bool.{and_parts}
 use Rattle.cs_base.specs.Rates.{is_audio, res_rate}
 use Rattle.cs_base.specs.declared.resource.Rate.{Rate}
@@ -16,7 +17,8 @@ use Rattle.cs_ugen.specs.Units.{IsUnitOpcode, moving_count}
 use Rattle.cs_ir.specs.Resources.{Stock, act_uses, act_writes, places_within, shape_uses, writes_places}
 use Rattle.cs_ir.specs.Units.{is_store, is_unit, is_zak}
 use Rattle.cs_ir.proofs.Shapes.{run_shape}
-use Rattle.cs_ir.specs.Validity.{bound_at, finds, has_register, may_run_at, runs_with, stores_with, take_all, takes_from, writes}
+use Rattle.cs_ir.specs.Validity.{bound_at, finds, has_register, may_run_at, runs_with, stores_with, take_all}
+use Rattle.cs_ir.specs.Validity.{takes_from, writes}
 use Rattle.cs_ir.specs.declared.op.Act.{Act}
 use Rattle.cs_ir.specs.declared.op.Act.TheVariants as act
 use Rattle.cs_ir.specs.declared.op.Op.{Op}
@@ -39,7 +41,8 @@ use Rattle.cs_voice.proofs.Touching.{may_reach, may_run, may_store}
 
 -- ---- what each op has
 
-module _ (can_get can_set : ℕ → Type 0) (count : ℕ) (at : Setting) (piece : Piece) (kinds : Kinds) (stock : Stock) (o : Op) (s : State)
+module _ (can_get can_set : ℕ → Type 0) (count : ℕ) (at : Setting) (piece : Piece) (kinds : Kinds) (stock : Stock)
+    (o : Op) (s : State)
     (r : IsReady can_get can_set count at piece kinds stock o s) where
   pub room_of : HasRoom s
   room_of = has_room at.layout.now piece kinds s.regs.counts s r.state
@@ -47,7 +50,8 @@ module _ (can_get can_set : ℕ → Type 0) (count : ℕ) (at : Setting) (piece 
   pub sized_of : AreSized at.layout.now s.regs.ksmps
   sized_of = record {
     frames = subst (λ n. 0 < n) (sym r.state.frames) r.placed.frames;
-    cells = λ g area is value. r.placed.cells g area is value ∙ ap (λ n. cell_count n (res_rate g)) (sym r.state.frames);
+    cells = λ g area is value. r.placed.cells g area is value
+        ∙ ap (λ n. cell_count n (res_rate g)) (sym r.state.frames);
   }
 
   pub fit_of : IsFit o s
@@ -75,15 +79,19 @@ module _ (can_get can_set : ℕ → Type 0) (count : ℕ) (at : Setting) (piece 
   pub into_of : (a : Act) → o.act ≡ a → writes a ≡ true → has_register s.regs.counts o.into ≡ true
   into_of a e w = (parts s.regs.counts r.end r.place o r.fine).into (ap writes e ∙ w)
 
-  pub kind_of : (opcode : Opcode) (u : ℕ) (reach : Reach) → o.act ≡ act.Unit opcode u reach → kinds u ≡ (opcode, o.into.rate)
+  pub kind_of : (opcode : Opcode) (u : ℕ) (reach : Reach) → o.act ≡ act.Unit opcode u reach
+      → kinds u ≡ (opcode, o.into.rate)
   kind_of opcode u reach e = (subst (λ a. ActNamed stock kinds (HasArea at.layout.now) a o.into.rate) e r.named).0
 
-  pub number_of : (opcode : Opcode) (u : ℕ) (reach : Reach) → o.act ≡ act.Unit opcode u reach → u < length s.players.items
+  pub number_of : (opcode : Opcode) (u : ℕ) (reach : Reach) → o.act ≡ act.Unit opcode u reach
+      → u < length s.players.items
   number_of opcode u reach e = subst (λ n. u < n) (sym r.state.units)
-      (ltb-true u s.regs.counts.units (ap (finds s.regs.counts r.end r.place) (sym e) ∙ found s.regs.counts r.end r.place o r.fine))
+      (ltb-true u s.regs.counts.units
+      (ap (finds s.regs.counts r.end r.place) (sym e) ∙ found s.regs.counts r.end r.place o r.fine))
 
   -- the players of a unit
-  pub player_of : (opcode : Opcode) (u : ℕ) (reach : Reach) → o.act ≡ act.Unit opcode u reach → (p : PlayerData) → slice_index_or s.players.items u None ≡ Some p
+  pub player_of : (opcode : Opcode) (u : ℕ) (reach : Reach) → o.act ≡ act.Unit opcode u reach → (p : PlayerData)
+      → slice_index_or s.players.items u None ≡ Some p
       → IsPlayerOf at.layout.now piece (opcode, o.into.rate) p
   player_of opcode u reach e p is = subst (λ k. IsPlayerOf at.layout.now piece k p)
       (subst (λ a. ActNamed stock kinds (HasArea at.layout.now) a o.into.rate) e r.named).0 (r.state.players u p is)
@@ -94,27 +102,35 @@ take_count : (ls : List Letter) (bound : Rate) (xs : List Reg) → take_all ls b
 take_count [] bound [] h = refl
 take_count [] bound (x ∷ xs) h = absurd (cc)
 take_count (l ∷ ls) bound [] h = absurd (cc)
-take_count (l ∷ ls) bound (x ∷ xs) h = ap (λ n. suc n) (take_count ls bound xs (and_parts (takes l bound x.rate) (take_all ls bound xs) h).1)
+take_count (l ∷ ls) bound (x ∷ xs) h =
+    ap (λ n. suc n) (take_count ls bound xs (and_parts (takes l bound x.rate) (take_all ls bound xs) h).1)
 
-run_takes : (o : Opcode) (r : Rate) (xs : List Reg) → runs_with (row_of o) r xs ≡ true → take_all (moving_letters (row_of o)) (bound_at (row_of o) r) xs ≡ true
-run_takes o r xs h = (and_parts (take_all (moving_letters (row_of o)) (bound_at (row_of o) r) xs) (may_run_at (row_of o) r) h).0
+run_takes : (o : Opcode) (r : Rate) (xs : List Reg) → runs_with (row_of o) r xs ≡ true
+    → take_all (moving_letters (row_of o)) (bound_at (row_of o) r) xs ≡ true
+run_takes o r xs h = (and_parts (take_all (moving_letters (row_of o)) (bound_at (row_of o) r) xs)
+    (may_run_at (row_of o) r) h).0
 
-pub is_a_unit : (o : Opcode) (u : ℕ) (reach : Reach) (r : Rate) (xs : List Reg) → takes_from (act.Unit o u reach) r xs ≡ true → IsUnitOpcode o
+pub is_a_unit : (o : Opcode) (u : ℕ) (reach : Reach) (r : Rate) (xs : List Reg)
+    → takes_from (act.Unit o u reach) r xs ≡ true → IsUnitOpcode o
 is_a_unit o u reach r xs h = run_shape o r xs h
 
-pub unit_count : (o : Opcode) (u : ℕ) (reach : Reach) (r : Rate) (xs : List Reg) → takes_from (act.Unit o u reach) r xs ≡ true → length xs ≡ moving_count o
+pub unit_count : (o : Opcode) (u : ℕ) (reach : Reach) (r : Rate) (xs : List Reg)
+    → takes_from (act.Unit o u reach) r xs ≡ true → length xs ≡ moving_count o
 unit_count o u reach r xs h =
-    take_count (moving_letters (row_of o)) (bound_at (row_of o) r) xs (run_takes o r xs (and_parts (is_unit (row_of o).shape) (runs_with (row_of o) r xs) h).1)
+    take_count (moving_letters (row_of o)) (bound_at (row_of o) r) xs
+    (run_takes o r xs (and_parts (is_unit (row_of o).shape) (runs_with (row_of o) r xs) h).1)
 
 zak_takes : (o : Opcode) (reach : Reach) (r : Rate) (xs : List Reg) → takes_from (act.Zak o reach) r xs ≡ true
     → take_all (moving_letters (row_of o)) (bound_at (row_of o) r) xs ≡ true
 zak_takes o reach r xs h = run_takes o r xs (and_parts (is_zak (row_of o).shape) (runs_with (row_of o) r xs) h).1
 
-pub is_a_zak : (o : Opcode) (reach : Reach) (r : Rate) (xs : List Reg) → takes_from (act.Zak o reach) r xs ≡ true → is_zak (row_of o).shape ≡ true
+pub is_a_zak : (o : Opcode) (reach : Reach) (r : Rate) (xs : List Reg) → takes_from (act.Zak o reach) r xs ≡ true
+    → is_zak (row_of o).shape ≡ true
 is_a_zak o reach r xs h = (and_parts (is_zak (row_of o).shape) (runs_with (row_of o) r xs) h).0
 
 -- there is no other shape of one
-pub not_zak : (s : Shape) → is_zak s ≡ true → ((z : Space) → s ≡ shape.ZakGet z → ⊥) → ((z : Space) → s ≡ shape.ZakPut z → ⊥) → (s ≡ shape.ZakMix → ⊥)
+pub not_zak : (s : Shape) → is_zak s ≡ true → ((z : Space) → s ≡ shape.ZakGet z → ⊥)
+    → ((z : Space) → s ≡ shape.ZakPut z → ⊥) → (s ≡ shape.ZakMix → ⊥)
     → ((z : Space) → s ≡ shape.ZakClear z → ⊥) → ⊥
 not_zak (shape.ZakGet z) h g p m c = g z refl
 not_zak (shape.ZakPut z) h g p m c = p z refl
@@ -130,7 +146,8 @@ zak_count _ = 2
 counts_so : Opcode → Bool
 counts_so o = length (moving_letters (row_of o)) == zak_count (row_of o).shape
 
-pub zak_long : (o : Opcode) (reach : Reach) (r : Rate) (xs : List Reg) (n : ℕ) → takes_from (act.Zak o reach) r xs ≡ true → zak_count (row_of o).shape ≡ n → length xs ≡ n
+pub zak_long : (o : Opcode) (reach : Reach) (r : Rate) (xs : List Reg) (n : ℕ)
+    → takes_from (act.Zak o reach) r xs ≡ true → zak_count (row_of o).shape ≡ n → length xs ≡ n
 unfolding counts_so
 zak_long o reach r xs n h e =
     take_count (moving_letters (row_of o)) (bound_at (row_of o) r) xs (zak_takes o reach r xs h)
@@ -142,7 +159,8 @@ mixes : (o : Opcode) → (row_of o).shape ≡ shape.ZakMix → o ≡ op.Zawm
 mixes op.Zawm h = refl
 mixes _ h = absurd (cc)
 
-pub mix_sounds : (o : Opcode) (reach : Reach) (r : Rate) (xs : List Reg) (x n : Reg) → takes_from (act.Zak o reach) r xs ≡ true → (row_of o).shape ≡ shape.ZakMix
+pub mix_sounds : (o : Opcode) (reach : Reach) (r : Rate) (xs : List Reg) (x n : Reg)
+    → takes_from (act.Zak o reach) r xs ≡ true → (row_of o).shape ≡ shape.ZakMix
     → xs ≡ x ∷ n ∷ [] → is_audio x.rate ≡ true
 mix_sounds o reach r xs x n h mix e =
     let is : o ≡ op.Zawm = mixes o mix in
@@ -159,62 +177,80 @@ stores_three r (x ∷ y ∷ []) h = absurd (cc)
 stores_three r (x ∷ y ∷ n ∷ []) h = refl
 stores_three r (x ∷ y ∷ n ∷ z ∷ xs) h = absurd (cc)
 
-pub store_long : (o : Opcode) (reach : Reach) (r : Rate) (xs : List Reg) → takes_from (act.Store o reach) r xs ≡ true → length xs ≡ 3
+pub store_long : (o : Opcode) (reach : Reach) (r : Rate) (xs : List Reg) → takes_from (act.Store o reach) r xs ≡ true
+    → length xs ≡ 3
 store_long o reach r xs h = stores_three r xs (and_parts (is_store (row_of o).shape) (stores_with r xs) h).1
 
 -- ---- an op that is done
 
-pub does_op : (can_get can_set : ℕ → Type 0) (count : ℕ) (at : Setting) (o : Op) (b : Act) (ys : List Reg) (old : State) (before : ℕ → ℤ) (new : State) (after : ℕ → ℤ)
-    → o.act ≡ b → o.from ≡ ys → DoesOver at b o.into ys old before new after → DoesOp can_get can_set count at o old before new after
+pub does_op : (can_get can_set : ℕ → Type 0) (count : ℕ) (at : Setting) (o : Op) (b : Act) (ys : List Reg) (old : State)
+    (before : ℕ → ℤ) (new : State) (after : ℕ → ℤ)
+    → o.act ≡ b → o.from ≡ ys → DoesOver at b o.into ys old before new after
+    → DoesOp can_get can_set count at o old before new after
 does_op can_get can_set count at o b ys old before new after e f h piece kinds stock r =
     subst (λ d. Does at.layout.now piece kinds old.regs.counts d o.into o.from old before new after) (sym e)
     (subst (λ l. Does at.layout.now piece kinds old.regs.counts b o.into l old before new after) (sym f)
     (h at.layout.now piece stock kinds old.regs.counts r.setting r.placed r.state))
 
-pub does_op_unit : (can_get can_set : ℕ → Type 0) (count : ℕ) (at : Setting) (o : Op) (opcode : Opcode) (u : ℕ) (reach : Reach) (ys : List Reg) (old : State) (before : ℕ → ℤ) (new : State) (after : ℕ → ℤ)
-    → o.act ≡ act.Unit opcode u reach → o.from ≡ ys → IsUnitOpcode opcode → DoesUnit u reach o.into ys old before new after → DoesOp can_get can_set count at o old before new after
+pub does_op_unit : (can_get can_set : ℕ → Type 0) (count : ℕ) (at : Setting) (o : Op) (opcode : Opcode) (u : ℕ)
+    (reach : Reach) (ys : List Reg) (old : State) (before : ℕ → ℤ) (new : State) (after : ℕ → ℤ)
+    → o.act ≡ act.Unit opcode u reach → o.from ≡ ys → IsUnitOpcode opcode
+    → DoesUnit u reach o.into ys old before new after → DoesOp can_get can_set count at o old before new after
 does_op_unit can_get can_set count at o opcode u reach ys old before new after e f is h piece kinds stock r =
     subst (λ d. Does at.layout.now piece kinds old.regs.counts d o.into o.from old before new after) (sym e)
-    (subst (λ l. Does at.layout.now piece kinds old.regs.counts (act.Unit opcode u reach) o.into l old before new after) (sym f)
-    (h at.layout.now piece stock kinds old.regs.counts opcode is (kind_of can_get can_set count at piece kinds stock o old r opcode u reach e) r.placed r.state))
+    (subst (λ l. Does at.layout.now piece kinds old.regs.counts (act.Unit opcode u reach) o.into l old before new after)
+    (sym f)
+    (h at.layout.now piece stock kinds old.regs.counts opcode is
+    (kind_of can_get can_set count at piece kinds stock o old r opcode u reach e) r.placed r.state))
 
-pub does_op_plain : (can_get can_set : ℕ → Type 0) (count : ℕ) (at : Setting) (o : Op) (old : State) (cells : ℕ → ℤ) (new : State)
+pub does_op_plain : (can_get can_set : ℕ → Type 0) (count : ℕ) (at : Setting) (o : Op) (old : State) (cells : ℕ → ℤ)
+    (new : State)
     → DoesAt at o.act o.into o.from old new → DoesOp can_get can_set count at o old cells new cells
 does_op_plain can_get can_set count at o old cells new h piece kinds stock r =
     h at.layout.now piece kinds old.regs.counts cells r.setting r.state
 
 -- ---- zak places of an op that is ready
 
-module _ (can_get can_set : ℕ → Type 0) (count : ℕ) (at : Setting) (piece : Piece) (kinds : Kinds) (stock : Stock) (o : Op) (s : State)
-    (r : IsReady can_get can_set count at piece kinds stock o s) (opcode : Opcode) (reach : Reach) (e : o.act ≡ act.Zak opcode reach) where
+module _ (can_get can_set : ℕ → Type 0) (count : ℕ) (at : Setting) (piece : Piece) (kinds : Kinds) (stock : Stock)
+    (o : Op) (s : State)
+    (r : IsReady can_get can_set count at piece kinds stock o s) (opcode : Opcode) (reach : Reach)
+    (e : o.act ≡ act.Zak opcode reach) where
   -- those of the space that its shape reads, and those of the one that it writes
-  pub may_read : (z : Space) (sh : Shape) → (row_of opcode).shape ≡ sh → ((stock : Stock) → shape_uses stock sh reach ≡ places_within stock z reach) → MayReach can_get count at z reach
+  pub may_read : (z : Space) (sh : Shape) → (row_of opcode).shape ≡ sh
+      → ((stock : Stock) → shape_uses stock sh reach ≡ places_within stock z reach) → MayReach can_get count at z reach
   may_read z sh is these =
       may_reach can_get count at stock piece z reach r.placed.spaces r.setting.spaces
       (subst (AreNamed (MayTouch can_get count at.layout.now)) (ap (λ q. shape_uses stock q reach) is ∙ these stock)
       (uses_of can_get can_set count at piece kinds stock o s r (act.Zak opcode reach) e))
 
-  pub may_write : (z : Space) (sh : Shape) → (row_of opcode).shape ≡ sh → ((stock : Stock) → (if writes_places sh then shape_uses stock sh reach else []) ≡ places_within stock z reach)
+  pub may_write : (z : Space) (sh : Shape) → (row_of opcode).shape ≡ sh
+      → ((stock : Stock) → (if writes_places sh then shape_uses stock sh reach else []) ≡ places_within stock z reach)
       → MayReach can_set count at z reach
   may_write z sh is these =
       may_reach can_set count at stock piece z reach r.placed.spaces r.setting.spaces
-      (subst (AreNamed (MayTouch can_set count at.layout.now)) (ap (λ q. if writes_places q then shape_uses stock q reach else []) is ∙ these stock)
+      (subst (AreNamed (MayTouch can_set count at.layout.now))
+      (ap (λ q. if writes_places q then shape_uses stock q reach else []) is ∙ these stock)
       (writes_of can_get can_set count at piece kinds stock o s r (act.Zak opcode reach) e))
 
 -- ---- tables of an op that is ready
 
-pub unit_may_play : (can_get can_set : ℕ → Type 0) (count : ℕ) (at : Setting) (piece : Piece) (kinds : Kinds) (stock : Stock) (o : Op) (s : State)
-    → IsReady can_get can_set count at piece kinds stock o s → (opcode : Opcode) (u : ℕ) (reach : Reach) → o.act ≡ act.Unit opcode u reach
+pub unit_may_play : (can_get can_set : ℕ → Type 0) (count : ℕ) (at : Setting) (piece : Piece) (kinds : Kinds)
+    (stock : Stock) (o : Op) (s : State)
+    → IsReady can_get can_set count at piece kinds stock o s → (opcode : Opcode) (u : ℕ) (reach : Reach)
+    → o.act ≡ act.Unit opcode u reach
     → (p : PlayerData) → slice_index_or s.players.items u None ≡ Some p → MayPlay can_get count reach o.from p
 unit_may_play can_get can_set count at piece kinds stock o s r opcode u reach e p is =
     let takes = takes_of can_get can_set count at piece kinds stock o s r (act.Unit opcode u reach) e in
-    may_run can_get count at.layout.now stock piece opcode o.into.rate reach o.from p (is_a_unit opcode u reach o.into.rate o.from takes)
+    may_run can_get count at.layout.now stock piece opcode o.into.rate reach o.from p
+    (is_a_unit opcode u reach o.into.rate o.from takes)
     (unit_count opcode u reach o.into.rate o.from takes)
     r.placed (uses_of can_get can_set count at piece kinds stock o s r (act.Unit opcode u reach) e)
     (player_of can_get can_set count at piece kinds stock o s r opcode u reach e p is)
 
-pub op_may_store : (can_get can_set : ℕ → Type 0) (count : ℕ) (at : Setting) (piece : Piece) (kinds : Kinds) (stock : Stock) (o : Op) (s : State)
-    → IsReady can_get can_set count at piece kinds stock o s → (opcode : Opcode) (reach : Reach) → o.act ≡ act.Store opcode reach → MayStore can_set count at.layout.now reach
+pub op_may_store : (can_get can_set : ℕ → Type 0) (count : ℕ) (at : Setting) (piece : Piece) (kinds : Kinds)
+    (stock : Stock) (o : Op) (s : State)
+    → IsReady can_get can_set count at piece kinds stock o s → (opcode : Opcode) (reach : Reach)
+    → o.act ≡ act.Store opcode reach → MayStore can_set count at.layout.now reach
 op_may_store can_get can_set count at piece kinds stock o s r opcode reach e =
     may_store can_set count at.layout.now stock piece reach r.placed
     (writes_of can_get can_set count at piece kinds stock o s r (act.Store opcode reach) e)

@@ -1,5 +1,6 @@
 -- What notes share: what a register takes of an area, and an area of a register.
-use Rattle.std.proofs.Common.{◌≡◌, ℕ, ℤ, pos, ◌+◌, ◌<◌, true, false, List, length, nat_lt, Some, if◌then◌else◌, refl, sym, ◌∙◌, ap, subst, arith}
+use Rattle.std.proofs.Common.{◌≡◌, ℕ, ℤ, pos, ◌+◌, ◌<◌, true, false, List, length, nat_lt, Some, if◌then◌else◌, refl}
+use Rattle.std.proofs.Common.{sym, ◌∙◌, ap, subst, arith}
 use Rattle.std.proofs.lemmas.Bool.{false≢true}
 use Rattle.std.proofs.lemmas.Bool.Decides.{nat_tests}
 use Rattle.cs_base.specs.Rates.{is_audio}
@@ -22,11 +23,15 @@ use Rattle.cs_machine.proofs.Given.{sound_register}
 
 -- the first cell of an area that has one
 pub first_in : (can : ℕ → Type 0) (n : ℕ) (area : Area) → CanTouch can n area → 0 < area.length → can area.first
-first_in can n area touch some = subst can (let e : area.first + 0 ≡ area.first = omega arith in e) (touch.can (area.first + 0) (in_here area 0 some))
+first_in can n area touch some =
+    subst can (let e : area.first + 0 ≡ area.first = omega arith in e)
+    (touch.can (area.first + 0) (in_here area 0 some))
 
 -- an area of sound was read into a row that was swapped in
-pub read_sound : (f g : RegisterFile) (into : Reg) (r : Rate) (area : Area) (cells : ℕ → ℤ) (swapped row : List ℤ) → swapped ≡ row
-    → is_audio r ≡ true → is_audio into.rate ≡ true → length row ≡ f.ksmps → HasFrames (wave_in rate.Audio area cells) row
+pub read_sound : (f g : RegisterFile) (into : Reg) (r : Rate) (area : Area) (cells : ℕ → ℤ) (swapped row : List ℤ)
+    → swapped ≡ row
+    → is_audio r ≡ true → is_audio into.rate ≡ true → length row ≡ f.ksmps
+    → HasFrames (wave_in rate.Audio area cells) row
     → IsWritten f (reg rate.Audio into.index) (row_wave swapped) g → IsWritten f into (wave_in r area cells) g
 read_sound f g into r area cells swapped row same sound fast long frames wrote =
     subst (λ q. IsWritten f into (wave_in q area cells) g) (sym (is_sound r sound))
@@ -38,8 +43,10 @@ read_sound f g into r area cells swapped row same sound fast long frames wrote =
     is_sound rate.Control h = absurd (false≢true h)
 
 -- what is held at one rate or the other was read from the first cell
-pub read_held : (f g : RegisterFile) (into : Reg) (r : Rate) (area : Area) (cells : ℕ → ℤ) (z : ℤ) → (is_audio r ≡ true → is_audio into.rate ≡ false)
-    → 0 < area.length → z ≡ cells area.first → IsWritten f into (constant z) g → IsWritten f into (wave_in r area cells) g
+pub read_held : (f g : RegisterFile) (into : Reg) (r : Rate) (area : Area) (cells : ℕ → ℤ) (z : ℤ)
+    → (is_audio r ≡ true → is_audio into.rate ≡ false)
+    → 0 < area.length → z ≡ cells area.first → IsWritten f into (constant z) g
+    → IsWritten f into (wave_in r area cells) g
 read_held f g into rate.Init area cells z slow some is wrote =
     subst (λ v. IsWritten f into (constant v) g) is wrote
 read_held f g into rate.Control area cells z slow some is wrote =
@@ -50,7 +57,8 @@ read_held f g into rate.Audio area cells z slow some is wrote =
     at_first : cells area.first ≡ wave_in rate.Audio area cells 0
     at_first =
         let low : nat_lt 0 area.length ≡ true = grind (arith, nat_tests) in
-        ap cells (let e : area.first ≡ area.first + 0 = omega arith in e) ∙ sym (ap (λ b. if b then cells (area.first + 0) else pos 0) low)
+        ap cells (let e : area.first ≡ area.first + 0 = omega arith in e)
+        ∙ sym (ap (λ b. if b then cells (area.first + 0) else pos 0) low)
 
 -- an area has at least one cell
 pub some_cell : (ksmps : ℕ) (r : Rate) (n : ℕ) → 0 < ksmps → n ≡ cell_count ksmps r → 0 < n
@@ -74,6 +82,8 @@ saved_here areas g area r w m n before after found same is =
     ∙ ap (λ k. with_wave (Some area) (held k r w) before) (sym same) ∙ sym is
 
 -- what may be touched of a resource's area
-pub touch_of : (allowed : ℕ → Type 0) (count : ℕ) (areas : List Area) (g : Res) (area : Area) → MayTouch allowed count areas g
+pub touch_of : (allowed : ℕ → Type 0) (count : ℕ) (areas : List Area) (g : Res) (area : Area)
+    → MayTouch allowed count areas g
     → area_of areas g ≡ Some area → CanTouch allowed count area
-touch_of allowed count areas g area may found = subst (CanTouch allowed count) (some_is may.0 area (sym may.1 ∙ found)) may.2
+touch_of allowed count areas g area may found =
+    subst (CanTouch allowed count) (some_is may.0 area (sym may.1 ∙ found)) may.2

@@ -1,5 +1,7 @@
 -- Units that were put into a state, and starts that were refused.
-use Rattle.std.proofs.Common.{◌≡◌, ◌≢◌, ℕ, ℤ, pos, ◌+◌, ◌<◌, ◌≤◌, ◌==◌, Bool, true, false, not, ◌&&◌, ◌||◌, List, length, nat_le, slice_index_or, slice_set, Option, Some, None, if◌then◌else◌, refl, sym, ◌∙◌, ap, subst, arith}
+use Rattle.std.proofs.Common.{◌≡◌, ◌≢◌, ℕ, ℤ, pos, ◌+◌, ◌<◌, ◌≤◌, ◌==◌, Bool, true, false, not, ◌&&◌, ◌||◌, List}
+use Rattle.std.proofs.Common.{length, nat_le, slice_index_or, slice_set, Option, Some, None, if◌then◌else◌, refl, sym}
+use Rattle.std.proofs.Common.{◌∙◌, ap, subst, arith}
 use Rattle.std.specs.Option.{is_some, option_map}
 use Rattle.std.proofs.lemmas.Bool.{eqb-true}
 use Rattle.std.proofs.lemmas.Bool.Decides.{nat_tests}
@@ -49,7 +51,8 @@ set_at ps u n p low = by_test (n == u)
     ∙ sym (ap (λ b. if b then Some (playing p) else unit_at ps n) no))
 
 -- the machine of a state into which a unit was put
-unit_machine : (old new : State) (u samples : ℕ) (p : PlayerData) → HasUnit old u p samples new → u < length old.players.items
+unit_machine : (old new : State) (u samples : ℕ) (p : PlayerData) → HasUnit old u p samples new
+    → u < length old.players.items
     → (cells : ℕ → ℤ) (next : ℕ) (asks : List (List ℤ)) (cause : Option Cause)
     → machine_of new cells next asks cause ≡ record {
       regs = values old.regs;
@@ -82,8 +85,10 @@ some_same : {A : Type 0} (x y : A) → Some x ≡ Some y → x ≡ y
 some_same x y e = cc
 
 -- it still is a state of its code and piece, if the unit is one that the code runs
-unit_state : (areas : List Area) (piece : Piece) (kinds : Kinds) (counts : Counts) (old new : State) (u samples : ℕ) (p : PlayerData)
-    → HasUnit old u p samples new → u < length old.players.items → IsStateIn areas piece kinds counts old → IsPlayerOf areas piece (kinds u) p
+unit_state : (areas : List Area) (piece : Piece) (kinds : Kinds) (counts : Counts) (old new : State) (u samples : ℕ)
+    (p : PlayerData)
+    → HasUnit old u p samples new → u < length old.players.items → IsStateIn areas piece kinds counts old
+    → IsPlayerOf areas piece (kinds u) p
     → IsStateIn areas piece kinds counts new
 unit_state areas piece kinds counts old new u samples p has low state player = record {
   registers = ap (λ r. r.counts) has.regs ∙ state.registers;
@@ -94,12 +99,17 @@ unit_state areas piece kinds counts old new u samples p has low state player = r
   row = ap (λ v. length v.items) has.row ∙ state.row;
   players = λ n q is. by_test (n == u)
       (λ yes. let e : n ≡ u = eqb-true n u yes in
-      let at : slice_index_or (slice_set old.players.items u (Some p)) n None ≡ Some q = ap (λ ps. slice_index_or ps n None) (sym has.players) ∙ is in
-      let here : Some p ≡ Some q = sym (ap (λ k. slice_index_or (slice_set old.players.items u (Some p)) k None) e ∙ get_or-set_same old.players.items u (Some p) None low) ∙ at in
+      let at : slice_index_or (slice_set old.players.items u (Some p)) n None ≡ Some q =
+      ap (λ ps. slice_index_or ps n None) (sym has.players) ∙ is in
+      let here : Some p ≡ Some q =
+      sym (ap (λ k. slice_index_or (slice_set old.players.items u (Some p)) k None) e
+      ∙ get_or-set_same old.players.items u (Some p) None low) ∙ at in
       let P : PlayerData → Type 0 = λ r. IsPlayerOf areas piece (kinds n) r in
       let K : ℕ → Type 0 = λ k. IsPlayerOf areas piece (kinds k) p in
       subst P (some_same p q here) (subst K (sym e) player))
-      (λ no. state.players n q (sym (get_or-set_other old.players.items u n (Some p) None (apart n u no)) ∙ ap (λ ps. slice_index_or ps n None) (sym has.players) ∙ is));
+      (λ no. state.players n q
+      (sym (get_or-set_other old.players.items u n (Some p) None (apart n u no))
+      ∙ ap (λ ps. slice_index_or ps n None) (sym has.players) ∙ is));
 }
 
 -- what takes a table is no delay
@@ -112,13 +122,16 @@ no_test op.Delay h = refl
 no_test _ h = absurd cc
 
 -- the player of a unit is one of its opcode
-has_one : (o : Option (List ℤ)) (a : Option Area) → (o ≡ None → (x : Area) × (a ≡ Some x)) → (is_some o || is_some (if is_some o then None else a)) ≡ true
+has_one : (o : Option (List ℤ)) (a : Option Area) → (o ≡ None → (x : Area) × (a ≡ Some x))
+    → (is_some o || is_some (if is_some o then None else a)) ≡ true
 has_one (Some ps) a h = refl
 has_one None a h = let e = h refl in ap is_some e.1
 
-on_is : (areas : List Area) (piece : Piece) (o : Opcode) (r : Rate) (pace : Pace) (settled : List ℤ) (t : Table) → IsUnitOpcode o → takes_table o ≡ true
+on_is : (areas : List Area) (piece : Piece) (o : Opcode) (r : Rate) (pace : Pace) (settled : List ℤ) (t : Table)
+    → IsUnitOpcode o → takes_table o ≡ true
     → find_table piece.tables (table_number settled) ≡ Some t → t.present ≡ true → CanBePlayed areas t
-    → ((area : Area) → (player_on areas t (table_number settled) (unit_start o r pace settled)).area ≡ Some area → area.first + area.length ≤ 65536)
+    → ((area : Area) → (player_on areas t (table_number settled) (unit_start o r pace settled)).area ≡ Some area
+    → area.first + area.length ≤ 65536)
     → IsPlayerOf areas piece (o, r) (player_on areas t (table_number settled) (unit_start o r pace settled))
 on_is areas piece o r pace settled t unit takes found present can small = record {
   state = (state_starts o r pace settled unit).opcode;
@@ -135,7 +148,8 @@ on_is areas piece o r pace settled t unit takes found present can small = record
   none = λ no. absurd (let e : true ≡ false = sym takes ∙ no in cc);
 }
 
-alone_is : (areas : List Area) (piece : Piece) (o : Opcode) (r : Rate) (pace : Pace) (settled : List ℤ) → IsUnitOpcode o → takes_table o ≡ false
+alone_is : (areas : List Area) (piece : Piece) (o : Opcode) (r : Rate) (pace : Pace) (settled : List ℤ) → IsUnitOpcode o
+    → takes_table o ≡ false
     → IsPlayerOf areas piece (o, r) (player_alone (table_number settled) (unit_start o r pace settled))
 alone_is areas piece o r pace settled unit takes = record {
   state = (state_starts o r pace settled unit).opcode;
@@ -169,7 +183,8 @@ beyond : (n : ℕ) → most_delay_samples < n → nat_le n most_delay_samples �
 beyond n h = grind (arith, nat_tests)
 
 -- a unit as it plays, put among those of a state
-with_unit : (cells : ℕ → ℤ) (next : ℕ) (asks : List (List ℤ)) (s : State) (u samples : ℕ) (p : Playing) → Machine VoiceState
+with_unit : (cells : ℕ → ℤ) (next : ℕ) (asks : List (List ℤ)) (s : State) (u samples : ℕ) (p : Playing)
+    → Machine VoiceState
 with_unit cells next asks s u samples p = record {
   regs = values s.regs;
   next = next;
@@ -184,46 +199,60 @@ with_unit cells next asks s u samples p = record {
   };
 }
 
-module _ (areas : List Area) (piece : Piece) (kinds : Kinds) (counts : Counts) (o : Opcode) (r : Rate) (u : ℕ) (settled : List ℤ) (old new : State) where
+module _ (areas : List Area) (piece : Piece) (kinds : Kinds) (counts : Counts) (o : Opcode) (r : Rate) (u : ℕ)
+    (settled : List ℤ) (old new : State) where
   -- what is refused
-  refused_is : (refused : Refusal) → new ≡ old → IsStateIn areas piece kinds counts old → old.delays ≤ most_delay_samples
-      → ((x : VoiceState) → x.delays ≡ old.delays → starts (voice_model areas piece) o r u settled x ≡ record x { cause = Some (cause_of refused) })
+  refused_is : (refused : Refusal) → new ≡ old → IsStateIn areas piece kinds counts old
+      → old.delays ≤ most_delay_samples
+      → ((x : VoiceState) → x.delays ≡ old.delays
+      → starts (voice_model areas piece) o r u settled x ≡ record x { cause = Some (cause_of refused) })
       → Starts areas piece kinds counts o r u settled old new (Some refused)
   refused_is refused same state small is = record {
     machine = λ cells next asks. ap (λ s. machine_of s cells next asks (Some (cause_of refused))) same
-        ∙ sym (ap (λ w. in_world w (machine_of old cells next asks None)) (is (machine_of old cells next asks None).world refl));
+        ∙ sym (ap (λ w. in_world w (machine_of old cells next asks None))
+        (is (machine_of old cells next asks None).world refl));
     state = subst (λ s. IsStateIn areas piece kinds counts s) (sym same) state;
     delays = subst (λ s. s.delays ≤ most_delay_samples) (sym same) small;
   }
 
   -- what is started
   started_is : (samples : ℕ) (p : PlayerData) → HasUnit old u p samples new → u < length old.players.items
-      → IsStateIn areas piece kinds counts old → IsPlayerOf areas piece (o, r) p → kinds u ≡ (o, r) → samples ≤ most_delay_samples
-      → ((cells : ℕ → ℤ) (next : ℕ) (asks : List (List ℤ)) → in_world (starts (voice_model areas piece) o r u settled (machine_of old cells next asks None).world) (machine_of old cells next asks None)
+      → IsStateIn areas piece kinds counts old → IsPlayerOf areas piece (o, r) p → kinds u ≡ (o, r)
+      → samples ≤ most_delay_samples
+      → ((cells : ℕ → ℤ) (next : ℕ) (asks : List (List ℤ))
+      → in_world (starts (voice_model areas piece) o r u settled (machine_of old cells next asks None).world)
+      (machine_of old cells next asks None)
       ≡ with_unit cells next asks old u samples (playing p))
       → Starts areas piece kinds counts o r u settled old new None
   unfolding with_unit
   started_is samples p has low state player kind small is = record {
-    machine = λ cells next asks. unit_machine old new u samples p has low cells next asks None ∙ sym (is cells next asks);
-    state = unit_state areas piece kinds counts old new u samples p has low state (let K : Opcode × Rate → Type 0 = λ k. IsPlayerOf areas piece k p in subst K (sym kind) player);
+    machine = λ cells next asks. unit_machine old new u samples p has low cells next asks None
+        ∙ sym (is cells next asks);
+    state = unit_state areas piece kinds counts old new u samples p has low state
+        (let K : Opcode × Rate → Type 0 = λ k. IsPlayerOf areas piece k p in subst K (sym kind) player);
     delays = let e = has.delays in omega arith;
   }
 
-  module _ (pace : Pace) (same_pace : pace_of piece.head ≡ pace) (kind : kinds u ≡ (o, r)) (unit : IsUnitOpcode o) (state : IsStateIn areas piece kinds counts old)
+  module _ (pace : Pace) (same_pace : pace_of piece.head ≡ pace) (kind : kinds u ≡ (o, r)) (unit : IsUnitOpcode o)
+      (state : IsStateIn areas piece kinds counts old)
       (low : u < length old.players.items) (small : old.delays ≤ most_delay_samples) where
     pub on_table : (refused : Option Refusal) → takes_table o ≡ true → CanAllBePlayed areas piece.tables
         → BeginsOnTable areas piece.tables (table_number settled) (unit_start o r pace settled) u old new refused
         → Starts areas piece kinds counts o r u settled old new refused
     unfolding with_unit
     on_table None takes can b =
-        started_is old.delays (player_on areas b.table (table_number settled) (unit_start o r pace settled)) b.has low state
-        (on_is areas piece o r pace settled b.table unit takes b.found b.present (can (table_number settled) b.table b.found) b.small) kind small
+        started_is old.delays (player_on areas b.table (table_number settled) (unit_start o r pace settled)) b.has low
+        state
+        (on_is areas piece o r pace settled b.table unit takes b.found b.present
+        (can (table_number settled) b.table b.found) b.small) kind small
         (λ cells next asks.
         ap (λ w. in_world w (machine_of old cells next asks None))
         (if_false (takes_table o && not (is_there (find_table piece.tables (table_number settled)))) _ _
-        (no_refusal (takes_table o) (is_there (find_table piece.tables (table_number settled))) (ap is_there b.found ∙ b.present))
+        (no_refusal (takes_table o) (is_there (find_table piece.tables (table_number settled)))
+        (ap is_there b.found ∙ b.present))
         ∙ if_false (is_delay o) _ _ (no_delay o takes))
-        ∙ ap (λ q. with_unit cells next asks old u old.delays (record { table = table_number settled; state = unit_start o r q settled })) same_pace)
+        ∙ ap (λ q. with_unit cells next asks old u old.delays
+        (record { table = table_number settled; state = unit_start o r q settled })) same_pace)
     on_table (Some refused) takes can b =
         refused_is refused b.same state small
         (λ x e. if_true (takes_table o && not (is_there (find_table piece.tables (table_number settled)))) _ _
@@ -242,7 +271,8 @@ module _ (areas : List Area) (piece : Piece) (kinds : Kinds) (counts : Counts) (
         (if_false (takes_table o && not (is_there (find_table piece.tables (table_number settled)))) _ _
         (no_look (takes_table o) (is_there (find_table piece.tables (table_number settled))) takes)
         ∙ if_false (is_delay o) _ _ delay)
-        ∙ ap (λ q. with_unit cells next asks old u old.delays (record { table = table_number settled; state = unit_start o r q settled })) same_pace)
+        ∙ ap (λ q. with_unit cells next asks old u old.delays
+        (record { table = table_number settled; state = unit_start o r q settled })) same_pace)
 
     pub a_delay : (refused : Option Refusal) → is_delay o ≡ true
         → BeginsDelay (old.delays + delay_length pace (slice_index_or settled 0 (pos 0)))
@@ -258,10 +288,14 @@ module _ (areas : List Area) (piece : Piece) (kinds : Kinds) (counts : Counts) (
         (if_false (takes_table o && not (is_there (find_table piece.tables (table_number settled)))) _ _
         (no_look (takes_table o) (is_there (find_table piece.tables (table_number settled))) (no_test o delay))
         ∙ if_true (is_delay o) _ _ delay
-        ∙ if_true (nat_le (old.delays + delay_length (pace_of piece.head) (slice_index_or settled 0 (pos 0))) most_delay_samples) _ _
+        ∙ if_true (nat_le (old.delays + delay_length (pace_of piece.head) (slice_index_or settled 0 (pos 0)))
+        most_delay_samples) _ _
         (within (old.delays + delay_length (pace_of piece.head) (slice_index_or settled 0 (pos 0)))
-        (let P : Pace → Type 0 = λ q. old.delays + delay_length q (slice_index_or settled 0 (pos 0)) ≤ most_delay_samples in subst P (sym same_pace) b.within)))
-        ∙ ap (λ q. with_unit cells next asks old u (old.delays + delay_length q (slice_index_or settled 0 (pos 0))) (record { table = table_number settled; state = unit_start o r q settled })) same_pace)
+        (let P : Pace → Type 0 =
+        λ q. old.delays + delay_length q (slice_index_or settled 0 (pos 0))
+        ≤ most_delay_samples in subst P (sym same_pace) b.within)))
+        ∙ ap (λ q. with_unit cells next asks old u (old.delays + delay_length q (slice_index_or settled 0 (pos 0)))
+        (record { table = table_number settled; state = unit_start o r q settled })) same_pace)
     a_delay (Some refused) delay b =
         refused_is refused b.same state small
         (λ x e.
@@ -269,16 +303,20 @@ module _ (areas : List Area) (piece : Piece) (kinds : Kinds) (counts : Counts) (
         if_false (takes_table o && not (is_there (find_table piece.tables (table_number settled)))) _ _
         (no_look (takes_table o) (is_there (find_table piece.tables (table_number settled))) (no_test o delay))
         ∙ if_true (is_delay o) _ _ delay
-        ∙ if_false (nat_le (x.delays + delay_length (pace_of piece.head) (slice_index_or settled 0 (pos 0))) most_delay_samples) _ _
+        ∙ if_false (nat_le (x.delays + delay_length (pace_of piece.head) (slice_index_or settled 0 (pos 0)))
+        most_delay_samples) _ _
         (beyond (x.delays + delay_length (pace_of piece.head) (slice_index_or settled 0 (pos 0)))
         (let P : ℕ → Type 0 = λ n. most_delay_samples < n in
-        subst P (sym (ap (λ n. n + delay_length (pace_of piece.head) (slice_index_or settled 0 (pos 0))) e ∙ ap (λ q. old.delays + delay_length q (slice_index_or settled 0 (pos 0))) same_pace)) b.beyond))
+        subst P (sym (ap (λ n. n + delay_length (pace_of piece.head) (slice_index_or settled 0 (pos 0))) e
+        ∙ ap (λ q. old.delays + delay_length q (slice_index_or settled 0 (pos 0))) same_pace)) b.beyond))
         ∙ ap (λ f. record x { cause = Some f })
-        (ap delay_too_long (ap (λ n. n + delay_length (pace_of piece.head) (slice_index_or settled 0 (pos 0))) e ∙ ap (λ q. old.delays + delay_length q (slice_index_or settled 0 (pos 0))) same_pace)
+        (ap delay_too_long (ap (λ n. n + delay_length (pace_of piece.head) (slice_index_or settled 0 (pos 0))) e
+        ∙ ap (λ q. old.delays + delay_length q (slice_index_or settled 0 (pos 0))) same_pace)
         ∙ sym (ap cause_of b.cause)))
 
 -- a unit that was put on a table
-pub begun_on : (areas : List Area) (tables : List Table) (t : Table) (number n m : ℤ) (state k : Kind) (u : ℕ) (old new : State) (p : PlayerData)
+pub begun_on : (areas : List Area) (tables : List Table) (t : Table) (number n m : ℤ) (state k : Kind) (u : ℕ)
+    (old new : State) (p : PlayerData)
     → n ≡ number → m ≡ number → Some t ≡ find_table tables n → t.present ≡ true → k ≡ state → p ≡ player_on areas t m k
     → ((area : Area) → p.area ≡ Some area → area.first + area.length ≤ 65536) → HasUnit old u p old.delays new
     → IsBegunOn areas tables number state u old new

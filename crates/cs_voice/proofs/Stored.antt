@@ -1,5 +1,6 @@
 -- Cells into which a live table was stored are what the definition makes of them.
-use Rattle.std.proofs.Common.{◌≡◌, ℕ, ℤ, pos, Bool, true, false, not, List, [], ◌∷◌, Option, Some, None, if◌then◌else◌, refl, sym, ◌∙◌, ap, subst}
+use Rattle.std.proofs.Common.{◌≡◌, ℕ, ℤ, pos, Bool, true, false, not, List, [], ◌∷◌, Option, Some, None, if◌then◌else◌}
+use Rattle.std.proofs.Common.{refl, sym, ◌∙◌, ap, subst}
 use Rattle.std.specs.Option.{is_some}
 use Rattle.cs_base.specs.declared.resource.Rate.{Rate}
 use Rattle.cs_base.specs.declared.resource.Rate.TheVariants as rate
@@ -23,36 +24,45 @@ use Rattle.cs_voice_meaning.specs.Placing.{IsPlaced, area_of, wave_in, wave_of, 
 use Rattle.cs_voice_meaning.specs.VoiceWorld.{VoiceState, voice_model}
 use Rattle.cs_voice.specs.Cells.{IsStorable, MayStore, stored_area}
 
--- so many steps of values were stored into an area, at the places of indices, in a table of whatever number has its size
+-- so many steps of values were stored into an area, at the places of indices, in a table of whatever number has its
+-- size
 abbrev pub Stores : Option Area → ℕ → Wave → Wave → (ℕ → ℤ) → (ℕ → ℤ) → Type 0
 Stores None n signal index before after = after ≡ before
 Stores (Some area) n signal index before after = (t : Table) → t.size ≡ area.length
-    → after ≡ with_wave (Some area) (stored (places_of_indices t index) signal n (wave_in rate.Audio area before)) before
+    → after ≡ with_wave (Some area) (stored (places_of_indices t index) signal n (wave_in rate.Audio area before))
+    before
 
-pub stores_same : (area : Area) (m n : ℕ) (s v i w : Wave) (before after : ℕ → ℤ) → m ≡ n → s ≡ v → i ≡ w → Stores (Some area) m s i before after → Stores (Some area) n v w before after
+pub stores_same : (area : Area) (m n : ℕ) (s v i w : Wave) (before after : ℕ → ℤ) → m ≡ n → s ≡ v → i ≡ w
+    → Stores (Some area) m s i before after → Stores (Some area) n v w before after
 stores_same area m n s v i w before after e f g h =
-    subst (λ k. Stores (Some area) k v w before after) e (subst (λ x. Stores (Some area) m x w before after) f (subst (λ x. Stores (Some area) m s x before after) g h))
+    subst (λ k. Stores (Some area) k v w before after) e
+    (subst (λ x. Stores (Some area) m x w before after) f (subst (λ x. Stores (Some area) m s x before after) g h))
 
 -- an area that is stored into may be
-pub stored_there : (allowed : ℕ → Type 0) (count : ℕ) (areas : List Area) (reach : Reach) (k : Option ℕ) (area : Area) → stored_area areas reach k ≡ Some area
+pub stored_there : (allowed : ℕ → Type 0) (count : ℕ) (areas : List Area) (reach : Reach) (k : Option ℕ) (area : Area)
+    → stored_area areas reach k ≡ Some area
     → MayStore allowed count areas reach → IsStorable allowed count area
 stored_there allowed count areas reach None area is may = absurd (cc)
 stored_there allowed count areas reach (Some n) area is may = by_reach (reaches reach n) refl is
   where
-    by_reach : (b : Bool) → reaches reach n ≡ b → (if b then area_of areas (res.Table n) else None) ≡ Some area → IsStorable allowed count area
+    by_reach : (b : Bool) → reaches reach n ≡ b → (if b then area_of areas (res.Table n) else None) ≡ Some area
+        → IsStorable allowed count area
     by_reach true e at = may n area e at
     by_reach false e at = absurd (cc)
 
-module _ (areas : List Area) (stock : Stock) (piece : Piece) (r : Rate) (ws : List Wave) (x : VoiceState) (placed : IsPlaced areas stock piece) where
+module _ (areas : List Area) (stock : Stock) (piece : Piece) (r : Rate) (ws : List Wave) (x : VoiceState)
+    (placed : IsPlaced areas stock piece) where
   -- what a table takes
   abbrev put_into : Table → VoiceState
   put_into t = with_value (voice_model areas piece) (res.Table t.number)
-      (stored (places_of_indices t (operand 1 ws)) (operand 0 ws) (steps_of piece.head.ksmps r) (wave_of (area_of areas (res.Table t.number)) rate.Audio x.shared)) x
+      (stored (places_of_indices t (operand 1 ws)) (operand 0 ws) (steps_of piece.head.ksmps r)
+      (wave_of (area_of areas (res.Table t.number)) rate.Audio x.shared)) x
 
   -- what has no area takes nothing
   nowhere : (t : Table) → area_of areas (res.Table t.number) ≡ None → put_into t ≡ x
   nowhere t at = ap (λ o. record x {
-    shared = with_wave o (stored (places_of_indices t (operand 1 ws)) (operand 0 ws) (steps_of piece.head.ksmps r) (wave_of o rate.Audio x.shared)) x.shared;
+    shared = with_wave o (stored (places_of_indices t (operand 1 ws)) (operand 0 ws) (steps_of piece.head.ksmps r)
+        (wave_of o rate.Audio x.shared)) x.shared;
   }) at
 
   either : (b : Bool) (y : VoiceState) → y ≡ x → (if b then y else x) ≡ x
@@ -63,7 +73,8 @@ module _ (areas : List Area) (stock : Stock) (piece : Piece) (r : Rate) (ws : Li
       → store_into (voice_model areas piece) r ws o x ≡ x
   not_there n at None e = refl
   not_there n at (Some t) e =
-      either (is_live t) (put_into t) (nowhere t (ap (λ m. area_of areas (res.Table m)) (found_number piece.tables (pos n) t e) ∙ at))
+      either (is_live t) (put_into t)
+      (nowhere t (ap (λ m. area_of areas (res.Table m)) (found_number piece.tables (pos n) t e) ∙ at))
 
   live_takes : (t : Table) → t.frozen ≡ None → store_into (voice_model areas piece) r ws (Some t) x ≡ put_into t
   live_takes t e = ap (λ f. if not (is_some f) then put_into t else x) e
@@ -71,15 +82,18 @@ module _ (areas : List Area) (stock : Stock) (piece : Piece) (r : Rate) (ws : Li
   by_area : (n : ℕ) (o : Option Area) → area_of areas (res.Table n) ≡ o → (after : ℕ → ℤ)
       → Stores o (steps_of piece.head.ksmps r) (operand 0 ws) (operand 1 ws) x.shared after
       → record x { shared = after } ≡ store_into (voice_model areas piece) r ws (find_table piece.tables (pos n)) x
-  by_area n None at after h = (λ i. record x { shared = h i }) ∙ sym (not_there n at (find_table piece.tables (pos n)) refl)
+  by_area n None at after h =
+      (λ i. record x { shared = h i }) ∙ sym (not_there n at (find_table piece.tables (pos n)) refl)
   by_area n (Some a) at after h =
       let is = placed.live n a at in
       let t : Table = is.table in
-      let here : area_of areas (res.Table t.number) ≡ Some a = ap (λ m. area_of areas (res.Table m)) (found_number piece.tables (pos n) t is.found) ∙ at in
+      let here : area_of areas (res.Table t.number) ≡ Some a =
+      ap (λ m. area_of areas (res.Table m)) (found_number piece.tables (pos n) t is.found) ∙ at in
       let long : t.size ≡ a.length = sym ((placed.tables (pos n) t is.found is.live).size a here) in
       (λ i. record x { shared = h t long i })
       ∙ ap (λ o. record x {
-        shared = with_wave o (stored (places_of_indices t (operand 1 ws)) (operand 0 ws) (steps_of piece.head.ksmps r) (wave_of o rate.Audio x.shared)) x.shared;
+        shared = with_wave o (stored (places_of_indices t (operand 1 ws)) (operand 0 ws) (steps_of piece.head.ksmps r)
+            (wave_of o rate.Audio x.shared)) x.shared;
       }) (sym here)
       ∙ sym (live_takes t is.live)
       ∙ ap (λ o. store_into (voice_model areas piece) r ws o x) (sym is.found)
@@ -90,21 +104,28 @@ module _ (areas : List Area) (stock : Stock) (piece : Piece) (r : Rate) (ws : Li
   stored_as reach None after h = λ i. record x { shared = h i }
   stored_as reach (Some n) after h = by_reach (reaches reach n) h
     where
-      by_reach : (b : Bool) → Stores (if b then area_of areas (res.Table n) else None) (steps_of piece.head.ksmps r) (operand 0 ws) (operand 1 ws) x.shared after
-          → record x { shared = after } ≡ (if b then store_into (voice_model areas piece) r ws (find_table piece.tables (pos n)) x else x)
+      by_reach : (b : Bool) → Stores (if b then area_of areas (res.Table n) else None) (steps_of piece.head.ksmps r)
+          (operand 0 ws) (operand 1 ws) x.shared after
+          → record x { shared = after }
+          ≡ (if b then store_into (voice_model areas piece) r ws (find_table piece.tables (pos n)) x else x)
       by_reach true g = by_area n (area_of areas (res.Table n)) refl after g
       by_reach false g = λ i. record x { shared = g i }
 
 -- the act of a store, by what it makes of cells
-pub store_done : (areas : List Area) (piece : Piece) (stock : Stock) (kinds : Kinds) (counts : Counts) (opcode : Opcode) (reach : Reach) (into signal place table : Reg)
+pub store_done : (areas : List Area) (piece : Piece) (stock : Stock) (kinds : Kinds) (counts : Counts) (opcode : Opcode)
+    (reach : Reach) (into signal place table : Reg)
     (s : State) (before after : ℕ → ℤ) → IsPlaced areas stock piece → IsStateIn areas piece kinds counts s
-    → Stores (stored_area areas reach (index (values s.regs table 0))) (steps_of s.regs.ksmps into.rate) (values s.regs signal) (values s.regs place) before after
+    → Stores (stored_area areas reach (index (values s.regs table 0))) (steps_of s.regs.ksmps into.rate)
+    (values s.regs signal) (values s.regs place) before after
     → Does areas piece kinds counts (act.Store opcode reach) into (signal ∷ place ∷ table ∷ []) s before s after
 store_done areas piece stock kinds counts opcode reach into signal place table s before after placed state h = record {
   machine = λ next asks cause i. record (machine_of s before next asks cause) {
-    world = (stored_as areas stock piece into.rate (values s.regs signal ∷ values s.regs place ∷ values s.regs table ∷ []) (machine_of s before next asks cause).world placed
+    world = (stored_as areas stock piece into.rate
+        (values s.regs signal ∷ values s.regs place ∷ values s.regs table ∷ [])
+        (machine_of s before next asks cause).world placed
         reach (index (values s.regs table 0)) after
-        (subst (λ n. Stores (stored_area areas reach (index (values s.regs table 0))) (steps_of n into.rate) (values s.regs signal) (values s.regs place) before after) state.frames h)) i;
+        (subst (λ n. Stores (stored_area areas reach (index (values s.regs table 0))) (steps_of n into.rate)
+        (values s.regs signal) (values s.regs place) before after) state.frames h)) i;
   };
   state = state;
 }

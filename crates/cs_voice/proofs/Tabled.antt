@@ -1,19 +1,24 @@
 -- The tables that a note finds, by their numbers.
-use Rattle.std.proofs.Common.{◌≡◌, ℕ, ℤ, zero, suc, ◌+◌, ◌<◌, ◌≤◌, ◌==◌, Bool, true, false, not, ◌&&◌, List, [], ◌∷◌, length, drop, get_or, unsigned_abs, Option, Some, None, if◌then◌else◌, refl, sym, ◌∙◌, ap, arith}
+use Rattle.std.proofs.Common.{◌≡◌, ℕ, ℤ, zero, suc, ◌+◌, ◌<◌, ◌≤◌, ◌==◌, Bool, true, false, not, ◌&&◌, List, [], ◌∷◌}
+use Rattle.std.proofs.Common.{length, drop, get_or, unsigned_abs, Option, Some, None, if◌then◌else◌, refl, sym, ◌∙◌, ap}
+use Rattle.std.proofs.Common.{arith}
 use Rattle.std.specs.Int.{is_negative}
 use Rattle.cs_meaning.specs.Pieces.{Table, find_table}
 use Rattle.cs_voice.specs.declared.stage.TableAt.{TableAt}
 use Rattle.cs_voice.specs.Tables.{table_at, tables_of}
 
 -- the tables from a place on
-from_place : (tables : List TableAt) (made : List Bool) (n : ℕ) (t : TableAt) (m : Bool) → n < length tables → n < length made
-    → t ≡ get_or tables n t → m ≡ get_or made n false → tables_of (drop n tables) (drop n made) ≡ table_at t m ∷ tables_of (drop (n + 1) tables) (drop (n + 1) made)
+from_place : (tables : List TableAt) (made : List Bool) (n : ℕ) (t : TableAt) (m : Bool) → n < length tables
+    → n < length made
+    → t ≡ get_or tables n t → m ≡ get_or made n false
+    → tables_of (drop n tables) (drop n made) ≡ table_at t m ∷ tables_of (drop (n + 1) tables) (drop (n + 1) made)
 from_place [] made n t m h k e f = absurd (omega arith)
 from_place (x ∷ tables) [] n t m h k e f = absurd (omega arith)
 from_place (x ∷ tables) (y ∷ made) zero t m h k e f = λ i. table_at (sym e i) (sym f i) ∷ tables_of tables made
 from_place (x ∷ tables) (y ∷ made) (suc n) t m h k e f =
     let more : suc (n + 1) ≡ suc n + 1 = omega arith in
-    from_place tables made n t m (omega arith) (omega arith) e f ∙ ap (λ j. table_at t m ∷ tables_of (drop j (x ∷ tables)) (drop j (y ∷ made))) more
+    from_place tables made n t m (omega arith) (omega arith) e f
+    ∙ ap (λ j. table_at t m ∷ tables_of (drop j (x ∷ tables)) (drop j (y ∷ made))) more
 
 this_one : (b : Bool) (t : Table) (o : Option Table) → b ≡ true → Some t ≡ (if b then Some t else o)
 this_one true t o e = refl
@@ -24,29 +29,35 @@ not_this true t o e = absurd cc
 not_this false t o e = refl
 
 -- the table at a place is the one, where those before it aren't; or it is behind it
-pub found_here : (tables : List TableAt) (made : List Bool) (number : ℤ) (n : ℕ) (t : TableAt) → n < length tables → length made ≡ length tables
+pub found_here : (tables : List TableAt) (made : List Bool) (number : ℤ) (n : ℕ) (t : TableAt) → n < length tables
+    → length made ≡ length tables
     → t ≡ get_or tables n t → (not (is_negative number) && t.number == unsigned_abs number) ≡ true
     → find_table (tables_of tables made) number ≡ find_table (tables_of (drop n tables) (drop n made)) number
     → Some (table_at t (get_or made n false)) ≡ find_table (tables_of tables made) number
 found_here tables made number n t h long e here before =
     let m : Bool = get_or made n false in
-    this_one (not (is_negative number) && t.number == unsigned_abs number) (table_at t m) (find_table (tables_of (drop (n + 1) tables) (drop (n + 1) made)) number) here
+    this_one (not (is_negative number) && t.number == unsigned_abs number) (table_at t m)
+    (find_table (tables_of (drop (n + 1) tables) (drop (n + 1) made)) number) here
     ∙ sym (before ∙ ap (λ ts. find_table ts number) (from_place tables made n t m h (omega arith) e refl))
 
-pub found_later : (tables : List TableAt) (made : List Bool) (number : ℤ) (n : ℕ) (t : TableAt) → n < length tables → length made ≡ length tables
+pub found_later : (tables : List TableAt) (made : List Bool) (number : ℤ) (n : ℕ) (t : TableAt) → n < length tables
+    → length made ≡ length tables
     → t ≡ get_or tables n t → (not (is_negative number) && t.number == unsigned_abs number) ≡ false
     → find_table (tables_of tables made) number ≡ find_table (tables_of (drop n tables) (drop n made)) number
-    → find_table (tables_of tables made) number ≡ find_table (tables_of (drop (n + 1) tables) (drop (n + 1) made)) number
+    → find_table (tables_of tables made) number ≡ find_table (tables_of (drop (n + 1) tables) (drop (n + 1) made))
+    number
 found_later tables made number n t h long e here before =
     let m : Bool = get_or made n false in
     before ∙ ap (λ ts. find_table ts number) (from_place tables made n t m h (omega arith) e refl)
-    ∙ not_this (not (is_negative number) && t.number == unsigned_abs number) (table_at t m) (find_table (tables_of (drop (n + 1) tables) (drop (n + 1) made)) number) here
+    ∙ not_this (not (is_negative number) && t.number == unsigned_abs number) (table_at t m)
+    (find_table (tables_of (drop (n + 1) tables) (drop (n + 1) made)) number) here
 
 no_made : (tables : List TableAt) → tables_of tables [] ≡ []
 no_made [] = refl
 no_made (t ∷ tables) = refl
 
-none_left : (tables : List TableAt) (made : List Bool) (n : ℕ) → length tables ≤ n → tables_of (drop n tables) (drop n made) ≡ []
+none_left : (tables : List TableAt) (made : List Bool) (n : ℕ) → length tables ≤ n
+    → tables_of (drop n tables) (drop n made) ≡ []
 none_left [] made zero h = refl
 none_left [] made (suc n) h = refl
 none_left (x ∷ tables) made zero h = absurd (omega arith)

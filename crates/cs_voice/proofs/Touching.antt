@@ -1,5 +1,6 @@
 -- What an op that runs a unit may do: its table, and the zak places that it reaches.
-use Rattle.std.proofs.Common.{◌≡◌, ℕ, ℤ, pos, ◌+◌, ◌≤◌, Bool, true, false, not, ◌||◌, List, [], length, nat_lt, unsigned_abs, Option, Some, None, if◌then◌else◌, refl, sym, ◌∙◌, ap, subst}
+use Rattle.std.proofs.Common.{◌≡◌, ℕ, ℤ, pos, ◌+◌, ◌≤◌, Bool, true, false, not, ◌||◌, List, [], length, nat_lt}
+use Rattle.std.proofs.Common.{unsigned_abs, Option, Some, None, if◌then◌else◌, refl, sym, ◌∙◌, ap, subst}
 use Rattle.std.specs.Option.{is_some}
 use Rattle.std.proofs.lemmas.Bool.{and_from, lt-ltb}
 use Rattle.cs_base.proofs.Tests.{some_is}
@@ -37,7 +38,8 @@ pub record IsTouched (allowed : ℕ → Type 0) (count : ℕ) (reach : Reach) (p
   pub can : may_play reach p ≡ true → CanTouch allowed count area
 
 -- a table that has an area isn't frozen
-not_frozen : (frozen : Option (List ℤ)) (o area : Option Area) (a : Area) → area ≡ (if is_some frozen then None else o) → area ≡ Some a → frozen ≡ None
+not_frozen : (frozen : Option (List ℤ)) (o area : Option Area) (a : Area) → area ≡ (if is_some frozen then None else o)
+    → area ≡ Some a → frozen ≡ None
 not_frozen None o area a is at = refl
 not_frozen (Some points) o area a is at = absurd (cc)
 
@@ -45,24 +47,31 @@ in_reach : (has b : Bool) → (not has || b) ≡ true → has ≡ true → b ≡
 in_reach true b h e = h
 in_reach false b h e = absurd (cc)
 
-the_area : (allowed : ℕ → Type 0) (count : ℕ) (areas : List Area) (g : Res) (a : Area) → area_of areas g ≡ Some a → MayTouch allowed count areas g → CanTouch allowed count a
+the_area : (allowed : ℕ → Type 0) (count : ℕ) (areas : List Area) (g : Res) (a : Area) → area_of areas g ≡ Some a
+    → MayTouch allowed count areas g → CanTouch allowed count a
 the_area allowed count areas g a at may = subst (CanTouch allowed count) (some_is may.0 a (sym may.1 ∙ at)) may.2
 
-pub touched : (allowed : ℕ → Type 0) (count : ℕ) (areas : List Area) (stock : Stock) (piece : Piece) (reach : Reach) (p : PlayerData) (on : IsOnTable areas piece.tables p)
-    → IsPlaced areas stock piece → AreNamed (MayTouch allowed count areas) (tables_within stock reach) → (area : Area) → p.area ≡ Some area → IsTouched allowed count reach p area
+pub touched : (allowed : ℕ → Type 0) (count : ℕ) (areas : List Area) (stock : Stock) (piece : Piece) (reach : Reach)
+    (p : PlayerData) (on : IsOnTable areas piece.tables p)
+    → IsPlaced areas stock piece → AreNamed (MayTouch allowed count areas) (tables_within stock reach) → (area : Area)
+    → p.area ≡ Some area → IsTouched allowed count reach p area
 touched allowed count areas stock piece reach p on placed named area at =
-    let open_table : on.table.frozen ≡ None = not_frozen on.table.frozen (area_of areas (res.Table on.table.number)) p.area area on.area at in
+    let open_table : on.table.frozen ≡ None =
+    not_frozen on.table.frozen (area_of areas (res.Table on.table.number)) p.area area on.area at in
     let live : IsLiveOn areas on.table area = live_table areas stock piece p on placed open_table area at in
     record {
       power = subst (λ n. is_len (len_of n) ≡ true) (sym live.size) on.power;
       small = on.small area at;
       can = λ may. the_area allowed count areas (res.Table on.table.number) area live.area
-          (named_among (MayTouch allowed count areas) res.Table reach stock.live named on.table.number (placed.tables p.table on.table on.found open_table).among
-          (ap (reaches reach) (found_number piece.tables p.table on.table on.found) ∙ in_reach (has_table p) (reaches reach (unsigned_abs p.table)) may on.has));
+          (named_among (MayTouch allowed count areas) res.Table reach stock.live named on.table.number
+          (placed.tables p.table on.table on.found open_table).among
+          (ap (reaches reach) (found_number piece.tables p.table on.table on.found)
+          ∙ in_reach (has_table p) (reaches reach (unsigned_abs p.table)) may on.has));
     }
 
 -- a unit that has an area takes a table
-takes_with : (areas : List Area) (piece : Piece) (kind : Opcode × Rate) (p : PlayerData) → IsPlayerOf areas piece kind p → (area : Area) → p.area ≡ Some area → takes_table kind.0 ≡ true
+takes_with : (areas : List Area) (piece : Piece) (kind : Opcode × Rate) (p : PlayerData) → IsPlayerOf areas piece kind p
+    → (area : Area) → p.area ≡ Some area → takes_table kind.0 ≡ true
 takes_with areas piece kind p is area at = sym (table_taken areas piece kind p is) ∙ has p.points p.area at
   where
     has : (points : Option (List ℤ)) (o : Option Area) → o ≡ Some area → (is_some points || is_some o) ≡ true
@@ -73,14 +82,17 @@ when_taken : (N : Res → Type 0) (b : Bool) (l : List Res) → AreNamed N (if b
 when_taken N true l h e = h
 when_taken N false l h e = absurd (cc)
 
-pub may_run : (allowed : ℕ → Type 0) (count : ℕ) (areas : List Area) (stock : Stock) (piece : Piece) (opcode : Opcode) (r : Rate) (reach : Reach) (from : List Reg) (p : PlayerData)
+pub may_run : (allowed : ℕ → Type 0) (count : ℕ) (areas : List Area) (stock : Stock) (piece : Piece) (opcode : Opcode)
+    (r : Rate) (reach : Reach) (from : List Reg) (p : PlayerData)
     → IsUnitOpcode opcode → length from ≡ moving_count opcode → IsPlaced areas stock piece
-    → AreNamed (MayTouch allowed count areas) (if takes_table opcode then tables_within stock reach else []) → IsPlayerOf areas piece (opcode, r) p → MayPlay allowed count reach from p
+    → AreNamed (MayTouch allowed count areas) (if takes_table opcode then tables_within stock reach else [])
+    → IsPlayerOf areas piece (opcode, r) p → MayPlay allowed count reach from p
 may_run allowed count areas stock piece opcode r reach from p unit long placed named is =
     let same : opcode_of p.state ≡ opcode = is.state in
     let there : (area : Area) → p.area ≡ Some area → IsTouched allowed count reach p area =
     λ area at. let takes = takes_with areas piece (opcode, r) p is area at in
-    touched allowed count areas stock piece reach p (is.table takes) placed (when_taken (MayTouch allowed count areas) (takes_table opcode) (tables_within stock reach) named takes) area at in
+    touched allowed count areas stock piece reach p (is.table takes) placed
+    (when_taken (MayTouch allowed count areas) (takes_table opcode) (tables_within stock reach) named takes) area at in
     record {
       unit = subst IsUnitOpcode (sym same) unit;
       operands = long ∙ ap moving_count (sym same);
@@ -94,21 +106,25 @@ may_run allowed count areas stock piece opcode r reach from p unit long placed n
 
 -- a live table within reach may be stored into
 pub may_store : (allowed : ℕ → Type 0) (count : ℕ) (areas : List Area) (stock : Stock) (piece : Piece) (reach : Reach)
-    → IsPlaced areas stock piece → AreNamed (MayTouch allowed count areas) (tables_within stock reach) → MayStore allowed count areas reach
+    → IsPlaced areas stock piece → AreNamed (MayTouch allowed count areas) (tables_within stock reach)
+    → MayStore allowed count areas reach
 may_store allowed count areas stock piece reach placed named n area within at =
     let is = placed.live n area at in
     let lies = placed.tables (pos n) is.table is.found is.live in
     let number : is.table.number ≡ n = found_number piece.tables (pos n) is.table is.found in
-    let here : area_of areas (res.Table is.table.number) ≡ Some area = ap (λ m. area_of areas (res.Table m)) number ∙ at in
+    let here : area_of areas (res.Table is.table.number) ≡ Some area =
+    ap (λ m. area_of areas (res.Table m)) number ∙ at in
     record {
       power = ap (λ m. is_len (len_of m)) (lies.size area here) ∙ lies.power;
       write = the_area allowed count areas (res.Table is.table.number) area here
-          (named_among (MayTouch allowed count areas) res.Table reach stock.live named is.table.number lies.among (ap (reaches reach) number ∙ within));
+          (named_among (MayTouch allowed count areas) res.Table reach stock.live named is.table.number lies.among
+          (ap (reaches reach) number ∙ within));
     }
 
 -- ---- zak places
 
-pub may_reach : (allowed : ℕ → Type 0) (count : ℕ) (at : Setting) (stock : Stock) (piece : Piece) (s : Space) (reach : Reach) → stock.spaces ≡ piece.spaces → piece.spaces ≡ at.spaces
+pub may_reach : (allowed : ℕ → Type 0) (count : ℕ) (at : Setting) (stock : Stock) (piece : Piece) (s : Space)
+    (reach : Reach) → stock.spaces ≡ piece.spaces → piece.spaces ≡ at.spaces
     → AreNamed (MayTouch allowed count at.layout.now) (places_within stock s reach) → MayReach allowed count at s reach
 may_reach allowed count at stock piece s reach same here named n low within =
     place_named (MayTouch allowed count at.layout.now) stock at.spaces s reach n (same ∙ here) named

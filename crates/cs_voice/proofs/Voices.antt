@@ -55,8 +55,10 @@ module _ (s : Sheet) (d : VoiceData) (on : IsOn s d) (h : IsVoice d) where
   same_cycle : (x : ℕ → ℤ) → cycle (sounding_on (own_sheet s d) d) x ≡ cycle (sounding d) x
   unfolding own_sheet
   same_cycle x =
-      sym (run_same d.areas (own_sheet s d).piece (piece_of d).generators 0 d.code.ops.items (begins (sounding d) x) h.playable.perf_acts)
-      ∙ ap (λ ts. cycle (record (sounding d) { sheet = record (sheet_of d) { piece = record (piece_of d) { tables = ts } } }) x) on.tables
+      sym (run_same d.areas (own_sheet s d).piece (piece_of d).generators 0 d.code.ops.items (begins (sounding d) x)
+      h.playable.perf_acts)
+      ∙ ap (λ ts. cycle (record (sounding d)
+      { sheet = record (sheet_of d) { piece = record (piece_of d) { tables = ts } } }) x) on.tables
 
   performs_own : (c : Cells) → sounding_on (own_sheet s d) (after d c) ≡ performed (sounding_on (own_sheet s d) d) c
   unfolding own_sheet
@@ -67,12 +69,14 @@ module _ (s : Sheet) (d : VoiceData) (on : IsOn s d) (h : IsVoice d) where
   leaves_own : (c : Cells) → leaves d c ≡ left_by (sounding_on (own_sheet s d) d) c
   unfolding own_sheet
   leaves_own c =
-      ap (λ (m : Machine VoiceState). map (λ a. if may_write (sheet_of d) a then m.world.shared a else cell c a) (range_with_len 0 (length c)))
+      ap (λ (m : Machine VoiceState). map (λ a. if may_write (sheet_of d) a then m.world.shared a else cell c a)
+      (range_with_len 0 (length c)))
       (sym (same_cycle (seen (sheet_of d) (cell c))))
 
   pub performs : (c : Cells) → Performs s d c
   performs c = record {
-    voice = subst (λ z. sounding_on z (after d c) ≡ performed (sounding_on z d) c) (sym (its_own s d on)) (performs_own c);
+    voice = subst (λ z. sounding_on z (after d c) ≡ performed (sounding_on z d) c) (sym (its_own s d on))
+        (performs_own c);
     cells = subst (λ z. leaves d c ≡ left_by (sounding_on z d) c) (sym (its_own s d on)) (leaves_own c);
     sheet = record {
       number = on.number;

@@ -24,7 +24,8 @@ use Rattle.cs_machine.specs.declared.state.State.{State}
 -- An act makes of a state and cells what it makes in whatever piece the setting is of, whose areas are placed and whose
 -- state it is.
 abbrev pub DoesOver : Setting → Act → Reg → List Reg → State → (ℕ → ℤ) → State → (ℕ → ℤ) → Type 0
-DoesOver at act into from old before new after = (areas : List Area) (piece : Piece) (stock : Stock) (kinds : Kinds) (counts : Counts)
+DoesOver at act into from old before new after =
+    (areas : List Area) (piece : Piece) (stock : Stock) (kinds : Kinds) (counts : Counts)
     → IsSettingOf at areas piece → IsPlaced areas stock piece → IsStateIn areas piece kinds counts old
     → Does areas piece kinds counts act into from old before new after
 
@@ -51,5 +52,6 @@ pub record IsStorable (allowed : ℕ → Type 0) (count : ℕ) (area : Area) : T
 
 -- so may those of each live table within reach
 abbrev pub MayStore : (ℕ → Type 0) → ℕ → List Area → Reach → Type 0
-MayStore allowed count areas reach = (n : ℕ) (area : Area) → reaches reach n ≡ true → area_of areas (res.Table n) ≡ Some area
+MayStore allowed count areas reach =
+    (n : ℕ) (area : Area) → reaches reach n ≡ true → area_of areas (res.Table n) ≡ Some area
     → IsStorable allowed count area

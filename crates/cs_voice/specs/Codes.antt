@@ -40,7 +40,8 @@ CanBeginBy get set count at (Some f) ops now = (code : Code) × (s : Sheet) × (
     × CanPass get set count f.0 f.1 code s now
 
 abbrev pub CanGo : (get set : ℕ → Type 0) → ℕ → Setting → Finding → List Op → State → Type 0
-CanGo get set count at finding ops now = ((c : Context) × CanRun get set count at c ops now) ⊎ CanBeginBy get set count at finding ops now
+CanGo get set count at finding ops now =
+    ((c : Context) × CanRun get set count at c ops now) ⊎ CanBeginBy get set count at finding ops now
 
 -- so can an op of it
 abbrev pub CanDoBy : (get set : ℕ → Type 0) → ℕ → Setting → Finding → Op → State → Type 0
@@ -49,4 +50,5 @@ CanDoBy get set count at (Some f) op now = (s : Sheet) × (f.0.at ≡ at) × Can
 
 abbrev pub CanDoHere : (get set : ℕ → Type 0) → ℕ → Setting → Finding → Op → State → Type 0
 CanDoHere get set count at finding op now =
-    ((c : Context) × (end : ℕ) × (place : ℕ) × CanStep get set count at c end place op now) ⊎ CanDoBy get set count at finding op now
+    ((c : Context) × (end : ℕ) × (place : ℕ) × CanStep get set count at c end place op now)
+    ⊎ CanDoBy get set count at finding op now

@@ -30,14 +30,16 @@ pub record Context : Type 0 where
 
 -- An op at a place of a code of so many can be done in a control cycle over a bank: it may be done, is fine there, and
 -- is one of a cycle.
-pub record CanStep (can_get can_set : ℕ → Type 0) (count : ℕ) (at : Setting) (c : Context) (end place : ℕ) (op : Op) (s : State) : Type 0 where
+pub record CanStep (can_get can_set : ℕ → Type 0) (count : ℕ) (at : Setting) (c : Context) (end place : ℕ) (op : Op)
+    (s : State) : Type 0 where
   pub ready : IsReady can_get can_set count at c.piece c.kinds c.stock op s
   pub counts : s.regs.counts ≡ c.counts
   pub fine : is_fine s.regs.counts end place op ≡ true
   pub acts : is_of_cycle op.act ≡ true
 
 -- A code can be run in a control cycle over a bank: each of its ops can be done.
-pub record CanRun (can_get can_set : ℕ → Type 0) (count : ℕ) (at : Setting) (c : Context) (ops : List Op) (s : State) : Type 0 where
+pub record CanRun (can_get can_set : ℕ → Type 0) (count : ℕ) (at : Setting) (c : Context) (ops : List Op)
+    (s : State) : Type 0 where
   pub setting : IsSettingOf at at.layout.now c.piece
   pub placed : IsPlaced at.layout.now c.stock c.piece
   pub spaces : AreSpaces at.layout.now
@@ -58,15 +60,19 @@ pub record HasMoved (place result : ℕ) (m : Machine VoiceState) (new : State) 
   pub there : place + 1 < result → next ≡ result
 
 -- An op at a place was done, from wherever a jump may have come.
-pub record HasStepped (areas : List Area) (c : Context) (op : Op) (place result : ℕ) (old : State) (before : ℕ → ℤ) (new : State)
+pub record HasStepped (areas : List Area) (c : Context) (op : Op) (place result : ℕ) (old : State) (before : ℕ → ℤ)
+    (new : State)
     (after : ℕ → ℤ) : Type 0 where
   pub moved : (next : ℕ) → next ≤ place → HasMoved place result
-      (acts (voice_world areas c.piece) op.act op.into (map (values old.regs) op.from) (machine_of old before next [] None)) new after
+      (acts (voice_world areas c.piece) op.act op.into (map (values old.regs) op.from)
+      (machine_of old before next [] None)) new after
   pub state : IsStateIn areas c.piece c.kinds c.counts new
 
 -- A code was run: the state and the cells are those of the machine after it. Where its last jump went doesn't matter
 -- any more.
-pub record HasRun (areas : List Area) (c : Context) (ops : List Op) (old : State) (before : ℕ → ℤ) (new : State) (after : ℕ → ℤ) : Type 0 where
+pub record HasRun (areas : List Area) (c : Context) (ops : List Op) (old : State) (before : ℕ → ℤ) (new : State)
+    (after : ℕ → ℤ) : Type 0 where
   pub next : ℕ
-  pub machine : machine_of new after next [] None ≡ run (voice_world areas c.piece) 0 ops (machine_of old before 0 [] None)
+  pub machine : machine_of new after next [] None ≡ run (voice_world areas c.piece) 0 ops
+      (machine_of old before 0 [] None)
   pub state : IsStateIn areas c.piece c.kinds c.counts new

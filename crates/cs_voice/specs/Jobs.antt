@@ -18,22 +18,28 @@ use Rattle.cs_voice_meaning.proofs.Fitting.{goes_on_fitting}
 use Rattle.cs_voice_meaning.proofs.FrameLaw.{voice_frames}
 use Rattle.cs_voice.specs.VoiceData.{VoiceData, sheet_of, sounding, sounding_on, taking, units_in}
 use Rattle.cs_voice.specs.VoiceMeaning.{IsVoice, after, voice_job}
-use Rattle.cs_voice.specs.inner.Rooms.{filled_has, filled_past, filled_keeps, refilled_has, refilled_past, refilled_keeps, refilled_long, units_have}
+use Rattle.cs_voice.specs.inner.Rooms.{filled_has, filled_past, filled_keeps, refilled_has, refilled_past}
+use Rattle.cs_voice.specs.inner.Rooms.{refilled_keeps, refilled_long, units_have}
 
 -- a voice fits in the room that its code counts
 pub fits : (d : VoiceData) → IsVoice d → VoiceFits d.code.counts (sounding d)
 fits d h = record {
-  regs = λ q no. sym (ap (λ f. values f q) h.all_registers) ∙ filled_past d.regs (values d.regs) q (ap (λ n. has_register n q) h.counts ∙ no);
+  regs = λ q no. sym (ap (λ f. values f q) h.all_registers)
+      ∙ filled_past d.regs (values d.regs) q (ap (λ n. has_register n q) h.counts ∙ no);
   keeps = λ q. subst (λ n. held n q.rate (values d.regs q) ≡ values d.regs q) h.frames
-      (subst (λ f. held d.regs.ksmps q.rate (values f q) ≡ values f q) h.all_registers (filled_keeps d.regs (values d.regs) q));
+      (subst (λ f. held d.regs.ksmps q.rate (values f q) ≡ values f q) h.all_registers
+      (filled_keeps d.regs (values d.regs) q));
   units = λ u no. get_or_past d.units u None (subst (λ k. k ≤ u) (sym h.units) (at_or_past u d.code.counts.units no));
-  outs = λ c no. sym (ap (λ f. outs f c) h.all_channels) ∙ refilled_past d.outs (outs d.outs) c (ap (λ n. nat_lt c n) h.channels ∙ no);
+  outs = λ c no. sym (ap (λ f. outs f c) h.all_channels)
+      ∙ refilled_past d.outs (outs d.outs) c (ap (λ n. nat_lt c n) h.channels ∙ no);
   frames = λ c. subst (λ n. held n rate.Audio (outs d.outs c) ≡ outs d.outs c) h.channel_frames
-      (subst (λ f. held d.outs.ksmps rate.Audio (outs f c) ≡ outs f c) h.all_channels (refilled_keeps d.outs (outs d.outs) c));
+      (subst (λ f. held d.outs.ksmps rate.Audio (outs f c) ≡ outs f c) h.all_channels
+      (refilled_keeps d.outs (outs d.outs) c));
 }
 
 -- a voice that takes what fits in it has that, and is again a voice
-module _ (d : VoiceData) (h : IsVoice d) (v : Sounding) (f : VoiceFits d.code.counts (record v { sheet = sheet_of d })) where
+module _ (d : VoiceData) (h : IsVoice d) (v : Sounding)
+    (f : VoiceFits d.code.counts (record v { sheet = sheet_of d })) where
   regs_taken : values (filled d.regs v.regs) ≡ v.regs
   regs_taken = filled_has d.regs v.regs
       (λ q no. f.regs q (sym (ap (λ n. has_register n q) h.counts) ∙ no))
@@ -48,7 +54,15 @@ module _ (d : VoiceData) (h : IsVoice d) (v : Sounding) (f : VoiceFits d.code.co
   units_taken = units_have v.units (length d.units) (λ u no. f.units u (sym (ap (λ n. nat_lt u n) h.units) ∙ no))
 
   pub taken : (s : Sheet) → sounding_on s (taking d v) ≡ record v { sheet = s }
-  taken s = λ t. record { sheet = s; regs = regs_taken t; units = units_taken t; delays = v.delays; outs = outs_taken t; ended = v.ended }
+  taken s = λ t. record {
+    sheet = s;
+    regs = regs_taken t;
+    units = units_taken t;
+    delays = v.delays;
+    outs =
+        outs_taken t;
+    ended = v.ended;
+  }
 
   pub still_voice : IsVoice (taking d v)
   still_voice = record {
@@ -60,7 +74,9 @@ module _ (d : VoiceData) (h : IsVoice d) (v : Sounding) (f : VoiceFits d.code.co
     channels = refilled_long d.outs v.outs ∙ h.channels;
     channel_frames = h.channel_frames;
     all_registers = ap (filled d.regs) regs_taken;
-    all_channels = ap (λ n. record d.outs { rows = map (λ c. row_of d.outs.ksmps (outs (refilled d.outs v.outs) c)) (range_with_len 0 n) }) (refilled_long d.outs v.outs)
+    all_channels = ap (λ n. record d.outs
+        { rows = map (λ c. row_of d.outs.ksmps (outs (refilled d.outs v.outs) c)) (range_with_len 0 n) })
+        (refilled_long d.outs v.outs)
         ∙ ap (refilled d.outs) outs_taken;
   }
 

@@ -48,7 +48,8 @@ voice_in number age stage foot code fields s = record {
 
 -- Parts make a voice that plays from a sheet: the sheet can be played, the layout has the zak places of the piece, the
 -- code is valid, and the state is one in the piece.
-pub record MakeVoice (number age : ℕ) (stage : Stage) (foot : Footprint) (code : Code) (fields : List ℤ) (s : State) : Type 0 where
+pub record MakeVoice (number age : ℕ) (stage : Stage) (foot : Footprint) (code : Code) (fields : List ℤ)
+    (s : State) : Type 0 where
   pub sheet : Sheet
   pub parts : IsOn sheet (voice_in number age stage foot code fields s)
   pub playable : IsPlayable sheet
@@ -58,11 +59,13 @@ pub record MakeVoice (number age : ℕ) (stage : Stage) (foot : Footprint) (code
   pub state : IsStateIn sheet.areas sheet.piece playable.kinds code.counts s
 
 -- What is so of the parts of a voice.
-pub record IsKept (number age : ℕ) (stage : Stage) (foot : Footprint) (code : Code) (fields : List ℤ) (s : State) : Type 0 where
+pub record IsKept (number age : ℕ) (stage : Stage) (foot : Footprint) (code : Code) (fields : List ℤ) (s : State) : Type
+    0 where
   pub voice : IsVoice (voice_in number age stage foot code fields s)
   pub spaces : AreSpaces stage.layout.now
   pub zak : spaces_of stage.layout.now ≡ stage.spaces
-  pub state : IsStateIn stage.layout.now (piece_of (voice_in number age stage foot code fields s)) voice.playable.kinds code.counts s
+  pub state : IsStateIn stage.layout.now (piece_of (voice_in number age stage foot code fields s)) voice.playable.kinds
+      code.counts s
 
 -- the voice that a body is, and what is so of each body
 abbrev pub data_of : Body → VoiceData

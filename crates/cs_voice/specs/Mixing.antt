@@ -11,4 +11,5 @@ sum_at voices frame channel = total (map (λ (v : VoiceData). outs v.outs channe
 
 -- in a cycle of so many frames, to so many channels: frame by frame, channel beside channel
 abbrev pub mixed : ℕ → ℕ → List VoiceData → List ℤ
-mixed ksmps nchnls voices = flat_map (λ frame. map (sum_at voices frame) (range_with_len 0 nchnls)) (range_with_len 0 ksmps)
+mixed ksmps nchnls voices =
+    flat_map (λ frame. map (sum_at voices frame) (range_with_len 0 nchnls)) (range_with_len 0 ksmps)

@@ -27,7 +27,8 @@ is_here _ = true
 -- An op of a valid code may be done: the setting is that of a piece, whose areas are placed; the state is one of the
 -- code and the piece; the units are of the op's opcode, and its channel is there; and what it touches may be read or
 -- written.
-pub record IsReady (can_get can_set : ℕ → Type 0) (count : ℕ) (at : Setting) (piece : Piece) (kinds : Kinds) (stock : Stock)
+pub record IsReady (can_get can_set : ℕ → Type 0) (count : ℕ) (at : Setting) (piece : Piece) (kinds : Kinds)
+    (stock : Stock)
     (op : Op) (s : State) : Type 0 where
   pub setting : IsSettingOf at at.layout.now piece
   pub placed : IsPlaced at.layout.now stock piece

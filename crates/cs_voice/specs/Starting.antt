@@ -48,9 +48,12 @@ cause_of (refusal.DelayTooLong samples) = delay_too_long samples
 
 -- A state becomes what the start of a unit makes of it in the world of voices, or is refused for the same cause; its
 -- delays stay within their limit.
-pub record Starts (areas : List Area) (piece : Piece) (kinds : Kinds) (counts : Counts) (opcode : Opcode) (rate : Rate) (unit : ℕ)
+pub record Starts (areas : List Area) (piece : Piece) (kinds : Kinds) (counts : Counts) (opcode : Opcode) (rate : Rate)
+    (unit : ℕ)
     (settled : List ℤ) (old new : State) (refused : Option Refusal) : Type 0 where
-  pub machine : (cells : ℕ → ℤ) (next : ℕ) (asks : List (List ℤ)) → machine_of new cells next asks (option_map cause_of refused)
-      ≡ in_world (starts (voice_model areas piece) opcode rate unit settled (machine_of old cells next asks None).world) (machine_of old cells next asks None)
+  pub machine : (cells : ℕ → ℤ) (next : ℕ) (asks : List (List ℤ))
+      → machine_of new cells next asks (option_map cause_of refused)
+      ≡ in_world (starts (voice_model areas piece) opcode rate unit settled (machine_of old cells next asks None).world)
+      (machine_of old cells next asks None)
   pub state : IsStateIn areas piece kinds counts new
   pub delays : new.delays ≤ most_delay_samples

@@ -31,7 +31,14 @@ pub(crate) fn act<B: Bank>(state: &mut State<'_>, at: &Setting<'_>, op: &Op, ban
         Act::Load(res) => load(state, at, op.into, res, bank),
         Act::Save(res) => save(state, at, res, one(op.from.as_slice()), bank),
         Act::Unit(opcode, number, reach) => {
-            run_unit(state, number, reach, op.into, op.from.as_slice(), bank);
+            run_unit(
+                state,
+                number as usize,
+                reach,
+                op.into,
+                op.from.as_slice(),
+                bank,
+            );
         }
         Act::Zak(opcode, reach) => zak(state, at, op, opcode, reach, bank),
         Act::Store(_, reach) => store(state, at, op, reach, bank),

@@ -40,7 +40,7 @@ impl<'p> Starter<'p> for Beginning<'_, '_, 'p> {
                 let start = Start {
                     opcode,
                     rate: op.into.rate,
-                    unit,
+                    unit: unit as usize,
                 };
                 let refused = begin(
                     self.alloc,

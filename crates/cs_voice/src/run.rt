@@ -1,5 +1,6 @@
 // A code from place to place, in a control cycle or as a note begins.
-ghost use Rattle.std.specs.Prelude.{◌≡◌, ◌<◌, ◌+◌, ℕ, Bool, false, true, length, slice_get, List, Some, None, IfOk, IsErr};
+ghost use Rattle.std.specs.Prelude.{◌≡◌, ◌<◌, ◌+◌, ℕ, Bool, false, true, length, slice_get, List, Some, None};
+ghost use Rattle.std.specs.Prelude.{IfOk, IsErr};
 ghost use Rattle.cs_cells.specs.Cells.{cell};
 ghost use Rattle.cs_ir.specs.declared.op.Code.{Code};
 ghost use Rattle.cs_voice_meaning.specs.Voices.{Sheet};

@@ -84,7 +84,7 @@ pub(crate) fn read<B: Bank>(
 {
     if rate.is_audio() && into.rate.is_audio() {
         read_row(bank, area, row);
-        regs.swap(into.index, row);
+        regs.swap(into.index as usize, row);
     } else {
         regs.hold(into, first_cell(bank, area), row);
     }
@@ -141,7 +141,7 @@ fn write_frames<B: Bank>(regs: &Registers, row: &mut Vec<Num>, x: Reg, area: Are
     ensures rest { B.rest bank.new ≡ B.rest bank.old }
 {
     match x.rate {
-        Rate::Audio => write_row(bank, area, regs.row(x.index)),
+        Rate::Audio => write_row(bank, area, regs.row(x.index as usize)),
         _ => {
             regs.frames(x, row);
             write_row(bank, area, row);

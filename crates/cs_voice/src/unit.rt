@@ -144,7 +144,7 @@ fn play<B: Bank>(
     match into.rate {
         Rate::Audio => {
             block(player, regs, from, bank, row);
-            regs.swap(into.index, row);
+            regs.swap(into.index as usize, row);
         }
         _ => {
             let value = step(player, regs, from, bank);

@@ -15,12 +15,14 @@ unfolding samples_of
 samples_of-nil w dbfs = refl
 
 -- the samples of two parts are the one behind the other
-pub samples_of-append : (w : SampleWidth) (dbfs : ℤ) (xs ys : List ℤ) → samples_of w dbfs (xs ++ ys) ≡ samples_of w dbfs xs ++ samples_of w dbfs ys
+pub samples_of-append : (w : SampleWidth) (dbfs : ℤ) (xs ys : List ℤ)
+    → samples_of w dbfs (xs ++ ys) ≡ samples_of w dbfs xs ++ samples_of w dbfs ys
 unfolding samples_of
 samples_of-append w dbfs xs ys = flat_map-append (sample_bytes w dbfs) xs ys
 
 -- the size of samples
-pub length-samples_of : (w : SampleWidth) (dbfs : ℤ) (mix : List ℤ) → length (samples_of w dbfs mix) ≡ length mix * bytes_of w
+pub length-samples_of : (w : SampleWidth) (dbfs : ℤ) (mix : List ℤ)
+    → length (samples_of w dbfs mix) ≡ length mix * bytes_of w
 unfolding samples_of
 length-samples_of w dbfs [] = omega arith
 length-samples_of w dbfs (x ∷ xs) =
@@ -30,7 +32,8 @@ length-samples_of w dbfs (x ∷ xs) =
     ∙ (let more : bytes_of w + length xs * bytes_of w ≡ length (x ∷ xs) * bytes_of w = omega arith in more)
 
 -- a file of 16 bits is a header and samples
-pub wav_of-narrow : (mix : List ℤ) (head : Head) → wav_of mix head TwoBytes ≡ header_bytes TwoBytes (length mix * 2) head ++ samples_of TwoBytes head.dbfs mix
+pub wav_of-narrow : (mix : List ℤ) (head : Head)
+    → wav_of mix head TwoBytes ≡ header_bytes TwoBytes (length mix * 2) head ++ samples_of TwoBytes head.dbfs mix
 unfolding wav_of
 wav_of-narrow mix head =
     let even : length mix * 2 % 2 ≡ 0 = omega arith in

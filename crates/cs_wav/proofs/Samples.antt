@@ -1,5 +1,6 @@
 -- A sample's bytes, and where they are written.
-use Rattle.std.proofs.Common.{◌≡◌, ◌≤◌, ◌<◌, ◌≤ℤ◌, ◌+ℤ◌, ℕ, suc, ◌+◌, ◌-◌, ◌*◌, ◌^◌, ◌%◌, ℤ, pos, negsuc, List, [], ◌∷◌, ◌++◌, length, take, drop, get_or, of_z, w64, refl, ap, sym, ◌∙◌, arith}
+use Rattle.std.proofs.Common.{◌≡◌, ◌≤◌, ◌<◌, ◌≤ℤ◌, ◌+ℤ◌, ℕ, suc, ◌+◌, ◌-◌, ◌*◌, ◌^◌, ◌%◌, ℤ, pos, negsuc, List, [], ◌∷◌}
+use Rattle.std.proofs.Common.{◌++◌, length, take, drop, get_or, of_z, w64, refl, ap, sym, ◌∙◌, arith}
 use Rattle.std.proofs.lemmas.Int.{ints}
 use Rattle.std.proofs.lemmas.List.{take_rest, take_more, length-take-le, length-drop, drop-drop, append-nil}
 use Rattle.std.proofs.lemmas.List.Concat.{flat_map-append}
@@ -13,9 +14,12 @@ use Rattle.cs_base.specs.declared.width.SampleWidth.TheVariants as width
 use Rattle.cs_wav.specs.Wav.{full_scale, complement, sample_bytes, samples_of}
 
 -- a write of some bytes from a place on
-pub put_mid-front : (xs bs : List ℕ) (at n : ℕ) → at + n ≤ length xs → put_mid at (length xs - at) xs (bs ++ drop n (take (length xs - at) (drop at xs))) ≡ take at xs ++ (bs ++ drop (at + n) xs)
+pub put_mid-front : (xs bs : List ℕ) (at n : ℕ) → at + n ≤ length xs
+    → put_mid at (length xs - at) xs (bs ++ drop n (take (length xs - at) (drop at xs))) ≡ take at xs
+    ++ (bs ++ drop (at + n) xs)
 put_mid-front xs bs at n h =
-    let past : drop (length xs - at) (drop at xs) ≡ [] = drop_of_length-le (drop at xs) (omega (arith, length-drop at xs)) in
+    let past : drop (length xs - at) (drop at xs) ≡ [] =
+    drop_of_length-le (drop at xs) (omega (arith, length-drop at xs)) in
     rw (take_rest, drop-drop n at xs, past, append-nil) refl
 
 -- the range of samples lies within that of 24 bits
@@ -37,11 +41,13 @@ one_more width.TwoBytes = refl
 one_more width.ThreeBytes = refl
 
 -- the lowest bytes of a number within range are its two's complement
-pub low_bytes_are : (w : SampleWidth) (z : ℤ) → least_of w ≤ℤ z → z ≤ℤ greatest_of w → of_z w64 z % 2 ^ (8 * bytes_of w) ≡ complement (bytes_of w) z
+pub low_bytes_are : (w : SampleWidth) (z : ℤ) → least_of w ≤ℤ z → z ≤ℤ greatest_of w
+    → of_z w64 z % 2 ^ (8 * bytes_of w) ≡ complement (bytes_of w) z
 low_bytes_are width.TwoBytes (pos n) l g = let e : of_z w64 (pos n) ≡ n = refl in omega (arith, ints)
 low_bytes_are width.TwoBytes (negsuc n) l g = let e : of_z w64 (negsuc n) ≡ 2 ^ 64 - suc n = refl in omega (arith, ints)
 low_bytes_are width.ThreeBytes (pos n) l g = let e : of_z w64 (pos n) ≡ n = refl in omega (arith, ints)
-low_bytes_are width.ThreeBytes (negsuc n) l g = let e : of_z w64 (negsuc n) ≡ 2 ^ 64 - suc n = refl in omega (arith, ints)
+low_bytes_are width.ThreeBytes (negsuc n) l g = let e : of_z w64 (negsuc n) ≡ 2 ^ 64 - suc n =
+    refl in omega (arith, ints)
 
 -- a sample has as many bytes as its width says
 pub length-sample_bytes : (w : SampleWidth) (dbfs mix : ℤ) → length (sample_bytes w dbfs mix) ≡ bytes_of w
@@ -49,7 +55,9 @@ length-sample_bytes width.TwoBytes dbfs mix = refl
 length-sample_bytes width.ThreeBytes dbfs mix = refl
 
 -- one sample more
-pub sound_more : (w : SampleWidth) (dbfs : ℤ) (mix : List ℤ) (i : ℕ) → i < length mix → samples_of w dbfs (take (i + 1) mix) ≡ samples_of w dbfs (take i mix) ++ sample_bytes w dbfs (get_or mix i (pos 0))
+pub sound_more : (w : SampleWidth) (dbfs : ℤ) (mix : List ℤ) (i : ℕ) → i < length mix
+    → samples_of w dbfs (take (i + 1) mix) ≡ samples_of w dbfs (take i mix)
+    ++ sample_bytes w dbfs (get_or mix i (pos 0))
 unfolding samples_of
 sound_more w dbfs mix i h =
     ap (samples_of w dbfs) (take_more mix i (pos 0) h)
@@ -57,14 +65,17 @@ sound_more w dbfs mix i h =
     ∙ ap (λ (l : List ℕ). samples_of w dbfs (take i mix) ++ l) (append-nil (sample_bytes w dbfs (get_or mix i (pos 0))))
 
 -- a sample written behind those that stand there
-pub take-written : (w : SampleWidth) (dbfs : ℤ) (mix : List ℤ) (out now : List ℕ) (i : ℕ) → i < length mix → length out ≡ length mix * bytes_of w
+pub take-written : (w : SampleWidth) (dbfs : ℤ) (mix : List ℤ) (out now : List ℕ) (i : ℕ) → i < length mix
+    → length out ≡ length mix * bytes_of w
     → take (i * bytes_of w) out ≡ samples_of w dbfs (take i mix)
-    → now ≡ take (i * bytes_of w) out ++ (sample_bytes w dbfs (get_or mix i (pos 0)) ++ drop (i * bytes_of w + bytes_of w) out)
+    → now ≡ take (i * bytes_of w) out
+    ++ (sample_bytes w dbfs (get_or mix i (pos 0)) ++ drop (i * bytes_of w + bytes_of w) out)
     → take ((i + 1) * bytes_of w) now ≡ samples_of w dbfs (take (i + 1) mix)
 take-written w dbfs mix out now i h long before e =
     let bytes : ℕ = bytes_of w in
     let new : List ℕ = sample_bytes w dbfs (get_or mix i (pos 0)) in
-    let front : length (take (i * bytes) out) ≡ i * bytes = length-take-le (i * bytes) out (omega (arith, mul-le-mul_left {m = i} {n = length mix} bytes (omega arith))) in
+    let front : length (take (i * bytes) out) ≡ i * bytes =
+    length-take-le (i * bytes) out (omega (arith, mul-le-mul_left {m = i} {n = length mix} bytes (omega arith))) in
     let size : length new ≡ bytes = length-sample_bytes w dbfs (get_or mix i (pos 0)) in
     let place : (i + 1) * bytes ≡ length (take (i * bytes) out) + length new = omega arith in
     ap (take ((i + 1) * bytes)) e

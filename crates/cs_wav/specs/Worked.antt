@@ -14,4 +14,5 @@ IsOneChannel sr head = (head.sr ≡ sr) × (head.nchnls ≡ 1) × (head.dbfs ≡
 abbrev pub eight_of_100 : List ℕ
 eight_of_100 =
     codes "RIFF" ++ 52 ∷ 0 ∷ 0 ∷ 0 ∷ codes "WAVEfmt " ++ 16 ∷ 0 ∷ 0 ∷ 0 ∷ 1 ∷ 0 ∷ 1 ∷ 0 ∷ 8 ∷ 0 ∷ 0 ∷ 0 ∷ 16 ∷ 0 ∷ 0 ∷ 0
-    ∷ 2 ∷ 0 ∷ 16 ∷ 0 ∷ codes "data" ++ 16 ∷ 0 ∷ 0 ∷ 0 ∷ 100 ∷ 0 ∷ 100 ∷ 0 ∷ 100 ∷ 0 ∷ 100 ∷ 0 ∷ 100 ∷ 0 ∷ 100 ∷ 0 ∷ 100 ∷ 0 ∷ 100 ∷ 0 ∷ []
+    ∷ 2 ∷ 0 ∷ 16 ∷ 0 ∷ codes "data" ++ 16 ∷ 0 ∷ 0 ∷ 0 ∷ 100 ∷ 0 ∷ 100 ∷ 0 ∷ 100 ∷ 0 ∷ 100 ∷ 0 ∷ 100 ∷ 0 ∷ 100 ∷ 0 ∷ 100
+    ∷ 0 ∷ 100 ∷ 0 ∷ []

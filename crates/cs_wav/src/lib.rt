@@ -4,8 +4,8 @@
 //! mix, byte for byte, and a sample that had to be brought into range is counted. The layers above
 //! know the definition of the file alone, so the way to a sample may be changed without anyone noticing.
 //!
-//! Read `mix` (one row of sums is added to another), `sample` (a mix value becomes bytes), `block` (many of them), `riff`
-//! (the header) and `worked` (files and samples worked out by hand).
+//! Read `mix` (one row of sums is added to another), `sample` (a mix value becomes bytes), `block` (many of them),
+//! `riff` (the header) and `worked` (files and samples worked out by hand).
 #![tactic(auto)]
 
 mod block;

@@ -6,7 +6,7 @@ use Rattle.cs_ir.specs.declared.op.Act.TheVariants as act
 use Rattle.cs_ir.specs.declared.op.Op.{Op}
 use Rattle.cs_ir.specs.declared.register.Reg.{Reg}
 use Rattle.cs_meaning.specs.Core.{Block, core}
-use Rattle.cs_meaning.specs.Notes.{Place, past, past_parts, past_block}
+use Rattle.cs_code.specs.inner.Kept.{Place, past, past_parts, past_block}
 use Rattle.cs_typed.specs.TypedTree as typed
 use Rattle.cs_typed.specs.TypedTree.{Expression}
 use Rattle.cs_typed.specs.declared.tree.TypedArm.{TypedArm, out-TypedArm}

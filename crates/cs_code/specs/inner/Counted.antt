@@ -10,13 +10,15 @@ abbrev pub op_limit : Rate → Op → ℕ
 op_limit r op = max (reg_limit r op.into) (regs_limit r op.from)
 
 abbrev pub no_registers : ℕ → Counts
-no_registers units = record { i = 0; k = 0; a = 0; units = units }
+no_registers units = record { registers = record { init = 0; control = 0; audio = 0 }; units = units }
 
 -- counts that reach further numbers of registers
 abbrev pub reached : Counts → (Rate → ℕ) → Counts
 reached c g = record {
-  i = max c.i (g rate.Init);
-  k = max c.k (g rate.Control);
-  a = max c.a (g rate.Audio);
+  registers = record {
+    init = max c.registers.init (g rate.Init);
+    control = max c.registers.control (g rate.Control);
+    audio = max c.registers.audio (g rate.Audio);
+  };
   units = c.units;
 }

@@ -11,7 +11,7 @@ use Rattle.cs_ir.specs.declared.op.Reach.{Reach}
 use Rattle.cs_ir.specs.declared.op.Reach.TheVariants as reach
 use Rattle.cs_ir.specs.declared.register.Reg.{Reg}
 use Rattle.cs_meaning.specs.Core.{plus, core_call, whole_part, values_of, unit_call, store_call, zak_call, Stmt, Block, Arms, set, out, out_at, ask, turnoff, nothing}
-use Rattle.cs_meaning.specs.Notes.{past, past_parts, Place}
+use Rattle.cs_code.specs.inner.Kept.{past, past_parts, Place}
 use Rattle.cs_typed.specs.TypedTree as typed
 use Rattle.cs_typed.specs.TypedTree.{Expression, number, var, neg, pair, pick, apply}
 use Rattle.cs_typed.specs.declared.tree.TypedExpr.{TypedExpr}

@@ -9,7 +9,8 @@ use Rattle.cs_ir.specs.declared.op.Act.{Act}
 use Rattle.cs_ir.specs.declared.op.Op.{Op}
 use Rattle.cs_ir.specs.declared.register.Reg.{Reg}
 use Rattle.cs_meaning.specs.Core.{Block}
-use Rattle.cs_meaning.specs.Notes.{reg, start, past, past_block}
+use Rattle.cs_meaning.specs.Notes.{reg}
+use Rattle.cs_code.specs.inner.Kept.{start, past, past_block}
 use Rattle.cs_typed.specs.TypedTree.{Expression, var}
 use Rattle.cs_typed.specs.WellRated.{node_rate}
 use Rattle.cs_typed.specs.declared.tree.Var.TheVariants.{Local}

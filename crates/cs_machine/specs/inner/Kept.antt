@@ -12,9 +12,9 @@ abbrev pub Ends : ℕ → List ℤ → List ℤ → Type 0
 Ends j before after = (i : ℕ) → j ≤ i → argument after i ≡ argument before i
 
 pub record AreKept (is ks : List ℤ) (rows : List (List ℤ)) (counts : Counts) (ksmps : ℕ) : Type 0 where
-  pub i : length is ≡ counts.i
-  pub k : length ks ≡ counts.k
-  pub a : length rows ≡ counts.a
+  pub i : length is ≡ counts.registers.init
+  pub k : length ks ≡ counts.registers.control
+  pub a : length rows ≡ counts.registers.audio
   pub long : AreRows ksmps rows
 
 -- what a channel has: its row where anything was given to it, else zeros

@@ -40,15 +40,15 @@ filled_has f w past keeps = λ t q. at q.rate q.index t
   where
     at : (r : Rate) (n : ℕ) → values (filled f w) (reg r n) ≡ w (reg r n)
     at rate.Init n =
-        ap constant (listed_all (λ m. w (reg rate.Init m) 0) f.counts.i (pos 0) n (λ no. ap (λ v. v 0) (past (reg rate.Init n) no)))
+        ap constant (listed_all (λ m. w (reg rate.Init m) 0) f.counts.registers.init (pos 0) n (λ no. ap (λ v. v 0) (past (reg rate.Init n) no)))
         ∙ keeps (reg rate.Init n)
     at rate.Control n =
-        ap constant (listed_all (λ m. w (reg rate.Control m) 0) f.counts.k (pos 0) n (λ no. ap (λ v. v 0) (past (reg rate.Control n) no)))
+        ap constant (listed_all (λ m. w (reg rate.Control m) 0) f.counts.registers.control (pos 0) n (λ no. ap (λ v. v 0) (past (reg rate.Control n) no)))
         ∙ keeps (reg rate.Control n)
-    at rate.Audio n = by_test (nat_lt n f.counts.a)
-        (λ yes. ap row_wave (listed_at (λ m. row_of f.ksmps (w (reg rate.Audio m))) f.counts.a [] n (ltb-true n f.counts.a yes))
+    at rate.Audio n = by_test (nat_lt n f.counts.registers.audio)
+        (λ yes. ap row_wave (listed_at (λ m. row_of f.ksmps (w (reg rate.Audio m))) f.counts.registers.audio [] n (ltb-true n f.counts.registers.audio yes))
         ∙ row_is_held f.ksmps (w (reg rate.Audio n)) ∙ keeps (reg rate.Audio n))
-        (λ no. ap row_wave (listed_past (λ m. row_of f.ksmps (w (reg rate.Audio m))) f.counts.a [] n (at_or_past n f.counts.a no))
+        (λ no. ap row_wave (listed_past (λ m. row_of f.ksmps (w (reg rate.Audio m))) f.counts.registers.audio [] n (at_or_past n f.counts.registers.audio no))
         ∙ sym (past (reg rate.Audio n) no))
 
 -- what they have then fits in them
@@ -56,9 +56,9 @@ pub filled_past : (f : RegisterFile) (w : Reg → Wave) (q : Reg) → has_regist
 filled_past f w q past = at q.rate q.index past
   where
     at : (r : Rate) (n : ℕ) → has_register f.counts (reg r n) ≡ false → values (filled f w) (reg r n) ≡ silence
-    at rate.Init n past = ap constant (listed_past (λ m. w (reg rate.Init m) 0) f.counts.i (pos 0) n (at_or_past n f.counts.i past))
-    at rate.Control n past = ap constant (listed_past (λ m. w (reg rate.Control m) 0) f.counts.k (pos 0) n (at_or_past n f.counts.k past))
-    at rate.Audio n past = ap row_wave (listed_past (λ m. row_of f.ksmps (w (reg rate.Audio m))) f.counts.a [] n (at_or_past n f.counts.a past))
+    at rate.Init n past = ap constant (listed_past (λ m. w (reg rate.Init m) 0) f.counts.registers.init (pos 0) n (at_or_past n f.counts.registers.init past))
+    at rate.Control n past = ap constant (listed_past (λ m. w (reg rate.Control m) 0) f.counts.registers.control (pos 0) n (at_or_past n f.counts.registers.control past))
+    at rate.Audio n past = ap row_wave (listed_past (λ m. row_of f.ksmps (w (reg rate.Audio m))) f.counts.registers.audio [] n (at_or_past n f.counts.registers.audio past))
 
 zero_held : (b : Bool) → (if b then pos 0 else pos 0) ≡ pos 0
 zero_held true = refl
@@ -85,9 +85,9 @@ filled_keeps f w q = at q.rate q.index
     at : (r : Rate) (n : ℕ) → held f.ksmps r (values (filled f w) (reg r n)) ≡ values (filled f w) (reg r n)
     at rate.Init n = refl
     at rate.Control n = refl
-    at rate.Audio n = rows_held (map (λ m. row_of f.ksmps (w (reg rate.Audio m))) (range_with_len 0 f.counts.a)) f.ksmps f.counts.a n
-        (length-map-range_with_len (λ m. row_of f.ksmps (w (reg rate.Audio m))) 0 f.counts.a)
-        (listed_rows (λ m. w (reg rate.Audio m)) f.ksmps f.counts.a)
+    at rate.Audio n = rows_held (map (λ m. row_of f.ksmps (w (reg rate.Audio m))) (range_with_len 0 f.counts.registers.audio)) f.ksmps f.counts.registers.audio n
+        (length-map-range_with_len (λ m. row_of f.ksmps (w (reg rate.Audio m))) 0 f.counts.registers.audio)
+        (listed_rows (λ m. w (reg rate.Audio m)) f.ksmps f.counts.registers.audio)
 
 -- channels that were filled with values that fit in them have them
 pub refilled_has : (f : ChannelFile) (w : ℕ → Wave) → ((c : ℕ) → nat_lt c (length f.rows) ≡ false → w c ≡ silence)

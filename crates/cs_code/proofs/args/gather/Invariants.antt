@@ -1,5 +1,5 @@
 use Rattle.std.proofs.Common.{◌≡◌, ◌++◌, drop}
-use Rattle.cs_meaning.specs.Notes.{past_all}
+use Rattle.cs_code.specs.inner.Kept.{past_all}
 use Rattle.cs_code.specs.inner.Code.{operands_code}
 use Rattle.cs_code.specs.inner.Emitted.{frame_of, expressions_of, is_whole}
 use Rattle.cs_code.specs.inner.Frames.{spots}

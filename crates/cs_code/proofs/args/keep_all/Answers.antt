@@ -1,5 +1,5 @@
 use Rattle.std.proofs.Common.{◌≡◌, ◌∙◌, ◌+◌, ◌∷◌, List, drop, arith, ap, sym}
-use Rattle.cs_meaning.specs.Notes.{past_all}
+use Rattle.cs_code.specs.inner.Kept.{past_all}
 use Rattle.cs_typed.specs.TypedTree.{Expression, expression}
 use Rattle.cs_code.specs.inner.Emitted.{frame_of, expressions_of}
 use Rattle.cs_code.proofs.Lists.{keep_more, dropped}

@@ -1,5 +1,5 @@
 use Rattle.std.proofs.Common.{◌≡◌, ◌++◌, drop}
-use Rattle.cs_meaning.specs.Notes.{past_all}
+use Rattle.cs_code.specs.inner.Kept.{past_all}
 use Rattle.cs_code.specs.inner.Code.{keep_all_code}
 use Rattle.cs_code.specs.inner.Emitted.{frame_of, expressions_of}
 use Rattle.cs_code.proofs.args.keep_all.Given as goal

@@ -1,4 +1,4 @@
-use Rattle.std.proofs.Common.{◌≡◌, ◌∙◌, ◌+◌, ◌∷◌, List, map, drop, arith, ap}
+use Rattle.std.proofs.Common.{◌≡◌, ◌∙◌, ◌+◌, ◌∷◌, List, map, drop, arith, refl, ap}
 use Rattle.cs_typed.specs.TypedTree.{Argument, argument}
 use Rattle.cs_words.specs.Catalogue.{row_of, letter_at, is_settled}
 use Rattle.cs_code.specs.inner.Emitted.{expressions_of}
@@ -15,9 +15,9 @@ loop-arg-preserved c =
     let rest : List Argument = map argument (drop (i + 1) c.args.call.now.args.now) in
     let split : args ≡ argument x ∷ rest = ap (map argument) (dropped c.args.call.now.args.now i x (omega arith) c.arg-item.is) in
     let made = c.in_ok-add.ensures in
-    let on = c.in_ok-place.ensures in
     let n = c.loop-arg.place in
-    let m = c.in_ok-place.place in
+    let m = n + 1 in
+    let on : m ≡ n + 1 = refl in
     let took : c.is_settled.result ≡ is_settled (letter_at row n) =
     c.is_settled.ensures ∙ ap is_settled (c.letter.ensures ∙ ap (λ s. letter_at s n) c.signature_of-row.ensures) in (
       on ∙ ap (λ k. k + 1) was.0,

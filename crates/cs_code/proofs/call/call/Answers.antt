@@ -1,5 +1,5 @@
 use Rattle.std.proofs.Common.{◌≡◌, ◌++◌, refl, sym, subst, IfOk, OnOk}
-use Rattle.cs_meaning.specs.Notes.{past_stmt}
+use Rattle.cs_code.specs.inner.Kept.{past_stmt}
 use Rattle.cs_words.specs.Catalogue.{row_of}
 use Rattle.cs_code.specs.inner.Emitted.{frame_of, place_of, pass_code, assignment_of, arguments_of}
 use Rattle.cs_code.proofs.Calls.{call_assigned, call_effect}

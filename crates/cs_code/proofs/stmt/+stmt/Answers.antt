@@ -2,7 +2,7 @@ use Rattle.std.proofs.Common.{◌≡◌, ◌∙◌, ◌+◌, ◌++◌, ◌∷◌
 use Rattle.std.proofs.lemmas.List.{drop_all}
 use Rattle.cs_meaning.specs.Core.{core, core_call, core_stmt, core_arms, andthen, arm}
 use Rattle.cs_ir.specs.declared.op.Act.TheVariants as act
-use Rattle.cs_meaning.specs.Notes.{past, past_parts, past_stmt, past_block, past_arms}
+use Rattle.cs_code.specs.inner.Kept.{past, past_parts, past_stmt, past_block, past_arms}
 use Rattle.cs_typed.specs.TypedTree as typed
 use Rattle.cs_typed.specs.declared.tree.TypedArm.{out-TypedArm}
 use Rattle.cs_typed.specs.declared.tree.TypedWhat.TheViews.{the_lemmas}

@@ -1,6 +1,6 @@
 use Rattle.std.proofs.Common.{◌≡◌, ◌++◌, drop, length}
 use Rattle.cs_meaning.specs.Core.{core, core_arms}
-use Rattle.cs_meaning.specs.Notes.{past_block, past_arms}
+use Rattle.cs_code.specs.inner.Kept.{past_block, past_arms}
 use Rattle.cs_typed.specs.TypedTree as typed
 use Rattle.cs_code.specs.inner.Code.{all_code}
 use Rattle.cs_code.specs.inner.Branches.{opened, jumps, branches, past_list}

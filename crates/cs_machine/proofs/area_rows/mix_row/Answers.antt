@@ -9,32 +9,51 @@ use Rattle.cs_machine.proofs.Writing.{touch_again, within_here, none_written, on
 use Rattle.cs_machine.proofs.area_rows.mix_row.Goals as goal
 
 pub loop-j-init : goal.loop-j-init
-loop-j-init g c = record { cells = none_written c.args.area (added (wave_in rate.Audio c.args.area (cell (g.B.Bank.cells c.args.bank.now))) (row_wave c.args.row.now)) (cell (g.B.Bank.cells c.args.bank.now)); long = refl; rest = refl }
+loop-j-init g c = record {
+  cells = none_written c.args.area
+      (added (wave_in rate.Audio c.args.area (cell (g.B.Bank.cells c.args.bank.now))) (row_wave c.args.row.now))
+      (cell (g.B.Bank.cells c.args.bank.now));
+  long = refl;
+  rest = refl;
+}
 
 pub at_frame-before-requires-clause-read : goal.at_frame-before-requires-clause-read
 at_frame-before-requires-clause-read g c =
-    touch_again g.B.Bank.can_get (g.B.Bank.rest c.args.bank.now) (g.B.Bank.rest c.loop-j.bank) (length (g.B.Bank.cells c.args.bank.now)) (length (g.B.Bank.cells c.loop-j.bank)) c.args.area
+    touch_again g.B.Bank.can_get (g.B.Bank.rest c.args.bank.now) (g.B.Bank.rest c.loop-j.bank)
+    (length (g.B.Bank.cells c.args.bank.now)) (length (g.B.Bank.cells c.loop-j.bank)) c.args.area
     c.loop-j.invariant.rest c.loop-j.invariant.long c.requires.read
 
 pub set_frame-requires-clause-write : goal.set_frame-requires-clause-write
 set_frame-requires-clause-write g c =
-    touch_again g.B.Bank.can_set (g.B.Bank.rest c.args.bank.now) (g.B.Bank.rest c.at_frame-before.new.bank) (length (g.B.Bank.cells c.args.bank.now)) (length (g.B.Bank.cells c.at_frame-before.new.bank)) c.args.area
-    (c.at_frame-before.ensures.rest ∙ c.loop-j.invariant.rest) (ap length c.at_frame-before.ensures.same ∙ c.loop-j.invariant.long) c.requires.write
+    touch_again g.B.Bank.can_set (g.B.Bank.rest c.args.bank.now) (g.B.Bank.rest c.at_frame-before.new.bank)
+    (length (g.B.Bank.cells c.args.bank.now)) (length (g.B.Bank.cells c.at_frame-before.new.bank)) c.args.area
+    (c.at_frame-before.ensures.rest ∙ c.loop-j.invariant.rest)
+    (ap length c.at_frame-before.ensures.same ∙ c.loop-j.invariant.long) c.requires.write
 
 pub loop-j-preserved : goal.loop-j-preserved
 loop-j-preserved g c =
     let low : c.loop-j.j < c.args.area.length = omega (arith, c.requires.row) in
-    let long = within_here (g.B.Bank.can_set (g.B.Bank.rest c.args.bank.now)) (length (g.B.Bank.cells c.args.bank.now)) c.args.area c.loop-j.j c.requires.write low in
+    let long = within_here (g.B.Bank.can_set (g.B.Bank.rest c.args.bank.now)) (length (g.B.Bank.cells c.args.bank.now))
+    c.args.area c.loop-j.j c.requires.write low in
     record {
       cells = ap cell c.set_frame.ensures.cells
-          ∙ one_written (g.B.Bank.cells c.at_frame-before.new.bank) (cell (g.B.Bank.cells c.args.bank.now)) c.args.area (added (wave_in rate.Audio c.args.area (cell (g.B.Bank.cells c.args.bank.now))) (row_wave c.args.row.now)) c.loop-j.j c.add.result (ap cell c.at_frame-before.ensures.same ∙ c.loop-j.invariant.cells)
-          (subst (λ n. c.args.area.first + c.loop-j.j < n) (sym (ap length c.at_frame-before.ensures.same ∙ c.loop-j.invariant.long)) long)
-          (mixed c.args.area (cell (g.B.Bank.cells c.loop-j.bank)) (cell (g.B.Bank.cells c.args.bank.now)) c.args.row.now c.loop-j.j c.at_frame-before.result c.number_at.result c.add.result low c.loop-j.invariant.cells c.at_frame-before.ensures.value c.number_at.ensures c.add.ensures);
-      long = ap length c.set_frame.ensures.cells ∙ length-set (g.B.Bank.cells c.at_frame-before.new.bank) (c.args.area.first + c.loop-j.j) c.add.result
+          ∙ one_written (g.B.Bank.cells c.at_frame-before.new.bank) (cell (g.B.Bank.cells c.args.bank.now)) c.args.area
+          (added (wave_in rate.Audio c.args.area (cell (g.B.Bank.cells c.args.bank.now))) (row_wave c.args.row.now))
+          c.loop-j.j c.add.result (ap cell c.at_frame-before.ensures.same ∙ c.loop-j.invariant.cells)
+          (subst (λ n. c.args.area.first + c.loop-j.j < n)
+          (sym (ap length c.at_frame-before.ensures.same ∙ c.loop-j.invariant.long)) long)
+          (mixed c.args.area (cell (g.B.Bank.cells c.loop-j.bank)) (cell (g.B.Bank.cells c.args.bank.now))
+          c.args.row.now c.loop-j.j c.at_frame-before.result c.number_at.result c.add.result low
+          c.loop-j.invariant.cells c.at_frame-before.ensures.value c.number_at.ensures c.add.ensures);
+      long = ap length c.set_frame.ensures.cells
+          ∙ length-set (g.B.Bank.cells c.at_frame-before.new.bank) (c.args.area.first + c.loop-j.j) c.add.result
           ∙ ap length c.at_frame-before.ensures.same ∙ c.loop-j.invariant.long;
       rest = c.set_frame.ensures.rest ∙ c.at_frame-before.ensures.rest ∙ c.loop-j.invariant.rest;
     }
 
 pub returns-clause-cells : goal.returns-clause-cells
 returns-clause-cells g c =
-    all_written c.args.area c.loop-j.j (added (wave_in rate.Audio c.args.area (cell (g.B.Bank.cells c.args.bank.now))) (row_wave c.args.row.now)) (cell (g.B.Bank.cells c.args.bank.now)) (cell (g.B.Bank.cells c.loop-j.bank)) (omega (arith, c.requires.row, c.loop-j-test.false)) c.loop-j.invariant.cells
+    all_written c.args.area c.loop-j.j
+    (added (wave_in rate.Audio c.args.area (cell (g.B.Bank.cells c.args.bank.now))) (row_wave c.args.row.now))
+    (cell (g.B.Bank.cells c.args.bank.now)) (cell (g.B.Bank.cells c.loop-j.bank))
+    (omega (arith, c.requires.row, c.loop-j-test.false)) c.loop-j.invariant.cells

@@ -10,7 +10,9 @@ use Rattle.cs_machine.proofs.area_rows.mix_row.Given as goal
 abbrev pub invariant-loop-j : goal.invariant-loop-j
 invariant-loop-j g l = record {
   cells : cell (g.B.Bank.cells l.bank)
-      ≡ with_wave (Some (front l.area l.j)) (added (wave_in rate.Audio l.area (cell (g.B.Bank.cells l.initial.bank))) (row_wave l.row)) (cell (g.B.Bank.cells l.initial.bank));
+      ≡ with_wave (Some (front l.area l.j))
+      (added (wave_in rate.Audio l.area (cell (g.B.Bank.cells l.initial.bank))) (row_wave l.row))
+      (cell (g.B.Bank.cells l.initial.bank));
   long : length (g.B.Bank.cells l.bank) ≡ length (g.B.Bank.cells l.initial.bank);
   rest : g.B.Bank.rest l.bank ≡ g.B.Bank.rest l.initial.bank;
 }

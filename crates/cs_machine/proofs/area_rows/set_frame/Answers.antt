@@ -3,4 +3,5 @@ use Rattle.cs_machine.proofs.Writing.{can_here}
 use Rattle.cs_machine.proofs.area_rows.set_frame.Goals as goal
 
 pub set-requires : goal.set-requires
-set-requires g c = can_here (g.B.Bank.can_set (g.B.Bank.rest c.args.bank.now)) (length (g.B.Bank.cells c.args.bank.now)) c.args.area c.args.frame c.address.result c.requires.write c.requires.frame c.address.ensures
+set-requires g c = can_here (g.B.Bank.can_set (g.B.Bank.rest c.args.bank.now)) (length (g.B.Bank.cells c.args.bank.now))
+    c.args.area c.args.frame c.address.result c.requires.write c.requires.frame c.address.ensures

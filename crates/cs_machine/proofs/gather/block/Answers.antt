@@ -14,17 +14,21 @@ pub returns-then-from-le-FEW_INPUTS-clause-value : goal.returns-then-from-le-FEW
 returns-then-from-le-FEW_INPUTS-clause-value g c =
     let p : PlayerData = c.args.player.now in
     let points : List ℤ = curve_at p.points p.area (cell (g.B.Bank.cells c.args.bank.now)) in
-    let long : length c.args.from.now ≤ length c.few_operands-inputs.result = omega (arith, c.if-from-le-FEW_INPUTS.true, c.few_operands-inputs.ensures.long) in
+    let long : length c.args.from.now ≤ length c.few_operands-inputs.result =
+    omega (arith, c.if-from-le-FEW_INPUTS.true, c.few_operands-inputs.ensures.long) in
     c.block.ensures.value
     ∙ ap (λ at. run unit_step at p.state 0 (length c.args.row.now))
-    (same_inputs (values c.args.regs.now) c.few_operands-inputs.result c.args.from.now points long c.few_operands-inputs.ensures.stand)
+    (same_inputs (values c.args.regs.now) c.few_operands-inputs.result c.args.from.now points long
+    c.few_operands-inputs.ensures.stand)
 
 pub returns-else-from-le-FEW_INPUTS-clause-value : goal.returns-else-from-le-FEW_INPUTS-clause-value
 returns-else-from-le-FEW_INPUTS-clause-value g c =
     let p : PlayerData = c.args.player.now in
     let points : List ℤ = curve_at p.points p.area (cell (g.B.Bank.cells c.args.bank.now)) in
     let most : length c.args.from.now ≤ 7 = few p.state (length c.args.from.now) c.requires.count in
-    let long : length c.args.from.now ≤ length c.operands-inputs.result = omega (arith, most, c.operands-inputs.ensures.long) in
+    let long : length c.args.from.now ≤ length c.operands-inputs.result =
+    omega (arith, most, c.operands-inputs.ensures.long) in
     c.block-else-from-le-FEW_INPUTS.ensures.value
     ∙ ap (λ at. run unit_step at p.state 0 (length c.args.row.now))
-    (same_inputs (values c.args.regs.now) c.operands-inputs.result c.args.from.now points long c.operands-inputs.ensures.stand)
+    (same_inputs (values c.args.regs.now) c.operands-inputs.result c.args.from.now points long
+    c.operands-inputs.ensures.stand)

@@ -14,17 +14,22 @@ pub returns-then-from-le-FEW_INPUTS-clause-value : goal.returns-then-from-le-FEW
 returns-then-from-le-FEW_INPUTS-clause-value g c =
     let p : PlayerData = c.args.player.now in
     let points : List ℤ = curve_at p.points p.area (cell (g.B.Bank.cells c.args.bank.now)) in
-    let long : length c.args.from.now ≤ length c.few_firsts-inputs.result = omega (arith, c.if-from-le-FEW_INPUTS.true, c.few_firsts-inputs.ensures.long) in
+    let long : length c.args.from.now ≤ length c.few_firsts-inputs.result =
+    omega (arith, c.if-from-le-FEW_INPUTS.true, c.few_firsts-inputs.ensures.long) in
     ap (λ (r : Kind × ℤ). (r.0, r.1 ∷ []))
     (c.step.ensures.value
-    ∙ ap (λ xs. unit_step p.state (xs ++ points)) (same_firsts (values c.args.regs.now) c.few_firsts-inputs.result c.args.from.now long c.few_firsts-inputs.ensures.first))
+    ∙ ap (λ xs. unit_step p.state (xs ++ points))
+    (same_firsts (values c.args.regs.now) c.few_firsts-inputs.result c.args.from.now long
+    c.few_firsts-inputs.ensures.first))
 
 pub returns-else-from-le-FEW_INPUTS-clause-value : goal.returns-else-from-le-FEW_INPUTS-clause-value
 returns-else-from-le-FEW_INPUTS-clause-value g c =
     let p : PlayerData = c.args.player.now in
     let points : List ℤ = curve_at p.points p.area (cell (g.B.Bank.cells c.args.bank.now)) in
     let most : length c.args.from.now ≤ 7 = few p.state (length c.args.from.now) c.requires.count in
-    let long : length c.args.from.now ≤ length c.firsts-inputs.result = omega (arith, most, c.firsts-inputs.ensures.long) in
+    let long : length c.args.from.now ≤ length c.firsts-inputs.result =
+    omega (arith, most, c.firsts-inputs.ensures.long) in
     ap (λ (r : Kind × ℤ). (r.0, r.1 ∷ []))
     (c.step-else-from-le-FEW_INPUTS.ensures.value
-    ∙ ap (λ xs. unit_step p.state (xs ++ points)) (same_firsts (values c.args.regs.now) c.firsts-inputs.result c.args.from.now long c.firsts-inputs.ensures.first))
+    ∙ ap (λ xs. unit_step p.state (xs ++ points))
+    (same_firsts (values c.args.regs.now) c.firsts-inputs.result c.args.from.now long c.firsts-inputs.ensures.first))

@@ -12,7 +12,8 @@ loop-j-preserved g c = record {
       let l = le_or_l c.loop-j.sizes c.size-sizes.result in
       let r = le_or_r c.loop-j.sizes c.size-sizes.result in
       let short = c.size-sizes.ensures (omega (arith, h, r)) in
-      one_more (both op.Mul (g.X.Side.wave c.args.x.now) (g.Y.Side.wave c.args.y.now)) c.loop-j.out c.loop-j.j c.low_product.result (omega arith) (c.loop-j.invariant.frames (omega (arith, h, l)))
+      one_more (both op.Mul (g.X.Side.wave c.args.x.now) (g.Y.Side.wave c.args.y.now)) c.loop-j.out c.loop-j.j
+      c.low_product.result (omega arith) (c.loop-j.invariant.frames (omega (arith, h, l)))
       (c.low_product.ensures short.0 short.1
       ∙ ap (λ z. combined op.Mul z c.at-right.result) c.at-left.ensures
       ∙ ap (combined op.Mul (g.X.Side.wave c.args.x.now c.loop-j.j)) c.at-right.ensures);
@@ -20,4 +21,6 @@ loop-j-preserved g c = record {
 }
 
 pub returns-clause-frames : goal.returns-clause-frames
-returns-clause-frames g c = λ h. all_done (both op.Mul (g.X.Side.wave c.args.x.now) (g.Y.Side.wave c.args.y.now)) c.loop-j.out c.loop-j.j (length c.args.out.now) c.loop-j.invariant.long (omega arith) (c.loop-j.invariant.frames h)
+returns-clause-frames g c =
+    λ h. all_done (both op.Mul (g.X.Side.wave c.args.x.now) (g.Y.Side.wave c.args.y.now)) c.loop-j.out c.loop-j.j
+    (length c.args.out.now) c.loop-j.invariant.long (omega arith) (c.loop-j.invariant.frames h)

@@ -12,5 +12,9 @@ returns c = λ h.
     let x_fits : SFits w64 c.raw.result = search rules in
     let y_fits : SFits w64 c.raw-2.result = search rules in
     let x : to_z w64 (of_z w64 c.raw.result) ≡ c.args.x = to_z-of_z w64 c.raw.result x_fits ∙ c.raw.ensures.value in
-    let y : to_z w64 (of_z w64 c.raw-2.result) ≡ c.args.y = to_z-of_z w64 c.raw-2.result y_fits ∙ c.raw-2.ensures.value in
-    (subst IsShort x (c.lifted.ensures (omega (arith, h, l))), subst IsShort y (c.lifted-2.ensures (omega (arith, h, r))))
+    let y : to_z w64 (of_z w64 c.raw-2.result) ≡ c.args.y =
+    to_z-of_z w64 c.raw-2.result y_fits ∙ c.raw-2.ensures.value in (
+      subst IsShort x (c.lifted.ensures (omega (arith, h, l))),
+      subst IsShort y
+          (c.lifted-2.ensures (omega (arith, h, r))),
+    )

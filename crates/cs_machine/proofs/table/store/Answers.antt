@@ -13,34 +13,54 @@ use Rattle.cs_machine.proofs.Writing.{touch_again, within_here}
 use Rattle.cs_machine.proofs.table.store.Goals as goal
 
 pub loop-j-init : goal.loop-j-init
-loop-j-init g c = record { cells = none_stored c.args.area (cell (g.B.Bank.cells c.args.bank.now)); long = refl; rest = refl }
+loop-j-init g c = record
+    { cells = none_stored c.args.area (cell (g.B.Bank.cells c.args.bank.now)); long = refl; rest = refl }
 
 pub place_of_index-place-requires : goal.place_of_index-place-requires
-place_of_index-place-requires g c = let some = some_points c.args.area.length c.requires.power in let is = c.power_below-len.ensures in omega (arith, some, is)
+place_of_index-place-requires g c = let some = some_points c.args.area.length c.requires.power in let is =
+    c.power_below-len.ensures in omega (arith, some, is)
 
 pub set_frame-requires-clause-frame : goal.set_frame-requires-clause-frame
 set_frame-requires-clause-frame g c =
-    place_within c.args.area.length c.place_of_index-place.result (let low = c.place_of_index-place.ensures.inside in let is = c.power_below-len.ensures in omega (arith, low, is))
+    place_within c.args.area.length c.place_of_index-place.result
+    (let low = c.place_of_index-place.ensures.inside in let is = c.power_below-len.ensures in omega (arith, low, is))
 
 pub set_frame-requires-clause-write : goal.set_frame-requires-clause-write
 set_frame-requires-clause-write g c =
-    touch_again g.B.Bank.can_set (g.B.Bank.rest c.args.bank.now) (g.B.Bank.rest c.loop-j.bank) (length (g.B.Bank.cells c.args.bank.now)) (length (g.B.Bank.cells c.loop-j.bank)) c.args.area
+    touch_again g.B.Bank.can_set (g.B.Bank.rest c.args.bank.now) (g.B.Bank.rest c.loop-j.bank)
+    (length (g.B.Bank.cells c.args.bank.now)) (length (g.B.Bank.cells c.loop-j.bank)) c.args.area
     c.loop-j.invariant.rest c.loop-j.invariant.long c.requires.write
 
 pub loop-j-preserved : goal.loop-j-preserved
 loop-j-preserved g c =
-    let low : c.place_of_index-place.result < c.args.area.length = place_within c.args.area.length c.place_of_index-place.result (let l = c.place_of_index-place.ensures.inside in let is = c.power_below-len.ensures in omega (arith, l, is)) in
-    let long = within_here (g.B.Bank.can_set (g.B.Bank.rest c.args.bank.now)) (length (g.B.Bank.cells c.args.bank.now)) c.args.area c.place_of_index-place.result c.requires.write low in
+    let low : c.place_of_index-place.result < c.args.area.length =
+    place_within c.args.area.length c.place_of_index-place.result
+    (let l = c.place_of_index-place.ensures.inside in let is = c.power_below-len.ensures in omega (arith, l, is)) in
+    let long = within_here (g.B.Bank.can_set (g.B.Bank.rest c.args.bank.now)) (length (g.B.Bank.cells c.args.bank.now))
+    c.args.area c.place_of_index-place.result c.requires.write low in
     record {
       cells = ap cell c.set_frame.ensures.cells
-          ∙ one_stored (g.B.Bank.cells c.loop-j.bank) (cell (g.B.Bank.cells c.args.bank.now)) c.args.area (λ j. place_of_index (len_of c.args.area.length) (operand_at c.args.ndx.now j)) (operand_at c.args.sig.now) (wave_in rate.Audio c.args.area (cell (g.B.Bank.cells c.args.bank.now))) c.loop-j.j c.place_of_index-place.result c.at-in-loop-j.result c.loop-j.invariant.cells
-          (c.place_of_index-place.ensures.value ∙ ap (λ n. place_of_index n c.at.result) c.power_below-len.ensures ∙ ap (place_of_index (len_of c.args.area.length)) c.at.ensures) low
-          (subst (λ n. c.args.area.first + c.place_of_index-place.result < n) (sym c.loop-j.invariant.long) long) c.at-in-loop-j.ensures;
-      long = ap length c.set_frame.ensures.cells ∙ length-set (g.B.Bank.cells c.loop-j.bank) (c.args.area.first + c.place_of_index-place.result) c.at-in-loop-j.result ∙ c.loop-j.invariant.long;
+          ∙ one_stored (g.B.Bank.cells c.loop-j.bank) (cell (g.B.Bank.cells c.args.bank.now)) c.args.area
+          (λ j. place_of_index (len_of c.args.area.length) (operand_at c.args.ndx.now j)) (operand_at c.args.sig.now)
+          (wave_in rate.Audio c.args.area (cell (g.B.Bank.cells c.args.bank.now))) c.loop-j.j
+          c.place_of_index-place.result c.at-in-loop-j.result c.loop-j.invariant.cells
+          (c.place_of_index-place.ensures.value ∙ ap (λ n. place_of_index n c.at.result) c.power_below-len.ensures
+          ∙ ap (place_of_index (len_of c.args.area.length)) c.at.ensures) low
+          (subst (λ n. c.args.area.first + c.place_of_index-place.result < n) (sym c.loop-j.invariant.long) long)
+          c.at-in-loop-j.ensures;
+      long = ap length c.set_frame.ensures.cells
+          ∙ length-set (g.B.Bank.cells c.loop-j.bank) (c.args.area.first + c.place_of_index-place.result)
+          c.at-in-loop-j.result ∙ c.loop-j.invariant.long;
       rest = c.set_frame.ensures.rest ∙ c.loop-j.invariant.rest;
     }
 
 pub returns-clause-cells : goal.returns-clause-cells
 returns-clause-cells g c t size =
-    in_table t c.args.area (operand_at c.args.ndx.now) (operand_at c.args.sig.now) (wave_in rate.Audio c.args.area (cell (g.B.Bank.cells c.args.bank.now))) c.args.steps (cell (g.B.Bank.cells c.args.bank.now)) (cell (g.B.Bank.cells c.loop-j.bank)) size
-    (c.loop-j.invariant.cells ∙ ap (λ n. with_wave (Some c.args.area) (stored (λ j. place_of_index (len_of c.args.area.length) (operand_at c.args.ndx.now j)) (operand_at c.args.sig.now) n (wave_in rate.Audio c.args.area (cell (g.B.Bank.cells c.args.bank.now)))) (cell (g.B.Bank.cells c.args.bank.now))) (let e : c.loop-j.j ≡ c.args.steps = omega (arith, c.loop-j-test.false) in e))
+    in_table t c.args.area (operand_at c.args.ndx.now) (operand_at c.args.sig.now)
+    (wave_in rate.Audio c.args.area (cell (g.B.Bank.cells c.args.bank.now))) c.args.steps
+    (cell (g.B.Bank.cells c.args.bank.now)) (cell (g.B.Bank.cells c.loop-j.bank)) size
+    (c.loop-j.invariant.cells
+    ∙ ap (λ n. with_wave (Some c.args.area)
+    (stored (λ j. place_of_index (len_of c.args.area.length) (operand_at c.args.ndx.now j)) (operand_at c.args.sig.now)
+    n (wave_in rate.Audio c.args.area (cell (g.B.Bank.cells c.args.bank.now)))) (cell (g.B.Bank.cells c.args.bank.now)))
+    (let e : c.loop-j.j ≡ c.args.steps = omega (arith, c.loop-j-test.false) in e))

@@ -28,8 +28,10 @@ returns-clause-writes c =
 
 pub returns-clause-ascending : goal.returns-clause-ascending
 returns-clause-ascending c = (
-  subst IsStrictlyIncreasing (sym (returns-clause-uses c)) (places_ascend c.args.layout.now (ops_use (stock_of c.args.layout.now) c.args.perf.now.ops.items)),
-  subst IsStrictlyIncreasing (sym (returns-clause-writes c)) (places_ascend c.args.layout.now (ops_write (stock_of c.args.layout.now) c.args.perf.now.ops.items)),
+  subst IsStrictlyIncreasing (sym (returns-clause-uses c))
+      (places_ascend c.args.layout.now (ops_use (stock_of c.args.layout.now) c.args.perf.now.ops.items)),
+  subst IsStrictlyIncreasing (sym (returns-clause-writes c))
+      (places_ascend c.args.layout.now (ops_write (stock_of c.args.layout.now) c.args.perf.now.ops.items)),
 )
 
 pub returns-clause-within : goal.returns-clause-within

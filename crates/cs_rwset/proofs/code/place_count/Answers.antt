@@ -9,12 +9,14 @@ pub loop-place-preserved : goal.loop-place-preserved
 loop-place-preserved c = elim c.if-is_place.branch [
   | then-is_place w ↦ (
     w.count-is ∙ ap (λ n. n + 1) c.loop-place.invariant.0
-        ∙ sym (counted c.args.layout.now c.args.space c.loop-place.place c.area.result c.area.ensures (sym c.is_place.ensures ∙ w.if-is_place.true)),
+        ∙ sym (counted c.args.layout.now c.args.space c.loop-place.place c.area.result c.area.ensures
+        (sym c.is_place.ensures ∙ w.if-is_place.true)),
     omega (arith, w.count-is, c.loop-place.invariant.1),
   )
   | else-is_place w ↦ (
     w.count-is ∙ c.loop-place.invariant.0
-        ∙ sym (not_counted c.args.layout.now c.args.space c.loop-place.place c.area.result c.area.ensures (sym c.is_place.ensures ∙ w.if-is_place.false)),
+        ∙ sym (not_counted c.args.layout.now c.args.space c.loop-place.place c.area.result c.area.ensures
+        (sym c.is_place.ensures ∙ w.if-is_place.false)),
     omega (arith, w.count-is, c.loop-place.invariant.1),
   )
 ]
@@ -22,4 +24,5 @@ loop-place-preserved c = elim c.if-is_place.branch [
 pub returns : goal.returns
 returns c =
     c.loop-place.invariant.0
-    ∙ ap (λ l. place_count l c.args.space) (take_all c.loop-place.place c.args.layout.now (omega (arith, c.loop-place-test.false, c.len-place-end.ensures)))
+    ∙ ap (λ l. place_count l c.args.space)
+    (take_all c.loop-place.place c.args.layout.now (omega (arith, c.loop-place-test.false, c.len-place-end.ensures)))

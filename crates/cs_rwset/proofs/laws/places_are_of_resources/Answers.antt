@@ -2,7 +2,8 @@ use Rattle.cs_rwset.proofs.Placed.{places_exact, exact_places, places_alike, pla
 use Rattle.cs_rwset.proofs.laws.places_are_of_resources.Goals as goal
 
 pub returns-clause-exact : goal.returns-clause-exact
-returns-clause-exact c areas rs place = (λ h. places_exact areas rs place h, λ h. exact_places areas rs place h.0 h.1 h.2)
+returns-clause-exact c areas rs place =
+    (λ h. places_exact areas rs place h, λ h. exact_places areas rs place h.0 h.1 h.2)
 
 pub returns-clause-ascending : goal.returns-clause-ascending
 returns-clause-ascending c areas rs = places_ascend areas rs

@@ -10,16 +10,19 @@ loop-place-preserved c = elim c.if-covers.branch [
   | then-covers w ↦ (
     ap length w.marks-is ∙ length-set c.loop-place.marks c.loop-place.place true ∙ c.loop-place.invariant.0,
     λ P e. w.marks-is ∙ ap (λ m. slice_set m c.loop-place.place true) (c.loop-place.invariant.1 P e)
-        ∙ half_more P (covers c.args.spaces c.args.names) c.loop-place.place c.args.layout.now c.area.result c.area.ensures (sym c.covers.ensures ∙ w.if-covers.true),
+        ∙ half_more P (covers c.args.spaces c.args.names) c.loop-place.place c.args.layout.now c.area.result
+        c.area.ensures (sym c.covers.ensures ∙ w.if-covers.true),
   )
   | else-covers w ↦ (
     ap length w.marks-is ∙ c.loop-place.invariant.0,
     λ P e. w.marks-is ∙ c.loop-place.invariant.1 P e
-        ∙ half_same P (covers c.args.spaces c.args.names) c.loop-place.place c.args.layout.now c.area.result c.area.ensures (sym c.covers.ensures ∙ w.if-covers.false),
+        ∙ half_same P (covers c.args.spaces c.args.names) c.loop-place.place c.args.layout.now c.area.result
+        c.area.ensures (sym c.covers.ensures ∙ w.if-covers.false),
   )
 ]
 
 pub returns : goal.returns
 returns c P e =
     c.loop-place.invariant.1 P e
-    ∙ half_all P (covers c.args.spaces c.args.names) c.loop-place.place c.args.layout.now (omega (arith, c.loop-place-test.false, c.len-place-end.ensures))
+    ∙ half_all P (covers c.args.spaces c.args.names) c.loop-place.place c.args.layout.now
+    (omega (arith, c.loop-place-test.false, c.len-place-end.ensures))

@@ -8,5 +8,6 @@ loop-place-preserved c = elim c.if-marks-place.branch [
   | then-marks-place+in_ok-push w ↦
       w.places-is ∙ w.in_ok-push.ensures.ok ∙ ap (λ l. l ++ c.loop-place.place ∷ []) c.loop-place.invariant
       ∙ marked_more c.args.marks.now c.loop-place.place w.if-marks-place.true
-  | else-marks-place w ↦ w.places-is ∙ c.loop-place.invariant ∙ marked_same c.args.marks.now c.loop-place.place w.if-marks-place.false
+  | else-marks-place w ↦ w.places-is ∙ c.loop-place.invariant
+      ∙ marked_same c.args.marks.now c.loop-place.place w.if-marks-place.false
 ]

@@ -1,4 +1,5 @@
-use Rattle.std.proofs.Common.{◌≡◌, ◌<◌, ◌+◌, ◌-◌, ◌+ℤ◌, ℕ, ℤ, List, drop, get_or, length, pos, take, arith, sym, ◌∙◌, ap, subst}
+use Rattle.std.proofs.Common.{◌≡◌, ◌<◌, ◌+◌, ◌-◌, ◌+ℤ◌, ℕ, ℤ, List, drop, get_or, length, pos, take, arith, sym, ◌∙◌}
+use Rattle.std.proofs.Common.{ap, subst}
 use Rattle.std.proofs.lemmas.List.{length-drop, length-take-le}
 use Rattle.std.proofs.Math.IntN.{+ℤ_idr}
 use Rattle.cs_base.specs.Numbers.{IsRaw}
@@ -13,7 +14,8 @@ returns-in-Some-clause-sums c j low =
     let there : j < count = omega (arith, low) in
     c.add_row.ensures.sums j
     ∙ ap (λ z. get_or c.args.sums.now j (pos 0) +ℤ z)
-    (part_at c.in-Some.row.now c.args.from count j there ∙ ap (λ (w : Wave). w (c.args.from + j)) c.in-Some.ensures.some)
+    (part_at c.in-Some.row.now c.args.from count j there
+    ∙ ap (λ (w : Wave). w (c.args.from + j)) c.in-Some.ensures.some)
 
 pub returns-in-Some-clause-raw : goal.returns-in-Some-clause-raw
 returns-in-Some-clause-raw c j low =
@@ -32,4 +34,5 @@ returns-in_default-clause-sums c = λ j low.
     ∙ ap (λ (w : Wave). get_or c.args.sums.now j (pos 0) +ℤ w (c.args.from + j)) (sym c.in_default.ensures.none)
 
 pub returns-in_default-clause-raw : goal.returns-in_default-clause-raw
-returns-in_default-clause-raw c = λ j low. subst (λ (w : Wave). IsRaw (w (c.args.from + j))) (sym c.in_default.ensures.none) nothing_raw
+returns-in_default-clause-raw c =
+    λ j low. subst (λ (w : Wave). IsRaw (w (c.args.from + j))) (sym c.in_default.ensures.none) nothing_raw

@@ -14,5 +14,6 @@ returns-clause-sums c =
     let few : n ≤ 32 = search rules in
     let taken : length (take n (replicate 32 (pos 0))) ≡ n = length-take-le n (replicate 32 (pos 0)) few in
     let long : length c.sum_voices.new.sums ≡ n = c.sum_voices.ensures.long ∙ taken in
-    from_frame (λ j. place c.args.channels c.put.new.out j c.args.channel ≡ sum_at c.args.voices.now j c.args.channel) c.args.from n
+    from_frame (λ j. place c.args.channels c.put.new.out j c.args.channel ≡ sum_at c.args.voices.now j c.args.channel)
+    c.args.from n
     (λ j low. c.put.ensures.sums j (omega (arith, low, long)) ∙ c.sum_voices.ensures.sums j (omega (arith, low, taken)))

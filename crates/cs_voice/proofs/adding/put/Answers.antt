@@ -16,8 +16,10 @@ loop-j-preserved c =
     let z : ℤ = to_z w64 (of_z w64 y) in
     let fits : SFits w64 (get_or sums j (pos 0)) = search rules in
     let is : z ≡ y = to_z-of_z w64 y fits in
-    let here : (c.args.from + j) * n + d < (c.args.from + length sums) * n = within n (c.args.from + length sums) (c.args.from + j) d (omega (arith, c.loop-j-test.true)) c.requires.channel in
-    let inside : (c.args.from + j) * n + d < length out = omega (arith, here, c.loop-j.invariant.long, c.requires.long) in
+    let here : (c.args.from + j) * n + d < (c.args.from + length sums) * n =
+    within n (c.args.from + length sums) (c.args.from + j) d (omega (arith, c.loop-j-test.true)) c.requires.channel in
+    let inside : (c.args.from + j) * n + d < length out =
+    omega (arith, here, c.loop-j.invariant.long, c.requires.long) in
     record {
       sums = put_more n d c.args.from sums before out j z c.requires.channel inside is c.loop-j.invariant.sums;
       before = before_more n d c.args.from sums before out j z c.requires.channel inside c.loop-j.invariant.before;

@@ -15,9 +15,11 @@ on_table-player-requires c =
 pub returns-in_ok-unit : goal.returns-in_ok-unit
 returns-in_ok-unit c =
     let fits : SFits w64 c.table_number-number.result = search rules in
-    begun_on c.args.finds.now.at.layout.now (tables_of c.args.finds.now.tables.now c.args.made.now) (table_at c.in-Some.found.table true)
+    begun_on c.args.finds.now.at.layout.now (tables_of c.args.finds.now.tables.now c.args.made.now)
+    (table_at c.in-Some.found.table true)
     (table_number c.args.settled.now) _ _
-    (unit_start c.args.start.opcode c.args.start.rate (pace_of c.args.finds.now.at.head.now) c.args.settled.now) c.in_ok-unit.unit c.args.start.unit
+    (unit_start c.args.start.opcode c.args.start.rate (pace_of c.args.finds.now.at.head.now) c.args.settled.now)
+    c.in_ok-unit.unit c.args.start.unit
     c.args.state.now c.put.new.state c.on_table-player.result
     (to_z-of_z w64 c.table_number-number.result fits ∙ c.table_number-number.ensures)
     (to_z-of_z w64 c.table_number-number.result fits ∙ c.table_number-number.ensures)

@@ -5,20 +5,27 @@ use Rattle.cs_cells.specs.Cells.{cell}
 use Rattle.cs_machine.proofs.Frames.{all_written}
 use Rattle.cs_voice.proofs.Sharing.{read_held, read_sound, some_cell}
 use Rattle.cs_voice.proofs.shared.read.Goals as goal
-use Rattle.cs_voice.proofs.shared.read.Goals.{else-is_audio-via-then-is_audio+else-is_audio-2, else-is_audio-via-else-is_audio}
+use Rattle.cs_voice.proofs.shared.read.Goals.{else-is_audio-via-then-is_audio+else-is_audio-2}
+use Rattle.cs_voice.proofs.shared.read.Goals.{else-is_audio-via-else-is_audio}
 
 pub returns-then-is_audio-2-clause-values : goal.returns-then-is_audio-2-clause-values
 returns-then-is_audio-2-clause-values g c =
-    read_sound c.args.regs.now c.swap.new.self c.args.into c.args.rate c.args.area (cell (g.B.Bank.cells c.args.bank.now)) _ c.read_row.new.row
-    (all_written c.args.row.now.len c.read_row.new.row c.args.row.now.items (c.read_row.ensures.row ∙ c.deref_mut.ensures.len))
+    read_sound c.args.regs.now c.swap.new.self c.args.into c.args.rate c.args.area
+    (cell (g.B.Bank.cells c.args.bank.now)) _ c.read_row.new.row
+    (all_written c.args.row.now.len c.read_row.new.row c.args.row.now.items
+    (c.read_row.ensures.row ∙ c.deref_mut.ensures.len))
     (sym c.is_audio.ensures ∙ c.if-is_audio.true) (sym c.is_audio-then-is_audio.ensures ∙ c.if-is_audio-2.true)
-    (c.read_row.ensures.row ∙ ap length c.deref_mut.ensures.value ∙ c.requires.row) c.read_row.ensures.frames c.swap.ensures.values
+    (c.read_row.ensures.row ∙ ap length c.deref_mut.ensures.value ∙ c.requires.row) c.read_row.ensures.frames
+    c.swap.ensures.values
 
 pub returns-else-is_audio-clause-values : goal.returns-else-is_audio-clause-values
 returns-else-is_audio-clause-values g c =
     let slow : is_audio c.args.rate ≡ true → is_audio c.args.into.rate ≡ false = elim c.else-is_audio.branch [
-      | else-is_audio-via-then-is_audio+else-is_audio-2 w ↦ λ h. sym w.is_audio-then-is_audio.ensures ∙ w.if-is_audio-2.false
+      | else-is_audio-via-then-is_audio+else-is_audio-2 w ↦ λ h. sym w.is_audio-then-is_audio.ensures
+          ∙ w.if-is_audio-2.false
       | else-is_audio-via-else-is_audio w ↦ λ h. absurd (false≢true (sym w.if-is_audio.false ∙ c.is_audio.ensures ∙ h))
     ] in
-    read_held c.args.regs.now c.hold.new.self c.args.into c.args.rate c.args.area (cell (g.B.Bank.cells c.args.bank.now)) c.first_cell.result slow
-    (some_cell c.args.regs.now.ksmps c.args.rate c.args.area.length c.requires.frames c.requires.size) c.first_cell.ensures.value c.hold.ensures.values
+    read_held c.args.regs.now c.hold.new.self c.args.into c.args.rate c.args.area
+    (cell (g.B.Bank.cells c.args.bank.now)) c.first_cell.result slow
+    (some_cell c.args.regs.now.ksmps c.args.rate c.args.area.length c.requires.frames c.requires.size)
+    c.first_cell.ensures.value c.hold.ensures.values

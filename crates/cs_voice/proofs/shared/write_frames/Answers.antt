@@ -11,15 +11,20 @@ use Rattle.cs_voice.proofs.shared.write_frames.Goals as goal
 pub returns-in-Audio-clause-cells : goal.returns-in-Audio-clause-cells
 returns-in-Audio-clause-cells g c =
     c.write_row.ensures.cells ∙ ap (λ w. with_wave (Some c.args.area) w (cell (g.B.Bank.cells c.args.bank.now)))
-    (row_is c.args.regs.now c.args.x c.row.result.now (ap is_audio c.in-Audio.is) c.row.ensures.long c.row.ensures.value)
+    (row_is c.args.regs.now c.args.x c.row.result.now (ap is_audio c.in-Audio.is) c.row.ensures.long
+    c.row.ensures.value)
 
 pub returns-in_default : goal.returns-in_default
 returns-in_default g c =
-    let same = all_written c.args.row.now.len c.frames.new.row c.args.row.now.items (c.frames.ensures.long ∙ c.deref_mut.ensures.len) in
+    let same = all_written c.args.row.now.len c.frames.new.row c.args.row.now.items
+    (c.frames.ensures.long ∙ c.deref_mut.ensures.len) in
     let long = c.frames.ensures.long ∙ ap length c.deref_mut.ensures.value ∙ c.requires.row in
     record {
-      cells = c.write_row-in_default.ensures.cells ∙ ap (λ w. with_wave (Some c.args.area) w (cell (g.B.Bank.cells c.args.bank.now)))
-          (ap row_wave (c.deref.ensures.value ∙ same) ∙ row_held c.args.regs.now.ksmps (values c.args.regs.now c.args.x) c.frames.new.row long c.frames.ensures.frames);
+      cells = c.write_row-in_default.ensures.cells
+          ∙ ap (λ w. with_wave (Some c.args.area) w (cell (g.B.Bank.cells c.args.bank.now)))
+          (ap row_wave (c.deref.ensures.value ∙ same)
+          ∙ row_held c.args.regs.now.ksmps (values c.args.regs.now c.args.x) c.frames.new.row long
+          c.frames.ensures.frames);
       row = ap length same ∙ long;
       long = c.write_row-in_default.ensures.long;
       rest = c.write_row-in_default.ensures.rest;

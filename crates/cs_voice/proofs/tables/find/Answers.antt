@@ -8,11 +8,13 @@ use Rattle.cs_voice.proofs.tables.find.Goals as goal
 pub returns-then-has_number : goal.returns-then-has_number
 returns-then-has_number c =
     let fits : SFits w64 c.args.number = search rules in
-    found_here c.args.tables.now c.args.made.now _ c.loop-place.place c.index-tables-place.result c.loop-place-test.true c.requires
+    found_here c.args.tables.now c.args.made.now _ c.loop-place.place c.index-tables-place.result c.loop-place-test.true
+    c.requires
     c.index-tables-place.is (sym c.has_number.ensures ∙ c.if-has_number.true) c.loop-place.invariant
     ∙ ap (find_table (tables_of c.args.tables.now c.args.made.now)) (to_z-of_z w64 c.args.number fits)
 
 pub loop-place-preserved : goal.loop-place-preserved
 loop-place-preserved c =
-    found_later c.args.tables.now c.args.made.now _ c.loop-place.place c.index-tables-place.result c.loop-place-test.true c.requires
+    found_later c.args.tables.now c.args.made.now _ c.loop-place.place c.index-tables-place.result
+    c.loop-place-test.true c.requires
     c.index-tables-place.is (sym c.has_number.ensures ∙ c.if-has_number.false) c.loop-place.invariant

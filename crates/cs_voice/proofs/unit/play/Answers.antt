@@ -13,21 +13,26 @@ pub returns-in-Audio-clause-values : goal.returns-in-Audio-clause-values
 returns-in-Audio-clause-values g c =
     let ws = map (values c.args.regs.now) c.args.from.now in
     let cells = cell (g.B.Bank.cells c.args.bank.now) in
-    wrote_row c.args.regs.now c.swap.new.self c.args.into (λ j. argument (cycled c.args.regs.now.ksmps c.args.into.rate ws cells c.args.player.now).1 (step_at c.args.into.rate j)) _ c.block.new.row
+    wrote_row c.args.regs.now c.swap.new.self c.args.into
+    (λ j. argument (cycled c.args.regs.now.ksmps c.args.into.rate ws cells c.args.player.now).1
+    (step_at c.args.into.rate j)) _ c.block.new.row
     (all_written c.args.row.now.len c.block.new.row c.args.row.now.items (c.block.auto.row ∙ c.deref_mut.ensures.len))
     c.in-Audio.is (c.block.auto.row ∙ ap length c.deref_mut.ensures.value ∙ c.requires.row)
-    (audio_frames c.args.regs.now.ksmps (length c.deref_mut.result.now) c.args.into.rate ws cells c.args.player.now c.block.new.player.state c.block.new.row
+    (audio_frames c.args.regs.now.ksmps (length c.deref_mut.result.now) c.args.into.rate ws cells c.args.player.now
+    c.block.new.player.state c.block.new.row
     c.in-Audio.is (ap length c.deref_mut.ensures.value ∙ c.requires.row) c.block.ensures.value)
     c.swap.ensures.values
 
 pub returns-in_default-clause-unit : goal.returns-in_default-clause-unit
 returns-in_default-clause-unit g c =
     same_data c.args.player.now c.step-value.new.player _ c.step-value.ensures.player
-    (held_state c.args.regs.now.ksmps c.args.into.rate (map (values c.args.regs.now) c.args.from.now) (cell (g.B.Bank.cells c.args.bank.now)) c.args.player.now
+    (held_state c.args.regs.now.ksmps c.args.into.rate (map (values c.args.regs.now) c.args.from.now)
+    (cell (g.B.Bank.cells c.args.bank.now)) c.args.player.now
     c.step-value.new.player.state c.step-value.result c.in_default.not-Audio c.step-value.ensures.value)
 
 pub returns-in_default-clause-values : goal.returns-in_default-clause-values
 returns-in_default-clause-values g c =
     subst (λ w. IsWritten c.args.regs.now c.args.into w c.set.new.self)
-    (held_gives c.args.regs.now.ksmps c.args.into.rate (map (values c.args.regs.now) c.args.from.now) (cell (g.B.Bank.cells c.args.bank.now)) c.args.player.now
+    (held_gives c.args.regs.now.ksmps c.args.into.rate (map (values c.args.regs.now) c.args.from.now)
+    (cell (g.B.Bank.cells c.args.bank.now)) c.args.player.now
     c.step-value.new.player.state c.step-value.result c.in_default.not-Audio c.step-value.ensures.value) c.set.ensures

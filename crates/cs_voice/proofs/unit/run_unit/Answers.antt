@@ -13,11 +13,16 @@ returns-clause-does g c = λ areas piece stock kinds counts opcode shaped kind p
     let before = cell (g.B.Bank.cells c.args.bank.now) in
     let there : c.index_mut-unit.result.now ≡ slice_index_or c.args.state.now.players.items c.args.number None =
     get_or_read c.args.state.now.players.items _ _ c.requires.number c.index_mut-unit.ensures.value None in
-    unit_done areas piece stock kinds counts opcode c.args.number c.args.reach c.args.into c.args.from.now old _ before (cell (g.B.Bank.cells c.run.new.bank))
+    unit_done areas piece stock kinds counts opcode c.args.number c.args.reach c.args.into c.args.from.now old _ before
+    (cell (g.B.Bank.cells c.run.new.bank))
     shaped kind placed state c.requires.number (ap cell c.run.ensures.same)
     (record {
-      regs = subst (λ o. IsWritten c.args.state.now.regs c.args.into (unit_gives c.args.state.now.regs.ksmps c.args.into.rate c.args.reach ws before o) c.run.new.regs) there c.run.ensures.values;
-      players = ap (slice_set c.args.state.now.players.items c.args.number) (c.run.ensures.unit ∙ ap (unit_after c.args.state.now.regs.ksmps c.args.into.rate c.args.reach ws before) there);
+      regs = subst (λ o. IsWritten c.args.state.now.regs c.args.into
+          (unit_gives c.args.state.now.regs.ksmps c.args.into.rate c.args.reach ws before o) c.run.new.regs) there
+          c.run.ensures.values;
+      players = ap (slice_set c.args.state.now.players.items c.args.number)
+          (c.run.ensures.unit ∙ ap (unit_after c.args.state.now.regs.ksmps c.args.into.rate c.args.reach ws before)
+          there);
       outs = refl;
       delays = refl;
       ended = refl;

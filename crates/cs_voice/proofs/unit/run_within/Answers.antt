@@ -10,5 +10,8 @@ use Rattle.cs_voice.proofs.unit.run_within.Goals as goal
 pub returns-then-may_touch-clause-values : goal.returns-then-may_touch-clause-values
 returns-then-may_touch-clause-values g c =
     subst (λ b. IsWritten c.args.regs.now c.args.call.into
-    (if b then (λ j. argument (cycled c.args.regs.now.ksmps c.args.call.into.rate (map (values c.args.regs.now) c.args.from.now) (cell (g.B.Bank.cells c.args.bank.now)) c.args.player.now).1 (step_at c.args.call.into.rate j)) else silence) c.play.new.regs)
+    (if b then (λ j. argument
+    (cycled c.args.regs.now.ksmps c.args.call.into.rate (map (values c.args.regs.now) c.args.from.now)
+    (cell (g.B.Bank.cells c.args.bank.now)) c.args.player.now).1 (step_at c.args.call.into.rate j)) else silence)
+    c.play.new.regs)
     (sym (sym c.may_touch.ensures ∙ c.if-may_touch.true)) c.play.ensures.values

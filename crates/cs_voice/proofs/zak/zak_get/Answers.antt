@@ -6,13 +6,20 @@ use Rattle.cs_ir.specs.Waves.{constant, silence}
 use Rattle.cs_ir.specs.declared.op.Act.TheVariants as act
 use Rattle.cs_meaning.specs.Pieces.{index}
 use Rattle.cs_machine.specs.Registers.{IsWritten, values}
-use Rattle.cs_voice_meaning.specs.Placing.{area_of, wave_in, wave_of}
+use Rattle.cs_voice_meaning.specs.Placing.{area_of, cell_count, wave_in, wave_of}
 use Rattle.cs_voice_meaning.specs.VoiceWorld.{read_cells}
 use Rattle.cs_machine.specs.States.{machine_of}
 use Rattle.cs_machine.proofs.Done.{writes}
 use Rattle.cs_voice.specs.inner.Zak.{reached}
-use Rattle.cs_voice.proofs.Places.{at_reached, getting, not_reached}
+use Rattle.cs_voice.proofs.Places.{at_reached, getting, not_reached, reached_value}
 use Rattle.cs_voice.proofs.zak.zak_get.Goals as goal
+
+pub read-requires-clause-size : goal.read-requires-clause-size
+read-requires-clause-size g c =
+    c.requires.sized.cells c.in-Some.res c.area_in-area.result c.area_in-area.ensures.value
+    (reached_value c.args.at.now c.args.within.space c.args.within.reach (index c.first.result) c.in-Some.res
+    (sym c.place.ensures ∙ c.in-Some.is))
+    ∙ ap (cell_count c.args.state.now.regs.ksmps) (sym c.rate.ensures)
 
 pub returns-in-Some-clause-does : goal.returns-in-Some-clause-does
 returns-in-Some-clause-does g c = λ opcode shaped areas piece stock kinds counts at placed state.

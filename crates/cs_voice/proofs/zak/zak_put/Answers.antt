@@ -6,15 +6,22 @@ use Rattle.cs_ir.specs.Waves.{held}
 use Rattle.cs_ir.specs.declared.op.Act.TheVariants as act
 use Rattle.cs_meaning.specs.Pieces.{index}
 use Rattle.cs_machine.specs.Registers.{values}
-use Rattle.cs_voice_meaning.specs.Placing.{area_of, with_wave}
+use Rattle.cs_voice_meaning.specs.Placing.{area_of, cell_count, with_wave}
 use Rattle.cs_meaning.specs.Model.{saved}
 use Rattle.cs_voice_meaning.specs.VoiceWorld.{voice_model}
 use Rattle.cs_machine.specs.States.{machine_of}
 use Rattle.cs_machine.proofs.Done.{changes}
 use Rattle.cs_voice.specs.inner.Zak.{reached}
-use Rattle.cs_voice.proofs.Places.{at_reached, not_reached, putting}
+use Rattle.cs_voice.proofs.Places.{at_reached, not_reached, putting, reached_value}
 use Rattle.cs_voice.proofs.Sharing.{saved_here}
 use Rattle.cs_voice.proofs.zak.zak_put.Goals as goal
+
+pub write-requires-clause-size : goal.write-requires-clause-size
+write-requires-clause-size g c =
+    c.requires.sized.cells c.in-Some.res c.area_in-area.result c.area_in-area.ensures.value
+    (reached_value c.args.at.now c.args.within.space c.args.within.reach (index c.first.result) c.in-Some.res
+    (sym c.place.ensures ∙ c.in-Some.is))
+    ∙ ap (cell_count c.args.state.now.regs.ksmps) (sym c.rate.ensures)
 
 pub returns-in-Some-clause-does : goal.returns-in-Some-clause-does
 returns-in-Some-clause-does g c = λ opcode into shaped areas piece stock kinds counts at placed state.

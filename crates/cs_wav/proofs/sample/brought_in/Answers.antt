@@ -8,4 +8,9 @@ returns c =
     let low = least_is c.args.width in
     let high = greatest_is c.args.width in
     let order = range_is c.args.width in
-    record { value = omega (arith, ints, clamps, low, high, order); least = omega (arith, ints, clamps, low, high, order); greatest = omega (arith, ints, clamps, low, high, order) }
+    record {
+      value = omega (arith, ints, clamps, low, high, order);
+      least =
+          omega (arith, ints, clamps, low, high, order);
+      greatest = omega (arith, ints, clamps, low, high, order);
+    }

@@ -19,4 +19,5 @@ returns-in-None-clause-none c place h =
     both_ways (list_any (same c.key_of.result) c.self.inside.keys.keys) (sym c.in-None.ensures.found)
     (ap (λ k. list_any (same k) c.self.inside.keys.keys) c.key_of.ensures
     ∙ ap (λ ks. list_any (same (key c.args.res)) ks) c.self.invariant.keys
-    ∙ any_place c.self.inside.areas.items c.args.res place (subst (λ areas. HasPlace areas c.args.res place) (sym c.self.view_is) h))
+    ∙ any_place c.self.inside.areas.items c.args.res place
+    (subst (λ areas. HasPlace areas c.args.res place) (sym c.self.view_is) h))

@@ -6,7 +6,9 @@ use Rattle.cs_machine.proofs.Putting.{wrote_row}
 use Rattle.cs_machine.proofs.registers.Registers.copy.Goals as goal
 
 pub returns-in-Audio-clause-values : goal.returns-in-Audio-clause-values
-returns-in-Audio-clause-values c = wrote_row c.args.self.now c.swap.new.self c.args.into (values c.args.self.now c.args.x) _ c.copy.new.out
+returns-in-Audio-clause-values c =
+    wrote_row c.args.self.now c.swap.new.self c.args.into (values c.args.self.now c.args.x) _ c.copy.new.out
     (all_written c.args.row.now.len c.copy.new.out c.args.row.now.items (c.copy.ensures.long ∙ c.deref_mut.ensures.len))
     (search rules) (c.copy.ensures.long ∙ ap length c.deref_mut.ensures.value ∙ c.requires.row)
-    (frames_as (operand_at c.operand.result) (values c.args.self.now c.args.x) c.copy.new.out c.copy.ensures.frames c.operand.ensures.value) c.swap.ensures.values
+    (frames_as (operand_at c.operand.result) (values c.args.self.now c.args.x) c.copy.new.out c.copy.ensures.frames
+    c.operand.ensures.value) c.swap.ensures.values

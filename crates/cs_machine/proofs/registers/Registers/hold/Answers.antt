@@ -5,7 +5,8 @@ use Rattle.cs_ir.specs.Waves.{constant}
 use Rattle.cs_machine.proofs.registers.Registers.hold.Goals as goal
 
 pub returns-in-Audio-clause-values : goal.returns-in-Audio-clause-values
-returns-in-Audio-clause-values c = wrote_row c.args.self.now c.swap.new.self c.args.register (constant c.args.value) _ c.fill.new.out
+returns-in-Audio-clause-values c =
+    wrote_row c.args.self.now c.swap.new.self c.args.register (constant c.args.value) _ c.fill.new.out
     (all_written c.args.row.now.len c.fill.new.out c.args.row.now.items (c.fill.ensures.long ∙ c.deref_mut.ensures.len))
     (search rules) (c.fill.ensures.long ∙ ap length c.deref_mut.ensures.value ∙ c.requires.row)
     c.fill.ensures.frames c.swap.ensures.values

@@ -7,7 +7,12 @@ use Rattle.cs_ir.specs.Values.{negated}
 use Rattle.cs_machine.proofs.registers.Registers.negate.Goals as goal
 
 pub returns-in-Audio-clause-values : goal.returns-in-Audio-clause-values
-returns-in-Audio-clause-values c = wrote_row c.args.self.now c.swap.new.self c.args.into (λ j. negated (values c.args.self.now c.args.x j)) _ c.negate_row.new.out
-    (all_written c.args.row.now.len c.negate_row.new.out c.args.row.now.items (c.negate_row.ensures.long ∙ c.deref_mut.ensures.len))
+returns-in-Audio-clause-values c =
+    wrote_row c.args.self.now c.swap.new.self c.args.into (λ j. negated (values c.args.self.now c.args.x j)) _
+    c.negate_row.new.out
+    (all_written c.args.row.now.len c.negate_row.new.out c.args.row.now.items
+    (c.negate_row.ensures.long ∙ c.deref_mut.ensures.len))
     (search rules) (c.negate_row.ensures.long ∙ ap length c.deref_mut.ensures.value ∙ c.requires.row)
-    (frames_as (λ j. negated (operand_at c.operand.result j)) (λ j. negated (values c.args.self.now c.args.x j)) c.negate_row.new.out c.negate_row.ensures.frames (λ j. ap negated (c.operand.ensures.value j))) c.swap.ensures.values
+    (frames_as (λ j. negated (operand_at c.operand.result j)) (λ j. negated (values c.args.self.now c.args.x j))
+    c.negate_row.new.out c.negate_row.ensures.frames (λ j. ap negated (c.operand.ensures.value j)))
+    c.swap.ensures.values

@@ -7,6 +7,9 @@ use Rattle.cs_machine.proofs.Done.{writes}
 use Rattle.cs_machine.proofs.state.State.field.Goals as goal
 
 pub returns : goal.returns
-returns c = λ areas piece kinds counts cells at state. writes areas piece kinds counts (act.Field c.args.field) c.args.into ([]) (constant c.field_of.result) c.args.self.now _ cells cells
-    (record { players = refl; outs = refl; delays = refl; ended = refl }) refl state c.hold.ensures.values c.hold.ensures.row
-    (λ next asks cause. ap (λ z. write piece.head.ksmps c.args.into (constant z) (machine_of c.args.self.now cells next asks cause)) (at.fields c.args.field ∙ sym c.field_of.ensures))
+returns c = λ areas piece kinds counts cells at state. writes areas piece kinds counts (act.Field c.args.field)
+    c.args.into ([]) (constant c.field_of.result) c.args.self.now _ cells cells
+    (record { players = refl; outs = refl; delays = refl; ended = refl }) refl state c.hold.ensures.values
+    c.hold.ensures.row
+    (λ next asks cause. ap (λ z. write piece.head.ksmps c.args.into (constant z)
+    (machine_of c.args.self.now cells next asks cause)) (at.fields c.args.field ∙ sym c.field_of.ensures))

@@ -6,6 +6,8 @@ use Rattle.cs_machine.proofs.Done.{writes}
 use Rattle.cs_machine.proofs.state.State.negate.Goals as goal
 
 pub returns : goal.returns
-returns c = λ areas piece kinds counts cells state. writes areas piece kinds counts (act.Neg) c.args.into (c.args.x ∷ []) (λ j. negated (values c.args.self.now.regs c.args.x j)) c.args.self.now _ cells cells
-    (record { players = refl; outs = refl; delays = refl; ended = refl }) refl state c.negate.ensures.values c.negate.ensures.row
+returns c = λ areas piece kinds counts cells state. writes areas piece kinds counts (act.Neg) c.args.into
+    (c.args.x ∷ []) (λ j. negated (values c.args.self.now.regs c.args.x j)) c.args.self.now _ cells cells
+    (record { players = refl; outs = refl; delays = refl; ended = refl }) refl state c.negate.ensures.values
+    c.negate.ensures.row
     (λ next asks cause. refl)

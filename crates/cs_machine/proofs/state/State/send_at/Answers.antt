@@ -11,10 +11,14 @@ use Rattle.cs_machine.proofs.state.State.send_at.Goals as goal
 pub returns-in-Some : goal.returns-in-Some
 returns-in-Some c = λ into areas piece kinds counts cells state.
     gives_to areas piece kinds counts act.OutAt into (c.args.number ∷ c.args.x ∷ []) c.in-Some.below
-    (values c.args.self.now.regs c.args.x) c.args.self.now _ cells (record { regs = refl; players = refl; delays = refl; ended = refl; row = refl }) state
+    (values c.args.self.now.regs c.args.x) c.args.self.now _ cells
+    (record { regs = refl; players = refl; delays = refl; ended = refl; row = refl }) state
     (subst (λ w. IsGiven c.args.self.now.outs c.in-Some.below w c.give.new.self)
     (c.row.ensures.value ∙ ap (values c.args.self.now.regs) (sound_register c.args.x c.requires.sound)) c.give.ensures)
     (λ m. ap (λ x. in_world x m)
-    (numbered_channel piece.head.nchnls (index (values c.args.self.now.regs c.args.number 0)) c.in-Some.below (values c.args.self.now.regs c.args.x) m.world
-    (ap (λ n. channel_below n (index (values c.args.self.now.regs c.args.number 0))) (sym (c.len.ensures.value ∙ state.channels))
-    ∙ ap (λ z. channel_below c.len.result (index z)) (sym c.first.ensures) ∙ sym c.channel_below.ensures ∙ c.in-Some.is)))
+    (numbered_channel piece.head.nchnls (index (values c.args.self.now.regs c.args.number 0)) c.in-Some.below
+    (values c.args.self.now.regs c.args.x) m.world
+    (ap (λ n. channel_below n (index (values c.args.self.now.regs c.args.number 0)))
+    (sym (c.len.ensures.value ∙ state.channels))
+    ∙ ap (λ z. channel_below c.len.result (index z)) (sym c.first.ensures) ∙ sym c.channel_below.ensures
+    ∙ c.in-Some.is)))

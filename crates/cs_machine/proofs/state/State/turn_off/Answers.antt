@@ -6,5 +6,13 @@ pub returns : goal.returns
 returns c = λ into areas piece kinds counts cells state. record {
   machine = λ next asks cause. refl;
   state = still_in areas piece kinds counts c.args.self.now _
-      (record { counts = refl; frames = refl; channels = refl; channel_frames = refl; players = refl; row = state.row ∙ sym state.frames }) state;
+      (record {
+        counts = refl;
+        frames = refl;
+        channels = refl;
+        channel_frames = refl;
+        players = refl;
+        row =
+            state.row ∙ sym state.frames;
+      }) state;
 }

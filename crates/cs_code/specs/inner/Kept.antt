@@ -1,0 +1,124 @@
+-- Which register each kept value has: they are numbered in the order of the text.
+use Rattle.std.specs.Prelude.{ℕ, zero, suc, ◌+◌, List, [], ◌∷◌, Option, Some, None}
+use Rattle.cs_ir.specs.Waves.{if_init}
+use Rattle.cs_meaning.specs.Core.{Stmt, Block, Arms, set, unit, zak, store, out, out_at, ask, turnoff, nothing, choose}
+use Rattle.cs_meaning.specs.Core.{no_stmt, andthen, otherwise, arm}
+use Rattle.cs_meaning.specs.Notes.{Path}
+use Rattle.cs_typed.specs.TypedTree.{Expression, number, var, field, head, neg, pair, pick, apply}
+
+-- How many values were kept and units met in the text before a place.
+pub record Place : Type 0 where
+  pub part : ℕ
+  pub unit : ℕ
+
+abbrev pub start : Place
+start = record { part = 0; unit = 0 }
+
+-- Of an expression that changes the outermost parts that don't are kept, in the order of the text: the number after
+-- theirs.
+abbrev pub past : ℕ → Expression → ℕ
+past at (number r n) = if_init r (at + 1) at
+past at (var r v) = if_init r (at + 1) at
+past at (field r k) = if_init r (at + 1) at
+past at (head r h) = if_init r (at + 1) at
+past at (neg r a) = if_init r (at + 1) (past at a)
+past at (pair r o a b) = if_init r (at + 1) (past (past at a) b)
+past at (pick r c a b) = if_init r (at + 1) (past (past (past at c) a) b)
+past at (apply r f a) = if_init r (at + 1) (past at a)
+
+abbrev pub past_all : ℕ → List Expression → ℕ
+past_all at [] = at
+past_all at (e ∷ es) = past_all (past at e) es
+
+abbrev pub past_parts : ℕ → Place → Place
+past_parts n p = record { part = n; unit = p.unit }
+
+abbrev mutual
+  pub past_stmt : Place → Stmt → Place
+  past_stmt p (set r v e) = past_parts (if_init r p.part (past p.part e)) p
+  past_stmt p (unit r vs opcode reach xs is) =
+      record { part = if_init r p.part (past_all p.part xs); unit = p.unit + 1 }
+  past_stmt p (zak r vs opcode reach xs) = past_parts (if_init r p.part (past_all p.part xs)) p
+  past_stmt p (store r opcode reach es is) = past_parts (if_init r p.part (past_all p.part es)) p
+  past_stmt p (out r es) = past_parts (past_all p.part es) p
+  past_stmt p (out_at r es) = past_parts (past_all p.part es) p
+  past_stmt p (ask es) = p
+  past_stmt p (turnoff r) = p
+  past_stmt p nothing = p
+  past_stmt p (choose r arms) = past_arms p arms
+
+  pub past_block : Place → Block → Place
+  past_block p no_stmt = p
+  past_block p (andthen s b) = past_block (past_stmt p s) b
+
+  pub past_arms : Place → Arms → Place
+  past_arms p (otherwise b) = past_block p b
+  past_arms p (arm c b rest) = past_arms (past_block (past_parts (past p.part c) p) b) rest
+
+-- ---- the number of the value that is kept at a path, which leads inward here
+
+-- a value that is kept as a whole, and nothing that is kept
+abbrev pub itself : ℕ → Path → Option ℕ
+itself at [] = Some at
+itself at (k ∷ q) = None
+
+abbrev pub nowhere : Path → Option ℕ
+nowhere q = None
+
+-- what is kept in the first part, and in those behind it
+abbrev pub parts : (Path → Option ℕ) → (Path → Option ℕ) → Path → Option ℕ
+parts first behind [] = None
+parts first behind (zero ∷ q) = first q
+parts first behind (suc k ∷ q) = behind (k ∷ q)
+
+abbrev pub numbers : ℕ → Expression → Path → Option ℕ
+numbers at (number r n) = if_init r (itself at) nowhere
+numbers at (var r v) = if_init r (itself at) nowhere
+numbers at (field r k) = if_init r (itself at) nowhere
+numbers at (head r h) = if_init r (itself at) nowhere
+numbers at (neg r a) = if_init r (itself at) (parts (numbers at a) nowhere)
+numbers at (pair r o a b) = if_init r (itself at) (parts (numbers at a) (parts (numbers (past at a) b) nowhere))
+numbers at (pick r c a b) =
+    if_init r (itself at)
+    (parts (numbers at c) (parts (numbers (past at c) a) (parts (numbers (past (past at c) a) b) nowhere)))
+numbers at (apply r f a) = if_init r (itself at) (parts (numbers at a) nowhere)
+
+abbrev pub all_numbers : ℕ → List Expression → Path → Option ℕ
+all_numbers at [] = nowhere
+all_numbers at (e ∷ es) = parts (numbers at e) (all_numbers (past at e) es)
+
+abbrev mutual
+  pub stmt_numbers : Place → Stmt → Path → Option ℕ
+  stmt_numbers p (set r v e) = if_init r nowhere (parts (numbers p.part e) nowhere)
+  stmt_numbers p (unit r vs opcode reach xs is) = if_init r nowhere (all_numbers p.part xs)
+  stmt_numbers p (zak r vs opcode reach xs) = if_init r nowhere (all_numbers p.part xs)
+  stmt_numbers p (store r opcode reach es is) = if_init r nowhere (all_numbers p.part es)
+  stmt_numbers p (out r es) = all_numbers p.part es
+  stmt_numbers p (out_at r es) = all_numbers p.part es
+  stmt_numbers p (ask es) = nowhere
+  stmt_numbers p (turnoff r) = nowhere
+  stmt_numbers p nothing = nowhere
+  stmt_numbers p (choose r arms) = arms_numbers p arms
+
+  pub block_numbers : Place → Block → Path → Option ℕ
+  block_numbers p no_stmt = nowhere
+  block_numbers p (andthen s b) = parts (stmt_numbers p s) (block_numbers (past_stmt p s) b)
+
+  pub arms_numbers : Place → Arms → Path → Option ℕ
+  arms_numbers p (otherwise b) = parts (block_numbers p b) nowhere
+  arms_numbers p (arm c b rest) = let q = past_parts (past p.part c) p in
+      parts (parts (numbers p.part c) (parts (block_numbers q b) nowhere)) (arms_numbers (past_block q b) rest)
+
+-- A path with more steps inward; and as it leads inward, from the body on.
+abbrev pub inward : Path → Path → Path
+inward [] p = p
+inward (k ∷ q) p = inward q (k ∷ p)
+
+-- a number as that of a register, from a first one on
+abbrev pub register_from : ℕ → Option ℕ → Option ℕ
+register_from first None = None
+register_from first (Some n) = Some (first + n)
+
+-- the registers of what a block keeps
+abbrev pub registers : ℕ → Block → Path → Option ℕ
+registers first b p = register_from first (block_numbers start b (inward p []))
