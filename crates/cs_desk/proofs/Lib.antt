@@ -5,3 +5,4 @@ pub mod Opening
 pub mod Reached
 pub mod Making
 pub mod Feet
+pub mod Cycling

@@ -1,3 +1,4 @@
 pub mod Courses
+pub mod Cycles
 pub mod Desk
 pub mod inner

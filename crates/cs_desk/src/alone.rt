@@ -1,6 +1,5 @@
 // A cycle by the caller alone.
-ghost use Rattle.std.specs.Prelude.{◌≡◌, ◌<◌, length, All};
-ghost use Rattle.cs_cells.specs.Serial.{serial_cells, serial_jobs};
+ghost use Rattle.std.specs.Prelude.{◌≡◌, ◌<◌, length};
 
 use crate::desk::Desk;
 use crate::receipt::Receipt;
@@ -8,6 +7,7 @@ use cs_cells::Job;
 use cs_edge::Gate;
 
 impl<J: Job> Desk<J> {
+    ghost use Rattle.cs_desk.specs.Cycles.{AreOver, WasPlayed};
     ghost use Rattle.cs_desk.specs.Desk.{areas, cells, note_room, word_room};
 
     /// Runs the notes of a control cycle, `notes` in number, one by one in serial order over the
@@ -22,11 +22,8 @@ impl<J: Job> Desk<J> {
         gate: &G,
     ) -> Receipt<J>
         requires notes { notes ≡ length jobs.items }
-        requires areas { All (λ j. J.means.areas j ≡ areas self.old) jobs.items }
-        ensures jobs { result ≡ serial_jobs J.means jobs.items (cells self.old) }
-        ensures cells { cells self.new ≡ serial_cells J.means jobs.items (cells self.old) }
-        ensures areas { areas self.new ≡ areas self.old }
-        ensures room { (note_room self.new ≡ note_room self.old) × (word_room self.new ≡ word_room self.old) }
+        requires over { AreOver J.means self.old jobs.items }
+        ensures { WasPlayed J.means self.old jobs.items result self.new }
     {
         let mut jobs = jobs;
         for note in 0..notes {

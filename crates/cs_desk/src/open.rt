@@ -1,11 +1,10 @@
 // The beginning of a cycle.
-ghost use Rattle.std.specs.Prelude.{◌≡◌, ◌+◌, ◌*◌, ◌<◌, ◌≤◌, ◌^◌, ◌∷◌, [], ℕ, Some, map, length, All, true, false, slice_get};
+ghost use Rattle.std.specs.Prelude.{◌≡◌, ◌+◌, ◌*◌, ◌<◌, ◌≤◌, ◌^◌, ◌∷◌, [], ℕ, Some, length, true, false, slice_get};
 ghost use Rattle.std.specs.Vec.{vec_capacity};
 ghost use Rattle.cs_board.specs.Resting.{IsSole, IsLaying, areas_in, known_in};
 ghost use Rattle.cs_desk.specs.inner.Resting.{plan_over};
-ghost use Rattle.cs_cells.specs.Areas.{word_count, IsFootprint};
+ghost use Rattle.cs_cells.specs.Areas.{word_count};
 ghost use Rattle.cs_cells.specs.Serial.{AllValid};
-ghost use Rattle.cs_graph.specs.Graph.{IsFit};
 ghost use Rattle.cs_board.specs.Plans.{IsPlan};
 ghost use Rattle.cs_board.specs.Views.{with_word, with_home, opening_view};
 ghost use Rattle.cs_board.specs.declared.view.Berth.TheVariants.{Vacant, Full};
@@ -22,17 +21,14 @@ use std::sync::Arc;
 
 impl<J: Job> Desk<J> {
     ghost use Rattle.cs_board.specs.Board.{plan, name, view, graph_of, IsSeatOf};
-    ghost use Rattle.cs_desk.specs.Desk.{areas, note_room, word_room, HasRoom, plan_from};
+    ghost use Rattle.cs_desk.specs.Cycles.{IsCycle};
+    ghost use Rattle.cs_desk.specs.Desk.{note_room, word_room, HasRoom, plan_from};
 
     /// The board of a cycle, and its first seat, at the cost of the cycle's notes and edges.
     /// `graph` is that of the jobs' footprints, and the desk's layout that of each job. It takes no
     /// memory, and so it can't fail.
     pub fn open(self, graph: Arc<Graph, Global>, jobs: Vec<J>) -> (Board<J>, BoardSeat<J>)
-        requires notes { length graph.value.levels ≡ length jobs.items }
-        requires fit { IsFit (map J.means.foot jobs.items) graph.value.edges }
-        requires areas { All (λ j. J.means.areas j ≡ areas self) jobs.items }
-        requires footprints { All (λ j. IsFootprint (length (areas self)) (J.means.foot j)) jobs.items }
-        requires room { HasRoom self (length jobs.items) (length graph.value.edges) }
+        requires { IsCycle J.means graph.value self jobs.items }
         ensures plan { plan result.0 ≡ plan_from self graph.value jobs.items }
         ensures seat { IsSeatOf J.means (plan result.0) (name result.0) result.1 }
         ensures view { view result.1 ≡ opening_view (plan result.0) }
@@ -102,43 +98,39 @@ fn lay_cycle<J: Job>(
     }
     while let Some(job) = jobs.pop() {
         let note = jobs.len() as u32;
-        lay_note(
-            table,
-            seat,
-            first,
-            notes,
-            note,
-            opening_status(graph, note),
-            job,
-        );
+        lay_note(table, seat, first, graph, note, job);
     }
     jobs
 }
 
-/// Lays a note's status and its own turn, and its job into its slot.
+/// Lays a note's status at the opening and its own turn, and its job into its slot.
 fn lay_note<J: Job>(
     table: &Berths<J>,
     seat: &mut Sitting<J>,
     first: usize,
-    notes: u32,
+    graph: &Graph,
     note: u32,
-    status: u64,
     job: J,
 )
     requires sole { IsSole table.now.shared.table_id seat.old }
     requires vacant { slice_get (known_in seat.old).homes note ≡ Some (Some Vacant) }
-    requires words { first + (2 * notes) ≤ table.now.shared.table_id.words }
+    requires words { first + (2 * length graph.now.levels) ≤ table.now.shared.table_id.words }
     requires small { first ≤ 2 ^ 40 }
-    requires note { note < notes }
+    requires note { note < length graph.now.levels }
     ensures sole { IsSole table.now.shared.table_id seat.new }
     ensures areas { areas_in seat.new ≡ areas_in seat.old }
     ensures known { known_in seat.new
-        ≡ with_word (with_word (with_home (known_in seat.old) note (Some (Full job))) (first + note) status)
-        (first + (notes + note)) 0 }
+        ≡ with_word (with_word (with_home (known_in seat.old) note (Some (Full job))) (first + note)
+        (first_status graph.now.edges note)) (first + (length graph.now.levels + note)) 0 }
 {
     put_job(table, seat, note, job);
-    lay(table, seat, first + note as usize, status);
-    lay(table, seat, first + notes as usize + note as usize, 0);
+    lay(
+        table,
+        seat,
+        first + note as usize,
+        opening_status(graph, note),
+    );
+    lay(table, seat, first + graph.len() as usize + note as usize, 0);
 }
 
 /// A job goes into its slot while the board rests.

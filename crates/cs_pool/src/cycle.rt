@@ -1,17 +1,14 @@
 // One control cycle.
-ghost use Rattle.std.specs.Prelude.{◌≡◌, ◌<◌, ◌≤◌, ◌-◌, ◌⊎◌, ◌↔◌, ℕ, map, length, All, true, false};
+ghost use Rattle.std.specs.Prelude.{◌≡◌, ◌<◌, ◌≤◌, ◌-◌, ◌⊎◌, ◌↔◌, ℕ, length, All, true, false};
 ghost use Rattle.cs_base.specs.Limits.{most_notes};
 ghost use Rattle.std.specs.Arc.{arc_value};
 ghost use Rattle.cs_board.specs.Board.{plan, name, view, IsSeatOf};
-ghost use Rattle.cs_desk.specs.Desk.{areas, cells, note_room, word_room, HasRoom};
-ghost use Rattle.cs_cells.specs.Serial.{serial_cells, serial_jobs};
+ghost use Rattle.cs_desk.specs.Cycles.{AreOver, IsCycle, WasPlayed};
 ghost use Rattle.cs_pool.specs.Working.{IsReady, IsDone};
 ghost use Rattle.cs_pool.specs.Numbered.{IsFirst};
-ghost use Rattle.cs_graph.specs.Graph.{IsFit};
 ghost use Rattle.cs_pool.specs.Pools.{helpers, ended, next_cycle, cycles_alone, tasks_served, served_by};
 ghost use Rattle.cs_pool.specs.Pools.{HasMissed, Learns, LearnsNothing, NeedsNoHelper};
 ghost use Rattle.cs_pool.specs.inner.Lines.{IsIdle};
-ghost use Rattle.cs_cells.specs.Areas.{IsFootprint};
 ghost use Rattle.cs_board.specs.Views.{opening_view};
 
 use crate::letter::Task;
@@ -27,9 +24,8 @@ use cs_graph::Graph;
 use std::alloc::Global;
 use std::sync::{Arc, Wait};
 use std::thread;
-use std::thread::Threads;
 
-impl<'e, J: Job + Send + Drop, R: Threads + Wait + Sync, G: Gate + Sync> Pool<'e, J, R, G> {
+impl<'e, J: Job + Drop, R: Wait, G: Gate> Pool<'e, J, R, G> {
     /// Runs the notes of one control cycle, and answers a receipt with their jobs, the desk, and
     /// the graph, as if the notes had run one by one in serial order over the desk's cells.
     ///
@@ -47,20 +43,8 @@ impl<'e, J: Job + Send + Drop, R: Threads + Wait + Sync, G: Gate + Sync> Pool<'e
         desk: Desk<J>,
         jobs: Vec<J>,
     ) -> (Receipt<J>, Desk<J>, Arc<Graph, Global>)
-        requires notes { length graph.value.levels ≡ length jobs.items }
-        requires fit { IsFit (map J.means.foot jobs.items) graph.value.edges }
-        requires areas { All (λ j. J.means.areas j ≡ areas desk) jobs.items }
-        requires footprints { All (λ j. IsFootprint (length (areas desk)) (J.means.foot j)) jobs.items }
-        requires room { HasRoom desk (length jobs.items) (length graph.value.edges) }
-        ensures jobs { result.0 ≡ serial_jobs J.means jobs.items (cells desk) }
-        ensures cells { cells result.1 ≡ serial_cells J.means jobs.items (cells desk) }
-        // What stays, so that the next cycle can follow.
-        ensures notes { length result.0 ≡ length jobs.items }
-        ensures footprints { map J.means.foot result.0 ≡ map J.means.foot jobs.items }
-        ensures layouts { map J.means.areas result.0 ≡ map J.means.areas jobs.items }
-        ensures areas { areas result.1 ≡ areas desk }
-        ensures count { length (cells result.1) ≡ length (cells desk) }
-        ensures room { (note_room result.1 ≡ note_room desk) × (word_room result.1 ≡ word_room desk) }
+        requires { IsCycle J.means graph.value desk jobs.items }
+        ensures played { WasPlayed J.means desk jobs.items result.0 result.1 }
         ensures graph { result.2.value ≡ graph.value }
         ensures ended { ended self.new ≡ next_cycle (ended self.old) }
         ensures helpers { helpers self.new ≡ helpers self.old }
@@ -98,12 +82,8 @@ impl<'e, J: Job + Send + Drop, R: Threads + Wait + Sync, G: Gate + Sync> Pool<'e
     /// the desk's layout is that of each. The gate is called as in `cycle`. It can't fail.
     pub fn alone(&mut self, cycle: u32, desk: Desk<J>, jobs: Vec<J>) -> (Receipt<J>, Desk<J>)
         requires few { length jobs.items ≤ most_notes }
-        requires areas { All (λ j. J.means.areas j ≡ areas desk) jobs.items }
-        ensures jobs { result.0 ≡ serial_jobs J.means jobs.items (cells desk) }
-        ensures cells { cells result.1 ≡ serial_cells J.means jobs.items (cells desk) }
-        ensures notes { length result.0 ≡ length jobs.items }
-        ensures areas { areas result.1 ≡ areas desk }
-        ensures room { (note_room result.1 ≡ note_room desk) × (word_room result.1 ≡ word_room desk) }
+        requires over { AreOver J.means desk jobs.items }
+        ensures played { WasPlayed J.means desk jobs.items result.0 result.1 }
         ensures ended { ended self.new ≡ next_cycle (ended self.old) }
         ensures helpers { helpers self.new ≡ helpers self.old }
         ensures served { tasks_served self.new ≡ tasks_served self.old }

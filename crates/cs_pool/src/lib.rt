@@ -9,7 +9,7 @@
 //! `worker` (claim, run, finish), `letter` (what lies in a helper's mailbox), `member`, `view` (what a mailbox's two
 //! ends know), `mailbox_rule`, `mailbox`, `helper` (what a helper does), `line` (the caller's side of one helper),
 //! `sparing` (which cycles the caller plays alone), `pool` (all helpers, started and ended), `cycle`; `crew` (what a
-//! performance is run by), `size` (how many workers are of use), `running` (a cycle that a tally counts).
+//! performance is run by), `size` (how many workers are of use).
 #![tactic(auto)]
 
 mod crew;
@@ -21,7 +21,6 @@ mod mailbox;
 mod mailbox_rule;
 mod member;
 mod pool;
-mod running;
 mod size;
 mod sparing;
 mod view;
@@ -29,5 +28,4 @@ mod worker;
 
 pub use crew::Crew;
 pub use pool::Pool;
-pub use running::{run_counted, run_counted_alone};
 pub use size::crew_size;

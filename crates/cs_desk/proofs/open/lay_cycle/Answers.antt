@@ -1,4 +1,5 @@
-use Rattle.std.proofs.Common.{ℕ, ◌+◌, ◌<◌, ◌≡◌, [], ◌∷◌, ◌++◌, length, drop, Some, refl, sym, ap, ◌∙◌, subst, arith, length-append}
+use Rattle.std.proofs.Common.{ℕ, ◌+◌, ◌<◌, ◌≡◌, [], ◌∷◌, ◌++◌, length, drop, Some, refl, sym, ap, ◌∙◌, subst, arith}
+use Rattle.std.proofs.Common.{length-append}
 use Rattle.std.proofs.lemmas.List.{append-nil}
 use Rattle.std.proofs.lemmas.Option.{slice_get_within}
 use Rattle.cs_board.specs.Opening.{first_status}
@@ -30,8 +31,12 @@ loop-edge-preserved g c =
       low = omega (arith, low, c.edge_count-edge-end.ensures.count);
       sole = c.lay.ensures.sole;
       areas = c.lay.ensures.areas ∙ inv.areas;
-      laying = subst (IsLaying k n (e + 1)) (sym (c.lay.ensures.known ∙ ap (λ i. with_word w i x) (omega (arith, c.requires.first, c.requires.cells, c.requires.notes, c.len-notes.ensures.notes))))
-          (laying_watch k n e x w (omega (arith, low, c.edge_count-edge-end.ensures.count)) c.opening_watch.ensures inv.laying);
+      laying = subst (IsLaying k n (e + 1))
+          (sym (c.lay.ensures.known
+          ∙ ap (λ i. with_word w i x)
+          (omega (arith, c.requires.first, c.requires.cells, c.requires.notes, c.len-notes.ensures.notes))))
+          (laying_watch k n e x w (omega (arith, low, c.edge_count-edge-end.ensures.count)) c.opening_watch.ensures
+          inv.laying);
     }
 
 pub loop-job-init : goal.loop-job-init
@@ -40,8 +45,11 @@ loop-job-init g c = record {
   room = omega arith;
   sole = c.loop-edge.invariant.sole;
   areas = c.loop-edge.invariant.areas;
-  laying = subst (λ e. IsLaying (plan_over (areas_in c.args.seat.now) (known_in c.args.seat.now) c.args.graph.now c.args.jobs.items) (length c.args.jobs.items) e (known_in c.loop-edge.seat))
-      (omega (arith, c.loop-edge-test.false, c.loop-edge.invariant.low, c.edge_count-edge-end.ensures.count)) c.loop-edge.invariant.laying;
+  laying = subst (λ e. IsLaying
+      (plan_over (areas_in c.args.seat.now) (known_in c.args.seat.now) c.args.graph.now c.args.jobs.items)
+      (length c.args.jobs.items) e (known_in c.loop-edge.seat))
+      (omega (arith, c.loop-edge-test.false, c.loop-edge.invariant.low, c.edge_count-edge-end.ensures.count))
+      c.loop-edge.invariant.laying;
 }
 
 pub loop-job-preserved : goal.loop-job-preserved
@@ -53,25 +61,30 @@ loop-job-preserved g c =
     let job = c.in-Some.job in
     let t : ℕ = length c.pop.new.self.items in
     let e : ℕ = length c.args.graph.now.edges in
-    let x : ℕ = c.opening_status.result in
+    let edges = c.args.graph.now.edges in
+    let x : ℕ = first_status edges t in
     let first : ℕ = c.args.first in
-    let notes : ℕ = c.len-notes.result in
+    let notes : ℕ = length c.args.graph.now.levels in
     let inv = c.loop-job.invariant in
     let w = known_in c.loop-job.seat in
     let old = c.loop-job.jobs.items in
-    let p = popped js jn (drop (length old) js) job (ap (λ l. l ++ drop (length old) js) (sym c.in-Some.ensures.items) ∙ inv.jobs) in
+    let p = popped js jn (drop (length old) js) job
+    (ap (λ l. l ++ drop (length old) js) (sym c.in-Some.ensures.items) ∙ inv.jobs) in
     let low : t < length js = slice_get_within js t job p.1 in
     let long : length old ≡ t + 1 = omega (arith, ap length c.in-Some.ensures.items, length-append jn (job ∷ [])) in
     let nt : c.len-note.result ≡ t = omega (arith, c.len-note.ensures, c.pop.new.self.ok.0) in
     let known = c.lay_note.ensures.known
-    ∙ ap (λ i. with_word (with_word (with_home w i (Some (Full job))) (first + i) x) (first + (notes + i)) 0) nt
-    ∙ ap (λ i. with_word (with_word (with_home w t (Some (Full job))) i x) (first + (notes + t)) 0) (omega (arith, c.requires.first, c.requires.cells))
-    ∙ ap (λ i. with_word (with_word (with_home w t (Some (Full job))) (status_at k t) x) i 0) (omega (arith, c.requires.first, c.requires.cells, c.requires.notes, c.len-notes.ensures.notes)) in
+    ∙ ap (λ i. with_word (with_word (with_home w i (Some (Full job))) (first + i) (first_status edges i))
+    (first + (notes + i)) 0) nt
+    ∙ ap (λ i. with_word (with_word (with_home w t (Some (Full job))) i x) (first + (notes + t)) 0)
+    (omega (arith, c.requires.first, c.requires.cells))
+    ∙ ap (λ i. with_word (with_word (with_home w t (Some (Full job))) (status_at k t) x) i 0)
+    (omega (arith, c.requires.first, c.requires.cells, c.requires.notes)) in
     record {
       jobs = p.0;
       room = omega (arith, inv.room, c.pop.ensures.capacity);
       sole = c.lay_note.ensures.sole;
       areas = c.lay_note.ensures.areas ∙ inv.areas;
       laying = subst (IsLaying k t e) (sym known)
-          (laying_note k t e x job w low p.1 (c.opening_status.ensures ∙ ap (first_status c.args.graph.now.edges) nt) (subst (λ n. IsLaying k n e w) long inv.laying));
+          (laying_note k t e x job w low p.1 refl (subst (λ n. IsLaying k n e w) long inv.laying));
     }

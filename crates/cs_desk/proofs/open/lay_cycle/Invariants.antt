@@ -9,7 +9,8 @@ invariant-loop-edge g l = record {
   low : l.edge ≤ length l.graph.edges;
   sole : IsSole l.table.shared.table_id l.seat;
   areas : areas_in l.seat ≡ areas_in l.initial.seat;
-  laying : IsLaying (plan_over (areas_in l.initial.seat) (known_in l.initial.seat) l.graph l.jobs.items) (length l.jobs.items) l.edge (known_in l.seat);
+  laying : IsLaying (plan_over (areas_in l.initial.seat) (known_in l.initial.seat) l.graph l.jobs.items)
+      (length l.jobs.items) l.edge (known_in l.seat);
 }
 
 abbrev pub invariant-loop-job : goal.invariant-loop-job
@@ -18,7 +19,8 @@ invariant-loop-job g l = record {
   room : length l.fn.jobs.items ≤ vec_capacity l.jobs;
   sole : IsSole l.table.shared.table_id l.seat;
   areas : areas_in l.seat ≡ areas_in l.fn.seat;
-  laying : IsLaying (plan_over (areas_in l.fn.seat) (known_in l.fn.seat) l.graph l.fn.jobs.items) (length l.jobs.items) (length l.graph.edges) (known_in l.seat);
+  laying : IsLaying (plan_over (areas_in l.fn.seat) (known_in l.fn.seat) l.graph l.fn.jobs.items) (length l.jobs.items)
+      (length l.graph.edges) (known_in l.seat);
 }
 
 abbrev pub decreases-loop-job : goal.decreases-loop-job

@@ -18,7 +18,8 @@ begin-requires-clause-whole g c =
     let r = c.args.self.rests in
     is_plan M (areas_in s) G jobs (plan_from c.args.self G jobs) refl refl refl refl
     (length-map (cells_laid (areas_in s) (known_in s)) signed ∙ r.cleared.long)
-    (subst (LeadsForward G.edges) c.requires.notes (subst (λ z. LeadsForward z.edges (length z.levels)) c.deref-2.ensures c.edges.ensures.forward))
+    (subst (LeadsForward G.edges) c.requires.notes
+    (subst (λ z. LeadsForward z.edges (length z.levels)) c.deref-2.ensures c.edges.ensures.forward))
     (subst (λ z. (t : ℕ) → StandTogether z.edges t) c.deref-2.ensures c.edges.ensures.together)
     c.requires.fit
-    c.requires.areas c.requires.footprints (subst (AllValid M) c.deref.ensures.value c.hear.ensures) r.laid r.few
+    c.requires.over c.requires.footprints (subst (AllValid M) c.deref.ensures.value c.hear.ensures) r.laid r.few

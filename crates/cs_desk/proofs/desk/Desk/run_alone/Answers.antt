@@ -1,8 +1,10 @@
 use Rattle.std.proofs.Common.{ℕ, suc, ◌<◌, ◌+◌, ◌≡◌, ◌++◌, List, length, take, drop, slice_get, slice_set, Some, sym, ap, ◌∙◌, subst, arith}
 use Rattle.std.proofs.lemmas.Option.{slice_get-get_or}
 use Rattle.cs_cells.specs.Serial.{serial_jobs, before}
-use Rattle.cs_cells.proofs.SerialRun.{before-suc, job_at, before-all, length-serial_jobs}
+use Rattle.cs_cells.proofs.SerialRun.{before-suc, job_at, before-all, length-serial_jobs, foot-serial_jobs}
+use Rattle.cs_cells.proofs.SerialRun.{areas-serial_jobs, length-serial_cells}
 use Rattle.cs_desk.specs.Desk.{cells}
+use Rattle.cs_desk.proofs.Cycling.{was_played}
 use Rattle.cs_desk.proofs.Reached.{middle, middle_below, next_set, all_of}
 use Rattle.cs_desk.proofs.desk.Desk.run_alone.Goals as goal
 
@@ -33,18 +35,18 @@ loop-note-preserved g c =
       words = c.run_job.ensures.room.1 ∙ inv.words;
     }
 
-pub returns-clause-jobs : goal.returns-clause-jobs
-returns-clause-jobs g c =
-    let M = g.J.Job.means in
-    let js : List g.row.J.Denot = c.args.jobs.items in
-    let ys : List g.row.J.Denot = serial_jobs M js (cells c.args.self.now) in
-    let all : c.loop-note.note ≡ length js = omega (arith, c.loop-note-test.false, c.loop-note.invariant.low, c.requires.notes) in
-    c.loop-note.invariant.jobs ∙ ap (λ k. take k ys ++ drop k js) all ∙ all_of ys js (length-serial_jobs M js (cells c.args.self.now))
-
-pub returns-clause-cells : goal.returns-clause-cells
-returns-clause-cells g c =
+pub returns : goal.returns
+returns g c =
     let M = g.J.Job.means in
     let js : List g.row.J.Denot = c.args.jobs.items in
     let start = cells c.args.self.now in
-    let all : c.loop-note.note ≡ length js = omega (arith, c.loop-note-test.false, c.loop-note.invariant.low, c.requires.notes) in
-    c.loop-note.invariant.cells ∙ ap (before M js start) all ∙ before-all M js start
+    let ys : List g.row.J.Denot = serial_jobs M js start in
+    let inv = c.loop-note.invariant in
+    let all : c.loop-note.note ≡ length js =
+    omega (arith, c.loop-note-test.false, inv.low, c.requires.notes) in
+    let F = g.met.J.Job.frames in
+    was_played M c.args.self.now js c.loop-note.jobs.items c.loop-note.self
+    (foot-serial_jobs M F js start) (areas-serial_jobs M F js start) (length-serial_cells M F js start)
+    (inv.jobs ∙ ap (λ k. take k ys ++ drop k js) all ∙ all_of ys js (length-serial_jobs M js start))
+    (inv.cells ∙ ap (before M js start) all ∙ before-all M js start)
+    inv.areas inv.notes inv.words

@@ -1,22 +1,30 @@
-use Rattle.std.proofs.Common.{◌≡◌, ◌∙◌, length, ap, inl, inr, subst, refl}
-use Rattle.cs_board.specs.Board.{plan}
-use Rattle.cs_cells.proofs.SerialRun.{length-serial_jobs}
-use Rattle.cs_cells.specs.Serial.{serial_jobs}
+use Rattle.std.proofs.Common.{◌∙◌, length, ap, inl, inr, subst, refl}
+use Rattle.cs_board.specs.Board.{plan, name}
+use Rattle.cs_cells.specs.Serial.{serial_cells, serial_jobs}
+use Rattle.cs_desk.proofs.Cycling.{was_played}
 use Rattle.cs_desk.specs.Desk.{cells}
 use Rattle.cs_pool.specs.Pools.{helpers, NeedsNoHelper}
 use Rattle.cs_pool.proofs.pool.Pool.cycle.Goals as goal
 
-pub returns-clause-notes : goal.returns-clause-notes
-returns-clause-notes g c =
-    let is : c.rest.result.0 ≡ serial_jobs g.J.Job.means c.args.jobs.items (cells c.args.desk) =
-    c.rest.ensures.jobs
-    ∙ ap (λ b. serial_jobs g.J.Job.means (plan b).jobs (plan b).cells) c.play-board.ensures.board
-    ∙ ap (λ k. serial_jobs g.J.Job.means k.jobs k.cells) c.open-board.ensures.plan in
-    ap length is ∙ length-serial_jobs g.J.Job.means c.args.jobs.items (cells c.args.desk)
-
-pub returns-then-others-eq0-clause-notes : goal.returns-then-others-eq0-clause-notes
-returns-then-others-eq0-clause-notes g c =
-    ap length c.run_alone-receipt.ensures.jobs ∙ length-serial_jobs g.J.Job.means c.args.jobs.items (cells c.args.desk)
+pub returns-clause-played : goal.returns-clause-played
+returns-clause-played g c =
+    let M = g.J.Job.means in
+    let same = c.play-board.ensures.board in
+    let over = c.open-board.ensures.plan in
+    let rested = c.rest.ensures in
+    let laws = c.serial_laws.ensures in
+    let start = cells c.args.desk in
+    was_played M c.args.desk c.args.jobs.items c.rest.result.0 c.rest.result.1
+    (laws.footprints c.args.jobs.items start) (laws.areas c.args.jobs.items start) (laws.count c.args.jobs.items start)
+    (rested.jobs
+    ∙ ap (λ b. serial_jobs M (plan b).jobs (plan b).cells) same
+    ∙ ap (λ k. serial_jobs M k.jobs k.cells) over)
+    (rested.cells
+    ∙ ap (λ b. serial_cells M (plan b).jobs (plan b).cells) same
+    ∙ ap (λ k. serial_cells M k.jobs k.cells) over)
+    (rested.areas ∙ ap (λ b. (plan b).areas) same ∙ ap (λ k. k.areas) over)
+    (rested.room.0 ∙ ap (λ b. (name b).slots) same ∙ c.open-board.ensures.room.0)
+    (rested.room.1 ∙ ap (λ b. (name b).words) same ∙ c.open-board.ensures.room.1)
 
 pub returns-clause-learned : goal.returns-clause-learned
 returns-clause-learned g c =

@@ -1,0 +1,63 @@
+// A control cycle by a crew that stands for it alone.
+ghost use Rattle.std.specs.Prelude.{◌≡◌};
+ghost use Rattle.cs_desk.specs.Cycles.{IsCycle, WasPlayed};
+
+use cs_cells::Job;
+use cs_desk::{Desk, Receipt};
+use cs_edge::Gate;
+use cs_graph::Graph;
+use cs_pool::{Crew, Pool};
+use std::alloc::Global;
+use std::sync::{Arc, Wait};
+use std::thread;
+use std::thread::Threads;
+
+/// Runs the notes of one control cycle, and answers a receipt with their jobs, the desk, and the graph, as if the notes
+/// had run one by one in serial order over the desk's cells.
+///
+/// `graph` is that of the jobs, which stand in serial order. The desk's layout is that of each job, and it has room for
+/// the cycle. The crew's workers but the caller are threads that are started here and have ended when the call returns,
+/// so none is started by a crew of one. The crew's gate is called with `cycle` and the note's place before each note is
+/// run. It can't fail: a worker for which there is no memory or no thread leaves its notes to the others.
+pub fn run_cycle<J: Job + Send + Drop, R: Threads + Wait + Sync, G: Gate + Sync>(
+    crew: &Crew<'_, R, G>,
+    alloc: Global,
+    cycle: u32,
+    graph: Arc<Graph, Global>,
+    desk: Desk<J>,
+    jobs: Vec<J>,
+) -> (Receipt<J>, Desk<J>, Arc<Graph, Global>)
+    requires { IsCycle J.means graph.value desk jobs.items }
+    ensures played { WasPlayed J.means desk jobs.items result.0 result.1 }
+    ensures graph { result.2.value ≡ graph.value }
+{
+    thread::scope(
+        thread::scope_env(),
+        crew.rt,
+        move |scope|
+            requires { IsCycle J.means graph.value desk jobs.items }
+            ensures played { WasPlayed J.means desk jobs.items result.0 result.1 }
+            ensures graph { result.2.value ≡ graph.value }
+        {
+            let pool = Pool::new(crew.rt, scope, alloc, crew.workers, crew.gate);
+            run_once(pool, cycle, graph, desk, jobs)
+        },
+    )
+}
+
+/// The one cycle of a pool, whose helpers have ended when it returns.
+fn run_once<J: Job + Send + Drop, R: Threads + Wait + Sync, G: Gate + Sync>(
+    mut pool: Pool<'_, J, R, G>,
+    cycle: u32,
+    graph: Arc<Graph, Global>,
+    desk: Desk<J>,
+    jobs: Vec<J>,
+) -> (Receipt<J>, Desk<J>, Arc<Graph, Global>)
+    requires { IsCycle J.means graph.value desk jobs.items }
+    ensures played { WasPlayed J.means desk jobs.items result.0 result.1 }
+    ensures graph { result.2.value ≡ graph.value }
+{
+    let played = pool.cycle(cycle, graph, desk, jobs);
+    pool.close();
+    played
+}
