@@ -5,6 +5,7 @@ use Rattle.std.specs.List.{AllZip, Contains}
 use Rattle.std.specs.Option.{option_map}
 use Rattle.std.specs.Ordering.{int_eq}
 use Rattle.std.proofs.lemmas.Bool.Decides.{Decides-int_eq}
+use Rattle.cs_base.specs.Lines.{Excerpt}
 use Rattle.cs_base.specs.declared.width.SampleWidth.{SampleWidth}
 use Rattle.cs_code.specs.Lowered.{bodies, numbered_with}
 use Rattle.cs_grammar.specs.Orchestra.{Tree}
@@ -42,7 +43,8 @@ same_some a b e = cc
 abbrev Pairs : Type 0
 Pairs = List (ℕ × typed.Block)
 
-pairs_have : (ps : Pairs) (z : ℤ) (b : typed.Block) → body_of ps z ≡ Some b → (n : ℕ) × (z ≡ pos n) × Contains ps (n, b)
+pub pairs_have : (ps : Pairs) (z : ℤ) (b : typed.Block) → body_of ps z ≡ Some b
+    → (n : ℕ) × (z ≡ pos n) × Contains ps (n, b)
 pairs_have [] z b h = absurd (cc)
 pairs_have (p ∷ ps) z b h = by (int_eq z (pos p.0)) refl h (λ k. pairs_have ps z b k)
   where
@@ -98,7 +100,7 @@ numbered_there body (m ∷ ns) n h =
 abbrev pairs_of : typed.Instrument → List (ℕ × typed.Block)
 pairs_of i = numbered_with i.body i.numbers
 
-bodies_have : (is : List typed.Instrument) (n : ℕ) (b : typed.Block) → Contains (bodies is) (n, b)
+pub bodies_have : (is : List typed.Instrument) (n : ℕ) (b : typed.Block) → Contains (bodies is) (n, b)
     → (i : typed.Instrument) × Contains is i × Contains i.numbers n × (i.body ≡ b)
 bodies_have is n b h =
     let one = each_of pairs_of is (n, b) h in
@@ -129,7 +131,7 @@ module _ {X Y : Type 0} (R : X → Y → Type 0) where
       (λ later. let more = zip_right xs ys x z.1 later in (more.0, contains_rest w more.0 ys more.1, more.2))
       (contains_cases v x xs h)
 
-mapped : {A B : Type 0} (f : A → B) (o : Option A) (b : B) → option_map f o ≡ Some b
+pub mapped : {A B : Type 0} (f : A → B) (o : Option A) (b : B) → option_map f o ≡ Some b
     → (a : A) × (o ≡ Some a) × (b ≡ f a)
 mapped f None b h = absurd (cc)
 mapped f (Some a) b h = (a, refl, sym (same_some (f a) b h))
@@ -142,9 +144,10 @@ ExpansionMeans W = (o made : tree.Orchestra) → IsWellFormed o → expanding o 
     → AllZip (MeansFrames W o.opcodes (shared_of made)) o.instrs (typed_of made).instrs
 
 abbrev pub AreWellFormed : Type 0
-AreWellFormed = (text : List ℕ) (ts : List Token) (o : tree.Orchestra) → Lexed text ts → Tree text ts o → IsWellFormed o
+AreWellFormed = (text : Excerpt) (ts : List Token) (o : tree.Orchestra) → Lexed text ts → Tree text.bytes ts o
+    → IsWellFormed o
 
-well_formed : AreWellFormed → (text : List ℕ) (o : tree.Orchestra) → IsReadAs text (Ok o) → IsWellFormed o
+well_formed : AreWellFormed → (text : Excerpt) (o : tree.Orchestra) → IsReadAs text (Ok o) → IsWellFormed o
 well_formed well text o h = let first = steps (HasTokens text) (HasTree text) o h in well text first.0 o first.1 first.2
 
 module _ (W : Type 0) (o : tree.Orchestra) (shared : Shared) (t : typed.Orchestra) (plot : Plot)
@@ -177,7 +180,7 @@ module _ (W : Type 0) (o : tree.Orchestra) (shared : Shared) (t : typed.Orchestr
       )
 
 pub calls_mean : (W : Type 0) → ExpansionMeans W → AreWellFormed
-    → (width : SampleWidth) (orchestra score : List ℕ) (c : Composition)
+    → (width : SampleWidth) (orchestra score : Excerpt) (c : Composition)
     → means width orchestra score (Ok c) → MeansCalls W orchestra c
 calls_mean W frames well width orchestra score c h =
     let piece = piece_is width orchestra score c h in

@@ -1,5 +1,6 @@
 pub mod Calls
 pub mod Chains
+pub mod Few
 pub mod Heads
 pub mod Once
 pub mod Parts

@@ -1,8 +1,10 @@
 -- What the single steps answer, and how their answers go together.
-use Rattle.std.proofs.Common.{◌≡◌, ◌≤◌, ◌<◌, ℕ, Bool, true, false, nat_lt, List, length, Option, Some, None, Result, Ok, Err, IfOk, refl, sym, ap, ◌∙◌, arith}
+use Rattle.std.proofs.Common.{◌≡◌, ◌≤◌, ◌<◌, Bool, true, false, nat_lt, List, length, Option, Some, None, Result, Ok}
+use Rattle.std.proofs.Common.{Err, IfOk, refl, sym, ap, ◌∙◌, arith}
 use Rattle.std.specs.Option.{option_or}
 use Rattle.std.specs.Result.{IsErrAnd}
 use Rattle.std.proofs.lemmas.Bool.Decides.{nat_tests}
+use Rattle.cs_base.specs.Lines.{Excerpt}
 use Rattle.cs_base.specs.declared.fault.Or.{Or}
 use Rattle.cs_base.specs.declared.fault.Or.TheVariants as or
 use Rattle.cs_base.specs.declared.fault.OrcFault.{OrcFault}
@@ -24,7 +26,9 @@ use Rattle.cs_typing.specs.Typing.{judged, type_fault, typed_of}
 use Rattle.cs_base.specs.declared.width.SampleWidth.{SampleWidth}
 use Rattle.cs_compile.specs.Then.{Is}
 use Rattle.cs_piece_meaning.specs.Moments.{Composition}
-use Rattle.cs_compile.specs.Meaning.{HasHead, IsPlayedAs, no_longer_than, orchestra_means, orchestra_plays, passed_if, piece_of, plotted, refused_as, score_means, short_texts_mean, typed_form, unless_passed}
+use Rattle.cs_compile.specs.Meaning.{HasHead, IsPlayedAs, no_longer_than, orchestra_means, orchestra_plays, passed_if}
+use Rattle.cs_compile.specs.Meaning.{piece_of, plotted, refused_as, score_means, short_texts_mean, typed_form}
+use Rattle.cs_compile.specs.Meaning.{unless_passed}
 use Rattle.cs_base.specs.declared.refusal.Refusal.{Refusal}
 use Rattle.cs_base.specs.declared.refusal.Refusal.TheVariants as why
 use Rattle.cs_compile.proofs.Chains.{goes_on, refuses}
@@ -32,7 +36,8 @@ use Rattle.cs_compile.proofs.Chains.{goes_on, refuses}
 -- RESULTS
 
 -- the exit of a `?` gives the refusal that it had
-pub left_with : {A B F : Type 0} (r : Result B (Or F)) (e : Or F) (x : F) → IsErrAnd r (λ y. y ≡ e) → r ≡ Err (or.Fault x) → ◌≡◌ {A = Result A (Or F)} (Err e) (Err (or.Fault x))
+pub left_with : {A B F : Type 0} (r : Result B (Or F)) (e : Or F) (x : F) → IsErrAnd r (λ y. y ≡ e)
+    → r ≡ Err (or.Fault x) → ◌≡◌ {A = Result A (Or F)} (Err e) (Err (or.Fault x))
 left_with (Ok b) e x i h = elim i [ ]
 left_with (Err g) e x i h = let same : g ≡ or.Fault x = cc in ap (λ (z : Or _). Err z) (sym i ∙ same)
 
@@ -40,30 +45,35 @@ pub if_ok : {A E : Type 0} (P Q : A → Type 0) → ((a : A) → P a → Q a) �
 if_ok P Q weaker (Ok a) p = weaker a p
 if_ok P Q weaker (Err e) p = tt
 
-pub if_both : {A E : Type 0} (P Q R : A → Type 0) → ((a : A) → P a → Q a → R a) → (r : Result A E) → IfOk r P → IfOk r Q → IfOk r R
+pub if_both : {A E : Type 0} (P Q R : A → Type 0) → ((a : A) → P a → Q a → R a) → (r : Result A E) → IfOk r P → IfOk r Q
+    → IfOk r R
 if_both P Q R both (Ok a) p q = both a p q
 if_both P Q R both (Err e) p q = tt
 
 -- TEXTS by their lengths
 
-pub is_short : (which : Limit) (text : List ℕ) → length text ≤ most_of which → Ok text ≡ no_longer_than which text
-is_short which text h = by_test (nat_lt (most_of which) (length text)) (grind (arith, nat_tests))
+pub is_short : (which : Limit) (text : Excerpt) → length text.bytes ≤ most_of which
+    → Ok text ≡ no_longer_than which text
+is_short which text h = by_test (nat_lt (most_of which) (length text.bytes)) (grind (arith, nat_tests))
   where
     by_test : (b : Bool) → b ≡ false → Ok text ≡ unless_passed (passed_if which b) text
     by_test true h = absurd (cc)
     by_test false h = refl
 
-pub is_long : (which : Limit) (text : List ℕ) → most_of which < length text → Err (why.Limit (record { limit = which; line = 0 })) ≡ no_longer_than which text
-is_long which text h = by_test (nat_lt (most_of which) (length text)) (grind (arith, nat_tests))
+pub is_long : (which : Limit) (text : Excerpt) → most_of which < length text.bytes
+    → Err (why.Limit (record { limit = which; line = 0 })) ≡ no_longer_than which text
+is_long which text h = by_test (nat_lt (most_of which) (length text.bytes)) (grind (arith, nat_tests))
   where
-    by_test : (b : Bool) → b ≡ true → Err (why.Limit (record { limit = which; line = 0 })) ≡ unless_passed (passed_if which b) text
+    by_test : (b : Bool) → b ≡ true
+        → Err (why.Limit (record { limit = which; line = 0 })) ≡ unless_passed (passed_if which b) text
     by_test true h = refl
     by_test false h = absurd (cc)
 
 -- TREES
 
 pub typed_as : (t : tree.Orchestra) (o : typed.Orchestra) → type_fault t ≡ None → o ≡ typed_of t → typed_form t ≡ Ok o
-typed_as t o right is = ap (λ f. refused_as why.Orc (judged f (typed_of t))) right ∙ ap (λ (x : typed.Orchestra). Ok x) (sym is)
+typed_as t o right is = ap (λ f. refused_as why.Orc (judged f (typed_of t))) right
+    ∙ ap (λ (x : typed.Orchestra). Ok x) (sym is)
 
 pub mistyped : (t : tree.Orchestra) (f : OrcFault) → type_fault t ≡ Some f → typed_form t ≡ Err (why.Orc f)
 mistyped t f has = ap (λ x. refused_as why.Orc (judged x (typed_of t))) has
@@ -76,10 +86,13 @@ passed : (r : Result (List ScoreStmt) ScoreFault) (hit : LimitHit) → Passes hi
 passed (Ok statements) hit p = (statements, refl, p)
 passed (Err fault) hit p = absurd p
 
-pub plotted_as : (head : Head) (score : List ScoreStmt) (plot : Plot) → limit_of head score ≡ None → plot ≡ plot_of head score → plotted head score ≡ Ok plot
-plotted_as head score plot within is = ap (λ o. unless_passed o (plot_of head score)) within ∙ ap (λ (x : Plot). Ok x) (sym is)
+pub plotted_as : (head : Head) (score : List ScoreStmt) (plot : Plot) → limit_of head score ≡ None
+    → plot ≡ plot_of head score → plotted head score ≡ Ok plot
+plotted_as head score plot within is =
+    ap (λ o. unless_passed o (plot_of head score)) within ∙ ap (λ (x : Plot). Ok x) (sym is)
 
-pub not_plotted : (head : Head) (score : List ScoreStmt) (hit : LimitHit) → limit_of head score ≡ Some hit → plotted head score ≡ Err (why.Limit hit)
+pub not_plotted : (head : Head) (score : List ScoreStmt) (hit : LimitHit) → limit_of head score ≡ Some hit
+    → plotted head score ≡ Err (why.Limit hit)
 not_plotted head score hit passes = ap (λ o. unless_passed o (plot_of head score)) passes
 
 -- the value of an answer that no limit refuses
@@ -87,40 +100,51 @@ pub is_value : {A : Type 0} (o : Option LimitHit) (a b : A) → unless_passed o 
 is_value None a b e = cc
 is_value (Some hit) a b e = absurd (cc)
 
-pub score_plotted : (head : Head) (text : List ℕ) (score : List ScoreStmt) (r : Result Plot Refusal) → score_of text ≡ Ok score → plotted head score ≡ r
+pub score_plotted : (head : Head) (text : Excerpt) (score : List ScoreStmt) (r : Result Plot Refusal)
+    → score_of text ≡ Ok score → plotted head score ≡ r
     → score_means head text r
 score_plotted head text score r read is =
-    goes_on (Is (refused_as why.Score (score_of text))) (λ s. Is (plotted head s)) score r (sym (ap (refused_as why.Score) read)) (sym is)
+    goes_on (Is (refused_as why.Score (score_of text))) (λ s. Is (plotted head s)) score r
+    (sym (ap (refused_as why.Score) read)) (sym is)
 
-pub score_refused : (head : Head) (text : List ℕ) (fault : ScoreFault) → score_of text ≡ Err fault → score_means head text (Err (why.Score fault))
+pub score_refused : (head : Head) (text : Excerpt) (fault : ScoreFault) → score_of text ≡ Err fault
+    → score_means head text (Err (why.Score fault))
 score_refused head text fault read =
-    refuses (Is (refused_as why.Score (score_of text))) (λ s. Is (plotted head s)) (why.Score fault) (sym (ap (refused_as why.Score) read))
+    refuses (Is (refused_as why.Score (score_of text))) (λ s. Is (plotted head s)) (why.Score fault)
+    (sym (ap (refused_as why.Score) read))
 
-pub score_passes : (head : Head) (text : List ℕ) (hit : LimitHit) → Passes hit (score_of text) → score_means head text (Err (why.Limit hit))
+pub score_passes : (head : Head) (text : Excerpt) (hit : LimitHit) → Passes hit (score_of text)
+    → score_means head text (Err (why.Limit hit))
 score_passes head text hit p =
     let at = passed (score_of text) hit p in
     score_plotted head text at.0 (Err (why.Limit hit)) at.1
-    (not_plotted head at.0 hit (ap (λ (first : Option LimitHit). option_or first (limit_of_sections head (sections_of at.0))) at.2))
+    (not_plotted head at.0 hit
+    (ap (λ (first : Option LimitHit). option_or first (limit_of_sections head (sections_of at.0))) at.2))
 
 -- a score that is refused as it is read
-pub score_refused_for : (head : Head) (text : List ℕ) (r : Refusal) → IsRefusedFor r (score_of text) → score_means head text (Err r)
+pub score_refused_for : (head : Head) (text : Excerpt) (r : Refusal) → IsRefusedFor r (score_of text)
+    → score_means head text (Err r)
 score_refused_for head text (why.Score fault) read = score_refused head text fault read
 score_refused_for head text (why.Limit hit) passes = score_passes head text hit passes
 score_refused_for head text (why.Orc fault) never = absurd never
 
 -- BOTH TEXTS
 
-pub played : (width : SampleWidth) (orchestra text : List ℕ) (o : typed.Orchestra) (head : Head) (r : Result Composition Refusal)
-    → orchestra_means orchestra (Ok o) → typed.header_of_head head ≡ o.head → IsPlayedAs width text o head r → short_texts_mean width orchestra text r
+pub played : (width : SampleWidth) (orchestra text : Excerpt) (o : typed.Orchestra) (head : Head)
+    (r : Result Composition Refusal)
+    → orchestra_means orchestra (Ok o) → typed.header_of_head head ≡ o.head → IsPlayedAs width text o head r
+    → short_texts_mean width orchestra text r
 played width orchestra text o head r is has plays =
-    goes_on (orchestra_means orchestra) (orchestra_plays width text) o r is (goes_on (HasHead o.head) (IsPlayedAs width text o) head r has plays)
+    goes_on (orchestra_means orchestra) (orchestra_plays width text) o r is
+    (goes_on (HasHead o.head) (IsPlayedAs width text o) head r has plays)
 
-pub plotted_plays : (width : SampleWidth) (text : List ℕ) (o : typed.Orchestra) (head : Head) (plot : Plot) (r : Result Composition Refusal)
+pub plotted_plays : (width : SampleWidth) (text : Excerpt) (o : typed.Orchestra) (head : Head) (plot : Plot)
+    (r : Result Composition Refusal)
     → score_means head text (Ok plot) → piece_of width o head plot ≡ r → IsPlayedAs width text o head r
 plotted_plays width text o head plot r score piece =
     goes_on (score_means head text) (λ p. Is (piece_of width o head p)) plot r score (sym piece)
 
-pub not_plotted_plays : (width : SampleWidth) (text : List ℕ) (o : typed.Orchestra) (head : Head) (refusal : Refusal)
+pub not_plotted_plays : (width : SampleWidth) (text : Excerpt) (o : typed.Orchestra) (head : Head) (refusal : Refusal)
     → score_means head text (Err refusal) → IsPlayedAs width text o head (Err refusal)
 not_plotted_plays width text o head refusal score =
     refuses (score_means head text) (λ p. Is (piece_of width o head p)) refusal score

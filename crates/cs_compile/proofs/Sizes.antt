@@ -1,8 +1,6 @@
 -- Tables that the events of a plot give under one number have one size, as the statements of its score have.
-use Rattle.std.proofs.Common.{◌≡◌, ℕ, ◌+◌, ℤ, List, [], ◌∷◌, ◌++◌, map, Option, refl, sym, ⊎_elim}
+use Rattle.std.proofs.Common.{◌≡◌, ℕ, ◌+◌, ℤ, List, [], ◌∷◌, ◌++◌, map, Option, refl, sym}
 use Rattle.std.specs.List.{All, AllByRecursion as Each}
-use Rattle.std.specs.Ordering.{is_lt}
-use Rattle.std.proofs.lemmas.Bool.{cases_Bool}
 use Rattle.std.proofs.lemmas.List.Elements.{All-contains, All-from_recursion, recursion_from_All}
 use Rattle.cs_base.specs.declared.head.Head.{Head}
 use Rattle.cs_score.specs.Sizes.{HaveOneSize, IsOneSize}
@@ -12,22 +10,15 @@ use Rattle.cs_score.specs.declared.statement.ScoreWhat.TheVariants.{Note, Hold, 
 use Rattle.cs_piece.specs.Compositions.{Given, given_by, given_in}
 use Rattle.cs_piece.specs.Setups.{AreOfOneSize}
 use Rattle.cs_tempo.specs.declared.plot.Event.{Event}
-use Rattle.cs_tempo.specs.Order.{has_turn, in_order, order_of, put}
+use Rattle.cs_tempo.specs.Order.{in_order}
 use Rattle.cs_tempo.specs.Pairing.{stop_of}
 use Rattle.cs_tempo.specs.Plot.{Setting, acts_of, events_along, events_at, events_from, plot_of, setting_of}
-use Rattle.cs_tempo.specs.Sections.{at_front, ends_section, length_of, sections_of}
-
-each_more : {X : Type 0} (P Q : X → Type 0) → ((x : X) → P x → Q x) → (xs : List X) → Each P xs → Each Q xs
-each_more P Q weaker [] e = tt
-each_more P Q weaker (x ∷ xs) e = (weaker x e.0, each_more P Q weaker xs e.1)
+use Rattle.cs_tempo.specs.Sections.{length_of, sections_of}
+use Rattle.cs_tempo.proofs.Elements.{each_append, each_more, in_order_each, sections_each}
 
 each_both : {X : Type 0} (P Q : X → Type 0) (xs : List X) → Each P xs → Each Q xs → Each (λ x. P x × Q x) xs
 each_both P Q [] d e = tt
 each_both P Q (x ∷ xs) d e = ((d.0, e.0), each_both P Q xs d.1 e.1)
-
-each_append : {X : Type 0} (P : X → Type 0) (xs ys : List X) → Each P xs → Each P ys → Each P (xs ++ ys)
-each_append P [] ys d e = e
-each_append P (x ∷ xs) ys d e = (d.0, each_append P xs ys d.1 e)
 
 each_parts : {X : Type 0} (P : X → Type 0) (xs ys : List X) → Each P (xs ++ ys) → Each P xs × Each P ys
 each_parts P [] ys d = (tt, d)
@@ -35,38 +26,9 @@ each_parts P (x ∷ xs) ys d = let parts = each_parts P xs ys d.1 in ((d.0, part
 
 -- WHAT HOLDS OF EACH STATEMENT holds of each table that an event gives
 
--- the statements of a score go into its sections, and into their order
-
-front_each : (P : ScoreStmt → Type 0) (s : ScoreStmt) (sections : List (List ScoreStmt)) → P s → Each (Each P) sections → Each (Each P) (at_front s sections)
-front_each P s [] p e = ((p, tt), tt)
-front_each P s (first ∷ others) p e = ((p, e.0), e.1)
-
-sections_each : (P : ScoreStmt → Type 0) (score : List ScoreStmt) → Each P score → Each (Each P) (sections_of score)
-unfolding sections_of
-sections_each P [] e = (tt, tt)
-sections_each P (s ∷ later) e =
-    ⊎_elim
-    (λ t. rw t (tt, sections_each P later e.1))
-    (λ f. rw f (front_each P s (sections_of later) e.0 (sections_each P later e.1)))
-    (cases_Bool (ends_section s.what))
-
-put_each : (P : ScoreStmt → Type 0) (s : ScoreStmt) (us : List ScoreStmt) → P s → Each P us → Each P (put s us)
-unfolding put
-put_each P s [] p e = (p, tt)
-put_each P s (u ∷ us) p e =
-    ⊎_elim (λ t. rw t (e.0, put_each P s us p e.1)) (λ f. rw f (p, e)) (cases_Bool (is_lt (order_of u.what s.what)))
-
-order_each : (P : ScoreStmt → Type 0) (section : List ScoreStmt) → Each P section → Each P (in_order section)
-unfolding in_order
-order_each P [] e = tt
-order_each P (s ∷ later) e =
-    ⊎_elim
-    (λ t. rw t (put_each P s (in_order later) e.0 (order_each P later e.1)))
-    (λ f. rw f (order_each P later e.1))
-    (cases_Bool (has_turn s.what))
-
 module _ (P : ScoreWhat → Type 0) (Q : Given → Type 0)
-    (gives : (number at : ℕ) (size gen : ℤ) (args : List ℤ) → P (Table number at size gen args) → Q (record { number = number; size = size; gen = gen; args = args })) where
+    (gives : (number at : ℕ) (size gen : ℤ) (args : List ℤ) → P (Table number at size gen args)
+    → Q (record { number = number; size = size; gen = gen; args = args })) where
   -- of a turn with its events
   turn_each : (set : Setting) (stop : Option ℕ) (at line : ℕ) (w : ScoreWhat) → P w
       → Each Q (given_in (map (λ what. record { cycle = at; line = line; act = what }) (acts_of set stop w)))
@@ -85,23 +47,28 @@ module _ (P : ScoreWhat → Type 0) (Q : Given → Type 0)
       let parts = each_parts Q (given_by x.act) (given_in xs) d in
       each_append Q (given_by x.act) (given_in (xs ++ ys)) parts.0 (given_append xs ys parts.1 e)
 
-  along_each : (set : Setting) (earlier ss : List ScoreStmt) → Each (λ (s : ScoreStmt). P s.what) ss → Each Q (given_in (events_along set earlier ss))
+  along_each : (set : Setting) (earlier ss : List ScoreStmt) → Each (λ (s : ScoreStmt). P s.what) ss
+      → Each Q (given_in (events_along set earlier ss))
   unfolding events_along
   along_each set earlier [] e = tt
   along_each set earlier (s ∷ ss) e =
       given_append (events_at set (stop_of earlier ss s) s) (events_along set (s ∷ earlier) ss)
       (turn_each set (stop_of earlier ss s) _ s.line s.what e.0) (along_each set (s ∷ earlier) ss e.1)
 
-  from_each : (head : Head) (offset : ℕ) (sections : List (List ScoreStmt)) → Each (Each (λ (s : ScoreStmt). P s.what)) sections
+  from_each : (head : Head) (offset : ℕ) (sections : List (List ScoreStmt))
+      → Each (Each (λ (s : ScoreStmt). P s.what)) sections
       → Each Q (given_in (events_from head offset sections))
   unfolding events_from
   from_each head offset [] e = tt
   from_each head offset (section ∷ others) e =
-      given_append (events_along (setting_of head offset section) [] (in_order section)) (events_from head (offset + length_of head section) others)
-      (along_each (setting_of head offset section) [] (in_order section) (order_each (λ (s : ScoreStmt). P s.what) section e.0))
+      given_append (events_along (setting_of head offset section) [] (in_order section))
+      (events_from head (offset + length_of head section) others)
+      (along_each (setting_of head offset section) [] (in_order section)
+      (in_order_each (λ (s : ScoreStmt). P s.what) section e.0))
       (from_each head (offset + length_of head section) others e.1)
 
-  plot_each : (head : Head) (score : List ScoreStmt) → Each (λ (s : ScoreStmt). P s.what) score → All Q (given_in (plot_of head score).events)
+  plot_each : (head : Head) (score : List ScoreStmt) → Each (λ (s : ScoreStmt). P s.what) score
+      → All Q (given_in (plot_of head score).events)
   plot_each head score e =
       All-from_recursion Q (given_in (plot_of head score).events)
       (from_each head 0 (sections_of score) (sections_each (λ (s : ScoreStmt). P s.what) score e))
@@ -142,7 +109,8 @@ all_agree (s ∷ later) h =
     let each : Agrees later s.what = recursion_from_All (λ (u : ScoreStmt). IsOneSize s.what u.what) later h.0 in (
       (same_way s.what, each),
       each_both (λ (u : ScoreStmt). IsOneSize u.what s.what) (λ (u : ScoreStmt). Agrees later u.what) later
-          (each_more (λ (u : ScoreStmt). IsOneSize s.what u.what) (λ (u : ScoreStmt). IsOneSize u.what s.what) (λ u. other_way u.what s.what) later each)
+          (each_more (λ (u : ScoreStmt). IsOneSize s.what u.what) (λ (u : ScoreStmt). IsOneSize u.what s.what) later
+          (λ u. other_way u.what s.what) each)
           (all_agree later h.1),
     )
 
@@ -156,6 +124,8 @@ pub sizes_kept : (head : Head) (score : List ScoreStmt) → HaveOneSize score �
 sizes_kept head score one g h in_g in_h =
     let agree : Agrees score (as_statement g) =
     All-contains (λ x. Agrees score (as_statement x)) (given_in (plot_of head score).events) g
-    (plot_each (Agrees score) (λ x. Agrees score (as_statement x)) (λ number at size gen args a. a) head score (all_agree score one)) in_g in
+    (plot_each (Agrees score) (λ x. Agrees score (as_statement x)) (λ number at size gen args a. a) head score
+    (all_agree score one)) in_g in
     All-contains (λ (x : Given). g.number ≡ x.number → g.size ≡ x.size) (given_in (plot_of head score).events) h
-    (plot_each (IsOneSize (as_statement g)) (λ (x : Given). g.number ≡ x.number → g.size ≡ x.size) (λ number at size gen args a. a) head score agree) in_h
+    (plot_each (IsOneSize (as_statement g)) (λ (x : Given). g.number ≡ x.number → g.size ≡ x.size)
+    (λ number at size gen args a. a) head score agree) in_h

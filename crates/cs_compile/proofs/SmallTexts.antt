@@ -1,8 +1,10 @@
 -- Two small texts, read step by step by the definitions.
-use Rattle.std.proofs.Common.{◌≡◌, ◌∷◌, ◌++◌, ℕ, true, pos, List, [], codes, None, Result, Ok, Err}
+use Rattle.std.proofs.Common.{◌≡◌, ◌∷◌, ◌++◌, ◌+◌, ℕ, true, pos, List, [], codes, None, Result, Ok, Err}
 use Rattle.std.proofs.Common.{refl, ap, sym, subst, arith}
+use Rattle.cs_base.specs.declared.fault.OrcFault.{OrcFault}
 use Rattle.cs_base.specs.declared.fault.OrcKind.TheVariants as orc
 use Rattle.cs_base.specs.declared.head.Head.{Head}
+use Rattle.cs_base.specs.declared.limit.Limit.TheVariants as limit
 use Rattle.cs_base.specs.declared.refusal.Refusal.{Refusal}
 use Rattle.cs_base.specs.declared.refusal.Refusal.TheVariants as why
 use Rattle.cs_base.specs.declared.width.SampleWidth.{SampleWidth}
@@ -15,6 +17,7 @@ use Rattle.cs_words.specs.declared.sign.Sign.TheVariants as sign
 use Rattle.cs_words.specs.declared.word.HeadName.TheVariants as head
 use Rattle.cs_words.specs.declared.word.Keyword.TheVariants as key
 use Rattle.cs_words.specs.declared.word.Word.TheVariants as word
+use Rattle.cs_base.specs.Lines.{Excerpt, excerpt, whole_file}
 use Rattle.cs_lex.specs.Lexed.{LexFault, Lexed, end_of, merged, tokens_after}
 use Rattle.cs_lex.specs.declared.token.Token.{Token}
 use Rattle.cs_lex.proofs.Computed.{got, reads, refuses}
@@ -52,17 +55,17 @@ use Rattle.cs_piece.specs.Compositions.{composition}
 use Rattle.cs_piece_meaning.specs.Heard.{frames_of}
 use Rattle.cs_piece_meaning.specs.Moments.{Composition}
 use Rattle.cs_compile.specs.Meaning.{IsPlayedAs, IsReadAs, IsTypedAs, means, orchestra_means, orchestra_plays, piece_of}
-use Rattle.cs_compile.specs.Meaning.{plotted, refused_as, score_means, short_texts_mean, typed_form}
+use Rattle.cs_compile.specs.Meaning.{no_longer_than, plotted, refused_as, score_means, short_texts_mean, typed_form}
 use Rattle.cs_compile.specs.Worked.{fourth_field, note_of_100, stray_byte, whole}
 use Rattle.cs_compile.proofs.Heads.{made}
 
 -- THE TOKENS of the orchestra, and what they are to the grammar
 
 abbrev tokens : List Token
-tokens = merged true (tokens_after [] (got 40 fourth_field).pieces) ++ end_of fourth_field ∷ []
+tokens = merged true (tokens_after 1 [] (got 40 fourth_field).pieces) ++ end_of (whole_file fourth_field) ∷ []
 
-lexed : Lexed fourth_field tokens
-lexed = reads 40 fourth_field tokens refl refl
+lexed : Lexed (whole_file fourth_field) tokens
+lexed = reads 1 40 fourth_field tokens refl refl
 
 abbrev symbol : ℕ → Kind → List ℕ → Symbol
 symbol line k text = record { kind = k; text = text; line = line }
@@ -210,13 +213,13 @@ expands = refl
 types : ◌≡◌ {A = Result typed.Orchestra Refusal} (Ok typed_orchestra) (typed_form orchestra)
 types = refl
 
-read_as : IsReadAs fourth_field (Ok orchestra)
+read_as : IsReadAs (whole_file fourth_field) (Ok orchestra)
 read_as = record { first = Ok tokens; first_is = lexed; after = parsed }
 
 typed_as : IsTypedAs orchestra (Ok typed_orchestra)
 typed_as = record { first = Ok orchestra; first_is = expands; after = types }
 
-orchestra_is : orchestra_means fourth_field (Ok typed_orchestra)
+orchestra_is : orchestra_means (whole_file fourth_field) (Ok typed_orchestra)
 orchestra_is = record { first = Ok orchestra; first_is = read_as; after = typed_as }
 
 -- THE SCORE
@@ -235,15 +238,17 @@ plot = record {
   cycles = 2;
 }
 
-statements_are : ◌≡◌ {A = Result (List ScoreStmt) Refusal} (Ok statements) (refused_as why.Score (score_of note_of_100))
+statements_are : ◌≡◌ {A = Result (List ScoreStmt) Refusal} (Ok statements)
+    (refused_as why.Score (score_of (whole_file note_of_100)))
 unfolding score_of
 statements_are = refl
 
 plotted_is : ◌≡◌ {A = Result Plot Refusal} (Ok plot) (plotted eight_a_second statements)
-unfolding first_at numbers_of different in_order put acts_of events_along events_from cycle_at length_of sections_of tempo_of cycle_of seconds_of time_along part_of ramp_time beat_length
+unfolding first_at numbers_of different in_order put acts_of events_along events_from cycle_at length_of sections_of
+    tempo_of cycle_of seconds_of time_along part_of ramp_time beat_length
 plotted_is = refl
 
-score_is : score_means eight_a_second note_of_100 (Ok plot)
+score_is : score_means eight_a_second (whole_file note_of_100) (Ok plot)
 score_is = record { first = Ok statements; first_is = statements_are; after = plotted_is }
 
 -- THE PIECE
@@ -256,51 +261,68 @@ piece_is : (width : SampleWidth)
 piece_is TwoBytes = refl
 piece_is ThreeBytes = refl
 
-played_as : (width : SampleWidth) → IsPlayedAs width note_of_100 typed_orchestra eight_a_second (Ok piece)
+played_as : (width : SampleWidth) → IsPlayedAs width (whole_file note_of_100) typed_orchestra eight_a_second (Ok piece)
 played_as width = record { first = Ok plot; first_is = score_is; after = piece_is width }
 
-plays : (width : SampleWidth) → orchestra_plays width note_of_100 typed_orchestra (Ok piece)
+plays : (width : SampleWidth) → orchestra_plays width (whole_file note_of_100) typed_orchestra (Ok piece)
 plays width = record { first = Ok eight_a_second; first_is = refl; after = played_as width }
 
-short_is : (width : SampleWidth) → short_texts_mean width fourth_field note_of_100 (Ok piece)
+short_is : (width : SampleWidth) → short_texts_mean width (whole_file fourth_field) (whole_file note_of_100) (Ok piece)
 short_is width = record { first = Ok typed_orchestra; first_is = orchestra_is; after = plays width }
 
-texts_mean : (width : SampleWidth) → means width fourth_field note_of_100 (Ok piece)
+texts_mean : (width : SampleWidth) → means width (whole_file fourth_field) (whole_file note_of_100) (Ok piece)
 texts_mean width = record {
-  first = Ok fourth_field;
+  first = Ok (whole_file fourth_field);
   first_is = refl;
-  after = record { first = Ok note_of_100; first_is = refl; after = short_is width };
+  after = record { first = Ok (whole_file note_of_100); first_is = refl; after = short_is width };
 }
 
 heard : frames_of piece ≡ whole 100 ∷ whole 100 ∷ []
 heard = refl
 
-pub sounds : (width : SampleWidth) → (c : Composition) × means width fourth_field note_of_100 (Ok c)
+pub sounds : (width : SampleWidth)
+    → (c : Composition) × means width (whole_file fourth_field) (whole_file note_of_100) (Ok c)
     × (c.head ≡ record { sr = 8; ksmps = 1; nchnls = 1; dbfs = whole 32768 })
     × (frames_of c ≡ whole 100 ∷ whole 100 ∷ [])
 sounds width = (piece, texts_mean width, refl, heard)
 
--- A REFUSAL
+-- A REFUSAL for a fault that the tokens of the orchestra have
 
-stray : LexFault stray_byte 2 orc.BadToken
-stray = refuses 40 stray_byte _ _ _ _ refl refl refl
+module _ (width : SampleWidth) (orchestra score : Excerpt) (f : OrcFault)
+    (orchestra_short : Ok orchestra ≡ no_longer_than limit.OrchestraBytes orchestra)
+    (score_short : Ok score ≡ no_longer_than limit.ScoreBytes score) (fault : LexFault orchestra f.line f.kind) where
+  not_read : IsReadAs orchestra (Err (why.Orc f))
+  not_read = record { first = Err (why.Orc f); first_is = fault; after = refl }
 
-abbrev refusal : Refusal
-refusal = why.Orc (record { line = 2; kind = orc.BadToken })
+  not_meant : orchestra_means orchestra (Err (why.Orc f))
+  not_meant = record { first = Err (why.Orc f); first_is = not_read; after = refl }
 
-not_read : IsReadAs stray_byte (Err refusal)
-not_read = record { first = Err refusal; first_is = stray; after = refl }
+  pub fault_meant : means width orchestra score (Err (why.Orc f))
+  fault_meant = record {
+    first = Ok orchestra;
+    first_is = orchestra_short;
+    after = record {
+      first = Ok score;
+      first_is = score_short;
+      after = record { first = Err (why.Orc f); first_is = not_meant; after = refl };
+    };
+  }
 
-not_meant : orchestra_means stray_byte (Err refusal)
-not_meant = record { first = Err refusal; first_is = not_read; after = refl }
+stray : (first : ℕ) → LexFault (excerpt first stray_byte) (1 + first) orc.BadToken
+stray first = refuses first 40 stray_byte _ _ _ _ refl refl refl
 
-pub is_refused : (width : SampleWidth) → means width stray_byte note_of_100 (Err refusal)
-is_refused width = record {
-  first = Ok stray_byte;
-  first_is = refl;
-  after = record {
-    first = Ok note_of_100;
-    first_is = refl;
-    after = record { first = Err refusal; first_is = not_meant; after = refl };
-  };
-}
+-- in a text that begins on any line of its file
+pub is_refused : (first : ℕ) (width : SampleWidth)
+    → means width (excerpt first stray_byte) (whole_file note_of_100)
+    (Err (why.Orc (record { line = 1 + first; kind = orc.BadToken })))
+is_refused first width =
+    fault_meant width (excerpt first stray_byte) (whole_file note_of_100)
+    (record { line = 1 + first; kind = orc.BadToken }) refl refl (stray first)
+
+-- a text whose first byte begins no token, on any line of its file
+pub first_line_refused : (first : ℕ) (width : SampleWidth) (score : Excerpt)
+    → Ok score ≡ no_longer_than limit.ScoreBytes score
+    → means width (excerpt first (codes "@\n")) score (Err (why.Orc (record { line = first; kind = orc.BadToken })))
+first_line_refused first width score short =
+    fault_meant width (excerpt first (codes "@\n")) score (record { line = first; kind = orc.BadToken }) refl short
+    (refuses first 9 (codes "@\n") _ _ _ _ refl refl (let here : first ≡ 0 + first = omega arith in here))

@@ -1,7 +1,8 @@
 -- What calls of defined opcodes in an orchestra's text mean for the piece: each of its instruments does what one of the
 -- text does whose calls have frames of their own.
-use Rattle.std.specs.Prelude.{ℕ, ℤ, pos, ◌≡◌, List, Ok, Some}
+use Rattle.std.specs.Prelude.{ℕ, ℤ, pos, ◌≡◌, Ok, Some}
 use Rattle.std.specs.List.{Contains}
+use Rattle.cs_base.specs.Lines.{Excerpt}
 use Rattle.cs_base.specs.declared.spaces.Spaces.{Spaces}
 use Rattle.cs_compile.specs.Meaning.{IsReadAs}
 use Rattle.cs_grammar.specs.Tree.{Instrument, Orchestra}
@@ -27,7 +28,7 @@ pub record MeansInstrument (W : Type 0) (o : Orchestra) (shared : Shared) (space
 -- The text was read as an orchestra. Each number of its instruments has statements in the piece, and what the piece has
 -- under a number means the instrument of that number. The names that notes share, which no expansion changes, have the
 -- places at which the expanded text gives them.
-pub record MeansCalls (W : Type 0) (text : List ℕ) (c : Composition) : Type 0 where
+pub record MeansCalls (W : Type 0) (text : Excerpt) (c : Composition) : Type 0 where
   pub orchestra : Orchestra
   pub read : IsReadAs text (Ok orchestra)
   pub expansion : Orchestra

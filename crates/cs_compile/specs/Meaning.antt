@@ -1,8 +1,10 @@
 -- What two texts mean: the composition that is performed, or the first refusal, in the order in which refusals are
--- looked for.
-use Rattle.std.specs.Prelude.{ℕ, ◌≡◌, ◌*◌, Bool, nat_lt, List, length, Option, Some, None, Result, Ok, Err, if◌then◌else◌}
+-- looked for. Each refusal has its line in the file in which its text stands.
+use Rattle.std.specs.Prelude.{ℕ, ◌≡◌, ◌*◌, Bool, nat_lt, List, length, Option, Some, None, Result, Ok, Err}
+use Rattle.std.specs.Prelude.{if◌then◌else◌}
 use Rattle.std.specs.Option.{option_or}
 use Rattle.cs_base.specs.Limits.{most_of, most_wav_bytes}
+use Rattle.cs_base.specs.Lines.{Excerpt}
 use Rattle.cs_base.specs.declared.fault.OrcKind.{OrcKind}
 use Rattle.cs_base.specs.declared.head.Head.{Head}
 use Rattle.cs_base.specs.declared.limit.Limit.{Limit}
@@ -52,19 +54,19 @@ abbrev pub passed_if : Limit → Bool → Option LimitHit
 passed_if which b = if b then Some (record { limit = which; line = 0 }) else None
 
 -- a text, unless it has more bytes than a limit lets be
-abbrev pub no_longer_than : Limit → List ℕ → Result (List ℕ) Refusal
-no_longer_than which text = unless_passed (passed_if which (nat_lt (most_of which) (length text))) text
+abbrev pub no_longer_than : Limit → Excerpt → Result Excerpt Refusal
+no_longer_than which text = unless_passed (passed_if which (nat_lt (most_of which) (length text.bytes))) text
 
 -- AN ORCHESTRA by itself: its tokens, their tree, the tree with the calls of defined opcodes expanded, and its typed
 -- form
 
-abbrev pub HasTokens : List ℕ → Result (List Token) Refusal → Type 0
+abbrev pub HasTokens : Excerpt → Result (List Token) Refusal → Type 0
 HasTokens text = IsRead (Lexed text) (LexFault text)
 
-abbrev pub HasTree : List ℕ → List Token → Result tree.Orchestra Refusal → Type 0
-HasTree text tokens = IsRead (Tree text tokens) (ParseFault text tokens)
+abbrev pub HasTree : Excerpt → List Token → Result tree.Orchestra Refusal → Type 0
+HasTree text tokens = IsRead (Tree text.bytes tokens) (ParseFault text.bytes tokens)
 
-abbrev pub IsReadAs : List ℕ → Result tree.Orchestra Refusal → Type 0
+abbrev pub IsReadAs : Excerpt → Result tree.Orchestra Refusal → Type 0
 IsReadAs text = Then (HasTokens text) (HasTree text)
 
 abbrev pub typed_form : tree.Orchestra → Result typed.Orchestra Refusal
@@ -73,7 +75,7 @@ typed_form t = refused_as why.Orc (typing t)
 abbrev pub IsTypedAs : tree.Orchestra → Result typed.Orchestra Refusal → Type 0
 IsTypedAs t = Then (Is (expanding t)) (λ e. Is (typed_form e))
 
-abbrev pub orchestra_means : List ℕ → Result typed.Orchestra Refusal → Type 0
+abbrev pub orchestra_means : Excerpt → Result typed.Orchestra Refusal → Type 0
 orchestra_means text = Then (IsReadAs text) IsTypedAs
 
 -- A SCORE in a piece with this head: its statements, and their plot. All its faults come before its first limit.
@@ -81,7 +83,7 @@ orchestra_means text = Then (IsReadAs text) IsTypedAs
 abbrev pub plotted : Head → List ScoreStmt → Result Plot Refusal
 plotted head score = unless_passed (limit_of head score) (plot_of head score)
 
-abbrev pub score_means : Head → List ℕ → Result Plot Refusal → Type 0
+abbrev pub score_means : Head → Excerpt → Result Plot Refusal → Type 0
 score_means head text = Then (Is (refused_as why.Score (score_of text))) (λ score. Is (plotted head score))
 
 -- A PIECE of an orchestra and a plot, in samples of this width
@@ -104,18 +106,18 @@ HasHead h (Ok head) = typed.header_of_head head ≡ h
 HasHead h (Err r) = ⊥
 
 -- a score that is played by this orchestra
-abbrev pub IsPlayedAs : SampleWidth → List ℕ → typed.Orchestra → Head → Result Composition Refusal → Type 0
+abbrev pub IsPlayedAs : SampleWidth → Excerpt → typed.Orchestra → Head → Result Composition Refusal → Type 0
 IsPlayedAs width score o head = Then (score_means head score) (λ plot. Is (piece_of width o head plot))
 
-abbrev pub orchestra_plays : SampleWidth → List ℕ → typed.Orchestra → Result Composition Refusal → Type 0
+abbrev pub orchestra_plays : SampleWidth → Excerpt → typed.Orchestra → Result Composition Refusal → Type 0
 orchestra_plays width score o = Then (HasHead o.head) (IsPlayedAs width score o)
 
 -- two texts of which neither is too long
-abbrev pub short_texts_mean : SampleWidth → List ℕ → List ℕ → Result Composition Refusal → Type 0
+abbrev pub short_texts_mean : SampleWidth → Excerpt → Excerpt → Result Composition Refusal → Type 0
 short_texts_mean width orchestra score = Then (orchestra_means orchestra) (orchestra_plays width score)
 
 -- TWO TEXTS mean a composition in samples of this width, or have this first refusal.
-abbrev pub means : SampleWidth → List ℕ → List ℕ → Result Composition Refusal → Type 0
+abbrev pub means : SampleWidth → Excerpt → Excerpt → Result Composition Refusal → Type 0
 means width orchestra score =
     Then (Is (no_longer_than limit.OrchestraBytes orchestra)) (λ orc.
     Then (Is (no_longer_than limit.ScoreBytes score)) (λ sco.

@@ -1,5 +1,6 @@
 // What holds of the meaning of every two texts: calls that do nothing, whose contracts are the laws.
-ghost use Rattle.std.specs.Prelude.{◌≡◌, ℕ, List, Result, Ok};
+ghost use Rattle.std.specs.Prelude.{◌≡◌, Result, Ok};
+ghost use Rattle.cs_base.specs.Lines.{Excerpt};
 ghost use Rattle.cs_base.specs.declared.head.Head.{Head};
 ghost use Rattle.cs_base.specs.declared.refusal.Refusal.{Refusal};
 ghost use Rattle.cs_base.specs.declared.width.SampleWidth.{SampleWidth};
@@ -15,11 +16,11 @@ use cs_udo_meaning::expansion_means_calls;
 /// Every two texts have one meaning, in samples of either width: one composition, whose header has its numbers in the
 /// ranges of a head, or one first refusal.
 pub fn texts_have_one_meaning()
-    ensures some { (width : SampleWidth) (orchestra score : List ℕ)
+    ensures some { (width : SampleWidth) (orchestra score : Excerpt)
         → (r : Result Composition Refusal) × means width orchestra score r }
-    ensures one { (width : SampleWidth) (orchestra score : List ℕ) (r s : Result Composition Refusal)
+    ensures one { (width : SampleWidth) (orchestra score : Excerpt) (r s : Result Composition Refusal)
         → means width orchestra score r → means width orchestra score s → r ≡ s }
-    ensures head { (width : SampleWidth) (orchestra score : List ℕ) (c : Composition)
+    ensures head { (width : SampleWidth) (orchestra score : Excerpt) (c : Composition)
         → means width orchestra score (Ok c) → (head : Head) × (header_of_head head ≡ c.head) }
 {
     one_list_of_tokens();
@@ -30,7 +31,7 @@ pub fn texts_have_one_meaning()
 /// calls of defined opcodes have frames of their own: as a note begins and in every control cycle the statements of
 /// the piece do what that instrument does (`MeansFrames` of cs_udo_meaning), in every world with states `W`.
 pub fn pieces_mean_their_calls<W>()
-    ensures { (width : SampleWidth) (orchestra score : List ℕ) (c : Composition)
+    ensures { (width : SampleWidth) (orchestra score : Excerpt) (c : Composition)
         → means width orchestra score (Ok c) → MeansCalls W orchestra c }
 {
     trees_are_well_formed();

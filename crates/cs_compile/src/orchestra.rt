@@ -9,12 +9,13 @@ ghost use Rattle.cs_compile.specs.Meaning.{IsReadAs, IsTypedAs, orchestra_means,
 ghost use Rattle.cs_grammar.specs.Tree as tree;
 ghost use Rattle.cs_grammar.specs.WellFormed.{IsWellFormed};
 ghost use Rattle.cs_name_laws.specs.Names.{NamesWhatThereIs};
+ghost use Rattle.cs_piece.specs.Setups.{AskForFew};
 ghost use Rattle.cs_typed.specs.TypedTree as typed;
 ghost use Rattle.cs_typed.specs.WellRated.{IsWellRated};
 ghost use Rattle.cs_typing.specs.Typing.{typed_of};
 ghost use Rattle.cs_udo.specs.Expanding.{expanding};
 
-use cs_base::{Or, Refusal};
+use cs_base::{Excerpt, Or, Refusal};
 use cs_grammar::{Orc, parse, trees_are_well_formed};
 use cs_lex::lex;
 use cs_name_laws::typed_trees_name_what_there_is;
@@ -24,13 +25,15 @@ use cs_udo::expand;
 use cs_udo_meaning::expansions_can_be_lowered;
 use std::alloc::Global;
 
-/// The typed orchestra that a text of at most 1,048,576 bytes means, or its first refusal by itself.
-pub fn read_orchestra(alloc: Global, text: &[u8]) -> Result<TypedOrc, Or<Refusal>>
-    requires { length text.now ≤ most_orchestra_bytes }
+/// The typed orchestra that a text of at most 1,048,576 bytes means, or its first refusal by itself, with its line in
+/// the file.
+pub fn read_orchestra(alloc: Global, text: &Excerpt) -> Result<TypedOrc, Or<Refusal>>
+    requires { length text.now.bytes ≤ most_orchestra_bytes }
     ensures orchestra { IfOk result (λ o. orchestra_means text.now (Ok (typed.orchestra o))) }
     ensures rated { IfOk result (λ o. IsWellRated (typed.orchestra o)) }
     ensures distinct { IfOk result (λ o. IsDistinct eqb (all_numbers (typed.orchestra o).instrs)) }
     ensures named { IfOk result (λ o. NamesWhatThereIs (typed.orchestra o)) }
+    ensures asks { IfOk result (λ o. AskForFew (typed.orchestra o)) }
     ensures refused { (r : Refusal) → result ≡ Err (or.Fault r) → orchestra_means text.now (Err r) }
 {
     let tree = read_tree(alloc, text)?;
@@ -38,8 +41,8 @@ pub fn read_orchestra(alloc: Global, text: &[u8]) -> Result<TypedOrc, Or<Refusal
 }
 
 // The tree of a text, or the refusal of its first fault.
-fn read_tree(alloc: Global, text: &[u8]) -> Result<Orc, Or<Refusal>>
-    requires { length text.now ≤ most_orchestra_bytes }
+fn read_tree(alloc: Global, text: &Excerpt) -> Result<Orc, Or<Refusal>>
+    requires { length text.now.bytes ≤ most_orchestra_bytes }
     ensures tree { IfOk result (λ orc. IsReadAs text.now (Ok (tree.orchestra orc))) }
     ensures well_formed { IfOk result (λ orc. IsWellFormed (tree.orchestra orc)) }
     ensures refused { (r : Refusal) → result ≡ Err (or.Fault r) → IsReadAs text.now (Err r) }
@@ -57,6 +60,7 @@ fn typed_tree(alloc: Global, orc: Orc) -> Result<TypedOrc, Or<Refusal>>
     ensures rated { IfOk result (λ o. IsWellRated (typed.orchestra o)) }
     ensures distinct { IfOk result (λ o. IsDistinct eqb (all_numbers (typed.orchestra o).instrs)) }
     ensures named { IfOk result (λ o. NamesWhatThereIs (typed.orchestra o)) }
+    ensures asks { IfOk result (λ o. AskForFew (typed.orchestra o)) }
     ensures refused { (r : Refusal) → result ≡ Err (or.Fault r) → IsTypedAs (tree.orchestra orc) (Err r) }
 {
     let whole = expanded(alloc, orc)?;

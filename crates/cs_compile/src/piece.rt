@@ -9,7 +9,7 @@ ghost use Rattle.cs_base.specs.declared.refusal.Refusal.{Refusal};
 ghost use Rattle.cs_code.specs.Lowered.{all_numbers};
 ghost use Rattle.cs_compile.specs.Meaning.{IsPlayedAs, is_too_long, means, piece_of, short_texts_mean};
 ghost use Rattle.cs_name_laws.specs.Names.{NamesWhatThereIs};
-ghost use Rattle.cs_piece.specs.Setups.{AreOfOneSize, composition_of};
+ghost use Rattle.cs_piece.specs.Setups.{AreOfOneSize, AskForFew, composition_of};
 ghost use Rattle.cs_tempo.specs.Performable.{IsPerformable};
 ghost use Rattle.cs_typed.specs.TypedTree as typed;
 ghost use Rattle.cs_typed.specs.WellRated.{IsWellRated};
@@ -18,7 +18,8 @@ ghost use Rattle.cs_wav.specs.Wav.{size_of};
 use crate::orchestra::read_orchestra;
 use crate::score::read_plot;
 use cs_base::{
-    Head, Limit, MOST_ORCHESTRA_BYTES, MOST_SCORE_BYTES, MOST_WAV_BYTES, Or, Refusal, SampleWidth,
+    Excerpt, Head, Limit, MOST_ORCHESTRA_BYTES, MOST_SCORE_BYTES, MOST_WAV_BYTES, Or, Refusal,
+    SampleWidth,
 };
 use cs_piece::Setup;
 use cs_tempo::Plot;
@@ -26,11 +27,11 @@ use cs_typed::TypedOrc;
 use std::alloc::Global;
 
 /// All that the piece of two texts needs to be performed, in samples of this width; or the first refusal of the
-/// texts. A setup's samples fit a sound file.
+/// texts, with its line in the file. A setup's samples fit a sound file.
 pub fn compile(
     alloc: Global,
-    orchestra: &[u8],
-    score: &[u8],
+    orchestra: &Excerpt,
+    score: &Excerpt,
     width: SampleWidth,
 ) -> Result<Setup, Or<Refusal>>
     ensures accepted { IfOk result (λ s. means width orchestra.now score.now (Ok (composition_of s))) }
@@ -39,10 +40,10 @@ pub fn compile(
     // Out of memory alone has no clause.
     ensures refused { (r : Refusal) → result ≡ Err (or.Fault r) → means width orchestra.now score.now (Err r) }
 {
-    if orchestra.len() > MOST_ORCHESTRA_BYTES {
+    if orchestra.bytes().len() > MOST_ORCHESTRA_BYTES {
         return Err(Or::Fault(Refusal::passed(Limit::OrchestraBytes)));
     }
-    if score.len() > MOST_SCORE_BYTES {
+    if score.bytes().len() > MOST_SCORE_BYTES {
         return Err(Or::Fault(Refusal::passed(Limit::ScoreBytes)));
     }
     compile_short(alloc, orchestra, score, width)
@@ -51,12 +52,12 @@ pub fn compile(
 // The same of texts that are not too long.
 fn compile_short(
     alloc: Global,
-    orchestra: &[u8],
-    score: &[u8],
+    orchestra: &Excerpt,
+    score: &Excerpt,
     width: SampleWidth,
 ) -> Result<Setup, Or<Refusal>>
-    requires orchestra { length orchestra.now ≤ most_orchestra_bytes }
-    requires score { length score.now ≤ most_score_bytes }
+    requires orchestra { length orchestra.now.bytes ≤ most_orchestra_bytes }
+    requires score { length score.now.bytes ≤ most_score_bytes }
     ensures accepted { IfOk result (λ s. short_texts_mean width orchestra.now score.now (Ok (composition_of s))) }
     ensures fits { IfOk result (λ s. size_of width
         (s.plot.cycles * s.orchestra.head.ksmps) s.orchestra.head ≤ most_wav_bytes) }
@@ -71,13 +72,14 @@ fn compile_short(
 fn with_score(
     alloc: Global,
     orchestra: TypedOrc,
-    score: &[u8],
+    score: &Excerpt,
     width: SampleWidth,
 ) -> Result<Setup, Or<Refusal>>
     requires rated { IsWellRated (typed.orchestra orchestra) }
     requires distinct { IsDistinct eqb (all_numbers (typed.orchestra orchestra).instrs) }
     requires named { NamesWhatThereIs (typed.orchestra orchestra) }
-    requires score { length score.now ≤ most_score_bytes }
+    requires asks { AskForFew (typed.orchestra orchestra) }
+    requires score { length score.now.bytes ≤ most_score_bytes }
     ensures accepted { IfOk result (λ s. IsPlayedAs width score.now (typed.orchestra orchestra) orchestra.head
         (Ok (composition_of s))) }
     ensures fits { IfOk result (λ s. size_of width
@@ -99,6 +101,7 @@ fn prepared(
     requires rated { IsWellRated (typed.orchestra orchestra) }
     requires distinct { IsDistinct eqb (all_numbers (typed.orchestra orchestra).instrs) }
     requires named { NamesWhatThereIs (typed.orchestra orchestra) }
+    requires asks { AskForFew (typed.orchestra orchestra) }
     requires performable { IsPerformable orchestra.head plot }
     requires sizes { AreOfOneSize plot.events }
     ensures accepted { IfOk result (λ s. piece_of width (typed.orchestra orchestra) orchestra.head plot

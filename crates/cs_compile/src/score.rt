@@ -9,14 +9,14 @@ ghost use Rattle.cs_score.specs.Ranges.{IsInRange};
 ghost use Rattle.cs_piece.specs.Setups.{AreOfOneSize};
 ghost use Rattle.cs_tempo.specs.Performable.{IsPerformable};
 
-use cs_base::{Head, Or, Refusal};
+use cs_base::{Excerpt, Head, Or, Refusal};
 use cs_score::{ScoreStmts, read_score, tables_keep_one_size};
 use cs_tempo::{Plot, schedule};
 use std::alloc::Global;
 
 /// The plot that a text of at most 4,194,304 bytes means in a piece with this head, or its first refusal.
-pub fn read_plot(alloc: Global, text: &[u8], head: &Head) -> Result<Plot, Or<Refusal>>
-    requires { length text.now ≤ most_score_bytes }
+pub fn read_plot(alloc: Global, text: &Excerpt, head: &Head) -> Result<Plot, Or<Refusal>>
+    requires { length text.now.bytes ≤ most_score_bytes }
     ensures plot { IfOk result (λ plot. score_means head.now text.now (Ok plot)) }
     ensures performable { IfOk result (IsPerformable head.now) }
     ensures sizes { IfOk result (λ plot. AreOfOneSize plot.events) }

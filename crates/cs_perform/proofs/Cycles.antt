@@ -13,42 +13,50 @@ use Rattle.cs_cells.specs.Cells.{Cells}
 use Rattle.cs_piece_meaning.specs.Course.{begins, moment_at, next, performed, played_in, serial, turned_off}
 use Rattle.cs_piece_meaning.specs.Heard.{frames_before, mix_in}
 use Rattle.cs_piece_meaning.specs.Moments.{Active, Composition, Moment}
-use Rattle.cs_desk.specs.declared.receipt.Tally.{Tally}
 use Rattle.cs_ir.specs.Waves.{Wave}
+use Rattle.cs_life.proofs.Heard.{heard}
 use Rattle.cs_life.specs.Standing.{Stands}
 use Rattle.cs_life.specs.declared.life.Life.{Life}
 use Rattle.cs_voice.specs.VoiceData.{VoiceData}
+use Rattle.cs_perform.specs.Counted.{AreHeardIn, CountsOn, Receipts}
 use Rattle.cs_perform.specs.inner.Stands.{CountsCycle}
 use Rattle.cs_perform.proofs.Frames.{count_by_both, frames_before_more, length-frames_before, length-mix_in}
-use Rattle.cs_perform.proofs.Standings.{count_active}
 
 -- the moment after a cycle is the one before the next
 pub moment_after : (c : Composition) (n : ℕ)
     → turned_off (performed c (begins c n (moment_at c n))) ≡ moment_at c (n + 1)
 moment_after c n = ap (moment_at c) (let e : suc n ≡ n + 1 = omega arith in e)
 
--- as many notes as began are performed
-length-serial : (c : Composition) (made : List ℕ) (shared : Res → Wave) (active : List Active)
-    → length (serial c made shared active).0 ≡ length active
-length-serial c made shared [] = refl
-length-serial c made shared (a ∷ rest) = ap suc (length-serial c made (next c made shared a).note.world.shared rest)
+-- the voices of a cycle are heard in it
+pub heard_in : (c : Composition) (n : ℕ) (life : Life) (voices : List VoiceData) (cells : Cells)
+    → Stands c life voices cells (performed c (begins c n (moment_at c n))) → AreHeardIn c n voices
+heard_in c n life voices cells st = record {
+  stage = life.stage;
+  flags = life.made.items;
+  cells = cells;
+  stand = st.stand;
+  heard = heard c life voices cells n st;
+}
 
-pub counts_cycle : (c : Composition) (n : ℕ) (life : Life) (voices : List VoiceData) (cells : Cells)
-    (before now : Tally)
-    → Stands c life voices cells (begins c n (moment_at c n)) → now.cycles ≡ before.cycles + 1
-    → now.notes ≡ before.notes + length voices
-    → CountsCycle c n before now
-counts_cycle c n life voices cells before now st cycles notes =
-    let m : Moment = begins c n (moment_at c n) in
-    let same : length (played_in c n) ≡ length voices =
-    length-serial c m.made m.shared m.active ∙ count_active c life voices cells m st in
-    record {
-      cycles = cycles;
-      notes = notes ∙ ap (λ (k : ℕ). before.notes + k) (sym same);
-      few = let few : length voices ≤ most_notes = st.stand.few in omega (arith, same, few);
-    }
+pub counts_cycle : {C : Type 0} (N : C → Receipts → Type 0) (c : Composition) (n : ℕ) (life : Life)
+    (voices : List VoiceData) (cells : Cells) (before now : C)
+    → Stands c life voices cells (performed c (begins c n (moment_at c n))) → CountsOn N before now (voices ∷ [])
+    → CountsCycle N c n before now
+counts_cycle N c n life voices cells before now st counted = record {
+  voices = voices;
+  heard = heard_in c n life voices cells st;
+  counted = counted;
+}
 
 -- NUMBERS
+
+-- there is room to count a cycle, and as much less afterwards
+pub room_left : (room n : ℕ) → n < 2 ^ 32 → 2 ^ 42 ≤ room + n * (most_notes + 1) → most_notes < room
+room_left room n few enough = omega arith
+
+pub room_kept : (before now n : ℕ) → 2 ^ 42 ≤ before + n * (most_notes + 1) → before ≤ now + (most_notes + 1)
+    → 2 ^ 42 ≤ now + (n + 1) * (most_notes + 1)
+room_kept before now n enough less = omega arith
 
 -- the block of a cycle is small
 pub block_small : (k n : ℕ) → k ≤ 4096 → n ≤ 16 → k * n ≤ 65536

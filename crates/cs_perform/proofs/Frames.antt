@@ -2,13 +2,13 @@
 use Rattle.std.proofs.Common.{◌≡◌, ◌≤◌, ℕ, zero, suc, ◌+◌, ◌*◌, ◌-◌, ℤ, Bool, List, [], ◌∷◌, ◌++◌, length, map, sum}
 use Rattle.std.proofs.Common.{refl, ap, sym, ◌∙◌, subst, arith, append_assoc, append-nil, zero-add, cond}
 use Rattle.std.specs.List.{count_by, flat_map, range_with_len, sum_by}
-use Rattle.std.proofs.lemmas.List.{map-append, length-append}
+use Rattle.std.proofs.lemmas.List.{length-append}
 use Rattle.std.proofs.lemmas.List.Concat.{flat_map-append}
 use Rattle.std.proofs.lemmas.List.FromFn.{length-map-range_with_len}
 use Rattle.std.proofs.lemmas.List.Sums.{sum_by-append}
 use Rattle.cs_base.specs.Limits.{most_notes}
 use Rattle.cs_piece_meaning.specs.Course.{played_in}
-use Rattle.cs_piece_meaning.specs.Heard.{frames_before, frames_of, mix_in, notes_before, sum_at}
+use Rattle.cs_piece_meaning.specs.Heard.{frames_before, mix_in, sum_at}
 use Rattle.cs_piece_meaning.specs.Moments.{Composition}
 
 -- one number more
@@ -18,7 +18,7 @@ range_more a (suc n) =
     ap (λ (l : List ℕ). a ∷ l) (range_more (a + 1) n)
     ∙ ap (λ (k : ℕ). (a ∷ range_with_len (a + 1) n) ++ k ∷ []) (let e : (a + 1) + n ≡ a + suc n = omega arith in e)
 
-numbers_more : (n : ℕ) → range_with_len 0 (n + 1) ≡ range_with_len 0 n ++ n ∷ []
+pub numbers_more : (n : ℕ) → range_with_len 0 (n + 1) ≡ range_with_len 0 n ++ n ∷ []
 numbers_more n =
     ap (range_with_len 0) (let e : n + 1 ≡ suc n = omega arith in e) ∙ range_more 0 n
     ∙ ap (λ (k : ℕ). range_with_len 0 n ++ k ∷ []) (let e : 0 + n ≡ n = omega arith in e)
@@ -29,18 +29,8 @@ rows_more {A} f n =
     ap (flat_map f) (numbers_more n) ∙ flat_map-append f (range_with_len 0 n) (n ∷ [])
     ∙ ap (λ (l : List A). flat_map f (range_with_len 0 n) ++ l) (append-nil (f n))
 
-sum_more : (f : ℕ → ℕ) (n : ℕ) → sum (map f (range_with_len 0 (n + 1))) ≡ sum (map f (range_with_len 0 n)) + f n
-sum_more f n =
-    ap (λ (l : List ℕ). sum (map f l)) (numbers_more n)
-    ∙ ap sum (map-append f (range_with_len 0 n) (n ∷ []))
-    ∙ sum_by-append (λ x. x) (map f (range_with_len 0 n)) (f n ∷ [])
-    ∙ (let one : sum (f n ∷ []) ≡ f n = zero-add (f n) in ap (λ (k : ℕ). sum (map f (range_with_len 0 n)) + k) one)
-
 pub frames_before_more : (c : Composition) (n : ℕ) → frames_before c (n + 1) ≡ frames_before c n ++ mix_in c n
 frames_before_more c n = rows_more (mix_in c) n
-
-pub notes_before_more : (c : Composition) (n : ℕ) → notes_before c (n + 1) ≡ notes_before c n + length (played_in c n)
-notes_before_more c n = sum_more (λ k. length (played_in c k)) n
 
 -- a list of rows of one length
 length-rows : {A : Type 0} (f : ℕ → List A) (k : ℕ) → ((x : ℕ) → length (f x) ≡ k) → (xs : List ℕ)
@@ -51,7 +41,7 @@ length-rows f k each (x ∷ xs) =
     ∙ ap (λ (n : ℕ). k + n) (length-rows f k each xs)
     ∙ (let e : k + length xs * k ≡ length (x ∷ xs) * k = omega arith in e)
 
-length-range : (a n : ℕ) → length (range_with_len a n) ≡ n
+pub length-range : (a n : ℕ) → length (range_with_len a n) ≡ n
 length-range a zero = refl
 length-range a (suc n) = ap suc (length-range (a + 1) n)
 

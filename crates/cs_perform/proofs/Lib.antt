@@ -6,6 +6,8 @@ pub mod Loans
 pub mod Performing
 pub mod Pieces
 pub mod Standings
+pub mod Starting
+pub mod Tallies
 pub mod Telling
 pub mod Turning
 pub mod Wholes

@@ -1,17 +1,16 @@
 -- A performance grows cycle by cycle.
-use Rattle.std.proofs.Common.{◌≡◌, ◌≤◌, ◌<◌, ℕ, ◌+◌, ◌*◌, ◌-◌, ◌^◌, ℤ, List, [], ◌++◌, length, refl, ap, sym, ◌∙◌}
-use Rattle.std.proofs.Common.{subst, arith, Err}
+use Rattle.std.proofs.Common.{◌≡◌, ◌≤◌, ◌<◌, ℕ, ◌+◌, ◌-◌, ℤ, List, [], ◌∷◌, ◌++◌, refl, ap, sym, ◌∙◌}
+use Rattle.std.proofs.Common.{subst, arith, Err, append_assoc, append-nil}
+use Rattle.std.specs.List.{AllZip, range_with_len}
 use Rattle.std.specs.Result.{IsErrOf}
-use Rattle.cs_base.specs.Limits.{most_notes}
 use Rattle.cs_base.specs.declared.width.SampleWidth.{SampleWidth}
-use Rattle.cs_piece_meaning.specs.Course.{played_in}
-use Rattle.cs_piece_meaning.specs.Heard.{frames_before, mix_in, notes_before}
+use Rattle.cs_piece_meaning.specs.Heard.{frames_before, mix_in}
 use Rattle.cs_piece_meaning.specs.Moments.{Composition}
-use Rattle.cs_desk.specs.declared.receipt.Tally.{Tally}
 use Rattle.cs_edge.specs.Told.{IsFront}
 use Rattle.cs_edge.specs.Moves.{SinkTold, WroteMore}
 use Rattle.cs_wav.specs.Wav.{samples_of}
 use Rattle.cs_wav.proofs.Files.{samples_of-nil, samples_of-append}
+use Rattle.cs_perform.specs.Counted.{AreHeardIn, CountsOn, Receipts}
 use Rattle.cs_perform.specs.Hearing.{Told, IfWritten}
 use Rattle.cs_perform.specs.Performances.{Lent, Performed}
 use Rattle.cs_perform.specs.declared.order.Output.{Output}
@@ -20,51 +19,61 @@ use Rattle.cs_perform.specs.declared.order.PlayFault.TheVariants as fault
 use Rattle.cs_perform.specs.inner.Plays.{BreaksCycle, PausedOn, PlayedOn, PlayedInPart, PlaysCycle}
 use Rattle.cs_perform.specs.inner.Stands.{CountsCycle}
 use Rattle.cs_perform.proofs.Files.{front_all, front_behind, more_written, none_written}
-use Rattle.cs_perform.proofs.Frames.{frames_before_more, notes_before_more}
+use Rattle.cs_perform.proofs.Frames.{frames_before_more, numbers_more}
 use Rattle.cs_perform.proofs.Telling.{told_nothing, told_twice}
 
-module _ {T W : Type 0} (S : T → List ℤ → Type 0) (c : Composition) where
+-- one pair more
+zip_more : {A B : Type 0} (R : A → B → Type 0) (xs : List A) (ys : List B) (x : A) (y : B) → AllZip R xs ys → R x y
+    → AllZip R (xs ++ x ∷ []) (ys ++ y ∷ [])
+zip_more R [] [] x y p r = (r, tt)
+zip_more R [] (b ∷ ys) x y p r = absurd p
+zip_more R (a ∷ xs) [] x y p r = absurd p
+zip_more R (a ∷ xs) (b ∷ ys) x y p r = (p.0, zip_more R xs ys x y p.1 r)
+
+module _ {T W C : Type 0} (S : T → List ℤ → Type 0) (N : C → Receipts → Type 0) (c : Composition) where
   -- no cycle yet
-  pub performed_none : (a b : Lent T W) → b.taps ≡ a.taps → b.tally ≡ a.tally → Performed S c 0 a b
+  pub performed_none : (a b : Lent T W C) → b.taps ≡ a.taps → b.tally ≡ a.tally → Performed S N c 0 a b
   performed_none a b e f = record {
     told = subst (λ (l : List T). Told S a.taps l []) (sym e) (told_nothing S a.taps);
-    cycles = ap (λ (y : Tally). y.cycles) f ∙ (let none : a.tally.cycles ≡ a.tally.cycles + 0 = omega arith in none);
-    notes = ap (λ (y : Tally). y.notes) f
-        ∙ (let none : a.tally.notes ≡ a.tally.notes + notes_before c 0 = omega arith in none);
+    receipts = [];
+    heard = tt;
+    counted = λ h x. subst (λ (k : C). N k (h ++ [])) (sym f) (subst (N a.tally) (sym (append-nil h)) x);
   }
 
   -- from before the sink was begun on, or until after it was ended
-  pub performed_from : (n : ℕ) (a b d : Lent T W) → b.taps ≡ a.taps → b.tally ≡ a.tally → Performed S c n b d
-      → Performed S c n a d
+  pub performed_from : (n : ℕ) (a b d : Lent T W C) → b.taps ≡ a.taps → b.tally ≡ a.tally → Performed S N c n b d
+      → Performed S N c n a d
   performed_from n a b d e f p = record {
     told = subst (λ (l : List T). Told S l d.taps (frames_before c n)) e p.told;
-    cycles = p.cycles ∙ ap (λ (y : Tally). y.cycles + n) f;
-    notes = p.notes ∙ ap (λ (y : Tally). y.notes + notes_before c n) f;
+    receipts = p.receipts;
+    heard = p.heard;
+    counted = subst (λ (k : C). CountsOn N k d.tally p.receipts) f p.counted;
   }
 
-  pub performed_until : (n : ℕ) (a b d : Lent T W) → d.taps ≡ b.taps → d.tally ≡ b.tally → Performed S c n a b
-      → Performed S c n a d
+  pub performed_until : (n : ℕ) (a b d : Lent T W C) → d.taps ≡ b.taps → d.tally ≡ b.tally → Performed S N c n a b
+      → Performed S N c n a d
   performed_until n a b d e f p = record {
     told = subst (λ (l : List T). Told S a.taps l (frames_before c n)) (sym e) p.told;
-    cycles = ap (λ (y : Tally). y.cycles) f ∙ p.cycles;
-    notes = ap (λ (y : Tally). y.notes) f ∙ p.notes;
+    receipts = p.receipts;
+    heard = p.heard;
+    counted = subst (λ (k : C). CountsOn N a.tally k p.receipts) (sym f) p.counted;
   }
 
   -- one cycle more
-  pub performed_more : (n : ℕ) (a b d : Lent T W) → Performed S c n a b → Told S b.taps d.taps (mix_in c n)
-      → CountsCycle c n b.tally d.tally
-      → Performed S c (n + 1) a d
+  pub performed_more : (n : ℕ) (a b d : Lent T W C) → Performed S N c n a b → Told S b.taps d.taps (mix_in c n)
+      → CountsCycle N c n b.tally d.tally
+      → Performed S N c (n + 1) a d
   performed_more n a b d p told counts =
-      let cycles : d.tally.cycles ≡ b.tally.cycles + 1 = counts.cycles in
-      let notes : d.tally.notes ≡ b.tally.notes + length (played_in c n) = counts.notes in
-      let cycles' : b.tally.cycles ≡ a.tally.cycles + n = p.cycles in
-      let notes' : b.tally.notes ≡ a.tally.notes + notes_before c n = p.notes in
-      let more : notes_before c (n + 1) ≡ notes_before c n + length (played_in c n) = notes_before_more c n in
+      let heard : AllZip (AreHeardIn c) (range_with_len 0 n ++ n ∷ []) (p.receipts ++ counts.voices ∷ []) =
+      zip_more (AreHeardIn c) (range_with_len 0 n) p.receipts n counts.voices p.heard counts.heard in
       record {
         told = subst (Told S a.taps d.taps) (sym (frames_before_more c n))
             (told_twice S a.taps b.taps d.taps (frames_before c n) (mix_in c n) p.told told);
-        cycles = omega (arith, cycles, cycles');
-        notes = omega (arith, notes, notes', more);
+        receipts = p.receipts ++ counts.voices ∷ [];
+        heard = subst (λ (l : List ℕ). AllZip (AreHeardIn c) l (p.receipts ++ counts.voices ∷ [])) (sym (numbers_more n))
+            heard;
+        counted = λ h x. subst (N d.tally) (append_assoc h p.receipts (counts.voices ∷ []))
+            (counts.counted (h ++ p.receipts) (p.counted h x));
       }
 
 -- the samples of one cycle more
@@ -86,43 +95,35 @@ sounds_before c width dbfs n some =
           (samples_more c width dbfs (n - 1)),
     )
 
--- no more than 512 notes a cycle
-few_more : (c : Composition) (n : ℕ) → notes_before c n ≤ n * most_notes → length (played_in c n) ≤ most_notes
-    → notes_before c (n + 1) ≤ (n + 1) * most_notes
-few_more c n few here =
-    let more : notes_before c (n + 1) ≡ notes_before c n + length (played_in c n) = notes_before_more c n in
-    omega (arith, more)
-
-module _ {T W : Type 0} (S : T → List ℤ → Type 0) (tells : W → SinkTold) (c : Composition) (output : Output)
+module _ {T W C : Type 0} (S : T → List ℤ → Type 0) (tells : W → SinkTold) (N : C → Receipts → Type 0)
+    (c : Composition) (output : Output)
     (width : SampleWidth) (dbfs : ℤ) where
   abbrev samples : ℕ → List ℕ
   samples n = samples_of width dbfs (frames_before c n)
 
-  pub played_none : (a : Lent T W) → PlayedOn S tells c output 0 a a (samples 0)
+  pub played_none : (a : Lent T W C) → PlayedOn S tells N c output 0 a a (samples 0)
   played_none a =
       let P : List ℕ → Type 0 = λ bytes. IfWritten tells output a.wav a.wav (λ x y. WroteMore x y bytes) in
       record {
-        performed = performed_none S c a a refl refl;
-        few = omega arith;
+        performed = performed_none S N c a a refl refl;
         written = subst P (sym (samples_of-nil width dbfs)) (none_written tells output a.wav);
       }
 
-  pub played_more : (n : ℕ) (a b d : Lent T W) → PlayedOn S tells c output n a b (samples n)
-      → PlaysCycle S tells c output n b d (samples_of width dbfs (mix_in c n))
-      → PlayedOn S tells c output (n + 1) a d (samples (n + 1))
+  pub played_more : (n : ℕ) (a b d : Lent T W C) → PlayedOn S tells N c output n a b (samples n)
+      → PlaysCycle S tells N c output n b d (samples_of width dbfs (mix_in c n))
+      → PlayedOn S tells N c output (n + 1) a d (samples (n + 1))
   played_more n a b d p more =
       let P : List ℕ → Type 0 = λ bytes. IfWritten tells output a.wav d.wav (λ x y. WroteMore x y bytes) in
       record {
-        performed = performed_more S c n a b d p.performed more.told more.counted;
-        few = few_more c n p.few more.counted.few;
+        performed = performed_more S N c n a b d p.performed more.told more.counted;
         written = subst P (sym (samples_more c width dbfs n))
             (more_written tells output a.wav b.wav d.wav (samples n) (samples_of width dbfs (mix_in c n)) p.written
             more.written);
       }
 
   -- the sink failed in this cycle
-  pub played_stopped : (n : ℕ) (a b d : Lent T W) → n < c.cycles → PlayedOn S tells c output n a b (samples n)
-      → BreaksCycle S tells c output width dbfs n b d → PlayedInPart S tells c output width dbfs a d
+  pub played_stopped : (n : ℕ) (a b d : Lent T W C) → n < c.cycles → PlayedOn S tells N c output n a b (samples n)
+      → BreaksCycle S tells N c output width dbfs n b d → PlayedInPart S tells N c output width dbfs a d
   played_stopped n a b d lt p s = record {
     cycles = n + 1;
     within = omega arith;
@@ -132,57 +133,57 @@ module _ {T W : Type 0} (S : T → List ℤ → Type 0) (tells : W → SinkTold)
     kept = λ some. let last : n + 1 - 1 ≡ n =
         omega arith in subst (λ (k : ℕ). IsFront (samples k) (samples n ++ s.front)) (sym last) (s.front, refl);
     played = record {
-      performed = performed_more S c n a b d p.performed s.played.told s.played.counted;
-      few = few_more c n p.few s.played.counted.few;
+      performed = performed_more S N c n a b d p.performed s.played.told s.played.counted;
       written = more_written tells output a.wav b.wav d.wav (samples n) s.front p.written s.played.written;
     };
   }
 
   -- memory was refused before this cycle
-  played_before : (n : ℕ) (a b d : Lent T W) → n ≤ c.cycles → d ≡ b → PlayedOn S tells c output n a b (samples n)
-      → PlayedInPart S tells c output width dbfs a d
+  played_before : (n : ℕ) (a b d : Lent T W C) → n ≤ c.cycles → d ≡ b → PlayedOn S tells N c output n a b (samples n)
+      → PlayedInPart S tells N c output width dbfs a d
   played_before n a b d le same p = record {
     cycles = n;
     within = le;
     front = samples n;
     is_front = front_all (samples n);
     kept = λ some. sounds_before c width dbfs n some;
-    played = subst (λ (l : Lent T W). PlayedOn S tells c output n a l (samples n)) (sym same) p;
+    played = subst (λ (l : Lent T W C). PlayedOn S tells N c output n a l (samples n)) (sym same) p;
   }
 
-  pub paused_before : (n : ℕ) (a b d : Lent T W) → n ≤ c.cycles → d ≡ b → PlayedOn S tells c output n a b (samples n)
-      → PausedOn S tells c output width dbfs a d
+  pub paused_before : (n : ℕ) (a b d : Lent T W C) → n ≤ c.cycles → d ≡ b → PlayedOn S tells N c output n a b (samples n)
+      → PausedOn S tells N c output width dbfs a d
   paused_before n a b d le same p = record {
     cycles = n;
     within = le;
-    played = subst (λ (l : Lent T W). PlayedOn S tells c output n a l (samples n)) (sym same) p;
+    played = subst (λ (l : Lent T W C). PlayedOn S tells N c output n a l (samples n)) (sym same) p;
   }
 
   -- whatever stopped this cycle
-  pub part_stopped : {A : Type 0} (f : PlayFault) (n : ℕ) (a b d : Lent T W) → n < c.cycles
-      → PlayedOn S tells c output n a b (samples n)
-      → (IsErrOf {T = A} (Err f) fault.Sink → BreaksCycle S tells c output width dbfs n b d)
-      → (IsErrOf {T = A} (Err f) fault.OutOfMemory → d ≡ b) → PlayedInPart S tells c output width dbfs a d
+  pub part_stopped : {A : Type 0} (f : PlayFault) (n : ℕ) (a b d : Lent T W C) → n < c.cycles
+      → PlayedOn S tells N c output n a b (samples n)
+      → (IsErrOf {T = A} (Err f) fault.Sink → BreaksCycle S tells N c output width dbfs n b d)
+      → (IsErrOf {T = A} (Err f) fault.OutOfMemory → d ≡ b) → PlayedInPart S tells N c output width dbfs a d
   part_stopped fault.Sink n a b d lt p broken same = played_stopped n a b d lt p (broken refl)
   part_stopped fault.OutOfMemory n a b d lt p broken same = played_before n a b d (omega arith) (same refl) p
 
 -- A cycle, by what its notes, the taps and the sink did.
-module _ {T W : Type 0} (S : T → List ℤ → Type 0) (tells : W → SinkTold) (c : Composition) (output : Output)
+module _ {T W C : Type 0} (S : T → List ℤ → Type 0) (tells : W → SinkTold) (N : C → Receipts → Type 0)
+    (c : Composition) (output : Output)
     (width : SampleWidth) (dbfs dbfs' : ℤ)
-    (n : ℕ) (mix : List ℤ) (a b : Lent T W) (is : mix ≡ mix_in c n) (same : dbfs' ≡ dbfs)
-    (told : Told S a.taps b.taps mix) (counts : CountsCycle c n a.tally b.tally) where
+    (n : ℕ) (mix : List ℤ) (a b : Lent T W C) (is : mix ≡ mix_in c n) (same : dbfs' ≡ dbfs)
+    (told : Told S a.taps b.taps mix) (counts : CountsCycle N c n a.tally b.tally) where
   samples_are : samples_of width dbfs' mix ≡ samples_of width dbfs (mix_in c n)
   samples_are = ap (λ (d : ℤ). samples_of width d mix) same ∙ ap (samples_of width dbfs) is
 
   plays : (bytes : List ℕ) → IfWritten tells output a.wav b.wav (λ x y. WroteMore x y bytes)
-      → PlaysCycle S tells c output n a b bytes
+      → PlaysCycle S tells N c output n a b bytes
   plays bytes wrote = record { told = subst (Told S a.taps b.taps) is told; counted = counts; written = wrote }
 
   pub plays_cycle : IfWritten tells output a.wav b.wav (λ x y. WroteMore x y (samples_of width dbfs' mix))
-      → PlaysCycle S tells c output n a b (samples_of width dbfs (mix_in c n))
-  plays_cycle wrote = subst (PlaysCycle S tells c output n a b) samples_are (plays (samples_of width dbfs' mix) wrote)
+      → PlaysCycle S tells N c output n a b (samples_of width dbfs (mix_in c n))
+  plays_cycle wrote = subst (PlaysCycle S tells N c output n a b) samples_are (plays (samples_of width dbfs' mix) wrote)
 
   pub breaks_cycle : (front : List ℕ) × IsFront front (samples_of width dbfs' mix)
       × IfWritten tells output a.wav b.wav (λ x y. WroteMore x y front)
-      → BreaksCycle S tells c output width dbfs n a b
+      → BreaksCycle S tells N c output width dbfs n a b
   breaks_cycle s = record { front = s.0; is_front = subst (IsFront s.0) samples_are s.1; played = plays s.0 s.2 }

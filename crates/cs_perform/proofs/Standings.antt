@@ -2,6 +2,7 @@
 use Rattle.std.proofs.Common.{◌≡◌, ◌≤◌, ◌<◌, ℕ, zero, suc, ℤ, pos, List, [], ◌∷◌, length, map, replicate, refl, ap, sym}
 use Rattle.std.proofs.Common.{◌∙◌, subst, arith}
 use Rattle.std.specs.List.{All}
+use Rattle.std.specs.Prelude.{Result, Ok, Err, OnOk}
 use Rattle.std.proofs.lemmas.List.{length-map}
 use Rattle.std.proofs.lemmas.Slice.Zip.{AllZip-long}
 use Rattle.cs_cells.specs.Areas.{word_count, IsFootprint}
@@ -19,8 +20,9 @@ use Rattle.cs_voice.specs.VoiceData.{VoiceData}
 use Rattle.cs_voice.specs.VoiceMeaning.{voice_job}
 use Rattle.cs_desk.specs.declared.course.Course.{Course}
 use Rattle.cs_desk.specs.Courses.{IsCourseOf}
-use Rattle.cs_perform.specs.declared.stand.Stand.{Stand}
-use Rattle.cs_perform.specs.inner.Stands.{IsAt}
+use Rattle.cs_perform.specs.declared.order.Order.{Order}
+use Rattle.cs_perform.specs.declared.recording.Recording.{Recording}
+use Rattle.cs_perform.specs.inner.Recordings.{IsRecordingOf}
 
 -- as many notes play as there are voices, and ends of notes
 pub count_active : (c : Composition) (life : Life) (voices : List VoiceData) (cells : Cells) (m : Moment)
@@ -119,5 +121,12 @@ feet_in_areas s life areas voices cells m is e st all =
     subst P (areas_of_desk s life areas voices cells m is e st) all
 
 -- how all stands, said of what a call took
-pub stands_so : (s : SetupData) (stand : Stand) (m : Moment) → IsAt s stand m → IsAt s stand m
-stands_so s stand m at = at
+pub stands_so : {S : Type 0} (is_at : SetupData → S → Moment → Type 0) (s : SetupData) (sounder : S) (m : Moment)
+    → is_at s sounder m → is_at s sounder m
+stands_so is_at s sounder m at = at
+
+-- what is recorded stays so, whatever comes of the end
+pub still_recorded : {A E : Type 0} (r : Result A E) (s : SetupData) (order : Order) (n : ℕ) (recording : Recording)
+    → IsRecordingOf s order n recording → OnOk r (IsRecordingOf s order n recording)
+still_recorded (Ok x) s order n recording is = is
+still_recorded (Err e) s order n recording is = tt

@@ -15,6 +15,7 @@ use Rattle.cs_edge.specs.Moves.{SinkTold, WroteMore, Wrote, Stopped, Finished}
 use Rattle.cs_piece.specs.Setups.{SetupData, composition_of}
 use Rattle.cs_wav.specs.Wav.{header_bytes, samples_of, size_of, wav_of}
 use Rattle.cs_wav.proofs.Files.{samples_of-append}
+use Rattle.cs_perform.specs.Counted.{Receipts}
 use Rattle.cs_perform.specs.Hearing.{IfWritten}
 use Rattle.cs_perform.specs.Performances.{HasAtLeast, IsPart, IsPaused, IsWhole, Lent, Performed, Performs, file_after}
 use Rattle.cs_perform.specs.Performances.{front_after}
@@ -203,11 +204,12 @@ not_sink e = cc
 not_memory : {A : Type 0} → IsErrOf {T = A} (Err fault.Sink) fault.OutOfMemory → ⊥
 not_memory e = cc
 
-module _ {T W : Type 0} (S : T → List ℤ → Type 0) (tells : W → SinkTold) where
+module _ {T W C : Type 0} (S : T → List ℤ → Type 0) (tells : W → SinkTold)
+    (N : C → Receipts → Type 0) where
   -- the same, of what another call answered
-  pub performs_ok : {A B : Type 0} (s : SetupData) (order : Order) (name : List ℕ) (a b : Lent T W) (x : A) (y : B)
-      → Performs S tells s order name a b (let r : Result A PlayFault = Ok x in r)
-      → Performs S tells s order name a b (let r : Result B PlayFault = Ok y in r)
+  pub performs_ok : {A B : Type 0} (s : SetupData) (order : Order) (name : List ℕ) (a b : Lent T W C) (x : A) (y : B)
+      → Performs S tells N s order name a b (let r : Result A PlayFault = Ok x in r)
+      → Performs S tells N s order name a b (let r : Result B PlayFault = Ok y in r)
   performs_ok s order name a b x y p = record {
     whole = p.whole;
     part = tt;
@@ -215,9 +217,9 @@ module _ {T W : Type 0} (S : T → List ℤ → Type 0) (tells : W → SinkTold)
     sink = λ e. absurd (not_ok y fault.Sink e);
   }
 
-  pub performs_err : {A B : Type 0} (s : SetupData) (order : Order) (name : List ℕ) (a b : Lent T W) (f : PlayFault)
-      → Performs S tells s order name a b (let r : Result A PlayFault = Err f in r)
-      → Performs S tells s order name a b (let r : Result B PlayFault = Err f in r)
+  pub performs_err : {A B : Type 0} (s : SetupData) (order : Order) (name : List ℕ) (a b : Lent T W C) (f : PlayFault)
+      → Performs S tells N s order name a b (let r : Result A PlayFault = Err f in r)
+      → Performs S tells N s order name a b (let r : Result B PlayFault = Err f in r)
   performs_err s order name a b f p = record {
     whole = tt;
     part = p.part;
@@ -226,8 +228,8 @@ module _ {T W : Type 0} (S : T → List ℤ → Type 0) (tells : W → SinkTold)
   }
 
   -- memory was refused before anything was done
-  pub performs_nothing : {A : Type 0} (s : SetupData) (order : Order) (name : List ℕ) (a : Lent T W)
-      → Performs S tells s order name a a (let r : Result A PlayFault = Err fault.OutOfMemory in r)
+  pub performs_nothing : {A : Type 0} (s : SetupData) (order : Order) (name : List ℕ) (a : Lent T W C)
+      → Performs S tells N s order name a a (let r : Result A PlayFault = Err fault.OutOfMemory in r)
   performs_nothing s order name a =
       let c : Composition = composition_of s in
       record {
@@ -235,14 +237,14 @@ module _ {T W : Type 0} (S : T → List ℤ → Type 0) (tells : W → SinkTold)
         part = record {
           cycles = 0;
           within = omega arith;
-          performed = performed_none S c a a refl refl;
+          performed = performed_none S N c a a refl refl;
           written = file_untouched tells order.output a.wav name (file_after c s.orchestra.head order.width 0);
           kept = λ some. absurd (omega arith);
         };
         memory = λ e. record {
           cycles = 0;
           within = omega arith;
-          performed = performed_none S c a a refl refl;
+          performed = performed_none S N c a a refl refl;
           written = file_unbegun tells order.output a.wav name (front_after c s.orchestra.head order.width 0) _
               (refl, refl);
         };
@@ -250,7 +252,7 @@ module _ {T W : Type 0} (S : T → List ℤ → Type 0) (tells : W → SinkTold)
       }
 
   -- from before the sink was begun on
-  module _ (s : SetupData) (order : Order) (name first : List ℕ) (a b : Lent T W) (taps : b.taps ≡ a.taps)
+  module _ (s : SetupData) (order : Order) (name first : List ℕ) (a b : Lent T W C) (taps : b.taps ≡ a.taps)
       (tally : b.tally ≡ a.tally)
       (is : first ≡ header_bytes order.width (length (frames_of (composition_of s)) * bytes_of order.width)
       s.orchestra.head) where
@@ -262,7 +264,7 @@ module _ {T W : Type 0} (S : T → List ℤ → Type 0) (tells : W → SinkTold)
 
     -- the file was begun in part
     part_begun : ((rest : List ℕ) → IfWritten tells order.output a.wav b.wav (λ x y. Stopped x y name (first ++ rest)))
-        → IsPart S tells c head order name a b
+        → IsPart S tells N c head order name a b
     part_begun stopped =
         let sounds : List ℕ = samples_of order.width head.dbfs (frames_before c 0) in
         let f = front_in_file c head order.width 0 in
@@ -271,7 +273,7 @@ module _ {T W : Type 0} (S : T → List ℤ → Type 0) (tells : W → SinkTold)
         record {
           cycles = 0;
           within = omega arith;
-          performed = performed_none S c a b taps tally;
+          performed = performed_none S N c a b taps tally;
           written = subst (λ (l : List ℕ). IfWritten tells order.output a.wav b.wav (λ x y. Stopped x y name l)) same
               (stopped (sounds ++ f.0));
           kept = λ some. absurd (omega arith);
@@ -280,7 +282,7 @@ module _ {T W : Type 0} (S : T → List ℤ → Type 0) (tells : W → SinkTold)
     pub performs_unbegun : {A : Type 0}
         → ((rest : List ℕ) → IfWritten tells order.output a.wav b.wav (λ x y. Stopped x y name (first ++ rest)))
         → order.output ≡ SoundFile → Rose (tells a.wav).faults (tells b.wav).faults
-        → Performs S tells s order name a b (let r : Result A PlayFault = Err fault.Sink in r)
+        → Performs S tells N s order name a b (let r : Result A PlayFault = Err fault.Sink in r)
     performs_unbegun stopped written rose = record {
       whole = tt;
       part = part_begun stopped;
@@ -288,19 +290,19 @@ module _ {T W : Type 0} (S : T → List ℤ → Type 0) (tells : W → SinkTold)
       sink = λ e. (written, rose);
     }
 
-    module _ (begun : IfWritten tells order.output a.wav b.wav (λ x y. Wrote x y name first)) (d : Lent T W) where
+    module _ (begun : IfWritten tells order.output a.wav b.wav (λ x y. Wrote x y name first)) (d : Lent T W C) where
       later : (tells a.wav).faults ≤ (tells b.wav).faults
       later = faults_begun tells order.output a.wav b.wav name first begun
 
       -- some cycles were played
-      part_played : PlayedInPart S tells c order.output order.width head.dbfs b d → IsPart S tells c head order name a d
+      part_played : PlayedInPart S tells N c order.output order.width head.dbfs b d → IsPart S tells N c head order name a d
       part_played p =
           let sounds : List ℕ = samples_of order.width head.dbfs (frames_before c p.cycles) in
           let front : IsFront (first ++ p.front) (first ++ sounds) = front_behind first p.front sounds p.is_front in
           record {
             cycles = p.cycles;
             within = p.within;
-            performed = performed_from S c p.cycles a b d taps tally p.played.performed;
+            performed = performed_from S N c p.cycles a b d taps tally p.played.performed;
             written = file_stopped tells order.output a.wav d.wav name (first ++ p.front)
                 (file_after c head order.width p.cycles)
                 (file_written tells order.output a.wav b.wav d.wav name first p.front begun p.played.written)
@@ -317,14 +319,14 @@ module _ {T W : Type 0} (S : T → List ℤ → Type 0) (tells : W → SinkTold)
           }
 
       -- and memory was refused between two of them
-      paused_between : PausedOn S tells c order.output order.width head.dbfs b d
-          → IsPaused S tells c head order name a d
+      paused_between : PausedOn S tells N c order.output order.width head.dbfs b d
+          → IsPaused S tells N c head order name a d
       paused_between p =
           let sounds : List ℕ = samples_of order.width head.dbfs (frames_before c p.cycles) in
           record {
             cycles = p.cycles;
             within = p.within;
-            performed = performed_from S c p.cycles a b d taps tally p.played.performed;
+            performed = performed_from S N c p.cycles a b d taps tally p.played.performed;
             written = file_paused tells order.output a.wav d.wav name (front_after c head order.width p.cycles) _
                 (subst (λ (l : List ℕ). IfWritten tells order.output a.wav d.wav (λ x y. Wrote x y name (l ++ sounds)))
                 is
@@ -332,11 +334,11 @@ module _ {T W : Type 0} (S : T → List ℤ → Type 0) (tells : W → SinkTold)
           }
 
       pub performs_in_part : {A B : Type 0} (f : PlayFault)
-          → PlayedInPart S tells c order.output order.width head.dbfs b d
-          → (IsErrOf {T = A} (Err f) fault.OutOfMemory → PausedOn S tells c order.output order.width head.dbfs b d)
+          → PlayedInPart S tells N c order.output order.width head.dbfs b d
+          → (IsErrOf {T = A} (Err f) fault.OutOfMemory → PausedOn S tells N c order.output order.width head.dbfs b d)
           → (IsErrOf {T = A} (Err f) fault.Sink
           → (order.output ≡ SoundFile) × Rose (tells b.wav).faults (tells d.wav).faults)
-          → Performs S tells s order name a d (let r : Result B PlayFault = Err f in r)
+          → Performs S tells N s order name a d (let r : Result B PlayFault = Err f in r)
       performs_in_part f part memory sink = record {
         whole = tt;
         part = part_played part;
@@ -345,12 +347,12 @@ module _ {T W : Type 0} (S : T → List ℤ → Type 0) (tells : W → SinkTold)
       }
 
       -- all cycles were played, and it was closed, or not
-      module _ (all : PlayedOn S tells c order.output c.cycles b d (samples_of order.width head.dbfs (frames_of c)))
-          (z : Lent T W)
+      module _ (all : PlayedOn S tells N c order.output c.cycles b d (samples_of order.width head.dbfs (frames_of c)))
+          (z : Lent T W C)
           (taps' : z.taps ≡ d.taps) (tally' : z.tally ≡ d.tally) where
-        performed : Performed S c c.cycles a z
-        performed = performed_until S c c.cycles a d z taps' tally'
-            (performed_from S c c.cycles a b d taps tally all.performed)
+        performed : Performed S N c c.cycles a z
+        performed = performed_until S N c c.cycles a d z taps' tally'
+            (performed_from S N c c.cycles a b d taps tally all.performed)
 
         wrote : IfWritten tells order.output a.wav d.wav
             (λ x y. Wrote x y name (front_after c head order.width c.cycles))
@@ -360,7 +362,7 @@ module _ {T W : Type 0} (S : T → List ℤ → Type 0) (tells : W → SinkTold)
             → OnOk r (IfWritten tells order.output d.wav z.wav (Closes c head order.width))
             → (IsErrOf r fault.Sink → IfWritten tells order.output d.wav z.wav (Breaks c head order.width))
             → (IsErrOf r fault.Sink → (order.output ≡ SoundFile) × Rose (tells d.wav).faults (tells z.wav).faults)
-            → (IsErrOf r fault.OutOfMemory → z.wav ≡ d.wav) → Performs S tells s order name a z r
+            → (IsErrOf r fault.OutOfMemory → z.wav ≡ d.wav) → Performs S tells N s order name a z r
         performs_closed (Ok x) ended broken sink same = record {
           whole = record {
             performed = performed;

@@ -1,3 +1,4 @@
+pub mod Counted
 pub mod Hearing
 pub mod Performances
 pub mod inner

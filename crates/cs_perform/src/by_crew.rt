@@ -2,11 +2,14 @@
 ghost use Rattle.std.specs.Prelude.{◌≡◌};
 ghost use Rattle.cs_perform.specs.Performances.{PerformsPiece, lent};
 ghost use Rattle.cs_perform.specs.inner.Crews.{MayPlay};
+ghost use Rattle.cs_perform.specs.inner.Stands.{MayGoOn};
 
-use crate::loan::Loan;
+use crate::counter::Counter;
+use crate::loan::{Loan, take_back};
 use crate::order::{Outcome, Performance, PlayFault};
-use crate::performance::open;
-use cs_desk::Tally;
+use crate::performance::go_on;
+use crate::sounder::Ensemble;
+use crate::start::Start;
 use cs_edge::{Gate, Sink, Tap};
 use cs_pool::{Crew, Pool};
 use cs_voice::TableAt;
@@ -15,43 +18,51 @@ use std::thread;
 use std::thread::{Scope, Threads};
 
 /// The performance over these tables, by a crew to which sink, taps and tally are lent.
-pub(crate) fn play_by_crew<'a, 'e, 't, K: Sink, R: Threads + Wait + Sync, G: Gate + Sync>(
+pub(crate) fn play_by_crew<
+    'a,
+    'e,
+    't,
+    K: Sink,
+    C: Counter,
+    R: Threads + Wait + Sync,
+    G: Gate + Sync,
+>(
     performance: &Performance<'t>,
     tables: &'t [TableAt<'t>],
     crew: &Crew<'e, R, G>,
     wav: &'a mut K,
     taps: &'a mut Vec<Box<dyn Tap>>,
-    tally: &'a mut Tally,
+    tally: &'a mut C,
 ) -> Result<Outcome, PlayFault>
-    requires { MayPlay performance.now.setup.now performance.now.order tally.old tables.now }
-    ensures { PerformsPiece (λ t h. stands_for t h) K.tells performance.now.setup.now performance.now.order
+    requires { MayPlay performance.now.setup.now performance.now.order (C.room tally.old) tables.now }
+    ensures { PerformsPiece (λ t h. stands_for t h) K.tells C.has_counted
+        performance.now.setup.now performance.now.order
         performance.now.name.now (lent wav.old taps.old.items tally.old) (lent wav.new taps.new.items tally.new)
         result }
 {
+    let Ok(start) = Start::new(performance, tables) else {
+        return Err(PlayFault::OutOfMemory);
+    };
     let loan = Loan { wav, taps, tally };
-    let (played, loan) = play_in_scope(performance, tables, crew, loan);
+    let (played, loan) = play_in_scope(performance, start, crew, loan);
     let Loan { wav, taps, tally } = loan;
     take_back(wav, taps, tally);
     played
 }
 
-/// The loans end: that it is handed all references that came back at once tells what is behind each at its end.
-fn take_back<A, B, C>(a: &mut A, b: &mut B, c: &mut C)
-    ensures { (a.new ≡ a.old) × (b.new ≡ b.old) × (c.new ≡ c.old) }
-{}
-
 /// By a crew in a scope of its own.
-fn play_in_scope<'a, 'e, 't, K: Sink, R: Threads + Wait + Sync, G: Gate + Sync>(
+fn play_in_scope<'a, 'e, 't, K: Sink, C: Counter, R: Threads + Wait + Sync, G: Gate + Sync>(
     performance: &Performance<'t>,
-    tables: &'t [TableAt<'t>],
+    start: Start<'t>,
     crew: &Crew<'e, R, G>,
-    loan: Loan<'a, K>,
-) -> (Result<Outcome, PlayFault>, Loan<'a, K>)
-    requires { MayPlay performance.now.setup.now performance.now.order loan.tally.now tables.now }
+    loan: Loan<'a, K, C>,
+) -> (Result<Outcome, PlayFault>, Loan<'a, K, C>)
+    requires { MayGoOn performance.now.setup.now performance.now.order (C.room loan.tally.now) start }
     ensures same { (result.1.wav.ghost_name ≡ loan.entry.wav.ghost_name)
         × (result.1.taps.ghost_name ≡ loan.entry.taps.ghost_name)
         × (result.1.tally.ghost_name ≡ loan.entry.tally.ghost_name) }
-    ensures performed { PerformsPiece (λ t h. stands_for t h) K.tells performance.now.setup.now performance.now.order
+    ensures performed { PerformsPiece (λ t h. stands_for t h) K.tells C.has_counted
+        performance.now.setup.now performance.now.order
         performance.now.name.now (lent loan.entry.wav.now loan.entry.taps.now.items loan.entry.tally.now)
         (lent result.1.wav.now result.1.taps.now.items result.1.tally.now) result.0 }
 {
@@ -59,37 +70,44 @@ fn play_in_scope<'a, 'e, 't, K: Sink, R: Threads + Wait + Sync, G: Gate + Sync>(
         thread::scope_env(),
         crew.rt,
         move |scope|
-            requires { MayPlay performance.now.setup.now performance.now.order loan.tally.now tables.now }
+            requires { MayGoOn performance.now.setup.now performance.now.order (C.room loan.tally.now) start }
             ensures same { (result.1.wav.ghost_name ≡ loan.entry.wav.ghost_name)
                 × (result.1.taps.ghost_name ≡ loan.entry.taps.ghost_name)
                 × (result.1.tally.ghost_name ≡ loan.entry.tally.ghost_name) }
-            ensures performed { PerformsPiece (λ t h. stands_for t h) K.tells performance.entry.now.setup.now
+            ensures performed { PerformsPiece (λ t h. stands_for t h) K.tells C.has_counted
+                performance.entry.now.setup.now
                 performance.entry.now.order performance.entry.now.name.now
                 (lent loan.entry.wav.now loan.entry.taps.now.items loan.entry.tally.now)
                 (lent result.1.wav.now result.1.taps.now.items result.1.tally.now) result.0 }
-        { play_loan(scope, performance, tables, crew, loan) },
+        { play_loan(scope, performance, start, crew, loan) },
     )
 }
 
 /// By a crew whose helpers are threads of this scope and have ended when it returns.
-fn play_loan<'a, 's, 'e, 't: 's, K: Sink, R: Threads + Wait + Sync, G: Gate + Sync>(
+fn play_loan<'a, 's, 'e, 't: 's, K: Sink, C: Counter, R: Threads + Wait + Sync, G: Gate + Sync>(
     scope: &'s Scope<'s, &'e ()>,
     performance: &Performance<'t>,
-    tables: &'t [TableAt<'t>],
+    start: Start<'t>,
     crew: &Crew<'e, R, G>,
-    loan: Loan<'a, K>,
-) -> (Result<Outcome, PlayFault>, Loan<'a, K>)
-    requires { MayPlay performance.now.setup.now performance.now.order loan.tally.now tables.now }
+    loan: Loan<'a, K, C>,
+) -> (Result<Outcome, PlayFault>, Loan<'a, K, C>)
+    requires { MayGoOn performance.now.setup.now performance.now.order (C.room loan.tally.now) start }
     ensures same { (result.1.wav.ghost_name ≡ loan.entry.wav.ghost_name)
         × (result.1.taps.ghost_name ≡ loan.entry.taps.ghost_name)
         × (result.1.tally.ghost_name ≡ loan.entry.tally.ghost_name) }
-    ensures performed { PerformsPiece (λ t h. stands_for t h) K.tells performance.now.setup.now performance.now.order
+    ensures performed { PerformsPiece (λ t h. stands_for t h) K.tells C.has_counted
+        performance.now.setup.now performance.now.order
         performance.now.name.now (lent loan.entry.wav.now loan.entry.taps.now.items loan.entry.tally.now)
         (lent result.1.wav.now result.1.taps.now.items result.1.tally.now) result.0 }
 {
     let mut loan = loan;
     let mut pool = Pool::new(crew.rt, scope, performance.alloc, crew.workers, crew.gate);
-    let played = open(performance, tables, &mut pool, &mut loan);
+    let Start { stand, recording } = start;
+    let ensemble = Ensemble {
+        runner: &mut pool,
+        stand,
+    };
+    let played = go_on(performance, ensemble, recording, &mut loan);
     pool.close();
     (played, loan)
 }

@@ -1,6 +1,7 @@
 // One control cycle.
-ghost use Rattle.std.specs.Prelude.{◌≡◌, ◌+◌, ◌*◌, ◌≤◌, ◌^◌, ℕ, ℤ, List, ◌++◌, length, IfOk, OnOk, OnErr, IsErrOf};
+ghost use Rattle.std.specs.Prelude.{◌≡◌, ◌+◌, ◌*◌, ◌≤◌, ◌<◌, ℕ, ℤ, List, ◌++◌, length, IfOk, OnOk, OnErr, IsErrOf};
 ghost use Rattle.std.specs.List.{count_by};
+ghost use Rattle.cs_base.specs.Limits.{most_notes};
 ghost use Rattle.cs_base.specs.Widths.{bytes_of};
 ghost use Rattle.cs_piece_meaning.specs.Course.{begins, moment_at};
 ghost use Rattle.cs_piece_meaning.specs.Heard.{mix_in};
@@ -19,50 +20,49 @@ ghost use Rattle.cs_piece.specs.Setups.{composition_of};
 ghost use Rattle.cs_turns.specs.Turns.{line_of, notes_in, turns_in};
 ghost use Rattle.cs_wav.specs.Wav.{is_out_of_range, samples_of};
 
+use crate::counter::Counter;
 use crate::loan::Loan;
 use crate::order::{Order, Performance, PlayFault};
 use crate::performers::Performers;
 use crate::recording::Recording;
+use crate::runner::Runner;
+use crate::sounder::Sounder;
 use crate::stand::Stand;
 use crate::taps::tell;
 use crate::turns::tell_turns;
 use crate::writing::put;
 use cs_base::{Head, OutOfMemory};
-use cs_desk::Tally;
-use cs_edge::{Failed, Gate, Sink, Tap};
-use cs_pool::Pool;
-use cs_voice::Voice;
+use cs_edge::{Failed, Sink, Tap};
 use cs_wav::pcm_block;
-use std::sync::Wait;
-use std::thread::Threads;
 
 /// A cycle is performed, and its samples are written.
-pub(crate) fn play_cycle<'t, K: Sink, R: Threads + Wait + Sync, G: Gate + Sync>(
-    performance: &Performance<'t>,
-    pool: &mut Pool<'_, Voice<'t>, R, G>,
+pub(crate) fn play_cycle<K: Sink, C: Counter, S: Sounder>(
+    performance: &Performance<'_>,
     cycle: u32,
-    stand: Stand<'t>,
+    sounder: S,
     recording: &mut Recording,
-    loan: &mut Loan<'_, K>,
-) -> Result<Stand<'t>, PlayFault>
-    requires at { IsAt performance.now.setup.now stand (moment_at (composition_of performance.now.setup.now) cycle) }
+    loan: &mut Loan<'_, K, C>,
+) -> Result<S, PlayFault>
+    requires at { S.is_at performance.now.setup.now sounder (moment_at (composition_of performance.now.setup.now) cycle) }
     requires recorded { IsRecordingOf performance.now.setup.now performance.now.order cycle recording.old }
-    requires tally { (loan.old.tally.now.cycles ≤ 2 ^ 63) × (loan.old.tally.now.notes ≤ 2 ^ 63) }
-    ensures at { IfOk result (λ next. IsAt performance.now.setup.now next
+    requires room { most_notes < C.room loan.old.tally.now }
+    ensures at { IfOk result (λ next. S.is_at performance.now.setup.now next
         (moment_at (composition_of performance.now.setup.now) (cycle + 1))) }
     ensures recorded { OnOk result (IsRecordingOf performance.now.setup.now performance.now.order (cycle + 1)
         recording.new) }
     ensures played { let s = performance.now.setup.now in let c = composition_of s in
         let order = performance.now.order in
-        OnOk result (PlaysCycle (λ t h. stands_for t h) K.tells c order.output cycle
+        OnOk result (PlaysCycle (λ t h. stands_for t h) K.tells C.has_counted c order.output cycle
         (lent loan.old.wav.now loan.old.taps.now.items loan.old.tally.now)
         (lent loan.new.wav.now loan.new.taps.now.items loan.new.tally.now)
         (samples_of order.width s.orchestra.head.dbfs (mix_in c cycle))) }
     ensures broken { let s = performance.now.setup.now in let order = performance.now.order in
-        IsErrOf result PlayFault.Sink → BreaksCycle (λ t h. stands_for t h) K.tells (composition_of s) order.output
+        IsErrOf result PlayFault.Sink → BreaksCycle (λ t h. stands_for t h) K.tells C.has_counted
+        (composition_of s) order.output
         order.width s.orchestra.head.dbfs cycle
         (lent loan.old.wav.now loan.old.taps.now.items loan.old.tally.now)
         (lent loan.new.wav.now loan.new.taps.now.items loan.new.tally.now) }
+    ensures room { OnOk result (C.room loan.old.tally.now ≤ C.room loan.new.tally.now + (most_notes + 1)) }
     ensures sink { IsErrOf result PlayFault.Sink → (performance.now.order.output ≡ SoundFile)
         × Rose (K.tells loan.old.wav.now).faults (K.tells loan.new.wav.now).faults }
     ensures memory { IsErrOf result PlayFault.OutOfMemory
@@ -72,7 +72,7 @@ pub(crate) fn play_cycle<'t, K: Sink, R: Threads + Wait + Sync, G: Gate + Sync>(
         × (loan.new.taps.ghost_name ≡ loan.old.taps.ghost_name)
         × (loan.new.tally.ghost_name ≡ loan.old.tally.ghost_name) }
 {
-    let Ok(stand) = sound_cycle(performance, pool, cycle, stand, recording, loan.tally) else {
+    let Ok(sounder) = sounder.sound(performance, cycle, recording, loan.tally) else {
         return Err(PlayFault::OutOfMemory);
     };
     let head = &performance.setup.orchestra().head;
@@ -85,45 +85,47 @@ pub(crate) fn play_cycle<'t, K: Sink, R: Threads + Wait + Sync, G: Gate + Sync>(
         loan.wav,
         loan.taps,
     ) else {
-        drop(stand);
+        drop(sounder);
         return Err(PlayFault::Sink);
     };
     let more = u64::from(outside);
     recording.out_of_range += more;
-    Ok(stand)
+    Ok(sounder)
 }
 
-/// The notes of a cycle begin, perform it and leave, and the tally counts it. Its mix is in the block, and its line
-/// of turns behind the others, where they are told.
-fn sound_cycle<'t, R: Threads + Wait + Sync, G: Gate + Sync>(
-    performance: &Performance<'t>,
-    pool: &mut Pool<'_, Voice<'t>, R, G>,
+/// The notes of a cycle begin, perform it and leave, and it is counted. Its mix is in the block, and its line of turns
+/// behind the others, where they are told.
+pub(crate) fn sound_cycle<'t, C: Counter, P: Runner<'t>>(
+    performance: &Performance<'_>,
+    runner: &mut P,
     cycle: u32,
     mut stand: Stand<'t>,
     recording: &mut Recording,
-    tally: &mut Tally,
+    tally: &mut C,
 ) -> Result<Stand<'t>, OutOfMemory>
     requires at { IsAt performance.now.setup.now stand (moment_at (composition_of performance.now.setup.now) cycle) }
     requires mix { length recording.old.mix.items
         ≡ performance.now.setup.now.orchestra.head.ksmps * performance.now.setup.now.orchestra.head.nchnls }
-    requires tally { (tally.old.cycles ≤ 2 ^ 63) × (tally.old.notes ≤ 2 ^ 63) }
+    requires room { most_notes < C.room tally.old }
     ensures at { IfOk result (λ next. IsAt performance.now.setup.now next
         (moment_at (composition_of performance.now.setup.now) (cycle + 1))) }
     ensures heard { OnOk result (recording.new.mix.items ≡ mix_in (composition_of performance.now.setup.now) cycle) }
     ensures turns { let c = composition_of performance.now.setup.now in
         OnOk result (recording.new.turns.items ≡ recording.old.turns.items
         ++ if_told performance.now.order.turns (line_of cycle (turns_in c (notes_in c cycle)))) }
-    ensures counted { OnOk result (CountsCycle (composition_of performance.now.setup.now) cycle tally.old tally.new) }
+    ensures counted { OnOk result (CountsCycle C.has_counted (composition_of performance.now.setup.now) cycle
+        tally.old tally.new) }
+    ensures room { OnOk result (C.room tally.old ≤ C.room tally.new + (most_notes + 1)) }
     ensures memory { OnErr result (tally.new ≡ tally.old) }
     ensures samples { recording.new.samples.items ≡ recording.old.samples.items }
     ensures out_of_range { recording.new.out_of_range ≡ recording.old.out_of_range }
 {
-    let by = Performers::of_next(pool, performance.order.turns);
+    let by = Performers::of_cycle(runner.offers(), performance.order.turns);
     let Ok(()) = prepare(performance, by, cycle, &mut stand, &mut recording.turns) else {
         drop(stand);
         return Err(OutOfMemory);
     };
-    let mut stand = stand.run(pool, by, cycle, tally);
+    let mut stand = stand.run(runner, by, cycle, tally);
     stand.mix_into(&performance.setup.orchestra().head, &mut recording.mix);
     stand.end();
     Ok(stand)

@@ -4,13 +4,8 @@ ghost use Rattle.cs_perform.specs.declared.order.TurnLines.TheVariants.{Untold};
 ghost use Rattle.cs_perform.specs.declared.performers.Performers.TheVariants.{Caller};
 
 use crate::order::TurnLines;
-use cs_edge::Gate;
-use cs_pool::Pool;
-use cs_voice::Voice;
-use std::sync::Wait;
-use std::thread::Threads;
 
-/// By the caller alone, or by the crew, for which there must be a course of the notes.
+/// By the caller alone, or by all who run notes, for whom there must be a course of the notes.
 #[derive(Clone, Copy)]
 pub(crate) enum Performers {
     Caller,
@@ -18,22 +13,19 @@ pub(crate) enum Performers {
 }
 
 impl Performers {
-    /// Those of the next cycle: the crew where the cycle is offered to it, or where its turns are told, which takes a
-    /// course too.
-    pub(crate) fn of_next<R: Threads + Wait + Sync, G: Gate + Sync>(
-        pool: &mut Pool<'_, Voice<'_>, R, G>,
-        lines: TurnLines,
-    ) -> Performers
+    /// Those of a cycle: the crew where the cycle is offered to it, or where its turns are told, which takes a course
+    /// too.
+    pub(crate) fn of_cycle(offered: bool, lines: TurnLines) -> Performers
         ensures { result ≡ Caller → lines ≡ Untold }
     {
         match lines {
             TurnLines::Told => Performers::Crew,
-            TurnLines::Untold => next_of(pool.offers()),
+            TurnLines::Untold => of_offer(offered),
         }
     }
 }
 
-fn next_of(offered: bool) -> Performers {
+fn of_offer(offered: bool) -> Performers {
     if offered {
         Performers::Crew
     } else {

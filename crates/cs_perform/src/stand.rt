@@ -1,5 +1,5 @@
 // All that is kept of a performance from cycle to cycle.
-ghost use Rattle.std.specs.Prelude.{◌≡◌, ◌+◌, ◌*◌, ◌≤◌, ◌^◌, ℕ, [], length, map, pos, replicate, IfOk, OnOk};
+ghost use Rattle.std.specs.Prelude.{◌≡◌, ◌+◌, ◌*◌, ◌≤◌, ◌<◌, ℕ, [], ◌∷◌, length, map, pos, replicate, IfOk, OnOk};
 ghost use Rattle.cs_base.specs.Limits.{most_notes};
 ghost use Rattle.cs_cells.specs.Areas.{word_count};
 ghost use Rattle.cs_piece_meaning.specs.Course.{begins, moment_at, opening, performed, turned_off};
@@ -7,24 +7,23 @@ ghost use Rattle.cs_piece_meaning.specs.Heard.{mix_in};
 ghost use Rattle.cs_piece_meaning.specs.Moments.{Moment};
 ghost use Rattle.cs_desk.specs.Desk.{areas, cells};
 ghost use Rattle.cs_life.specs.Standing.{kept_count};
+ghost use Rattle.cs_perform.specs.Counted.{CountsOn};
 ghost use Rattle.cs_perform.specs.declared.performers.Performers.TheVariants.{Crew};
 ghost use Rattle.cs_perform.specs.inner.Stands.{IsAt, IsReady};
 ghost use Rattle.cs_piece.specs.Setups.{SetupData, composition_of};
 ghost use Rattle.cs_voice.specs.Memory.{table_of};
 ghost use Rattle.cs_voice.specs.VoiceData.{made};
 
+use crate::counter::Counter;
 use crate::performers::Performers;
+use crate::runner::Runner;
 use cs_base::{Head, OutOfMemory};
 use cs_cells::Layout;
-use cs_desk::{Course, Desk, Tally, make_room};
-use cs_edge::Gate;
+use cs_desk::{Course, Desk, make_room};
 use cs_life::{Life, serial_runs_perform, voices_are_heard};
 use cs_piece::Setup;
-use cs_pool::{Pool, run_counted, run_counted_alone};
 use cs_voice::{TableAt, Voice, mix};
 use std::alloc::Global;
-use std::sync::Wait;
-use std::thread::Threads;
 
 /// The number of notes for which there is room at first.
 const FIRST_NOTES: u32 = 16;
@@ -95,22 +94,22 @@ impl<'t> Stand<'t> {
         make_room(alloc, layout, &mut self.desk, notes, edges)
     }
 
-    /// The notes that play perform the cycle, which the tally counts: by the caller alone, whether or not the course
-    /// is theirs, or by the crew.
-    pub fn run<R: Threads + Wait + Sync, G: Gate + Sync>(
+    /// The notes that play perform the cycle, and `tally` counts it by their receipt: by the caller alone, whether or not
+    /// the course is theirs, or by the crew.
+    pub fn run<P: Runner<'t>, C: Counter>(
         self,
-        pool: &mut Pool<'_, Voice<'t>, R, G>,
+        runner: &mut P,
         by: Performers,
         cycle: u32,
-        tally: &mut Tally,
+        tally: &mut C,
     ) -> Stand<'t>
         requires at { (s : SetupData) × (m : Moment) × IsAt s self m }
         requires ready { by ≡ Crew → IsReady self }
-        requires tally { (tally.old.cycles ≤ 2 ^ 63) × (tally.old.notes ≤ 2 ^ 63) }
+        requires room { most_notes < C.room tally.old }
         ensures performed { (s : SetupData) (m : Moment) → IsAt s self.entry m
             → IsAt s result (performed (composition_of s) m) }
-        ensures cycles { tally.new.cycles ≡ tally.old.cycles + 1 }
-        ensures notes { tally.new.notes ≡ tally.old.notes + length self.entry.voices.items }
+        ensures counted { CountsOn C.has_counted tally.old tally.new (result.voices.items ∷ []) }
+        ensures room { C.room tally.old ≤ C.room tally.new + (most_notes + 1) }
     {
         let Stand {
             life,
@@ -121,7 +120,8 @@ impl<'t> Stand<'t> {
         serial_runs_perform();
         match by {
             Performers::Caller => {
-                let (voices, desk) = run_counted_alone(pool, cycle, desk, voices, tally);
+                let (receipt, desk) = runner.run_alone(cycle, desk, voices);
+                let voices = tally.count(receipt);
                 Stand {
                     life,
                     voices,
@@ -131,10 +131,11 @@ impl<'t> Stand<'t> {
             }
             Performers::Crew => {
                 let Course { graph, feet } = course;
-                let (voices, desk, graph) = run_counted(pool, cycle, graph, desk, voices, tally);
+                let (receipt, desk, graph) = runner.run(cycle, graph, desk, voices);
+                let played = tally.count(receipt);
                 Stand {
                     life,
-                    voices,
+                    voices: played,
                     desk,
                     course: Course { graph, feet },
                 }

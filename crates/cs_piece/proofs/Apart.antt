@@ -1,5 +1,6 @@
 -- No two of the tables of a plot have one number.
-use Rattle.std.proofs.Common.{◌≡◌, ℕ, zero, suc, ◌==◌, Bool, true, false, not, List, [], ◌∷◌, map, slice_get, Some, cond, refl, sym, ◌∙◌, ap, subst}
+use Rattle.std.proofs.Common.{◌≡◌, ℕ, zero, suc, ◌==◌, Bool, true, false, not, List, [], ◌∷◌, map, slice_get, Some}
+use Rattle.std.proofs.Common.{cond, refl, sym, ◌∙◌, ap, subst}
 use Rattle.std.specs.List.{filter}
 use Rattle.std.specs.Option.{is_some}
 use Rattle.std.proofs.lemmas.Bool.{eq-eqb}
@@ -43,11 +44,14 @@ module _ {X : Type 0} (f : X → ℕ) where
   none_at n (y ∷ xs) zero x h e = λ same. h.0 (ap f (some_is y x e) ∙ same)
   none_at n (y ∷ xs) (suc k) x h e = none_at n xs k x h.1 e
 
-  pub differ_at : (xs : List X) (p q : ℕ) (x y : X) → Differ f xs → slice_get xs p ≡ Some x → slice_get xs q ≡ Some y → f x ≡ f y → p ≡ q
+  pub differ_at : (xs : List X) (p q : ℕ) (x y : X) → Differ f xs → slice_get xs p ≡ Some x → slice_get xs q ≡ Some y
+      → f x ≡ f y → p ≡ q
   differ_at [] p q x y h e g same = absurd cc
   differ_at (z ∷ xs) zero zero x y h e g same = refl
-  differ_at (z ∷ xs) zero (suc q) x y h e g same = absurd (none_at (f z) xs q y h.0 g (sym same ∙ ap f (sym (some_is z x e))))
-  differ_at (z ∷ xs) (suc p) zero x y h e g same = absurd (none_at (f z) xs p x h.0 e (same ∙ ap f (sym (some_is z y g))))
+  differ_at (z ∷ xs) zero (suc q) x y h e g same =
+      absurd (none_at (f z) xs q y h.0 g (sym same ∙ ap f (sym (some_is z x e))))
+  differ_at (z ∷ xs) (suc p) zero x y h e g same =
+      absurd (none_at (f z) xs p x h.0 e (same ∙ ap f (sym (some_is z y g))))
   differ_at (z ∷ xs) (suc p) (suc q) x y h e g same = ap suc (differ_at xs p q x y h.1 e g same)
 
 module _ {X Y : Type 0} (m : X → Y) (f : Y → ℕ) (g : X → ℕ) (same : (x : X) → f (m x) ≡ g x) where
@@ -57,14 +61,21 @@ module _ {X Y : Type 0} (m : X → Y) (f : Y → ℕ) (g : X → ℕ) (same : (x
 
   pub differ_map : (xs : List X) → Differ g xs → Differ f (map m xs)
   differ_map [] h = tt
-  differ_map (x ∷ xs) h = (subst (λ n. NoneHas f n (map m xs)) (sym (same x)) (none_map (g x) xs h.0), differ_map xs h.1)
+  differ_map (x ∷ xs) h = (
+    subst (λ n. NoneHas f n (map m xs)) (sym (same x)) (none_map (g x) xs h.0),
+    differ_map xs
+        h.1,
+  )
 
 -- the first of each number are of different numbers
-others_left : (x : Given) (gs : List Given) → NoneHas (λ (g : Given). g.number) x.number (filter (λ (h : Given). not (h.number == x.number)) gs)
+others_left : (x : Given) (gs : List Given)
+    → NoneHas (λ (g : Given). g.number) x.number (filter (λ (h : Given). not (h.number == x.number)) gs)
 others_left x [] = tt
 others_left x (g ∷ gs) = by_test (g.number == x.number)
-    (λ e. subst (λ b. NoneHas (λ (h : Given). h.number) x.number (cond (not b) (g ∷ rest) rest)) (sym e) (others_left x gs))
-    (λ e. subst (λ b. NoneHas (λ (h : Given). h.number) x.number (cond (not b) (g ∷ rest) rest)) (sym e) (λ same. clash (g.number == x.number) e (eq-eqb g.number x.number same), others_left x gs))
+    (λ e. subst (λ b. NoneHas (λ (h : Given). h.number) x.number (cond (not b) (g ∷ rest) rest)) (sym e)
+    (others_left x gs))
+    (λ e. subst (λ b. NoneHas (λ (h : Given). h.number) x.number (cond (not b) (g ∷ rest) rest)) (sym e)
+    (λ same. clash (g.number == x.number) e (eq-eqb g.number x.number same), others_left x gs))
   where
     rest : List Given
     rest = filter (λ (h : Given). not (h.number == x.number)) gs
@@ -81,13 +92,16 @@ firsts_differ (x ∷ gs) = (
 
 pub tables_differ : (o : typed.Orchestra) (events : List Event) → Differ (λ (t : Table). t.number) (tables_in o events)
 tables_differ o events =
-    differ_map (table_in o (given_in events)) (λ (t : Table). t.number) (λ (g : Given). g.number) (λ g. refl) (firsts (given_in events)) (firsts_differ (given_in events))
+    differ_map (table_in o (given_in events)) (λ (t : Table). t.number) (λ (g : Given). g.number) (λ g. refl)
+    (firsts (given_in events)) (firsts_differ (given_in events))
 
 pub live_apart : (tables : List Table) → Differ (λ (t : Table). t.number) tables → AreApart (live_in tables)
 live_apart tables h p q t u e g same =
     differ_at (λ (l : LiveTable). l.number) (live_in tables) p q t u
-    (differ_map (λ (x : Table). record { number = x.number; size = x.size }) (λ (l : LiveTable). l.number) (λ (x : Table). x.number) (λ x. refl)
-    (filter (λ (x : Table). not (is_some x.frozen)) tables) (differ_filter (λ (x : Table). x.number) (λ (x : Table). not (is_some x.frozen)) tables h))
+    (differ_map (λ (x : Table). record { number = x.number; size = x.size }) (λ (l : LiveTable). l.number)
+    (λ (x : Table). x.number) (λ x. refl)
+    (filter (λ (x : Table). not (is_some x.frozen)) tables)
+    (differ_filter (λ (x : Table). x.number) (λ (x : Table). not (is_some x.frozen)) tables h))
     e g same
 
 pub apart_in : (o : typed.Orchestra) (events : List Event) → AreApart (live_in (tables_in o events))

@@ -1,5 +1,6 @@
 -- What is given of tables, one more at a time.
-use Rattle.std.proofs.Common.{◌≡◌, ℕ, zero, suc, ◌+◌, ◌==◌, ◌<◌, ◌⊎◌, inl, inr, ⊎_elim, Bool, true, false, not, List, [], ◌∷◌, ◌++◌, length, get_or, slice_set, map, cond, refl, sym, ◌∙◌, ap, subst, arith}
+use Rattle.std.proofs.Common.{◌≡◌, ℕ, zero, suc, ◌+◌, ◌==◌, ◌<◌, ◌⊎◌, inl, inr, ⊎_elim, Bool, true, false, not, List}
+use Rattle.std.proofs.Common.{[], ◌∷◌, ◌++◌, length, get_or, slice_set, map, cond, refl, sym, ◌∙◌, ap, subst, arith}
 use Rattle.std.specs.List.{filter}
 use Rattle.std.proofs.lemmas.Bool.{eq-eqb, eqb-false, eqb-true, ne_eqb, cases_eq}
 use Rattle.std.proofs.lemmas.List.{append-nil, get_or-set_same, get_or-set_other, map-append}
@@ -35,14 +36,16 @@ given_here gs g =
     ∙ ap (λ m. times_given g.number gs + (0 + m)) (cond_yes (g.number == g.number) 1 0 (eq-eqb g.number g.number refl))
     ∙ plus_one (times_given g.number gs)
 
-pub given_else : (n : ℕ) (gs : List Given) (g : Given) → (g.number ≡ n → ⊥) → times_given n (gs ++ g ∷ []) ≡ times_given n gs
+pub given_else : (n : ℕ) (gs : List Given) (g : Given) → (g.number ≡ n → ⊥)
+    → times_given n (gs ++ g ∷ []) ≡ times_given n gs
 given_else n gs g other =
     sum_by-append (λ (h : Given). cond (h.number == n) 1 0) gs (g ∷ [])
     ∙ ap (λ m. times_given n gs + (0 + m)) (cond_no (g.number == n) 1 0 (ne_eqb g.number n other))
     ∙ plus_none (times_given n gs)
 
 -- and with one before all others
-before : (n : ℕ) (x : Given) (gs : List Given) → times_given n (x ∷ gs) ≡ (0 + cond (x.number == n) 1 0) + times_given n gs
+before : (n : ℕ) (x : Given) (gs : List Given)
+    → times_given n (x ∷ gs) ≡ (0 + cond (x.number == n) 1 0) + times_given n gs
 before n x gs = sum_by-append (λ (h : Given). cond (h.number == n) 1 0) (x ∷ []) gs
 
 pub as_next : (n : ℕ) → as_times (suc n) ≡ next_times (as_times n)
@@ -58,7 +61,8 @@ kept_last : (x g : Given) → (x.number == g.number) ≡ false → filter (λ h.
 kept_last x g e = cond_yes (not (g.number == x.number)) (g ∷ []) [] (ap not (turned x.number g.number e))
 
 left_out : (x g : Given) → (x.number == g.number) ≡ true → filter (λ h. not (h.number == x.number)) (g ∷ []) ≡ []
-left_out x g e = cond_no (not (g.number == x.number)) (g ∷ []) [] (ap not (eq-eqb g.number x.number (sym (eqb-true x.number g.number e))))
+left_out x g e = cond_no (not (g.number == x.number)) (g ∷ []) []
+    (ap not (eq-eqb g.number x.number (sym (eqb-true x.number g.number e))))
 
 none_before : (b : Bool) (n : ℕ) → (0 + cond b 1 0) + n ≡ 0 → (b ≡ false) × (n ≡ 0)
 none_before true n e = absurd (omega (arith, e))
@@ -68,7 +72,8 @@ some_later : (b : Bool) (n : ℕ) → b ≡ false → 0 < (0 + cond b 1 0) + n �
 some_later true n e l = absurd cc
 some_later false n e l = omega (arith, l)
 
-pub first_now : (gs : List Given) (g : Given) → times_given g.number gs ≡ 0 → firsts (gs ++ g ∷ []) ≡ firsts gs ++ g ∷ []
+pub first_now : (gs : List Given) (g : Given) → times_given g.number gs ≡ 0
+    → firsts (gs ++ g ∷ []) ≡ firsts gs ++ g ∷ []
 first_now [] g e = refl
 first_now (x ∷ gs) g e =
     let none = none_before (x.number == g.number) (times_given g.number gs) (sym (before g.number x gs) ∙ e) in
@@ -91,7 +96,9 @@ not_first (x ∷ gs) g l = by_test (x.number == g.number)
     ∙ ap (λ s. x ∷ s) (append-nil (filter (λ (h : Given). not (h.number == x.number)) (firsts gs))))
     (λ some. ap (λ s. x ∷ filter (λ (h : Given). not (h.number == x.number)) s) (not_first gs g some))
     (more_or_none (times_given g.number gs)))
-    (λ e. ap (λ s. x ∷ filter (λ (h : Given). not (h.number == x.number)) s) (not_first gs g (some_later (x.number == g.number) (times_given g.number gs) e (subst (λ m. 0 < m) (before g.number x gs) l))))
+    (λ e. ap (λ s. x ∷ filter (λ (h : Given). not (h.number == x.number)) s)
+    (not_first gs g (some_later (x.number == g.number) (times_given g.number gs) e
+    (subst (λ m. 0 < m) (before g.number x gs) l))))
 
 -- what stands for what was given, with one table more
 pub times_more : (ts : List Times) (gs : List Given) (g : Given) → g.number < length ts
@@ -99,9 +106,12 @@ pub times_more : (ts : List Times) (gs : List Given) (g : Given) → g.number < 
     → (t : Times) → t ≡ next_times (times_at ts g.number) → g.number < numbers_end
     → (n : ℕ) → n < numbers_end → times_at (slice_set ts g.number t) n ≡ as_times (times_given n (gs ++ g ∷ []))
 times_more ts gs g within h t is low n l = ⊎_elim
-    (λ (e : n ≡ g.number). subst (λ m. times_at (slice_set ts g.number t) m ≡ as_times (times_given m (gs ++ g ∷ []))) (sym e)
-    (get_or-set_same ts g.number t times.Never within ∙ is ∙ ap next_times (h g.number low) ∙ sym (as_next (times_given g.number gs)) ∙ ap as_times (sym (given_here gs g))))
-    (λ (e : n ≡ g.number → ⊥). get_or-set_other ts g.number n t times.Never e ∙ h n l ∙ ap as_times (sym (given_else n gs g (λ f. e (sym f)))))
+    (λ (e : n ≡ g.number). subst (λ m. times_at (slice_set ts g.number t) m ≡ as_times (times_given m (gs ++ g ∷ [])))
+    (sym e)
+    (get_or-set_same ts g.number t times.Never within ∙ is ∙ ap next_times (h g.number low)
+    ∙ sym (as_next (times_given g.number gs)) ∙ ap as_times (sym (given_here gs g))))
+    (λ (e : n ≡ g.number → ⊥). get_or-set_other ts g.number n t times.Never e ∙ h n l
+    ∙ ap as_times (sym (given_else n gs g (λ f. e (sym f)))))
     (cases_eq n g.number)
 
 -- whether a number was given is told by how often
@@ -114,25 +124,32 @@ given_is : (m : ℕ) → (as_times m ≡ times.Never → ⊥) → 0 < m
 given_is zero e = absurd (e refl)
 given_is (suc m) e = omega arith
 
-pub firsts_more : (xs : List First) (x : First) (gs : List Given) (t : Times) → map given_of xs ≡ firsts gs → t ≡ as_times (times_given (given_of x).number gs) → t ≡ times.Never
+pub firsts_more : (xs : List First) (x : First) (gs : List Given) (t : Times) → map given_of xs ≡ firsts gs
+    → t ≡ as_times (times_given (given_of x).number gs) → t ≡ times.Never
     → map given_of (xs ++ x ∷ []) ≡ firsts (gs ++ given_of x ∷ [])
 firsts_more xs x gs t same is never =
-    map-append given_of xs (x ∷ []) ∙ ap (λ l. l ++ given_of x ∷ []) same ∙ sym (first_now gs (given_of x) (never_is (times_given x.number gs) (sym is ∙ never)))
+    map-append given_of xs (x ∷ []) ∙ ap (λ l. l ++ given_of x ∷ []) same
+    ∙ sym (first_now gs (given_of x) (never_is (times_given x.number gs) (sym is ∙ never)))
 
-pub firsts_same : (xs : List First) (x : First) (gs : List Given) (t : Times) → map given_of xs ≡ firsts gs → t ≡ as_times (times_given (given_of x).number gs) → (t ≡ times.Never → ⊥)
+pub firsts_same : (xs : List First) (x : First) (gs : List Given) (t : Times) → map given_of xs ≡ firsts gs
+    → t ≡ as_times (times_given (given_of x).number gs) → (t ≡ times.Never → ⊥)
     → map given_of xs ≡ firsts (gs ++ given_of x ∷ [])
-firsts_same xs x gs t same is given = same ∙ sym (not_first gs (given_of x) (given_is (times_given x.number gs) (λ e. given (is ∙ e))))
+firsts_same xs x gs t same is given =
+    same ∙ sym (not_first gs (given_of x) (given_is (times_given x.number gs) (λ e. given (is ∙ e))))
 
 -- what stands for what was given, with one table more
-module _ (old new : Firsts) (x : First) (gs : List Given) (t u : Times) (stand : StandFor gs old) (long : length old.times.items ≡ numbers_end) (low : x.number < numbers_end)
-    (is : t ≡ times_at old.times.items x.number) (next : u ≡ next_times t) (times_new : new.times.items ≡ slice_set old.times.items x.number u) where
+module _ (old new : Firsts) (x : First) (gs : List Given) (t u : Times) (stand : StandFor gs old)
+    (long : length old.times.items ≡ numbers_end) (low : x.number < numbers_end)
+    (is : t ≡ times_at old.times.items x.number) (next : u ≡ next_times t)
+    (times_new : new.times.items ≡ slice_set old.times.items x.number u) where
   told : t ≡ as_times (times_given x.number gs)
   told = is ∙ stand.times_are x.number low
 
   times_so : (n : ℕ) → n < numbers_end → times_at new.times.items n ≡ as_times (times_given n (gs ++ given_of x ∷ []))
   times_so n l =
       ap (λ ts. times_at ts n) times_new
-      ∙ times_more old.times.items gs (given_of x) (omega (arith, long, low)) stand.times_are u (next ∙ ap next_times is) low n l
+      ∙ times_more old.times.items gs (given_of x) (omega (arith, long, low)) stand.times_are u
+      (next ∙ ap next_times is) low n l
 
   pub stand_new : new.items.items ≡ old.items.items ++ x ∷ [] → t ≡ times.Never → StandFor (gs ++ given_of x ∷ []) new
   stand_new more never = record {

@@ -101,7 +101,7 @@ module _ (s : Sheet) (playable : IsPlayable s) where
         let w : Same earlier m.world t.world = subst (λ w. Same earlier m.world w) st.world a.world in record {
           sheet = refl;
           locals = λ q below. at m.regs n.regs a.regs q ∙ st.locals q below;
-          kept = λ k below. at m.regs n.regs a.regs _ ∙ st.kept k below;
+          kept = λ p k is. at m.regs n.regs a.regs _ ∙ st.kept p k is;
           units = w.units;
           delays = w.delays;
           outs = w.outs;

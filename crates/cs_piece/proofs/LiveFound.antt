@@ -1,5 +1,6 @@
 -- The live tables of a composition, as a note finds them by their numbers.
-use Rattle.std.proofs.Common.{◌≡◌, ℕ, ℤ, pos, ◌==◌, ◌&&◌, ◌||◌, Bool, true, false, not, List, [], ◌∷◌, length, map, Option, Some, None, cond, if◌then◌else◌, refl, sym, ◌∙◌, ap, subst, arith}
+use Rattle.std.proofs.Common.{◌≡◌, ℕ, ℤ, pos, ◌==◌, ◌&&◌, ◌||◌, Bool, true, false, not, List, [], ◌∷◌, length, map}
+use Rattle.std.proofs.Common.{Option, Some, None, cond, if◌then◌else◌, refl, sym, ◌∙◌, ap, subst, arith}
 use Rattle.std.specs.Int.{is_negative}
 use Rattle.std.specs.List.{filter, list_any}
 use Rattle.std.specs.Option.{is_some}
@@ -38,7 +39,8 @@ none_live n (c ∷ cs) h e = by (not (is_some c.frozen)) (none_live n cs h.1) e
     rest : List Table
     rest = filter (λ (t : Table). not (is_some t.frozen)) cs
 
-    by : (b : Bool) → (any_live n (live_in cs) ≡ true → ⊥) → any_live n (map as_live (cond b (c ∷ rest) rest)) ≡ true → ⊥
+    by : (b : Bool) → (any_live n (live_in cs) ≡ true → ⊥) → any_live n (map as_live (cond b (c ∷ rest) rest)) ≡ true
+        → ⊥
     by true later f = by_test (c.number == n)
         (λ hit. absurd (h.0 (eqb-true c.number n hit)))
         (λ miss. later (or_rest (c.number == n) (any_live n (live_in cs)) miss f))
@@ -57,7 +59,8 @@ rest_is : {X : Type 0} (x y : X) (xs ys : List X) → x ∷ xs ≡ y ∷ ys → 
 rest_is x y xs ys e = cc
 
 -- a live table of the composition is found by its number, made or not
-pub live_found : (ts : List TableAt) (flags : List Bool) (cs : List Table) (n : ℕ) → Differ (λ (t : Table). t.number) cs → map table_of ts ≡ map made cs
+pub live_found : (ts : List TableAt) (flags : List Bool) (cs : List Table) (n : ℕ) → Differ (λ (t : Table). t.number) cs
+    → map table_of ts ≡ map made cs
     → length flags ≡ length ts → any_live n (live_in cs) ≡ true → IsLiveTable (tables_of ts flags) n
 live_found [] flags [] n d e long any = absurd cc
 live_found [] flags (c ∷ cs) n d e long any = absurd cc
@@ -65,7 +68,8 @@ live_found (x ∷ ts) flags [] n d e long any = absurd cc
 live_found (x ∷ ts) [] (c ∷ cs) n d e long any = absurd (omega arith)
 live_found (x ∷ ts) (m ∷ flags) (c ∷ cs) n d e long any =
     by_test (x.number == n) here
-    (later (live_found ts flags cs n d.1 (rest_is (table_of x) (made c) (map table_of ts) (map made cs) e) (omega (arith, long))))
+    (later (live_found ts flags cs n d.1 (rest_is (table_of x) (made c) (map table_of ts) (map made cs) e)
+    (omega (arith, long))))
   where
     rest : List Table
     rest = filter (λ (t : Table). not (is_some t.frozen)) cs
@@ -85,7 +89,8 @@ live_found (x ∷ ts) (m ∷ flags) (c ∷ cs) n d e long any =
         is : c.number ≡ n
         is = number ∙ eqb-true x.number n hit
 
-        by : (b : Bool) → not (is_some c.frozen) ≡ b → any_live n (map as_live (cond b (c ∷ rest) rest)) ≡ true → IsLiveTable (tables_of (x ∷ ts) (m ∷ flags)) n
+        by : (b : Bool) → not (is_some c.frozen) ≡ b → any_live n (map as_live (cond b (c ∷ rest) rest)) ≡ true
+            → IsLiveTable (tables_of (x ∷ ts) (m ∷ flags)) n
         by true live f = record {
           table = table_at x m;
           found = ap found_if (pos_test x.number n ∙ hit);

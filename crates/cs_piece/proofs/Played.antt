@@ -1,5 +1,6 @@
 -- What an instrument's codes touch lies in its areas and in its footprint.
-use Rattle.std.proofs.Common.{◌≡◌, ℕ, zero, suc, ◌<◌, ◌||◌, ◌&&◌, ◌+◌, ◌++◌, Bool, true, not, List, [], ◌∷◌, length, nat_lt, slice_get, Option, Some, None, refl, sym, ◌∙◌, ap, subst, arith}
+use Rattle.std.proofs.Common.{◌≡◌, ℕ, zero, suc, ◌<◌, ◌||◌, ◌&&◌, ◌+◌, ◌++◌, Bool, true, not, List, [], ◌∷◌, length}
+use Rattle.std.proofs.Common.{nat_lt, slice_get, Option, Some, None, refl, sym, ◌∙◌, ap, subst, arith}
 use Rattle.std.specs.List.{All, Contains, list_all}
 use Rattle.std.proofs.lemmas.Bool.{and_parts, and_from, or_left}
 use Rattle.std.proofs.lemmas.Bool.Decides.{nat_tests}
@@ -40,14 +41,16 @@ all_split : (N : Res → Type 0) (gs hs : List Res) → AreNamed N (gs ++ hs) �
 all_split N [] hs h = (tt, h)
 all_split N (g ∷ gs) hs h = let rest = all_split N gs hs h.1 in ((h.0, rest.0), rest.1)
 
-all_with : (N M : Res → Type 0) (gs : List Res) → ((g : Res) → Contains gs g → N g → M g) → AreNamed N gs → AreNamed M gs
+all_with : (N M : Res → Type 0) (gs : List Res) → ((g : Res) → Contains gs g → N g → M g) → AreNamed N gs
+    → AreNamed M gs
 all_with N M [] each h = tt
 all_with N M (g ∷ gs) each h =
     (each g (contains_first g gs) h.0, all_with N M gs (λ x among. each x (contains_rest g x gs among)) h.1)
 
 all_from : (M : Res → Type 0) (gs : List Res) → ((g : Res) → Contains gs g → M g) → AreNamed M gs
 all_from M [] each = tt
-all_from M (g ∷ gs) each = (each g (contains_first g gs), all_from M gs (λ x among. each x (contains_rest g x gs among)))
+all_from M (g ∷ gs) each =
+    (each g (contains_first g gs), all_from M gs (λ x among. each x (contains_rest g x gs among)))
 
 -- ---- ops
 
@@ -56,16 +59,20 @@ saves_value g r [] h = absurd (cc)
 saves_value g r (x ∷ []) h = (and_parts (has_value g) _ h).0
 saves_value g r (x ∷ y ∷ xs) h = absurd (cc)
 
-fine_takes : (counts : Counts) (end place : ℕ) (op : Op) → is_fine counts end place op ≡ true → takes_from op.act op.into.rate op.from ≡ true
+fine_takes : (counts : Counts) (end place : ℕ) (op : Op) → is_fine counts end place op ≡ true
+    → takes_from op.act op.into.rate op.from ≡ true
 fine_takes counts end place op h =
     let own : Bool = not (writes op.act) || has_register counts op.into in
-    (and_parts (own && list_all (has_register counts) op.from && finds counts end place op.act) (takes_from op.act op.into.rate op.from) h).1
+    (and_parts (own && list_all (has_register counts) op.from && finds counts end place op.act)
+    (takes_from op.act op.into.rate op.from) h).1
 
-act_named : (stock : Stock) (channels : ℕ) (units : List UnitKind) (N : Res → Type 0) (a : Act) (r : Rate) (xs : List Reg) → Names channels units a r → takes_from a r xs ≡ true
+act_named : (stock : Stock) (channels : ℕ) (units : List UnitKind) (N : Res → Type 0) (a : Act) (r : Rate)
+    (xs : List Reg) → Names channels units a r → takes_from a r xs ≡ true
     → AreNamed N (act_uses stock a) → ActNamed stock (kinds_of units) N a r
 act_named stock channels units N (act.Load g) r xs names takes h = h.0
 act_named stock channels units N (act.Save g) r xs names takes h = (h.0, saves_value g r xs takes)
-act_named stock channels units N (act.Start opcode u) r xs names takes h = (ap kind_of names, started_shape opcode r xs takes)
+act_named stock channels units N (act.Start opcode u) r xs names takes h =
+    (ap kind_of names, started_shape opcode r xs takes)
 act_named stock channels units N (act.Unit opcode u reach) r xs names takes h = (ap kind_of names, h)
 act_named stock channels units N (act.Store opcode reach) r xs names takes h = h
 act_named stock channels units N (act.Zak opcode reach) r xs names takes h = h
@@ -88,7 +95,8 @@ act_named stock channels units N act.Ask r xs names takes h = tt
 below : (c channels : ℕ) → c < channels → nat_lt c channels ≡ true
 below c channels h = grind (arith, nat_tests)
 
-act_channel : (channels : ℕ) (units : List UnitKind) (a : Act) (r : Rate) → Names channels units a r → has_channel channels a ≡ true
+act_channel : (channels : ℕ) (units : List UnitKind) (a : Act) (r : Rate) → Names channels units a r
+    → has_channel channels a ≡ true
 act_channel channels units (act.Out c) r names = below c channels names
 act_channel channels units (act.Load g) r names = refl
 act_channel channels units (act.Save g) r names = refl
@@ -111,32 +119,41 @@ act_channel channels units act.OutAt r names = refl
 act_channel channels units act.Turnoff r names = refl
 act_channel channels units act.Ask r names = refl
 
-channels_there : (channels : ℕ) (units : List UnitKind) (ops : List Op) → AllNamed channels units ops → have_channels channels ops ≡ true
+channels_there : (channels : ℕ) (units : List UnitKind) (ops : List Op) → AllNamed channels units ops
+    → have_channels channels ops ≡ true
 channels_there channels units [] names = refl
 channels_there channels units (op ∷ ops) names =
     and_from (has_channel channels op.act) (have_channels channels ops)
-    (act_channel channels units op.act op.into.rate (All-head (λ o. Names channels units o.act o.into.rate) op ops names))
+    (act_channel channels units op.act op.into.rate
+    (All-head (λ o. Names channels units o.act o.into.rate) op ops names))
     (channels_there channels units ops (All-tail (λ o. Names channels units o.act o.into.rate) op ops names))
 
-ops_named : (stock : Stock) (channels : ℕ) (units : List UnitKind) (N : Res → Type 0) (counts : Counts) (end place : ℕ) (ops : List Op) → AllNamed channels units ops
+ops_named : (stock : Stock) (channels : ℕ) (units : List UnitKind) (N : Res → Type 0) (counts : Counts) (end place : ℕ)
+    (ops : List Op) → AllNamed channels units ops
     → fine_from counts end place ops ≡ true → AreNamed N (ops_use stock ops) → OpsNamed stock (kinds_of units) N ops
 ops_named stock channels units N counts end place [] names fine h = tt
 ops_named stock channels units N counts end place (op ∷ ops) names fine h =
     let parts = all_split N (act_uses stock op.act) (ops_use stock ops) h in
     let both = and_parts (is_fine counts end place op) (fine_from counts end (place + 1) ops) fine in (
-      act_named stock channels units N op.act op.into.rate op.from (All-head (λ o. Names channels units o.act o.into.rate) op ops names) (fine_takes counts end place op both.0) parts.0,
-      ops_named stock channels units N counts end (place + 1) ops (All-tail (λ o. Names channels units o.act o.into.rate) op ops names) both.1 parts.1,
+      act_named stock channels units N op.act op.into.rate op.from
+          (All-head (λ o. Names channels units o.act o.into.rate) op ops names) (fine_takes counts end place op both.0)
+          parts.0,
+      ops_named stock channels units N counts end (place + 1) ops
+          (All-tail (λ o. Names channels units o.act o.into.rate) op ops names) both.1 parts.1,
     )
 
-ops_written : (stock : Stock) (N : Res → Type 0) (ops : List Op) → AreNamed N (ops_write stock ops) → OpsWritten stock N ops
+ops_written : (stock : Stock) (N : Res → Type 0) (ops : List Op) → AreNamed N (ops_write stock ops)
+    → OpsWritten stock N ops
 ops_written stock N [] h = tt
-ops_written stock N (op ∷ ops) h = let parts = all_split N (act_writes stock op.act) (ops_write stock ops) h in (parts.0, ops_written stock N ops parts.1)
+ops_written stock N (op ∷ ops) h = let parts =
+    all_split N (act_writes stock op.act) (ops_write stock ops) h in (parts.0, ops_written stock N ops parts.1)
 
 -- ---- the footprint
 
 stands_in : (areas : List Area) (place : ℕ) (area : Area) → slice_get areas place ≡ Some area → Contains areas area
 stands_in [] place area e = absurd (cc)
-stands_in (x ∷ areas) zero area e = subst (λ y. Contains (x ∷ areas) y) (let same : x ≡ area = cc in same) (contains_first x areas)
+stands_in (x ∷ areas) zero area e =
+    subst (λ y. Contains (x ∷ areas) y) (let same : x ≡ area = cc in same) (contains_first x areas)
 stands_in (x ∷ areas) (suc place) area e = contains_rest x area areas (stands_in areas place area e)
 
 area_in : (o : Option Area) (a : ℕ) → in_area o a ≡ true → (area : Area) × (o ≡ Some area)
@@ -144,7 +161,8 @@ area_in None a h = absurd (cc)
 area_in (Some area) a h = (area, refl)
 
 -- the places of some resources cover each cell of one of them
-covered : (areas : List Area) (rs : List Res) (g : Res) (area : Area) (a : ℕ) → area_of areas g ≡ Some area → Contains rs g → in_area (Some area) a ≡ true
+covered : (areas : List Area) (rs : List Res) (g : Res) (area : Area) (a : ℕ) → area_of areas g ≡ Some area
+    → Contains rs g → in_area (Some area) a ≡ true
     → covers areas (places_holding areas rs) a ≡ true
 covered areas rs g area a e among inside =
     let p = area_at areas g area e in
@@ -163,7 +181,8 @@ module _ (s : Sheet) (body : typed.Block) (init perf : Code) (h : IsSheetOf s bo
     has.1,
     λ a inside.
         or_left (covers s.areas s.foot.uses a) (covers s.areas s.foot.writes a)
-        (subst (λ places. covers s.areas places a ≡ true) (sym h.uses) (covered s.areas (ops_use stock s.perf) g has.0 a has.1 among inside)),
+        (subst (λ places. covers s.areas places a ≡ true) (sym h.uses)
+        (covered s.areas (ops_use stock s.perf) g has.0 a has.1 among inside)),
   )
 
   written : (g : Res) → Contains (ops_write stock s.perf) g → IsWritten s g
@@ -183,9 +202,11 @@ module _ (s : Sheet) (body : typed.Block) (init perf : Code) (h : IsSheetOf s bo
     stock = stock;
     kinds = kinds_of units;
     placed = h.placed;
-    init_uses = ops_named stock s.piece.head.nchnls units (HasArea s.areas) init.counts (length init.ops.items) 0 s.init init_named
+    init_uses = ops_named stock s.piece.head.nchnls units (HasArea s.areas) init.counts (length init.ops.items) 0 s.init
+        init_named
         (ap (fine_from init.counts (length init.ops.items) 0) h.init_ops ∙ h.code.runs.init_valid) h.init_areas;
-    perf_uses = ops_named stock s.piece.head.nchnls units (IsUsed s) perf.counts (length perf.ops.items) 0 s.perf perf_named
+    perf_uses = ops_named stock s.piece.head.nchnls units (IsUsed s) perf.counts (length perf.ops.items) 0 s.perf
+        perf_named
         (ap (fine_from perf.counts (length perf.ops.items) 0) h.perf_ops ∙ h.code.runs.perf_valid)
         (all_with (HasArea s.areas) (IsUsed s) (ops_use stock s.perf) used h.perf_areas);
     perf_writes = ops_written stock (IsWritten s) s.perf (all_from (IsWritten s) (ops_write stock s.perf) written);
@@ -197,7 +218,8 @@ module _ (s : Sheet) (body : typed.Block) (init perf : Code) (h : IsSheetOf s bo
   means_so : (piece : Piece) → MeansIn (plain piece) h.code.means.plan (core s.piece.spaces body) s.init s.perf
   means_so piece =
       subst (λ ops. MeansIn (plain piece) h.code.means.plan (core s.piece.spaces body) ops s.perf) (sym h.init_ops)
-      (subst (λ ops. MeansIn (plain piece) h.code.means.plan (core s.piece.spaces body) init.ops.items ops) (sym h.perf_ops) (h.code.means.each piece))
+      (subst (λ ops. MeansIn (plain piece) h.code.means.plan (core s.piece.spaces body) init.ops.items ops)
+      (sym h.perf_ops) (h.code.means.each piece))
 
   pub performed_from : Perform h.code.means.plan (kinds_of units) s (core s.piece.spaces body)
   unfolding plays_from

@@ -1,5 +1,7 @@
 -- The instruments of a setup are ready: their notes can begin and perform what their statements say.
-use Rattle.std.proofs.Common.{◌≡◌, ℕ, ℤ, pos, zero, suc, ◌+◌, ⊎_elim, ◌<◌, ◌==◌, ◌||◌, Bool, true, false, List, [], ◌∷◌, ◌++◌, length, nat_lt, slice_get, Option, Some, None, if◌then◌else◌, refl, sym, ◌∙◌, ap, subst, arith}
+use Rattle.std.proofs.Common.{◌≡◌, ℕ, ℤ, pos, zero, suc, ◌+◌, ⊎_elim, ◌<◌, ◌==◌, ◌||◌, Bool, true, false, List, [], ◌∷◌}
+use Rattle.std.proofs.Common.{◌++◌, length, nat_lt, slice_get, Option, Some, None, if◌then◌else◌, refl, sym, ◌∙◌, ap}
+use Rattle.std.proofs.Common.{subst, arith}
 use Rattle.std.specs.List.{AllZip, Contains, cons_option, filter_map, list_any}
 use Rattle.std.specs.List.Sorted.{IsStrictlyIncreasing}
 use Rattle.std.specs.Option.{is_some, option_map}
@@ -29,7 +31,8 @@ use Rattle.cs_piece.specs.Sheets.{IsSheetOf, kinds_of}
 use Rattle.cs_piece.specs.VoicesOfNotes.{Perform}
 use Rattle.cs_cells.specs.Areas.{IsFootprint}
 use Rattle.cs_rwset.proofs.Covering.{ops_written_is_used}
-use Rattle.cs_rwset.proofs.Placed.{contains_first, contains_rest, places_alike, places_ascend, places_of_more, places_within_areas}
+use Rattle.cs_rwset.proofs.Placed.{contains_first, contains_rest, places_alike, places_ascend, places_of_more}
+use Rattle.cs_rwset.proofs.Placed.{places_within_areas}
 use Rattle.cs_rwset.specs.Footprints.{places_holding, stock_of, table_number}
 use Rattle.cs_voice_meaning.specs.Follows.{AreNamed}
 use Rattle.cs_voice_meaning.specs.Placing.{HasArea, area_of}
@@ -69,7 +72,8 @@ either_later : (b t : Bool) → b ≡ false → (b || t) ≡ true → t ≡ true
 either_later true t fails e = absurd cc
 either_later false t fails e = e
 
-other_number : (g : Res) (n : ℕ) (ms : List ℕ) → same_res g (res.Table n) ≡ false → list_any (λ m. m == n) (cons_option (table_number g) ms) ≡ true
+other_number : (g : Res) (n : ℕ) (ms : List ℕ) → same_res g (res.Table n) ≡ false
+    → list_any (λ m. m == n) (cons_option (table_number g) ms) ≡ true
     → list_any (λ m. m == n) ms ≡ true
 other_number (res.Gi m) n ms fails e = e
 other_number (res.Gk m) n ms fails e = e
@@ -80,11 +84,13 @@ other_number (res.Control m) n ms fails e = e
 other_number (res.Sound m) n ms fails e = e
 other_number (res.Table m) n ms fails e = either_later (m == n) (list_any (λ k. k == n) ms) fails e
 
-live_area : (areas : List Area) (n : ℕ) → list_any (λ m. m == n) (filter_map (λ (a : Area). table_number a.res) areas) ≡ true → HasArea areas (res.Table n)
+live_area : (areas : List Area) (n : ℕ)
+    → list_any (λ m. m == n) (filter_map (λ (a : Area). table_number a.res) areas) ≡ true → HasArea areas (res.Table n)
 live_area [] n e = absurd cc
 live_area (a ∷ areas) n e = by_test (same_res a.res (res.Table n))
     (λ holds. head_area a areas (res.Table n) holds)
-    (λ fails. later_area a areas (res.Table n) (live_area areas n (other_number a.res n (filter_map (λ (x : Area). table_number x.res) areas) fails e)))
+    (λ fails. later_area a areas (res.Table n)
+    (live_area areas n (other_number a.res n (filter_map (λ (x : Area). table_number x.res) areas) fails e)))
 
 some_area : (o : Option Area) → is_some o ≡ true → (x : Area) × (o ≡ Some x)
 some_area None e = absurd cc
@@ -92,53 +98,72 @@ some_area (Some x) e = (x, refl)
 
 -- what a piece has, has its area
 has_area : (ksmps : ℕ) (names : SharedNames) (spaces : Spaces) (live : List LiveTable) (g : Res)
-    → is_there names (stock_of (areas_of ksmps names spaces live)) g ≡ true → HasArea (areas_of ksmps names spaces live) g
+    → is_there names (stock_of (areas_of ksmps names spaces live)) g ≡ true
+    → HasArea (areas_of ksmps names spaces live) g
 has_area ksmps names spaces live g e = by g e
   where
     areas : List Area
     areas = areas_of ksmps names spaces live
 
-    by : (h : Res) → is_there names (stock_of (areas_of ksmps names spaces live)) h ≡ true → HasArea (areas_of ksmps names spaces live) h
-    by (res.Gi n) f = some_area (area_of (areas_of ksmps names spaces live) (res.Gi n)) (there ksmps names spaces live (res.Gi n) ∙ f)
-    by (res.Gk n) f = some_area (area_of (areas_of ksmps names spaces live) (res.Gk n)) (there ksmps names spaces live (res.Gk n) ∙ f)
-    by (res.Ga n) f = some_area (area_of (areas_of ksmps names spaces live) (res.Ga n)) (there ksmps names spaces live (res.Ga n) ∙ f)
-    by (res.Control n) f = some_area (area_of (areas_of ksmps names spaces live) (res.Control n)) (there ksmps names spaces live (res.Control n) ∙ f)
-    by (res.Sound n) f = some_area (area_of (areas_of ksmps names spaces live) (res.Sound n)) (there ksmps names spaces live (res.Sound n) ∙ f)
+    by : (h : Res) → is_there names (stock_of (areas_of ksmps names spaces live)) h ≡ true
+        → HasArea (areas_of ksmps names spaces live) h
+    by (res.Gi n) f = some_area (area_of (areas_of ksmps names spaces live) (res.Gi n))
+        (there ksmps names spaces live (res.Gi n) ∙ f)
+    by (res.Gk n) f = some_area (area_of (areas_of ksmps names spaces live) (res.Gk n))
+        (there ksmps names spaces live (res.Gk n) ∙ f)
+    by (res.Ga n) f = some_area (area_of (areas_of ksmps names spaces live) (res.Ga n))
+        (there ksmps names spaces live (res.Ga n) ∙ f)
+    by (res.Control n) f = some_area (area_of (areas_of ksmps names spaces live) (res.Control n))
+        (there ksmps names spaces live (res.Control n) ∙ f)
+    by (res.Sound n) f = some_area (area_of (areas_of ksmps names spaces live) (res.Sound n))
+        (there ksmps names spaces live (res.Sound n) ∙ f)
     by (res.ZakK n) f =
         some_area (area_of (areas_of ksmps names spaces live) (res.ZakK n))
-        (there ksmps names spaces live (res.ZakK n) ∙ ap (λ (s : Spaces). nat_lt n s.control) (sym (spaces_are ksmps names spaces live)) ∙ f)
+        (there ksmps names spaces live (res.ZakK n)
+        ∙ ap (λ (s : Spaces). nat_lt n s.control) (sym (spaces_are ksmps names spaces live)) ∙ f)
     by (res.ZakA n) f =
         some_area (area_of (areas_of ksmps names spaces live) (res.ZakA n))
-        (there ksmps names spaces live (res.ZakA n) ∙ ap (λ (s : Spaces). nat_lt n s.audio) (sym (spaces_are ksmps names spaces live)) ∙ f)
+        (there ksmps names spaces live (res.ZakA n)
+        ∙ ap (λ (s : Spaces). nat_lt n s.audio) (sym (spaces_are ksmps names spaces live)) ∙ f)
     by (res.Table n) f = live_area (areas_of ksmps names spaces live) n f
 
 -- what notes touch is there, as cs_name_laws has it
 abbrev pub TouchWhatIsThere : Type 0
-TouchWhatIsThere = (names : SharedNames) (b : typed.Block) → IsNamedBlock names b → (spaces : Spaces) (stock : Stock) (g : Res)
-    → Contains (block_uses stock (core spaces b) ++ block_begins stock (core spaces b)) g → is_there names stock g ≡ true
+TouchWhatIsThere = (names : SharedNames) (b : typed.Block) → IsNamedBlock names b
+    → (spaces : Spaces) (stock : Stock) (g : Res)
+    → Contains (block_uses stock (core spaces b) ++ block_begins stock (core spaces b)) g
+    → is_there names stock g ≡ true
 
 -- What is ready of an instrument in a piece with such zak spaces and so many channels.
 record IsReady (stage : Stage) (i : Numbered) (foot : Footprint) (spaces : Spaces) (body : typed.Block) : Type 0 where
   pub plan : Plan
-  pub playable : (age : ℕ) (flags : List Bool) (fields : List ℤ) → length flags ≡ length stage.tables.now → IsPlayable (sheet_at i age foot stage flags fields)
+  pub playable : (age : ℕ) (flags : List Bool) (fields : List ℤ) → length flags ≡ length stage.tables.now
+      → IsPlayable (sheet_at i age foot stage flags fields)
   pub performs : (age : ℕ) (flags : List Bool) (fields : List ℤ) → length flags ≡ length stage.tables.now
-      → Perform plan (kinds_of (block_units (core spaces body))) (sheet_at i age foot stage flags fields) (core spaces body)
+      → Perform plan (kinds_of (block_units (core spaces body))) (sheet_at i age foot stage flags fields)
+      (core spaces body)
 
-module _ (c : SetupData) (stage : Stage) (is_stage : IsStageOf (composition_of c) stage) (i : Numbered) (foot : Footprint) (body : typed.Block)
+module _ (c : SetupData) (stage : Stage) (is_stage : IsStageOf (composition_of c) stage) (i : Numbered)
+    (foot : Footprint) (body : typed.Block)
     (feet : IsFootOf stage.layout.now i.perf foot)
-    (named : (g : Res) → (spaces : Spaces) → Contains (block_uses (stock_of stage.layout.now) (core spaces body) ++ block_begins (stock_of stage.layout.now) (core spaces body)) g → HasArea stage.layout.now g) where
+    (named : (g : Res) → (spaces : Spaces)
+    → Contains (block_uses (stock_of stage.layout.now) (core spaces body)
+    ++ block_begins (stock_of stage.layout.now) (core spaces body)) g → HasArea stage.layout.now g) where
   -- what statements use in a cycle, and as a note begins
-  uses_there : (spaces : Spaces) (g : Res) → Contains (block_uses (stock_of stage.layout.now) (core spaces body)) g → HasArea stage.layout.now g
+  uses_there : (spaces : Spaces) (g : Res) → Contains (block_uses (stock_of stage.layout.now) (core spaces body)) g
+      → HasArea stage.layout.now g
   uses_there spaces g k =
       named g spaces (Contains-append_left (block_uses (stock_of stage.layout.now) (core spaces body))
       (block_begins (stock_of stage.layout.now) (core spaces body)) g k)
 
-  begins_there : (spaces : Spaces) (g : Res) → Contains (block_begins (stock_of stage.layout.now) (core spaces body)) g → HasArea stage.layout.now g
+  begins_there : (spaces : Spaces) (g : Res) → Contains (block_begins (stock_of stage.layout.now) (core spaces body)) g
+      → HasArea stage.layout.now g
   begins_there spaces g k =
       named g spaces (Contains-append_right (block_uses (stock_of stage.layout.now) (core spaces body))
       (block_begins (stock_of stage.layout.now) (core spaces body)) g k)
 
-  sheet_of : IsCodeOf stage.spaces stage.head.now.nchnls body i.init i.perf → (age : ℕ) (flags : List Bool) (fields : List ℤ)
+  sheet_of : IsCodeOf stage.spaces stage.head.now.nchnls body i.init i.perf
+      → (age : ℕ) (flags : List Bool) (fields : List ℤ)
       → length flags ≡ length stage.tables.now → IsSheetOf (sheet_at i age foot stage flags fields) body i.init i.perf
   sheet_of code age flags fields long = record {
     code = code;
@@ -159,8 +184,10 @@ module _ (c : SetupData) (stage : Stage) (is_stage : IsStageOf (composition_of c
   unfolding sheet_of
   ready_here code = record {
     plan = code.means.plan;
-    playable = λ age flags fields long. plays_from (sheet_at i age foot stage flags fields) body i.init i.perf (sheet_of code age flags fields long);
-    performs = λ age flags fields long. performed_from (sheet_at i age foot stage flags fields) body i.init i.perf (sheet_of code age flags fields long);
+    playable = λ age flags fields long. plays_from (sheet_at i age foot stage flags fields) body i.init i.perf
+        (sheet_of code age flags fields long);
+    performs = λ age flags fields long. performed_from (sheet_at i age foot stage flags fields) body i.init i.perf
+        (sheet_of code age flags fields long);
   }
 
   -- the same for the spaces and channels of the composition
@@ -181,7 +208,8 @@ module _ (c : SetupData) (stage : Stage) (is_stage : IsStageOf (composition_of c
         writes = subst IsStrictlyIncreasing (sym feet.writes) (places_ascend areas written);
         within = λ r h. places_within_areas areas used r (subst (λ l. Contains l r) feet.uses h);
         written = λ r h. subst (λ l. Contains l r) (sym feet.uses)
-            (places_of_more areas written used r (ops_written_is_used stock i.perf.ops.items) (subst (λ l. Contains l r) feet.writes h));
+            (places_of_more areas written used r (ops_written_is_used stock i.perf.ops.items)
+            (subst (λ l. Contains l r) feet.writes h));
       }
 
   pub instrument_is : IsCodeOf (typed.orchestra c.orchestra).spaces c.orchestra.head.nchnls body i.init i.perf
@@ -189,22 +217,30 @@ module _ (c : SetupData) (stage : Stage) (is_stage : IsStageOf (composition_of c
   instrument_is code =
       let areas : List Area = stage.layout.now in
       let statements : Block = core (typed.orchestra c.orchestra).spaces body in
-      let r = ready_as (typed.orchestra c.orchestra).spaces c.orchestra.head.nchnls is_stage.spaces (ap (λ (h : Header). h.nchnls) is_stage.head) code in
+      let r = ready_as (typed.orchestra c.orchestra).spaces c.orchestra.head.nchnls is_stage.spaces
+      (ap (λ (h : Header). h.nchnls) is_stage.head) code in
       record {
         plan = r.plan;
         kinds = kinds_of (block_units (core (typed.orchestra c.orchestra).spaces body));
         playable = r.playable;
         performs = r.performs;
         footprint = footprint_is;
-        there = all_there (HasArea areas) (block_uses (stock_of areas) statements) (uses_there (typed.orchestra c.orchestra).spaces);
-        uses = feet.uses ∙ places_alike areas (ops_use (stock_of areas) i.perf.ops.items) (block_uses (stock_of areas) statements) (code.touches.cycles may_use (stock_of areas));
-        writes = feet.writes ∙ places_alike areas (ops_write (stock_of areas) i.perf.ops.items) (block_writes (stock_of areas) statements) (code.touches.cycles may_write (stock_of areas));
+        there = all_there (HasArea areas) (block_uses (stock_of areas) statements)
+            (uses_there (typed.orchestra c.orchestra).spaces);
+        uses = feet.uses ∙ places_alike areas (ops_use (stock_of areas) i.perf.ops.items)
+            (block_uses (stock_of areas) statements) (code.touches.cycles may_use (stock_of areas));
+        writes = feet.writes ∙ places_alike areas (ops_write (stock_of areas) i.perf.ops.items)
+            (block_writes (stock_of areas) statements) (code.touches.cycles may_write (stock_of areas));
       }
 
 -- What a setup hands out is ready on its stage.
-module _ (touched : TouchWhatIsThere) (c : SetupData) (h : IsSetup c) (stage : Stage) (is_stage : IsStageOf (composition_of c) stage) (laid : stage.layout.now ≡ c.layout)
-    (i : Numbered) (foot : Footprint) (body : typed.Block) (names : IsNamedBlock (typed.shared_names c.orchestra.globals) body) where
-  touches : (g : Res) (spaces : Spaces) → Contains (block_uses (stock_of stage.layout.now) (core spaces body) ++ block_begins (stock_of stage.layout.now) (core spaces body)) g
+module _ (touched : TouchWhatIsThere) (c : SetupData) (h : IsSetup c) (stage : Stage)
+    (is_stage : IsStageOf (composition_of c) stage) (laid : stage.layout.now ≡ c.layout)
+    (i : Numbered) (foot : Footprint) (body : typed.Block)
+    (names : IsNamedBlock (typed.shared_names c.orchestra.globals) body) where
+  touches : (g : Res) (spaces : Spaces)
+      → Contains (block_uses (stock_of stage.layout.now) (core spaces body)
+      ++ block_begins (stock_of stage.layout.now) (core spaces body)) g
       → HasArea stage.layout.now g
   touches g spaces k =
       let here = laid ∙ h.areas_are in
@@ -214,13 +250,16 @@ module _ (touched : TouchWhatIsThere) (c : SetupData) (h : IsSetup c) (stage : S
       (subst (λ areas. is_there (typed.shared_names c.orchestra.globals) (stock_of areas) g ≡ true) here
       (touched (typed.shared_names c.orchestra.globals) body names spaces (stock_of stage.layout.now) g k)))
 
-  pub ready_for : IsFootOf c.layout i.perf foot → IsCodeOf (typed.orchestra c.orchestra).spaces c.orchestra.head.nchnls body i.init i.perf
+  pub ready_for : IsFootOf c.layout i.perf foot
+      → IsCodeOf (typed.orchestra c.orchestra).spaces c.orchestra.head.nchnls body i.init i.perf
       → IsInstrumentOf stage i foot (core (typed.orchestra c.orchestra).spaces body)
-  ready_for feet code = instrument_is c stage is_stage i foot body (subst (λ areas. IsFootOf areas i.perf foot) (sym laid) feet) touches code
+  ready_for feet code = instrument_is c stage is_stage i foot body
+      (subst (λ areas. IsFootOf areas i.perf foot) (sym laid) feet) touches code
 
 -- footprints stand at their instruments' places
 pub foot_at : (areas : List Area) (is : List Numbered) (feet : List Footprint) (k : ℕ) (i : Numbered) (foot : Footprint)
-    → AllZip (λ (x : Numbered) (f : Footprint). IsFootOf areas x.perf f) is feet → slice_get is k ≡ Some i → slice_get feet k ≡ Some foot → IsFootOf areas i.perf foot
+    → AllZip (λ (x : Numbered) (f : Footprint). IsFootOf areas x.perf f) is feet → slice_get is k ≡ Some i
+    → slice_get feet k ≡ Some foot → IsFootOf areas i.perf foot
 foot_at areas [] feet k i foot h e f = absurd cc
 foot_at areas (x ∷ is) [] k i foot h e f = absurd h
 foot_at areas (x ∷ is) (y ∷ feet) zero i foot h e f =
@@ -235,31 +274,40 @@ as_many R (x ∷ xs) (y ∷ ys) h = ap suc (as_many R xs ys h.1)
 
 -- what is handed out of a number
 module _ (touched : TouchWhatIsThere) (s : SetupData) (h : IsSetup s) where
-  pub handed_out : (place : ℕ) (i : Numbered) (foot : Footprint) → slice_get s.lowered.instruments place ≡ Some i → slice_get s.feet place ≡ Some foot → (z : ℤ) → pos i.number ≡ z
+  pub handed_out : (place : ℕ) (i : Numbered) (foot : Footprint) → slice_get s.lowered.instruments place ≡ Some i
+      → slice_get s.feet place ≡ Some foot → (z : ℤ) → pos i.number ≡ z
       → (body : Block) × ((composition_of s).instrument z ≡ Some body) × (pos i.number ≡ z)
-      × ((stage : Stage) → IsStageOf (composition_of s) stage → stage.layout.now ≡ s.layout → IsInstrumentOf stage i foot body)
+      × ((stage : Stage) → IsStageOf (composition_of s) stage → stage.layout.now ≡ s.layout
+      → IsInstrumentOf stage i foot body)
   handed_out place i foot at feet z n =
       let b = body_for (typed.orchestra s.orchestra) s.lowered.instruments place i z h.instruments at n in (
         core (typed.orchestra s.orchestra).spaces b.body,
         ap (option_map (core (typed.orchestra s.orchestra).spaces)) b.here,
         n,
         λ stage is_stage laid. ready_for touched s h stage is_stage laid i foot b.body
-            (holds_of_body (IsNamedBlock (typed.shared_names s.orchestra.globals)) (typed.orchestra s.orchestra).instrs z b.body h.named.instruments b.here)
+            (holds_of_body (IsNamedBlock (typed.shared_names s.orchestra.globals)) (typed.orchestra s.orchestra).instrs
+            z b.body h.named.instruments b.here)
             (foot_at s.layout s.lowered.instruments s.feet place i foot h.touch at feet) b.code,
       )
 
-  pub not_there : (z : ℤ) → ((k : ℕ) (i : Numbered) → slice_get s.lowered.instruments k ≡ Some i → pos i.number ≡ z → ⊥) → (composition_of s).instrument z ≡ None
-  not_there z none = ap (option_map (core (typed.orchestra s.orchestra).spaces)) (no_body (typed.orchestra s.orchestra) s.lowered.instruments z h.instruments none)
+  pub not_there : (z : ℤ) → ((k : ℕ) (i : Numbered) → slice_get s.lowered.instruments k ≡ Some i → pos i.number ≡ z → ⊥)
+      → (composition_of s).instrument z ≡ None
+  not_there z none = ap (option_map (core (typed.orchestra s.orchestra).spaces))
+      (no_body (typed.orchestra s.orchestra) s.lowered.instruments z h.instruments none)
 
   pub outside_is : (stage : Stage) → IsStageOf (composition_of s) stage → stage.layout.now ≡ s.layout
       → IsInstrumentOf stage s.lowered.zero s.zero_foot (composition_of s).outside
   outside_is stage is_stage laid =
-      ready_for touched s h stage is_stage laid s.lowered.zero s.zero_foot (typed.orchestra s.orchestra).zero h.named.zero h.zero_touches h.zero_code
+      ready_for touched s h stage is_stage laid s.lowered.zero s.zero_foot (typed.orchestra s.orchestra).zero
+      h.named.zero h.zero_touches h.zero_code
 
 -- one instrument more isn't the one that is looked for
-pub none_more : (l : List Numbered) (place : ℕ) (x : Numbered) (z : ℤ) → ((k : ℕ) (i : Numbered) → k < place → slice_get l k ≡ Some i → pos i.number ≡ z → ⊥)
-    → slice_get l place ≡ Some x → (pos x.number ≡ z → ⊥) → (k : ℕ) (i : Numbered) → k < place + 1 → slice_get l k ≡ Some i → pos i.number ≡ z → ⊥
+pub none_more : (l : List Numbered) (place : ℕ) (x : Numbered) (z : ℤ)
+    → ((k : ℕ) (i : Numbered) → k < place → slice_get l k ≡ Some i → pos i.number ≡ z → ⊥)
+    → slice_get l place ≡ Some x → (pos x.number ≡ z → ⊥) → (k : ℕ) (i : Numbered) → k < place + 1
+    → slice_get l k ≡ Some i → pos i.number ≡ z → ⊥
 none_more l place x z none at differs k i low here n = ⊎_elim
-    (λ (e : k ≡ place). differs (ap (λ (y : Numbered). pos y.number) (some_is x i (sym at ∙ ap (slice_get l) (sym e) ∙ here)) ∙ n))
+    (λ (e : k ≡ place). differs
+    (ap (λ (y : Numbered). pos y.number) (some_is x i (sym at ∙ ap (slice_get l) (sym e) ∙ here)) ∙ n))
     (λ (f : k ≡ place → ⊥). none k i (omega arith) here n)
     (cases_eq k place)

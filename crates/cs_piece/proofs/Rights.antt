@@ -1,5 +1,6 @@
 -- Which tables are found by the codes and the events is what the definitions say.
-use Rattle.std.proofs.Common.{◌≡◌, ℕ, zero, suc, ◌==◌, ◌<◌, ◌≤◌, Bool, true, false, not, ◌&&◌, ◌||◌, List, [], ◌∷◌, ◌++◌, map, cond, IfOk, Result, Ok, Err, refl, sym, ◌∙◌, ap, arith}
+use Rattle.std.proofs.Common.{◌≡◌, ℕ, zero, suc, ◌==◌, ◌<◌, ◌≤◌, Bool, true, false, not, ◌&&◌, ◌||◌, List, [], ◌∷◌}
+use Rattle.std.proofs.Common.{◌++◌, map, cond, IfOk, Result, Ok, Err, refl, sym, ◌∙◌, ap, arith}
 use Rattle.std.specs.List.{All, AllByRecursion, AllZip, filter, flat_map, list_any}
 use Rattle.std.proofs.lemmas.Bool.{ne_eqb}
 use Rattle.std.proofs.lemmas.List.Elements.{All-head, All-tail}
@@ -20,10 +21,12 @@ use Rattle.cs_tempo.specs.declared.plot.EventAct.{EventAct}
 use Rattle.cs_tempo.specs.declared.plot.EventAct.TheVariants as act
 use Rattle.cs_typed.specs.TypedTree as typed
 use Rattle.cs_rwset.proofs.Placed.{among_alike}
-use Rattle.cs_piece.specs.Tables.{Given, firsts, given_by, given_in, is_frozen, may_be_written, only, stores_into, table_given, table_in, times_given}
+use Rattle.cs_piece.specs.Tables.{Given, firsts, given_by, given_in, is_frozen, may_be_written, only, stores_into}
+use Rattle.cs_piece.specs.Tables.{table_given, table_in, times_given}
 use Rattle.cs_piece.specs.declared.tables.First.{First}
 use Rattle.cs_piece.specs.declared.tables.Firsts.{Firsts}
-use Rattle.cs_piece.specs.inner.Marked.{IsRight, Marks, StandFor, as_times, codes_store, frozen_by, given_of, is_marked, is_once, numbers_end, ops_store, table_by}
+use Rattle.cs_piece.specs.inner.Marked.{IsRight, Marks, StandFor, as_times, codes_store, frozen_by, given_of, is_marked}
+use Rattle.cs_piece.specs.inner.Marked.{is_once, numbers_end, ops_store, table_by}
 
 -- what events give has a number of tables and no fault
 abbrev pub AreRight : List Given → Type 0
@@ -40,7 +43,8 @@ right_by (act.Table number size gen args) h = (record { number = h.0; fault = h.
 pub right_in : (events : List Event) → All (λ e. IsActInRange e.act) events → AreRight (given_in events)
 right_in [] h = tt
 right_in (e ∷ events) h =
-    right_more (given_by e.act) (given_in events) (right_by e.act (All-head (λ x. IsActInRange x.act) e events h)) (right_in events (All-tail (λ x. IsActInRange x.act) e events h))
+    right_more (given_by e.act) (given_in events) (right_by e.act (All-head (λ x. IsActInRange x.act) e events h))
+    (right_in events (All-tail (λ x. IsActInRange x.act) e events h))
 
 right_filter : (p : Given → Bool) (gs : List Given) → AreRight gs → AreRight (filter p gs)
 right_filter p [] h = tt
@@ -52,28 +56,35 @@ right_filter p (g ∷ gs) h = by (p g) (right_filter p gs h.1)
 
 pub right_firsts : (gs : List Given) → AreRight gs → AreRight (firsts gs)
 right_firsts [] h = tt
-right_firsts (g ∷ gs) h = (h.0, right_filter (λ (x : Given). not (x.number == g.number)) (firsts gs) (right_firsts gs h.1))
+right_firsts (g ∷ gs) h =
+    (h.0, right_filter (λ (x : Given). not (x.number == g.number)) (firsts gs) (right_firsts gs h.1))
 
 -- ops that may write a table
-any_of_parts : {X Y : Type 0} (p : Y → Bool) (f : X → List Y) (xs : List X) → list_any (λ x. list_any p (f x)) xs ≡ list_any p (flat_map f xs)
+any_of_parts : {X Y : Type 0} (p : Y → Bool) (f : X → List Y) (xs : List X)
+    → list_any (λ x. list_any p (f x)) xs ≡ list_any p (flat_map f xs)
 any_of_parts p f [] = refl
-any_of_parts p f (x ∷ xs) = ap (λ b. list_any p (f x) || b) (any_of_parts p f xs) ∙ sym (list_any-append p (f x) (flat_map f xs))
+any_of_parts p f (x ∷ xs) =
+    ap (λ b. list_any p (f x) || b) (any_of_parts p f xs) ∙ sym (list_any-append p (f x) (flat_map f xs))
 
 stores_as : (n : ℕ) (ops : List Op) → ops_store n ops ≡ list_any (same_res (res.Table n)) (ops_write (only n) ops)
 stores_as n ops = any_of_parts (same_res (res.Table n)) (λ (o : Op). act_writes (only n) o.act) ops
 
-store_alike : (n : ℕ) (spaces : Spaces) (channels : ℕ) (p : ℕ × typed.Block) (i : Numbered) → IsNumberedCode spaces channels p i
+store_alike : (n : ℕ) (spaces : Spaces) (channels : ℕ) (p : ℕ × typed.Block) (i : Numbered)
+    → IsNumberedCode spaces channels p i
     → codes_store n i ≡ stores_into n (core spaces p.1)
 store_alike n spaces channels p i h =
     ap (λ b. b || ops_store n i.perf.ops.items) (stores_as n i.init.ops.items
-    ∙ among_alike (ops_write (only n) i.init.ops.items) (block_begin_writes (only n) (core spaces p.1)) (h.1.touches.begins may_write (only n)) (res.Table n))
+    ∙ among_alike (ops_write (only n) i.init.ops.items) (block_begin_writes (only n) (core spaces p.1))
+    (h.1.touches.begins may_write (only n)) (res.Table n))
     ∙ ap (λ b. first || b) (stores_as n i.perf.ops.items
-    ∙ among_alike (ops_write (only n) i.perf.ops.items) (block_writes (only n) (core spaces p.1)) (h.1.touches.cycles may_write (only n)) (res.Table n))
+    ∙ among_alike (ops_write (only n) i.perf.ops.items) (block_writes (only n) (core spaces p.1))
+    (h.1.touches.cycles may_write (only n)) (res.Table n))
   where
     first : Bool
     first = list_any (same_res (res.Table n)) (block_begin_writes (only n) (core spaces p.1))
 
-any_alike : (n : ℕ) (spaces : Spaces) (channels : ℕ) (ps : List (ℕ × typed.Block)) (is : List Numbered) → AllZip (IsNumberedCode spaces channels) ps is
+any_alike : (n : ℕ) (spaces : Spaces) (channels : ℕ) (ps : List (ℕ × typed.Block)) (is : List Numbered)
+    → AllZip (IsNumberedCode spaces channels) ps is
     → list_any (codes_store n) is ≡ list_any (λ (p : ℕ × typed.Block). stores_into n (core spaces p.1)) ps
 any_alike n spaces channels [] [] h = refl
 any_alike n spaces channels [] (i ∷ is) h = absurd h
@@ -82,7 +93,8 @@ any_alike n spaces channels (p ∷ ps) (i ∷ is) h =
     ap (λ b. b || list_any (codes_store n) is) (store_alike n spaces channels p i h.0)
     ∙ ap (λ b. stores_into n (core spaces p.1) || b) (any_alike n spaces channels ps is h.1)
 
-pub written_as : (o : typed.Orchestra) (l : List Numbered) (n : ℕ) → AreInstrumentsOf o l → list_any (codes_store n) l ≡ may_be_written o n
+pub written_as : (o : typed.Orchestra) (l : List Numbered) (n : ℕ) → AreInstrumentsOf o l
+    → list_any (codes_store n) l ≡ may_be_written o n
 written_as o l n are =
     sym (list_any-IsPermutation (codes_store n) are.in_text l are.same)
     ∙ any_alike n o.spaces o.head.nchnls (bodies o.instrs) are.in_text are.each
@@ -93,7 +105,8 @@ once_as zero = refl
 once_as (suc zero) = refl
 once_as (suc (suc m)) = sym (ne_eqb (suc (suc m)) 1 (λ e. omega (arith, e)))
 
-module _ (o : typed.Orchestra) (l : List Numbered) (gs : List Given) (given : Firsts) (w : Marks) (are : AreInstrumentsOf o l) (stand : StandFor gs given)
+module _ (o : typed.Orchestra) (l : List Numbered) (gs : List Given) (given : Firsts) (w : Marks)
+    (are : AreInstrumentsOf o l) (stand : StandFor gs given)
     (marked : (n : ℕ) → n < numbers_end → is_marked w n ≡ list_any (codes_store n) l) where
   frozen_as : (n : ℕ) → n < numbers_end → frozen_by given.times.items w n ≡ is_frozen o gs n
   frozen_as n low =
@@ -101,11 +114,14 @@ module _ (o : typed.Orchestra) (l : List Numbered) (gs : List Given) (given : Fi
       ∙ ap (λ b. (times_given n gs == 1) && not b) (marked n low ∙ written_as o l n are)
 
   each_as : (g : Given) → IsRight g → table_by given.times.items w g ≡ table_in o gs g
-  each_as g right = ap (λ b. table_given b g) (frozen_as g.number (let high : g.number ≤ 65535 = right.number.1 in omega arith))
+  each_as g right = ap (λ b. table_given b g)
+      (frozen_as g.number (let high : g.number ≤ 65535 = right.number.1 in omega arith))
 
-  all_as : (xs : List First) → All (λ x. IsRight (given_of x)) xs → map (λ x. table_by given.times.items w (given_of x)) xs ≡ map (table_in o gs) (map given_of xs)
+  all_as : (xs : List First) → All (λ x. IsRight (given_of x)) xs
+      → map (λ x. table_by given.times.items w (given_of x)) xs ≡ map (table_in o gs) (map given_of xs)
   all_as [] h = refl
-  all_as (x ∷ xs) h = λ i. each_as (given_of x) (All-head (λ y. IsRight (given_of y)) x xs h) i ∷ all_as xs (All-tail (λ y. IsRight (given_of y)) x xs h) i
+  all_as (x ∷ xs) h = λ i. each_as (given_of x) (All-head (λ y. IsRight (given_of y)) x xs h) i
+      ∷ all_as xs (All-tail (λ y. IsRight (given_of y)) x xs h) i
 
   pub tables_as : All (λ x. IsRight (given_of x)) given.items.items
       → map (λ x. table_by given.times.items w (given_of x)) given.items.items ≡ map (table_in o gs) (firsts gs)

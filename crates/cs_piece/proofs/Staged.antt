@@ -1,5 +1,7 @@
 -- The stage of a setup: its tables are those of the composition, and what its notes share is placed in its layout.
-use Rattle.std.proofs.Common.{◌≡◌, ℕ, ℤ, zero, suc, ◌<◌, ◌≤◌, ◌==◌, ◌&&◌, ◌||◌, Bool, true, false, not, List, [], ◌∷◌, length, map, slice_get, unsigned_abs, Option, Some, None, cond, if◌then◌else◌, refl, sym, ◌∙◌, ap, subst, arith}
+use Rattle.std.proofs.Common.{◌≡◌, ℕ, ℤ, zero, suc, ◌<◌, ◌≤◌, ◌==◌, ◌&&◌, ◌||◌, Bool, true, false, not, List, [], ◌∷◌}
+use Rattle.std.proofs.Common.{length, map, slice_get, unsigned_abs, Option, Some, None, cond, if◌then◌else◌, refl, sym}
+use Rattle.std.proofs.Common.{◌∙◌, ap, subst, arith}
 use Rattle.std.specs.Int.{is_negative}
 use Rattle.std.specs.List.{All, AllByRecursion, filter, list_any}
 use Rattle.std.specs.Option.{is_some}
@@ -49,18 +51,21 @@ pub record IsSound (t : Table) : Type 0 where
   pub power : is_len (len_of t.size) ≡ true
   pub points : (points : List ℤ) → t.frozen ≡ Some points → length points ≡ t.size
 
-frozen_points : (b : Bool) (g : Given) (points : List ℤ) → (if b then Some (points_of g.size g.gen g.args) else None) ≡ Some points → points_of g.size g.gen g.args ≡ points
+frozen_points : (b : Bool) (g : Given) (points : List ℤ)
+    → (if b then Some (points_of g.size g.gen g.args) else None) ≡ Some points → points_of g.size g.gen g.args ≡ points
 frozen_points true g points e = some_is (points_of g.size g.gen g.args) points e
 frozen_points false g points e = absurd cc
 
 sound_given : (b : Bool) (g : Given) → IsRight g → IsSound (table_given b g)
 sound_given b g right =
     let sized = accepted g.size g.gen g.args right.fault in
-    let made_so : IsMade g.size g.gen g.args (points_of g.size g.gen g.args) = is_made g.size g.gen g.args (points_of g.size g.gen g.args) sized refl in
+    let made_so : IsMade g.size g.gen g.args (points_of g.size g.gen g.args) =
+    is_made g.size g.gen g.args (points_of g.size g.gen g.args) sized refl in
     let long : length (points_of g.size g.gen g.args) ≡ unsigned_abs g.size = ap unsigned_abs made_so.count in
     record {
       some = (let low : 2 ≤ unsigned_abs g.size = sized.0 in omega arith);
-      power = ap (λ n. is_len (len_of n)) (sym long) ∙ made_len g.size g.gen g.args (points_of g.size g.gen g.args) right.fault made_so;
+      power = ap (λ n. is_len (len_of n)) (sym long)
+          ∙ made_len g.size g.gen g.args (points_of g.size g.gen g.args) right.fault made_so;
       points = λ points e. ap length (sym (frozen_points b g points e)) ∙ long;
     }
 
@@ -68,7 +73,8 @@ sound_all : (o : typed.Orchestra) (all gs : List Given) → AreRight gs → AllB
 sound_all o all [] h = tt
 sound_all o all (g ∷ gs) h = (sound_given (is_frozen o all g.number) g h.0, sound_all o all gs h.1)
 
-pub sound_in : (o : typed.Orchestra) (events : List Event) → AreRight (given_in events) → AllByRecursion IsSound (tables_in o events)
+pub sound_in : (o : typed.Orchestra) (events : List Event) → AreRight (given_in events)
+    → AllByRecursion IsSound (tables_in o events)
 sound_in o events h = sound_all o (given_in events) (firsts (given_in events)) (right_firsts (given_in events) h)
 
 -- a table that a note finds is one of the composition's, made or not
@@ -92,7 +98,8 @@ found_in [] flags cs n t e f = absurd cc
 found_in (x ∷ ts) [] cs n t e f = absurd cc
 found_in (x ∷ ts) (m ∷ flags) [] n t e f = absurd cc
 found_in (x ∷ ts) (m ∷ flags) (c ∷ cs) n t e f =
-    by (not (is_negative n) && x.number == unsigned_abs n) (found_in ts flags cs n t (rest_is (table_of x) (made c) (map table_of ts) (map made cs) e)) f
+    by (not (is_negative n) && x.number == unsigned_abs n)
+    (found_in ts flags cs n t (rest_is (table_of x) (made c) (map table_of ts) (map made cs) e)) f
   where
     same : table_of x ≡ made c
     same = first_is (table_of x) (made c) (map table_of ts) (map made cs) e
@@ -107,7 +114,16 @@ found_in (x ∷ ts) (m ∷ flags) (c ∷ cs) n t e f =
       size = ap (λ (y : Table). y.size) same;
       frozen = ap (λ (y : Table). y.frozen) same;
     })
-    by false later g = let r = later g in record { place = suc r.place; u = r.u; at = r.at; number = r.number; size = r.size; frozen = r.frozen }
+    by false later g = let r =
+        later g in record {
+          place = suc r.place;
+          u = r.u;
+          at = r.at;
+          number = r.number;
+          size = r.size;
+          frozen =
+              r.frozen;
+        }
 
 -- where a table that isn't frozen stands among the live ones
 none_is : {X : Type 0} (o : Option X) → o ≡ None → not (is_some o) ≡ true
@@ -120,12 +136,14 @@ as_live t = record { number = t.number; size = t.size }
 live_place : (cs : List Table) (k : ℕ) (u : Table) → slice_get cs k ≡ Some u → u.frozen ≡ None
     → (place : ℕ) × (slice_get (live_in cs) place ≡ Some (as_live u))
 live_place [] k u e none = absurd cc
-live_place (c ∷ cs) zero u e none = by (not (is_some c.frozen)) (none_is c.frozen (ap (λ (t : Table). t.frozen) (some_is c u e) ∙ none))
+live_place (c ∷ cs) zero u e none =
+    by (not (is_some c.frozen)) (none_is c.frozen (ap (λ (t : Table). t.frozen) (some_is c u e) ∙ none))
   where
     rest : List Table
     rest = filter (λ (t : Table). not (is_some t.frozen)) cs
 
-    by : (b : Bool) → b ≡ true → (place : ℕ) × (slice_get (map as_live (cond b (c ∷ rest) rest)) place ≡ Some (as_live u))
+    by : (b : Bool) → b ≡ true
+        → (place : ℕ) × (slice_get (map as_live (cond b (c ∷ rest) rest)) place ≡ Some (as_live u))
     by true holds = (zero, ap (λ (t : Table). Some (as_live t)) (some_is c u e))
     by false holds = absurd cc
 live_place (c ∷ cs) (suc k) u e none = by (not (is_some c.frozen)) (live_place cs k u e none)
@@ -138,7 +156,8 @@ live_place (c ∷ cs) (suc k) u e none = by (not (is_some c.frozen)) (live_place
     by true r = (suc r.0, r.1)
     by false r = (r.0, r.1)
 
-some_points : (cs : List Table) → AllByRecursion IsSound cs → All (λ (t : LiveTable). is_table_size t.size ≡ true) (live_in cs)
+some_points : (cs : List Table) → AllByRecursion IsSound cs
+    → All (λ (t : LiveTable). is_table_size t.size ≡ true) (live_in cs)
 some_points [] h = All-nil (λ (t : LiveTable). is_table_size t.size ≡ true)
 some_points (c ∷ cs) h = by (not (is_some c.frozen)) (some_points cs h.1)
   where
@@ -164,17 +183,21 @@ or_later : (a b : Bool) → b ≡ true → (a || b) ≡ true
 or_later true b e = refl
 or_later false b e = e
 
-any_live : (live : List LiveTable) (place n size : ℕ) → slice_get live place ≡ Some (record { number = n; size = size }) → list_any (λ t. t.number == n) live ≡ true
+any_live : (live : List LiveTable) (place n size : ℕ) → slice_get live place ≡ Some (record { number = n; size = size })
+    → list_any (λ t. t.number == n) live ≡ true
 any_live [] place n size e = absurd cc
 any_live (x ∷ live) zero n size e =
-    or_true (x.number == n) (list_any (λ t. t.number == n) live) (eq-eqb x.number n (ap (λ (t : LiveTable). t.number) (some_is x (record { number = n; size = size }) e)))
-any_live (x ∷ live) (suc place) n size e = or_later (x.number == n) (list_any (λ t. t.number == n) live) (any_live live place n size e)
+    or_true (x.number == n) (list_any (λ t. t.number == n) live)
+    (eq-eqb x.number n (ap (λ (t : LiveTable). t.number) (some_is x (record { number = n; size = size }) e)))
+any_live (x ∷ live) (suc place) n size e =
+    or_later (x.number == n) (list_any (λ t. t.number == n) live) (any_live live place n size e)
 
 some_area : (o : Option Area) → is_some o ≡ true → (x : Area) × (o ≡ Some x)
 some_area None e = absurd cc
 some_area (Some x) e = (x, refl)
 
-module _ (ksmps : ℕ) (names : SharedNames) (spaces : Spaces) (cs : List Table) (sound : AllByRecursion IsSound cs) (ts : List TableAt) (same : map table_of ts ≡ map made cs) where
+module _ (ksmps : ℕ) (names : SharedNames) (spaces : Spaces) (cs : List Table) (sound : AllByRecursion IsSound cs)
+    (ts : List TableAt) (same : map table_of ts ≡ map made cs) where
   pub are_live : (flags : List Bool) → AreLive (live_in cs) (tables_of ts flags)
   are_live flags n t e none =
       let r = found_in ts flags cs n t same e in
@@ -191,19 +214,23 @@ module _ (ksmps : ℕ) (names : SharedNames) (spaces : Spaces) (cs : List Table)
         area = λ none.
             let p = are_live flags n t e none in
             some_area (area_of (areas_of ksmps names spaces (live_in cs)) (res.Table t.number))
-            (there ksmps names spaces (live_in cs) (res.Table t.number) ∙ any_live (live_in cs) p.0 t.number t.size p.1);
+            (there ksmps names spaces (live_in cs) (res.Table t.number)
+            ∙ any_live (live_in cs) p.0 t.number t.size p.1);
       }
 
 -- What a setup hands out as its stage.
-module _ (s : SetupData) (h : IsSetup s) (stage : Stage) (head : stage.head.now ≡ s.orchestra.head) (laid : stage.layout.now ≡ s.layout)
-    (spaces_so : stage.spaces ≡ s.orchestra.spaces) (same : map table_of stage.tables.now ≡ map made (composition_of s).tables) where
+module _ (s : SetupData) (h : IsSetup s) (stage : Stage) (head : stage.head.now ≡ s.orchestra.head)
+    (laid : stage.layout.now ≡ s.layout)
+    (spaces_so : stage.spaces ≡ s.orchestra.spaces)
+    (same : map table_of stage.tables.now ≡ map made (composition_of s).tables) where
   sound : AllByRecursion IsSound (tables_in (typed.orchestra s.orchestra) s.plot.events)
   sound = sound_in (typed.orchestra s.orchestra) s.plot.events (right_in s.plot.events h.performable.each)
 
   here : stage.layout.now ≡ areas_of stage.head.now.ksmps (typed.shared_names s.orchestra.globals) stage.spaces
       (live_in (tables_in (typed.orchestra s.orchestra) s.plot.events))
   here = laid ∙ h.areas_are
-      ∙ λ i. areas_of (sym head i).ksmps (typed.shared_names s.orchestra.globals) (sym spaces_so i) (live_in (tables_in (typed.orchestra s.orchestra) s.plot.events))
+      ∙ λ i. areas_of (sym head i).ksmps (typed.shared_names s.orchestra.globals) (sym spaces_so i)
+      (live_in (tables_in (typed.orchestra s.orchestra) s.plot.events))
 
   frames : 0 < stage.head.now.ksmps
   frames = let low = stage.head.now.ksmps_in_range in omega arith
@@ -225,7 +252,8 @@ module _ (s : SetupData) (h : IsSetup s) (stage : Stage) (head : stage.head.now 
       → IsPlaced stage.layout.now (stock_of stage.layout.now) (piece_at stage flags fields)
   placed flags fields long =
       subst (λ areas. IsPlaced areas (stock_of areas) (piece_at stage flags fields)) (sym here)
-      (is_placed (typed.shared_names s.orchestra.globals) (live_in (tables_in (typed.orchestra s.orchestra) s.plot.events)) (piece_at stage flags fields) apart frames
+      (is_placed (typed.shared_names s.orchestra.globals)
+      (live_in (tables_in (typed.orchestra s.orchestra) s.plot.events)) (piece_at stage flags fields) apart frames
       (are_live stage.head.now.ksmps (typed.shared_names s.orchestra.globals) stage.spaces
       (tables_in (typed.orchestra s.orchestra) s.plot.events) sound stage.tables.now same flags)
       (λ n any. live_found stage.tables.now flags (tables_in (typed.orchestra s.orchestra) s.plot.events) n
@@ -257,4 +285,5 @@ module _ (s : SetupData) (h : IsSetup s) (stage : Stage) (head : stage.head.now 
 pub laid_is : (s : SetupData) → IsSetup s → IsLaid s.layout
 laid_is s h = subst IsLaid (sym h.areas_are)
     (is_laid s.orchestra.head.ksmps (typed.shared_names s.orchestra.globals) (typed.orchestra s.orchestra).spaces
-    (live_in (tables_in (typed.orchestra s.orchestra) s.plot.events)) (apart_in (typed.orchestra s.orchestra) s.plot.events))
+    (live_in (tables_in (typed.orchestra s.orchestra) s.plot.events))
+    (apart_in (typed.orchestra s.orchestra) s.plot.events))

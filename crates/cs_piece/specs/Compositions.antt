@@ -13,11 +13,13 @@ use Rattle.cs_tempo.specs.declared.plot.Event.{Event}
 use Rattle.cs_tempo.specs.declared.plot.Plot.{Plot}
 use Rattle.cs_typed.specs.TypedTree as typed
 use Rattle.cs_piece.specs.Tables.{tables_in}
-pub use Rattle.cs_piece.specs.Tables.{Given, given_by, given_in, firsts, is_frozen, may_be_written, only, stores_into, table_in}
+pub use Rattle.cs_piece.specs.Tables.{Given, given_by, given_in, firsts, is_frozen, may_be_written, only, stores_into}
+pub use Rattle.cs_piece.specs.Tables.{table_in}
 
 -- those whose points are cells
 abbrev pub live_in : List Table → List LiveTable
-live_in tables = map (λ (t : Table). record { number = t.number; size = t.size }) (filter (λ (t : Table). not (is_some t.frozen)) tables)
+live_in tables = map (λ (t : Table). record { number = t.number; size = t.size })
+    (filter (λ (t : Table). not (is_some t.frozen)) tables)
 
 -- where the cells of a piece are
 abbrev pub areas_in : typed.Orchestra → List Event → List Area

@@ -1,11 +1,15 @@
 -- What a setup is.
-use Rattle.std.specs.Prelude.{◌≡◌, List, map, None}
+use Rattle.std.specs.Prelude.{ℤ, ◌≡◌, ◌≤◌, List, map, None, Some}
 use Rattle.std.specs.List.{AllZip, Contains}
+use Rattle.std.specs.Option.{option_map}
+use Rattle.cs_base.specs.Limits.{most_statements}
 use Rattle.cs_cells.specs.Areas.{limit_passed}
 use Rattle.cs_cells.specs.declared.footprint.Area.{Area}
 use Rattle.cs_cells.specs.declared.footprint.Footprint.{Footprint}
-use Rattle.cs_code.specs.Lowered.{AreInstrumentsOf, IsCodeOf}
+use Rattle.cs_code.specs.Lowered.{AreInstrumentsOf, IsCodeOf, bodies}
 use Rattle.cs_code.specs.declared.orchestra.Lowered.{Lowered}
+use Rattle.cs_meaning.specs.Core.{Block, core}
+use Rattle.cs_piece_meaning.specs.Bounded.{asks_in}
 use Rattle.cs_piece_meaning.specs.Moments.{Composition}
 use Rattle.cs_ir.specs.Instruments.{Numbered}
 use Rattle.cs_ir.specs.Resources.{ops_use, ops_write}
@@ -17,13 +21,19 @@ use Rattle.cs_tempo.specs.declared.plot.Event.{Event}
 use Rattle.cs_tempo.specs.declared.plot.Plot.{Plot}
 use Rattle.cs_typed.specs.TypedTree as typed
 use Rattle.cs_typed.specs.declared.tree.TypedOrc.{TypedOrc}
-use Rattle.cs_piece.specs.Compositions.{areas_in, composition}
+use Rattle.cs_piece.specs.Compositions.{areas_in, body_of, composition}
 use Rattle.cs_piece.specs.Tables.{Given, given_in, table_of, tables_in}
 use Rattle.cs_piece.specs.declared.tables.PieceTable.{PieceTable}
 
 -- tables that events give under one number have one size
 abbrev pub AreOfOneSize : List Event → Type 0
-AreOfOneSize events = (g h : Given) → Contains (given_in events) g → Contains (given_in events) h → g.number ≡ h.number → g.size ≡ h.size
+AreOfOneSize events = (g h : Given) → Contains (given_in events) g → Contains (given_in events) h → g.number ≡ h.number
+    → g.size ≡ h.size
+
+-- each instrument asks for no more notes than it may have statements
+abbrev pub AskForFew : typed.Orchestra → Type 0
+AskForFew o = (z : ℤ) (body : Block) → option_map (core o.spaces) (body_of (bodies o.instrs) z) ≡ Some body
+    → asks_in body ≤ most_statements
 
 -- the footprint of a performance code in some areas
 pub record IsFootOf (areas : List Area) (perf : Code) (foot : Footprint) : Type 0 where
@@ -41,16 +51,18 @@ pub record SetupData : Type 0 where
   pub zero_foot : Footprint
   pub feet : List Footprint
 
--- A setup: the tables are those of the plot, the areas those of the piece and within the limits, the codes are those
--- of the orchestra, and the footprints those of the codes.
+-- A setup: its instruments ask for few notes, the tables are those of the plot, the areas those of the piece and within
+-- the limits, the codes are those of the orchestra, and the footprints those of the codes.
 pub record IsSetup (s : SetupData) : Type 0 where
   pub performable : IsPerformable s.orchestra.head s.plot
   pub sizes : AreOfOneSize s.plot.events
+  pub asks : AskForFew (typed.orchestra s.orchestra)
   pub named : NamesWhatThereIs (typed.orchestra s.orchestra)
   pub tables_are : map table_of s.tables ≡ tables_in (typed.orchestra s.orchestra) s.plot.events
   pub areas_are : s.layout ≡ areas_in (typed.orchestra s.orchestra) s.plot.events
   pub within : limit_passed s.layout ≡ None
-  pub zero_code : IsCodeOf (typed.orchestra s.orchestra).spaces s.orchestra.head.nchnls (typed.orchestra s.orchestra).zero
+  pub zero_code : IsCodeOf (typed.orchestra s.orchestra).spaces s.orchestra.head.nchnls
+      (typed.orchestra s.orchestra).zero
       s.lowered.zero.init s.lowered.zero.perf
   pub instruments : AreInstrumentsOf (typed.orchestra s.orchestra) s.lowered.instruments
   pub zero_touches : IsFootOf s.layout s.lowered.zero.perf s.zero_foot

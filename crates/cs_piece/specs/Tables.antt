@@ -1,5 +1,6 @@
 -- Which tables a piece has: those that the score gives, each once, and which of them stay as they are made.
-use Rattle.std.specs.Prelude.{ℕ, ℤ, Bool, false, not, ◌&&◌, ◌||◌, ◌==◌, List, [], ◌∷◌, filter, count_by, map, unsigned_abs, Some, None, if◌then◌else◌}
+use Rattle.std.specs.Prelude.{ℕ, ℤ, Bool, false, not, ◌&&◌, ◌||◌, ◌==◌, List, [], ◌∷◌, filter, count_by, map}
+use Rattle.std.specs.Prelude.{unsigned_abs, Some, None, if◌then◌else◌}
 use Rattle.std.specs.List.{flat_map, list_any}
 use Rattle.cs_base.specs.Rates.{same_res}
 use Rattle.cs_base.specs.declared.resource.Res.TheVariants as res
@@ -46,7 +47,8 @@ only n = record { spaces = record { control = 0; audio = 0 }; live = n ∷ [] }
 -- Statements may write a table, as a note begins or in a cycle: one named by a literal number, or any.
 abbrev pub stores_into : ℕ → Block → Bool
 stores_into n b =
-    list_any (same_res (res.Table n)) (block_begin_writes (only n) b) || list_any (same_res (res.Table n)) (block_writes (only n) b)
+    list_any (same_res (res.Table n)) (block_begin_writes (only n) b)
+    || list_any (same_res (res.Table n)) (block_writes (only n) b)
 
 -- an instrument of some number may write a table
 abbrev pub may_be_written : typed.Orchestra → ℕ → Bool

@@ -1,5 +1,5 @@
 -- What it is for a voice to perform a note.
-use Rattle.std.specs.Prelude.{ℕ, ℤ, ◌≡◌, ◌+◌, ◌<◌, ◌≤◌, List, length, None}
+use Rattle.std.specs.Prelude.{ℕ, ℤ, ◌≡◌, ◌<◌, ◌≤◌, List, length, Some, None}
 use Rattle.cs_base.specs.Rates.{res_rate}
 use Rattle.cs_base.specs.declared.resource.Rate.TheVariants as rate
 use Rattle.cs_base.specs.declared.resource.Res.{Res}
@@ -10,7 +10,7 @@ use Rattle.cs_cells.specs.Cells.{Cells, cell}
 use Rattle.cs_cells.specs.declared.footprint.Area.{Area}
 use Rattle.cs_meaning.specs.Core.{Block}
 use Rattle.cs_meaning.specs.Initialising.{init_block}
-use Rattle.cs_meaning.specs.Notes.{Note, reg, start, new_note, moved_to}
+use Rattle.cs_meaning.specs.Notes.{Note, Path, reg, start, new_note, moved_to}
 use Rattle.cs_meaning.specs.Performing.{perf_block}
 use Rattle.cs_meaning.specs.Plain.{Piece, Plain, plain, fresh, next_cycle}
 use Rattle.cs_code.specs.Means.{Plan}
@@ -35,7 +35,7 @@ Hold areas cells shared = (g : Res) → HasArea areas g → wave_of (area_of are
 pub record IsVoiceOf (s : Sheet) (plan : Plan) (kinds : Kinds) (v : Sounding) (t : Note Plain) : Type 0 where
   pub sheet : v.sheet ≡ s
   pub locals : (q : Reg) → q.index < plan.locals q.rate → v.regs q ≡ t.locals q
-  pub kept : (n : ℕ) → n < plan.parts → v.regs (reg rate.Init (plan.kept + n)) ≡ constant (t.kept n)
+  pub kept : (p : Path) (n : ℕ) → plan.kept p ≡ Some n → v.regs (reg rate.Init n) ≡ constant (t.kept p)
   pub units : (u : ℕ) → SameUnit (pace_of s.piece.head) (kinds u) (v.units u) (t.world.units u)
   pub delays : v.delays ≡ t.world.delays
   pub outs : v.outs ≡ t.world.outs

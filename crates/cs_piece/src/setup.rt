@@ -10,7 +10,7 @@ ghost use Rattle.cs_ir.specs.Instruments.{Numbered};
 ghost use Rattle.cs_layout.specs.Layouts.{AreApart, areas_of};
 ghost use Rattle.cs_name_laws.specs.Names.{NamesWhatThereIs};
 ghost use Rattle.cs_piece.specs.Compositions.{areas_in, live_in};
-ghost use Rattle.cs_piece.specs.Setups.{AreOfOneSize, IsFootOf};
+ghost use Rattle.cs_piece.specs.Setups.{AreOfOneSize, AskForFew, IsFootOf};
 ghost use Rattle.cs_piece.specs.Tables.{table_of, tables_in};
 ghost use Rattle.cs_tempo.specs.Performable.{IsPerformable};
 ghost use Rattle.cs_typed.specs.TypedTree as typed;
@@ -95,6 +95,7 @@ impl Setup {
         requires named { NamesWhatThereIs (typed.orchestra orchestra) }
         requires performable { IsPerformable orchestra.head plot }
         requires sizes { AreOfOneSize plot.events }
+        requires asks { AskForFew (typed.orchestra orchestra) }
         ensures orchestra { IfOk result (λ s. s.orchestra ≡ orchestra) }
         ensures plot { IfOk result (λ s. s.plot ≡ plot) }
         ensures within { OnOk result (limit_passed (areas_in (typed.orchestra orchestra) plot.events) ≡ None) }

@@ -3,6 +3,7 @@ ghost use Rattle.std.specs.Prelude.{◌≡◌, ◌<◌, ℕ, map, length, pos, s
 ghost use Rattle.cs_cells.specs.Areas.{IsLaid, limit_passed};
 ghost use Rattle.cs_ir.specs.Instruments.{Numbered};
 ghost use Rattle.cs_meaning.specs.Core.{Block};
+ghost use Rattle.cs_piece_meaning.specs.Bounded.{IsBounded};
 ghost use Rattle.cs_piece.specs.Compositions.{areas_in};
 ghost use Rattle.cs_piece.specs.Ready.{IsInstrumentOf, IsStageOf};
 ghost use Rattle.cs_piece.specs.Setups.{AreOfOneSize, composition_of};
@@ -36,6 +37,7 @@ impl Setup {
     pub fn facts(&self)
         ensures performable { IsPerformable self.now.orchestra.head self.now.plot }
         ensures sizes { AreOfOneSize self.now.plot.events }
+        ensures bounded { IsBounded (composition_of self.now) }
         ensures areas { self.now.layout ≡ areas_in (typed.orchestra self.now.orchestra) self.now.plot.events }
         ensures laid { IsLaid self.now.layout }
         ensures within { limit_passed self.now.layout ≡ None }

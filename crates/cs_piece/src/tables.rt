@@ -1,12 +1,14 @@
 // The tables of a piece: each number once, as the score first gives it, and frozen where nothing changes it.
-ghost use Rattle.std.specs.Prelude.{◌≡◌, ◌<◌, ◌++◌, ◌∷◌, [], ℕ, List, length, map, IfOk, OnOk, Some, None, true, false, if◌then◌else◌};
+ghost use Rattle.std.specs.Prelude.{◌≡◌, ◌<◌, ◌++◌, ◌∷◌, [], ℕ, List, length, map, IfOk, OnOk, Some, None, true};
+ghost use Rattle.std.specs.Prelude.{false, if◌then◌else◌};
 ghost use Rattle.std.specs.List.{All};
 ghost use Rattle.cs_code.specs.Lowered.{AreInstrumentsOf};
 ghost use Rattle.cs_gen.specs.Faults.{table_fault};
 ghost use Rattle.cs_gen.specs.Points.{points_of};
 ghost use Rattle.cs_piece.specs.Tables.{Given, firsts, given_by, given_in, table_given, table_of, tables_in};
 ghost use Rattle.cs_piece.specs.declared.tables.Times.TheVariants as often;
-ghost use Rattle.cs_piece.specs.inner.Marked.{IsRight, StandFor, frozen_by, given_of, is_marked, next_times, is_once, numbers_end, table_by, times_at};
+ghost use Rattle.cs_piece.specs.inner.Marked.{IsRight, StandFor, frozen_by, given_of, is_marked, next_times};
+ghost use Rattle.cs_piece.specs.inner.Marked.{is_once, numbers_end, table_by, times_at};
 ghost use Rattle.cs_tempo.specs.Performable.{IsActInRange};
 ghost use Rattle.cs_typed.specs.TypedTree as typed;
 

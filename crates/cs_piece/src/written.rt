@@ -75,7 +75,18 @@ impl Written {
         ensures { (n : ℕ) → n < numbers_end → is_marked self.new n ≡ (is_marked self.old n || ops_store n ops.now) }
     {
         for op in ops {
-            self.mark(stored_by(op.act));
+            self.mark_act(op.act);
+        }
+    }
+
+    /// Marks what an act may write.
+    fn mark_act(&mut self, act: Act)
+        ensures { (n : ℕ) → n < numbers_end → is_marked self.new n ≡ (is_marked self.old n || act_stores n act) }
+    {
+        match act {
+            Act::Save(Res::Table(number)) => mark_span(&mut self.numbers, number, number),
+            Act::Store(_, reach) => self.mark(reach),
+            _ => {}
         }
     }
 
@@ -86,7 +97,9 @@ impl Written {
         match reach {
             Reach::Nothing => {}
             Reach::Any => self.any = true,
-            Reach::Span(first, last) => mark_span(&mut self.numbers, first, last),
+            Reach::Span(first, last) => {
+                mark_span(&mut self.numbers, first as usize, last as usize);
+            }
         }
     }
 }
@@ -102,16 +115,5 @@ fn mark_span(numbers: &mut [bool], first: usize, last: usize)
     let end = last.min(NUMBERS_END - 1) + 1;
     for number in first..end {
         numbers[number] = true;
-    }
-}
-
-/// The tables that an act may write.
-fn stored_by(act: Act) -> Reach
-    ensures { (n : ℕ) → reaches result n ≡ act_stores n act }
-{
-    match act {
-        Act::Save(Res::Table(number)) => Reach::Span(number, number),
-        Act::Store(_, reach) => reach,
-        _ => Reach::Nothing,
     }
 }

@@ -31,7 +31,7 @@ the_asked words P asked e r = subst P (one_asked (reading words) r.0 asked r.1 e
 
 -- How a run ended, by what came of its words and its source: a composition, a refusal, a name that can't be read, words
 -- that ask for nothing; or memory was refused. A composition is heard and reported whole, unless a sink failed.
-pub data EndedBy {F K T B : Type 0} (see : Sight F K T B) (words : List Text) (before now : Scene F K T B) (s : Status) : Type 0 where
+pub data EndedBy {F K T B C : Type 0} (see : Sight F K T B C) (words : List Text) (before now : Scene F K T B C) (s : Status) : Type 0 where
   by_sound : (c : Composition) → Reads words (λ a. HasLoaded see a before now (Ok c))
       → (s ≡ status.Ok) ⊎ (Rose (see.wav before.wav).faults (see.wav now.wav).faults ⊎ Rose (see.talk before.talk).faults (see.talk now.talk).faults)
       → EndedBy see words before now s
@@ -41,7 +41,7 @@ pub data EndedBy {F K T B : Type 0} (see : Sight F K T B) (words : List Text) (b
   by_words : s ≡ status.Usage → reading words ≡ None → EndedBy see words before now s
   by_memory : s ≡ status.OutOfMemory → EndedBy see words before now s
 
-module _ {F K T B : Type 0} (see : Sight F K T B) (words : List Text) (before now : Scene F K T B) where
+module _ {F K T B C : Type 0} (see : Sight F K T B C) (words : List Text) (before now : Scene F K T B C) where
   abbrev Ended : Status → Type 0
   Ended s = EndedBy see words before now s
 
@@ -114,18 +114,18 @@ module _ {F K T B : Type 0} (see : Sight F K T B) (words : List Text) (before no
       sound_ends s c mean still silent (by_words is blank) = absurd (no_asked (reading words) asked blank e)
       sound_ends s c mean still silent (by_memory is) = inr is
 
-module _ {F K T B : Type 0} (see : Sight F K T B) where
-  pub wordless : (words : List Text) (s : Status) (before now : Scene F K T B) → IsRun see words s before now → reading words ≡ None
+module _ {F K T B C : Type 0} (see : Sight F K T B C) where
+  pub wordless : (words : List Text) (s : Status) (before now : Scene F K T B C) → IsRun see words s before now → reading words ≡ None
       → (s ≡ status.Usage) ⊎ (s ≡ status.OutOfMemory)
   wordless words s before now run e = unread_ends see words before now s e (ended_by see words before now s run.ended)
 
-  pub lacking : NoneLacking → (words : List Text) (s : Status) (before now : Scene F K T B) → IsRun see words s before now
+  pub lacking : NoneLacking → (words : List Text) (s : Status) (before now : Scene F K T B C) → IsRun see words s before now
       → Reads words (λ asked. (name : List ℕ) × LackWhereTold (see.shelf before.shelf).files asked.piece name)
       → (s ≡ status.ShelfFault) ⊎ (s ≡ status.OutOfMemory)
   lacking none words s before now run lack =
       lacking_ends see words before now lack.0 lack.1 none s lack.2.0 lack.2.1 (ended_by see words before now s run.ended)
 
-  pub refusals : OneMeaning → OnePair → NoneLacking → (words : List Text) (s : Status) (before now : Scene F K T B) (asked : Asked) (t : Texts)
+  pub refusals : OneMeaning → OnePair → NoneLacking → (words : List Text) (s : Status) (before now : Scene F K T B C) (asked : Asked) (t : Texts)
       (r : Refused)
       → IsRun see words s before now → reading words ≡ Some asked → AreTexts (see.shelf before.shelf).files asked.piece t
       → Mean asked.width t (Err r) → ¬ (Rose (see.shelf before.shelf).faults (see.shelf now.shelf).faults)
@@ -133,7 +133,7 @@ module _ {F K T B : Type 0} (see : Sight F K T B) where
   refusals m p none words s before now asked t r run e known mean calm =
       refusal_ends see words before now asked e m p none t known calm s r mean (ended_by see words before now s run.ended)
 
-  pub sounds : OneMeaning → OnePair → NoneLacking → (words : List Text) (s : Status) (before now : Scene F K T B) (asked : Asked) (t : Texts)
+  pub sounds : OneMeaning → OnePair → NoneLacking → (words : List Text) (s : Status) (before now : Scene F K T B C) (asked : Asked) (t : Texts)
       (c : Composition)
       → IsRun see words s before now → reading words ≡ Some asked → AreTexts (see.shelf before.shelf).files asked.piece t
       → Mean asked.width t (Ok c) → ¬ (Rose (see.shelf before.shelf).faults (see.shelf now.shelf).faults)

@@ -7,11 +7,9 @@ use Rattle.cs_piece.specs.Setups.{composition_of}
 use Rattle.cs_piece_meaning.specs.Course.{closing}
 use Rattle.cs_piece_meaning.specs.Heard.{frames_of}
 use Rattle.cs_piece_meaning.specs.Moments.{Composition}
-use Rattle.cs_desk.specs.declared.receipt.Tally.{Tally}
 use Rattle.cs_edge.specs.Files.{ShelfTold}
 use Rattle.cs_edge.specs.Moves.{SinkTold, WroteMore}
 use Rattle.cs_edge.specs.Told.{Rose}
-use Rattle.cs_life.specs.Standing.{kept_count}
 use Rattle.cs_perform.specs.Performances.{IsOutcomeOf, IsPart, IsPaused, IsWhole, if_told, lent}
 use Rattle.cs_perform.specs.declared.order.Outcome.{Outcome}
 use Rattle.cs_perform.specs.declared.order.Output.TheVariants.{SoundFile}
@@ -45,8 +43,8 @@ same_lines a b c d e a' b' c' d' e' p q r s t = cc
 same_counts : (c : Composition) (width : SampleWidth) (o : Outcome) → IsOutcomeOf c width o → counts_in (counts_told o) ≡ counts_of c width
 unfolding counts_of
 same_counts c width o is =
-    same_lines o.frames o.cycles o.started o.not_started o.out_of_range (c.cycles * c.head.ksmps) c.cycles (kept_count (closing c).started)
-    (kept_count (closing c).not_started) (count_by (is_out_of_range width c.head.dbfs) (frames_of c))
+    same_lines o.frames o.cycles o.started o.not_started o.out_of_range (c.cycles * c.head.ksmps) c.cycles (closing c).started
+    (closing c).not_started (count_by (is_out_of_range width c.head.dbfs) (frames_of c))
     is.frames is.cycles is.started is.not_started is.out_of_range
 
 not_silent : (silent : Bool) → output_of silent ≡ SoundFile → silent ≡ false
@@ -56,13 +54,13 @@ not_silent false e = refl
 said_as : (a b : SinkTold) (s t : Status) (name : List ℕ) → t ≡ s → Says a b (message_of t name) → Says a b (message_of s name)
 said_as a b s t name e says = let P : Status → Type 0 = λ x. Says a b (message_of x name) in subst P e says
 
-module _ {F K T B : Type 0} (see : Sight F K T B) where
-  untouched : (shelf shelf' : F) (wav : K) (talk talk' : T) (taps : List B) (tally : Tally)
+module _ {F K T B C : Type 0} (see : Sight F K T B C) where
+  untouched : (shelf shelf' : F) (wav : K) (talk talk' : T) (taps : List B) (tally : C)
       → IsUntouched see (scene shelf wav talk taps tally) (scene shelf' wav talk' taps tally)
   untouched shelf shelf' wav talk talk' taps tally = record { wav = refl; taps = refl; tally = refl }
 
   -- NO PIECE, and nothing was performed
-  module _ (words : List Text) (shelf shelf' : F) (wav : K) (talk talk' : T) (taps : List B) (tally : Tally) where
+  module _ (words : List Text) (shelf shelf' : F) (wav : K) (talk talk' : T) (taps : List B) (tally : C) where
     unplayed : (s : Status) → IsUnprepared see.shelf s words shelf shelf' (see.talk talk) (see.talk talk')
         → IsUnplayed see s words (scene shelf wav talk taps tally) (scene shelf' wav talk' taps tally)
     unplayed s h = record { unprepared = h; untouched = untouched shelf shelf' wav talk talk' taps tally }
@@ -91,9 +89,9 @@ module _ {F K T B : Type 0} (see : Sight F K T B) where
 
   -- whole, and then reported
   pub whole_sounded : (asked : Asked) (c : Composition) (head : Head) (o : Outcome) (s : Status) (shelf : F) (wav wav' : K) (talk talk' : T)
-      (taps taps' : List B) (tally tally' : Tally)
+      (taps taps' : List B) (tally tally' : C)
       → header_of_head head ≡ c.head
-      → IsWhole see.stands see.wav c head (order_of asked) asked.sound_file (lent wav taps tally) (lent wav' taps' tally')
+      → IsWhole see.stands see.wav see.counted c head (order_of asked) asked.sound_file (lent wav taps tally) (lent wav' taps' tally')
       → IsOutcomeOf c asked.width o → o.turns ≡ if_told (lines_of asked.turns) (turn_lines_of c)
       → HasReported (see.talk talk) (see.talk talk') (counts_in (counts_told o) ++ flat_map (λ tap. see.line tap line_room) taps' ++ o.turns) s
       → HasSounded see asked c s (scene shelf wav talk taps tally) (scene shelf wav' talk' taps' tally')
@@ -114,10 +112,10 @@ module _ {F K T B : Type 0} (see : Sight F K T B) where
 
   -- in part
   in_part : (asked : Asked) (c : Composition) (head : Head) (f : PlayFault) (t : Status) (shelf : F) (wav wav' : K) (talk talk' : T)
-      (taps taps' : List B) (tally tally' : Tally)
+      (taps taps' : List B) (tally tally' : C)
       → t ≡ fault_status f → header_of_head head ≡ c.head
-      → IsPart see.stands see.wav c head (order_of asked) asked.sound_file (lent wav taps tally) (lent wav' taps' tally')
-      → (f ≡ fault.OutOfMemory → IsPaused see.stands see.wav c head (order_of asked) asked.sound_file (lent wav taps tally) (lent wav' taps' tally'))
+      → IsPart see.stands see.wav see.counted c head (order_of asked) asked.sound_file (lent wav taps tally) (lent wav' taps' tally')
+      → (f ≡ fault.OutOfMemory → IsPaused see.stands see.wav see.counted c head (order_of asked) asked.sound_file (lent wav taps tally) (lent wav' taps' tally'))
       → (f ≡ fault.Sink → (output_of asked.silent ≡ SoundFile) × Rose (see.wav wav).faults (see.wav wav').faults)
       → Says (see.talk talk) (see.talk talk') (message_of t [])
       → HasSounded see asked c (fault_status f) (scene shelf wav talk taps tally) (scene shelf wav' talk' taps' tally')
@@ -133,10 +131,10 @@ module _ {F K T B : Type 0} (see : Sight F K T B) where
   )
 
   pub part_sounded : (asked : Asked) (c : Composition) (head : Head) (f : PlayFault) (r t : Status) (shelf : F) (wav wav' : K) (talk talk' : T)
-      (taps taps' : List B) (tally tally' : Tally)
+      (taps taps' : List B) (tally tally' : C)
       → r ≡ t → t ≡ fault_status f → header_of_head head ≡ c.head
-      → IsPart see.stands see.wav c head (order_of asked) asked.sound_file (lent wav taps tally) (lent wav' taps' tally')
-      → (f ≡ fault.OutOfMemory → IsPaused see.stands see.wav c head (order_of asked) asked.sound_file (lent wav taps tally) (lent wav' taps' tally'))
+      → IsPart see.stands see.wav see.counted c head (order_of asked) asked.sound_file (lent wav taps tally) (lent wav' taps' tally')
+      → (f ≡ fault.OutOfMemory → IsPaused see.stands see.wav see.counted c head (order_of asked) asked.sound_file (lent wav taps tally) (lent wav' taps' tally'))
       → (f ≡ fault.Sink → (output_of asked.silent ≡ SoundFile) × Rose (see.wav wav).faults (see.wav wav').faults)
       → Says (see.talk talk) (see.talk talk') (message_of t [])
       → HasSounded see asked c r (scene shelf wav talk taps tally) (scene shelf wav' talk' taps' tally')
@@ -146,16 +144,16 @@ module _ {F K T B : Type 0} (see : Sight F K T B) where
 
   -- The piece of a source that was performed. The shelf has no part in its performance.
   module _ (words : List Text) (asked : Asked) (c : Composition) (shelf shelf' : F) (wav wav' : K) (talk talk' : T) (taps taps' : List B)
-      (tally tally' : Tally) (e : reading words ≡ Some asked)
+      (tally tally' : C) (e : reading words ≡ Some asked)
       (loaded : IsLoaded (see.shelf shelf) (see.shelf shelf') asked.width asked.piece (Ok c)) where
-    abbrev before : Scene F K T B
+    abbrev before : Scene F K T B C
     before = scene shelf wav talk taps tally
 
-    abbrev now : Scene F K T B
+    abbrev now : Scene F K T B C
     now = scene shelf' wav' talk' taps' tally'
 
     pub ends_sounded : (s : Status)
-        → HasSounded (sight (λ (_ : Unit {0}). see.shelf shelf) see.wav see.talk see.stands see.line) asked c s
+        → HasSounded (sight (λ (_ : Unit {0}). see.shelf shelf) see.wav see.talk see.counted see.stands see.line) asked c s
         (scene tt wav talk taps tally) (scene tt wav' talk' taps' tally')
         → EndsBy see s words before now
     ends_sounded status.Ok h = (
@@ -197,19 +195,19 @@ module _ {F K T B : Type 0} (see : Sight F K T B) where
 
   -- What was prepared, a piece or what keeps the run from its sound. Talk is `mid` when that is known.
   pub prepared_run : (words : List Text) (p : Result Prepared Status) (r : Status) (shelf shelf' : F) (wav wav' : K)
-      (talk mid talk' : T) (taps taps' : List B) (tally tally' : Tally)
+      (talk mid talk' : T) (taps taps' : List B) (tally tally' : C)
       → IsReadFor see.shelf words shelf shelf'
       → IfOk p (IsPrepared see.shelf words shelf shelf')
       → OnOk p (mid ≡ talk)
       → IfErr p (λ s. IsUnprepared see.shelf s words shelf shelf' (see.talk talk) (see.talk mid))
-      → IfOk p (λ x. (told : ShelfTold) → HasSounded (sight (λ (_ : Unit {0}). told) see.wav see.talk see.stands see.line)
+      → IfOk p (λ x. (told : ShelfTold) → HasSounded (sight (λ (_ : Unit {0}). told) see.wav see.talk see.counted see.stands see.line)
       (asked_in x.order) (composition_of x.setup) r (scene tt wav mid taps tally) (scene tt wav' talk' taps' tally'))
       → IfErr p (λ s. r ≡ s)
       → (IsErr p → (wav' ≡ wav) × (talk' ≡ mid) × (taps' ≡ taps) × (tally' ≡ tally))
       → IsRun see words r (scene shelf wav talk taps tally) (scene shelf' wav' talk' taps' tally')
   prepared_run words (Ok p) r shelf shelf' wav wav' talk mid talk' taps taps' tally tally' was prepared quiet unprepared sounds stopped still =
       let c : Composition = composition_of p.setup in
-      let P : T → Type 0 = λ t. HasSounded (sight (λ (_ : Unit {0}). see.shelf shelf) see.wav see.talk see.stands see.line) (asked_in p.order) c r
+      let P : T → Type 0 = λ t. HasSounded (sight (λ (_ : Unit {0}). see.shelf shelf) see.wav see.talk see.counted see.stands see.line) (asked_in p.order) c r
       (scene tt wav t taps tally) (scene tt wav' talk' taps' tally') in
       record {
         ended = ends_sounded words (asked_in p.order) c shelf shelf' wav wav' talk talk' taps taps' tally tally' prepared.asked prepared.loaded r

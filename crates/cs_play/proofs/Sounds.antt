@@ -85,16 +85,16 @@ told_both P (Some x) None y e f = absurd (cc)
 told_both P None (Some z) y e f = absurd f
 told_both P (Some x) (Some z) y e f = (x, refl, subst (P x) (some_is z y e) f)
 
--- a sink that was written has the name and the bytes
-finished_is : (before now : SinkTold) (y : Held) (name bytes : List ℕ) → now.held ≡ Some y → Finished before now name bytes
-    → (y.name ≡ Some name) × (y.bytes ≡ bytes)
+-- what a sink is known to hold that tells it
+finished_is : (before now : SinkTold) (y : Held) (name bytes : List ℕ) → now.held ≡ Some y
+    → Finished before now name bytes → y ≡ ended_file name bytes
 finished_is before now y name bytes e h =
-    let is = (told_both (λ _ k. k ≡ ended_file name bytes) before.held now.held y e h.taken).2 in (ap (λ (k : Held). k.name) is, ap (λ (k : Held). k.bytes) is)
+    (told_both (λ _ k. k ≡ ended_file name bytes) before.held now.held y e h.taken).2
 
 wrote_is : (before now : SinkTold) (y : Held) (name bytes : List ℕ) → now.held ≡ Some y → Wrote before now name bytes
-    → (y.name ≡ Some name) × (y.bytes ≡ bytes)
+    → y ≡ open_file name bytes
 wrote_is before now y name bytes e h =
-    let is = (told_both (λ _ k. k ≡ open_file name bytes) before.held now.held y e h.taken).2 in (ap (λ (k : Held). k.name) is, ap (λ (k : Held). k.bytes) is)
+    (told_both (λ _ k. k ≡ open_file name bytes) before.held now.held y e h.taken).2
 
 module _ (t : Texts) (asked : Asked) (c : Composition) (head : Head) (means : Mean asked.width t (Ok c)) (head_is : header_of_head head ≡ c.head) where
   abbrev sound : List ℕ
@@ -110,12 +110,14 @@ module _ (t : Texts) (asked : Asked) (c : Composition) (head : Head) (means : Me
   finished_front : (before now : SinkTold) (y : Held) → now.held ≡ Some y → Finished before now asked.sound_file sound
       → HoldsSoundFront t asked before.held y
   finished_front before now y e h =
-      let is = finished_is before now y asked.sound_file sound e h in sound_front before.held y sound is.0 is.1 (front_all sound)
+      let is = finished_is before now y asked.sound_file sound e h in
+      sound_front before.held y sound (ap (λ (k : Held). k.name) is) (ap (λ (k : Held). k.bytes) is) (front_all sound)
 
   wrote_front : (before now : SinkTold) (y : Held) (bytes : List ℕ) → now.held ≡ Some y → IsFront bytes sound
       → Wrote before now asked.sound_file bytes → HoldsSoundFront t asked before.held y
   wrote_front before now y bytes e front h =
-      let is = wrote_is before now y asked.sound_file bytes e h in sound_front before.held y bytes is.0 is.1 front
+      let is = wrote_is before now y asked.sound_file bytes e h in
+      sound_front before.held y bytes (ap (λ (k : Held). k.name) is) (ap (λ (k : Held). k.bytes) is) front
 
   stopped_front : (before now : SinkTold) (y : Held) (bytes : List ℕ) → now.held ≡ Some y → IsFront bytes sound
       → Stopped before now asked.sound_file bytes → HoldsSoundFront t asked before.held y
@@ -129,20 +131,29 @@ module _ (t : Texts) (asked : Asked) (c : Composition) (head : Head) (means : Me
 
 -- AFTER A RUN
 
-module _ {F K T B : Type 0} (see : Sight F K T B) (pair : OnePair) (words : List Text) (before now : Scene F K T B) (asked : Asked) (t : Texts)
+module _ {F K T B C : Type 0} (see : Sight F K T B C) (pair : OnePair) (words : List Text) (before now : Scene F K T B C) (asked : Asked) (t : Texts)
     (e : reading words ≡ Some asked) (known : AreTexts (see.shelf before.shelf).files asked.piece t) (y : Held)
     (holds : (see.wav now.wav).held ≡ Some y) where
   meant : (c : Composition) → HasLoaded see asked before now (Ok c) → Mean asked.width t (Ok c)
   meant c loaded = known_means pair (see.shelf before.shelf) asked.width asked.piece t (Ok c) known loaded.means
 
   -- the file of a run that ended Ok
-  pub file_is_sound : IsRun see words status.Ok before now → asked.silent ≡ false → (y.name ≡ Some asked.sound_file) × IsSoundOf t asked.width y.bytes
+  pub file_is_sound : IsRun see words status.Ok before now → asked.silent ≡ false → (y.name ≡ Some asked.sound_file) × (y.ended ≡ true) × IsSoundOf t asked.width y.bytes
   file_is_sound run loud =
       let one : IsOk see asked before now = the_asked words (λ a. IsOk see a before now) asked e run.ended in
       let bytes : List ℕ = wav_of (frames_of one.c) one.performed.head asked.width in
       let is = finished_is (see.wav before.wav) (see.wav now.wav) y asked.sound_file bytes holds
-      (written_is see.wav asked.silent before.wav now.wav (λ b n. Finished b n asked.sound_file bytes) loud one.performed.whole.written) in
-      (is.0, record { c = one.c; means = meant one.c one.loaded; head = one.performed.head; head_is = one.performed.head_is; is = is.1 })
+      (written_is see.wav asked.silent before.wav now.wav (λ b n. Finished b n asked.sound_file bytes) loud one.performed.whole.written) in (
+        ap (λ (k : Held). k.name) is,
+        ap (λ (k : Held). k.ended) is,
+        record {
+          c = one.c;
+          means = meant one.c one.loaded;
+          head = one.performed.head;
+          head_is = one.performed.head_is;
+          is = ap (λ (k : Held). k.bytes) is;
+        },
+      )
 
   abbrev Front : Type 0
   Front = HoldsSoundFront t asked (see.wav before.wav).held y

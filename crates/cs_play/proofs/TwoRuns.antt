@@ -72,8 +72,8 @@ means_as told a b r alike means =
     let W : SampleWidth → Type 0 = λ w. SourceMeans told w a.piece r in
     subst W (sym alike.width) (subst Q (sym alike.piece) means)
 
-module _ {F K T B F' K' T' B' : Type 0} (see : Sight F K T B) (see' : Sight F' K' T' B') where
-  one_sound : (a b : Asked) (c : Composition) (before now : Scene F K T B) (before' now' : Scene F' K' T' B') → AskAlike a b
+module _ {F K T B C F' K' T' B' C' : Type 0} (see : Sight F K T B C) (see' : Sight F' K' T' B' C') where
+  one_sound : (a b : Asked) (c : Composition) (before now : Scene F K T B C) (before' now' : Scene F' K' T' B' C') → AskAlike a b
       → WasPerformed see a c before now → WasPerformed see' b c before' now' → a.silent ≡ false → b.silent ≡ false
       → HoldAlike (see.wav now.wav).held (see'.wav now'.wav).held
   one_sound a b c before now before' now' alike p q loud loud' =
@@ -90,11 +90,11 @@ module _ {F K T B F' K' T' B' : Type 0} (see : Sight F K T B) (see' : Sight F' K
       (subst (HoldsWhereTold (see'.wav now'.wav).held) same second)
 
   -- THE SAME REPORT
-  one_report : (a b : Asked) (c : Composition) (now : Scene F K T B) (now' : Scene F' K' T' B') → a.width ≡ b.width → a.turns ≡ b.turns
+  one_report : (a b : Asked) (c : Composition) (now : Scene F K T B C) (now' : Scene F' K' T' B' C') → a.width ≡ b.width → a.turns ≡ b.turns
       → meter_lines see.line now.taps ≡ meter_lines see'.line now'.taps → report_in see a c now ≡ report_in see' b c now'
   one_report a b c now now' w t m = λ i. counts_of c (w i) ++ m i ++ if_told (lines_of (t i)) (turn_lines_of c)
 
-  both_ok : OneMeaning → OnePair → (a b : Asked) (before now : Scene F K T B) (before' now' : Scene F' K' T' B') → AskAlike a b
+  both_ok : OneMeaning → OnePair → (a b : Asked) (before now : Scene F K T B C) (before' now' : Scene F' K' T' B' C') → AskAlike a b
       → TellAlike a.piece (see.shelf before.shelf).files (see'.shelf before'.shelf).files → IsOk see a before now → IsOk see' b before' now'
       → SoundAlike see see' a b before now before' now'
   both_ok m p a b before now before' now' alike told x y =
@@ -117,7 +117,7 @@ module _ {F K T B F' K' T' B' : Type 0} (see : Sight F K T B) (see' : Sight F' K
         bytes = one_sound a b x.c before now before' now' alike x.performed second;
       }
 
-  pub alike : OneMeaning → OnePair → (words others : List Text) (a b : Asked) (before now : Scene F K T B) (before' now' : Scene F' K' T' B')
+  pub alike : OneMeaning → OnePair → (words others : List Text) (a b : Asked) (before now : Scene F K T B C) (before' now' : Scene F' K' T' B' C')
       → reading words ≡ Some a → reading others ≡ Some b → AskAlike a b
       → TellAlike a.piece (see.shelf before.shelf).files (see'.shelf before'.shelf).files
       → IsRun see words status.Ok before now → IsRun see' others status.Ok before' now' → SoundAlike see see' a b before now before' now'
@@ -133,7 +133,7 @@ pub data EndedFor (told : ShelfTold) (asked : Asked) (s : Status) : Type 0 where
   refusing : (r : Refused) → s ≡ refusal r → SourceMeans told asked.width asked.piece (Err r) → EndedFor told asked s
   missing : (name : List ℕ) → s ≡ status.ShelfFault → LackWhereTold told.files asked.piece name → EndedFor told asked s
 
-module _ {F K T B : Type 0} (see : Sight F K T B) (words : List Text) (asked : Asked) (before now : Scene F K T B)
+module _ {F K T B C : Type 0} (see : Sight F K T B C) (words : List Text) (asked : Asked) (before now : Scene F K T B C)
     (e : reading words ≡ Some asked) (calm : HadNoFault see before now) where
   abbrev Ended : Status → Type 0
   Ended s = EndedFor (see.shelf before.shelf) asked s
@@ -195,9 +195,9 @@ as_asked told a b s alike (sounding c e h) = sounding c e (means_as told a b (Ok
 as_asked told a b s alike (refusing r e h) = refusing r e (means_as told a b (Err r) alike h)
 as_asked told a b s alike (missing name e h) = missing name e (subst (λ (l : Piece). LackWhereTold told.files l name) (sym alike.piece) h)
 
-module _ {F K T B F' K' T' B' : Type 0} (see : Sight F K T B) (see' : Sight F' K' T' B') where
-  pub end_alike : OneMeaning → OnePair → NoneLacking → (words others : List Text) (s t : Status) (a b : Asked) (before now : Scene F K T B)
-      (before' now' : Scene F' K' T' B') → reading words ≡ Some a → reading others ≡ Some b → AskAlike a b
+module _ {F K T B C F' K' T' B' C' : Type 0} (see : Sight F K T B C) (see' : Sight F' K' T' B' C') where
+  pub end_alike : OneMeaning → OnePair → NoneLacking → (words others : List Text) (s t : Status) (a b : Asked) (before now : Scene F K T B C)
+      (before' now' : Scene F' K' T' B' C') → reading words ≡ Some a → reading others ≡ Some b → AskAlike a b
       → TellAlike a.piece (see.shelf before.shelf).files (see'.shelf before'.shelf).files
       → IsRun see words s before now → IsRun see' others t before' now' → HadNoFault see before now → HadNoFault see' before' now'
       → s ≢ status.OutOfMemory → t ≢ status.OutOfMemory → s ≡ t

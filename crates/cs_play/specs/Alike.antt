@@ -33,11 +33,12 @@ abbrev pub HoldAlike : Option Held → Option Held → Type 0
 HoldAlike (Some a) (Some b) = a.bytes ≡ b.bytes
 HoldAlike _ _ = ⊤
 
--- Two runs performed one composition, which their texts mean, so that their meters were told the same frames and their
--- tallies count the same. Each said its report, and the two are the same where turns are asked for alike and the lines of the
--- meters are the same. Where both wrote sound files, the two are the same byte for byte.
-pub record SoundAlike {F K T B F' K' T' B' : Type 0} (see : Sight F K T B) (see' : Sight F' K' T' B') (a b : Asked)
-    (before now : Scene F K T B) (before' now' : Scene F' K' T' B') : Type 0 where
+-- Two runs performed one composition, which their texts mean, so that their meters were told the same frames, and each
+-- cycle of either was counted by the voices that were heard in it. Each said its report, and the two are the same where
+-- turns are asked for alike and the lines of the meters are the same. Where both wrote sound files, the two are the same
+-- byte for byte.
+pub record SoundAlike {F K T B C F' K' T' B' C' : Type 0} (see : Sight F K T B C) (see' : Sight F' K' T' B' C') (a b : Asked)
+    (before now : Scene F K T B C) (before' now' : Scene F' K' T' B' C') : Type 0 where
   pub c : Composition
   pub means : SourceMeans (see.shelf before.shelf) a.width a.piece (Ok c)
   pub means' : SourceMeans (see'.shelf before'.shelf) b.width b.piece (Ok c)
@@ -50,7 +51,7 @@ pub record SoundAlike {F K T B F' K' T' B' : Type 0} (see : Sight F K T B) (see'
   pub bytes : a.silent ≡ false → b.silent ≡ false → HoldAlike (see.wav now.wav).held (see'.wav now'.wav).held
 
 -- In a run nothing failed that it has to do with: no count of faults rose.
-pub record HadNoFault {F K T B : Type 0} (see : Sight F K T B) (before now : Scene F K T B) : Type 0 where
+pub record HadNoFault {F K T B C : Type 0} (see : Sight F K T B C) (before now : Scene F K T B C) : Type 0 where
   pub shelf : ¬ (Rose (see.shelf before.shelf).faults (see.shelf now.shelf).faults)
   pub wav : ¬ (Rose (see.wav before.wav).faults (see.wav now.wav).faults)
   pub talk : ¬ (Rose (see.talk before.talk).faults (see.talk now.talk).faults)

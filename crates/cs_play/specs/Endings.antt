@@ -35,64 +35,64 @@ abbrev pub order_of : Asked → Order
 order_of asked = record { output = output_of asked.silent; width = asked.width; turns = lines_of asked.turns }
 
 -- what of it is lent to a performance
-abbrev pub lent_in : {F K T B : Type 0} → Scene F K T B → Lent B K
+abbrev pub lent_in : {F K T B C : Type 0} → Scene F K T B C → Lent B K C
 lent_in s = lent s.wav s.taps s.tally
 
-module _ {F K T B : Type 0} (see : Sight F K T B) where
-  -- The sound file, the meters and the tally are as before.
-  pub record IsUntouched (before now : Scene F K T B) : Type 0 where
+module _ {F K T B C : Type 0} (see : Sight F K T B C) where
+  -- The sound file, the meters and the count are as before.
+  pub record IsUntouched (before now : Scene F K T B C) : Type 0 where
     pub wav : now.wav ≡ before.wav
     pub taps : now.taps ≡ before.taps
     pub tally : now.tally ≡ before.tally
 
   -- the source of the piece was read and means this
-  abbrev pub HasLoaded : Asked → Scene F K T B → Scene F K T B → Result Composition Refused → Type 0
+  abbrev pub HasLoaded : Asked → Scene F K T B C → Scene F K T B C → Result Composition Refused → Type 0
   HasLoaded asked before now r = IsLoaded (see.shelf before.shelf) (see.shelf now.shelf) asked.width asked.piece r
 
-  -- A composition was performed whole: each meter was told all its frames, the tally counts its cycles and their
-  -- notes, and the sound file has its header and samples, or with `-n` had no call.
-  pub record WasPerformed (asked : Asked) (c : Composition) (before now : Scene F K T B) : Type 0 where
+  -- A composition was performed whole: each meter was told all its frames, each of its cycles was counted by the
+  -- voices that were heard in it, and the sound file has its header and samples, or with `-n` had no call.
+  pub record WasPerformed (asked : Asked) (c : Composition) (before now : Scene F K T B C) : Type 0 where
     pub head : Head
     pub head_is : header_of_head head ≡ c.head
-    pub whole : IsWhole see.stands see.wav c head (order_of asked) asked.sound_file (lent_in before) (lent_in now)
+    pub whole : IsWhole see.stands see.wav see.counted c head (order_of asked) asked.sound_file (lent_in before) (lent_in now)
 
   -- Some number of its first cycles were.
-  pub record WasPartlyPerformed (asked : Asked) (c : Composition) (before now : Scene F K T B) : Type 0 where
+  pub record WasPartlyPerformed (asked : Asked) (c : Composition) (before now : Scene F K T B C) : Type 0 where
     pub head : Head
     pub head_is : header_of_head head ≡ c.head
-    pub part : IsPart see.stands see.wav c head (order_of asked) asked.sound_file (lent_in before) (lent_in now)
+    pub part : IsPart see.stands see.wav see.counted c head (order_of asked) asked.sound_file (lent_in before) (lent_in now)
 
   -- Some number of its first cycles were, and the sound file, where it was begun, has its header and the samples of
   -- just these.
-  pub record WasPaused (asked : Asked) (c : Composition) (before now : Scene F K T B) : Type 0 where
+  pub record WasPaused (asked : Asked) (c : Composition) (before now : Scene F K T B C) : Type 0 where
     pub head : Head
     pub head_is : header_of_head head ≡ c.head
-    pub paused : IsPaused see.stands see.wav c head (order_of asked) asked.sound_file (lent_in before) (lent_in now)
+    pub paused : IsPaused see.stands see.wav see.counted c head (order_of asked) asked.sound_file (lent_in before) (lent_in now)
 
   -- the report, with the lines of the meters as they are now
-  abbrev pub report_in : Asked → Composition → Scene F K T B → List ℕ
+  abbrev pub report_in : Asked → Composition → Scene F K T B C → List ℕ
   report_in asked c now = report_of see.line c asked.width (lines_of asked.turns) now.taps
 
   -- Talk has the line of a status, where this is the name that can't be read; or the front of it where its count rose.
-  abbrev pub HasLine : Status → List ℕ → Scene F K T B → Scene F K T B → Type 0
+  abbrev pub HasLine : Status → List ℕ → Scene F K T B C → Scene F K T B C → Type 0
   HasLine s name before now = Says (see.talk before.talk) (see.talk now.talk) (message_of s name)
 
   -- Ok: the source means a composition, which was performed whole, and talk has the report.
-  pub record IsOk (asked : Asked) (before now : Scene F K T B) : Type 0 where
+  pub record IsOk (asked : Asked) (before now : Scene F K T B C) : Type 0 where
     pub c : Composition
     pub loaded : HasLoaded asked before now (Ok c)
     pub performed : WasPerformed asked c before now
     pub report : WroteMore (see.talk before.talk) (see.talk now.talk) (report_in asked c now)
 
   -- TalkFault: the same, but talk failed and has the front of the report.
-  pub record IsTalkFault (asked : Asked) (before now : Scene F K T B) : Type 0 where
+  pub record IsTalkFault (asked : Asked) (before now : Scene F K T B C) : Type 0 where
     pub c : Composition
     pub loaded : HasLoaded asked before now (Ok c)
     pub performed : WasPerformed asked c before now
     pub report : SaysPart (see.talk before.talk) (see.talk now.talk) (report_in asked c now)
 
   -- SinkFault: the source means a composition, of which some cycles were performed when the sound file failed.
-  pub record IsSinkFault (asked : Asked) (before now : Scene F K T B) : Type 0 where
+  pub record IsSinkFault (asked : Asked) (before now : Scene F K T B C) : Type 0 where
     pub c : Composition
     pub loaded : HasLoaded asked before now (Ok c)
     pub performed : WasPartlyPerformed asked c before now
@@ -101,22 +101,22 @@ module _ {F K T B : Type 0} (see : Sight F K T B) where
     pub line : HasLine status.SinkFault [] before now
 
   -- Memory was refused while a composition was performed that the source means, between two cycles.
-  pub record IsCutShort (asked : Asked) (before now : Scene F K T B) : Type 0 where
+  pub record IsCutShort (asked : Asked) (before now : Scene F K T B C) : Type 0 where
     pub c : Composition
     pub loaded : HasLoaded asked before now (Ok c)
     pub performed : WasPaused asked c before now
 
   -- OutOfMemory: nothing was performed, or some cycles of a composition.
-  pub record IsStarved (words : List Text) (before now : Scene F K T B) : Type 0 where
+  pub record IsStarved (words : List Text) (before now : Scene F K T B C) : Type 0 where
     pub performed : IsUntouched before now ⊎ Reads words (λ asked. IsCutShort asked before now)
     pub line : HasLine status.OutOfMemory [] before now
 
   -- Usage, ShelfFault and the refusals: there is no piece, and nothing was performed.
-  pub record IsUnplayed (s : Status) (words : List Text) (before now : Scene F K T B) : Type 0 where
+  pub record IsUnplayed (s : Status) (words : List Text) (before now : Scene F K T B C) : Type 0 where
     pub unprepared : IsUnprepared see.shelf s words before.shelf now.shelf (see.talk before.talk) (see.talk now.talk)
     pub untouched : IsUntouched before now
 
-  abbrev pub EndsBy : Status → List Text → Scene F K T B → Scene F K T B → Type 0
+  abbrev pub EndsBy : Status → List Text → Scene F K T B C → Scene F K T B C → Type 0
   EndsBy status.Ok words before now = Reads words (λ asked. IsOk asked before now)
   EndsBy status.TalkFault words before now = Reads words (λ asked. IsTalkFault asked before now)
   EndsBy status.SinkFault words before now = Reads words (λ asked. IsSinkFault asked before now)

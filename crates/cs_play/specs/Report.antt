@@ -5,17 +5,16 @@ use Rattle.cs_base.specs.declared.width.SampleWidth.{SampleWidth}
 use Rattle.cs_piece_meaning.specs.Course.{closing}
 use Rattle.cs_piece_meaning.specs.Heard.{frames_of}
 use Rattle.cs_piece_meaning.specs.Moments.{Composition}
-use Rattle.cs_life.specs.Standing.{kept_count}
 use Rattle.cs_perform.specs.Performances.{if_told}
 use Rattle.cs_perform.specs.declared.order.TurnLines.{TurnLines}
 use Rattle.cs_report.specs.Report.{count_lines, line_room}
 use Rattle.cs_turns.specs.Turns.{turn_lines_of}
 use Rattle.cs_wav.specs.Wav.{is_out_of_range}
 
--- the counts of a composition; those of starts, the ones at the very end among them, stay at 2^64 - 1
+-- the counts of a composition, the starts at the very end among those of starts
 unfoldable pub counts_of : Composition → SampleWidth → List ℕ
 counts_of c width =
-    count_lines (c.cycles * c.head.ksmps) c.cycles (kept_count (closing c).started) (kept_count (closing c).not_started)
+    count_lines (c.cycles * c.head.ksmps) c.cycles (closing c).started (closing c).not_started
     (count_by (is_out_of_range width c.head.dbfs) (frames_of c))
 
 -- the lines of meters, one behind the other

@@ -11,10 +11,11 @@
 //! How many workers there are may be changed without anyone noticing; so may whatever `perform` leaves open.
 //!
 //! Modules in reading order: `top` (the whole run), `preparing` (words and texts), `sounding` (a piece is performed and
-//! reported on), `laws`.
+//! reported on), `player` (by how many workers), `laws`.
 #![tactic(auto)]
 
 mod laws;
+mod player;
 mod preparing;
 mod sounding;
 mod top;
@@ -25,4 +26,4 @@ pub use laws::{
     sounds_decide, texts_have_one_sound_or_refusal, words_decide,
 };
 pub use preparing::{Prepared, prepare};
-pub use top::csplay;
+pub use top::{csplay, csplay_alone};

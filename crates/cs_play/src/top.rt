@@ -9,22 +9,23 @@ ghost use Rattle.cs_arguments.specs.Orders.{asked_in};
 ghost use Rattle.cs_piece.specs.Setups.{composition_of};
 ghost use Rattle.cs_source.specs.Loaded.{FitsFile};
 
+use crate::player::{Alone, Host};
 use crate::preparing::{Prepared, prepare};
-use crate::sounding::sound;
-use cs_desk::Tally;
+use crate::sounding::{sound, sound_alone};
 use cs_edge::{Gate, Shelf, Sink, Tap};
+use cs_perform::Counter;
 use cs_report::Status;
 use std::alloc::Global;
 use std::sync::Wait;
 use std::thread::Threads;
 
 /// All that the program does: reads the words behind its name, takes the piece that they ask for from the shelf or
-/// makes the demo, performs it, writes the sound file into `wav`, tells the mix to each of `taps`, counts cycles and
-/// notes in `tally`, and says on `talk` the report, or why there is none. `IsRun` says what each status means. The
-/// tally has counted at most 2^62 cycles and notes before. As many workers perform as the words ask for, though no
+/// makes the demo, performs it, writes the sound file into `wav`, tells the mix to each of `taps`, counts the cycles
+/// by their receipts in `tally`, and says on `talk` the report, or why there is none. `IsRun` says what each status
+/// means. `tally` has room for 2^42 cycles and notes. As many workers perform as the words ask for, though no
 /// more than there are processors, or two where there is one; `gate` is handed to them, to be called before each
 /// note.
-pub fn csplay<R: Threads + Wait + Sync, F: Shelf, K: Sink, T: Sink, G: Gate + Sync>(
+pub fn csplay<R: Threads + Wait + Sync, F: Shelf, K: Sink, T: Sink, C: Counter, G: Gate + Sync>(
     rt: &R,
     alloc: Global,
     words: &[String],
@@ -33,35 +34,59 @@ pub fn csplay<R: Threads + Wait + Sync, F: Shelf, K: Sink, T: Sink, G: Gate + Sy
     talk: &mut T,
     taps: &mut Vec<Box<dyn Tap>>,
     gate: &G,
-    tally: &mut Tally,
+    tally: &mut C,
 ) -> Status
-    requires { (tally.old.cycles ≤ 2 ^ 62) × (tally.old.notes ≤ 2 ^ 62) }
-    ensures { IsRun (sight F.tells K.tells T.tells (λ t h. stands_for t h) (λ t room. text t room))
+    requires { 2 ^ 42 ≤ C.room tally.old }
+    ensures { IsRun (sight F.tells K.tells T.tells C.has_counted (λ t h. stands_for t h) (λ t room. text t room))
         (texts words.now) result
         (scene shelf.old wav.old talk.old taps.old.items tally.old)
         (scene shelf.new wav.new talk.new taps.new.items tally.new) }
 {
     let prepared = prepare(alloc, words, shelf, talk);
-    let status = sound_prepared(rt, alloc, &prepared, wav, talk, taps, gate, tally);
+    let host = Host { rt, alloc, gate };
+    let status = sound_prepared(&host, &prepared, wav, talk, taps, tally);
     drop(prepared);
     status
 }
 
-/// Performs the piece that was prepared. Where there is none, that is the end, and nothing more is done.
-fn sound_prepared<R: Threads + Wait + Sync, K: Sink, T: Sink, G: Gate + Sync>(
-    rt: &R,
+/// The same by one worker, the caller, however many the words ask for. It has no runtime, so it starts no thread, waits
+/// for nobody, and returns.
+pub fn csplay_alone<F: Shelf, K: Sink, T: Sink, C: Counter, G: Gate>(
     alloc: Global,
-    prepared: &Result<Prepared<'_>, Status>,
+    words: &[String],
+    shelf: &mut F,
     wav: &mut K,
     talk: &mut T,
     taps: &mut Vec<Box<dyn Tap>>,
     gate: &G,
-    tally: &mut Tally,
+    tally: &mut C,
 ) -> Status
-    requires tally { (tally.old.cycles ≤ 2 ^ 62) × (tally.old.notes ≤ 2 ^ 62) }
+    requires { 2 ^ 42 ≤ C.room tally.old }
+    ensures { IsRun (sight F.tells K.tells T.tells C.has_counted (λ t h. stands_for t h) (λ t room. text t room))
+        (texts words.now) result
+        (scene shelf.old wav.old talk.old taps.old.items tally.old)
+        (scene shelf.new wav.new talk.new taps.new.items tally.new) }
+{
+    let found = prepare(alloc, words, shelf, talk);
+    let alone = Alone { alloc, gate };
+    let status = sound_prepared_alone(&alone, &found, wav, talk, taps, tally);
+    drop(found);
+    status
+}
+
+/// Performs the piece that was prepared. Where there is none, that is the end, and nothing more is done.
+fn sound_prepared<R: Threads + Wait + Sync, G: Gate + Sync, K: Sink, T: Sink, C: Counter>(
+    host: &Host<'_, R, G>,
+    prepared: &Result<Prepared<'_>, Status>,
+    wav: &mut K,
+    talk: &mut T,
+    taps: &mut Vec<Box<dyn Tap>>,
+    tally: &mut C,
+) -> Status
+    requires room { 2 ^ 42 ≤ C.room tally.old }
     requires within { IfOk prepared.now (λ p. FitsFile p.order.width p.setup) }
     ensures sounded { IfOk prepared.now (λ p. (told : ShelfTold)
-        → HasSounded (sight (λ (_ : ⊤). told) K.tells T.tells (λ t h. stands_for t h) (λ t room. text t room))
+        → HasSounded (sight (λ (_ : ⊤). told) K.tells T.tells C.has_counted (λ t h. stands_for t h) (λ t room. text t room))
         (asked_in p.order)
         (composition_of p.setup) result (scene tt wav.old talk.old taps.old.items tally.old)
         (scene tt wav.new talk.new taps.new.items tally.new)) }
@@ -70,17 +95,33 @@ fn sound_prepared<R: Threads + Wait + Sync, K: Sink, T: Sink, G: Gate + Sync>(
         × (taps.new.items ≡ taps.old.items) × (tally.new ≡ tally.old) }
 {
     match prepared {
-        Ok(piece) => sound(
-            rt,
-            alloc,
-            &piece.order,
-            &piece.setup,
-            wav,
-            talk,
-            taps,
-            gate,
-            tally,
-        ),
+        Ok(piece) => sound(host, piece, wav, talk, taps, tally),
+        Err(status) => *status,
+    }
+}
+
+/// The same by the caller alone.
+fn sound_prepared_alone<G: Gate, K: Sink, T: Sink, C: Counter>(
+    alone: &Alone<'_, G>,
+    prepared: &Result<Prepared<'_>, Status>,
+    wav: &mut K,
+    talk: &mut T,
+    taps: &mut Vec<Box<dyn Tap>>,
+    tally: &mut C,
+) -> Status
+    requires room { 2 ^ 42 ≤ C.room tally.old }
+    requires within { IfOk prepared.now (λ p. FitsFile p.order.width p.setup) }
+    ensures sounded { IfOk prepared.now (λ p. (told : ShelfTold)
+        → HasSounded (sight (λ (_ : ⊤). told) K.tells T.tells C.has_counted (λ t h. stands_for t h) (λ t room. text t room))
+        (asked_in p.order)
+        (composition_of p.setup) result (scene tt wav.old talk.old taps.old.items tally.old)
+        (scene tt wav.new talk.new taps.new.items tally.new)) }
+    ensures stopped { IfErr prepared.now (λ s. result ≡ s) }
+    ensures untouched { IsErr prepared.now → (wav.new ≡ wav.old) × (talk.new ≡ talk.old)
+        × (taps.new.items ≡ taps.old.items) × (tally.new ≡ tally.old) }
+{
+    match prepared {
+        Ok(piece) => sound_alone(alone, piece, wav, talk, taps, tally),
         Err(status) => *status,
     }
 }

@@ -4,4 +4,5 @@ pub mod Meant
 pub mod Moves
 pub mod Pairs
 pub mod Readings
+pub mod SmallFaults
 pub mod SmallSounds

@@ -1,8 +1,10 @@
 -- What texts mean is one thing, and what was read of them means the same.
-use Rattle.std.proofs.Common.{◌≡◌, ◌≤◌, ◌<◌, ◌+◌, Bool, true, false, ℕ, List, Result, Ok, Err, length, nat_lt, take, refl, ap, sym, subst, ◌∙◌, arith}
+use Rattle.std.proofs.Common.{◌≡◌, ◌≤◌, ◌<◌, ◌+◌, Bool, true, false, ℕ, List, Result, Ok, Err, length, nat_lt, take}
+use Rattle.std.proofs.Common.{refl, ap, sym, subst, ◌∙◌, arith}
 use Rattle.std.proofs.lemmas.Bool.Decides.{nat_tests}
 use Rattle.std.proofs.lemmas.List.{take_all, length-take}
 use Rattle.cs_base.specs.Limits.{most_csd_bytes, most_of, most_orchestra_bytes, most_score_bytes}
+use Rattle.cs_base.specs.Lines.{Excerpt, whole_file}
 use Rattle.cs_base.specs.declared.limit.Limit.{Limit}
 use Rattle.cs_base.specs.declared.limit.Limit.TheVariants as limit
 use Rattle.cs_base.specs.declared.width.SampleWidth.{SampleWidth}
@@ -17,7 +19,7 @@ use Rattle.cs_source.specs.DemoTexts as demo_texts
 use Rattle.cs_edge.specs.Files.{ShelfTold}
 use Rattle.cs_arguments.specs.Reading.{Piece}
 use Rattle.cs_source.specs.Loaded.{IsLoaded, LeavesUnread, SourceMeans}
-use Rattle.cs_source.specs.Meaning.{FileMeans, Mean, MeanAt, PartsMean, told, told_in}
+use Rattle.cs_source.specs.Meaning.{FileMeans, FilesMean, Mean, PartsMean, TextsMean, excerpt_of, told}
 use Rattle.cs_source.specs.Texts.{Texts, both, csd, demo_notes}
 use Rattle.cs_csd.specs.declared.refused.Refused.{Refused}
 use Rattle.cs_csd.specs.declared.refused.Refused.TheVariants as refused
@@ -27,31 +29,38 @@ use Rattle.cs_source.specs.inner.Read.{AreRead, IsReadOf, MeansAsRead}
 
 -- ONE MEANING
 
-module _ (meaning : (width : SampleWidth) (orchestra score : List ℕ) (r s : Result Composition Refusal) → means width orchestra score r → means width orchestra score s → r ≡ s) (reading : (text : List ℕ) (r s : Result Parts CsdFault) → Reading text r → Reading text s → r ≡ s) where
-  at_one : (width : SampleWidth) (orc sco : ℕ) (orchestra score : List ℕ) (r s : Result Composition Refused) → MeanAt width orc sco orchestra score r
-      → MeanAt width orc sco orchestra score s → r ≡ s
-  at_one width orc sco orchestra score r s m n =
-      m.2 ∙ (ap (told orc sco) (meaning width orchestra score m.0 n.0 m.1 n.1) ∙ sym n.2)
+module _ (meaning : (width : SampleWidth) (orchestra score : Excerpt) (r s : Result Composition Refusal)
+    → means width orchestra score r → means width orchestra score s → r ≡ s)
+    (reading : (text : List ℕ) (r s : Result Parts CsdFault) → Reading text r → Reading text s → r ≡ s) where
+  texts_one : (width : SampleWidth) (orchestra score : Excerpt) (r s : Result Composition Refused)
+      → TextsMean width orchestra score r → TextsMean width orchestra score s → r ≡ s
+  texts_one width orchestra score r s m n =
+      m.2 ∙ (ap told (meaning width orchestra score m.0 n.0 m.1 n.1) ∙ sym n.2)
 
-  parts_one : (width : SampleWidth) (text : List ℕ) (p : Result Parts CsdFault) (r s : Result Composition Refused) → PartsMean width text p r → PartsMean width text p s → r ≡ s
+  parts_one : (width : SampleWidth) (text : List ℕ) (p : Result Parts CsdFault) (r s : Result Composition Refused)
+      → PartsMean width text p r → PartsMean width text p s → r ≡ s
   parts_one width text (Err f) r s m n = m ∙ sym n
-  parts_one width text (Ok p) r s m n = at_one width _ _ _ _ r s m n
+  parts_one width text (Ok p) r s m n = texts_one width (excerpt_of text p.orc) (excerpt_of text p.sco) r s m n
 
-  file_one : (long : Bool) (width : SampleWidth) (text : List ℕ) (r s : Result Composition Refused) → FileMeans long width text r → FileMeans long width text s → r ≡ s
+  file_one : (long : Bool) (width : SampleWidth) (text : List ℕ) (r s : Result Composition Refused)
+      → FileMeans long width text r → FileMeans long width text s → r ≡ s
   file_one true width text r s m n = m ∙ sym n
   file_one false width text r s m n =
       let P : Result Parts CsdFault → Type 0 = λ p. PartsMean width text p s in
       parts_one width text m.0 r s m.2 (subst P (reading text n.0 m.0 n.1 m.1) n.2)
 
-  pub mean_one : (width : SampleWidth) (t : Texts) (r s : Result Composition Refused) → Mean width t r → Mean width t s → r ≡ s
-  mean_one width (both orchestra score) r s m n = at_one width 1 1 orchestra score r s m n
+  pub mean_one : (width : SampleWidth) (t : Texts) (r s : Result Composition Refused) → Mean width t r → Mean width t s
+      → r ≡ s
+  mean_one width (both orchestra score) r s m n =
+      texts_one width (whole_file orchestra) (whole_file score) r s m n
   mean_one width (csd text) r s m n = file_one (nat_lt most_csd_bytes (length text)) width text r s m n
-  mean_one width (demo_notes k) r s m n = at_one width 1 1 demo_texts.orchestra (demo_texts.score k) r s m n
+  mean_one width (demo_notes k) r s m n =
+      texts_one width (whole_file demo_texts.orchestra) (whole_file (demo_texts.score k)) r s m n
 
--- a refusal told in the file is what two texts mean there
-pub refused_at : (width : SampleWidth) (orc sco : ℕ) (orchestra score : List ℕ) (f : Refusal) (t : Refusal) (r : Refused) → means width orchestra score (Err f) → t ≡ told_in orc sco f
-    → refused.Texts t ≡ r → MeanAt width orc sco orchestra score (Err r)
-refused_at width orc sco orchestra score f t r m e h = (Err f, m, ap (λ (x : Refused). Err x) (sym h ∙ ap (λ (x : Refusal). refused.Texts x) e))
+-- the refusal of two texts is what they mean
+pub texts_refused : (width : SampleWidth) (orchestra score : Excerpt) (f : Refusal) (r : Refused)
+    → means width orchestra score (Err f) → refused.Texts f ≡ r → TextsMean width orchestra score (Err r)
+texts_refused width orchestra score f r m h = (Err f, m, ap (λ (x : Refused). Err x) (sym h))
 
 -- ONE BYTE MORE OF A TEXT than it may have is as long as the whole text, or is the whole text
 
@@ -65,63 +74,87 @@ front_long m text e =
     let k : m < length (take (m + 1) text) = omega (arith, h, l) in grind (arith, nat_tests)
 
 answer_by : (which : Limit) (m : ℕ) (text : List ℕ) (long : Bool) → nat_lt m (length text) ≡ long
-    → ◌≡◌ {A = Result (List ℕ) Refusal} (unless_passed (passed_if which (nat_lt m (length (take (m + 1) text)))) (take (m + 1) text)) (unless_passed (passed_if which (nat_lt m (length text))) text)
+    → ◌≡◌ {A = Result Excerpt Refusal}
+    (unless_passed (passed_if which (nat_lt m (length (take (m + 1) text)))) (whole_file (take (m + 1) text)))
+    (unless_passed (passed_if which (nat_lt m (length text))) (whole_file text))
 answer_by which m text false e =
-    let P : List ℕ → Result (List ℕ) Refusal = λ t. unless_passed (passed_if which (nat_lt m (length t))) t in ap P (front_short m text e)
+    let P : List ℕ → Result Excerpt Refusal =
+    λ t. unless_passed (passed_if which (nat_lt m (length t))) (whole_file t) in ap P (front_short m text e)
 answer_by which m text true e =
-    let P : List ℕ → Bool → Result (List ℕ) Refusal = λ t b. unless_passed (passed_if which b) t in
+    let P : List ℕ → Bool → Result Excerpt Refusal = λ t b. unless_passed (passed_if which b) (whole_file t) in
     ap (P (take (m + 1) text)) (front_long m text e) ∙ sym (ap (P text) e)
 
-same_answer : (which : Limit) (text : List ℕ) → no_longer_than which (take (most_of which + 1) text) ≡ no_longer_than which text
+same_answer : (which : Limit) (text : List ℕ)
+    → no_longer_than which (whole_file (take (most_of which + 1) text)) ≡ no_longer_than which (whole_file text)
 same_answer which text = answer_by which (most_of which) text (nat_lt (most_of which) (length text)) refl
 
 -- what the fronts of two texts mean the texts mean
-means_whole : (width : SampleWidth) (orchestra score : List ℕ) (r : Result Composition Refusal) → means width (take (most_orchestra_bytes + 1) orchestra) (take (most_score_bytes + 1) score) r
-    → means width orchestra score r
+means_whole : (width : SampleWidth) (orchestra score : List ℕ) (r : Result Composition Refusal)
+    → means width (whole_file (take (most_orchestra_bytes + 1) orchestra))
+    (whole_file (take (most_score_bytes + 1) score)) r
+    → means width (whole_file orchestra) (whole_file score) r
 means_whole width orchestra score r m =
-    let P : Result (List ℕ) Refusal → Result (List ℕ) Refusal → Type 0 = λ a b. Then (Is a) (λ orc. Then (Is b) (λ sco. short_texts_mean width orc sco)) r in
-    let first = subst (λ (a : Result (List ℕ) Refusal). P a (no_longer_than limit.ScoreBytes (take (most_score_bytes + 1) score))) (same_answer limit.OrchestraBytes orchestra) m in
-    subst (P (no_longer_than limit.OrchestraBytes orchestra)) (same_answer limit.ScoreBytes score) first
+    let P : Result Excerpt Refusal → Result Excerpt Refusal → Type 0 =
+    λ a b. Then (Is a) (λ orc. Then (Is b) (λ sco. short_texts_mean width orc sco)) r in
+    let front = no_longer_than limit.ScoreBytes (whole_file (take (most_score_bytes + 1) score)) in
+    let first = subst (λ (a : Result Excerpt Refusal). P a front) (same_answer limit.OrchestraBytes orchestra) m in
+    subst (P (no_longer_than limit.OrchestraBytes (whole_file orchestra))) (same_answer limit.ScoreBytes score) first
 
-at_whole : (width : SampleWidth) (orc sco : ℕ) (x y orchestra score : List ℕ) (r : Result Composition Refused) → x ≡ take (most_orchestra_bytes + 1) orchestra
-    → y ≡ take (most_score_bytes + 1) score → MeanAt width orc sco x y r → MeanAt width orc sco orchestra score r
-at_whole width orc sco x y orchestra score r e h m =
-    let P : List ℕ → List ℕ → Type 0 = λ a b. means width a b m.0 in
+files_whole : (width : SampleWidth) (x y orchestra score : List ℕ) (r : Result Composition Refused)
+    → x ≡ take (most_orchestra_bytes + 1) orchestra → y ≡ take (most_score_bytes + 1) score
+    → FilesMean width x y r → FilesMean width orchestra score r
+files_whole width x y orchestra score r e h m =
+    let P : List ℕ → List ℕ → Type 0 = λ a b. means width (whole_file a) (whole_file b) m.0 in
     let first = subst (λ (a : List ℕ). P a y) e m.1 in
     (m.0, means_whole width orchestra score m.0 (subst (P (take (most_orchestra_bytes + 1) orchestra)) h first), m.2)
 
-file_by : (width : SampleWidth) (long : Bool) (text : List ℕ) (r : Result Composition Refused) → nat_lt most_csd_bytes (length text) ≡ long
-    → FileMeans (nat_lt most_csd_bytes (length (take (most_csd_bytes + 1) text))) width (take (most_csd_bytes + 1) text) r → FileMeans (nat_lt most_csd_bytes (length text)) width text r
+file_by : (width : SampleWidth) (long : Bool) (text : List ℕ) (r : Result Composition Refused)
+    → nat_lt most_csd_bytes (length text) ≡ long
+    → FileMeans (nat_lt most_csd_bytes (length (take (most_csd_bytes + 1) text))) width (take (most_csd_bytes + 1) text)
+    r → FileMeans (nat_lt most_csd_bytes (length text)) width text r
 file_by width false text r e m =
-    let P : List ℕ → Type 0 = λ t. FileMeans (nat_lt most_csd_bytes (length t)) width t r in subst P (front_short most_csd_bytes text e) m
+    let P : List ℕ → Type 0 =
+    λ t. FileMeans (nat_lt most_csd_bytes (length t)) width t r in subst P (front_short most_csd_bytes text e) m
 file_by width true text r e m =
     let P : List ℕ → Bool → Type 0 = λ t b. FileMeans b width t r in
     subst (P text) (sym e) (subst (P (take (most_csd_bytes + 1) text)) (front_long most_csd_bytes text e) m)
 
-file_whole : (width : SampleWidth) (x text : List ℕ) (r : Result Composition Refused) → x ≡ take (most_csd_bytes + 1) text → FileMeans (nat_lt most_csd_bytes (length x)) width x r
+file_whole : (width : SampleWidth) (x text : List ℕ) (r : Result Composition Refused)
+    → x ≡ take (most_csd_bytes + 1) text → FileMeans (nat_lt most_csd_bytes (length x)) width x r
     → FileMeans (nat_lt most_csd_bytes (length text)) width text r
 file_whole width x text r e m =
     let P : List ℕ → Type 0 = λ t. FileMeans (nat_lt most_csd_bytes (length t)) width t r in
     file_by width (nat_lt most_csd_bytes (length text)) text r refl (subst P e m)
 
-demo_whole : (width : SampleWidth) (x y orchestra score : List ℕ) (r : Result Composition Refused) → x ≡ orchestra → y ≡ score → MeanAt width 1 1 x y r → MeanAt width 1 1 orchestra score r
+demo_whole : (width : SampleWidth) (x y orchestra score : List ℕ) (r : Result Composition Refused) → x ≡ orchestra
+    → y ≡ score
+    → FilesMean width x y r → FilesMean width orchestra score r
 demo_whole width x y orchestra score r e h m =
-    let P : List ℕ → List ℕ → Type 0 = λ a b. MeanAt width 1 1 a b r in subst (P orchestra) h (subst (λ (a : List ℕ). P a y) e m)
+    let P : List ℕ → List ℕ → Type 0 =
+    λ a b. FilesMean width a b r in subst (P orchestra) h (subst (λ (a : List ℕ). P a y) e m)
 
-mean_whole : (width : SampleWidth) (t : Texts) (s : SourceText) (r : Result Composition Refused) → IsReadOf t s → MeansAsRead width s r → Mean width t r
-mean_whole width (both orchestra score) (read.Pair x y) r f m = at_whole width 1 1 x.items y.items orchestra score r f.0 f.1 m
+mean_whole : (width : SampleWidth) (t : Texts) (s : SourceText) (r : Result Composition Refused) → IsReadOf t s
+    → MeansAsRead width s r → Mean width t r
+mean_whole width (both orchestra score) (read.Pair x y) r f m =
+    files_whole width x.items y.items orchestra score r f.0 f.1 m
 mean_whole width (csd text) (read.Csd x) r f m = file_whole width x.items text r f m
-mean_whole width (demo_notes n) (read.Pair x y) r f m = demo_whole width x.items y.items demo_texts.orchestra (demo_texts.score n) r f.0 f.1 m
+mean_whole width (demo_notes n) (read.Pair x y) r f m =
+    demo_whole width x.items y.items demo_texts.orchestra (demo_texts.score n) r f.0 f.1 m
 mean_whole width (both orchestra score) (read.Csd x) r f m = absurd f
 mean_whole width (csd text) (read.Pair x y) r f m = absurd f
 mean_whole width (demo_notes n) (read.Csd x) r f m = absurd f
 
 -- what was read of a source means what the source means
-source_means : (before : ShelfTold) (width : SampleWidth) (piece : Piece) (text : SourceText) (r : Result Composition Refused) → AreRead before.files piece text
+source_means : (before : ShelfTold) (width : SampleWidth) (piece : Piece) (text : SourceText)
+    (r : Result Composition Refused) → AreRead before.files piece text
     → MeansAsRead width text r → SourceMeans before width piece r
-source_means before width piece text r a m = record { texts = a.texts; fit = a.fit; have = a.have; mean = mean_whole width a.texts text r a.read_of m }
+source_means before width piece text r a m =
+    record { texts = a.texts; fit = a.fit; have = a.have; mean = mean_whole width a.texts text r a.read_of m }
 
 -- and where no more of it was read, it is loaded
-pub source_loaded : (before now : ShelfTold) (width : SampleWidth) (piece : Piece) (text : SourceText) (r : Result Composition Refused)
-    → AreRead before.files piece text → LeavesUnread before now piece → MeansAsRead width text r → IsLoaded before now width piece r
-source_loaded before now width piece text r read rest m = record { means = source_means before width piece text r read m; rest = rest }
+pub source_loaded : (before now : ShelfTold) (width : SampleWidth) (piece : Piece) (text : SourceText)
+    (r : Result Composition Refused)
+    → AreRead before.files piece text → LeavesUnread before now piece → MeansAsRead width text r
+    → IsLoaded before now width piece r
+source_loaded before now width piece text r read rest m =
+    record { means = source_means before width piece text r read m; rest = rest }

@@ -1,5 +1,6 @@
 -- The sound file of two small texts.
 use Rattle.std.proofs.Common.{◌≡◌, ◌∷◌, ℕ, ℤ, List, [], Result, Ok, Err, refl, sym, subst, arith}
+use Rattle.cs_base.specs.Lines.{whole_file}
 use Rattle.cs_base.specs.declared.head.Head.{Head}
 use Rattle.cs_base.specs.declared.refusal.Refusal.{Refusal}
 use Rattle.cs_base.specs.declared.width.SampleWidth.{SampleWidth}
@@ -45,7 +46,8 @@ wide_bytes = refl
 -- the file of a composition with these frames
 abbrev Heard : SampleWidth → Type 0
 Heard width =
-    (c : Composition) × means width fourth_field note_of_100 (Ok c) × (c.head ≡ header) × (frames_of c ≡ frames)
+    (c : Composition) × means width (whole_file fourth_field) (whole_file note_of_100) (Ok c) × (c.head ≡ header)
+    × (frames_of c ≡ frames)
 
 heard_as : (width : SampleWidth) (bytes : List ℕ) → bytes ≡ wav_of frames numbers width → Heard width
     → IsSoundOf (both fourth_field note_of_100) width bytes
@@ -63,8 +65,9 @@ narrow_sound h = heard_as TwoBytes narrow_file narrow_bytes h
 pub wide_sound : Heard ThreeBytes → IsSoundOf (both fourth_field note_of_100) ThreeBytes wide_file
 wide_sound h = heard_as ThreeBytes wide_file wide_bytes h
 
--- two texts that are refused, told in files that begin with them
+-- two texts that are refused, each a file of its own
 pub refused_as : (width : SampleWidth) (orchestra score : List ℕ) (f : Refusal) (r : Refused)
-    → means width orchestra score (Err f) → (let a : Result Composition Refused = Err r in a) ≡ told 1 1 (Err f)
+    → means width (whole_file orchestra) (whole_file score) (Err f)
+    → (let a : Result Composition Refused = Err r in a) ≡ told (Err f)
     → Mean width (both orchestra score) (Err r)
 refused_as width orchestra score f r m e = (Err f, m, e)

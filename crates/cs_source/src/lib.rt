@@ -8,7 +8,7 @@
 //!
 //! To be read in this order: `demo` (the demo's texts), `read` (one text of a shelf), `source` (those of a source),
 //! `csd` (the parts of one file with both), `meaning` (what they are compiled to), `loading` (`load`), `laws`,
-//! `worked` (sound files worked out by hand).
+//! `worked` (sound files and refusals worked out by hand).
 #![tactic(auto)]
 
 mod csd;
@@ -25,4 +25,4 @@ pub use laws::{
     files_have_one_pair_of_texts, texts_of_a_source_mean_one, told_files_have_texts_or_lack_a_name,
 };
 pub use loading::{Stop, load};
-pub use worked::sounds_worked_by_hand;
+pub use worked::{lines_worked_by_hand, sounds_worked_by_hand};

@@ -1,18 +1,19 @@
 // What the texts of a source are compiled to.
-ghost use Rattle.std.specs.Prelude.{◌≡◌, Err, IfOk, Ok, length, nat_lt};
+ghost use Rattle.std.specs.Prelude.{◌≡◌, ◌≤◌, Err, IfOk, Ok, length, nat_lt};
 ghost use Rattle.cs_base.specs.Limits.{most_csd_bytes};
 ghost use Rattle.cs_base.specs.declared.fault.Or.TheVariants as or;
 ghost use Rattle.cs_piece.specs.Setups.{composition_of};
 ghost use Rattle.cs_source.specs.Loaded.{FitsFile};
-ghost use Rattle.cs_source.specs.Meaning.{FileMeans, MeanAt, PartsMean};
+ghost use Rattle.cs_source.specs.Meaning.{FileMeans, PartsMean, TextsMean};
+ghost use Rattle.cs_csd.specs.Sections.{Reading};
 ghost use Rattle.cs_csd.specs.declared.refused.Refused.{Refused};
 ghost use Rattle.cs_source.specs.inner.Read.{MeansAsRead};
 
-use crate::csd::{FirstLines, part_of, told_in};
+use crate::csd::excerpt_of;
 use crate::source::SourceText;
-use cs_base::{Limit, MOST_CSD_BYTES, Or, Refusal, SampleWidth};
+use cs_base::{Excerpt, Limit, MOST_CSD_BYTES, Or, Refusal, SampleWidth};
 use cs_compile::compile;
-use cs_csd::{Parts, Refused, split_csd};
+use cs_csd::{Parts, Refused, parts_begin_on_their_lines, split_csd};
 use cs_piece::Setup;
 use std::alloc::Global;
 
@@ -28,13 +29,9 @@ pub fn compile_source(
 {
     match source {
         SourceText::Pair { orchestra, score } => {
-            compile_at(
-                alloc,
-                orchestra,
-                score,
-                FirstLines { orc: 1, sco: 1 },
-                width,
-            )
+            let orchestra = Excerpt::whole_file(orchestra);
+            let score = Excerpt::whole_file(score);
+            compile_texts(alloc, &orchestra, &score, width)
         }
         SourceText::Csd { text } => compile_file(alloc, text, width),
     }
@@ -65,36 +62,32 @@ fn compile_parts(
     parts: Parts,
     width: SampleWidth,
 ) -> Result<Setup, Or<Refused>>
+    requires small { length text.now ≤ most_csd_bytes }
+    requires read { Reading text.now (Ok parts) }
     ensures piece { IfOk result (λ s. PartsMean width text.now (Ok parts) (Ok (composition_of s))) }
     ensures within { IfOk result (λ s. FitsFile width s) }
     ensures refused { (r : Refused) → result ≡ Err (or.Fault r) → PartsMean width text.now (Ok parts) (Err r) }
 {
-    let first = FirstLines {
-        orc: parts.orc.line,
-        sco: parts.sco.line,
-    };
-    let orchestra = part_of(text, parts.orc);
-    let score = part_of(text, parts.sco);
-    compile_at(alloc, orchestra, score, first, width)
+    parts_begin_on_their_lines();
+    let orchestra = excerpt_of(text, parts.orc);
+    let score = excerpt_of(text, parts.sco);
+    compile_texts(alloc, &orchestra, &score, width)
 }
 
-// The same of two texts that begin at these lines of a file.
-fn compile_at(
+// The same of two texts, each with the line of its file on which it begins.
+fn compile_texts(
     alloc: Global,
-    orchestra: &[u8],
-    score: &[u8],
-    first: FirstLines,
+    orchestra: &Excerpt,
+    score: &Excerpt,
     width: SampleWidth,
 ) -> Result<Setup, Or<Refused>>
-    ensures piece { IfOk result (λ s. MeanAt width first.orc first.sco orchestra.now score.now
-        (Ok (composition_of s))) }
+    ensures piece { IfOk result (λ s. TextsMean width orchestra.now score.now (Ok (composition_of s))) }
     ensures within { IfOk result (λ s. FitsFile width s) }
-    ensures refused { (r : Refused) → result ≡ Err (or.Fault r)
-        → MeanAt width first.orc first.sco orchestra.now score.now (Err r) }
+    ensures refused { (r : Refused) → result ≡ Err (or.Fault r) → TextsMean width orchestra.now score.now (Err r) }
 {
     match compile(alloc, orchestra, score, width) {
         Ok(setup) => Ok(setup),
-        Err(Or::Fault(refusal)) => Err(Or::Fault(Refused::Texts(told_in(first, refusal)))),
+        Err(Or::Fault(refusal)) => Err(Or::Fault(Refused::Texts(refusal))),
         Err(Or::OutOfMemory) => Err(Or::OutOfMemory),
     }
 }

@@ -1,4 +1,4 @@
-// Sound files worked out by hand: a call that does nothing, whose contract is the examples.
+// Sound files and refusals worked out by hand: calls that do nothing, whose contracts are the examples.
 ghost use Rattle.std.specs.Prelude.{Err};
 ghost use Rattle.cs_base.specs.declared.fault.OrcKind.TheVariants as orc;
 ghost use Rattle.cs_base.specs.declared.refusal.Refusal.TheVariants as why;
@@ -8,8 +8,8 @@ ghost use Rattle.cs_compile.specs.Worked.{fourth_field, note_of_100, stray_byte}
 ghost use Rattle.cs_csd.specs.declared.refused.Refused.TheVariants as refused;
 ghost use Rattle.cs_source.specs.Meaning.{Mean};
 ghost use Rattle.cs_source.specs.Sounds.{IsSoundOf};
-ghost use Rattle.cs_source.specs.Texts.{both};
-ghost use Rattle.cs_source.specs.Worked.{narrow_file, wide_file};
+ghost use Rattle.cs_source.specs.Texts.{both, csd};
+ghost use Rattle.cs_source.specs.Worked.{fault_in_line_4, narrow_file, wide_file};
 
 use cs_compile::texts_worked_by_hand;
 
@@ -22,3 +22,9 @@ pub fn sounds_worked_by_hand()
 {
     texts_worked_by_hand();
 }
+
+/// A fault in the first line behind `<CsInstruments>`, where that tag stands in line 3, is at line 4 of the file.
+pub fn lines_worked_by_hand()
+    ensures { (width : SampleWidth) → Mean width (csd fault_in_line_4)
+        (Err (refused.Texts (why.Orc (record { line = 4; kind = orc.BadToken })))) }
+{}

@@ -1,4 +1,4 @@
-//! A program over the call `csplay` whose stored run doesn't end with 0: the orchestra of `data/` misspells an opcode, so
+//! A program over the call `csplay_alone`, which never waits, whose stored run doesn't end with 0: the orchestra of `data/` misspells an opcode, so
 //! the run prints the refusal with its line (`stdout`), ends with the refusal's status (`status`) and begins no sound
 //! file. The words are the crate's `args`, the texts real files.
 //!
@@ -7,11 +7,9 @@
 
 use cs_desk::Tally;
 use cs_edge::{FileShelf, FileSink, OpenGate, TalkOut};
-use cs_play::{Status, csplay};
+use cs_play::{Status, csplay_alone};
 use std::process::ExitCode;
 use std::rt::{Env, Files};
-use std::sync::Wait;
-use std::thread::Threads;
 use std::{env, io};
 
 fn main(rt: HostRuntime) -> io::Result<ExitCode> {
@@ -19,13 +17,9 @@ fn main(rt: HostRuntime) -> io::Result<ExitCode> {
     Ok(ExitCode::from(played(&rt, &words).number()))
 }
 
-/// Calls `csplay` over the system's files and standard output, without a meter.
-fn played<R: Env + Files + Print + AllocGlobal + Threads + Wait + Sync>(
-    rt: &R,
-    words: &[String],
-) -> Status {
-    csplay(
-        rt,
+/// Calls `csplay_alone` over the system's files and standard output, without a meter.
+fn played<R: Env + Files + Print + AllocGlobal>(rt: &R, words: &[String]) -> Status {
+    csplay_alone(
         rt.alloc(),
         words,
         &mut FileShelf::new(rt),

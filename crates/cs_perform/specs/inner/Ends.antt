@@ -3,7 +3,6 @@ use Rattle.std.specs.Prelude.{ℕ, ◌≡◌, Bool, true, false, List, [], ◌�
 use Rattle.cs_base.specs.declared.head.Head.{Head}
 use Rattle.cs_base.specs.declared.width.SampleWidth.{SampleWidth}
 use Rattle.cs_edge.specs.Moves.{SinkTold, Wrote, Finished, Stopped}
-use Rattle.cs_life.specs.Standing.{kept_count}
 use Rattle.cs_piece_meaning.specs.Course.{closing}
 use Rattle.cs_piece_meaning.specs.Heard.{frames_of}
 use Rattle.cs_piece_meaning.specs.Moments.{Composition}
@@ -39,5 +38,5 @@ Breaks c head width before now = (start : SinkTold) (name : List ℕ)
 
 -- all starts of a piece, the ones at the very end among them
 pub record AreStartsOf (c : Composition) (s : Starts) : Type 0 where
-  pub started : s.started ≡ kept_count (closing c).started
-  pub not_started : s.not_started ≡ kept_count (closing c).not_started
+  pub started : s.started ≡ (closing c).started
+  pub not_started : s.not_started ≡ (closing c).not_started

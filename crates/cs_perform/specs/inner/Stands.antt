@@ -1,17 +1,17 @@
 -- How all that is kept of a performance stands.
-use Rattle.std.specs.Prelude.{ℕ, ◌≡◌, ◌+◌, ◌≤◌, List, length, map}
-use Rattle.cs_base.specs.Limits.{most_notes}
-use Rattle.cs_piece_meaning.specs.Course.{opening, played_in}
+use Rattle.std.specs.Prelude.{ℕ, ◌≡◌, [], ◌∷◌, List, length, map}
+use Rattle.cs_piece_meaning.specs.Course.{opening}
 use Rattle.cs_piece_meaning.specs.Moments.{Composition, Moment}
 use Rattle.cs_desk.specs.Desk.{areas, cells, HasRoom}
-use Rattle.cs_desk.specs.declared.receipt.Tally.{Tally}
 use Rattle.cs_life.specs.Standing.{Stands}
 use Rattle.cs_piece.specs.Setups.{SetupData, composition_of}
 use Rattle.cs_voice.specs.VoiceData.{VoiceData}
+use Rattle.cs_perform.specs.Counted.{AreHeardIn, CountsOn, Receipts}
 use Rattle.cs_perform.specs.declared.order.Order.{Order}
 use Rattle.cs_perform.specs.declared.stand.Stand.{Stand}
 use Rattle.cs_perform.specs.declared.start.Start.{Start}
 use Rattle.cs_desk.specs.Courses.{IsCourseOf}
+use Rattle.cs_perform.specs.inner.Crews.{HasPlace}
 use Rattle.cs_perform.specs.inner.Recordings.{IsRecordingOf}
 
 -- what is kept stands at a moment of a setup's performance, and the course is one
@@ -26,13 +26,19 @@ pub record IsReady (stand : Stand) : Type 0 where
   pub feet : map (λ (v : VoiceData). v.foot) stand.voices.items ≡ stand.course.feet.items
   pub room : HasRoom stand.desk (length stand.voices.items) (length stand.course.graph.value.edges)
 
--- a tally counts a cycle more, and the notes that played in it, which are no more than may play
-pub record CountsCycle (c : Composition) (n : ℕ) (before now : Tally) : Type 0 where
-  pub cycles : now.cycles ≡ before.cycles + 1
-  pub notes : now.notes ≡ before.notes + length (played_in c n)
-  pub few : length (played_in c n) ≤ most_notes
+-- a cycle more was counted, by the voices that were heard in it
+pub record CountsCycle {C : Type 0} (has_counted : C → Receipts → Type 0) (c : Composition) (n : ℕ)
+    (before now : C) : Type 0 where
+  pub voices : List VoiceData
+  pub heard : AreHeardIn c n voices
+  pub counted : CountsOn has_counted before now (voices ∷ [])
 
 -- what a performance begins with: all that is kept stands at the opening, and nothing is recorded
 pub record IsStart (s : SetupData) (order : Order) (start : Start) : Type 0 where
   pub at : IsAt s start.stand (opening (composition_of s))
   pub recorded : IsRecordingOf s order 0 start.recording
+
+-- what it may go on from: there is place for all that comes, and it has been begun
+pub record MayGoOn (s : SetupData) (order : Order) (room : ℕ) (start : Start) : Type 0 where
+  pub place : HasPlace s order room
+  pub begun : IsStart s order start

@@ -1,5 +1,6 @@
 -- What is found of tables on the way: how often each number is given, which are given first, and which may be written.
-use Rattle.std.specs.Prelude.{ℕ, zero, suc, ◌≡◌, ◌<◌, ◌||◌, ◌&&◌, Bool, true, false, not, List, map, slice_index_or, None}
+use Rattle.std.specs.Prelude.{ℕ, zero, suc, ◌≡◌, ◌<◌, ◌||◌, ◌&&◌, Bool, true, false, not, List, map, slice_index_or}
+use Rattle.std.specs.Prelude.{None}
 use Rattle.std.specs.List.{list_any}
 use Rattle.cs_base.specs.Rates.{same_res}
 use Rattle.cs_base.specs.declared.resource.Res.TheVariants as res

@@ -29,7 +29,7 @@ HasReported before now text status.TalkFault = SaysPart before now text
 HasReported before now text _ = ⊥
 
 -- a composition was performed, whole or in part, and talk has the report or the line of the status
-abbrev pub HasSounded : {F K T B : Type 0} → Sight F K T B → Asked → Composition → Status → Scene F K T B → Scene F K T B → Type 0
+abbrev pub HasSounded : {F K T B C : Type 0} → Sight F K T B C → Asked → Composition → Status → Scene F K T B C → Scene F K T B C → Type 0
 HasSounded see asked c status.Ok before now = WasPerformed see asked c before now
     × WroteMore (see.talk before.talk) (see.talk now.talk) (report_in see asked c now)
 HasSounded see asked c status.TalkFault before now = WasPerformed see asked c before now

@@ -8,7 +8,7 @@ use Rattle.cs_piece_meaning.specs.Moments.{Composition}
 use Rattle.cs_source.specs.DemoTexts as demo_texts
 use Rattle.cs_edge.specs.declared.files.NamedBytes.{NamedBytes}
 use Rattle.cs_arguments.specs.Reading.{Piece}
-use Rattle.cs_source.specs.Meaning.{FileMeans, MeanAt}
+use Rattle.cs_source.specs.Meaning.{FileMeans, FilesMean}
 use Rattle.cs_source.specs.Texts.{Texts, both, csd, demo_notes, Fit, HaveWhereTold}
 use Rattle.cs_csd.specs.declared.refused.Refused.{Refused}
 use Rattle.cs_source.specs.declared.source.SourceText.{SourceText}
@@ -36,5 +36,5 @@ pub record AreRead (files : Option (List NamedBytes)) (piece : Piece) (text : So
 
 -- what was read means this
 abbrev pub MeansAsRead : SampleWidth → SourceText → Result Composition Refused → Type 0
-MeansAsRead width (read.Pair x y) r = MeanAt width 1 1 x.items y.items r
+MeansAsRead width (read.Pair x y) r = FilesMean width x.items y.items r
 MeansAsRead width (read.Csd x) r = FileMeans (nat_lt most_csd_bytes (length x.items)) width x.items r

@@ -19,7 +19,8 @@ returns-in_err-typed-clause-refused c =
 
 pub returns-clause-typed : goal.returns-clause-typed
 returns-clause-typed c =
-    typed_as (tree.orchestra c.args.orc.now) (typed.orchestra c.in_ok-typed.typed) c.in_ok-typed.ensures.right c.in_ok-typed.ensures.typed
+    typed_as (tree.orchestra c.args.orc.now) (typed.orchestra c.in_ok-typed.typed) c.in_ok-typed.ensures.right
+    c.in_ok-typed.ensures.typed
 
 pub returns-clause-rated : goal.returns-clause-rated
 returns-clause-rated c =

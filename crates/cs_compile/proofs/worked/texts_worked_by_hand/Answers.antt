@@ -5,4 +5,7 @@ pub returns-clause-sound : goal.returns-clause-sound
 returns-clause-sound c = sounds
 
 pub returns-clause-refused : goal.returns-clause-refused
-returns-clause-refused c = is_refused
+returns-clause-refused c = is_refused 1
+
+pub returns-clause-refused_in_a_part : goal.returns-clause-refused_in_a_part
+returns-clause-refused_in_a_part c = is_refused 7

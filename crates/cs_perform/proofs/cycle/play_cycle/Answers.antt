@@ -3,7 +3,6 @@ use Rattle.std.specs.List.{count_by}
 use Rattle.std.proofs.lemmas.List.Sums.{count_by-le-length}
 use Rattle.cs_base.specs.Widths.{bytes_of}
 use Rattle.cs_base.specs.declared.head.Head.{Head}
-use Rattle.cs_desk.specs.declared.receipt.Tally.{Tally}
 use Rattle.cs_piece_meaning.specs.Heard.{mix_in}
 use Rattle.cs_piece_meaning.specs.Moments.{Composition}
 use Rattle.cs_piece.specs.Setups.{composition_of}
@@ -20,7 +19,7 @@ use Rattle.cs_perform.proofs.cycle.play_cycle.Goals as goal
 
 pub returns-in_default-clause-memory : goal.returns-in_default-clause-memory
 returns-in_default-clause-memory g c e =
-    ap (λ (y : Tally). lent c.args.loan.now.wav.now c.args.loan.now.taps.now.items y) c.in_default.ensures.memory
+    ap (λ (y : g.row.C.Denot). lent c.args.loan.now.wav.now c.args.loan.now.taps.now.items y) c.in_default.ensures.memory
 
 pub returns-in_default-clause-broken : goal.returns-in_default-clause-broken
 returns-in_default-clause-broken g c e = absurd (not_sink e)
@@ -49,7 +48,7 @@ pour-requires-clause-room g c =
 
 pub returns-in_default-pour-clause-broken : goal.returns-in_default-pour-clause-broken
 returns-in_default-pour-clause-broken g c e =
-    breaks_cycle (λ b h. (goal.Tap-dyn g (b.vtable, b.value)).stands_for b.value h) g.K.Sink.tells
+    breaks_cycle (λ b h. (goal.Tap-dyn g (b.vtable, b.value)).stands_for b.value h) g.K.Sink.tells g.C.Counter.has_counted
     (composition_of c.args.performance.now.setup.now)
     c.args.performance.now.order.output c.args.performance.now.order.width
     c.args.performance.now.setup.now.orchestra.head.dbfs c.orchestra.result.now.head.dbfs
@@ -73,14 +72,14 @@ overflow_add-recording g c =
     let q : ℤ → Bool = is_out_of_range c.args.performance.now.order.width c.orchestra.result.now.head.dbfs in
     let here : c.in-Ok-pour.outside ≡ count_by q c.deref.result.now = c.in-Ok-pour.ensures.out_of_range in
     let some : count_by q c.deref.result.now ≤ length c.deref.result.now = count_by-le-length q c.deref.result.now in
-    let fits : c.sound_cycle.new.recording.out_of_range + c.in-Ok-pour.outside < 2 ^ 64 =
-    outside_fits piece p c.args.cycle c.sound_cycle.new.recording.out_of_range c.in-Ok-pour.outside (omega arith) small
+    let fits : c.sound.new.recording.out_of_range + c.in-Ok-pour.outside < 2 ^ 64 =
+    outside_fits piece p c.args.cycle c.sound.new.recording.out_of_range c.in-Ok-pour.outside (omega arith) small
     (c.in-Ok.ensures.out_of_range ∙ c.requires.recorded.out_of_range) (omega (arith, here, some, long, small)) in
     omega (arith, fits, c.from-more.ensures)
 
 pub returns-clause-played : goal.returns-clause-played
 returns-clause-played g c =
-    plays_cycle (λ b h. (goal.Tap-dyn g (b.vtable, b.value)).stands_for b.value h) g.K.Sink.tells
+    plays_cycle (λ b h. (goal.Tap-dyn g (b.vtable, b.value)).stands_for b.value h) g.K.Sink.tells g.C.Counter.has_counted
     (composition_of c.args.performance.now.setup.now)
     c.args.performance.now.order.output c.args.performance.now.order.width
     c.args.performance.now.setup.now.orchestra.head.dbfs c.orchestra.result.now.head.dbfs
@@ -93,19 +92,19 @@ returns-clause-recorded g c =
     let piece : Composition = composition_of c.args.performance.now.setup.now in
     let head : Head = c.args.performance.now.setup.now.orchestra.head in
     let is : c.deref.result.now ≡ mix_in piece c.args.cycle = c.deref.ensures.value ∙ c.in-Ok.ensures.heard in
-    let long : length c.pour.new.out ≡ c.sound_cycle.new.recording.samples.len =
+    let long : length c.pour.new.out ≡ c.sound.new.recording.samples.len =
     c.in-Ok-pour.ensures.long ∙ c.deref_mut.ensures.len in
     record {
       blocks = record {
         mix = ap length c.in-Ok.ensures.heard ∙ length-mix_in piece c.args.cycle;
-        samples = ap length (slice_written c.sound_cycle.new.recording.samples.len c.pour.new.out
-            c.sound_cycle.new.recording.samples.items long)
+        samples = ap length (slice_written c.sound.new.recording.samples.len c.pour.new.out
+            c.sound.new.recording.samples.items long)
             ∙ c.in-Ok-pour.ensures.long ∙ ap length (c.deref_mut.ensures.value ∙ c.in-Ok.ensures.samples)
             ∙ c.requires.recorded.blocks.samples;
       };
       out_of_range = counted_more piece (is_out_of_range c.args.performance.now.order.width head.dbfs) c.args.cycle
           c.deref.result.now
-          c.sound_cycle.new.recording.out_of_range c.from-more.result is
+          c.sound.new.recording.out_of_range c.from-more.result is
           (c.in-Ok.ensures.out_of_range ∙ c.requires.recorded.out_of_range)
           (c.from-more.ensures ∙ c.in-Ok-pour.ensures.out_of_range
           ∙ ap (λ (o : TypedOrc). count_by (is_out_of_range c.args.performance.now.order.width o.head.dbfs)

@@ -1,4 +1,4 @@
-use Rattle.std.proofs.Common.{◌≡◌, ◌∙◌, ap, length, subst, sym}
+use Rattle.std.proofs.Common.{refl, ◌≡◌, ◌∙◌, ap, length, subst, sym}
 use Rattle.cs_piece_meaning.specs.Course.{begins, moment_at, performed}
 use Rattle.cs_piece_meaning.specs.Moments.{Composition, Moment}
 use Rattle.cs_piece.specs.Setups.{composition_of}
@@ -13,14 +13,19 @@ use Rattle.cs_perform.proofs.cycle.sound_cycle.Goals as goal
 pub prepare-requires : goal.prepare-requires
 prepare-requires g c = record {
   at = (moment_at (composition_of c.args.performance.now.setup.now) c.args.cycle, c.requires.at);
-  untold = c.of_next-by.ensures;
+  untold = c.of_cycle-by.ensures;
 }
 
-pub run-stand-requires-clause-at : goal.run-stand-requires-clause-at
-run-stand-requires-clause-at g c κs lives =
+pub run-stand-requires : goal.run-stand-requires
+run-stand-requires g c κs =
     let piece : Composition = composition_of c.args.performance.now.setup.now in
-    let m : Moment = moment_at piece c.args.cycle in
-    (c.args.performance.now.setup.now, begins piece c.args.cycle m, c.in-Ok.ensures.begun m c.requires.at)
+    let m : Moment = moment_at piece c.args.cycle in (
+      (refl, tt),
+      (
+        (c.args.performance.now.setup.now, begins piece c.args.cycle m, c.in-Ok.ensures.begun m c.requires.at),
+        (c.in-Ok.ensures.ready, c.requires.room),
+      ),
+    )
 
 pub mix_into-requires-clause-at : goal.mix_into-requires-clause-at
 mix_into-requires-clause-at g c =
@@ -74,9 +79,11 @@ pub returns-clause-counted : goal.returns-clause-counted
 returns-clause-counted g c =
     let piece : Composition = composition_of c.args.performance.now.setup.now in
     let m : Moment = moment_at piece c.args.cycle in
-    let at = c.in-Ok.ensures.begun m c.requires.at in
-    counts_cycle piece c.args.cycle c.prepare.new.stand.life _ _ c.args.tally.now c.run-stand.new.tally at.stands
-    c.run-stand.ensures.cycles c.run-stand.ensures.notes
+    let at =
+    c.run-stand.ensures.performed c.args.performance.now.setup.now (begins piece c.args.cycle m)
+    (c.in-Ok.ensures.begun m c.requires.at) in
+    counts_cycle g.C.Counter.has_counted piece c.args.cycle c.run-stand.result.life _ _ c.args.tally.now
+    c.run-stand.new.tally at.stands c.run-stand.ensures.counted
 
 pub returns-clause-turns : goal.returns-clause-turns
 returns-clause-turns g c =

@@ -1,9 +1,9 @@
-use Rattle.std.proofs.Common.{◌≡◌, ℕ, refl, ap, ◌∙◌}
-use Rattle.cs_piece_meaning.specs.Course.{begins, moment_at}
+use Rattle.std.proofs.Common.{◌≡◌, ℕ, refl, ap}
+use Rattle.cs_piece_meaning.specs.Course.{moment_at}
 use Rattle.cs_piece_meaning.specs.Moments.{Composition}
-use Rattle.cs_life.specs.Standing.{kept_count}
 use Rattle.cs_piece.specs.Setups.{composition_of}
 use Rattle.cs_tempo.specs.declared.plot.Plot.{Plot}
+use Rattle.cs_perform.proofs.Starting.{starts_of}
 use Rattle.cs_perform.proofs.Wholes.{breaks, closes}
 use Rattle.cs_perform.proofs.performance.close.Goals as goal
 
@@ -16,10 +16,8 @@ returns-in-Ok-finish-clause-starts g c =
     let last : ℕ = c.args.performance.now.setup.now.plot.cycles in
     let all : c.plot.result.now.cycles ≡ last = ap (λ (p : Plot). p.cycles) c.plot.ensures in
     let counts = c.in-Ok.ensures.starts c.args.performance.now.setup.now (moment_at piece last) c.requires.at in
-    record {
-      started = counts.0 ∙ ap (λ (k : ℕ). kept_count (begins piece k (moment_at piece last)).started) all;
-      not_started = counts.1 ∙ ap (λ (k : ℕ). kept_count (begins piece k (moment_at piece last)).not_started) all;
-    }
+    starts_of piece c.in-Ok.starts c.plot.result.now.cycles all (c.starts_are_few.ensures piece c.facts.ensures.bounded)
+    counts.0 counts.1
 
 pub returns-in-Ok-finish-clause-ended : goal.returns-in-Ok-finish-clause-ended
 returns-in-Ok-finish-clause-ended g c =

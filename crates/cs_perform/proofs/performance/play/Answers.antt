@@ -2,7 +2,7 @@ use Rattle.std.proofs.Common.{refl}
 use Rattle.cs_piece.specs.Setups.{SetupData, composition_of}
 use Rattle.cs_piece_meaning.specs.Course.{moment_at}
 use Rattle.cs_perform.specs.Performances.{lent}
-use Rattle.cs_perform.proofs.Standings.{stands_so}
+use Rattle.cs_perform.proofs.Standings.{stands_so, still_recorded}
 use Rattle.cs_perform.proofs.Wholes.{performs_closed, performs_in_part, performs_unbegun}
 use Rattle.cs_perform.proofs.performance.play.Goals as goal
 
@@ -12,11 +12,18 @@ frames_in-frames-requires g c = (c.args.performance.now.order.width, c.requires.
 pub close-requires-clause-at : goal.close-requires-clause-at
 close-requires-clause-at g c =
     let s : SetupData = c.args.performance.now.setup.now in
-    stands_so s c.in-Ok-play_all.stand (moment_at (composition_of s) s.plot.cycles) c.in-Ok-play_all.ensures.at
+    stands_so g.S.Sounder.is_at s c.in-Ok-play_all.sounder (moment_at (composition_of s) s.plot.cycles)
+    c.in-Ok-play_all.ensures.at
+
+pub returns-in-Ok-play_all-clause-recorded : goal.returns-in-Ok-play_all-clause-recorded
+returns-in-Ok-play_all-clause-recorded g c =
+    let s : SetupData = c.args.performance.now.setup.now in
+    still_recorded c.close.result s c.args.performance.now.order s.plot.cycles c.play_all.new.recording
+    c.in-Ok-play_all.ensures.recorded
 
 pub returns-in_default-clause-performed : goal.returns-in_default-clause-performed
 returns-in_default-clause-performed g c =
-    performs_unbegun (λ b h. (goal.Tap-dyn g (b.vtable, b.value)).stands_for b.value h) g.K.Sink.tells
+    performs_unbegun (λ b h. (goal.Tap-dyn g (b.vtable, b.value)).stands_for b.value h) g.K.Sink.tells g.C.Counter.has_counted
     c.args.performance.now.setup.now
     c.args.performance.now.order c.args.performance.now.name.now c.first_bytes-first.result
     (lent c.args.loan.now.wav.now c.args.loan.now.taps.now.items c.args.loan.now.tally.now)
@@ -26,7 +33,7 @@ returns-in_default-clause-performed g c =
 
 pub returns-in-Ok-play_all-clause-performed : goal.returns-in-Ok-play_all-clause-performed
 returns-in-Ok-play_all-clause-performed g c =
-    performs_closed (λ b h. (goal.Tap-dyn g (b.vtable, b.value)).stands_for b.value h) g.K.Sink.tells
+    performs_closed (λ b h. (goal.Tap-dyn g (b.vtable, b.value)).stands_for b.value h) g.K.Sink.tells g.C.Counter.has_counted
     c.args.performance.now.setup.now
     c.args.performance.now.order c.args.performance.now.name.now c.first_bytes-first.result
     (lent c.args.loan.now.wav.now c.args.loan.now.taps.now.items c.args.loan.now.tally.now)
@@ -40,7 +47,7 @@ returns-in-Ok-play_all-clause-performed g c =
 
 pub returns-in-Err-clause-performed : goal.returns-in-Err-clause-performed
 returns-in-Err-clause-performed g c =
-    performs_in_part (λ b h. (goal.Tap-dyn g (b.vtable, b.value)).stands_for b.value h) g.K.Sink.tells
+    performs_in_part (λ b h. (goal.Tap-dyn g (b.vtable, b.value)).stands_for b.value h) g.K.Sink.tells g.C.Counter.has_counted
     c.args.performance.now.setup.now
     c.args.performance.now.order c.args.performance.now.name.now c.first_bytes-first.result
     (lent c.args.loan.now.wav.now c.args.loan.now.taps.now.items c.args.loan.now.tally.now)

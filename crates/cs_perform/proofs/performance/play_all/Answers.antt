@@ -1,4 +1,5 @@
-use Rattle.std.proofs.Common.{◌≡◌, ℕ, refl, ap, subst, ◌∙◌, arith}
+use Rattle.std.proofs.Common.{◌≡◌, ◌≤◌, ◌+◌, ◌*◌, ◌^◌, ℕ, refl, ap, subst, ◌∙◌, arith}
+use Rattle.cs_base.specs.Limits.{most_notes}
 use Rattle.cs_piece_meaning.specs.Course.{moment_at}
 use Rattle.cs_piece_meaning.specs.Heard.{frames_before}
 use Rattle.cs_piece.specs.Setups.{composition_of}
@@ -8,7 +9,7 @@ use Rattle.cs_perform.specs.Performances.{lent}
 use Rattle.cs_perform.specs.declared.order.PlayFault.TheVariants.{OutOfMemory, Sink}
 use Rattle.cs_perform.specs.inner.Plays.{PlayedOn}
 use Rattle.cs_perform.specs.inner.Recordings.{IsRecordingOf}
-use Rattle.cs_perform.specs.inner.Stands.{IsAt}
+use Rattle.cs_perform.proofs.Cycles.{room_kept, room_left}
 use Rattle.cs_perform.proofs.Files.{error_as, faults_after, rose_later}
 use Rattle.cs_perform.proofs.Performing.{part_stopped, paused_before, played_more, played_none}
 use Rattle.cs_perform.proofs.performance.play_all.Goals as goal
@@ -17,20 +18,27 @@ pub loop-cycle-init : goal.loop-cycle-init
 loop-cycle-init g c = (
   c.requires.at,
   c.requires.recorded,
-  played_none (λ b h. (goal.Tap-dyn g (b.vtable, b.value)).stands_for b.value h) g.K.Sink.tells
+  played_none (λ b h. (goal.Tap-dyn g (b.vtable, b.value)).stands_for b.value h) g.K.Sink.tells g.C.Counter.has_counted
       (composition_of c.args.performance.now.setup.now)
       c.args.performance.now.order.output c.args.performance.now.order.width
       c.args.performance.now.setup.now.orchestra.head.dbfs _,
   refl,
   refl,
   refl,
+  omega (arith, c.requires.room),
 )
+
+pub play_cycle-requires-clause-room : goal.play_cycle-requires-clause-room
+play_cycle-requires-clause-room g c =
+    let room : 2 ^ 42 ≤ g.C.Counter.room c.loop-cycle.loan.tally.now + c.loop-cycle.cycle * (most_notes + 1) =
+    c.loop-cycle.invariant.6 in
+    room_left (g.C.Counter.room c.loop-cycle.loan.tally.now) c.loop-cycle.cycle (omega arith) room
 
 pub returns-in-Err-clause-part : goal.returns-in-Err-clause-part
 returns-in-Err-clause-part g c =
     let all : c.plot.result.now.cycles ≡ c.args.performance.now.setup.now.plot.cycles =
     ap (λ (p : Plot). p.cycles) c.plot.ensures in
-    part_stopped (λ b h. (goal.Tap-dyn g (b.vtable, b.value)).stands_for b.value h) g.K.Sink.tells
+    part_stopped (λ b h. (goal.Tap-dyn g (b.vtable, b.value)).stands_for b.value h) g.K.Sink.tells g.C.Counter.has_counted
     (composition_of c.args.performance.now.setup.now)
     c.args.performance.now.order.output c.args.performance.now.order.width
     c.args.performance.now.setup.now.orchestra.head.dbfs
@@ -41,7 +49,7 @@ pub returns-in-Err-clause-memory : goal.returns-in-Err-clause-memory
 returns-in-Err-clause-memory g c e =
     let all : c.plot.result.now.cycles ≡ c.args.performance.now.setup.now.plot.cycles =
     ap (λ (p : Plot). p.cycles) c.plot.ensures in
-    paused_before (λ b h. (goal.Tap-dyn g (b.vtable, b.value)).stands_for b.value h) g.K.Sink.tells
+    paused_before (λ b h. (goal.Tap-dyn g (b.vtable, b.value)).stands_for b.value h) g.K.Sink.tells g.C.Counter.has_counted
     (composition_of c.args.performance.now.setup.now)
     c.args.performance.now.order.output c.args.performance.now.order.width
     c.args.performance.now.setup.now.orchestra.head.dbfs
@@ -61,7 +69,7 @@ pub loop-cycle-preserved : goal.loop-cycle-preserved
 loop-cycle-preserved g c = (
   c.in-Ok.ensures.at,
   c.in-Ok.ensures.recorded,
-  played_more (λ b h. (goal.Tap-dyn g (b.vtable, b.value)).stands_for b.value h) g.K.Sink.tells
+  played_more (λ b h. (goal.Tap-dyn g (b.vtable, b.value)).stands_for b.value h) g.K.Sink.tells g.C.Counter.has_counted
       (composition_of c.args.performance.now.setup.now)
       c.args.performance.now.order.output c.args.performance.now.order.width
       c.args.performance.now.setup.now.orchestra.head.dbfs
@@ -69,6 +77,8 @@ loop-cycle-preserved g c = (
   c.play_cycle.ensures.same.0 ∙ c.loop-cycle.invariant.3,
   c.play_cycle.ensures.same.1 ∙ c.loop-cycle.invariant.4,
   c.play_cycle.ensures.same.2 ∙ c.loop-cycle.invariant.5,
+  room_kept (g.C.Counter.room c.loop-cycle.loan.tally.now) (g.C.Counter.room c.play_cycle.new.loan.tally.now)
+      c.loop-cycle.cycle c.loop-cycle.invariant.6 c.in-Ok.ensures.room,
 )
 
 pub returns-clause-at : goal.returns-clause-at
@@ -77,7 +87,7 @@ returns-clause-at g c =
     ap (λ (p : Plot). p.cycles) c.plot.ensures in
     let end : c.loop-cycle.cycle ≡ c.args.performance.now.setup.now.plot.cycles =
     omega (arith, c.loop-cycle-test.false, c.loop-cycle.auto.cycle-end, all) in
-    subst (λ (k : ℕ). IsAt c.args.performance.now.setup.now c.loop-cycle.stand
+    subst (λ (k : ℕ). g.S.Sounder.is_at c.args.performance.now.setup.now c.loop-cycle.sounder
     (moment_at (composition_of c.args.performance.now.setup.now) k)) end
     c.loop-cycle.invariant.0
 
@@ -96,7 +106,7 @@ returns-clause-played g c =
     ap (λ (p : Plot). p.cycles) c.plot.ensures in
     let end : c.loop-cycle.cycle ≡ c.args.performance.now.setup.now.plot.cycles =
     omega (arith, c.loop-cycle-test.false, c.loop-cycle.auto.cycle-end, all) in
-    let P : ℕ → Type 0 = λ k. PlayedOn (λ b h. (goal.Tap-dyn g (b.vtable, b.value)).stands_for b.value h) g.K.Sink.tells
+    let P : ℕ → Type 0 = λ k. PlayedOn (λ b h. (goal.Tap-dyn g (b.vtable, b.value)).stands_for b.value h) g.K.Sink.tells g.C.Counter.has_counted
     (composition_of c.args.performance.now.setup.now) c.args.performance.now.order.output k
     (lent c.args.loan.now.wav.now c.args.loan.now.taps.now.items c.args.loan.now.tally.now)
     (lent c.loop-cycle.loan.wav.now c.loop-cycle.loan.taps.now.items c.loop-cycle.loan.tally.now)

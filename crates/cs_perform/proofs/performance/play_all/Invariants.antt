@@ -1,10 +1,10 @@
-use Rattle.std.proofs.Common.{◌≡◌}
+use Rattle.std.proofs.Common.{◌≡◌, ◌≤◌, ◌+◌, ◌*◌, ◌^◌}
+use Rattle.cs_base.specs.Limits.{most_notes}
 use Rattle.cs_piece_meaning.specs.Course.{moment_at}
 use Rattle.cs_piece_meaning.specs.Heard.{frames_before}
 use Rattle.cs_perform.specs.Performances.{lent}
 use Rattle.cs_perform.specs.inner.Plays.{PlayedOn}
 use Rattle.cs_perform.specs.inner.Recordings.{IsRecordingOf}
-use Rattle.cs_perform.specs.inner.Stands.{IsAt}
 use Rattle.cs_piece.specs.Setups.{composition_of}
 use Rattle.cs_wav.specs.Wav.{samples_of}
 use Rattle.cs_perform.proofs.performance.play_all.Given as goal
@@ -12,9 +12,9 @@ use Rattle.cs_perform.proofs.performance.play_all.Given as goal
 -- the cycles so far were played
 abbrev pub invariant-loop-cycle : goal.invariant-loop-cycle
 invariant-loop-cycle g l =
-    IsAt l.performance.setup.now l.stand (moment_at (composition_of l.performance.setup.now) l.cycle)
+    g.S.Sounder.is_at l.performance.setup.now l.sounder (moment_at (composition_of l.performance.setup.now) l.cycle)
     × IsRecordingOf l.performance.setup.now l.performance.order l.cycle l.recording
-    × PlayedOn (λ b h. (goal.Tap-dyn g (b.vtable, b.value)).stands_for b.value h) g.K.Sink.tells
+    × PlayedOn (λ b h. (goal.Tap-dyn g (b.vtable, b.value)).stands_for b.value h) g.K.Sink.tells g.C.Counter.has_counted
     (composition_of l.performance.setup.now)
     l.performance.order.output l.cycle (lent l.fn.loan.wav.now l.fn.loan.taps.now.items l.fn.loan.tally.now)
     (lent l.loan.wav.now l.loan.taps.now.items l.loan.tally.now)
@@ -22,3 +22,4 @@ invariant-loop-cycle g l =
     (frames_before (composition_of l.performance.setup.now) l.cycle))
     × (l.loan.wav.ghost_name ≡ l.fn.loan.wav.ghost_name) × (l.loan.taps.ghost_name ≡ l.fn.loan.taps.ghost_name)
     × (l.loan.tally.ghost_name ≡ l.fn.loan.tally.ghost_name)
+    × (2 ^ 42 ≤ g.C.Counter.room l.loan.tally.now + l.cycle * (most_notes + 1))

@@ -8,15 +8,20 @@ pub returns-then-has_number-clause-some : goal.returns-then-has_number-clause-so
 returns-then-has_number-clause-some c =
     let xs = c.args.instruments.now in
     let x = c.index-instruments-place.result in
-    let low : c.loop-place.place < length xs = omega arith in
-    (low, x, slice_get_read xs (length xs) c.loop-place.place x refl low c.index-instruments-place.is, c.has_number.ensures.same c.if-has_number.true ∙ to_z-of_z w64 c.args.number c.ranges.number)
+    let low : c.loop-place.place < length xs = omega arith in (
+      low,
+      x,
+      slice_get_read xs (length xs) c.loop-place.place x refl low c.index-instruments-place.is,
+      c.has_number.ensures.same c.if-has_number.true ∙ to_z-of_z w64 c.args.number c.ranges.number,
+    )
 
 pub loop-place-preserved : goal.loop-place-preserved
 loop-place-preserved c =
     let xs = c.args.instruments.now in
     let x = c.index-instruments-place.result in
     let low : c.loop-place.place < length xs = omega arith in
-    none_more xs c.loop-place.place x (to_z w64 (of_z w64 c.args.number)) c.loop-place.invariant (slice_get_read xs (length xs) c.loop-place.place x refl low c.index-instruments-place.is)
+    none_more xs c.loop-place.place x (to_z w64 (of_z w64 c.args.number)) c.loop-place.invariant
+    (slice_get_read xs (length xs) c.loop-place.place x refl low c.index-instruments-place.is)
     (c.has_number.ensures.other c.if-has_number.false)
 
 pub returns-clause-none : goal.returns-clause-none

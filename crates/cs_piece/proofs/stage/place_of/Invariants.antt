@@ -3,4 +3,5 @@ use Rattle.cs_ir.specs.Instruments.{Numbered}
 use Rattle.cs_piece.proofs.stage.place_of.Given as goal
 
 abbrev pub invariant-loop-place : goal.invariant-loop-place
-invariant-loop-place l = (k : ℕ) (i : Numbered) → k < l.place → slice_get l.instruments k ≡ Some i → pos i.number ≡ l.fn.number → ⊥
+invariant-loop-place l =
+    (k : ℕ) (i : Numbered) → k < l.place → slice_get l.instruments k ≡ Some i → pos i.number ≡ l.fn.number → ⊥

@@ -4,4 +4,5 @@ use Rattle.cs_piece.specs.inner.Marked.{given_of, table_by}
 use Rattle.cs_piece.proofs.tables.made_tables.Given as goal
 
 abbrev pub invariant-loop-first : goal.invariant-loop-first
-invariant-loop-first l = map table_of l.tables.items ≡ map (λ x. table_by l.times l.written (given_of x)) (take l.first-index l.given)
+invariant-loop-first l =
+    map table_of l.tables.items ≡ map (λ x. table_by l.times l.written (given_of x)) (take l.first-index l.given)

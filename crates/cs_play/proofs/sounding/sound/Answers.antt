@@ -6,12 +6,12 @@ use Rattle.cs_play.proofs.sounding.sound.Goals as goal
 
 pub returns-in-Ok : goal.returns-in-Ok
 returns-in-Ok g c told =
-    whole_sounded _ (asked_in c.args.order.now) _ _ c.in-Ok.outcome _ _ _ _ _ _ _ _ _ _ refl c.in-Ok.ensures.performed.whole c.in-Ok.ensures.outcome c.in-Ok.ensures.turns
+    whole_sounded _ (asked_in c.args.piece.now.order) _ _ c.in-Ok.outcome _ _ _ _ _ _ _ _ _ _ refl c.in-Ok.ensures.performed.whole c.in-Ok.ensures.outcome c.in-Ok.ensures.turns
     (rw c.deref.ensures.value at c.reported.ensures)
 
 pub returns-in-Err : goal.returns-in-Err
 returns-in-Err g c told =
-    part_sounded _ (asked_in c.args.order.now) _ _ c.in-Err.fault _ c.status_of.result _ _ _ _ _ _ _ _ _ c.say_end.ensures.status c.status_of.ensures refl
+    part_sounded _ (asked_in c.args.piece.now.order) _ _ c.in-Err.fault _ c.status_of.result _ _ _ _ _ _ _ _ _ c.say_end.ensures.status c.status_of.ensures refl
     c.in-Err.ensures.performed.part
     (λ e. c.in-Err.ensures.performed.memory (ap (λ (f : PlayFault). Err f) e))
     (λ e. c.in-Err.ensures.performed.sink (ap (λ (f : PlayFault). Err f) e))

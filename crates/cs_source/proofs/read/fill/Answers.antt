@@ -6,12 +6,14 @@ use Rattle.cs_source.proofs.read.fill.Goals as goal
 
 pub loop-text-preserved : goal.loop-text-preserved
 loop-text-preserved g c =
-    block_on _ _ _ (g.F.Shelf.tells c.loop-text.shelf) _ c.loop-text.text.items _ _ c.loop-text.invariant.0 c.loop-text.invariant.1
+    block_on _ _ _ (g.F.Shelf.tells c.loop-text.shelf) _ c.loop-text.text.items _ _ c.loop-text.invariant.0
+    c.loop-text.invariant.1
     (omega (arith, c.len-in-loop-text.ensures)) c.in-Ok-true.ensures.read
 
 pub returns-in-Ok-false-clause-front : goal.returns-in-Ok-false-clause-front
 returns-in-Ok-false-clause-front g c =
-    block_end _ _ _ (g.F.Shelf.tells c.loop-text.shelf) _ c.loop-text.text.items _ c.in-Ok-false.field-0 c.loop-text.invariant.0
+    block_end _ _ _ (g.F.Shelf.tells c.loop-text.shelf) _ c.loop-text.text.items _ c.in-Ok-false.field-0
+    c.loop-text.invariant.0
     c.loop-text.invariant.1 c.in-Ok-false.field-0-test c.in-Ok-false.ensures.read
 
 pub returns-in-Ok-false-clause-moves : goal.returns-in-Ok-false-clause-moves

@@ -6,10 +6,12 @@ use Rattle.cs_source.proofs.source.read_source.Goals as goal
 
 pub returns-in-TwoFiles-clause-shelf : goal.returns-in-TwoFiles-clause-shelf
 returns-in-TwoFiles-clause-shelf g c =
-    was_read_as _ _ (two_files c.in-TwoFiles.orchestra.now c.in-TwoFiles.score.now) _ (ap piece_in c.in-TwoFiles.is) c.read_files.ensures.shelf
+    was_read_as _ _ (two_files c.in-TwoFiles.orchestra.now c.in-TwoFiles.score.now) _ (ap piece_in c.in-TwoFiles.is)
+    c.read_files.ensures.shelf
 
 pub returns-in-OneFile-clause-shelf : goal.returns-in-OneFile-clause-shelf
-returns-in-OneFile-clause-shelf g c = was_read_as _ _ (one_file c.in-OneFile.csd.now) _ (ap piece_in c.in-OneFile.is) c.read_file.ensures.shelf
+returns-in-OneFile-clause-shelf g c =
+    was_read_as _ _ (one_file c.in-OneFile.csd.now) _ (ap piece_in c.in-OneFile.is) c.read_file.ensures.shelf
 
 pub returns-in-Ok-clause-read : goal.returns-in-Ok-clause-read
 returns-in-Ok-clause-read g c =

@@ -11,4 +11,5 @@ pub returns-clause-wide : goal.returns-clause-wide
 returns-clause-wide c = wide_sound (c.texts_worked_by_hand.ensures.sound ThreeBytes)
 
 pub returns-clause-refused : goal.returns-clause-refused
-returns-clause-refused c = λ width. refused_as width stray_byte note_of_100 _ _ (c.texts_worked_by_hand.ensures.refused width) refl
+returns-clause-refused c =
+    λ width. refused_as width stray_byte note_of_100 _ _ (c.texts_worked_by_hand.ensures.refused width) refl

@@ -8,3 +8,8 @@ returns-clause-sizes c = (subst IsSetup c.self.view_is c.self.invariant).sizes
 
 pub returns-clause-laid : goal.returns-clause-laid
 returns-clause-laid c = laid_is c.args.self.now (subst IsSetup c.self.view_is c.self.invariant)
+
+pub returns-clause-bounded : goal.returns-clause-bounded
+returns-clause-bounded c =
+    let is = subst IsSetup c.self.view_is c.self.invariant in
+    record { events = is.performable.count; instruments = is.asks }

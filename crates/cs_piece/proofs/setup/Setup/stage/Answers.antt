@@ -5,6 +5,7 @@ use Rattle.cs_piece.proofs.setup.Setup.stage.Goals as goal
 
 pub returns-clause-stage : goal.returns-clause-stage
 returns-clause-stage c =
-    is_stage c.args.self.now (subst IsSetup c.self.view_is c.self.invariant) _ (ap (λ (s : SetupData). s.orchestra.head) c.self.view_is)
+    is_stage c.args.self.now (subst IsSetup c.self.view_is c.self.invariant) _
+    (ap (λ (s : SetupData). s.orchestra.head) c.self.view_is)
     (ap (λ (s : SetupData). s.layout) c.self.view_is) (ap (λ (s : SetupData). s.orchestra.spaces) c.self.view_is)
     c.requires

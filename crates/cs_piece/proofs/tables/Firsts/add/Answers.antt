@@ -14,14 +14,19 @@ returns-clause-stand c gs stand =
     let t = c.index-times.result.now in
     let u = c.next_times.result in
     let low : x.number < numbers_end = (let high : x.number ≤ 65535 = c.requires.right.number.1 in omega arith) in
-    let is : t ≡ times_at old.times.items x.number = c.index-times.ensures ∙ any_default old.times.items x.number t times.Never (omega (arith, c.requires.long, low)) in
+    let is : t ≡ times_at old.times.items x.number =
+    c.index-times.ensures ∙ any_default old.times.items x.number t times.Never (omega (arith, c.requires.long, low)) in
     elim c.if-is_never.branch [
       | then-is_never+in_ok-push w ↦
-          subst (λ (s : Firsts). StandFor (gs ++ given_of x ∷ []) (record { items = s.items; times = with_item s.times x.number u })) (sym w.self-is)
-          (stand_new old (record { items = w.push.new.self; times = with_item old.times x.number u }) x gs t u stand c.requires.long low is c.next_times.ensures refl
+          subst (λ (s : Firsts). StandFor (gs ++ given_of x ∷ [])
+          (record { items = s.items; times = with_item s.times x.number u })) (sym w.self-is)
+          (stand_new old (record { items = w.push.new.self; times = with_item old.times x.number u }) x gs t u stand
+          c.requires.long low is c.next_times.ensures refl
           w.in_ok-push.ensures.items (c.is_never.ensures.yes w.if-is_never.true))
       | else-is_never w ↦
-          subst (λ (s : Firsts). StandFor (gs ++ given_of x ∷ []) (record { items = s.items; times = with_item s.times x.number u })) (sym w.self-is)
-          (stand_same old (record { items = old.items; times = with_item old.times x.number u }) x gs t u stand c.requires.long low is c.next_times.ensures refl
+          subst (λ (s : Firsts). StandFor (gs ++ given_of x ∷ [])
+          (record { items = s.items; times = with_item s.times x.number u })) (sym w.self-is)
+          (stand_same old (record { items = old.items; times = with_item old.times x.number u }) x gs t u stand
+          c.requires.long low is c.next_times.ensures refl
           refl (c.is_never.ensures.no w.if-is_never.false))
     ]

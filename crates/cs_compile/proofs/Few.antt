@@ -1,0 +1,149 @@
+-- An orchestra that texts mean asks for few notes: an instrument for no more than it may have statements.
+use Rattle.std.proofs.Common.{◌≡◌, ◌≤◌, ℕ, ℤ, List, [], ◌∷◌, Option, Some, Ok, sym, subst, arith}
+use Rattle.std.specs.List.{All, AllByRecursion as Each, Contains}
+use Rattle.std.specs.Option.{option_map}
+use Rattle.std.proofs.lemmas.List.Elements.{All-contains, All-from_recursion}
+use Rattle.cs_base.specs.Limits.{most_statements}
+use Rattle.cs_base.specs.declared.resource.Rate.{Rate}
+use Rattle.cs_base.specs.declared.spaces.Spaces.{Spaces}
+use Rattle.cs_code.specs.Lowered.{bodies}
+use Rattle.cs_grammar.specs.Tree as tree
+use Rattle.cs_grammar.specs.declared.tree.Callee.{Callee}
+use Rattle.cs_grammar.specs.declared.tree.Callee.TheVariants as callee
+use Rattle.cs_meaning.specs.Core.{Block, core, core_arms, core_call, core_stmt}
+use Rattle.cs_piece.specs.Compositions.{body_of}
+use Rattle.cs_piece.specs.Setups.{AskForFew}
+use Rattle.cs_piece_meaning.specs.Bounded.{asks_in, asks_in_arms, asks_in_stmt}
+use Rattle.cs_typed.specs.TypedTree as typed
+use Rattle.cs_typed.specs.declared.tree.Var.{Var as Variable}
+use Rattle.cs_typing.specs.Calls.{typed_call}
+use Rattle.cs_typing.specs.Known.{Known}
+use Rattle.cs_typing.specs.Statements.{known, known_block, typed_arms, typed_block, typed_statement}
+use Rattle.cs_typing.specs.Typing.{alone, before, body, entered, first_known, from, items, known_item, type_fault}
+use Rattle.cs_typing.specs.Typing.{typed_instruments, typed_of}
+use Rattle.cs_udo.specs.Counted.{size, size_of, size_of_arms}
+use Rattle.cs_udo.specs.Expanding.{expanding}
+use Rattle.cs_words.specs.Catalogue.{row_of}
+use Rattle.cs_words.specs.declared.catalogue.Opcode.{Opcode}
+use Rattle.cs_words.specs.declared.catalogue.Shape.{Shape}
+use Rattle.cs_words.specs.declared.catalogue.Shape.TheVariants as shape
+use Rattle.cs_udo.proofs.Few.{HasFew, few_of_expansion}
+use Rattle.cs_compile.specs.Meaning.{typed_form}
+use Rattle.cs_compile.proofs.Calls.{bodies_have, mapped, pairs_have}
+use Rattle.cs_compile.proofs.Some.{judged_ok}
+
+-- A STATEMENT asks for one note at most, and what stands in an `if` for one a statement
+
+module _ (spaces : Spaces) where
+  call_asks : (r : Rate) (vs : List Variable) (o : Opcode) (sh : Shape) (args : List typed.Argument)
+      → asks_in_stmt (core_call spaces r vs o sh args) ≤ 1
+  call_asks r [] o shape.Init args = omega arith
+  call_asks r [] o shape.Unit args = omega arith
+  call_asks r [] o shape.Store args = omega arith
+  call_asks r [] o shape.Out args = omega arith
+  call_asks r [] o shape.OutAt args = omega arith
+  call_asks r [] o shape.Turnoff args = omega arith
+  call_asks r [] o shape.ZakInit args = omega arith
+  call_asks r [] o (shape.ZakGet s) args = omega arith
+  call_asks r [] o (shape.ZakPut s) args = omega arith
+  call_asks r [] o shape.ZakMix args = omega arith
+  call_asks r [] o (shape.ZakClear s) args = omega arith
+  call_asks r [] o shape.Ask args = omega arith
+  call_asks r [] o shape.ChannelGet args = omega arith
+  call_asks r [] o shape.ChannelPut [] = omega arith
+  call_asks r [] o shape.ChannelPut (typed.text c ∷ args) = omega arith
+  call_asks r [] o shape.ChannelPut (typed.value e ∷ []) = omega arith
+  call_asks r [] o shape.ChannelPut (typed.value e ∷ typed.value f ∷ args) = omega arith
+  call_asks r [] o shape.ChannelPut (typed.value e ∷ typed.text c ∷ args) = omega arith
+  call_asks r [] o shape.ChannelMix [] = omega arith
+  call_asks r [] o shape.ChannelMix (typed.text c ∷ args) = omega arith
+  call_asks r [] o shape.ChannelMix (typed.value e ∷ []) = omega arith
+  call_asks r [] o shape.ChannelMix (typed.value e ∷ typed.value f ∷ args) = omega arith
+  call_asks r [] o shape.ChannelMix (typed.value e ∷ typed.text c ∷ args) = omega arith
+  call_asks r [] o shape.ChannelClear [] = omega arith
+  call_asks r [] o shape.ChannelClear (typed.value e ∷ args) = omega arith
+  call_asks r [] o shape.ChannelClear (typed.text c ∷ args) = omega arith
+  call_asks r (v ∷ vs) o shape.Init [] = omega arith
+  call_asks r (v ∷ vs) o shape.Init (typed.value e ∷ args) = omega arith
+  call_asks r (v ∷ vs) o shape.Init (typed.text c ∷ args) = omega arith
+  call_asks r (v ∷ vs) o shape.Unit args = omega arith
+  call_asks r (v ∷ vs) o shape.Store args = omega arith
+  call_asks r (v ∷ vs) o shape.Out args = omega arith
+  call_asks r (v ∷ vs) o shape.OutAt args = omega arith
+  call_asks r (v ∷ vs) o shape.Turnoff args = omega arith
+  call_asks r (v ∷ vs) o shape.ZakInit args = omega arith
+  call_asks r (v ∷ vs) o (shape.ZakGet s) args = omega arith
+  call_asks r (v ∷ vs) o (shape.ZakPut s) args = omega arith
+  call_asks r (v ∷ vs) o shape.ZakMix args = omega arith
+  call_asks r (v ∷ vs) o (shape.ZakClear s) args = omega arith
+  call_asks r (v ∷ vs) o shape.Ask args = omega arith
+  call_asks r (v ∷ vs) o shape.ChannelGet [] = omega arith
+  call_asks r (v ∷ vs) o shape.ChannelGet (typed.value e ∷ args) = omega arith
+  call_asks r (v ∷ vs) o shape.ChannelGet (typed.text c ∷ args) = omega arith
+  call_asks r (v ∷ vs) o shape.ChannelPut [] = omega arith
+  call_asks r (v ∷ vs) o shape.ChannelPut (typed.text c ∷ args) = omega arith
+  call_asks r (v ∷ vs) o shape.ChannelPut (typed.value e ∷ []) = omega arith
+  call_asks r (v ∷ vs) o shape.ChannelPut (typed.value e ∷ typed.value f ∷ args) = omega arith
+  call_asks r (v ∷ vs) o shape.ChannelPut (typed.value e ∷ typed.text c ∷ args) = omega arith
+  call_asks r (v ∷ vs) o shape.ChannelMix [] = omega arith
+  call_asks r (v ∷ vs) o shape.ChannelMix (typed.text c ∷ args) = omega arith
+  call_asks r (v ∷ vs) o shape.ChannelMix (typed.value e ∷ []) = omega arith
+  call_asks r (v ∷ vs) o shape.ChannelMix (typed.value e ∷ typed.value f ∷ args) = omega arith
+  call_asks r (v ∷ vs) o shape.ChannelMix (typed.value e ∷ typed.text c ∷ args) = omega arith
+  call_asks r (v ∷ vs) o shape.ChannelClear [] = omega arith
+  call_asks r (v ∷ vs) o shape.ChannelClear (typed.value e ∷ args) = omega arith
+  call_asks r (v ∷ vs) o shape.ChannelClear (typed.text c ∷ args) = omega arith
+
+  callee_asks : (n : Known) (line : ℕ) (c : Callee) (xs : List (List ℕ)) (args : List tree.Argument)
+      → asks_in_stmt (core_stmt spaces (typed_call line n c xs args)) ≤ 1
+  callee_asks n line (callee.Opcode o) xs args = call_asks _ _ o (row_of o).shape _
+  callee_asks n line (callee.Name name) xs args = omega arith
+
+  mutual
+    stmt_asks : (n : Known) (x : tree.Statement) → asks_in_stmt (core_stmt spaces (typed_statement n x)) ≤ size x
+    stmt_asks n (tree.set line name e) = omega arith
+    stmt_asks n (tree.call line xs c args) = callee_asks n line c xs args
+    stmt_asks n (tree.choose line list) = let few = arms_ask n list in omega (arith, few)
+
+    block_asks : (n : Known) (b : tree.Block) → asks_in (core spaces (typed_block n b)) ≤ size_of b
+    block_asks n tree.no_stmt = omega arith
+    block_asks n (tree.andthen x rest) =
+        let first = stmt_asks n x in let others = block_asks (known n x) rest in omega (arith, first, others)
+
+    arms_ask : (n : Known) (list : tree.Arms) → asks_in_arms (core_arms spaces (typed_arms n list)) ≤ size_of_arms list
+    arms_ask n (tree.otherwise b) = block_asks n b
+    arms_ask n (tree.arm c b rest) =
+        let first = block_asks n b in let others = arms_ask (known_block n b) rest in omega (arith, first, others)
+
+  -- AN ORCHESTRA with few statements in each instrument
+  abbrev AsksFew : typed.Instrument → Type 0
+  AsksFew i = asks_in (core spaces i.body) ≤ most_statements
+
+  typed_ask : (n : Known) (outside : tree.Block) (list : List tree.Instrument) → Each HasFew list
+      → Each AsksFew (typed_instruments n (items outside list))
+  typed_ask n outside [] few = tt
+  typed_ask n outside (i ∷ rest) few =
+      let m : Known = known_block n (before i.line outside) in
+      let asks = block_asks (entered m) i.body in
+      let own : size_of i.body ≤ most_statements = few.0 in
+      (omega (arith, asks, own), typed_ask (known_item m (body i)) (from i.line outside) rest few.1)
+
+few_typed : (t : tree.Orchestra) → Each HasFew t.instrs → AskForFew (typed_of t)
+few_typed t few z found h =
+    let o : typed.Orchestra = typed_of t in
+    let b = mapped (core o.spaces) (body_of (bodies o.instrs) z) found h in
+    let pair = pairs_have (bodies o.instrs) z b.0 b.1 in
+    let made = bodies_have o.instrs pair.0 b.0 pair.2 in
+    let all : All (AsksFew o.spaces) o.instrs =
+    All-from_recursion (AsksFew o.spaces) o.instrs (typed_ask o.spaces (first_known t) t.zero t.instrs few) in
+    let asks : asks_in (core o.spaces made.0.body) ≤ most_statements =
+    All-contains (AsksFew o.spaces) o.instrs made.0 all made.1 in
+    let same : asks_in (core o.spaces b.0) ≤ most_statements =
+    subst (λ (x : typed.Block). asks_in (core o.spaces x) ≤ most_statements) made.3 asks in
+    subst (λ (x : Block). asks_in x ≤ most_statements) (sym b.2) same
+
+pub asks_few : (t made : tree.Orchestra) (o : typed.Orchestra) → expanding t ≡ Ok made → typed_form made ≡ Ok o
+    → AskForFew o
+asks_few t made o e h =
+    let right = judged_ok (type_fault made) (typed_of made) o (sym h) in
+    subst AskForFew right.1 (few_typed made (few_of_expansion t made e))
