@@ -137,12 +137,12 @@ impl Pace {
     }
 }
 
-/// Lets the caller take a task back that it plays itself within a short while.
+/// Lets the caller take a task back that it plays itself within a short while. The looks follow one another at once:
+/// a pause of the processor, which takes from 4 to 60 nanoseconds, would make them as long as a heavy cycle.
 fn hesitate<J: Job + Drop>(mailbox: &Mailbox<J>, looks: u32) {
     for _ in 0..looks {
         if mailbox.word() != GIVEN {
             return;
         }
-        spin_loop();
     }
 }
