@@ -1,6 +1,10 @@
 -- Tests and what follows from their answers.
-use Rattle.std.proofs.Common.{◌≡◌, Bool, true, false, refl, Option, None, Some}
+use Rattle.std.proofs.Common.{◌≡◌, ℕ, ◌<◌, ◌≤◌, nat_lt, Bool, true, false, refl, ◌∙◌, Option, None, Some, get_or}
+use Rattle.std.proofs.Common.{zero-add, arith}
+use Rattle.std.specs.List.{range_with_len}
 use Rattle.std.specs.Option.{option_or}
+use Rattle.std.proofs.lemmas.Bool.Decides.{nat_tests}
+use Rattle.std.proofs.lemmas.List.FromFn.{get_or-range_with_len}
 
 -- what a test may answer, with the fact
 pub by_test : {P : Type 0} (b : Bool) → (b ≡ true → P) → (b ≡ false → P) → P
@@ -14,3 +18,13 @@ both_none (Some a) b h = absurd (cc h)
 
 pub some_is : {A : Type 0} (p q : A) → Some p ≡ Some q → p ≡ q
 some_is p q e = cc
+
+pub is_below : (m n : ℕ) → m < n → nat_lt m n ≡ true
+is_below m n h = grind (arith, nat_tests)
+
+pub isnt_below : (m n : ℕ) → n ≤ m → nat_lt m n ≡ false
+isnt_below m n h = grind (arith, nat_tests)
+
+-- an item of the numbers from 0 on
+pub number_at : (n i : ℕ) → i < n → get_or (range_with_len 0 n) i 0 ≡ i
+number_at n i h = get_or-range_with_len 0 n i 0 h ∙ zero-add i

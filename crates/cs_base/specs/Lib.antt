@@ -1,6 +1,7 @@
 pub mod Comments
 pub mod Decimals
 pub mod Faults
+pub mod Heads
 pub mod Limits
 pub mod Lines
 pub mod Numbers

@@ -107,3 +107,12 @@ pub struct LimitHit {
     pub limit: Limit,
     pub line: u32,
 }
+
+impl LimitHit {
+    /// A limit that no line of a text passes: at line 0.
+    pub fn at_no_line(limit: Limit) -> LimitHit
+        ensures { result ≡ record { limit = limit; line = 0 } }
+    {
+        LimitHit { limit, line: 0 }
+    }
+}

@@ -69,6 +69,14 @@ impl Num {
         Num { raw: raw as i64 }
     }
 
+    /// The number of a product of two raw values, rounded down.
+    #[inline(always)]
+    pub fn of_product(product: i64) -> Num
+        ensures { result ≡ floor_div product one }
+    {
+        Num::exact(product >> FRACTION_BITS)
+    }
+
     /// A whole number, brought into range.
     pub fn of_whole(n: i64) -> Num
         ensures { result ≡ clamp (n *ℤ pos 65536) }

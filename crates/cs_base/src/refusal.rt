@@ -21,7 +21,7 @@ impl Refusal {
     pub fn passed(limit: Limit) -> Refusal
         ensures { result ≡ passed limit }
     {
-        Refusal::Limit(LimitHit { limit, line: 0 })
+        Refusal::Limit(LimitHit::at_no_line(limit))
     }
 }
 

@@ -44,11 +44,11 @@ impl Layout {
         ensures memory { IfNone (limit_passed areas.now) (IfErr result (λ e. e ≡ or.OutOfMemory)) }
     {
         if areas.len() > MOST_RESOURCES {
-            return Err(passed(Limit::Resources));
+            return Err(Or::Fault(LimitHit::at_no_line(Limit::Resources)));
         }
         let words = words_of(areas);
         if words > MOST_WORDS as u64 {
-            return Err(passed(Limit::Words));
+            return Err(Or::Fault(LimitHit::at_no_line(Limit::Words)));
         }
         let keys = index(alloc, areas)?;
         Ok(Layout {
@@ -162,13 +162,6 @@ fn key_of(res: Res) -> (u8, usize)
     ensures { result ≡ key res }
 {
     (res.kind(), res.number())
-}
-
-/// A limit that the areas pass, and no line of a text.
-fn passed(limit: Limit) -> Or<LimitHit>
-    ensures { result ≡ or.Fault (record { limit = limit; line = 0 }) }
-{
-    Or::Fault(LimitHit { limit, line: 0 })
 }
 
 /// The resources by number, each at the place of its area.

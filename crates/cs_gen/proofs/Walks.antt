@@ -1,13 +1,14 @@
 -- A walk along GEN07's segments: from one to the next, and from one place to the next.
-use Rattle.std.proofs.Common.{◌≡◌, ℕ, zero, suc, ◌+◌, ◌-◌, ◌<◌, ◌≤◌, ◌==◌, nat_lt, true, false, List, get_or, map, sum}
-use Rattle.std.proofs.Common.{length, ℤ, pos, ◌+ℤ◌, ◌-ℤ◌, ◌*ℤ◌, ◌*◌, refl, sym, ◌∙◌, ap, subst, zero-add, arith}
+use Rattle.std.proofs.Common.{◌≡◌, ℕ, zero, suc, ◌+◌, ◌-◌, ◌<◌, ◌≤◌, ◌==◌, nat_lt, true, false, List, map, sum}
+use Rattle.std.proofs.Common.{length, ℤ, pos, ◌+ℤ◌, ◌-ℤ◌, ◌*ℤ◌, ◌*◌, refl, sym, ◌∙◌, ap, subst, arith}
 use Rattle.std.proofs.Common.{below_more}
 use Rattle.std.specs.List.{range_with_len}
-use Rattle.std.proofs.lemmas.List.FromFn.{map-range_with_len_more, length-range_with_len, get_or-range_with_len}
+use Rattle.std.proofs.lemmas.List.FromFn.{map-range_with_len_more, length-range_with_len}
 use Rattle.std.proofs.lemmas.List.Sums.{position_or_len_is}
 use Rattle.std.proofs.lemmas.Bool.Decides.{nat_tests}
 use Rattle.std.proofs.lemmas.Grind.{common_steps}
 use Rattle.cs_gen.specs.Faults.{argument, segments_of}
+use Rattle.cs_base.proofs.Tests.{is_below, isnt_below, number_at}
 use Rattle.cs_base.specs.Numbers.{floor_div}
 use Rattle.cs_gen.specs.Points.{length_of, begin_of, segment_at, value_of, segments}
 use Rattle.cs_gen.specs.inner.Walk.{HasPassed, HasReached}
@@ -65,15 +66,6 @@ ends_after args j k begin r h =
     let far = r.inside h in let e = begin_of-more args k in let b = r.come.begins in
     let low = begins_before args j k begin r.come in omega arith
 
-lower : (n m : ℕ) → n ≤ m → nat_lt m n ≡ false
-lower n m h = grind (arith, nat_tests)
-
-higher : (n m : ℕ) → m < n → nat_lt m n ≡ true
-higher n m h = grind (arith, nat_tests)
-
-place : (n i : ℕ) → i < n → get_or (range_with_len 0 n) i 0 ≡ i
-place n i h = get_or-range_with_len 0 n i 0 h ∙ zero-add i
-
 nonzero : (n : ℕ) → (n ≡ 0 → ⊥) → (n == 0) ≡ false
 nonzero n h = grind (arith, nat_tests)
 
@@ -85,10 +77,10 @@ segment_at-reached args j k begin r =
     let size : length (range_with_len 0 n) ≡ n = length-range_with_len 0 n in
     let real = r.come.real in
     position_or_len_is (λ i. nat_lt j (begin_of args (i + 1))) (range_with_len 0 n) k 0 (omega arith)
-    (λ i h. subst (λ x. nat_lt j (begin_of args (x + 1)) ≡ false) (sym (place n i (omega arith)))
-    (lower (begin_of args (i + 1)) j (r.come.passed i h)))
-    (λ h. subst (λ x. nat_lt j (begin_of args (x + 1)) ≡ true) (sym (place n k (omega arith)))
-    (higher (begin_of args (k + 1)) j (r.inside (omega arith))))
+    (λ i h. subst (λ x. nat_lt j (begin_of args (x + 1)) ≡ false) (sym (number_at n i (omega arith)))
+    (isnt_below j (begin_of args (i + 1)) (r.come.passed i h)))
+    (λ h. subst (λ x. nat_lt j (begin_of args (x + 1)) ≡ true) (sym (number_at n k (omega arith)))
+    (is_below j (begin_of args (k + 1)) (r.inside (omega arith))))
 
 -- the point at a place that a walk has reached: on a segment's line, at the end of all, and past it
 on_segment : (args : List ℤ) (j k begin : ℕ) → HasReached args j k begin → k < segments_of args →
@@ -97,7 +89,7 @@ on_segment : (args : List ℤ) (j k begin : ℕ) → HasReached args j k begin �
 unfolding segments
 on_segment args j k begin r h =
     let at = segment_at-reached args j k begin r in
-    let test = higher (segments_of args) k h in
+    let test = is_below k (segments_of args) h in
     let b = r.come.begins in
     rw at (rw test (rw (← b) refl))
 
@@ -118,7 +110,7 @@ pub at_end : (args : List ℤ) (j k begin : ℕ) → HasReached args j k begin �
 unfolding segments
 at_end args j k begin r h z =
     let at = segment_at-reached args j k begin r in
-    let test = lower (segments_of args) k h in
+    let test = isnt_below k (segments_of args) h in
     let b = r.come.begins in
     rw at (rw test (rw (← b) (rw z refl)))
 
@@ -127,7 +119,7 @@ pub past_end : (args : List ℤ) (j k begin : ℕ) → HasReached args j k begin
 unfolding segments
 past_end args j k begin r h z =
     let at = segment_at-reached args j k begin r in
-    let test = lower (segments_of args) k h in
+    let test = isnt_below k (segments_of args) h in
     let b = r.come.begins in
     let some = nonzero (j - begin) z in
     rw at (rw test (rw (← b) (rw some refl)))

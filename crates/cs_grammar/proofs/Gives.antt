@@ -16,7 +16,7 @@ use Rattle.cs_grammar.specs.inner.Answers.{Gives, Passes, line_past, past}
 abbrev pub Same : Or OrcFault → Or OrcFault → Type 0
 Same e y = y ≡ e
 
--- the exit of a `?`: the same fault, or want of memory
+-- the exit of a `?`: the same fault, or out of memory
 pub failed : {T U A B : Type 0} (see : T → A) (sees : U → B) (r : Result U (Or OrcFault)) (e : Or OrcFault)
     (rest others : List Symbol)
     (P : Reading A → Type 0) (Q : Reading B → Type 0) → IsErrAnd r (Same e) → Gives see (Err e) rest P
@@ -39,7 +39,7 @@ unpassed T sees (Err (or.Fault g)) (or.Fault f) rest others st Q i h k =
 unpassed T sees (Err or.OutOfMemory) e rest others st Q i h k = tt
 unpassed T sees (Err (or.Fault g)) or.OutOfMemory rest others st Q i h k = cc
 
--- a value that is made at the end, or want of memory
+-- a value that is made at the end, or out of memory
 pub made : {U B : Type 0} (sees : U → B) (r : Result U (Or OrcFault)) (v : B) (rest : List Symbol)
     (Q : Reading B → Type 0) → IfOk r (λ x. sees x ≡ v)
     → IfErr r (λ e. e ≡ or.OutOfMemory) → Q (Ok (v, rest)) → Gives sees r rest Q

@@ -75,7 +75,7 @@ signature_line s ts o ws xs ys i st c d e f =
     let both_of : List Rate × List Rate = (o, i) in
     sym (ended_is s both_of ys st f) ∙ signature_at s ts o ws (Ok xs) (Ok (i, ys)) c d e
 
--- ---- so many words before `xin`, one by one
+-- ---- the words before `xin`, one by one
 
 pub words_more : (n : ℕ) (ts : List Symbol) → 1 ≤ n → n ≢ 1
     → words n ts ≡ (next ts).text ∷ words (n - 1) (after (after ts))

@@ -6,6 +6,7 @@ pub mod Lines
 pub mod Orchestra
 pub mod Parts
 pub mod Reading
+pub mod Renaming
 pub mod Symbols
 pub mod Tree
 pub mod WellFormed

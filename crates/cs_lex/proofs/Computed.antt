@@ -11,7 +11,7 @@ use Rattle.cs_base.specs.Lines.{excerpt, line_after}
 use Rattle.cs_lex.specs.Lexed.{TextPiece, text_of, IsCut, Lexed, LexFault, tokens_after, merged, end_of}
 use Rattle.cs_lex.proofs.Sound.{Starts, Right, front_right}
 
--- so many pieces, and what is left after them
+-- pieces at the front of a text, and what is left after them
 pub record Got : Type 0 where
   pub pieces : List TextPiece
   pub rest : List ℕ

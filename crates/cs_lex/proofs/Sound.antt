@@ -36,7 +36,7 @@ use Rattle.std.proofs.lemmas.Bool.{and_parts, and_from, false≢true}
 use Rattle.std.proofs.lemmas.Bool.Decides.{nat_tests}
 use Rattle.std.proofs.lemmas.List.{take-append-drop, length-take-le, append_assoc, length-append, drop_at, take_at}
 
--- a text begins with a piece of so many bytes
+-- a text begins with a piece of n bytes
 pub record Starts (text : List ℕ) (m : Option Mark) (n : ℕ) : Type 0 where
   pub span : List ℕ
   pub after : List ℕ

@@ -17,7 +17,7 @@ use Rattle.cs_lex.specs.declared.token.Mark.TheVariants as mark
 use Rattle.cs_lex.specs.Rows.{Fits}
 use Rattle.cs_lex.proofs.Cuts.{some_byte}
 
--- a token whose span lies in a text of so many bytes
+-- a token whose span lies in a text of n bytes
 abbrev IsWithin : ℕ → Token → Type 0
 IsWithin n t = (t.from ≤ t.to) × (t.to ≤ n)
 

@@ -37,7 +37,7 @@ abbrev pub token_of : ℕ → Option Mark → List ℕ → List ℕ → List Tok
 token_of first None before span = []
 token_of first (Some m) before span = token_at first m before span ∷ []
 
--- the tokens of pieces that stand after such a front, each line feed among them
+-- the tokens of pieces that stand after the front `before`, each line feed among them
 abbrev pub tokens_after : ℕ → List ℕ → List TextPiece → List Token
 tokens_after first before [] = []
 tokens_after first before (p ∷ ps) =

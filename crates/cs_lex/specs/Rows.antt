@@ -83,7 +83,7 @@ pub record IsBadByte (text : List ℕ) : Type 0 where
   pub whole : text ≡ byte ∷ rest
   pub bad : is_allowed byte ≡ false
 
--- such a byte after a quotation mark, before the next one, a line feed or the end
+-- a byte that may not stand there, after a quotation mark and before the next one, a line feed or the end
 pub record HasBadByte (text : List ℕ) : Type 0 where
   pub body : List ℕ
   pub byte : ℕ
@@ -113,7 +113,7 @@ is_stray b =
     && not (is_letter b || is_ascii_digit b || is_blank b || is_feed b || is_quote b || b == char "." || b == char ";"
     || b == char "\\" || is_short_sign b)
 
--- such a byte, or a point without a digit after it
+-- a stray byte, or a point without a digit after it
 pub record IsStray (text : List ℕ) : Type 0 where
   pub byte : ℕ
   pub rest : List ℕ

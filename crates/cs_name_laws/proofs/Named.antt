@@ -12,7 +12,8 @@ use Rattle.cs_grammar.specs.Tree.{Orchestra}
 use Rattle.cs_typed.specs.Places.{outside, inside}
 use Rattle.cs_typed.specs.declared.tree.Var.TheVariants.{Local, Global}
 use Rattle.cs_typed.proofs.Variables.{each_then}
-use Rattle.cs_typing.specs.Known.{Table, Shared, Known, of_rate, in_table, place_in, used, global, variable, channel_of}
+use Rattle.cs_typing.specs.Known.{RateNames, Shared, Known, of_rate, in_table, place_in, used, global, variable}
+use Rattle.cs_typing.specs.Known.{channel_of}
 use Rattle.cs_typing.specs.Settings.{header, settings_fault}
 use Rattle.cs_typing.specs.Statements.{known_block, typed_block}
 use Rattle.cs_typing.specs.Typing.{Item, alone, body, items, entered, known_item, known_items, item_fault, items_fault}
@@ -32,7 +33,7 @@ use Rattle.cs_name_laws.proofs.Growing.{Grown, grown_self, grown_chain, used_gro
 within : (k : ℕ) (xs ys : List (List ℕ)) → xs ≡ ys → k < length xs → nat_lt k (length ys) ≡ true
 within k xs ys e h = let same : length xs ≡ length ys = ap length e in grind (arith, nat_tests)
 
-global_named : (r : Rate) (t : Shared) (g : Table) (name : List ℕ) → g ≡ t.globals → has (of_rate r g) name ≡ true
+global_named : (r : Rate) (t : Shared) (g : RateNames) (name : List ℕ) → g ≡ t.globals → has (of_rate r g) name ≡ true
     → is_named (shared_names t) (global r (place_of (of_rate r g) name)) ≡ true
 global_named rate.Init t g name e h =
     within (place_of g.init name) g.init t.globals.init (ap (λ x. x.init) e) (low g.init name h)

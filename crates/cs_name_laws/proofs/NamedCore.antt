@@ -24,7 +24,7 @@ abbrev mutual
   IsNamedCore names (unit r vs opcode reach xs is) =
       All (IsNamed names) vs × All (EachInExpression (IsNamed names)) xs × All (EachInExpression (IsNamed names)) is
   IsNamedCore names (zak r vs opcode reach xs) = All (IsNamed names) vs × All (EachInExpression (IsNamed names)) xs
-  IsNamedCore names (store r opcode reach es is) =
+  IsNamedCore names (store r reach es is) =
       All (EachInExpression (IsNamed names)) es × All (EachInExpression (IsNamed names)) is
   IsNamedCore names (out r es) = All (EachInExpression (IsNamed names)) es
   IsNamedCore names (out_at r es) = All (EachInExpression (IsNamed names)) es

@@ -224,7 +224,7 @@ mutual
       by_rate names stock w r (exprs_read xs ++ touched) (exprs_used w xs) (exprs_used w xs ++ touched)
       (both names stock (exprs_read xs) touched (read_there names stock xs h.1) own) moving
       (both names stock (exprs_used w xs) touched moving own)
-  stmt_there names stock w (store r opcode reach es is) h =
+  stmt_there names stock w (store r reach es is) h =
       let touched = tables_within stock reach in
       let own = tables_there names stock reach in
       let moving = use_there names stock w es h.0 in

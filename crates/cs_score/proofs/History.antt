@@ -18,8 +18,8 @@ use Rattle.cs_score.specs.declared.statement.ScoreWhat.{ScoreWhat}
 use Rattle.cs_score.specs.declared.statement.ScoreWhat.TheVariants.{Note, Hold, Stop, Table, Extend, Tempo, Section}
 use Rattle.cs_score.specs.Carry.{and_then, continues, fields, is_note, is_note_letter, is_same, p1, p1_by}
 use Rattle.cs_score.specs.Notes.{gap, gap_by, note, note_of, ok_or_zero, p2, p2_by}
-use Rattle.cs_score.specs.Statements.{asked, asked_by, base_after, base_of, first_size, one, refusal_of, size_in, table}
-use Rattle.cs_score.specs.Statements.{table_refusal, is_other_size, unless, written_table}
+use Rattle.cs_score.specs.Statements.{asked, asked_by, asked_of, base_after, base_of, first_size, refusal_of, size_in}
+use Rattle.cs_score.specs.Statements.{table, table_refusal, is_other_size, unless, written_table}
 use Rattle.cs_score.specs.inner.State.{IsKept, completed, continuing, fields_read, instr_read, note_read, note_with}
 use Rattle.cs_score.specs.inner.State.{p1_before, p2_read}
 use Rattle.cs_score.specs.inner.Past.{Follows, Keeps, LastFollows, asked_after, table_read}
@@ -130,14 +130,8 @@ table_is above past fs k =
 
 asked_by_is : (above : List Row) (past : Past) (row : Row) (l : StatementLetter) → Keeps above past
     → asked_after past row l ≡ asked_by above row l
-asked_by_is above past row letter.Note k = ap one (note_is above past row k)
-asked_by_is above past row letter.Table k = ap one (table_is above past row.fields k)
-asked_by_is above past row letter.Tempo k = refl
-asked_by_is above past row letter.Base k = refl
-asked_by_is above past row letter.Section k = refl
-asked_by_is above past row letter.End k = refl
-asked_by_is above past row letter.Other k = refl
-asked_by_is above past row letter.Stray k = refl
+asked_by_is above past row l k =
+    λ i. asked_of (note_is above past row k i) (table_is above past row.fields k i) row.fields l
 
 -- what a row asks for, by what the code keeps, is what it asks for by the rows above
 pub asked_is : (above : List Row) (past : Past) (row : Row) → Keeps above past

@@ -177,16 +177,21 @@ abbrev pub ended : List Field → Result (List ScoreWhat) ScoreKind
 ended [] = Ok []
 ended (f ∷ fs) = Err NotInProfile
 
--- what a row asks for after those above: one thing, or nothing
+-- what a row asks for, one thing or nothing, where it is this note or this table if it is one
+abbrev pub asked_of : Result ScoreWhat ScoreKind → Result ScoreWhat ScoreKind → List Field → StatementLetter
+    → Result (List ScoreWhat) ScoreKind
+asked_of as_note as_table fields letter.Note = one as_note
+asked_of as_note as_table fields letter.Table = one as_table
+asked_of as_note as_table fields letter.Tempo = one (tempo_of fields)
+asked_of as_note as_table fields letter.Base = and_then (base_by fields) (λ _. Ok [])
+asked_of as_note as_table fields letter.Section = Ok (Section ∷ [])
+asked_of as_note as_table fields letter.End = ended fields
+asked_of as_note as_table fields letter.Other = Err NotInProfile
+asked_of as_note as_table fields letter.Stray = Err BadStatement
+
+-- what a row asks for after those above
 abbrev pub asked_by : List Row → Row → StatementLetter → Result (List ScoreWhat) ScoreKind
-asked_by above row letter.Note = one (note (base_of above) (row ∷ above))
-asked_by above row letter.Table = one (table above row.fields)
-asked_by above row letter.Tempo = one (tempo_of row.fields)
-asked_by above row letter.Base = and_then (base_by row.fields) (λ _. Ok [])
-asked_by above row letter.Section = Ok (Section ∷ [])
-asked_by above row letter.End = ended row.fields
-asked_by above row letter.Other = Err NotInProfile
-asked_by above row letter.Stray = Err BadStatement
+asked_by above row = asked_of (note (base_of above) (row ∷ above)) (table above row.fields) row.fields
 
 abbrev pub asked : List Row → Row → Result (List ScoreWhat) ScoreKind
 asked above row = asked_by above row row.letter

@@ -134,7 +134,7 @@ behind m k [] = zeros m k
 behind m zero (x ∷ xs) = refl
 behind m (suc k) (x ∷ xs) = behind m k xs
 
--- the oldest value of the line is the input of so many steps ago
+-- the oldest value of the line is the input of m steps ago
 oldest : (m : ℕ) (xs : List ℤ) → argument (replicate (suc m) (pos 0) ++ xs) (length xs) ≡ argument (reverse xs) m
 oldest m xs =
     let all = replicate (suc m) (pos 0) ++ xs in

@@ -17,14 +17,16 @@ once_more k d =
 pub inverse_near : (size : ℕ) → (18446744073709551615 / size + 1) * size ≤ 18446744073709551616 + size
 inverse_near size =
     let k : ℕ = 18446744073709551615 / size in
-    let parts : k * size + 18446744073709551615 % size ≡ 18446744073709551615 = div-add-mod' 18446744073709551615 size in
+    let parts : k * size + 18446744073709551615 % size ≡ 18446744073709551615 =
+    div-add-mod' 18446744073709551615 size in
     let more : (k + 1) * size ≡ k * size + size = once_more k size in
     omega (arith, parts, more)
 
 pub inverse_fits : (size : ℕ) → 3 ≤ size → 18446744073709551615 / size + 1 < 9223372036854775808
 inverse_fits size some =
     let k : ℕ = 18446744073709551615 / size in
-    let parts : k * size + 18446744073709551615 % size ≡ 18446744073709551615 = div-add-mod' 18446744073709551615 size in
+    let parts : k * size + 18446744073709551615 % size ≡ 18446744073709551615 =
+    div-add-mod' 18446744073709551615 size in
     let least : k * 3 ≤ k * size = mul-le k 3 k size (omega arith) some in
     omega (arith, parts, least)
 
@@ -64,7 +66,8 @@ guess_small n inverse value guess few low near is =
     omega (arith, size_of, whole, more, part, low)
 
 -- what a guess leaves fits into 64 bits, and the product on the way too
-module _ (n guess value : ℤ) (few : unsigned_abs n ≤ 2 ^ 61) (near : unsigned_abs (guess *ℤ value) ≤ 2 ^ 61 + 2 ^ 49) where
+module _ (n guess value : ℤ) (few : unsigned_abs n ≤ 2 ^ 61)
+    (near : unsigned_abs (guess *ℤ value) ≤ 2 ^ 61 + 2 ^ 49) where
   pub rest_fits : FitsSigned w64 (n -ℤ (guess *ℤ value))
   rest_fits = fits_signed_from_abs w64 (n -ℤ (guess *ℤ value)) (omega (arith, ints, few, near))
 

@@ -1,13 +1,13 @@
--- A walk along the pieces of a linseg: at each, so many steps are left of the number.
-use Rattle.std.proofs.Common.{◌≡◌, ℕ, ◌+◌, ◌-◌, ◌<◌, ◌≤◌, nat_lt, true, false, List, get_or, length, ℤ, refl, sym, ◌∙◌}
-use Rattle.std.proofs.Common.{ap, subst, zero-add, arith, below_more}
+-- A walk along the pieces of a linseg: at each, what is left of the step's number.
+use Rattle.std.proofs.Common.{◌≡◌, ℕ, ◌+◌, ◌-◌, ◌<◌, ◌≤◌, nat_lt, true, false, List, length, ℤ, refl, sym, ◌∙◌}
+use Rattle.std.proofs.Common.{ap, subst, arith, below_more}
 use Rattle.std.specs.List.{range_with_len}
 use Rattle.std.specs.Prelude.{slice_index}
 use Rattle.std.proofs.lemmas.List.{take_more}
-use Rattle.std.proofs.lemmas.List.FromFn.{length-range_with_len, get_or-range_with_len}
+use Rattle.std.proofs.lemmas.List.FromFn.{length-range_with_len}
 use Rattle.std.proofs.lemmas.List.Sums.{position_or_len_is}
-use Rattle.std.proofs.lemmas.Bool.Decides.{nat_tests}
 use Rattle.std.proofs.lemmas.Grind.{common_steps}
+use Rattle.cs_base.proofs.Tests.{is_below, isnt_below, number_at}
 use Rattle.cs_base.specs.Numbers.{clamp}
 use Rattle.cs_signal.specs.Line.{part_way}
 use Rattle.cs_signal.specs.Linseg.{begin_of, piece_at, on_pieces}
@@ -32,15 +32,6 @@ HasPassed-more lengths n k left d p h e low =
       passed = below_more (λ i. begin_of lengths (i + 1) ≤ n) k p.passed (omega arith);
     }
 
-lower : (n m : ℕ) → n ≤ m → nat_lt m n ≡ false
-lower n m h = grind (arith, nat_tests)
-
-higher : (n m : ℕ) → m < n → nat_lt m n ≡ true
-higher n m h = grind (arith, nat_tests)
-
-place : (n i : ℕ) → i < n → get_or (range_with_len 0 n) i 0 ≡ i
-place n i h = get_or-range_with_len 0 n i 0 h ∙ zero-add i
-
 piece_at-here : (lengths : List ℕ) (n k left : ℕ) → HasPassed lengths n k left → k ≤ length lengths
     → (k < length lengths → left < slice_index lengths k) →
     piece_at lengths n ≡ k
@@ -49,12 +40,12 @@ piece_at-here lengths n k left p real inside =
     let m : ℕ = length lengths in
     let size : length (range_with_len 0 m) ≡ m = length-range_with_len 0 m in
     position_or_len_is (λ i. nat_lt n (begin_of lengths (i + 1))) (range_with_len 0 m) k 0 (omega arith)
-    (λ i h. subst (λ x. nat_lt n (begin_of lengths (x + 1)) ≡ false) (sym (place m i (omega arith)))
-    (lower (begin_of lengths (i + 1)) n (p.passed i (omega arith))))
+    (λ i h. subst (λ x. nat_lt n (begin_of lengths (x + 1)) ≡ false) (sym (number_at m i (omega arith)))
+    (isnt_below n (begin_of lengths (i + 1)) (p.passed i (omega arith))))
     (λ h. let h' : k < m = omega arith in let in_it = inside h' in
     let more = begin_of-more lengths k h' in let b = p.begins in
-    subst (λ x. nat_lt n (begin_of lengths (x + 1)) ≡ true) (sym (place m k h'))
-    (higher (begin_of lengths (k + 1)) n (omega arith)))
+    subst (λ x. nat_lt n (begin_of lengths (x + 1)) ≡ true) (sym (number_at m k h'))
+    (is_below n (begin_of lengths (k + 1)) (omega arith)))
 
 -- on a piece's line
 pub on_piece : (values : List ℤ) (lengths : List ℕ) (n k left d : ℕ) (here next : ℤ) → HasPassed lengths n k left
@@ -64,7 +55,7 @@ pub on_piece : (values : List ℤ) (lengths : List ℕ) (n k left d : ℕ) (here
 unfolding on_pieces
 on_piece values lengths n k left d here next p h ed inside eh en =
     let at = piece_at-here lengths n k left p (omega arith) (λ _. omega arith) in
-    let test = higher (length lengths) k h in
+    let test = is_below k (length lengths) h in
     let b = p.begins in
     let e : n - begin_of lengths k ≡ left = omega arith in
     rw at (rw test (rw e (rw (← ed) (rw (← eh) (rw (← en) refl)))))
@@ -76,7 +67,7 @@ pub after_pieces : (values : List ℤ) (lengths : List ℕ) (n k left : ℕ) →
 unfolding on_pieces
 after_pieces values lengths n k left p h =
     let at = piece_at-here lengths n k left p (omega arith) (λ l. absurd (omega arith)) in
-    let test = lower (length lengths) k (omega arith) in
+    let test = isnt_below k (length lengths) (omega arith) in
     rw at (rw test refl)
 
 pub last_value : (values : List ℤ) (lengths : List ℕ) (n k left : ℕ) (z : ℤ) → HasPassed lengths n k left

@@ -5,11 +5,11 @@ use Rattle.cs_signal.specs.History.{ago, signal}
 use Rattle.cs_signal.specs.Operands.{argument}
 use Rattle.cs_signal.specs.Pace.{Pace, samples_of}
 
--- how many samples a delay is long: those of its time, and at least one
+-- the length of a delay in samples: its time, and at least one
 abbrev pub delay_length : Pace → ℤ → ℕ
 delay_length pace time = max 1 (samples_of pace time)
 
--- the input of so many samples ago, and 0 before the first
+-- the input of `delay_length` samples ago, and 0 before the first
 abbrev pub delay_of : Rate → Pace → List ℤ → List (List ℤ) → ℤ
 delay_of rate pace init steps = ago 0 (delay_length pace (argument init 0)) steps
 

@@ -9,7 +9,7 @@ use Rattle.cs_signal.specs.Pace.{Pace, steps_of, number_after, number_of_last}
 abbrev pub part_way : ℤ → ℤ → ℕ → ℕ → ℤ
 part_way from to n d = from +ℤ floor_div ((to -ℤ from) *ℤ pos n) (pos d)
 
--- how many steps the way takes: those of the duration, and at least one
+-- the number of steps that the way takes: the duration, and at least one
 abbrev pub way_of : Rate → Pace → List ℤ → ℕ
 way_of rate pace init = max 1 (steps_of rate pace (argument init 1))
 

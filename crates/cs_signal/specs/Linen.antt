@@ -10,7 +10,7 @@ use Rattle.cs_signal.specs.Pace.{Pace, steps_of, number_after, number_of_last}
 abbrev pub up_at : ℕ → ℕ → ℤ
 up_at rise n = if nat_le rise n then one else floor_div (one *ℤ pos n) (pos rise)
 
--- the factor of the decay at step n: one until it begins, so many steps before the duration ends, then falling
+-- the factor of the decay at step n: one until it begins, `decay` steps before the duration ends, then falling
 -- through 0 at the duration's end
 abbrev pub down_at : ℕ → ℕ → ℕ → ℤ
 down_at duration decay n =

@@ -1,7 +1,7 @@
 -- How long a time is in steps of a unit.
 use Rattle.std.specs.Prelude.{ℕ, ◌-◌, ◌*◌, ◌^◌, min, List, length, ℤ, pos, negsuc, ◌*ℤ◌}
 use Rattle.cs_base.specs.Numbers.{floor_div, one}
-use Rattle.cs_base.specs.declared.head.Head.{Head}
+use Rattle.cs_base.specs.Heads.{Header}
 use Rattle.cs_base.specs.declared.resource.Rate.{Rate}
 use Rattle.cs_base.specs.declared.resource.Rate.TheVariants as rate
 
@@ -10,8 +10,8 @@ pub record Pace : Type 0 where
   pub sr : ℕ
   pub ksmps : ℕ
 
-abbrev pub pace_of : Head → Pace
-pace_of head = record { sr = head.sr; ksmps = head.ksmps }
+abbrev pub pace_of : Header → Pace
+pace_of header = record { sr = header.sr; ksmps = header.ksmps }
 
 -- a count: what is below 0 counts as 0
 abbrev pub from_zero : ℤ → ℕ
@@ -36,7 +36,7 @@ steps_of rate.Audio pace time = samples_of pace time
 abbrev pub last_number : ℕ
 last_number = 2 ^ 63 - 1
 
--- the number of a step that comes after so many others
+-- the number of a step that comes after n others
 abbrev pub number_after : ℕ → ℕ
 number_after n = min n last_number
 

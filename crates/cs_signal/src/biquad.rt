@@ -1,5 +1,6 @@
 // `biquad`: a filter of two zeros and two poles, by whole numbers.
-ghost use Rattle.std.specs.Prelude.{IfSome, true, ◌≡◌, ◌≢◌, ◌<◌, ◌≤◌, ◌+◌, ◌^◌, length, pos, ◌≤ℤ◌, ◌+ℤ◌, ◌-ℤ◌, ◌*ℤ◌, unsigned_abs};
+ghost use Rattle.std.specs.Prelude.{IfSome, true, ◌≡◌, ◌≢◌, ◌<◌, ◌≤◌, ◌+◌, ◌^◌, length, pos, ◌≤ℤ◌, ◌+ℤ◌, ◌-ℤ◌, ◌*ℤ◌};
+ghost use Rattle.std.specs.Prelude.{unsigned_abs};
 ghost use Rattle.std.specs.Int.{int_div_euclid};
 ghost use Rattle.cs_base.specs.Numbers.{IsRaw, clamp, floor_div, quotient_by_zero};
 ghost use Rattle.cs_signal.specs.Biquad.{all_held, biquad_step, filtered, inputs_by, ratio, values_at};
@@ -317,7 +318,8 @@ fn back(a1: Num, y1: Num, a2: Num, y2: Num) -> i128
 // Whether coefficients are below 2,048.
 #[inline(always)]
 fn are_small(b0: Num, b1: Num, b2: Num, a1: Num, a2: Num) -> bool
-    ensures zeros { result ≡ true → (unsigned_abs b0 ≤ 2 ^ 27) × (unsigned_abs b1 ≤ 2 ^ 27) × (unsigned_abs b2 ≤ 2 ^ 27) }
+    ensures zeros { result ≡ true
+        → (unsigned_abs b0 ≤ 2 ^ 27) × (unsigned_abs b1 ≤ 2 ^ 27) × (unsigned_abs b2 ≤ 2 ^ 27) }
     ensures poles { result ≡ true → (unsigned_abs a1 ≤ 2 ^ 27) × (unsigned_abs a2 ≤ 2 ^ 27) }
 {
     is_small(b0) && is_small(b1) && is_small(b2) && is_small(a1) && is_small(a2)
@@ -333,7 +335,8 @@ fn is_small(c: Num) -> bool
 // Whether signals are below 32,768.
 #[inline(always)]
 fn are_short(x: Num, x1: Num, x2: Num, y1: Num, y2: Num) -> bool
-    ensures inputs { result ≡ true → (unsigned_abs x ≤ 2 ^ 31) × (unsigned_abs x1 ≤ 2 ^ 31) × (unsigned_abs x2 ≤ 2 ^ 31) }
+    ensures inputs { result ≡ true
+        → (unsigned_abs x ≤ 2 ^ 31) × (unsigned_abs x1 ≤ 2 ^ 31) × (unsigned_abs x2 ≤ 2 ^ 31) }
     ensures results { result ≡ true → (unsigned_abs y1 ≤ 2 ^ 31) × (unsigned_abs y2 ≤ 2 ^ 31) }
 {
     is_short(x) && is_short(x1) && is_short(x2) && is_short(y1) && is_short(y2)

@@ -1,5 +1,6 @@
 // `delay`: its input of a fixed number of samples ago.
 ghost use Rattle.std.specs.Prelude.{ℤ, ◌≡◌, ◌<◌, ◌≤◌, ◌∷◌, [], List, IfOk, length, vec_capacity};
+ghost use Rattle.cs_base.specs.Heads.{header_of_head};
 ghost use Rattle.cs_base.specs.declared.resource.Rate.{Rate};
 ghost use Rattle.cs_signal.specs.Delay.{delay_start, delay_step};
 ghost use Rattle.cs_signal.specs.Operands.{operand_at, Lasts};
@@ -40,7 +41,8 @@ impl Delay {
     /// One that has no step behind it, from its settled argument, the time. It has memory for its samples and no more.
     #[tactic(auto, using(crate::proofs::Rings::none_yet))]
     pub fn start(alloc: Global, head: &Head, init: &[Num]) -> Result<Delay, AllocError>
-        ensures { (rate : Rate) → IfOk result (λ unit. unit ≡ delay_start rate (pace_of head.now) init.now) }
+        ensures { (rate : Rate)
+            → IfOk result (λ unit. unit ≡ delay_start rate (pace_of (header_of_head head.now)) init.now) }
     {
         let count = delay_samples(argument(init, 0), head) as usize;
         let ring = Vec::with_capacity(alloc, count)?;

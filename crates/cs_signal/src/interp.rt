@@ -1,5 +1,6 @@
 // `interp`: a control value as a sound, on a straight line from one control cycle's value to the next.
 ghost use Rattle.std.specs.Prelude.{◌≡◌, ◌+◌, ◌%◌, ◌<◌, ◌≤◌, ◌∷◌, [], List, ℤ, length};
+ghost use Rattle.cs_base.specs.Heads.{header_of_head};
 ghost use Rattle.cs_base.specs.declared.resource.Rate.{Rate};
 ghost use Rattle.cs_signal.specs.Interp.{interp_start, interp_step};
 ghost use Rattle.cs_signal.specs.Operands.{operand_at, Lasts};
@@ -36,7 +37,7 @@ impl Model for Interp {
 impl Interp {
     /// One that has no step behind it.
     pub fn start(head: &Head) -> Interp
-        ensures { (rate : Rate) (init : List ℤ) → result ≡ interp_start rate (pace_of head.now) init }
+        ensures { (rate : Rate) (init : List ℤ) → result ≡ interp_start rate (pace_of (header_of_head head.now)) init }
     {
         Interp {
             ksmps: u64::from(head.ksmps),

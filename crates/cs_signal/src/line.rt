@@ -1,5 +1,6 @@
 // `line`: a straight line through two values, without end.
 ghost use Rattle.std.specs.Prelude.{◌≡◌, ◌<◌, ◌≤◌, ◌+◌, ◌^◌, ◌∷◌, [], length, map, pos, ◌+ℤ◌, ◌-ℤ◌, ◌*ℤ◌, unsigned_abs};
+ghost use Rattle.cs_base.specs.Heads.{header_of_head};
 ghost use Rattle.cs_base.specs.Numbers.{IsRaw, clamp, floor_div};
 ghost use Rattle.cs_signal.specs.Line.{LineState, line_start, line_step, part_way};
 ghost use Rattle.cs_signal.specs.Pace.{pace_of, last_number};
@@ -36,7 +37,7 @@ impl Model for Line {
 impl Line {
     /// One that has no step behind it, from its settled arguments: the first value, the duration, the second value.
     pub fn start(rate: Rate, head: &Head, init: &[Num]) -> Line
-        ensures { result ≡ line_start rate (pace_of head.now) init.now }
+        ensures { result ≡ line_start rate (pace_of (header_of_head head.now)) init.now }
     {
         Line {
             from: argument(init, 0),

@@ -1,6 +1,8 @@
 // `linen`: an amplitude under a straight rise and a straight decay.
-ghost use Rattle.std.specs.Prelude.{◌≡◌, ◌<◌, ◌≤◌, ◌*◌, ◌/◌, ◌^◌, ◌∷◌, [], true, length, map, pos, ◌-ℤ◌, ◌*ℤ◌, unsigned_abs};
+ghost use Rattle.std.specs.Prelude.{◌≡◌, ◌<◌, ◌≤◌, ◌*◌, ◌/◌, ◌^◌, ◌∷◌, [], true, length, map, pos, ◌-ℤ◌, ◌*ℤ◌};
+ghost use Rattle.std.specs.Prelude.{unsigned_abs};
 ghost use Rattle.std.specs.List.{range_with_len};
+ghost use Rattle.cs_base.specs.Heads.{header_of_head};
 ghost use Rattle.cs_base.specs.Numbers.{IsRaw, clamp, floor_div, one, product_of};
 ghost use Rattle.cs_signal.specs.Linen.{linen_start, linen_step, up_at, down_at};
 ghost use Rattle.cs_signal.specs.Operands.{argument, operand_at, Lasts};
@@ -33,15 +35,21 @@ impl Model for Linen {
 
     ghost Value = { LinenState };
 
-    ghost view = { λ unit. record { rise = unit.rise; duration = unit.duration; decay = unit.decay; number = unit.number } };
+    ghost view = { λ unit. record {
+      rise = unit.rise;
+      duration = unit.duration;
+      decay = unit.decay;
+      number = unit.number;
+    } };
 
-    ghost invariant = { λ unit. (unit.rise < 2 ^ 49) × (unit.duration < 2 ^ 49) × (unit.decay < 2 ^ 49) × (unit.number ≤ last_number) };
+    ghost invariant = { λ unit. (unit.rise < 2 ^ 49) × (unit.duration < 2 ^ 49) × (unit.decay < 2 ^ 49)
+        × (unit.number ≤ last_number) };
 }
 
 impl Linen {
     /// One that has no step behind it, from its settled arguments: the times of rise, duration and decay.
     pub fn start(rate: Rate, head: &Head, init: &[Num]) -> Linen
-        ensures { result ≡ linen_start rate (pace_of head.now) init.now }
+        ensures { result ≡ linen_start rate (pace_of (header_of_head head.now)) init.now }
     {
         Linen {
             rise: steps(argument(init, 0), rate, head),
@@ -178,7 +186,8 @@ fn falling_on(x: &Operand, number: u64, decay: u64, out: &mut [Num])
 
 // The amplitude by factors, which `out` has.
 fn shape(x: &Operand, out: &mut [Num])
-    ensures { out.new ≡ map (λ j. product_of (operand_at x.now j) (argument out.old j)) (range_with_len 0 (length out.old)) }
+    ensures { out.new
+        ≡ map (λ j. product_of (operand_at x.now j) (argument out.old j)) (range_with_len 0 (length out.old)) }
 {
     for j in 0..out.len() {
         out[j] = product(x.at(j), out[j]);
@@ -211,7 +220,7 @@ fn reduced(x: Num, factor: Num) -> Num
     requires { unsigned_abs factor < 2 ^ 16 }
     ensures { result ≡ product_of x factor }
 {
-    scaled(near_product(x.raw(), factor.raw()))
+    Num::of_product(near_product(x.raw(), factor.raw()))
 }
 
 // The exact product.
@@ -222,14 +231,6 @@ fn near_product(x: i64, factor: i64) -> i64
     ensures { result ≡ x *ℤ factor }
 {
     x * factor
-}
-
-// A product in 65,536ths, rounded down.
-#[inline(always)]
-fn scaled(product: i64) -> Num
-    ensures { result ≡ floor_div product one }
-{
-    Num::exact(product >> 16)
 }
 
 // The factor of the rise, from 0 to one.

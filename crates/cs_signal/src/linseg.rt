@@ -1,6 +1,7 @@
 // `linseg`: straight pieces from value to value; after the last piece the last value.
 ghost use Rattle.std.specs.Prelude.{ℕ, ◌≡◌, ◌+◌, ◌*◌, ◌<◌, ◌≤◌, ◌∷◌, [], true, false, IfOk, IfSome, length, map};
 ghost use Rattle.std.specs.List.{range_with_len};
+ghost use Rattle.cs_base.specs.Heads.{header_of_head};
 ghost use Rattle.cs_base.specs.Numbers.{clamp};
 ghost use Rattle.cs_signal.specs.Linseg.{linseg_start, linseg_step, lengths_of, on_pieces, pieces_of, values_of};
 ghost use Rattle.cs_signal.specs.Pace.{pace_of, last_number};
@@ -34,13 +35,14 @@ impl Model for Linseg {
 
     ghost view = { λ unit. record { values = unit.values.items; lengths = unit.lengths.items; number = unit.number } };
 
-    ghost invariant = { λ unit. (length unit.values.items ≡ length unit.lengths.items + 1) × (unit.number ≤ last_number) };
+    ghost invariant = { λ unit. (length unit.values.items ≡ length unit.lengths.items + 1)
+        × (unit.number ≤ last_number) };
 }
 
 impl Linseg {
     /// One that has no step behind it, from its settled arguments: a value, then a duration and a value for each piece.
     pub fn start(alloc: Global, rate: Rate, head: &Head, init: &[Num]) -> Result<Linseg, AllocError>
-        ensures { IfOk result (λ unit. unit ≡ linseg_start rate (pace_of head.now) init.now) }
+        ensures { IfOk result (λ unit. unit ≡ linseg_start rate (pace_of (header_of_head head.now)) init.now) }
     {
         let values = values_of(alloc, init)?;
         let lengths = lengths_of(alloc, rate, head, init)?;
@@ -142,7 +144,7 @@ fn values_of(alloc: Global, init: &[Num]) -> Result<Vec<Num>, AllocError>
 }
 
 fn lengths_of(alloc: Global, rate: Rate, head: &Head, init: &[Num]) -> Result<Vec<u64>, AllocError>
-    ensures { IfOk result (λ lengths. lengths.items ≡ lengths_of rate (pace_of head.now) init.now) }
+    ensures { IfOk result (λ lengths. lengths.items ≡ lengths_of rate (pace_of (header_of_head head.now)) init.now) }
 {
     let count = pieces_of(init);
     let mut lengths = Vec::with_capacity(alloc, count)?;

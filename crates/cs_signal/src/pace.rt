@@ -1,5 +1,6 @@
 // How long a time is in steps of a unit.
 ghost use Rattle.std.specs.Prelude.{◌≡◌, ◌<◌, ◌≤◌, ◌+◌, ◌*◌, ◌^◌, max, pos, ◌*ℤ◌, unsigned_abs};
+ghost use Rattle.cs_base.specs.Heads.{header_of_head};
 ghost use Rattle.cs_base.specs.Numbers.{IsRaw, floor_div, one};
 ghost use Rattle.cs_signal.specs.Pace.{from_zero, pace_of, samples_of, cycles_of, steps_of, number_after};
 
@@ -7,7 +8,7 @@ use cs_base::{Head, Num, Rate};
 
 /// A time in seconds as whole samples, rounded down; none where it is below 0.
 pub(crate) fn samples(time: Num, head: &Head) -> u64
-    ensures value { result ≡ samples_of (pace_of head.now) time }
+    ensures value { result ≡ samples_of (pace_of (header_of_head head.now)) time }
     ensures bounded { result < 2 ^ 49 }
 {
     counted(times(time, head.sr), 65_536)
@@ -15,7 +16,7 @@ pub(crate) fn samples(time: Num, head: &Head) -> u64
 
 /// A time in seconds as whole control cycles, rounded down; none where it is below 0.
 fn cycles(time: Num, head: &Head) -> u64
-    ensures value { result ≡ cycles_of (pace_of head.now) time }
+    ensures value { result ≡ cycles_of (pace_of (header_of_head head.now)) time }
     ensures bounded { result < 2 ^ 49 }
 {
     counted(times(time, head.sr), 65_536 * head.ksmps)
@@ -23,7 +24,7 @@ fn cycles(time: Num, head: &Head) -> u64
 
 /// A time in seconds as steps of a unit: of a sample each at audio rate, else of a control cycle each.
 pub(crate) fn steps(time: Num, rate: Rate, head: &Head) -> u64
-    ensures value { result ≡ steps_of rate (pace_of head.now) time }
+    ensures value { result ≡ steps_of rate (pace_of (header_of_head head.now)) time }
     ensures bounded { result < 2 ^ 49 }
 {
     match rate {
@@ -34,7 +35,7 @@ pub(crate) fn steps(time: Num, rate: Rate, head: &Head) -> u64
 
 /// The samples of a delay of `time` seconds: at least one.
 pub fn delay_samples(time: Num, head: &Head) -> u64
-    ensures value { result ≡ max 1 (samples_of (pace_of head.now) time) }
+    ensures value { result ≡ max 1 (samples_of (pace_of (header_of_head head.now)) time) }
     ensures bounded { result < 2 ^ 49 }
 {
     samples(time, head).max(1)

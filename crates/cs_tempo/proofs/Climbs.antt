@@ -24,12 +24,12 @@ use Rattle.cs_tempo.specs.Sections.{sections_of, own_points, or_else, tempo_of, 
 use Rattle.cs_tempo.specs.Sections.{reach_of, greatest, length_of}
 use Rattle.cs_tempo.specs.Order.{has_turn, beat_of, order_of, put, in_order}
 use Rattle.cs_tempo.specs.Pairing.{stop_of}
-use Rattle.cs_tempo.specs.Plot.{Setting, acts_of, events_along, setting_of, events_from}
+use Rattle.cs_tempo.specs.Plot.{SectionSetting, acts_of, events_along, setting_of, events_from}
 use Rattle.cs_tempo.specs.Limits.{cycles_in}
 use Rattle.cs_tempo.specs.inner.Events.{HasEnd, IsTurnIn}
 use Rattle.cs_tempo.proofs.Elements.{each_append, each_from_index, each_more, sections_each}
 use Rattle.cs_tempo.proofs.Orders.{each_at}
-use Rattle.cs_tempo.proofs.Firsts.{is_above, is_within}
+use Rattle.cs_base.proofs.Tests.{is_below, isnt_below}
 use Rattle.cs_tempo.proofs.Times.{time_grows, cycles_grow}
 use Rattle.cs_tempo.proofs.Walks.{start_within, stop_within, order_each}
 
@@ -45,11 +45,11 @@ BeatsRise low [] = Unit {0}
 BeatsRise low (s ∷ later) = (low ≤ beat_of s.what) × BeatsRise (beat_of s.what) later
 
 below_is_less : (a b : ℕ) → a < b → nat_cmp a b ≡ Less
-below_is_less a b h = rw (is_above a b h) refl
+below_is_less a b h = rw (is_below a b h) refl
 
 above_is_greater : (a b : ℕ) → b < a → nat_cmp a b ≡ Greater
 above_is_greater a b h =
-    let apart : (a == b) ≡ false = grind (arith, nat_tests) in rw (is_within a b (omega arith), apart) refl
+    let apart : (a == b) ≡ false = grind (arith, nat_tests) in rw (isnt_below a b (omega arith), apart) refl
 
 before_is_low : (a b : ℕ) (x : Ordering) → is_lt (ordering_then (nat_cmp a b) x) ≡ true → a ≤ b
 before_is_low a b x h =
@@ -112,7 +112,7 @@ climb_append low top [] ys c e up d = climb_low top low ys up d
 climb_append low top (x ∷ xs) ys c e up d = (c.0, climb_append x.cycle top xs ys c.1 e.1 e.0 d)
 
 -- a turn does one thing at most
-pub one_act : (set : Setting) (stop : Option ℕ) (w : ScoreWhat)
+pub one_act : (set : SectionSetting) (stop : Option ℕ) (w : ScoreWhat)
     → (acts_of set stop w ≡ []) ⊎ ((a : EventAct) × (acts_of set stop w ≡ a ∷ []))
 unfolding acts_of
 one_act set stop (Note instr at len more) = inr (_, refl)
@@ -123,7 +123,7 @@ one_act set stop (Extend at) = inl refl
 one_act set stop (Tempo points) = inl refl
 one_act set stop Section = inl refl
 
-along_climbs : (set : Setting) (low m : ℕ) (earlier ss : List ScoreStmt) → IsTempo set.tempo → BeatsRise low ss →
+along_climbs : (set : SectionSetting) (low m : ℕ) (earlier ss : List ScoreStmt) → IsTempo set.tempo → BeatsRise low ss →
     m ≤ set.offset + cycle_at set.head set.tempo low → Climb m (events_along set earlier ss)
 unfolding events_along
 along_climbs set low m earlier [] t r h = tt
@@ -139,7 +139,7 @@ first_cycles [] = 0
 first_cycles (a ∷ _) = cycles_in a
 
 -- a note ends within its section
-act_within : (set : Setting) (stop : Option ℕ) (w : ScoreWhat) (a : EventAct) → HasRange w
+act_within : (set : SectionSetting) (stop : Option ℕ) (w : ScoreWhat) (a : EventAct) → HasRange w
     → reach_of set.head set.tempo w ≤ set.cycles
     → has_turn w ≡ true →
     IfSome stop (HasEnd (record { head = set.head; tempo = set.tempo }) set.cycles) → acts_of set stop w ≡ a ∷ [] →
@@ -158,7 +158,7 @@ act_within set stop (Extend at) a r h t s e = absurd (cc)
 act_within set stop (Tempo points) a r h t s e = absurd (cc)
 act_within set stop Section a r h t s e = absurd (cc)
 
-along_within : (set : Setting) (earlier ss : List ScoreStmt)
+along_within : (set : SectionSetting) (earlier ss : List ScoreStmt)
     → Each (IsTurnIn (record { head = set.head; tempo = set.tempo }) set.cycles) ss →
     Each (λ (e : Event). e.cycle + cycles_in e.act ≤ set.offset + set.cycles) (events_along set earlier ss)
 unfolding events_along
@@ -231,7 +231,7 @@ pub from_climbs : (head : Head) (offset : ℕ) (sections : List (List ScoreStmt)
 unfolding events_from
 from_climbs head offset [] r = tt
 from_climbs head offset (section ∷ others) r =
-    let set : Setting = setting_of head offset section in
+    let set : SectionSetting = setting_of head offset section in
     let turns = order_each (record { head = head; tempo = tempo_of section }) (length_of head section) section r.0
     (reach_all head section) in
     climb_append offset (offset + length_of head section) (events_along set [] (in_order section)) _

@@ -1,8 +1,7 @@
 -- The first item that passes a test, and a count with one item more.
 use Rattle.std.proofs.Common.{◌≡◌, ℕ, ◌+◌, ◌<◌, ◌≤◌, Bool, true, false, cond, Some, None, List, ◌∷◌, [], ◌++◌, length}
-use Rattle.std.proofs.Common.{get_or, drop, take, nat_lt, arith, refl, ap, sym, ◌∙◌}
+use Rattle.std.proofs.Common.{get_or, drop, take, refl, ap, sym, ◌∙◌}
 use Rattle.std.specs.List.{count_by}
-use Rattle.std.proofs.lemmas.Bool.Decides.{nat_tests}
 use Rattle.std.proofs.lemmas.List.{take_more, drop_more, drop_all}
 use Rattle.std.proofs.lemmas.List.Sums.{sum_by_more}
 use Rattle.cs_score.specs.Limits.{first_at}
@@ -36,9 +35,3 @@ pub count_more : {X : Type 0} (p : X → Bool) (xs : List X) (k : ℕ) (x : X) �
     count_by p (take (k + 1) xs) ≡ count_by p (take k xs) + cond (p x) 1 0
 count_more p xs k x some here =
     sum_by_more (λ y. cond (p y) 1 0) xs k x some ∙ ap (λ y. count_by p (take k xs) + cond (p y) 1 0) (sym here)
-
-pub is_above : (limit n : ℕ) → limit < n → nat_lt limit n ≡ true
-is_above limit n h = grind (arith, nat_tests)
-
-pub is_within : (limit n : ℕ) → n ≤ limit → nat_lt limit n ≡ false
-is_within limit n h = grind (arith, nat_tests)

@@ -28,7 +28,7 @@ use Rattle.cs_tempo.specs.Limits.{cycles_in, is_active, limit_of, passes_notes}
 use Rattle.cs_tempo.specs.Order.{has_turn, in_order, order_of, put}
 use Rattle.cs_tempo.specs.Pairing.{stop_of}
 use Rattle.cs_tempo.specs.Performable.{IsActInRange, IsPerformable}
-use Rattle.cs_tempo.specs.Plot.{Setting, acts_of, events_along, events_from, plot_of, setting_of}
+use Rattle.cs_tempo.specs.Plot.{SectionSetting, acts_of, events_along, events_from, plot_of, setting_of}
 use Rattle.cs_tempo.specs.Sections.{at_front, ends_section, length_of, sections_of}
 use Rattle.cs_tempo.proofs.Climbs.{climb_far, from_climbs, from_within, one_act, sections_in_range}
 use Rattle.cs_tempo.proofs.Orders.{each_at}
@@ -162,7 +162,7 @@ counts_few (s ∷ later) none =
     (ap (λ l. nat_lt most_events (count_by counts l)) (sym whole)
     ∙ none_passes passes_events [] (s ∷ later) none (length later) s (omega arith))
 
-along_few : (set : Setting) (earlier ss : List ScoreStmt) → length (events_along set earlier ss) ≤ length ss
+along_few : (set : SectionSetting) (earlier ss : List ScoreStmt) → length (events_along set earlier ss) ≤ length ss
 unfolding events_along
 along_few set earlier [] = omega arith
 along_few set earlier (s ∷ ss) =
@@ -213,7 +213,7 @@ from_few : (head : Head) (offset : ℕ) (sections : List (List ScoreStmt))
 unfolding events_from
 from_few head offset [] = omega arith
 from_few head offset (section ∷ others) =
-    let set : Setting = setting_of head offset section in
+    let set : SectionSetting = setting_of head offset section in
     omega (
       arith,
       length-append (events_along set [] (in_order section))
@@ -254,7 +254,7 @@ sections_count (s ∷ later) =
 
 -- ---- what events do
 
-act_in_range : (set : Setting) (stop : Option ℕ) (w : ScoreWhat) (a : EventAct) → HasRange w
+act_in_range : (set : SectionSetting) (stop : Option ℕ) (w : ScoreWhat) (a : EventAct) → HasRange w
     → acts_of set stop w ≡ a ∷ [] → IsActInRange a
 unfolding acts_of
 act_in_range set stop (Note instr at len more) a r e =
@@ -276,7 +276,7 @@ act_in_range set stop (Extend at) a r e = absurd (cc)
 act_in_range set stop (Tempo points) a r e = absurd (cc)
 act_in_range set stop Section a r e = absurd (cc)
 
-along_in_range : (set : Setting) (earlier ss : List ScoreStmt) → Each IsInRange ss
+along_in_range : (set : SectionSetting) (earlier ss : List ScoreStmt) → Each IsInRange ss
     → Each (λ (e : Event). IsActInRange e.act) (events_along set earlier ss)
 unfolding events_along
 along_in_range set earlier [] r = tt

@@ -22,7 +22,7 @@ use Rattle.cs_tempo.specs.inner.Counted.{own_stop, sounding, sounding_after, sto
 use Rattle.cs_tempo.specs.inner.Stops.{Shows, Queues, AreQueues, ending}
 use Rattle.cs_tempo.specs.inner.Queue.{Queue}
 use Rattle.cs_tempo.specs.inner.Events.{HasEnd, IsTurnIn}
-use Rattle.cs_tempo.specs.Plot.{Setting, events_at, events_along}
+use Rattle.cs_tempo.specs.Plot.{SectionSetting, events_at, events_along}
 use Rattle.cs_tempo.proofs.Ended.{first_ended}
 use Rattle.cs_tempo.proofs.Elements.{put_each}
 
@@ -78,7 +78,8 @@ pub behind : (ss : List ScoreStmt) (k : ℕ) (s : ScoreStmt) → k < length ss �
 behind ss k s some at =
     ap reverse (take_more ss k s some ∙ ap (λ x. take k ss ++ x ∷ []) (sym at)) ∙ reverse-append (take k ss) (s ∷ [])
 
-pub events_step : (set : Setting) (ss : List ScoreStmt) (k : ℕ) (s : ScoreStmt) (done : List Event) → k < length ss
+pub events_step : (set : SectionSetting) (ss : List ScoreStmt) (k : ℕ) (s : ScoreStmt) (done : List Event)
+    → k < length ss
     → s ≡ get_or ss k s →
     (done ++ events_at set (stop_of (reverse (take k ss)) (drop (k + 1) ss) s) s)
     ++ events_along set (reverse (take (k + 1) ss)) (drop (k + 1) ss)
@@ -87,7 +88,7 @@ unfolding events_along
 events_step set ss k s done some at =
     rw (ahead ss k s some at, behind ss k s some at) (append_assoc done _ _)
 
-pub events_none : (set : Setting) (ss : List ScoreStmt) (k : ℕ) (done : List Event) → length ss ≤ k →
+pub events_none : (set : SectionSetting) (ss : List ScoreStmt) (k : ℕ) (done : List Event) → length ss ≤ k →
     done ++ events_along set (reverse (take k ss)) (drop k ss) ≡ done
 unfolding events_along
 events_none set ss k done all = rw (drop_all k ss all) (append-nil done)

@@ -48,6 +48,6 @@ limit_of_sections head sections =
     (at_event (first_at passes_notes [] (events_from head 0 sections)))
 
 -- the first limit that a score passes: those on table numbers and on statements, which reading finds, then
--- those of its sections
+-- the limits of its sections
 abbrev pub limit_of : Head → List ScoreStmt → Option LimitHit
 limit_of head score = option_or (limit_of_score score) (limit_of_sections head (sections_of score))

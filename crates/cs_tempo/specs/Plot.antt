@@ -25,7 +25,7 @@ length_in_seconds tempo at len = pos (seconds_of (time_of tempo (at + len) - tim
 
 -- where a section stands: the piece's head, the section's tempo, the cycle in which it begins, and its
 -- length in cycles
-pub record Setting : Type 0 where
+pub record SectionSetting : Type 0 where
   pub head : Head
   pub tempo : List TempoPoint
   pub offset : ℕ
@@ -33,13 +33,13 @@ pub record Setting : Type 0 where
 
 -- the end of a held note: the cycle of the stop that ends it, else the section's end; it lasts one cycle
 -- at least
-abbrev pub held_until : Setting → ℕ → Option ℕ → ℕ
+abbrev pub held_until : SectionSetting → ℕ → Option ℕ → ℕ
 held_until set at (Some stop) =
     max (cycle_at set.head set.tempo stop) (cycle_at set.head set.tempo at + 1)
 held_until set at None = max set.cycles (cycle_at set.head set.tempo at + 1)
 
 -- what a turn does, where `stop` is the beat of the stop that ends it; a stop itself does nothing
-unfoldable pub acts_of : Setting → Option ℕ → ScoreWhat → List EventAct
+unfoldable pub acts_of : SectionSetting → Option ℕ → ScoreWhat → List EventAct
 acts_of set stop (Note instr at len more) =
     act.Start instr (end_of set.head set.tempo at len - cycle_at set.head set.tempo at)
     (fields_of set.tempo instr at (length_in_seconds set.tempo at len) more) ∷ []
@@ -50,19 +50,19 @@ acts_of set stop (Table number at size gen args) = act.Table number size gen arg
 acts_of set stop _ = []
 
 -- the event of a turn, at the cycle of its beat: one for a note or a table, none for a stop
-abbrev pub events_at : Setting → Option ℕ → ScoreStmt → List Event
+abbrev pub events_at : SectionSetting → Option ℕ → ScoreStmt → List Event
 events_at set stop s =
     let at : ℕ = set.offset + cycle_at set.head set.tempo (beat_of s.what) in
     map (λ what. record { cycle = at; line = s.line; act = what }) (acts_of set stop s.what)
 
 -- the events of some turns, behind others, which stand latest first
-unfoldable pub events_along : Setting → List ScoreStmt → List ScoreStmt → List Event
+unfoldable pub events_along : SectionSetting → List ScoreStmt → List ScoreStmt → List Event
 events_along set earlier [] = []
 events_along set earlier (s ∷ later) =
     events_at set (stop_of earlier later s) s ++ events_along set (s ∷ earlier) later
 
 -- a section that begins at some cycle
-abbrev pub setting_of : Head → ℕ → List ScoreStmt → Setting
+abbrev pub setting_of : Head → ℕ → List ScoreStmt → SectionSetting
 setting_of head offset section =
     record {
       head = head;

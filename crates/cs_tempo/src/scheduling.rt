@@ -55,10 +55,7 @@ fn plot_sections(
     let lengths = lengths_of(alloc, head, sections)?;
     let cycles = total(&lengths);
     if passes_bytes(head, cycles) {
-        return Err(Or::Fault(LimitHit {
-            limit: Limit::WavBytes,
-            line: 0,
-        }));
+        return Err(Or::Fault(LimitHit::at_no_line(Limit::WavBytes)));
     }
     let events = events_of(alloc, head, sections, &lengths)?;
     match note_hit(alloc, &events)? {

@@ -1,31 +1,14 @@
-// The time of a beat and the control cycle of a time.
+// The time that beats take along a tempo, and the control cycle of a time.
 ghost use Rattle.std.specs.Prelude.{◌≡◌, ◌≤◌, ◌<◌, ◌*◌, ◌+◌, ◌-◌, ◌^◌, ◌/◌, drop, pos};
 ghost use Rattle.cs_base.specs.Limits.{greatest_ksmps, greatest_sr};
 ghost use Rattle.cs_base.specs.Numbers.{IsRaw};
 ghost use Rattle.cs_score.specs.Ranges.{beats_end};
 ghost use Rattle.cs_score.specs.declared.statement.TempoPoint.{TempoPoint};
 ghost use Rattle.cs_tempo.specs.inner.Ramps.{rounded_up};
-ghost use Rattle.cs_tempo.specs.Time.{beat_length, ramp_time, time_along, time_of, IsTempo, Rises, cycle_of};
-ghost use Rattle.cs_tempo.specs.Time.{seconds_of};
+ghost use Rattle.cs_tempo.specs.Time.{beat_length, ramp_time, time_along, Rises, cycle_of, seconds_of};
 
 use cs_base::ONE;
-use cs_score::{TempoPoint, TempoPoints};
-
-/// The time of a beat, in nanoseconds from the start of its section, by the points of the section's tempo: the points
-/// of a score as it is read, so from beat 0 on; none is a tempo of 60 beats a minute. Along the ramp from one point to
-/// the next the length of a beat changes evenly. `beat` is in millionths of a beat, below 10,000,000 beats.
-pub fn beat_time(points: &TempoPoints, beat: u64) -> u64
-    requires tempo { IsTempo points.now }
-    requires beat { beat < beats_end }
-    ensures time { result ≡ time_of points.now beat }
-    ensures small { result ≤ 60000 * beat }
-{
-    if points.is_empty() {
-        steady_time(1_000_000_000, beat)
-    } else {
-        time_along(points.as_slice(), beat)
-    }
-}
+use cs_score::TempoPoint;
 
 /// The control cycle of a time in nanoseconds, rounded half up, at `sr` frames a second and `ksmps`
 /// frames a cycle.

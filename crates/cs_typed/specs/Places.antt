@@ -1,16 +1,9 @@
--- What a piece's header says, where a statement stands, and what may stand there.
-use Rattle.std.specs.Prelude.{ℕ, ℤ, Bool, true, false}
+-- Where a statement stands, and what may stand there.
+use Rattle.std.specs.Prelude.{ℕ, Bool, true, false}
+pub use Rattle.cs_base.specs.Heads.{Header}
 use Rattle.cs_words.specs.declared.catalogue.Shape.{Shape}
 use Rattle.cs_words.specs.declared.catalogue.Shape.TheVariants as shape
 use Rattle.cs_typed.specs.declared.setting.Setting.{Setting}
-
--- What holds for a whole piece: frames a second, frames a control cycle, channels, and the value of full scale in
--- 65,536ths.
-pub record Header : Type 0 where
-  pub sr : ℕ
-  pub ksmps : ℕ
-  pub nchnls : ℕ
-  pub dbfs : ℤ
 
 -- outside instruments, and inside one, of a piece with this number of channels
 abbrev pub outside : ℕ → Setting

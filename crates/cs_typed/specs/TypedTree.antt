@@ -1,6 +1,7 @@
 -- The typed tree of an orchestra as the definitions see it, and what the code's tree is among it.
 use Rattle.std.specs.Prelude.{ℕ, ℤ, List, [], ◌∷◌, map}
-use Rattle.cs_base.specs.declared.head.Head.{Head}
+use Rattle.cs_base.specs.Heads.{Header}
+pub use Rattle.cs_base.specs.Heads.{header_of_head}
 use Rattle.cs_base.specs.declared.per_rate.PerRate.{PerRate}
 use Rattle.cs_base.specs.declared.resource.Rate.{Rate}
 use Rattle.cs_base.specs.declared.spaces.Spaces.{Spaces}
@@ -8,7 +9,6 @@ use Rattle.cs_words.specs.declared.catalogue.Opcode.{Opcode}
 use Rattle.cs_words.specs.declared.sign.BinOp.{BinOp}
 use Rattle.cs_words.specs.declared.word.Func.{Func}
 use Rattle.cs_words.specs.declared.word.HeadName.{HeadName}
-use Rattle.cs_typed.specs.Places.{Header}
 use Rattle.cs_typed.specs.declared.tree.Globals.{Globals}
 use Rattle.cs_typed.specs.declared.tree.TypedArg.{TypedArg}
 use Rattle.cs_typed.specs.declared.tree.TypedArg.TheVariants.{Value, Text}
@@ -132,10 +132,6 @@ instrument i = record { line = i.line; numbers = i.numbers; locals = i.locals; b
 
 abbrev pub shared_names : Globals → SharedNames
 shared_names g = record { gi = g.gi; gk = g.gk; ga = g.ga; control = g.control; sound = g.sound }
-
--- the header of a piece, without the proofs of its ranges
-abbrev pub header_of_head : Head → Header
-header_of_head h = record { sr = h.sr; ksmps = h.ksmps; nchnls = h.nchnls; dbfs = h.dbfs }
 
 abbrev pub orchestra : TypedOrc → Orchestra
 orchestra o = record {

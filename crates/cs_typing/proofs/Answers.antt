@@ -32,7 +32,7 @@ block_of v = typed.block v.items
 abbrev pub Same : Or OrcFault → Or OrcFault → Type 0
 Same e y = y ≡ e
 
--- the exit of a `?`: the same fault, or want of memory
+-- the exit of a `?`: the same fault, or out of memory
 pub failed : {U : Type 0} (P : Result U (Or OrcFault) → Type 0) (G : Or OrcFault → Type 0) (r : Result U (Or OrcFault))
     (e : Or OrcFault) → IsErrAnd r (Same e) → G e → ((f : OrcFault) → G (or.Fault f) → P (Err (or.Fault f)))
     → P (Err or.OutOfMemory) → P r

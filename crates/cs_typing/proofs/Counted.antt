@@ -18,7 +18,8 @@ use Rattle.cs_typed.specs.TypedTree as typed
 use Rattle.cs_typed.specs.Variables.{IsCounted, EachInBlock}
 use Rattle.cs_typed.specs.declared.tree.Var.TheVariants.{Local, Global}
 use Rattle.cs_typed.proofs.Variables.{each_then}
-use Rattle.cs_typing.specs.Known.{Table, Shared, Known, of_rate, counts_of, with_name, in_table, place_in, added, knows}
+use Rattle.cs_typing.specs.Known.{RateNames, Shared, Known, of_rate, counts_of, with_name, in_table, place_in, added}
+use Rattle.cs_typing.specs.Known.{knows}
 use Rattle.cs_typing.specs.Known.{given, variable, channel_of, global}
 use Rattle.cs_typing.specs.Statements.{known_block, typed_block}
 use Rattle.cs_typing.specs.Typing.{Item, alone, body, entered, known_item, known_items, item_fault, items_fault}
@@ -61,7 +62,7 @@ seen_low names name = by_test (has names name) there new
 abbrev IsWithin : PerRate ℕ → Known → Type 0
 IsWithin counts n = (r : Rate) → length (of_rate r n.locals) ≤ at_rate counts r
 
-longer : (r q : Rate) (t : Table) (name : List ℕ) → length (of_rate r t) ≤ length (of_rate r (with_name q t name))
+longer : (r q : Rate) (t : RateNames) (name : List ℕ) → length (of_rate r t) ≤ length (of_rate r (with_name q t name))
 longer rate.Init rate.Init t name = seen_longer t.init name
 longer rate.Init rate.Control t name = omega arith
 longer rate.Init rate.Audio t name = omega arith
@@ -72,7 +73,7 @@ longer rate.Audio rate.Init t name = omega arith
 longer rate.Audio rate.Control t name = omega arith
 longer rate.Audio rate.Audio t name = seen_longer t.audio name
 
-place_low : (r : Rate) (t : Table) (name : List ℕ)
+place_low : (r : Rate) (t : RateNames) (name : List ℕ)
     → place_of (of_rate r t) name < length (of_rate r (with_name r t name))
 place_low rate.Init t name = seen_low t.init name
 place_low rate.Control t name = seen_low t.control name

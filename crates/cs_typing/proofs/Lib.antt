@@ -12,5 +12,6 @@ pub mod RatedCalls
 pub mod RatedExpressions
 pub mod Renaming
 pub mod Rules
+pub mod SameRates
 pub mod WellRated
 pub mod Zaks

@@ -24,7 +24,7 @@ use Rattle.cs_typing.specs.Calls.{all_fit, bound_of, kind_of, any_sound, channel
 use Rattle.cs_typing.specs.Calls.{all_known, call_fault, call_known}
 use Rattle.cs_typing.specs.Calls.{typed_arguments, typed_call}
 use Rattle.cs_typing.specs.Expressions.{is_condition, rate_of, reads_known, typed_expression}
-use Rattle.cs_typing.specs.Known.{Table, Shared, Known, known_with, knows, after_giving, given, given_all, used}
+use Rattle.cs_typing.specs.Known.{RateNames, Shared, Known, known_with, knows, after_giving, given, given_all, used}
 use Rattle.cs_typing.specs.Known.{use_channel, variable, channel_of}
 use Rattle.cs_typing.specs.Settings.{at}
 use Rattle.cs_typing.specs.Statements.{may_set, set_fault, condition_fault, fault, block_fault, arms_fault, known}
@@ -63,7 +63,7 @@ pub record Tells (P : Variable → Type 0) (S : Known → Type 0) (G : List ℕ 
       → P (channel_of n.shared kind name)
 
 -- a variable is given whatever is known of channels
-same_locals : (s t : Shared) (l : Table) (names : List (List ℕ))
+same_locals : (s t : Shared) (l : RateNames) (names : List (List ℕ))
     → known_with s (given_all (known_with t l) names).locals ≡ given_all (known_with s l) names
 same_locals s t l [] = refl
 same_locals s t l (name ∷ names) = same_locals s t (after_giving l name) names

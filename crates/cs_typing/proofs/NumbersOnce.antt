@@ -10,7 +10,7 @@ use Rattle.cs_typing.specs.Typing.{alone, body, items, before, from, known_item,
 use Rattle.cs_typing.specs.Typing.{typed_of}
 use Rattle.cs_typed.specs.TypedTree as typed
 
-numbers_kept : (n : Known) (outside : Block) (list : List Instrument)
+pub numbers_kept : (n : Known) (outside : Block) (list : List Instrument)
     → flat_map (λ (i : typed.Instrument). i.numbers) (typed_instruments n (items outside list)) ≡ all_numbers list
 numbers_kept n outside [] = refl
 numbers_kept n outside (i ∷ rest) =

@@ -13,7 +13,7 @@ use Rattle.cs_base.specs.declared.fault.OrcKind.TheVariants as orc
 use Rattle.cs_words.specs.declared.word.HeadName.{HeadName}
 use Rattle.cs_words.specs.declared.word.HeadName.TheVariants as head
 use Rattle.cs_grammar.specs.declared.tree.HeadLine.{HeadLine}
-use Rattle.cs_typed.specs.Places.{Header}
+use Rattle.cs_base.specs.Heads.{Header}
 use Rattle.cs_typing.specs.Settings.{at, whole, is_whole_to, is_above_zero, in_range, same_head, header_fault}
 use Rattle.cs_typing.specs.Settings.{headers_fault, header_of, whole_or, value_or, rate_of_frames, ksmps_of, header}
 use Rattle.cs_typing.specs.Settings.{is_product, kr_agrees, kr_fault}

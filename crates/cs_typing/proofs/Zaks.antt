@@ -13,7 +13,7 @@ pub dropped : {A : Type 0} (xs : List A) (i : ℕ) (x : A) → i < length xs →
     → drop i xs ≡ x ∷ drop (i + 1) xs
 dropped xs i x lt e = drop_more xs i x lt ∙ ap (λ y. y ∷ drop (i + 1) xs) (sym e)
 
--- those of one list, and then those of another
+-- the `zakinit`s of one list, and then those of another
 pub after_both : (s : Zaks) (xs ys : List Zak) → after_zaks s (xs ++ ys) ≡ after_zaks (after_zaks s xs) ys
 after_both s [] ys = refl
 after_both s (z ∷ xs) ys = after_both (after_zak s z) xs ys

@@ -14,39 +14,39 @@ use Rattle.cs_typed.specs.declared.tree.Var.{Var}
 use Rattle.cs_typed.specs.declared.tree.Var.TheVariants as var
 
 -- names of variables by their rates, each list in the order in which they were first given
-abbrev pub Table : Type 0
-Table = PerRate (List (List ℕ))
+abbrev pub RateNames : Type 0
+RateNames = PerRate (List (List ℕ))
 
-abbrev pub no_names : Table
+abbrev pub no_names : RateNames
 no_names = record { init = []; control = []; audio = [] }
 
 -- the number of names of each rate
-abbrev pub counts_of : Table → PerRate ℕ
+abbrev pub counts_of : RateNames → PerRate ℕ
 counts_of t = record { init = length t.init; control = length t.control; audio = length t.audio }
 
 -- the names of a rate
-abbrev pub of_rate : Rate → Table → List (List ℕ)
+abbrev pub of_rate : Rate → RateNames → List (List ℕ)
 of_rate r t = at_rate t r
 
 -- a table with one more name of a rate, unless it is there
-abbrev pub with_name : Rate → Table → List ℕ → Table
+abbrev pub with_name : Rate → RateNames → List ℕ → RateNames
 with_name rate.Init t name = record { init = seen t.init name; control = t.control; audio = t.audio }
 with_name rate.Control t name = record { init = t.init; control = seen t.control name; audio = t.audio }
 with_name rate.Audio t name = record { init = t.init; control = t.control; audio = seen t.audio name }
 
-abbrev pub in_table : Table → List ℕ → Bool
+abbrev pub in_table : RateNames → List ℕ → Bool
 in_table t name = has (of_rate (name_rate name) t) name
 
-abbrev pub place_in : Table → List ℕ → ℕ
+abbrev pub place_in : RateNames → List ℕ → ℕ
 place_in t name = place_of (of_rate (name_rate name) t) name
 
-abbrev pub added : Table → List ℕ → Table
+abbrev pub added : RateNames → List ℕ → RateNames
 added t name = with_name (name_rate name) t name
 
 -- What all bodies of an orchestra know alike: the global variables that any statement gives, and the channels that are
 -- used before, control channels and sound channels.
 pub record Shared : Type 0 where
-  pub globals : Table
+  pub globals : RateNames
   pub control : List (List ℕ)
   pub sound : List (List ℕ)
 
@@ -54,13 +54,13 @@ pub record Shared : Type 0 where
 -- before gives
 pub record Known : Type 0 where
   pub shared : Shared
-  pub locals : Table
+  pub locals : RateNames
 
-abbrev pub known_with : Shared → Table → Known
+abbrev pub known_with : Shared → RateNames → Known
 known_with shared locals = record { shared = shared; locals = locals }
 
 -- what is known before the first statement, where these are the global variables
-abbrev pub first_with : Table → Known
+abbrev pub first_with : RateNames → Known
 first_with globals = known_with (record { globals = globals; control = []; sound = [] }) no_names
 
 -- a variable may be read
@@ -68,7 +68,7 @@ abbrev pub knows : Known → List ℕ → Bool
 knows n name = if is_global name then in_table n.shared.globals name else in_table n.locals name
 
 -- the local variables after a variable was given
-abbrev pub after_giving : Table → List ℕ → Table
+abbrev pub after_giving : RateNames → List ℕ → RateNames
 after_giving locals name = if is_global name then locals else added locals name
 
 abbrev pub given : Known → List ℕ → Known

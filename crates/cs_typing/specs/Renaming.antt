@@ -1,9 +1,9 @@
 -- Other names for local variables.
 use Rattle.std.specs.Prelude.{ℕ, false, List, map, ◌≡◌, if◌then◌else◌}
 use Rattle.cs_words.specs.Names.{name_rate, is_global}
-use Rattle.cs_grammar.specs.Tree.{Expression, number, var, field, head, neg, pair, pick, apply, Argument, value, text}
+use Rattle.cs_grammar.specs.Renaming.{renamed_expression, renamed_argument}
 use Rattle.cs_grammar.specs.Tree.{Statement, set, call, choose, Block, no_stmt, andthen, Arms, otherwise, arm}
-use Rattle.cs_typing.specs.Known.{Table, Known, known_with}
+use Rattle.cs_typing.specs.Known.{RateNames, Known, known_with}
 
 -- Other names for local variables: of the same rates, local too, and never one for two.
 pub record IsRenaming (f : List ℕ → List ℕ) : Type 0 where
@@ -15,28 +15,12 @@ pub record IsRenaming (f : List ℕ → List ℕ) : Type 0 where
 abbrev pub renamed_name : (List ℕ → List ℕ) → List ℕ → List ℕ
 renamed_name f x = if is_global x then x else f x
 
--- an expression with other names in it
-abbrev pub renamed_expression : (List ℕ → List ℕ) → Expression → Expression
-renamed_expression f (number v) = number v
-renamed_expression f (var name) = var (renamed_name f name)
-renamed_expression f (field k) = field k
-renamed_expression f (head h) = head h
-renamed_expression f (neg a) = neg (renamed_expression f a)
-renamed_expression f (pair o a b) = pair o (renamed_expression f a) (renamed_expression f b)
-renamed_expression f (pick c a b) = pick (renamed_expression f c) (renamed_expression f a) (renamed_expression f b)
-renamed_expression f (apply g a) = apply g (renamed_expression f a)
-
--- an argument with other names in it: a text stays
-abbrev pub renamed_argument : (List ℕ → List ℕ) → Argument → Argument
-renamed_argument f (value e) = value (renamed_expression f e)
-renamed_argument f (text name) = text name
-
 -- statements with other names in them: the names of opcodes stay
 abbrev mutual
   pub renamed : (List ℕ → List ℕ) → Statement → Statement
-  renamed f (set line name e) = set line (renamed_name f name) (renamed_expression f e)
+  renamed f (set line name e) = set line (renamed_name f name) (renamed_expression (renamed_name f) e)
   renamed f (call line results callee args) =
-      call line (map (renamed_name f) results) callee (map (renamed_argument f) args)
+      call line (map (renamed_name f) results) callee (map (renamed_argument (renamed_name f)) args)
   renamed f (choose line list) = choose line (renamed_arms f list)
 
   pub renamed_block : (List ℕ → List ℕ) → Block → Block
@@ -45,10 +29,10 @@ abbrev mutual
 
   pub renamed_arms : (List ℕ → List ℕ) → Arms → Arms
   renamed_arms f (otherwise b) = otherwise (renamed_block f b)
-  renamed_arms f (arm c b rest) = arm (renamed_expression f c) (renamed_block f b) (renamed_arms f rest)
+  renamed_arms f (arm c b rest) = arm (renamed_expression (renamed_name f) c) (renamed_block f b) (renamed_arms f rest)
 
 -- names by their rates, each with its other name in its place
-abbrev pub renamed_table : (List ℕ → List ℕ) → Table → Table
+abbrev pub renamed_table : (List ℕ → List ℕ) → RateNames → RateNames
 renamed_table f t = record {
   init = map (renamed_name f) t.init;
   control = map (renamed_name f) t.control;

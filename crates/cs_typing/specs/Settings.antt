@@ -16,7 +16,7 @@ use Rattle.cs_grammar.specs.declared.tree.Callee.TheVariants as callee
 use Rattle.cs_grammar.specs.declared.tree.HeadLine.{HeadLine}
 use Rattle.cs_grammar.specs.Tree.{number, Argument, value, text, Statement, set, call, choose, Block, no_stmt, andthen}
 use Rattle.cs_grammar.specs.Tree.{Arms, otherwise, arm}
-use Rattle.cs_typed.specs.Places.{Header}
+use Rattle.cs_base.specs.Heads.{Header}
 
 -- a kind of fault at a line
 abbrev pub at : ℕ → Option OrcKind → Option OrcFault

@@ -6,39 +6,39 @@ use Rattle.cs_words.specs.Names.{is_global}
 use Rattle.cs_grammar.specs.Tree.{Statement, set, call, choose, Block, no_stmt, andthen, Arms, otherwise, arm}
 use Rattle.cs_grammar.specs.Tree.{Instrument, Orchestra}
 use Rattle.cs_typed.specs.Places.{outside, inside}
-use Rattle.cs_typing.specs.Known.{Table, no_names, counts_of, added, Shared, Known, known_with, first_with}
+use Rattle.cs_typing.specs.Known.{RateNames, no_names, counts_of, added, Shared, Known, known_with, first_with}
 use Rattle.cs_typing.specs.Settings.{header, settings_fault, zaks_of_block, zak_spaces}
 use Rattle.cs_typing.specs.Statements.{block_fault, known_block, typed_block}
 use Rattle.cs_typed.specs.TypedTree as typed
 
 -- the global variables that statements give, after those before
-abbrev pub given_global : Table → List ℕ → Table
+abbrev pub given_global : RateNames → List ℕ → RateNames
 given_global t name = if is_global name then added t name else t
 
-abbrev pub given_globals : Table → List (List ℕ) → Table
+abbrev pub given_globals : RateNames → List (List ℕ) → RateNames
 given_globals t [] = t
 given_globals t (name ∷ names) = given_globals (given_global t name) names
 
 abbrev mutual
-  pub globals : Table → Statement → Table
+  pub globals : RateNames → Statement → RateNames
   globals t (set line name e) = given_global t name
   globals t (call line results callee args) = given_globals t results
   globals t (choose line list) = globals_of_arms t list
 
-  pub globals_of_block : Table → Block → Table
+  pub globals_of_block : RateNames → Block → RateNames
   globals_of_block t no_stmt = t
   globals_of_block t (andthen x rest) = globals_of_block (globals t x) rest
 
-  pub globals_of_arms : Table → Arms → Table
+  pub globals_of_arms : RateNames → Arms → RateNames
   globals_of_arms t (otherwise b) = globals_of_block t b
   globals_of_arms t (arm c b rest) = globals_of_arms (globals_of_block t b) rest
 
-abbrev pub globals_of_instruments : Table → List Instrument → Table
+abbrev pub globals_of_instruments : RateNames → List Instrument → RateNames
 globals_of_instruments t [] = t
 globals_of_instruments t (i ∷ rest) = globals_of_instruments (globals_of_block t i.body) rest
 
 -- the global variables of an orchestra, those of the code outside instruments first
-abbrev pub all_globals : Orchestra → Table
+abbrev pub all_globals : Orchestra → RateNames
 all_globals o = globals_of_instruments (globals_of_block no_names o.zero) o.instrs
 
 abbrev pub line_of : Statement → ℕ

@@ -4,7 +4,7 @@ ghost use Rattle.cs_words.specs.declared.word.HeadName.TheVariants as head;
 ghost use Rattle.cs_typing.specs.Settings.{at, raw_of, whole, is_whole_to, is_above_zero, in_range, same_head};
 ghost use Rattle.cs_typing.specs.Settings.{header_fault, headers_fault, header_of, whole_or, value_or, rate_of_frames};
 ghost use Rattle.cs_typing.specs.Settings.{ksmps_of, header, is_product, kr_agrees, kr_fault};
-ghost use Rattle.cs_typed.specs.TypedTree.{header_of_head};
+ghost use Rattle.cs_base.specs.Heads.{header_of_head};
 ghost use Rattle.cs_typing.specs.inner.Settled.{is_given};
 
 use cs_base::{GREATEST_KSMPS, GREATEST_SR, Head, MOST_CHANNELS, Num, ONE, OrcFault, OrcKind};

@@ -32,9 +32,9 @@ pub struct NamesByRate<'t> {
 }
 
 impl<'t> Model for NamesByRate<'t> {
-    ghost use Rattle.cs_typing.specs.Known.{Table};
+    ghost use Rattle.cs_typing.specs.Known.{RateNames};
 
-    ghost Value = { Table };
+    ghost Value = { RateNames };
 
     ghost view = { λ t. record { init = t.init; control = t.control; audio = t.audio } };
 }

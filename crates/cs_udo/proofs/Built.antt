@@ -11,7 +11,8 @@ use Rattle.cs_grammar.specs.declared.tree.Callee.{Callee}
 use Rattle.cs_grammar.specs.Tree.{Expression, expression, var, argument, Argument, value, text, Statement, set, choose}
 use Rattle.cs_grammar.specs.Tree.{Block, no_stmt, andthen, joins, block, statement, Arms, otherwise, arm, arms}
 use Rattle.cs_grammar.specs.Tree.{Definition}
-use Rattle.cs_udo.specs.Names.{in_frame, as_it_is, slots, renamed, renamed_argument}
+use Rattle.cs_grammar.specs.Renaming.{renamed_expression, renamed_argument}
+use Rattle.cs_udo.specs.Names.{in_frame, as_it_is, slots}
 use Rattle.cs_udo.specs.Expanded.{Opcodes, alone, assignments, value_in, after, after_block, after_arms, expanded}
 use Rattle.cs_udo.specs.Expanded.{expanded_block, expanded_arms, calls, calls_in, calls_in_arms, whole_body, template}
 use Rattle.cs_udo.specs.Counted.{size_of, size_of_arms, call_count, counts, counts_in, counts_in_arms}
@@ -98,7 +99,7 @@ expanded_assignments opcodes own f line [] args = refl
 expanded_assignments opcodes own f line (x ∷ xs) [] = refl
 expanded_assignments opcodes own f line (x ∷ xs) (text t ∷ args) = refl
 expanded_assignments opcodes own f line (x ∷ xs) (value e ∷ args) =
-    ap (λ r. andthen (set line (own x) (renamed own e)) r) (expanded_assignments opcodes own f line xs args)
+    ap (λ r. andthen (set line (own x) (renamed_expression own e)) r) (expanded_assignments opcodes own f line xs args)
 
 after_assignments : (opcodes : Opcodes) (f line : ℕ) (xs : List (List ℕ)) (args : List Argument)
     → after_block opcodes f (assignments line xs args) ≡ f
@@ -219,13 +220,13 @@ body_within inner fair d line xs c args =
 -- ---- arms, one after the other
 
 pub arm_made : (opcodes : Opcodes) (own : List ℕ → List ℕ) (done more : List Arm) (a : Arm) (cond : Expression)
-    (body : Block) (n : ℕ) → more ≡ done ++ a ∷ [] → expression (out-Arm a).cond ≡ renamed own cond
+    (body : Block) (n : ℕ) → more ≡ done ++ a ∷ [] → expression (out-Arm a).cond ≡ renamed_expression own cond
     → block (out-Arm a).body.items ≡ expanded_block opcodes own n body → (rest : Arms)
-    → fronted done (arm (renamed own cond) (expanded_block opcodes own n body) rest) ≡ fronted more rest
+    → fronted done (arm (renamed_expression own cond) (expanded_block opcodes own n body) rest) ≡ fronted more rest
 arm_made opcodes own done more a cond body n e c b rest =
     sym (pushed_arm done more a rest e
     ∙ ap (λ x. fronted done (arm x (block (out-Arm a).body.items) rest)) c
-    ∙ ap (λ x. fronted done (arm (renamed own cond) x rest)) b)
+    ∙ ap (λ x. fronted done (arm (renamed_expression own cond) x rest)) b)
 
 -- ---- the first of what is left
 
@@ -248,13 +249,13 @@ first_arm opcodes list i a lt e =
 
 pub given_more : (line : ℕ) (f g : List ℕ → List ℕ) (xs : List (List ℕ)) (as' : List Arg) (i : ℕ) (x : List ℕ) (a : Arg)
     (e : Expr) (b c : Building) → i < length xs → x ≡ get_or xs i x → i < length as' → a ≡ get_or as' i a → a ≡ Value e
-    → c ≡ with b (alone (set line (f x) (renamed g (expression e))))
+    → c ≡ with b (alone (set line (f x) (renamed_expression g (expression e))))
     → with c (assignments line (map f (drop (i + 1) xs)) (map (renamed_argument g) (map argument (drop (i + 1) as'))))
     ≡ with b (assignments line (map f (drop i xs)) (map (renamed_argument g) (map argument (drop i as'))))
 given_more line f g xs as' i x a e b c l p m q k made =
     ap (λ d. with d (assignments line (map f (drop (i + 1) xs))
     (map (renamed_argument g) (map argument (drop (i + 1) as'))))) made
-    ∙ longer_again b (alone (set line (f x) (renamed g (expression e))))
+    ∙ longer_again b (alone (set line (f x) (renamed_expression g (expression e))))
     (assignments line (map f (drop (i + 1) xs)) (map (renamed_argument g) (map argument (drop (i + 1) as')))) b.next
     b.next
     ∙ sym (ap (λ ys. with b (assignments line (map f ys) (map (renamed_argument g) (map argument (drop i as')))))

@@ -16,7 +16,7 @@ use Rattle.cs_udo.specs.Refused.{faults_of_definitions, faults_of_instruments, f
 use Rattle.cs_udo.proofs.Weighed.{length_slots}
 use Rattle.cs_udo.specs.inner.Walks.{listed, after_faults}
 
--- those of one list, and then those of another
+-- the faults of one list, and then those of another
 pub after_both : (first : Option OrcFault) (xs ys : List OrcFault)
     → after_faults first (xs ++ ys) ≡ after_faults (after_faults first xs) ys
 after_both first [] ys = refl

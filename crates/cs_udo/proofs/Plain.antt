@@ -5,11 +5,12 @@ use Rattle.cs_grammar.specs.declared.tree.Callee.TheVariants as callee
 use Rattle.cs_grammar.specs.Tree.{Expression, number, var, field, head, neg, pair, pick, apply, Argument, value, text}
 use Rattle.cs_grammar.specs.Tree.{Statement, set, call, choose}
 use Rattle.cs_grammar.specs.Tree.{Block, no_stmt, andthen, joins, Arms, otherwise, arm, Instrument}
-use Rattle.cs_udo.specs.Names.{as_it_is, renamed, renamed_argument}
+use Rattle.cs_grammar.specs.Renaming.{renamed_expression, renamed_argument}
+use Rattle.cs_udo.specs.Names.{as_it_is}
 use Rattle.cs_udo.specs.Expanded.{no_opcodes, defined, alone, called, after, after_block, expanded, expanded_block}
 use Rattle.cs_udo.specs.Expanded.{expanded_arms, expanded_instrument}
 
-same_value : (e : Expression) → renamed as_it_is e ≡ e
+same_value : (e : Expression) → renamed_expression as_it_is e ≡ e
 same_value (number v) = refl
 same_value (var x) = refl
 same_value (field k) = refl

@@ -54,7 +54,7 @@ counted_capped t line n =
         → ◌≡◌ {A = RunningCount} (record { sum = a; passed = o }) (record { sum = b; passed = p })
     made e k = λ i. record { sum = e i; passed = k i }
 
--- those of one list, and then those of another
+-- the counts of one list, and then those of another
 pub after_both : (t : RunningCount) (xs ys : List (ℕ × ℕ))
     → after_counts t (xs ++ ys) ≡ after_counts (after_counts t xs) ys
 after_both t [] ys = refl

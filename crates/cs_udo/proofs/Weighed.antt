@@ -9,7 +9,8 @@ use Rattle.cs_grammar.specs.declared.tree.Callee.{Callee}
 use Rattle.cs_grammar.specs.declared.tree.Callee.TheVariants as callee
 use Rattle.cs_grammar.specs.Tree.{Argument, value, text, Statement, set, call, choose, Block, no_stmt, andthen, joins}
 use Rattle.cs_grammar.specs.Tree.{Arms, otherwise, arm, Definition}
-use Rattle.cs_udo.specs.Names.{in_frame, as_it_is, slots, renamed_argument}
+use Rattle.cs_grammar.specs.Renaming.{renamed_argument}
+use Rattle.cs_udo.specs.Names.{in_frame, as_it_is, slots}
 use Rattle.cs_udo.specs.Expanded.{Template, Opcodes, no_opcodes, defined, assignments, value_in, called, calls_of}
 use Rattle.cs_udo.specs.Expanded.{after_called, after, after_block, after_arms, expanded, expanded_block, expanded_arms}
 use Rattle.cs_udo.specs.Expanded.{calls, calls_in, calls_in_arms, whole_body, template, defining, defining_all}

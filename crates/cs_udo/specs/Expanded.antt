@@ -7,7 +7,8 @@ use Rattle.cs_grammar.specs.declared.tree.Callee.TheVariants as callee
 use Rattle.cs_grammar.specs.Tree.{Argument, value, var, Statement, set, call, choose, Block, no_stmt, andthen, joins}
 use Rattle.cs_grammar.specs.Tree.{Arms, otherwise, arm}
 use Rattle.cs_grammar.specs.Tree.{Definition, Instrument, Orchestra}
-use Rattle.cs_udo.specs.Names.{renamed, renamed_argument, in_frame, as_it_is, slots}
+use Rattle.cs_grammar.specs.Renaming.{renamed_expression, renamed_argument}
+use Rattle.cs_udo.specs.Names.{in_frame, as_it_is, slots}
 
 -- What a defined opcode is to its callers: the names of its inputs and of its results, its statements in a frame of a
 -- number (the frames of calls in it have the next numbers), the first number after all these, and how many calls
@@ -75,7 +76,7 @@ abbrev mutual
 -- the text.
 abbrev mutual
   pub expanded : Opcodes → (List ℕ → List ℕ) → ℕ → Statement → Block
-  expanded opcodes own frame (set line x e) = alone (set line (own x) (renamed own e))
+  expanded opcodes own frame (set line x e) = alone (set line (own x) (renamed_expression own e))
   expanded opcodes own frame (call line xs c args) = called own frame line xs c args (defined opcodes c)
   expanded opcodes own frame (choose line list) = alone (choose line (expanded_arms opcodes own frame list))
 
@@ -87,7 +88,7 @@ abbrev mutual
   pub expanded_arms : Opcodes → (List ℕ → List ℕ) → ℕ → Arms → Arms
   expanded_arms opcodes own frame (otherwise b) = otherwise (expanded_block opcodes own frame b)
   expanded_arms opcodes own frame (arm c b rest) =
-      arm (renamed own c) (expanded_block opcodes own frame b)
+      arm (renamed_expression own c) (expanded_block opcodes own frame b)
       (expanded_arms opcodes own (after_block opcodes frame b) rest)
 
 -- the call of an opcode and those in it, if it is a defined one

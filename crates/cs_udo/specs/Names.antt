@@ -4,7 +4,6 @@ use Rattle.std.specs.Str.{byte}
 use Rattle.cs_base.specs.declared.resource.Rate.{Rate}
 use Rattle.cs_base.specs.declared.resource.Rate.TheVariants as rate
 use Rattle.cs_words.specs.Names.{name_rate, is_global}
-use Rattle.cs_grammar.specs.Tree.{Expression, number, var, field, head, neg, pair, pick, apply, Argument, value, text}
 
 -- the letter of a rate
 abbrev pub rate_letter : Rate → ℕ
@@ -47,23 +46,7 @@ as_it_is x = x
 abbrev pub slot : ℕ → Rate → List ℕ
 slot place r = rate_letter r ∷ byte "." ∷ numeral place
 
--- those of all results, by their rates, from a place on
+-- the slots of all results, by their rates, from a place on
 abbrev pub slots : ℕ → List Rate → List (List ℕ)
 slots place [] = []
 slots place (r ∷ rs) = slot place r ∷ slots (place + 1) rs
-
--- an expression with other names for its variables
-abbrev pub renamed : (List ℕ → List ℕ) → Expression → Expression
-renamed own (number v) = number v
-renamed own (var x) = var (own x)
-renamed own (field k) = field k
-renamed own (head h) = head h
-renamed own (neg a) = neg (renamed own a)
-renamed own (pair op a b) = pair op (renamed own a) (renamed own b)
-renamed own (pick c a b) = pick (renamed own c) (renamed own a) (renamed own b)
-renamed own (apply f a) = apply f (renamed own a)
-
--- an argument with other names for its variables: a text stays
-abbrev pub renamed_argument : (List ℕ → List ℕ) → Argument → Argument
-renamed_argument own (value e) = value (renamed own e)
-renamed_argument own (text t) = text t

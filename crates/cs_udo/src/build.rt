@@ -4,7 +4,8 @@ ghost use Rattle.cs_grammar.specs.Tree as tree;
 ghost use Rattle.cs_grammar.specs.declared.tree.Arm.{out-Arm};
 ghost use Rattle.cs_udo.specs.Counted.{call_count, counts, counts_in, counts_in_arms};
 ghost use Rattle.cs_udo.specs.Expanded.{alone, assignments, defined, template};
-ghost use Rattle.cs_udo.specs.Names.{in_frame, renamed, renamed_argument, slots};
+ghost use Rattle.cs_grammar.specs.Renaming.{renamed_expression, renamed_argument};
+ghost use Rattle.cs_udo.specs.Names.{in_frame, slots};
 ghost use Rattle.cs_udo.specs.declared.owner.Owner.TheVariants as owner;
 ghost use Rattle.cs_udo.specs.inner.Building.{opcodes_in, shown, with, building, building_block, building_call};
 ghost use Rattle.cs_udo.specs.inner.Building.{MakesArms, MakesArm};
@@ -66,7 +67,7 @@ fn push(made: &mut Made, line: u32, what: StmtWhat) -> Result<(), OutOfMemory>
 fn give(passing: Passing, made: &mut Made, name: &[u8], e: &Expr) -> Result<(), OutOfMemory>
     ensures { OnOk result (shown made.new ≡ with (shown made.old)
         (alone (tree.set passing.line (owned passing.to name.now)
-        (renamed (owned passing.from) (tree.expression e.now))))) }
+        (renamed_expression (owned passing.from) (tree.expression e.now))))) }
 {
     let name = owned_name(passing.alloc, passing.to, name)?;
     let value = owned_expr(passing.alloc, passing.from, e)?;

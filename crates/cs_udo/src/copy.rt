@@ -2,7 +2,7 @@
 ghost use Rattle.std.specs.Prelude.{◌≡◌, map, IfOk, Ok};
 ghost use Rattle.std.specs.Box.{box_value};
 ghost use Rattle.cs_grammar.specs.Tree as tree;
-ghost use Rattle.cs_udo.specs.Names.{renamed, renamed_argument};
+ghost use Rattle.cs_grammar.specs.Renaming.{renamed_expression, renamed_argument};
 ghost use Rattle.cs_udo.specs.inner.Owners.{owned};
 
 use crate::owner::{Owner, owned_name};
@@ -12,7 +12,7 @@ use std::alloc::Global;
 
 /// An expression with the names of an owner's variables.
 pub fn owned_expr(alloc: Global, owner: Owner, e: &Expr) -> Result<Expr, OutOfMemory>
-    ensures { IfOk result (λ made. tree.expression made ≡ renamed (owned owner) (tree.expression e.now)) }
+    ensures { IfOk result (λ made. tree.expression made ≡ renamed_expression (owned owner) (tree.expression e.now)) }
 {
     match e {
         Expr::Number(value) => Ok(Expr::Number(*value)),

@@ -1,16 +1,14 @@
 -- Each row of each table is found as itself, by computation.
-use Rattle.std.proofs.Common.{◌≡◌, ℕ, List, [], ◌∷◌, Bool, true, false, Option, Some, None, refl, sym, ap, subst}
+use Rattle.std.proofs.Common.{◌≡◌, ℕ, List, [], ◌∷◌, Bool, true, false, Option, Some, None, map, refl, sym, ap, subst}
 use Rattle.std.proofs.Common.{if◌then◌else◌}
 use Rattle.std.specs.Str.{bytes_eq}
 use Rattle.std.specs.List.{All, list_all}
 use Rattle.std.proofs.lemmas.Slice.Eq.{bytes_eq-Decides}
-use Rattle.std.proofs.lemmas.List.Elements.{All-from_recursion}
+use Rattle.std.proofs.lemmas.List.Elements.{All-cons, All-nil}
 use Rattle.cs_words.specs.Catalogue.{row_of, opcodes, named, catalogued}
-use Rattle.cs_words.specs.Signs.{operators, plain_signs, operator_of, plain_sign, sign_of}
-use Rattle.cs_words.specs.Words.{keywords, headers, functions, foreign_words, keyword_of, header_of, func_of}
-use Rattle.cs_words.specs.Words.{is_foreign, word_of}
+use Rattle.cs_words.specs.Signs.{signs, sign_of}
+use Rattle.cs_words.specs.Words.{words, foreign_words, listed_word, is_foreign, word_of}
 use Rattle.cs_words.specs.declared.catalogue.Opcode.{Opcode}
-use Rattle.cs_words.specs.declared.sign.Sign.TheVariants as sign
 use Rattle.cs_words.specs.declared.word.Word.{Word}
 use Rattle.cs_words.specs.declared.word.Word.TheVariants as word
 use Rattle.cs_words.proofs.EachOpcode.{opcode_found, of_all}
@@ -21,7 +19,7 @@ is_opcode o (word.Opcode p) = bytes_eq (row_of p).name (row_of o).name
 is_opcode o _ = false
 
 opcodes_read : list_all (λ o. is_opcode o (word_of (row_of o).name)) opcodes ≡ true
-unfolding is_opcode word_of keyword_of header_of func_of catalogued
+unfolding is_opcode word_of listed_word catalogued
 opcodes_read = refl
 
 pub one_name : (o p : Opcode) → (row_of o).name ≡ (row_of p).name → o ≡ p
@@ -61,139 +59,19 @@ pub found_so : (name : List ℕ) (o : Opcode) → catalogued name ≡ Some o →
 unfolding catalogued
 found_so name o e = subst (IfFound name) e (named_so name opcodes)
 
-pub keywords_read : All (λ r. word_of r.0 ≡ word.Keyword r.1) keywords
-unfolding word_of keyword_of header_of func_of catalogued is_foreign
-keywords_read = All-from_recursion (λ r. word_of r.0 ≡ word.Keyword r.1) keywords
-    (refl, (refl, (refl, (refl, (refl, (refl, (refl, (refl, (refl, (refl, (refl, tt)))))))))))
+-- what two functions give along a list, row by row
+row_by_row : {A B : Type 0} (f g : A → B) (xs : List A) → map f xs ≡ map g xs → All (λ x. f x ≡ g x) xs
+row_by_row f g [] e = All-nil (λ x. f x ≡ g x)
+row_by_row f g (x ∷ xs) e = All-cons (λ y. f y ≡ g y) x xs (cc e) (row_by_row f g xs (cc e))
 
-pub headers_read : All (λ r. word_of r.0 ≡ word.Header r.1) headers
-unfolding word_of keyword_of header_of func_of catalogued is_foreign
-headers_read = All-from_recursion (λ r. word_of r.0 ≡ word.Header r.1) headers
-    (refl, (refl, (refl, (refl, (refl, tt)))))
-
-pub functions_read : All (λ r. word_of r.0 ≡ word.Func r.1) functions
-unfolding word_of keyword_of header_of func_of catalogued is_foreign
-functions_read = All-from_recursion (λ r. word_of r.0 ≡ word.Func r.1) functions
-    (refl, (refl, (refl, (refl, (refl, (refl, tt))))))
+pub words_read : All (λ r. word_of r.0 ≡ r.1) words
+unfolding word_of listed_word
+words_read = row_by_row (λ r. word_of r.0) (λ r. r.1) words refl
 
 pub foreign_read : All (λ w. word_of w ≡ word.Foreign) foreign_words
-unfolding word_of keyword_of header_of func_of catalogued is_foreign
-foreign_read = All-from_recursion (λ w. word_of w ≡ word.Foreign) foreign_words (
-  refl,
-  (
-    refl,
-    (
-      refl,
-      (
-        refl,
-        (
-          refl,
-          (
-            refl,
-            (
-              refl,
-              (
-                refl,
-                (
-                  refl,
-                  (
-                    refl,
-                    (
-                      refl,
-                      (
-                        refl,
-                        (
-                          refl,
-                          (
-                            refl,
-                            (
-                              refl,
-                              (
-                                refl,
-                                (
-                                  refl,
-                                  (
-                                    refl,
-                                    (
-                                      refl,
-                                      (
-                                        refl,
-                                        (
-                                          refl,
-                                          (
-                                            refl,
-                                            (
-                                              refl,
-                                              (
-                                                refl,
-                                                (
-                                                  refl,
-                                                  (
-                                                    refl,
-                                                    (
-                                                      refl,
-                                                      (
-                                                        refl,
-                                                        (
-                                                          refl,
-                                                          (
-                                                            refl,
-                                                            (
-                                                              refl,
-                                                              (
-                                                                refl,
-                                                                (
-                                                                  refl,
-                                                                  (
-                                                                    refl,
-                                                                    (
-                                                                      refl,
-                                                                      (
-                                                                        refl,
-                                                                        (refl, (refl, (refl, (refl, (refl, tt))))),
-                                                                      ),
-                                                                    ),
-                                                                  ),
-                                                                ),
-                                                              ),
-                                                            ),
-                                                          ),
-                                                        ),
-                                                      ),
-                                                    ),
-                                                  ),
-                                                ),
-                                              ),
-                                            ),
-                                          ),
-                                        ),
-                                      ),
-                                    ),
-                                  ),
-                                ),
-                              ),
-                            ),
-                          ),
-                        ),
-                      ),
-                    ),
-                  ),
-                ),
-              ),
-            ),
-          ),
-        ),
-      ),
-    ),
-  ),
-)
+unfolding word_of listed_word catalogued is_foreign
+foreign_read = row_by_row word_of (λ w. word.Foreign) foreign_words refl
 
-pub operators_read : All (λ r. sign_of r.0 ≡ sign.Operator r.1) operators
-unfolding sign_of operator_of plain_sign
-operators_read = All-from_recursion (λ r. sign_of r.0 ≡ sign.Operator r.1) operators
-    (refl, (refl, (refl, (refl, (refl, (refl, (refl, (refl, (refl, (refl, (refl, (refl, (refl, tt)))))))))))))
-
-pub signs_read : All (λ r. sign_of r.0 ≡ r.1) plain_signs
-unfolding sign_of operator_of plain_sign
-signs_read = All-from_recursion (λ r. sign_of r.0 ≡ r.1) plain_signs
-    (refl, (refl, (refl, (refl, (refl, (refl, (refl, tt)))))))
+pub signs_read : All (λ r. sign_of r.0 ≡ r.1) signs
+unfolding sign_of
+signs_read = row_by_row (λ r. sign_of r.0) (λ r. r.1) signs refl

@@ -1,37 +1,47 @@
 -- What a word that is read as a name or as a field looks like.
 use Rattle.std.proofs.Common.{◌≡◌, ◌≤◌, ◌&&◌, ◌==◌, ◌+◌, ◌*◌, ℕ, List, [], ◌∷◌, Bool, true, false, Option, Some, None}
-use Rattle.std.proofs.Common.{refl, if◌then◌else◌, nat_le, codes, arith}
+use Rattle.std.proofs.Common.{◌≢◌, refl, ap, ◌∙◌, sym, if◌then◌else◌, nat_le, codes, arith}
+use Rattle.std.specs.List.{list_all}
 use Rattle.std.proofs.lemmas.Bool.Decides.{nat_tests}
 use Rattle.std.specs.Str.{byte, bytes_eq}
 use Rattle.std.specs.Char.{is_ascii_digit}
 use Rattle.std.proofs.lemmas.Bool.{and_parts}
 use Rattle.cs_words.specs.Names.{is_name}
 use Rattle.cs_words.specs.Catalogue.{catalogued}
-use Rattle.cs_words.specs.Words.{first_of, field_of, field_or, is_leading, digit, plain_word, is_foreign, keyword_of}
-use Rattle.cs_words.specs.Words.{header_of, func_of, word_of}
+use Rattle.cs_words.specs.Tables.{looked_up}
+use Rattle.cs_words.specs.Words.{words, listed_word, first_of, field_of, field_or, is_leading, digit, plain_word}
+use Rattle.cs_words.specs.Words.{is_foreign, word_of}
 use Rattle.cs_words.specs.declared.catalogue.Opcode.{Opcode}
-use Rattle.cs_words.specs.declared.word.Keyword.{Keyword}
-use Rattle.cs_words.specs.declared.word.HeadName.{HeadName}
-use Rattle.cs_words.specs.declared.word.Func.{Func}
 use Rattle.cs_words.specs.declared.word.Word.{Word}
 use Rattle.cs_words.specs.declared.word.Word.TheVariants as word
 
--- what no table has is what is left
-left_name : (k : Option Keyword) (h : Option HeadName) (f : Option Func) (o : Option Opcode) (w : Word)
-    → first_of k h f o w ≡ word.Name → w ≡ word.Name
-left_name (Some k) h f o w e = absurd (cc e)
-left_name None (Some h) f o w e = absurd (cc e)
-left_name None None (Some f) o w e = absurd (cc e)
-left_name None None None (Some o) w e = absurd (cc e)
-left_name None None None None w e = e
+-- a word of the list is no name and no field
+abbrev is_listed : Word → Bool
+is_listed (word.Keyword k) = true
+is_listed (word.Header h) = true
+is_listed (word.Func f) = true
+is_listed w = false
 
-left_field : (k : Option Keyword) (h : Option HeadName) (f : Option Func) (o : Option Opcode) (w : Word) (n : ℕ)
-    → first_of k h f o w ≡ word.Field n → w ≡ word.Field n
-left_field (Some k) h f o w n e = absurd (cc e)
-left_field None (Some h) f o w n e = absurd (cc e)
-left_field None None (Some f) o w n e = absurd (cc e)
-left_field None None None (Some o) w n e = absurd (cc e)
-left_field None None None None w n e = e
+by_row : (b : Bool) (meaning w : Word) (other : Option Word) → is_listed meaning ≡ true
+    → (other ≡ Some w → is_listed w ≡ true) → (if b then Some meaning else other) ≡ Some w → is_listed w ≡ true
+by_row true meaning w other here later e = let same : meaning ≡ w = cc e in sym (ap is_listed same) ∙ here
+by_row false meaning w other here later e = later e
+
+listed : (rows : List (List ℕ × Word)) (bytes : List ℕ) (w : Word) → list_all (λ r. is_listed r.1) rows ≡ true
+    → looked_up rows bytes ≡ Some w → is_listed w ≡ true
+listed [] bytes w all e = absurd (cc e)
+listed ((spelling, meaning) ∷ rows) bytes w all e =
+    let both = and_parts (is_listed meaning) (list_all (λ r. is_listed r.1) rows) all in
+    by_row (bytes_eq bytes spelling) meaning w (looked_up rows bytes) both.0 (λ h. listed rows bytes w both.1 h) e
+
+-- what is neither listed nor an opcode is what is left
+left_of : (bytes : List ℕ) (l : Option Word) (o : Option Opcode) (left w : Word) → listed_word bytes ≡ l
+    → is_listed w ≡ false → ((p : Opcode) → word.Opcode p ≢ w) → first_of l o left ≡ w → left ≡ w
+unfolding listed_word
+left_of bytes (Some v) o left w is unlisted other e =
+    absurd (cc (listed words bytes v refl is, ap is_listed e, unlisted))
+left_of bytes None (Some p) left w is unlisted other e = absurd (other p e)
+left_of bytes None None left w is unlisted other e = e
 
 -- a word of no table, by what it is
 plain_name : (foreign : Bool) (k : Option ℕ) (bytes : List ℕ)
@@ -93,10 +103,10 @@ pub name_begins : (w : List ℕ) → word_of w ≡ word.Name → is_name w ≡ t
 unfolding word_of
 name_begins w e =
     plain_name (is_foreign w) (field_of w) w
-    (left_name (keyword_of w) (header_of w) (func_of w) (catalogued w) (plain_word w) e)
+    (left_of w (listed_word w) (catalogued w) (plain_word w) word.Name refl refl (λ p h. cc h) e)
 
 pub field_numbers : (w : List ℕ) (k : ℕ) → word_of w ≡ word.Field k → (1 ≤ k) × (k ≤ 100)
 unfolding word_of
 field_numbers w k e =
     field_range w k (plain_field (is_foreign w) (field_of w) w k
-    (left_field (keyword_of w) (header_of w) (func_of w) (catalogued w) (plain_word w) k e))
+    (left_of w (listed_word w) (catalogued w) (plain_word w) (word.Field k) refl refl (λ p h. cc h) e))

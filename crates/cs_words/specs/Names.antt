@@ -1,3 +1,4 @@
+-- What a variable's name says.
 use Rattle.std.specs.Prelude.{ℕ, Bool, false, List, [], ◌∷◌, ◌&&◌, ◌||◌, ◌==◌, if◌then◌else◌}
 use Rattle.std.specs.Str.{byte}
 use Rattle.cs_base.specs.declared.resource.Rate.{Rate}

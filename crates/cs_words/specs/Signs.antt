@@ -1,4 +1,5 @@
-use Rattle.std.specs.Prelude.{ℕ, Bool, true, false, List, [], ◌∷◌, codes, Option, Some, None}
+-- What each sign is.
+use Rattle.std.specs.Prelude.{ℕ, Bool, true, false, List, [], ◌∷◌, codes}
 use Rattle.std.specs.Option.{unwrap_or}
 use Rattle.cs_words.specs.Tables.{looked_up}
 use Rattle.cs_words.specs.declared.sign.BinOp.{BinOp}
@@ -6,26 +7,9 @@ use Rattle.cs_words.specs.declared.sign.BinOp.TheVariants as op
 use Rattle.cs_words.specs.declared.sign.Sign.{Sign}
 use Rattle.cs_words.specs.declared.sign.Sign.TheVariants as sign
 
-abbrev pub operators : List (List ℕ × BinOp)
-operators =
-    (codes "||", op.Or) ∷
-    (codes "&&", op.And) ∷
-    (codes "<", op.Less) ∷
-    (codes ">", op.Greater) ∷
-    (codes "<=", op.LessEqual) ∷
-    (codes ">=", op.GreaterEqual) ∷
-    (codes "==", op.Equal) ∷
-    (codes "!=", op.NotEqual) ∷
-    (codes "+", op.Add) ∷
-    (codes "-", op.Sub) ∷
-    (codes "*", op.Mul) ∷
-    (codes "/", op.Div) ∷
-    (codes "%", op.Rem) ∷
-    []
-
--- signs that are no operators
-abbrev pub plain_signs : List (List ℕ × Sign)
-plain_signs =
+-- what each sign is
+abbrev pub signs : List (List ℕ × Sign)
+signs =
     (codes "(", sign.Open) ∷
     (codes ")", sign.Close) ∷
     (codes ",", sign.Comma) ∷
@@ -33,22 +17,24 @@ plain_signs =
     (codes "+=", sign.PlusEquals) ∷
     (codes "?", sign.Question) ∷
     (codes ":", sign.Colon) ∷
+    (codes "||", sign.Operator op.Or) ∷
+    (codes "&&", sign.Operator op.And) ∷
+    (codes "<", sign.Operator op.Less) ∷
+    (codes ">", sign.Operator op.Greater) ∷
+    (codes "<=", sign.Operator op.LessEqual) ∷
+    (codes ">=", sign.Operator op.GreaterEqual) ∷
+    (codes "==", sign.Operator op.Equal) ∷
+    (codes "!=", sign.Operator op.NotEqual) ∷
+    (codes "+", sign.Operator op.Add) ∷
+    (codes "-", sign.Operator op.Sub) ∷
+    (codes "*", sign.Operator op.Mul) ∷
+    (codes "/", sign.Operator op.Div) ∷
+    (codes "%", sign.Operator op.Rem) ∷
     []
 
-unfoldable pub operator_of : List ℕ → Option BinOp
-operator_of bytes = looked_up operators bytes
-
-unfoldable pub plain_sign : List ℕ → Option Sign
-plain_sign bytes = looked_up plain_signs bytes
-
--- an operator, or else another sign, or else a sign outside the profile
-abbrev pub operator_or : Option BinOp → Sign → Sign
-operator_or (Some o) other = sign.Operator o
-operator_or None other = other
-
--- what a sign is
+-- what a sign is: what the list says, or else a sign outside the profile
 unfoldable pub sign_of : List ℕ → Sign
-sign_of bytes = operator_or (operator_of bytes) (unwrap_or (plain_sign bytes) sign.Beyond)
+sign_of bytes = unwrap_or (looked_up signs bytes) sign.Beyond
 
 -- `+`, `-`, `*`, `/` and `%`; the other operators give truth values
 abbrev pub is_arithmetic : BinOp → Bool

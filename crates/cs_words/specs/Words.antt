@@ -1,3 +1,4 @@
+-- What each word is.
 use Rattle.std.specs.Prelude.{ℕ, Bool, List, [], ◌∷◌, ◌+◌, ◌-◌, ◌*◌, ◌&&◌, ◌==◌, codes, Option, Some, None}
 use Rattle.std.specs.Prelude.{if◌then◌else◌, nat_le}
 use Rattle.std.specs.Str.{bytes_eq, byte}
@@ -7,50 +8,38 @@ use Rattle.cs_words.specs.Catalogue.{catalogued}
 use Rattle.cs_words.specs.Names.{is_name}
 use Rattle.cs_words.specs.Tables.{looked_up}
 use Rattle.cs_words.specs.declared.catalogue.Opcode.{Opcode}
-use Rattle.cs_words.specs.declared.word.Keyword.{Keyword}
 use Rattle.cs_words.specs.declared.word.Keyword.TheVariants as key
-use Rattle.cs_words.specs.declared.word.HeadName.{HeadName}
 use Rattle.cs_words.specs.declared.word.HeadName.TheVariants as head
-use Rattle.cs_words.specs.declared.word.Func.{Func}
 use Rattle.cs_words.specs.declared.word.Func.TheVariants as func
 use Rattle.cs_words.specs.declared.word.Word.{Word}
 use Rattle.cs_words.specs.declared.word.Word.TheVariants as word
 
--- words that no variable and no opcode may be called
-abbrev pub keywords : List (List ℕ × Keyword)
-keywords =
-    (codes "instr", key.Instr) ∷
-    (codes "endin", key.Endin) ∷
-    (codes "if", key.If) ∷
-    (codes "then", key.Then) ∷
-    (codes "elseif", key.Elseif) ∷
-    (codes "else", key.Else) ∷
-    (codes "endif", key.Endif) ∷
-    (codes "opcode", key.Opcode) ∷
-    (codes "endop", key.Endop) ∷
-    (codes "xin", key.Xin) ∷
-    (codes "xout", key.Xout) ∷
-    []
-
--- what a header line sets
-abbrev pub headers : List (List ℕ × HeadName)
-headers =
-    (codes "sr", head.Sr) ∷
-    (codes "kr", head.Kr) ∷
-    (codes "ksmps", head.Ksmps) ∷
-    (codes "nchnls", head.Nchnls) ∷
-    (codes "0dbfs", head.Dbfs) ∷
-    []
-
--- functions that an expression may call
-abbrev pub functions : List (List ℕ × Func)
-functions =
-    (codes "int", func.Int) ∷
-    (codes "frac", func.Frac) ∷
-    (codes "abs", func.Abs) ∷
-    (codes "floor", func.Floor) ∷
-    (codes "cpspch", func.Cpspch) ∷
-    (codes "i", func.I) ∷
+-- keywords, which no variable and no opcode may be called; what a header line sets; functions that an expression may
+-- call
+abbrev pub words : List (List ℕ × Word)
+words =
+    (codes "instr", word.Keyword key.Instr) ∷
+    (codes "endin", word.Keyword key.Endin) ∷
+    (codes "if", word.Keyword key.If) ∷
+    (codes "then", word.Keyword key.Then) ∷
+    (codes "elseif", word.Keyword key.Elseif) ∷
+    (codes "else", word.Keyword key.Else) ∷
+    (codes "endif", word.Keyword key.Endif) ∷
+    (codes "opcode", word.Keyword key.Opcode) ∷
+    (codes "endop", word.Keyword key.Endop) ∷
+    (codes "xin", word.Keyword key.Xin) ∷
+    (codes "xout", word.Keyword key.Xout) ∷
+    (codes "sr", word.Header head.Sr) ∷
+    (codes "kr", word.Header head.Kr) ∷
+    (codes "ksmps", word.Header head.Ksmps) ∷
+    (codes "nchnls", word.Header head.Nchnls) ∷
+    (codes "0dbfs", word.Header head.Dbfs) ∷
+    (codes "int", word.Func func.Int) ∷
+    (codes "frac", word.Func func.Frac) ∷
+    (codes "abs", word.Func func.Abs) ∷
+    (codes "floor", word.Func func.Floor) ∷
+    (codes "cpspch", word.Func func.Cpspch) ∷
+    (codes "i", word.Func func.I) ∷
     []
 
 -- words of Csound that the profile leaves out
@@ -64,14 +53,8 @@ foreign_words =
     codes "exp" ∷ codes "log" ∷ codes "sin" ∷ codes "cos" ∷ codes "tan" ∷ codes "pow" ∷
     []
 
-unfoldable pub keyword_of : List ℕ → Option Keyword
-keyword_of bytes = looked_up keywords bytes
-
-unfoldable pub header_of : List ℕ → Option HeadName
-header_of bytes = looked_up headers bytes
-
-unfoldable pub func_of : List ℕ → Option Func
-func_of bytes = looked_up functions bytes
+unfoldable pub listed_word : List ℕ → Option Word
+listed_word bytes = looked_up words bytes
 
 unfoldable pub is_foreign : List ℕ → Bool
 is_foreign bytes = list_any (bytes_eq bytes) foreign_words
@@ -99,19 +82,16 @@ abbrev pub field_or : Option ℕ → List ℕ → Word
 field_or (Some k) bytes = word.Field k
 field_or None bytes = if is_name bytes then word.Name else word.Other
 
--- a word that no table has: foreign, a field, a name, or any other
+-- a word that neither list nor catalogue has: foreign, a field, a name, or any other
 abbrev pub plain_word : List ℕ → Word
 plain_word bytes = if is_foreign bytes then word.Foreign else field_or (field_of bytes) bytes
 
--- the first of what the tables say of a word, or else what is left
-abbrev pub first_of : Option Keyword → Option HeadName → Option Func → Option Opcode → Word → Word
-first_of (Some k) h f o left = word.Keyword k
-first_of None (Some h) f o left = word.Header h
-first_of None None (Some f) o left = word.Func f
-first_of None None None (Some o) left = word.Opcode o
-first_of None None None None left = left
+-- what the list says of a word, or else the catalogue, or else what is left
+abbrev pub first_of : Option Word → Option Opcode → Word → Word
+first_of (Some listed) o left = listed
+first_of None (Some o) left = word.Opcode o
+first_of None None left = left
 
 -- what a word is
 unfoldable pub word_of : List ℕ → Word
-word_of bytes =
-    first_of (keyword_of bytes) (header_of bytes) (func_of bytes) (catalogued bytes) (plain_word bytes)
+word_of bytes = first_of (listed_word bytes) (catalogued bytes) (plain_word bytes)

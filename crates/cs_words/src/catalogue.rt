@@ -2,7 +2,9 @@
 ghost use Rattle.std.specs.Prelude.{◌≡◌, length, filter};
 ghost use Rattle.std.specs.List.{list_any};
 ghost use Rattle.cs_words.specs.inner.Rows.{first_named, row_in};
-ghost use Rattle.cs_words.specs.Catalogue.{row_of, catalogued, letter_at, takes_count, further, may_follow, result_count, takes, is_table, is_text, is_settled, is_moving, settled_letters, follows_settled, may_follow_settled, unit_takes};
+ghost use Rattle.cs_words.specs.Catalogue.{row_of, catalogued, letter_at, takes_count, further, may_follow};
+ghost use Rattle.cs_words.specs.Catalogue.{result_count, takes, is_table, is_text, is_settled, is_moving};
+ghost use Rattle.cs_words.specs.Catalogue.{settled_letters, follows_settled, may_follow_settled, unit_takes};
 
 use cs_base::Rate;
 use std::marker::Model;

@@ -2,15 +2,15 @@
 ghost use Rattle.std.specs.Prelude.{◌≡◌, ◌≤◌, ℕ, List, [], ◌∷◌, filter, length, true, false, slice_get, Some};
 ghost use Rattle.std.specs.List.{All};
 ghost use Rattle.cs_base.specs.Limits.{greatest_field};
-ghost use Rattle.cs_words.specs.Catalogue.{row_of, catalogued, opcodes, settled_letters, moving_letters, takes_table, unit_takes};
+ghost use Rattle.cs_words.specs.Catalogue.{row_of, catalogued, opcodes, settled_letters, moving_letters};
+ghost use Rattle.cs_words.specs.Catalogue.{takes_table, unit_takes};
 ghost use Rattle.cs_words.specs.NameSets.{has, place_of, seen};
 ghost use Rattle.cs_words.specs.Names.{is_name};
-ghost use Rattle.cs_words.specs.Signs.{operators, plain_signs, sign_of};
-ghost use Rattle.cs_words.specs.Words.{keywords, headers, functions, foreign_words, word_of};
+ghost use Rattle.cs_words.specs.Signs.{signs, sign_of};
+ghost use Rattle.cs_words.specs.Words.{words, foreign_words, word_of};
 ghost use Rattle.cs_words.specs.declared.catalogue.Letter.TheVariants as letter;
 ghost use Rattle.cs_words.specs.declared.catalogue.Opcode.{Opcode};
 ghost use Rattle.cs_words.specs.declared.catalogue.Opcode.TheVariants as op;
-ghost use Rattle.cs_words.specs.declared.sign.Sign.TheVariants as sign;
 ghost use Rattle.cs_words.specs.declared.word.Word.TheVariants as word;
 
 /// Each row of each table is found as itself, so that no word is in two tables, or twice in one.
@@ -19,12 +19,9 @@ pub fn words_are_apart()
     ensures catalogue { (o : Opcode) → catalogued (row_of o).name ≡ Some o }
     ensures names { (o p : Opcode) → (row_of o).name ≡ (row_of p).name → o ≡ p }
     ensures found { (name : List ℕ) (o : Opcode) → catalogued name ≡ Some o → (row_of o).name ≡ name }
-    ensures keywords { All (λ r. word_of r.0 ≡ word.Keyword r.1) keywords }
-    ensures headers { All (λ r. word_of r.0 ≡ word.Header r.1) headers }
-    ensures functions { All (λ r. word_of r.0 ≡ word.Func r.1) functions }
+    ensures words { All (λ r. word_of r.0 ≡ r.1) words }
     ensures foreign { All (λ w. word_of w ≡ word.Foreign) foreign_words }
-    ensures operators { All (λ r. sign_of r.0 ≡ sign.Operator r.1) operators }
-    ensures signs { All (λ r. sign_of r.0 ≡ r.1) plain_signs }
+    ensures signs { All (λ r. sign_of r.0 ≡ r.1) signs }
 {}
 
 /// What is read as a name begins like a variable, and a field's number is from 1 to 100.

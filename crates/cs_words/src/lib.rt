@@ -1,9 +1,9 @@
 //! The words of the language: what each word and each sign of an orchestra is, before any of its grammar.
 //!
-//! Its one contract: each call returns what its table in specs/ says, and every row of a table is found as itself: no
-//! two opcodes share a name, no keyword is a header name, a function or an opcode (`words_are_apart`). The catalogue has
-//! one row an opcode, which says all that the layers above ask of it: name, results, arguments, and how it is performed.
-//! How a word is looked up may be changed without anyone above noticing.
+//! Its one contract: each call returns what its list in specs/ says, and every row of a list is found as itself: no two
+//! opcodes share a name, and no keyword is a header name, a function or an opcode (`words_are_apart`). The catalogue
+//! has one row an opcode, which says all that the layers above ask of it: name, results, arguments, and how it is
+//! performed. How a word is looked up may be changed without anyone above noticing.
 //!
 //! To be read in this order: `catalogue` (the opcodes), `word` (what a word is), `sign` (what a sign is), `name` (what
 //! a variable's name says), `name_set` (different names in the order in which they were seen), `laws` (what holds of

@@ -1,6 +1,6 @@
 // Which sign is what.
 ghost use Rattle.std.specs.Prelude.{◌≡◌};
-ghost use Rattle.cs_words.specs.Signs.{sign_of, plain_sign, operator_of, is_arithmetic, is_logic};
+ghost use Rattle.cs_words.specs.Signs.{sign_of, is_arithmetic, is_logic};
 
 use crate::table::looked_up;
 
@@ -56,7 +56,7 @@ pub enum Sign {
     Beyond,
 }
 
-const SIGNS: [(&str, Sign); 7] = [
+const SIGNS: [(&str, Sign); 20] = [
     ("(", Sign::Open),
     (")", Sign::Close),
     (",", Sign::Comma),
@@ -64,22 +64,19 @@ const SIGNS: [(&str, Sign); 7] = [
     ("+=", Sign::PlusEquals),
     ("?", Sign::Question),
     (":", Sign::Colon),
-];
-
-const OPERATORS: [(&str, BinOp); 13] = [
-    ("||", BinOp::Or),
-    ("&&", BinOp::And),
-    ("<", BinOp::Less),
-    (">", BinOp::Greater),
-    ("<=", BinOp::LessEqual),
-    (">=", BinOp::GreaterEqual),
-    ("==", BinOp::Equal),
-    ("!=", BinOp::NotEqual),
-    ("+", BinOp::Add),
-    ("-", BinOp::Sub),
-    ("*", BinOp::Mul),
-    ("/", BinOp::Div),
-    ("%", BinOp::Rem),
+    ("||", Sign::Operator(BinOp::Or)),
+    ("&&", Sign::Operator(BinOp::And)),
+    ("<", Sign::Operator(BinOp::Less)),
+    (">", Sign::Operator(BinOp::Greater)),
+    ("<=", Sign::Operator(BinOp::LessEqual)),
+    (">=", Sign::Operator(BinOp::GreaterEqual)),
+    ("==", Sign::Operator(BinOp::Equal)),
+    ("!=", Sign::Operator(BinOp::NotEqual)),
+    ("+", Sign::Operator(BinOp::Add)),
+    ("-", Sign::Operator(BinOp::Sub)),
+    ("*", Sign::Operator(BinOp::Mul)),
+    ("/", Sign::Operator(BinOp::Div)),
+    ("%", Sign::Operator(BinOp::Rem)),
 ];
 
 /// What a sign is.
@@ -87,22 +84,5 @@ const OPERATORS: [(&str, BinOp); 13] = [
 pub fn sign_of(sign: &[u8]) -> Sign
     ensures { result ≡ sign_of sign.now }
 {
-    if let Some(operator) = operator_of(sign) {
-        return Sign::Operator(operator);
-    }
-    plain_sign(sign).unwrap_or(Sign::Beyond)
-}
-
-#[tactic(auto, unfolding(crate::specs::Signs::operator_of))]
-fn operator_of(sign: &[u8]) -> Option<BinOp>
-    ensures { result ≡ operator_of sign.now }
-{
-    looked_up(&OPERATORS, sign)
-}
-
-#[tactic(auto, unfolding(crate::specs::Signs::plain_sign))]
-fn plain_sign(sign: &[u8]) -> Option<Sign>
-    ensures { result ≡ plain_sign sign.now }
-{
-    looked_up(&SIGNS, sign)
+    looked_up(&SIGNS, sign).unwrap_or(Sign::Beyond)
 }

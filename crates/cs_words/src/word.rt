@@ -2,7 +2,7 @@
 ghost use Rattle.std.specs.Prelude.{◌≡◌, List};
 ghost use Rattle.std.specs.List.{list_any};
 ghost use Rattle.std.specs.Str.{bytes_eq};
-ghost use Rattle.cs_words.specs.Words.{keyword_of, header_of, func_of, is_foreign, is_leading, field_of, word_of, plain_word};
+ghost use Rattle.cs_words.specs.Words.{listed_word, is_foreign, is_leading, field_of, word_of, plain_word};
 
 use crate::catalogue::{Opcode, find_opcode};
 use crate::name::is_name;
@@ -67,35 +67,30 @@ pub enum Word {
     Other,
 }
 
-const KEYWORDS: [(&str, Keyword); 11] = [
-    ("instr", Keyword::Instr),
-    ("endin", Keyword::Endin),
-    ("if", Keyword::If),
-    ("then", Keyword::Then),
-    ("elseif", Keyword::Elseif),
-    ("else", Keyword::Else),
-    ("endif", Keyword::Endif),
-    ("opcode", Keyword::Opcode),
-    ("endop", Keyword::Endop),
-    ("xin", Keyword::Xin),
-    ("xout", Keyword::Xout),
-];
-
-const HEADERS: [(&str, HeadName); 5] = [
-    ("sr", HeadName::Sr),
-    ("kr", HeadName::Kr),
-    ("ksmps", HeadName::Ksmps),
-    ("nchnls", HeadName::Nchnls),
-    ("0dbfs", HeadName::Dbfs),
-];
-
-const FUNCTIONS: [(&str, Func); 6] = [
-    ("int", Func::Int),
-    ("frac", Func::Frac),
-    ("abs", Func::Abs),
-    ("floor", Func::Floor),
-    ("cpspch", Func::Cpspch),
-    ("i", Func::I),
+/// Keywords, what header lines set, and functions.
+const WORDS: [(&str, Word); 22] = [
+    ("instr", Word::Keyword(Keyword::Instr)),
+    ("endin", Word::Keyword(Keyword::Endin)),
+    ("if", Word::Keyword(Keyword::If)),
+    ("then", Word::Keyword(Keyword::Then)),
+    ("elseif", Word::Keyword(Keyword::Elseif)),
+    ("else", Word::Keyword(Keyword::Else)),
+    ("endif", Word::Keyword(Keyword::Endif)),
+    ("opcode", Word::Keyword(Keyword::Opcode)),
+    ("endop", Word::Keyword(Keyword::Endop)),
+    ("xin", Word::Keyword(Keyword::Xin)),
+    ("xout", Word::Keyword(Keyword::Xout)),
+    ("sr", Word::Header(HeadName::Sr)),
+    ("kr", Word::Header(HeadName::Kr)),
+    ("ksmps", Word::Header(HeadName::Ksmps)),
+    ("nchnls", Word::Header(HeadName::Nchnls)),
+    ("0dbfs", Word::Header(HeadName::Dbfs)),
+    ("int", Word::Func(Func::Int)),
+    ("frac", Word::Func(Func::Frac)),
+    ("abs", Word::Func(Func::Abs)),
+    ("floor", Word::Func(Func::Floor)),
+    ("cpspch", Word::Func(Func::Cpspch)),
+    ("i", Word::Func(Func::I)),
 ];
 
 /// The words of Csound that the profile leaves out.
@@ -111,14 +106,8 @@ const FOREIGN: [&str; 41] = [
 pub fn word_of(word: &[u8]) -> Word
     ensures { result ≡ word_of word.now }
 {
-    if let Some(keyword) = keyword_of(word) {
-        return Word::Keyword(keyword);
-    }
-    if let Some(name) = header_of(word) {
-        return Word::Header(name);
-    }
-    if let Some(func) = func_of(word) {
-        return Word::Func(func);
+    if let Some(listed) = listed_word(word) {
+        return listed;
     }
     if let Some(opcode) = find_opcode(word) {
         return Word::Opcode(opcode);
@@ -126,25 +115,11 @@ pub fn word_of(word: &[u8]) -> Word
     plain_word(word)
 }
 
-#[tactic(auto, unfolding(crate::specs::Words::keyword_of))]
-fn keyword_of(word: &[u8]) -> Option<Keyword>
-    ensures { result ≡ keyword_of word.now }
+#[tactic(auto, unfolding(crate::specs::Words::listed_word))]
+fn listed_word(word: &[u8]) -> Option<Word>
+    ensures { result ≡ listed_word word.now }
 {
-    looked_up(&KEYWORDS, word)
-}
-
-#[tactic(auto, unfolding(crate::specs::Words::header_of))]
-fn header_of(word: &[u8]) -> Option<HeadName>
-    ensures { result ≡ header_of word.now }
-{
-    looked_up(&HEADERS, word)
-}
-
-#[tactic(auto, unfolding(crate::specs::Words::func_of))]
-fn func_of(word: &[u8]) -> Option<Func>
-    ensures { result ≡ func_of word.now }
-{
-    looked_up(&FUNCTIONS, word)
+    looked_up(&WORDS, word)
 }
 
 // What a word is that is no keyword, header name, function or opcode.

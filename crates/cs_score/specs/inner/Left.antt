@@ -4,6 +4,6 @@ use Rattle.cs_base.specs.Lines.{Excerpt, lines_from}
 use Rattle.cs_score.specs.declared.row.Row.{Row}
 use Rattle.cs_score.specs.Rows.{rows_in}
 
--- those of the lines from a place on; `plain` is the text without its comments
+-- the rows of the lines from a place on; `plain` is the text without its comments
 abbrev pub rows_from : Excerpt → List ℕ → ℕ → List Row
 rows_from text plain at = rows_in text (lines_from text.first_line at (drop at plain))

@@ -1,11 +1,11 @@
 -- What the code keeps of all rows that it has read, and how one row more changes that.
-use Rattle.std.specs.Prelude.{◌≡◌, ℕ, ℤ, Bool, false, List, [], ◌∷◌, ◌++◌, Option, Some, None, Result, Ok, Err, nat_eq}
+use Rattle.std.specs.Prelude.{◌≡◌, ℕ, ℤ, Bool, false, List, ◌++◌, Option, Some, None, Result, Ok, Err, nat_eq}
 use Rattle.std.specs.Prelude.{true, if◌then◌else◌}
 use Rattle.std.specs.HashMap.{get}
 use Rattle.std.specs.Option.{option_or, option_to_list}
 use Rattle.cs_base.specs.declared.fault.ScoreFault.{ScoreFault}
 use Rattle.cs_base.specs.declared.fault.ScoreKind.{ScoreKind}
-use Rattle.cs_base.specs.declared.fault.ScoreKind.TheVariants.{NothingToCarry, NotInProfile, BadStatement}
+use Rattle.cs_base.specs.declared.fault.ScoreKind.TheVariants.{NothingToCarry}
 use Rattle.cs_score.specs.declared.field.Field.{Field}
 use Rattle.cs_score.specs.declared.kept.KeptStatements.{KeptStatements}
 use Rattle.cs_score.specs.declared.last.LastNote.{LastNote}
@@ -16,13 +16,12 @@ use Rattle.cs_score.specs.declared.row.StatementLetter.{StatementLetter}
 use Rattle.cs_score.specs.declared.row.StatementLetter.TheVariants as letter
 use Rattle.cs_score.specs.declared.row.Row.{Row}
 use Rattle.cs_score.specs.declared.statement.ScoreWhat.{ScoreWhat}
-use Rattle.cs_score.specs.declared.statement.ScoreWhat.TheVariants.{Section}
 use Rattle.cs_score.specs.declared.statement.ScoreStmt.{ScoreStmt}
 use Rattle.cs_score.specs.Carry.{and_then, fields, is_note, p1}
 use Rattle.cs_score.specs.Notes.{gap, p2, ok_or_zero}
 use Rattle.cs_score.specs.Ranges.{HasRange}
-use Rattle.cs_score.specs.Statements.{at_line, base_after, base_by, base_of, ended, first_size, is_end, one, refusal_of}
-use Rattle.cs_score.specs.Statements.{size_in, tempo_of, unless, written_table}
+use Rattle.cs_score.specs.Statements.{asked_of, at_line, base_after, base_of, first_size, is_end, refusal_of}
+use Rattle.cs_score.specs.Statements.{size_in, unless, written_table}
 use Rattle.cs_score.specs.inner.Counts.{Holds}
 use Rattle.cs_score.specs.inner.State.{IsKept, note_read, p1_before}
 
@@ -42,14 +41,8 @@ table_read sizes fs = and_then (written_table fs) (λ what. unless (refusal_of s
 
 -- what a row asks for, by what the code keeps
 abbrev pub asked_after : Past → Row → StatementLetter → Result (List ScoreWhat) ScoreKind
-asked_after past row letter.Note = one (note_read past.base past.last row.fields)
-asked_after past row letter.Table = one (table_read (get nat_eq past.sizes) row.fields)
-asked_after past row letter.Tempo = one (tempo_of row.fields)
-asked_after past row letter.Base = and_then (base_by row.fields) (λ _. Ok [])
-asked_after past row letter.Section = Ok (Section ∷ [])
-asked_after past row letter.End = ended row.fields
-asked_after past row letter.Other = Err NotInProfile
-asked_after past row letter.Stray = Err BadStatement
+asked_after past row =
+    asked_of (note_read past.base past.last row.fields) (table_read (get nat_eq past.sizes) row.fields) row.fields
 
 -- only an `i` statement is kept for the next one
 abbrev pub LastFollows : LastNote → Row → LastNote → StatementLetter → Type 0

@@ -4,20 +4,20 @@ use Rattle.std.specs.List.{range_with_len}
 use Rattle.cs_signal.specs.Linen.{LinenState}
 use Rattle.cs_signal.specs.Pace.{last_number}
 
--- so many steps to come lie after the rise and before the decay
+-- the n steps to come lie after the rise and before the decay
 pub record IsLevel (s : LinenState) (n : ℕ) : Type 0 where
   pub room : s.number + n ≤ last_number
   pub risen : s.rise ≤ s.number
   pub before : (s.decay ≡ 0) ⊎ (s.number + n + s.decay ≤ s.duration)
 
--- so many steps to come lie in the rise, and before the decay
+-- the n steps to come lie in the rise, and before the decay
 pub record IsRising (s : LinenState) (n : ℕ) : Type 0 where
   pub begun : s.number < s.rise
   pub room : s.number + n ≤ last_number
   pub rising : s.number + n ≤ s.rise
   pub before : (s.decay ≡ 0) ⊎ (s.number + n + s.decay ≤ s.duration)
 
--- so many steps to come lie after the rise and in the decay
+-- the n steps to come lie after the rise and in the decay
 pub record IsFalling (s : LinenState) (n : ℕ) : Type 0 where
   pub room : s.number + n ≤ last_number
   pub risen : s.rise ≤ s.number
@@ -25,7 +25,7 @@ pub record IsFalling (s : LinenState) (n : ℕ) : Type 0 where
   pub falling : s.duration ≤ s.number + s.decay
   pub near : s.number ≤ s.duration
 
--- of so many values by a formula the first j stand
+-- of `count` values by a formula the first j stand
 pub record HasFilled (formula : ℕ → ℤ) (count j : ℕ) (out : List ℤ) : Type 0 where
   pub long : length out ≡ count
   pub done : take j out ≡ map formula (range_with_len 0 j)

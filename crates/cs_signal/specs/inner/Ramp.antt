@@ -5,7 +5,7 @@ use Rattle.std.specs.List.{range_with_len}
 use Rattle.cs_base.specs.Numbers.{clamp}
 use Rattle.cs_signal.specs.Line.{part_way}
 
--- a number is so many times the divisor, and a rest below the divisor
+-- a number is `whole` times the divisor, and a rest below the divisor
 pub record IsParted (number : ℤ) (divisor : ℕ) (whole : ℤ) (rest : ℕ) : Type 0 where
   pub sum : number ≡ (whole *ℤ pos divisor) +ℤ pos rest
   pub below : rest < divisor
@@ -17,7 +17,7 @@ IsAdvanced divisor whole rest by_whole by_rest new_whole new_rest =
     ⊎ ((divisor ≤ rest + by_rest) × (new_whole ≡ (whole +ℤ by_whole) +ℤ pos 1)
     × (new_rest ≡ (rest + by_rest) - divisor))
 
--- the values at parts n, n + 1 and so on of d of a way, so many of them
+-- the values at `count` parts of a way that has d of them, from part n on
 abbrev pub ramp_of : ℤ → ℤ → ℕ → ℕ → ℕ → List ℤ
 ramp_of from to n d count = map (λ i. clamp (part_way from to i d)) (range_with_len n count)
 

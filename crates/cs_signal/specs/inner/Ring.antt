@@ -1,7 +1,7 @@
 -- A list of values that is kept in a ring.
 use Rattle.std.specs.Prelude.{ℕ, ◌≡◌, ◌⊎◌, ◌+◌, ◌-◌, ◌<◌, ◌≤◌, List, ◌++◌, length, drop, take, replicate, ℤ, pos}
 
--- `next` is the place after this one in a ring of so many
+-- `next` is the place after `place` in a ring of `len` places
 abbrev pub IsNextPlace : ℕ → ℕ → ℕ → Type 0
 IsNextPlace place len next = ((place + 1 < len) × (next ≡ place + 1)) ⊎ ((place + 1 ≡ len) × (next ≡ 0))
 

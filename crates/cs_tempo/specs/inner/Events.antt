@@ -6,9 +6,9 @@ use Rattle.cs_tempo.specs.declared.plot.EventAct.{EventAct}
 use Rattle.cs_tempo.specs.inner.Clock.{Pace}
 use Rattle.cs_tempo.specs.Sections.{cycle_at, reach_of}
 use Rattle.cs_tempo.specs.Order.{has_turn}
-use Rattle.cs_tempo.specs.Plot.{Setting}
+use Rattle.cs_tempo.specs.Plot.{SectionSetting}
 
-abbrev pub in_section : Pace → ℕ → ℕ → Setting
+abbrev pub in_section : Pace → ℕ → ℕ → SectionSetting
 in_section pace offset cycles =
     record { head = pace.head; tempo = pace.tempo; offset = offset; cycles = cycles }
 

@@ -8,7 +8,7 @@ use Rattle.cs_tempo.specs.Limits.{cycles_in}
 abbrev pub is_note : Event → Bool
 is_note e = not (cycles_in e.act == 0)
 
--- the cycle in which such a note ends
+-- the cycle in which an event ends that is a note
 abbrev pub own_end : Event → List ℕ
 own_end e = if is_note e then (e.cycle + cycles_in e.act) ∷ [] else []
 

@@ -6,10 +6,9 @@ use Rattle.cs_base.specs.declared.spaces.Spaces.{Spaces}
 use Rattle.cs_words.specs.declared.word.HeadName.{HeadName}
 use Rattle.cs_grammar.specs.declared.tree.HeadLine.{HeadLine}
 use Rattle.cs_grammar.specs.Tree.{Argument}
-use Rattle.cs_typed.specs.Places.{Header}
+use Rattle.cs_base.specs.Heads.{Header, header_of_head}
 use Rattle.cs_typing.specs.declared.settle.Settings.{Settings}
 use Rattle.cs_typing.specs.declared.zak.Zaks.{Zaks}
-use Rattle.cs_typed.specs.TypedTree.{header_of_head}
 use Rattle.cs_typing.specs.Settings.{same_head, at, Zak, zak_fault, sizes}
 
 -- a header line among these gives a name

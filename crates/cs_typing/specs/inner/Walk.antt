@@ -59,7 +59,7 @@ made_from t n zero instrs = record {
   globals = shared_names n.shared;
 }
 
--- that of an orchestra whose settings are these
+-- the typed form of an orchestra whose settings are these
 abbrev pub typed_by : Told → Orchestra → typed.Orchestra
 typed_by t o =
     let parts = items o.zero o.instrs in

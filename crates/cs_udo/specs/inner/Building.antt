@@ -4,7 +4,7 @@ use Rattle.cs_grammar.specs.declared.tree.Arm.{Arm, out-Arm}
 use Rattle.cs_grammar.specs.declared.tree.Callee.{Callee}
 use Rattle.cs_grammar.specs.Tree.{Expression, expression, Argument, Statement, Block, joins, block, Arms, otherwise}
 use Rattle.cs_grammar.specs.Tree.{arm, arms}
-use Rattle.cs_udo.specs.Names.{renamed}
+use Rattle.cs_grammar.specs.Renaming.{renamed_expression}
 use Rattle.cs_udo.specs.Expanded.{Template, Opcodes, called, after_called, after, after_block, after_arms, expanded}
 use Rattle.cs_udo.specs.Expanded.{expanded_block, expanded_arms}
 use Rattle.cs_udo.specs.declared.build.Made.{Made}
@@ -59,6 +59,6 @@ pub record MakesArms (opcodes : Opcodes) (own : List ℕ → List ℕ) (old new 
 pub record MakesArm (opcodes : Opcodes) (own : List ℕ → List ℕ) (old new : MadeArms) (cond : Expression)
     (body : Block) : Type 0 where
   pub arm_is : (rest : Arms)
-      → fronted old.arms.items (arm (renamed own cond) (expanded_block opcodes own old.next body) rest)
+      → fronted old.arms.items (arm (renamed_expression own cond) (expanded_block opcodes own old.next body) rest)
       ≡ fronted new.arms.items rest
   pub after : new.next ≡ after_block opcodes old.next body

@@ -6,7 +6,7 @@ use Rattle.cs_udo.specs.declared.library.Found.{Found}
 use Rattle.cs_udo.specs.declared.library.Library.{Library}
 use Rattle.cs_udo.specs.Expanded.{Opcodes, no_opcodes, defined, defining_all, template}
 
--- those of a library
+-- the definitions of a library
 abbrev pub definitions_of : Library → List Definition
 definitions_of l = map definition l.definitions.now
 
@@ -14,7 +14,7 @@ definitions_of l = map definition l.definitions.now
 abbrev pub opcodes_of : List Definition → ℕ → Opcodes
 opcodes_of ds visible = defining_all no_opcodes (take visible ds)
 
--- those of a library that have a price
+-- the opcodes of a library that have a price
 abbrev pub opcodes_priced : Library → List ℕ → Opcodes
 opcodes_priced l costs = opcodes_of (definitions_of l) (length costs)
 

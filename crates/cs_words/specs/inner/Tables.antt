@@ -1,3 +1,4 @@
+-- The rows of a list in the code.
 use Rattle.std.specs.Prelude.{ℕ, List, [], ◌∷◌}
 use Rattle.std.specs.Borrow.{Bor}
 

@@ -1,8 +1,9 @@
 use Rattle.std.proofs.Common.{ℕ, ◌+◌, take, length, arith, ap, sym, ◌∙◌}
 use Rattle.std.specs.List.{count_by}
+use Rattle.cs_base.proofs.Tests.{is_below, isnt_below}
 use Rattle.cs_tempo.specs.Limits.{passes_notes, at_event, is_active}
 use Rattle.cs_tempo.specs.inner.Sweep.{is_note}
-use Rattle.cs_tempo.proofs.Firsts.{first_here, first_on, first_none, count_more, is_above, is_within}
+use Rattle.cs_tempo.proofs.Firsts.{first_here, first_on, first_none, count_more}
 use Rattle.cs_tempo.proofs.Sweeps.{counted_here, ended_later}
 use Rattle.cs_tempo.proofs.active.note_hit.Goals as goal
 
@@ -25,7 +26,7 @@ returns-then-started-ended-gt-MOST_NOTES c =
     c.in_ok-ends.ensures.ends c.in_ok-ends.ensures.order
     c.loop-event.invariant.started c.notes_in-started.ensures c.deref.ensures.value c.from.ensures
     c.ended_by-ended.ensures in
-    let above = is_above 512 (count_by (is_active c.event-item.result.cycle) (take (k + 1) c.args.events.now))
+    let above = is_below 512 (count_by (is_active c.event-item.result.cycle) (take (k + 1) c.args.events.now))
     (omega (arith, n, c.if-started-ended-gt-MOST_NOTES.true)) in
     ap at_event (sym (first_here passes_notes c.args.events.now k c.event-item.result c.loop-event-test.true
     c.event-item.is above) ∙ c.loop-event.invariant.first)
@@ -39,7 +40,7 @@ loop-event-preserved c =
     c.in_ok-ends.ensures.ends c.in_ok-ends.ensures.order
     c.loop-event.invariant.started c.notes_in-started.ensures c.deref.ensures.value c.from.ensures
     c.ended_by-ended.ensures in
-    let within = is_within 512 (count_by (is_active c.event-item.result.cycle) (take (k + 1) c.args.events.now))
+    let within = isnt_below 512 (count_by (is_active c.event-item.result.cycle) (take (k + 1) c.args.events.now))
     (omega (arith, n, c.if-started-ended-gt-MOST_NOTES.false)) in
     record {
       started = omega (

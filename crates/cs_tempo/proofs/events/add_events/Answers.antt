@@ -6,7 +6,7 @@ use Rattle.cs_score.specs.declared.statement.ScoreStmt.{ScoreStmt}
 use Rattle.cs_tempo.specs.declared.plot.Event.{Event}
 use Rattle.cs_tempo.specs.Pairing.{stop_of}
 use Rattle.cs_tempo.specs.inner.Events.{in_section, HasEnd, IsTurnIn}
-use Rattle.cs_tempo.specs.Plot.{Setting, acts_of, events_at, events_along}
+use Rattle.cs_tempo.specs.Plot.{SectionSetting, acts_of, events_at, events_along}
 use Rattle.cs_tempo.proofs.Walks.{events_step, events_none, stop_within, few_queues, few_before, stop_is, lines_then}
 use Rattle.cs_tempo.proofs.Walks.{each_map, seen_at}
 use Rattle.cs_tempo.proofs.Elements.{each_drop}
@@ -53,7 +53,7 @@ loop-statement-preserved c =
       queues = lines_then ss k c.statement-item.result.now some here c.loop-statement.queues c.take_turn-stop.new.queues
           c.loop-statement.invariant.queues c.take_turn-stop.ensures.queues;
       events =
-          (let set : Setting = in_section c.args.clock.now c.args.offset c.args.cycles in
+          (let set : SectionSetting = in_section c.args.clock.now c.args.offset c.args.cycles in
           let s : ScoreStmt = c.statement-item.result.now in
           let old : List Event = c.loop-statement.events.items in
           let rest : List Event = events_along set (reverse (take (k + 1) ss)) (drop (k + 1) ss) in

@@ -7,7 +7,8 @@ use Rattle.cs_grammar.proofs.Rows.{block_is, arms_is}
 use Rattle.cs_udo.specs.Counted.{call_count, counts, counts_in, counts_in_arms}
 use Rattle.cs_udo.specs.Expanded.{alone, assignments, defined, template, expanded_block, expanded_arms, after}
 use Rattle.cs_udo.specs.Expanded.{after_block, after_arms}
-use Rattle.cs_udo.specs.Names.{in_frame, renamed_argument}
+use Rattle.cs_grammar.specs.Renaming.{renamed_argument}
+use Rattle.cs_udo.specs.Names.{in_frame}
 use Rattle.cs_udo.specs.inner.Building.{shown, with, longer, building, building_block, building_call, fronted}
 use Rattle.cs_udo.specs.inner.Library.{definitions_of, opcodes_of}
 use Rattle.cs_udo.specs.inner.Owners.{owned}

@@ -1,7 +1,7 @@
 use Rattle.std.proofs.Common.{◌∙◌, ◌<◌, length, arith, sym, ap}
 use Rattle.cs_grammar.specs.Tree as tree
 use Rattle.cs_udo.specs.Expanded.{alone}
-use Rattle.cs_udo.specs.Names.{renamed}
+use Rattle.cs_grammar.specs.Renaming.{renamed_expression}
 use Rattle.cs_udo.specs.inner.Building.{shown, with}
 use Rattle.cs_udo.specs.inner.Owners.{owned}
 use Rattle.cs_udo.proofs.Built.{given_more, given_to_text, given_to_end}
@@ -20,7 +20,7 @@ loop-i-preserved c =
     (c.in_ok-give-in-Value.ensures
     ∙ ap (λ y. with b (alone
     (tree.set c.args.passing.line (owned c.args.passing.to y)
-    (renamed (owned c.args.passing.from) (tree.expression c.in-Value.e)))))
+    (renamed_expression (owned c.args.passing.from) (tree.expression c.in-Value.e)))))
     c.as_slice.ensures)
     ∙ c.loop-i.invariant
 

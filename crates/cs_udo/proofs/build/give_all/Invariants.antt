@@ -1,7 +1,7 @@
 use Rattle.std.proofs.Common.{◌≡◌, drop, map}
 use Rattle.cs_grammar.specs.Tree.{argument}
 use Rattle.cs_udo.specs.Expanded.{assignments}
-use Rattle.cs_udo.specs.Names.{renamed_argument}
+use Rattle.cs_grammar.specs.Renaming.{renamed_argument}
 use Rattle.cs_udo.specs.inner.Building.{shown, with}
 use Rattle.cs_udo.specs.inner.Owners.{owned}
 use Rattle.cs_udo.proofs.build.give_all.Given as goal

@@ -1,6 +1,6 @@
 use Rattle.std.proofs.Common.{◌≡◌, ◌++◌, drop, map}
 use Rattle.cs_grammar.specs.Tree.{argument}
-use Rattle.cs_udo.specs.Names.{renamed_argument}
+use Rattle.cs_grammar.specs.Renaming.{renamed_argument}
 use Rattle.cs_udo.specs.inner.Owners.{owned}
 use Rattle.cs_udo.proofs.copy.owned_args.Given as goal
 

@@ -1,6 +1,5 @@
 use Rattle.cs_words.proofs.EachOpcode.{opcode_found}
-use Rattle.cs_words.proofs.Apart.{opcode_read, one_name, found_so, keywords_read, headers_read, functions_read}
-use Rattle.cs_words.proofs.Apart.{foreign_read, operators_read, signs_read}
+use Rattle.cs_words.proofs.Apart.{opcode_read, one_name, found_so, words_read, foreign_read, signs_read}
 use Rattle.cs_words.proofs.laws.words_are_apart.Goals as goal
 
 pub returns-clause-opcodes : goal.returns-clause-opcodes
@@ -15,20 +14,11 @@ returns-clause-names c = one_name
 pub returns-clause-found : goal.returns-clause-found
 returns-clause-found c = found_so
 
-pub returns-clause-keywords : goal.returns-clause-keywords
-returns-clause-keywords c = keywords_read
-
-pub returns-clause-headers : goal.returns-clause-headers
-returns-clause-headers c = headers_read
-
-pub returns-clause-functions : goal.returns-clause-functions
-returns-clause-functions c = functions_read
+pub returns-clause-words : goal.returns-clause-words
+returns-clause-words c = words_read
 
 pub returns-clause-foreign : goal.returns-clause-foreign
 returns-clause-foreign c = foreign_read
-
-pub returns-clause-operators : goal.returns-clause-operators
-returns-clause-operators c = operators_read
 
 pub returns-clause-signs : goal.returns-clause-signs
 returns-clause-signs c = signs_read

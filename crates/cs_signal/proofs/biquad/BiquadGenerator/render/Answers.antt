@@ -12,7 +12,8 @@ returns c =
     (sym (ap inputs_at (seven c.args.inputs.now
     c.x-item.result c.copied.result c.copied-in-len7.result c.copied-in-len7-2.result c.copied-in-len7-3.result
     c.copied-in-len7-4.result c.copied-in-len7-5.result
-    c.x-item.result c.b0-item.result c.b1-item.result c.b2-item.result c.a0-item.result c.a1-item.result c.a2-item.result
+    c.x-item.result c.b0-item.result c.b1-item.result c.b2-item.result c.a0-item.result c.a1-item.result
+    c.a2-item.result
     c.requires.count c.x-item.is
     (c.copied.ensures ∙ c.b0-item.is) (c.copied-in-len7.ensures ∙ c.b1-item.is)
     (c.copied-in-len7-2.ensures ∙ c.b2-item.is) (c.copied-in-len7-3.ensures ∙ c.a0-item.is)

@@ -1,5 +1,6 @@
 use Rattle.std.proofs.Common.{ℕ, ◌≡◌, ◌+◌, ◌*◌, length, ap, ◌∙◌, arith}
 use Rattle.std.proofs.lemmas.List.FromFn.{length-map-range_with_len}
+use Rattle.cs_base.specs.Heads.{header_of_head}
 use Rattle.cs_signal.specs.Linseg.{pieces_of}
 use Rattle.cs_signal.specs.Operands.{argument}
 use Rattle.cs_signal.specs.Pace.{pace_of, steps_of}
@@ -13,5 +14,6 @@ invariant_of-result c =
     ∙ length-map-range_with_len (λ (k : ℕ). argument c.args.init.now (2 * k)) 0 (n + 1) in
     let lengths : length c.in_ok-lengths.lengths.items ≡ n = ap length c.in_ok-lengths.ensures
     ∙ length-map-range_with_len
-    (λ (k : ℕ). steps_of c.args.rate (pace_of c.args.head.now) (argument c.args.init.now (2 * k + 1))) 0 n in
+    (λ (k : ℕ). steps_of c.args.rate (pace_of (header_of_head c.args.head.now))
+    (argument c.args.init.now (2 * k + 1))) 0 n in
     (omega arith, omega arith)
